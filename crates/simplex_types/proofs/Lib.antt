@@ -1,0 +1,5 @@
+pub mod Proposal
+pub mod Entries
+pub mod Maps
+pub mod Digits
+pub mod Joined

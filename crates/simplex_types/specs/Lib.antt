@@ -1,0 +1,9 @@
+pub mod Terms
+pub mod Plain
+pub mod Proposal
+pub mod Certificates
+pub mod Keys
+pub mod Window
+pub mod Tracked
+pub mod ByTerm
+pub mod Reasons

@@ -1,0 +1,30 @@
+-- Words for a finite map from views.
+use Rattle.std.specs.Prelude.{ℕ, ◌<◌, ◌≤◌, ◌^◌, ◌-◌, nat_lt, nat_le, Option, Some, None, Result, Ok, Err, slice_get, length}
+use Rattle.std.specs.Ordering.{nat_cmp}
+use Rattle.std.specs.FinMap.{FinMap, entries, insert, retain_keys}
+use Rattle.simplex_types.specs.declared.types.AllocFailed.{AllocFailed}
+
+-- the entries of the views below a view
+abbrev pub below : {V : Type 0} → FinMap nat_cmp V → ℕ → FinMap nat_cmp V
+below m view = retain_keys m (λ key. nat_lt key view)
+
+-- the entries of the views at or above a view
+abbrev pub at_or_above : {V : Type 0} → FinMap nat_cmp V → ℕ → FinMap nat_cmp V
+at_or_above m view = retain_keys m (λ key. nat_le view key)
+
+-- the entry of the lowest view, and of the highest
+abbrev pub first_entry : {V : Type 0} → FinMap nat_cmp V → Option (ℕ × V)
+first_entry m = slice_get (entries m) 0
+
+abbrev pub last_entry : {V : Type 0} → FinMap nat_cmp V → Option (ℕ × V)
+last_entry m = slice_get (entries m) (length (entries m) - 1)
+
+-- what an insert leaves, by its answer: the value goes in where the answer is that nothing stood there
+abbrev pub after_insert : {V : Type 0} → FinMap nat_cmp V → ℕ → V → Result (Option V) (AllocFailed V) → FinMap nat_cmp V
+after_insert m view value (Ok None) = insert m view value
+after_insert m view value (Ok (Some standing)) = m
+after_insert m view value (Err refused) = m
+
+-- count is at most the number of binary digits of n, that is, at most each d for which d digits are enough
+abbrev pub IsAtMostBinaryDigits : ℕ → ℕ → Type 0
+IsAtMostBinaryDigits count n = (d : ℕ) → n < 2 ^ d → count ≤ d

@@ -1,0 +1,6 @@
+// Views, terms, messages and the traits that the protocol asks of its caller.
+#![tactic(auto)]
+
+pub mod reasons;
+pub mod sorted;
+pub mod types;

@@ -1,0 +1,9 @@
+//! Sorted containers of views: a finite map, a finite map by terms, and sets as maps to `()`.
+
+pub mod by_term;
+#[cfg(test)]
+mod tests;
+pub mod tracked;
+
+pub use by_term::ByTerm;
+pub use tracked::Tracked;

@@ -1,0 +1,250 @@
+ghost use Rattle.std.specs.Prelude.{◌≡◌, ◌+◌, ◌-◌, ◌^◌, ◌<◌, ◌≤◌, ◌↔◌, IsTrue, IsSome, SomeIff};
+ghost use Rattle.simplex_types.specs.Terms.{term_index, term_start, term_end, next_term_start, HasTerm};
+
+use std::marker::Model;
+use std::num::NonZeroU32;
+
+/// A view: 0 is genesis, and the views from 1 on stand in terms.
+#[derive(Clone, Copy, PartialEq, Eq, PartialOrd, Ord, Debug)]
+pub struct View {
+    number: u64,
+}
+
+impl Model for View {
+    ghost use Rattle.std.specs.Prelude.{ℕ, ◌<◌, ◌^◌};
+
+    ghost Value = { ℕ };
+
+    ghost view = { λ v. v.number };
+
+    ghost invariant = { λ v. v.number < 2 ^ 64 };
+
+    ghost inverse = { λ n. record { number = n } };
+}
+
+/// How many views stand in a term: at least one.
+#[derive(Clone, Copy, PartialEq, Eq, Debug)]
+pub struct TermLength {
+    views: u32,
+}
+
+impl Model for TermLength {
+    ghost use Rattle.std.specs.Prelude.{ℕ, ◌<◌, ◌^◌};
+
+    ghost Value = { ℕ };
+
+    ghost view = { λ t. t.views };
+
+    ghost invariant = { λ t. (0 < t.views) × (t.views < 2 ^ 32) };
+
+    ghost inverse = { λ n. record { views = n } };
+}
+
+impl TermLength {
+    pub fn new(views: NonZeroU32) -> TermLength
+        ensures { result ≡ views.value }
+    {
+        TermLength { views: views.get() }
+    }
+
+    pub fn get(self) -> NonZeroU32
+        ensures value { result.value ≡ self }
+        ensures positive { 0 < self }
+        ensures in_range { self < 2 ^ 32 }
+    {
+        let views = self.views;
+        match NonZeroU32::new(views) {
+            Some(count) => count,
+            None => unreachable!(),
+        }
+    }
+}
+
+impl View {
+    pub fn new(number: u64) -> View
+        ensures { result ≡ number }
+    {
+        View { number }
+    }
+
+    pub fn zero() -> View
+        ensures { result ≡ 0 }
+    {
+        View { number: 0 }
+    }
+
+    pub fn get(self) -> u64
+        ensures { result ≡ self }
+    {
+        self.number
+    }
+
+    pub fn is_zero(self) -> bool
+        ensures { IsTrue result ↔ (self ≡ 0) }
+    {
+        self.number == 0
+    }
+
+    pub fn next(self) -> View
+        requires { self + 1 < 2 ^ 64 }
+        ensures { result ≡ self + 1 }
+    {
+        View {
+            number: self.number + 1,
+        }
+    }
+
+    pub fn previous(self) -> Option<View>
+        ensures { SomeIff result (0 < self) (self - 1) }
+    {
+        let number = self.number.checked_sub(1)?;
+        Some(View { number })
+    }
+
+    /// The number of the term that the view stands in.
+    pub fn term_index(self, length: TermLength) -> u64
+        requires { HasTerm self }
+        ensures { result ≡ term_index length self }
+    {
+        (self.number - 1) / u64::from(length.views)
+    }
+
+    pub fn term_start(self, length: TermLength) -> View
+        requires { HasTerm self }
+        ensures { result ≡ term_start length self }
+    {
+        let index = self.term_index(length);
+        View {
+            number: index * u64::from(length.views) + 1,
+        }
+    }
+
+    pub fn term_end(self, length: TermLength) -> View
+        requires { HasTerm self }
+        ensures { result ≡ term_end length self }
+    {
+        let start = self.term_start(length);
+        View {
+            number: start.number + u64::from(length.views) - 1,
+        }
+    }
+
+    pub fn next_term_start(self, length: TermLength) -> View
+        requires { HasTerm self }
+        ensures { result ≡ next_term_start length self }
+    {
+        let end = self.term_end(length);
+        View {
+            number: end.number + 1,
+        }
+    }
+
+    pub fn is_term_start(self, length: TermLength) -> bool
+        requires { HasTerm self }
+        ensures { IsTrue result ↔ (self ≡ term_start length self) }
+    {
+        self == self.term_start(length)
+    }
+}
+
+#[derive(Clone, Copy, PartialEq, Eq, Debug)]
+pub struct Epoch {
+    number: u64,
+}
+
+impl Model for Epoch {
+    ghost use Rattle.std.specs.Prelude.{ℕ, ◌<◌, ◌^◌};
+
+    ghost Value = { ℕ };
+
+    ghost view = { λ e. e.number };
+
+    ghost invariant = { λ e. e.number < 2 ^ 64 };
+
+    ghost inverse = { λ n. record { number = n } };
+}
+
+impl Epoch {
+    pub fn new(number: u64) -> Epoch
+        ensures { result ≡ number }
+    {
+        Epoch { number }
+    }
+
+    pub fn get(self) -> u64
+        ensures { result ≡ self }
+    {
+        self.number
+    }
+}
+
+/// The index of a member.
+#[derive(Clone, Copy, PartialEq, Eq, Debug)]
+pub struct Participant {
+    index: u32,
+}
+
+impl Model for Participant {
+    ghost use Rattle.std.specs.Prelude.{ℕ, ◌<◌, ◌^◌};
+
+    ghost Value = { ℕ };
+
+    ghost view = { λ p. p.index };
+
+    ghost invariant = { λ p. p.index < 2 ^ 32 };
+
+    ghost inverse = { λ n. record { index = n } };
+}
+
+impl Participant {
+    pub fn new(index: u32) -> Participant
+        ensures { result ≡ index }
+    {
+        Participant { index }
+    }
+
+    pub fn get(self) -> u32
+        ensures { result ≡ self }
+    {
+        self.index
+    }
+}
+
+/// One view of one epoch.
+#[derive(Clone, Copy, PartialEq, Eq, Debug)]
+pub struct Round {
+    pub epoch: Epoch,
+    pub view: View,
+}
+
+/// A number of views.
+#[derive(Clone, Copy, PartialEq, Eq, Debug)]
+pub struct ViewDelta {
+    views: u64,
+}
+
+impl Model for ViewDelta {
+    ghost use Rattle.std.specs.Prelude.{ℕ, ◌<◌, ◌^◌};
+
+    ghost Value = { ℕ };
+
+    ghost view = { λ d. d.views };
+
+    ghost invariant = { λ d. d.views < 2 ^ 64 };
+
+    ghost inverse = { λ n. record { views = n } };
+}
+
+impl ViewDelta {
+    pub fn new(views: u64) -> ViewDelta
+        ensures { result ≡ views }
+    {
+        ViewDelta { views }
+    }
+
+    pub fn get(self) -> u64
+        ensures { result ≡ self }
+    {
+        self.views
+    }
+}

@@ -1,0 +1,131 @@
+//! What the protocol asks of digests, keys, schemes and electors.
+
+ghost use Rattle.std.specs.Prelude.{◌≡◌, ◌<◌, ◌↔◌, ℕ, Bool, true, List, Option, Some, None, length, IsTrue, IsSome, IfOk, option_map};
+ghost use Rattle.std.specs.Option.{option_copied, ForSome};
+ghost use Rattle.simplex_types.specs.declared.types.numbers.Round.{Round};
+ghost use Rattle.simplex_types.specs.declared.types.messages.Subject.{Subject};
+ghost use Rattle.simplex_types.specs.declared.types.window.Terms.{Terms};
+
+use crate::types::messages::Subject;
+use crate::types::numbers::{Participant, Round};
+use crate::types::window::Terms;
+use std::alloc::{AllocError, Global};
+
+/// A payload's digest: a value of `SIZE` bytes.
+pub trait Digest: Copy + Eq {
+    const SIZE: usize;
+
+    ghost SIZE: { ℕ };
+
+    ghost bytes: { Self → List ℕ };
+
+    fn as_bytes(&self) -> &[u8]
+        ensures { result.now ≡ bytes self.now };
+
+    ghost length_bytes: { (d : Self) → length (bytes d) ≡ SIZE };
+
+    ghost equal_is_same: { (d e : Self) → Self.eq d e ≡ true → d ≡ e };
+
+    ghost same_is_equal: { (d : Self) → Self.eq d d ≡ true };
+
+    ghost bytes_injective: { (d e : Self) → bytes d ≡ bytes e → d ≡ e };
+}
+
+/// A member's public key.
+pub trait PublicKey: Copy + Eq {}
+
+/// Who signs, for whom, and what its certificates are.
+pub trait CertificateScheme: Drop {
+    type PublicKey: PublicKey;
+
+    type Signature: Drop;
+
+    type Certificate: Drop;
+
+    /// The member that the scheme signs for, if it has a key.
+    ghost me: { Self → Option ℕ };
+
+    /// The keys of the members.
+    ghost participants: { Self → List Self.PublicKey };
+
+    /// The bytes of a certificate.
+    ghost certificate_bytes: { Self.Certificate → List ℕ };
+
+    fn copy(&self, alloc: Global) -> Result<Self, AllocError>
+        ensures signer { IfOk result (λ s. me s ≡ me self.now) }
+        ensures members { IfOk result (λ s. participants s ≡ participants self.now) };
+
+    fn copy_signature(
+        alloc: Global,
+        signature: &Self::Signature,
+    ) -> Result<Self::Signature, AllocError>
+        ensures { IfOk result (λ s. s ≡ signature.now) };
+
+    fn copy_certificate(
+        alloc: Global,
+        certificate: &Self::Certificate,
+    ) -> Result<Self::Certificate, AllocError>
+        ensures { IfOk result (λ c. certificate_bytes c ≡ certificate_bytes certificate.now) };
+
+    fn me(&self) -> Option<Participant>
+        ensures { result ≡ me self.now };
+
+    fn participants(&self) -> &[Self::PublicKey]
+        ensures { result.now ≡ participants self.now };
+
+    fn certificate_bytes(certificate: &Self::Certificate) -> &[u8]
+        ensures { result.now ≡ certificate_bytes certificate.now };
+
+    /// The signer is one of the members.
+    ghost me_is_member: { (s : Self) → ForSome (me s) (λ m. m < length (participants s)) };
+}
+
+/// How votes on proposals of `D` are signed and certificates tested.
+pub trait Scheme<D: Digest>: CertificateScheme {
+    /// The signature of a member on a subject.
+    ghost signature_of: { ℕ → Subject D → Self.Signature };
+
+    /// Whether a certificate is good for a subject.
+    ghost accepts: { Self → Subject D → Self.Certificate → Bool };
+
+    fn sign(
+        &self,
+        alloc: Global,
+        subject: &Subject<D>,
+    ) -> Result<Option<Self::Signature>, AllocError>
+        ensures { IfOk result (λ s. s ≡ option_map (λ m. signature_of m subject.now) (Self.me self.now)) };
+
+    fn verify(&self, subject: &Subject<D>, certificate: &Self::Certificate) -> bool
+        ensures { result ≡ accepts self.now subject.now certificate.now };
+}
+
+/// Who leads a view.
+pub trait Elector<S: CertificateScheme>: Drop {
+    /// The terms of the views.
+    ghost terms: { Self → Terms };
+
+    /// How many members there are.
+    ghost members: { Self → ℕ };
+
+    /// Leaders are known before any certificate.
+    ghost elects_early: { Self → Bool };
+
+    /// The leader of a round, after a certificate of these bytes.
+    ghost elect: { Self → Round → Option (List ℕ) → ℕ };
+
+    fn terms(&self) -> Terms
+        ensures { result ≡ terms self.now };
+
+    fn members(&self) -> usize
+        ensures { result ≡ members self.now };
+
+    fn elects_early(&self) -> bool
+        ensures { result ≡ elects_early self.now };
+
+    fn elect(&self, round: Round, certificate: Option<&S::Certificate>) -> Participant
+        ensures { result ≡ elect self.now round (option_map S.certificate_bytes (option_copied certificate.entry)) };
+
+    ghost elected_is_member: { (e : Self) (round : Round) (seed : Option (List ℕ)) → elect e round seed < members e };
+
+    ghost early_needs_no_seed: { (e : Self) (round : Round) (seed : Option (List ℕ)) → elects_early e ≡ true → elect e round seed ≡ elect e round None };
+}

@@ -1,0 +1,110 @@
+//! Which views may be voted for, and which messages are taken.
+
+ghost use Rattle.std.specs.Prelude.{◌≡◌, ◌↔◌, ◌≤◌, ◌^◌, ◌-◌, IsTrue};
+ghost use Rattle.simplex_types.specs.Terms.{HasTerm};
+ghost use Rattle.simplex_types.specs.Window.{issuance_floor, AdmitsOutbound, AdmitsCertificate, AdmitsVote};
+
+use crate::types::numbers::{TermLength, View, ViewDelta};
+
+/// How an elector parts the views into terms, and how far members run ahead inside one.
+#[derive(Clone, Copy, PartialEq, Eq, Debug)]
+pub struct Terms {
+    /// How many views one leader leads.
+    pub term_length: TermLength,
+    /// How many views above the current one may be voted for inside its term.
+    pub optimistic_views: u64,
+    /// The milliseconds from the entry of the least unfinalized view of a term until the term counts as stalled.
+    pub stall_timeout: Option<u64>,
+}
+
+impl Terms {
+    /// How far ahead of the current view a member of these terms may vote.
+    pub fn lookahead(&self) -> Lookahead
+        ensures { result ≡ record { term_length = self.now.term_length; optimistic_views = self.now.optimistic_views } }
+    {
+        Lookahead {
+            term_length: self.term_length,
+            optimistic_views: self.optimistic_views,
+        }
+    }
+}
+
+/// How far ahead of the current view a member may issue votes.
+#[derive(Clone, Copy, PartialEq, Eq, Debug)]
+pub struct Lookahead {
+    pub term_length: TermLength,
+    pub optimistic_views: u64,
+}
+
+impl Lookahead {
+    /// The view below the window of `view`, where it has one.
+    pub fn issuance_floor(self, view: View) -> Option<View>
+        requires { view ≤ 2 ^ 64 - 2 ^ 33 }
+        ensures { result ≡ issuance_floor self.term_length self.optimistic_views view }
+    {
+        if view.is_zero() || self.optimistic_views == 0 {
+            return None;
+        }
+        let start = view.term_start(self.term_length);
+        if view == start {
+            return None;
+        }
+        let before_term = start.get().saturating_sub(1);
+        let before_window = view
+            .get()
+            .saturating_sub(1)
+            .saturating_sub(self.optimistic_views);
+        Some(View::new(before_term.max(before_window)))
+    }
+
+    /// Whether a member at `current` may vote for `view`.
+    pub fn admits_outbound(self, current: View, view: View) -> bool
+        requires { HasTerm current }
+        ensures { IsTrue result ↔ AdmitsOutbound self.term_length self.optimistic_views current view }
+    {
+        if view <= current {
+            return !view.is_zero();
+        }
+        let ahead = view.get().saturating_sub(current.get());
+        if view <= current.term_end(self.term_length) {
+            return ahead <= self.optimistic_views;
+        }
+        view == current.next_term_start(self.term_length) && ahead <= self.optimistic_views.max(1)
+    }
+}
+
+/// The views that a member keeps and takes messages of.
+#[derive(Clone, Copy, PartialEq, Eq, Debug)]
+pub struct Viewport {
+    pub finalized: View,
+    pub current: View,
+    pub view_retention: ViewDelta,
+    pub lookahead: Lookahead,
+}
+
+impl Viewport {
+    /// The lowest view that is kept.
+    pub fn floor(&self) -> View
+        ensures { result ≡ self.now.finalized - self.now.view_retention }
+    {
+        View::new(
+            self.finalized
+                .get()
+                .saturating_sub(self.view_retention.get()),
+        )
+    }
+
+    pub fn admits_certificate(&self, view: View) -> bool
+        ensures { IsTrue result ↔ AdmitsCertificate self.now view }
+    {
+        !view.is_zero() && self.floor() <= view
+    }
+
+    pub fn admits_vote(&self, view: View) -> bool
+        requires { HasTerm self.now.current }
+        ensures { IsTrue result ↔ AdmitsVote self.now view }
+    {
+        let last = self.current.next_term_start(self.lookahead.term_length);
+        self.admits_certificate(view) && view <= last
+    }
+}
