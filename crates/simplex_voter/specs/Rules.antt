@@ -1,0 +1,80 @@
+-- When this member may vote.
+use Rattle.std.specs.Prelude.{◌≡◌, ◌≤◌, ◌<◌, ℕ, ◌+◌, ◌-◌, Bool, true, false, ◌&&◌, ◌||◌, ◌==◌, not, nat_lt, nat_le, Option, Some, None, is_some, if◌then◌else◌}
+use Rattle.std.specs.List.{list_any}
+use Rattle.std.specs.Option.{option_map_or}
+use Rattle.simplex_types.specs.Terms.{covers, term_start}
+use Rattle.simplex_types.specs.declared.types.messages.Proposal.{Proposal}
+use Rattle.simplex_round.specs.Round.{RoundFacts, is_nullify, is_finalize, is_pending, is_certified, is_verified_slot, can_notarize, can_finalize}
+use Rattle.simplex_round.specs.Slot.{is_unequivocated}
+use Rattle.simplex_voter.specs.Facts.{Facts, Elect, round_at, round_of}
+use Rattle.simplex_voter.specs.Windows.{is_start, is_admitted, in_window}
+use Rattle.simplex_voter.specs.Payloads.{explicit_payload, optimistic_payload, is_elected_early}
+use Rattle.simplex_voter.specs.Parents.{binding_matches}
+
+module _ {K L D : Type 0} where
+  -- the current view, where this member didn't vote to finalize it
+  unfoldable pub may_nullify : Facts K L D → ℕ → Bool
+  may_nullify x v = v == x.current && not (is_finalize (round_of x v).decision)
+
+  -- this member voted to nullify a view below in the term, and no finalization lies at or above that
+  unfoldable pub is_gated : Facts K L D → ℕ → Bool
+  is_gated x v = list_any (λ u. nat_lt u v && covers x.terms.term_length u v && nat_lt x.finalized u) x.nullify_votes
+
+module _ {K L D : Type 0} (elect : Elect L) where
+  -- this member was elected early for the term that the view starts, and voted for a proposal there
+  abbrev pub was_handed_over : Facts K L D → ℕ → Bool
+  was_handed_over x v = is_elected_early elect x v && (round_of x v).notarize_decided
+
+  -- the view that has to be certified before a proposal of this view: the one before, but at a term's start only after a handoff
+  unfoldable pub required_parent : Facts K L D → ℕ → Proposal D → Option ℕ
+  required_parent x v p =
+      if is_start x v
+      then (if p.parent + 1 == v && was_handed_over x v then Some p.parent else None)
+      else Some (v - 1)
+
+  -- what has to be certified before the proposal is
+  abbrev pub is_parent_ready : Facts K L D → ℕ → Proposal D → Bool
+  is_parent_ready x v p = option_map_or (λ q. is_some (explicit_payload x q)) (required_parent x v p) true
+
+  -- the view's held proposal, if there is one, has what it requires
+  abbrev pub has_required_parent : Facts K L D → ℕ → Bool
+  has_required_parent x v = option_map_or (is_parent_ready x v) (round_of x v).slot.held false
+
+  unfoldable pub may_finalize : Facts K L D → ℕ → Bool
+  may_finalize x v =
+      nat_lt x.finalized v && is_admitted x v && not (is_gated x v) && has_required_parent x v && can_finalize (round_of x v)
+
+module _ {K L D : Type 0} (same : D → D → Bool) (elect : Elect L) where
+  -- inside its window a view needs the view before to offer a payload
+  abbrev pub has_ancestry : Facts K L D → ℕ → Bool
+  has_ancestry x v = not (in_window x v) || is_some (optimistic_payload same elect x (v - 1))
+
+  unfoldable pub may_notarize : Facts K L D → ℕ → Bool
+  may_notarize x v = is_admitted x v && can_notarize (round_of x v) && has_ancestry x v && binding_matches same elect x v
+
+-- the rules' parts
+
+-- a notarize vote may be signed
+pub record NotarizeRule {K L D : Type 0} (same : D → D → Bool) (elect : Elect L) (x : Facts K L D) (v : ℕ) : Type 0 where
+  pub admitted : is_admitted x v ≡ true
+  pub first_vote : (round_of x v).notarize_decided ≡ false
+  pub no_nullify : is_nullify (round_of x v).decision ≡ false
+  pub verified : is_verified_slot (round_of x v).slot ≡ true
+  pub ancestry : in_window x v ≡ true → is_some (optimistic_payload same elect x (v - 1)) ≡ true
+  pub bound : binding_matches same elect x v ≡ true
+
+-- a nullify vote may be signed
+pub record NullifyRule {K L D : Type 0} (x : Facts K L D) (v : ℕ) : Type 0 where
+  pub current : v ≡ x.current
+  pub no_finalize : is_finalize (round_of x v).decision ≡ false
+
+-- a finalize vote may be signed
+pub record FinalizeRule {K L D : Type 0} (elect : Elect L) (x : Facts K L D) (v : ℕ) : Type 0 where
+  pub above_finalized : x.finalized < v
+  pub admitted : is_admitted x v ≡ true
+  pub not_gated : is_gated x v ≡ false
+  pub parent : has_required_parent elect x v ≡ true
+  pub undecided : is_pending (round_of x v).decision ≡ true
+  pub unequivocated : is_unequivocated (round_of x v).slot ≡ true
+  pub notarized : is_some (round_of x v).notarization ≡ true
+  pub certified : is_certified (round_of x v).certification ≡ true

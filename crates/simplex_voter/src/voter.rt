@@ -1,0 +1,4 @@
+//! A member's state.
+
+/// Trial.
+pub fn trial() {}
