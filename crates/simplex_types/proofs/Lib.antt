@@ -3,3 +3,4 @@ pub mod Entries
 pub mod Maps
 pub mod Digits
 pub mod Joined
+pub mod Gaps
