@@ -8,7 +8,7 @@ use Rattle.std.specs.FinMap as map
 use Rattle.std.specs.FinMap.{FinMap, find}
 use Rattle.std.proofs.lemmas.Bool.{cases_eq, cases_lt, cases_order, lt-ltb, le-ltb, le-leb, lt-leb, eq-eqb, ne_eqb, false≢true}
 use Rattle.simplex_types.specs.Tracked.{below, at_or_above, last_entry, after_insert}
-use Rattle.simplex_types.specs.declared.types.AllocFailed.{AllocFailed}
+use Rattle.simplex_types.specs.declared.types.fault.AllocFailed.{AllocFailed}
 use Rattle.simplex_types.specs.Terms.{term_start, term_end, covers}
 use Rattle.simplex_types.specs.ByTerm.{TermMap, in_term, joined, IsByTerm}
 use Rattle.simplex_types.proofs.Entries.{AllAbove, Rises, find_above}

@@ -4,3 +4,4 @@ pub mod Maps
 pub mod Digits
 pub mod Joined
 pub mod Gaps
+pub mod EncodingLaw

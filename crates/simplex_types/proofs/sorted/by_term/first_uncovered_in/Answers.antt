@@ -7,7 +7,7 @@ pub loop-term-init : goal.loop-term-init
 loop-term-init g c = record {
   above = omega (arith, c.next-cursor.ensures);
   covered = gapless_first _ _ _ c.next-cursor.ensures;
-  rest = rw (c.at_or_above-rest.ensures, c.term_start.ensures) (rest_first c.args.terms.now (term_start c.args.length c.next-cursor.result))
+  rest = rw (c.at_or_above-rest.ensures, c.term_start.ensures) (rest_first c.args.terms.now (term_start c.args.length c.next-cursor.result));
 }
 
 pub returns-then-gt : goal.returns-then-gt
@@ -40,7 +40,7 @@ loop-term-preserved g c =
     rw c.next_term_start-cursor.ensures (record {
       above = omega (arith, up, c.loop-term.invariant.above);
       covered = on;
-      rest = rw start (rest_next _ _ _ _ _ rest same (omega (arith, up)))
+      rest = rw start (rest_next _ _ _ _ _ rest same (omega (arith, up)));
     })
 
 pub returns-then-lt-2 : goal.returns-then-lt-2

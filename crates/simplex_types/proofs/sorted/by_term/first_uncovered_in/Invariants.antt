@@ -9,5 +9,5 @@ abbrev pub invariant-loop-term : goal.invariant-loop-term
 invariant-loop-term g l = record {
   above : l.fn.after < l.cursor;
   covered : Gapless (map_of_terms l.length l.terms) l.fn.after l.cursor;
-  rest : IsRest l.terms (term_start l.length l.cursor) (drop l.term-index l.rest)
+  rest : IsRest l.terms (term_start l.length l.cursor) (drop l.term-index l.rest);
 }
