@@ -1,1 +1,1 @@
-mod Trial
+pub mod Examples

@@ -4,3 +4,14 @@ pub mod Windows
 pub mod Payloads
 pub mod Parents
 pub mod Rules
+pub mod Refusals
+pub mod Entering
+pub mod Leaders
+pub mod Timeouts
+pub mod Certification
+pub mod Acceptance
+pub mod Votes
+pub mod Proposing
+pub mod Verifying
+pub mod Serving
+pub mod Replay

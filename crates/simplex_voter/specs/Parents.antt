@@ -14,6 +14,9 @@ use Rattle.simplex_voter.specs.Payloads.{certified_payload, explicit_payload, op
 abbrev pub at_view : {D : Type 0} → ℕ → Option D → Option (ℕ × D)
 at_view v payload = option_map (λ d. (v, d)) payload
 
+abbrev pub explicit_entry : {K D : Type 0} → ℕ → ℕ × RoundFacts K D → Option (ℕ × D)
+explicit_entry v e = if nat_lt e.0 v then at_view e.0 (certified_payload e.1) else None
+
 abbrev pub last_of : {A : Type 0} → List A → Option A
 last_of xs = slice_get xs (length xs - 1)
 
@@ -21,9 +24,6 @@ module _ {K L D : Type 0} where
   -- what can't change for the better: the parent is below, not under the last finalized view, and inside a term the view before
   unfoldable pub spans : Facts K L D → ℕ → ℕ → Bool
   spans x v p = nat_lt p v && nat_le x.finalized p && (p + 1 == v || is_start x v)
-
-  abbrev pub explicit_entry : ℕ → ℕ × RoundFacts K D → Option (ℕ × D)
-  explicit_entry v e = if nat_lt e.0 v then at_view e.0 (certified_payload e.1) else None
 
   -- the highest tracked view below with an explicit payload, else genesis
   abbrev pub highest_explicit : Facts K L D → ℕ → Option (ℕ × D)

@@ -1,0 +1,3 @@
+-- Worked scripts, computed from the definitions.
+pub mod Scripts
+pub mod Votes

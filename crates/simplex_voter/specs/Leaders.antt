@@ -1,0 +1,45 @@
+-- Who leads a view. A leader that is set stays.
+use Rattle.std.specs.Prelude.{ℕ, ◌+◌, ◌-◌, Bool, ◌&&◌, ◌==◌, List, [], Option, Some, None, is_some, if◌then◌else◌, min, fold}
+use Rattle.std.specs.List.{range_with_len}
+use Rattle.std.specs.Option.{option_map_or}
+use Rattle.simplex_types.specs.Terms.{term_end}
+use Rattle.simplex_round.specs.Round.{RoundFacts, leader_at}
+use Rattle.simplex_voter.specs.Facts.{Facts, Elect, round_of, with_round, round_number}
+use Rattle.simplex_voter.specs.Windows.{in_window}
+use Rattle.simplex_voter.specs.Payloads.{is_elected_early}
+
+module _ {K L D : Type 0} where
+  abbrev pub has_leader : Facts K L D → ℕ → Bool
+  has_leader x v = is_some (round_of x v).leader
+
+  -- this member leads the view from now on, unless a leader is set
+  abbrev pub led : Facts K L D → ℕ → ℕ → Facts K L D
+  led x v member = if has_leader x v then x else with_round x v (record (round_of x v) { leader = leader_at x.members member })
+
+  -- the leader of one view goes to another
+  abbrev pub inherited : Facts K L D → ℕ → ℕ → Facts K L D
+  inherited x from to = option_map_or (λ l. led x to l.idx) (round_of x from).leader x
+
+  -- the views above v whose window a certificate of v opens: those of its term, at most one more than the optimistic views ahead
+  abbrev pub opened_views : Facts K L D → ℕ → List ℕ
+  opened_views x v =
+      if x.terms.optimistic_views == 0
+      then []
+      else range_with_len (v + 1) (min (term_end x.terms.term_length v) (v + x.terms.optimistic_views + 1) - v)
+
+  -- each of them in turn takes the leader of the view before it
+  abbrev pub slid : Facts K L D → ℕ → Facts K L D
+  slid x v = fold (λ y w. inherited y (w - 1) w) x (opened_views x v)
+
+module _ {K L D : Type 0} (elect : Elect L) where
+  -- the elector's choice, after a certificate of these bytes, leads the view
+  abbrev pub elected : Facts K L D → ℕ → Option (List ℕ) → Facts K L D
+  elected x v seed = led x v (elect x.elector (round_number x v) seed)
+
+  -- a proposal or this member's own vote for v readies the next view: in its window it takes the leader of v; at a term's
+  -- start, after its own vote, a member that is elected early takes it over
+  abbrev pub prepared : Facts K L D → ℕ → Facts K L D
+  prepared x v =
+      if in_window x (v + 1)
+      then inherited x v (v + 1)
+      else (if (round_of x v).notarize_decided && is_elected_early elect x (v + 1) then elected x (v + 1) None else x)

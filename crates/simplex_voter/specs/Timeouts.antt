@@ -1,0 +1,80 @@
+-- When the current view times out, and why.
+use Rattle.std.specs.Prelude.{ℕ, ◌+◌, ◌-◌, Bool, true, false, ◌&&◌, ◌||◌, not, nat_lt, nat_le, max, List, Option, Some, None, is_some, option_map, option_and_then, if◌then◌else◌, filter, slice_get}
+use Rattle.std.specs.Option.{option_map_or}
+use Rattle.simplex_types.specs.Terms.{term_index, term_start}
+use Rattle.simplex_types.specs.declared.types.fault.Fault.{Fault}
+use Rattle.simplex_types.specs.declared.reasons.TimeoutReason.{TimeoutReason}
+use Rattle.simplex_types.specs.declared.reasons.TimeoutReason.TheVariants.{Retry, Inactivity, StallTimeout}
+use Rattle.simplex_round.specs.Slot.{is_unequivocated}
+use Rattle.simplex_round.specs.Round.{RoundFacts, with_latch, with_retry, awaits_retry, round_timeout}
+use Rattle.simplex_voter.specs.Facts.{Facts, round_at, round_of, is_tracked, with_round, with_tracked}
+use Rattle.simplex_voter.specs.Refusals.{first_fault, is_past_u64}
+use Rattle.simplex_voter.specs.Entering.{at_moment}
+
+abbrev pub is_retry : TimeoutReason → Bool
+is_retry Retry = true
+is_retry _ = false
+
+abbrev pub is_inactivity : TimeoutReason → Bool
+is_inactivity Inactivity = true
+is_inactivity _ = false
+
+-- the leader is known to be active: one proposal is held, and no other was seen
+abbrev pub is_contradicted : {K D : Type 0} → TimeoutReason → RoundFacts K D → Bool
+is_contradicted reason r = is_inactivity reason && is_unequivocated r.slot
+
+-- a retry always stands; a stall deadline comes first where it is at or below a moment that is still ahead
+abbrev pub or_stalled : Option ℕ → ℕ → ℕ × TimeoutReason → ℕ × TimeoutReason
+or_stalled stall now timeout =
+    if is_retry timeout.1
+    then timeout
+    else option_map_or
+    (λ deadline. if nat_le deadline timeout.0 && nat_lt now timeout.0 then (deadline, StallTimeout) else timeout)
+    stall
+    timeout
+
+module _ {K L D : Type 0} where
+  -- the view times out at its next poll, unless it is passed, or not tracked, or the reason is contradicted
+  abbrev pub triggered : Facts K L D → ℕ → TimeoutReason → ℕ → Facts K L D
+  triggered x v reason now =
+      if nat_le x.current v && is_tracked x v && not (is_contradicted reason (round_of x v))
+      then with_round x v (with_latch (round_of x v) now reason)
+      else x
+
+  -- `trigger_timeout`
+  abbrev pub after_trigger_timeout : Facts K L D → ℕ → TimeoutReason → ℕ → Facts K L D
+  after_trigger_timeout x v reason now = triggered (at_moment x now) v reason now
+
+  -- few enough terms lie between the first one that isn't finalized and the current one
+  abbrev pub has_skip_budget : Facts K L D → Bool
+  has_skip_budget x =
+      nat_lt (term_index x.terms.term_length x.current - term_index x.terms.term_length (x.finalized + 1)) x.settings.skip_budget
+
+  -- the entered views of the current term above the last finalized one
+  abbrev pub is_stalling : Facts K L D → ℕ × RoundFacts K D → Bool
+  is_stalling x e =
+      nat_lt x.finalized e.0 && nat_le (term_start x.terms.term_length x.current) e.0 && nat_le e.0 x.current && is_some e.1.entered_at
+
+  -- the stall deadline of the least of them
+  abbrev pub stall_deadline : Facts K L D → Option ℕ
+  stall_deadline x = option_and_then (λ e. e.1.stall_deadline) (slice_get (filter (is_stalling x) x.rounds) 0)
+
+  -- the current round, with the moment of its retry where nullify was decided
+  abbrev pub polled : Facts K L D → ℕ → RoundFacts K D
+  polled x now = with_retry (round_of x x.current) now x.settings.timeout_retry
+
+  -- `next_timeout`: the moment and the reason
+  abbrev pub next_timeout_answer : Facts K L D → ℕ → Option (ℕ × TimeoutReason)
+  next_timeout_answer x now =
+      option_map (or_stalled (stall_deadline x) now) (round_timeout (polled x now) (has_skip_budget x))
+
+  abbrev pub after_next_timeout : Facts K L D → ℕ → Facts K L D
+  after_next_timeout x now = with_tracked (at_moment x now) x.current (polled x now)
+
+  abbrev pub next_timeout_refusal : Facts K L D → ℕ → Option Fault
+  next_timeout_refusal x now =
+      first_fault x.failed false (awaits_retry (round_of x x.current) && is_past_u64 (now + x.settings.timeout_retry))
+
+  -- the current view has a timeout
+  abbrev pub has_timeout : Facts K L D → Bool
+  has_timeout x = option_map_or (λ r. awaits_retry r || is_some (round_timeout r (has_skip_budget x))) (round_at x x.current) false

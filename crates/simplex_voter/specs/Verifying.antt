@@ -1,0 +1,145 @@
+-- Which proposals of other leaders this member verifies, and what it lacks to do so.
+use Rattle.std.specs.Prelude.{ℕ, Bool, true, false, ◌&&◌, ◌||◌, ◌==◌, not, nat_le, List, [], ◌∷◌, Option, Some, None, is_some, is_none, option_map, option_and_then, if◌then◌else◌, filter, slice_get, fold}
+use Rattle.std.specs.List.{filter_map}
+use Rattle.std.specs.Option.{option_map_or}
+use Rattle.simplex_types.specs.Proposal.{same_proposal}
+use Rattle.simplex_types.specs.declared.types.fault.Fault.{Fault}
+use Rattle.simplex_types.specs.declared.types.messages.Context.{Context}
+use Rattle.simplex_types.specs.declared.types.messages.Proposal.{Proposal}
+use Rattle.simplex_types.specs.declared.reasons.Kind.{Kind}
+use Rattle.simplex_types.specs.declared.reasons.Kind.TheVariants.{Nullification, Notarization}
+use Rattle.simplex_types.specs.declared.reasons.TimeoutReason.{TimeoutReason}
+use Rattle.simplex_types.specs.declared.reasons.TimeoutReason.TheVariants.{InvalidProposal}
+use Rattle.simplex_round.specs.declared.round.Leader.{Leader}
+use Rattle.simplex_round.specs.Slot.{SlotFacts, after_vote, after_mark, is_unverified}
+use Rattle.simplex_round.specs.Round.{RoundFacts, is_nullify, pending_proposal, with_latch}
+use Rattle.simplex_voter.specs.Facts.{Facts, Elect, round_at, round_of, round_number, with_round, with_tracked}
+use Rattle.simplex_voter.specs.Gaps.{first_gap}
+use Rattle.simplex_voter.specs.Windows.{in_window, is_admitted}
+use Rattle.simplex_voter.specs.Parents.{spans, payload_for, binding_matches}
+use Rattle.simplex_voter.specs.Proposing.{views_ahead}
+use Rattle.simplex_voter.specs.Leaders.{prepared}
+use Rattle.simplex_voter.specs.Entering.{at_moment}
+use Rattle.simplex_voter.specs.Refusals.{takes_round}
+use Rattle.simplex_voter.specs.Timeouts.{triggered}
+
+-- how the proposal of a view stands: nothing to do; a parent that is invalid for good; a certificate of a view to ask for; or
+-- ready, with its parent's payload
+pub data Standing (D : Type 0) : Type 0 where
+  Passed : Standing D
+  Invalid : Standing D
+  Lacks : ℕ → Kind → Standing D
+  Ready : D → Standing D
+
+-- what is answered: a proposal to verify, a certificate to ask a leader for, or nothing yet
+pub data Verification (K D : Type 0) : Type 0 where
+  Verify : Context D K → Proposal D → Verification K D
+  Resolve : (proposal view : ℕ) → Kind → (target : K) → Verification K D
+  Wait : Verification K D
+
+-- a certificate is asked for, unless its view was the last one asked for
+abbrev pub unless_asked : {K D : Type 0} → RoundFacts K D → ℕ → Kind → Standing D
+unless_asked r w kind = if option_map_or (λ asked. asked == w) r.last_request false then Passed else Lacks w kind
+
+-- what the scan leaves of a view that it comes to
+abbrev pub scanned_round : {K D : Type 0} → ℕ → RoundFacts K D → Standing D → RoundFacts K D
+scanned_round moment r Passed = r
+scanned_round moment r Invalid = with_latch r moment InvalidProposal
+scanned_round moment r (Lacks w kind) = record r { last_request = Some w }
+scanned_round moment r (Ready d) =
+    record r { slot = record (r.slot) { verify_requested = true }; binding = option_map (λ p. (p, d)) r.slot.held }
+
+abbrev pub is_answered : {D : Type 0} → Standing D → Bool
+is_answered Passed = false
+is_answered Invalid = false
+is_answered (Lacks w kind) = true
+is_answered (Ready d) = true
+
+-- the beginning of a list, up to the first that passes, with it
+abbrev pub through : {A : Type 0} → (A → Bool) → List A → List A
+through test [] = []
+through test (a ∷ rest) = if test a then a ∷ [] else a ∷ through test rest
+
+abbrev pub verify_context : {K D : Type 0} → Leader K × Proposal D → D → Context D K
+verify_context found d = record { round = found.1.round; leader = found.0.key; parent = (found.1.parent, d) }
+
+-- the answer at a view of this standing, with its leader and proposal
+abbrev pub answer_at : {K D : Type 0} → ℕ → Standing D → Leader K × Proposal D → Option (Verification K D)
+answer_at v Passed found = None
+answer_at v Invalid found = None
+answer_at v (Lacks w kind) found = Some (Resolve v w kind found.0.key)
+answer_at v (Ready d) found = Some (Verify (verify_context found d) found.1)
+
+module _ {K L D : Type 0} where
+  -- what a proposal of this view handed in asks: this epoch, and a view that is kept
+  abbrev pub takes_proposal : Facts K L D → ℕ → Proposal D → Bool
+  takes_proposal x v p = takes_round x p.round && p.round.view == v
+
+  abbrev pub without_binding : Facts K L D → ℕ → Facts K L D
+  without_binding x v = with_tracked x v (record (round_of x v) { binding = None })
+
+  -- `set_proposal`: whether to verify it
+  abbrev pub set_proposal_answer : Facts K L D → ℕ → Bool
+  set_proposal_answer x v = not (is_nullify (round_of x v).decision) && is_none (round_of x v).slot.held
+
+abbrev pub with_proposal : {K D : Type 0} → (D → D → Bool) → RoundFacts K D → Proposal D → RoundFacts K D
+with_proposal same r p =
+    if is_nullify r.decision then r else record r { slot = after_vote (same_proposal same) r.slot p }
+
+abbrev pub with_mark : {K D : Type 0} → RoundFacts K D → RoundFacts K D
+with_mark r = if is_nullify r.decision then r else record r { slot = after_mark r.slot }
+
+module _ {K L D : Type 0} (same : D → D → Bool) (elect : Elect L) where
+  abbrev pub after_set_proposal : Facts K L D → ℕ → Proposal D → Facts K L D
+  after_set_proposal x v p =
+      let ready = prepared elect x v in
+      with_round ready v (with_proposal same (round_of ready v) p)
+
+  -- above no gap the parent's payload is ready, or inside the window still forming, or its notarization is lacking
+  abbrev pub payload_standing : Facts K L D → ℕ → RoundFacts K D → ℕ → Standing D
+  payload_standing x v r p =
+      option_map_or Ready (payload_for same elect x v p) (if in_window x v then Passed else unless_asked r p Notarization)
+
+  -- how a proposal stands by its parent: the first gap is to be closed first
+  abbrev pub parent_standing : Facts K L D → ℕ → RoundFacts K D → ℕ → Standing D
+  parent_standing x v r p =
+      if spans x v p
+      then option_map_or (λ w. unless_asked r w Nullification) (first_gap x p v) (payload_standing x v r p)
+      else Invalid
+
+  -- how a view stands: another leads it, this member may work there, and its proposal was not verified yet
+  unfoldable pub standing : Facts K L D → ℕ × RoundFacts K D → Standing D
+  standing x e =
+      if is_admitted x e.0
+      then option_map_or (λ found. parent_standing x e.0 e.1 found.1.parent) (pending_proposal e.1) Passed
+      else Passed
+
+  abbrev pub answer_in : Facts K L D → ℕ × RoundFacts K D → Option (Verification K D)
+  answer_in x e = option_and_then (answer_at e.0 (standing x e)) (pending_proposal e.1)
+
+  -- `try_verify`: the answer of the lowest view ahead that has one
+  abbrev pub verify_answer : Facts K L D → Verification K D
+  verify_answer x = option_map_or (λ found. found) (slice_get (filter_map (answer_in x) (views_ahead x)) 0) Wait
+
+  -- the views ahead up to that one
+  abbrev pub scanned : Facts K L D → List (ℕ × RoundFacts K D)
+  scanned x = through (λ e. is_answered (standing x e)) (views_ahead x)
+
+  -- those with an invalid parent time out, and the one that is answered is verified or asks
+  abbrev pub after_try_verify : Facts K L D → Facts K L D
+  after_try_verify x = fold (λ y e. with_round y e.0 (scanned_round x.moment e.1 (standing x e))) x (scanned x)
+
+  -- `verified`: whether the held proposal is marked; an answer for what is no longer bound takes the binding away
+  abbrev pub verified_answer : Facts K L D → ℕ → Bool
+  verified_answer x v =
+      binding_matches same elect x v
+      && option_map_or (λ r. not (is_nullify r.decision) && is_unverified r.slot) (round_at x v) false
+
+  abbrev pub after_verified : Facts K L D → ℕ → Facts K L D
+  after_verified x v =
+      if binding_matches same elect x v then with_tracked x v (with_mark (round_of x v)) else without_binding x v
+
+  -- `verification_failed`
+  abbrev pub after_verification_failed : Facts K L D → ℕ → TimeoutReason → ℕ → Facts K L D
+  after_verification_failed x v reason now =
+      if binding_matches same elect x v then triggered (at_moment x now) v reason now else without_binding (at_moment x now) v

@@ -1,0 +1,43 @@
+-- What the calls for a vote answer, and what they decide. Where there is no key the vote is decided and not answered.
+use Rattle.std.specs.Prelude.{ℕ, Bool, true, ◌&&◌, Option, Some, None, is_some, if◌then◌else◌}
+use Rattle.std.specs.Ordering.{nat_cmp}
+use Rattle.std.specs.BTreeSet.{insert_key}
+use Rattle.simplex_types.specs.declared.types.messages.Proposal.{Proposal}
+use Rattle.simplex_round.specs.declared.round.Decision.TheVariants.{Finalize}
+use Rattle.simplex_round.specs.Round.{after_nullify, is_nullify}
+use Rattle.simplex_voter.specs.Facts.{Facts, Elect, round_of, with_round}
+use Rattle.simplex_voter.specs.Leaders.{prepared}
+use Rattle.simplex_voter.specs.Rules.{may_notarize, may_nullify, may_finalize}
+
+module _ {K L D : Type 0} where
+  -- this member's nullify vote for the view is out, where it has a key
+  abbrev pub nullify_cast : Facts K L D → ℕ → Facts K L D
+  nullify_cast x v = if is_some x.me then record x { nullify_votes = insert_key nat_cmp x.nullify_votes v } else x
+
+  -- `construct_nullify`: the vote is answered with whether it is a repeat
+  abbrev pub nullify_answer : Facts K L D → ℕ → Option Bool
+  nullify_answer x v = if is_some x.me && may_nullify x v then Some (is_nullify (round_of x v).decision) else None
+
+  abbrev pub after_construct_nullify : Facts K L D → ℕ → Facts K L D
+  after_construct_nullify x v =
+      if may_nullify x v then nullify_cast (with_round x v (after_nullify (round_of x v))) v else x
+
+module _ {K L D : Type 0} (elect : Elect L) where
+  -- `construct_finalize`: what is signed
+  abbrev pub finalize_answer : Facts K L D → ℕ → Option (Proposal D)
+  finalize_answer x v = if is_some x.me && may_finalize elect x v then (round_of x v).slot.held else None
+
+  abbrev pub after_construct_finalize : Facts K L D → ℕ → Facts K L D
+  after_construct_finalize x v =
+      if may_finalize elect x v then with_round x v (record (round_of x v) { decision = Finalize }) else x
+
+module _ {K L D : Type 0} (same : D → D → Bool) (elect : Elect L) where
+  -- `construct_notarize`: what is signed
+  abbrev pub notarize_answer : Facts K L D → ℕ → Option (Proposal D)
+  notarize_answer x v = if is_some x.me && may_notarize same elect x v then (round_of x v).slot.held else None
+
+  abbrev pub after_construct_notarize : Facts K L D → ℕ → Facts K L D
+  after_construct_notarize x v =
+      if may_notarize same elect x v
+      then prepared elect (with_round x v (record (round_of x v) { notarize_decided = true })) v
+      else x
