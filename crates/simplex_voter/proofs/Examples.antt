@@ -1,3 +1,8 @@
 -- Worked scripts, computed from the definitions.
 pub mod Scripts
 pub mod Votes
+pub mod Terms
+pub mod Parents
+pub mod Windows
+pub mod Timing
+pub mod Hostile

@@ -80,6 +80,7 @@ pub data Reply : Type 0 where
   Abandoned : Option HandoffAbandonedReason → Reply
   Work : Verification ℕ ℕ → Reply
   Offered : List (Proposal ℕ) → List Fetch → Reply
+  Judged : Option (Proposal ℕ) → Reply
   Vote : Option (Proposal ℕ) → Reply
   NullifyVote : Option Bool → Reply
   Certificate : Option (CertificateFacts ℕ) → Reply
@@ -130,7 +131,7 @@ reply_to x (Rejected v reason now) = Done
 reply_to x Candidates = let answer = candidates_answer same in_turn x in Offered answer.0 answer.1
 reply_to x (SetCertifyHandle v token) = guarded (takes_certify_handle x v) (plain_refusal x) Done
 reply_to x (Certified v success now) =
-    guarded (takes_verdict x v success) (certified_refusal x v success now) (Vote (option_map (λ c. c.proposal) (certified_answer x v)))
+    guarded (takes_verdict x v success) (certified_refusal x v success now) (Judged (option_map (λ c. c.proposal) (certified_answer x v)))
 reply_to x (Notarize v) = Vote (notarize_answer same in_turn x v)
 reply_to x (Nullify v) = NullifyVote (nullify_answer x v)
 reply_to x (Finalize v) = Vote (finalize_answer in_turn x v)
@@ -253,6 +254,13 @@ usual = record { epoch = 1; view_retention = 10; leader_timeout = 1000; certific
 abbrev pub voter : ℕ → ℕ → ℕ → State
 voter me length optimistic =
     member (Some me) (record { term_length = length; optimistic_views = optimistic; stall_timeout = None }) usual 0
+
+-- the same without a key
+abbrev pub keyless : ℕ → ℕ → State
+keyless length optimistic = member None (record { term_length = length; optimistic_views = optimistic; stall_timeout = None }) usual 0
+
+abbrev pub fetch : ℕ → ℕ → Fetch
+fetch p v = record { proposal = p; view = v }
 
 -- entries of a record
 

@@ -1,20 +1,124 @@
 -- One view a term: votes and restarts.
 use Rattle.std.specs.Prelude.{◌≡◌, ℕ, true, false, List, [], ◌∷◌, Some, None}
 use Rattle.std.proofs.Common.{refl}
-use Rattle.simplex_types.specs.declared.types.fault.Fault.TheVariants.{TimeOverflow}
+use Rattle.simplex_types.specs.Certificates.{Notarized, Nullified, Finalized}
+use Rattle.simplex_types.specs.declared.types.fault.Fault.TheVariants.{TimeOverflow, ViewTooLarge}
+use Rattle.simplex_types.specs.declared.reasons.Kind.TheVariants.{Nullification, Notarization}
+use Rattle.simplex_types.specs.declared.reasons.HandoffAbandonedReason.TheVariants.{AncestryInvalidated, ParentNullify}
+use Rattle.simplex_types.specs.declared.reasons.TimeoutReason.TheVariants.{Retry, Inactivity, LeaderNullify, LeaderTimeout, CertificationTimeout, StallTimeout, MissingProposal, InvalidProposal}
 use Rattle.simplex_voter.specs.Gaps.{first_gap}
 use Rattle.simplex_voter.specs.Windows.{is_admitted, in_window}
 use Rattle.simplex_voter.specs.Payloads.{explicit_payload, is_handoff_parent, serves, follows, optimistic_payload}
 use Rattle.simplex_voter.specs.Parents.{spans, payload_for, parent_payload, preferred_parent, may_stand, binding_matches}
 use Rattle.simplex_voter.specs.Rules.{may_nullify, is_gated, required_parent, may_finalize, may_notarize}
 use Rattle.simplex_voter.specs.Proposing.{propose_answer, proposed_answer}
+use Rattle.simplex_voter.specs.Proposing.Request.{Prepare, Propose}
 use Rattle.simplex_voter.specs.Verifying.{standing}
-use Rattle.simplex_voter.proofs.Examples.Scripts.{Call, Reply, replies_of, voter, proposal, notarized, verdict, voted_nullify, voted_finalize}
-use Rattle.simplex_voter.proofs.Examples.Scripts.Call.{AddNotarization, Certified, Nullify, Finalize, Restart, View}
-use Rattle.simplex_voter.proofs.Examples.Scripts.Reply.{Done, Added, Vote, NullifyVote, Now, Refused, NotAllowed}
+use Rattle.simplex_voter.specs.Verifying.Verification.{Verify, Resolve, Wait}
+use Rattle.simplex_voter.proofs.Examples.Scripts.{replies_of, member, voter, keyless, usual, proposal, context, certificate, nullification, fetch, notarized, nullified, finalized, verdict, voted_notarize, voted_nullify, voted_finalize}
+use Rattle.simplex_voter.proofs.Examples.Scripts.Call.{AddNotarization, AddNullification, AddFinalization, SetProposal, TryPropose, Proposed, Supersede, Abandonment, Release, TryVerify, Verified, Rejected, Candidates, SetCertifyHandle, Certified, Notarize, Nullify, Finalize, BroadcastNotarization, BroadcastNullification, BroadcastFinalization, Best, Trigger, NextTimeout, Prune, View, Restart}
+use Rattle.simplex_voter.proofs.Examples.Scripts.Reply.{Done, Flag, Added, Asked, Abandoned, Work, Offered, Judged, Vote, NullifyVote, Certificate, Timeout, Views, Now, Refused, NotAllowed}
 
--- a nullify vote, and a certified proposal that this member doesn't finalize for it, also after a restart
-nullify_before_finalize : replies_of (voter 0 1 0) (Nullify 1 ∷ Nullify 1 ∷ AddNotarization 1 0 7 ∷ Certified 1 true 10 ∷ Finalize 1 ∷ Restart 20 (voted_nullify 0 1 ∷ notarized 1 0 7 ∷ verdict 1 true ∷ []) ∷ Finalize 1 ∷ Nullify 1 ∷ [])
-    ≡ NullifyVote (Some false) ∷ NullifyVote (Some true) ∷ Added true None ∷ Vote (Some (proposal 1 0 7)) ∷ Vote None ∷ Done ∷ Vote None ∷ NullifyVote None ∷ []
+-- a verdict where nothing is known says nothing; one without its notarization is not allowed, nor is view 0
+untracked :
+    replies_of
+    (voter 0 1 0)
+    (
+      Certified 9 true 1 ∷ Certified 1 true 1 ∷ AddNotarization 0 0 7 ∷ []
+    )
+    ≡
+    Judged None ∷ NotAllowed ∷ NotAllowed ∷ []
+unfolding first_gap is_admitted in_window explicit_payload is_handoff_parent serves follows optimistic_payload spans payload_for parent_payload preferred_parent may_stand binding_matches may_nullify is_gated required_parent may_finalize may_notarize propose_answer proposed_answer standing
+untracked = refl
+
+-- a deadline that passes 64 bits refuses the verdict and changes nothing
+late_verdict :
+    replies_of
+    (voter 0 1 0)
+    (
+      AddNotarization 1 0 7 ∷ Certified 1 true 18446744073709551615 ∷ View ∷ []
+    )
+    ≡
+    Added true None ∷ Refused TimeOverflow ∷ Now 1 0 0 ∷ []
+unfolding first_gap is_admitted in_window explicit_payload is_handoff_parent serves follows optimistic_payload spans payload_for parent_payload preferred_parent may_stand binding_matches may_nullify is_gated required_parent may_finalize may_notarize propose_answer proposed_answer standing
+late_verdict = refl
+
+-- the same verdict again is taken, another one is not allowed
+repeated_verdict :
+    replies_of
+    (voter 0 1 0)
+    (
+      AddNotarization 1 0 7 ∷ Certified 1 true 10 ∷ Certified 1 true 11 ∷ Certified 1 false 12 ∷ []
+    )
+    ≡
+    Added true None ∷ Judged (Some (proposal 1 0 7)) ∷ Judged (Some (proposal 1 0 7)) ∷ NotAllowed ∷ []
+unfolding first_gap is_admitted in_window explicit_payload is_handoff_parent serves follows optimistic_payload spans payload_for parent_payload preferred_parent may_stand binding_matches may_nullify is_gated required_parent may_finalize may_notarize propose_answer proposed_answer standing
+repeated_verdict = refl
+
+-- a finalize vote asks nothing of a term start's parent
+any_parent :
+    replies_of
+    (voter 0 1 0)
+    (
+      AddNotarization 1 5 7 ∷ Certified 1 true 10 ∷ Finalize 1 ∷ []
+    )
+    ≡
+    Added true None ∷ Judged (Some (proposal 1 5 7)) ∷ Vote (Some (proposal 1 5 7)) ∷ []
+unfolding first_gap is_admitted in_window explicit_payload is_handoff_parent serves follows optimistic_payload spans payload_for parent_payload preferred_parent may_stand binding_matches may_nullify is_gated required_parent may_finalize may_notarize propose_answer proposed_answer standing
+any_parent = refl
+
+-- a nullify vote keeps this member from finalizing the view, also after a restart
+nullify_before_finalize :
+    replies_of
+    (voter 0 1 0)
+    (
+      Nullify 1 ∷ Nullify 1 ∷ AddNotarization 1 0 7 ∷ Certified 1 true 10 ∷ Finalize 1 ∷
+      Restart 20 (voted_nullify 0 1 ∷ notarized 1 0 7 ∷ verdict 1 true ∷ []) ∷ Finalize 1 ∷ Nullify 1 ∷ []
+    )
+    ≡
+    NullifyVote (Some false) ∷ NullifyVote (Some true) ∷ Added true None ∷ Judged (Some (proposal 1 0 7)) ∷
+    Vote None ∷ Done ∷ Vote None ∷ NullifyVote None ∷ []
 unfolding first_gap is_admitted in_window explicit_payload is_handoff_parent serves follows optimistic_payload spans payload_for parent_payload preferred_parent may_stand binding_matches may_nullify is_gated required_parent may_finalize may_notarize propose_answer proposed_answer standing
 nullify_before_finalize = refl
+
+-- a view that was left is not voted to nullify
+nullify_of_a_past_view :
+    replies_of
+    (voter 0 1 0)
+    (
+      Nullify 1 ∷ Nullify 1 ∷ AddNotarization 1 0 7 ∷ Certified 1 true 10 ∷ View ∷ Finalize 1 ∷
+      Restart 20 (voted_nullify 0 1 ∷ notarized 1 0 7 ∷ verdict 1 true ∷ []) ∷ Finalize 1 ∷ Nullify 1 ∷ []
+    )
+    ≡
+    NullifyVote (Some false) ∷ NullifyVote (Some true) ∷ Added true None ∷ Judged (Some (proposal 1 0 7)) ∷
+    Now 2 0 0 ∷ Vote None ∷ Done ∷ Vote None ∷ NullifyVote None ∷ []
+unfolding first_gap is_admitted in_window explicit_payload is_handoff_parent serves follows optimistic_payload spans payload_for parent_payload preferred_parent may_stand binding_matches may_nullify is_gated required_parent may_finalize may_notarize propose_answer proposed_answer standing
+nullify_of_a_past_view = refl
+
+-- after a restart that lost the certificates the vote still stands, and is a repeat
+lost_certificates :
+    replies_of
+    (voter 0 1 0)
+    (
+      Nullify 1 ∷ Nullify 1 ∷ AddNotarization 1 0 7 ∷ Certified 1 true 10 ∷ Restart 20 (voted_nullify 0 1 ∷ []) ∷
+      View ∷ Nullify 1 ∷ []
+    )
+    ≡
+    NullifyVote (Some false) ∷ NullifyVote (Some true) ∷ Added true None ∷ Judged (Some (proposal 1 0 7)) ∷ Done ∷
+    Now 1 0 0 ∷ NullifyVote (Some true) ∷ []
+unfolding first_gap is_admitted in_window explicit_payload is_handoff_parent serves follows optimistic_payload spans payload_for parent_payload preferred_parent may_stand binding_matches may_nullify is_gated required_parent may_finalize may_notarize propose_answer proposed_answer standing
+lost_certificates = refl
+
+-- a restart remembers the notarize vote, and readies the handoff again
+notarized_once :
+    replies_of
+    (voter 1 1 0)
+    (
+      SetProposal 1 0 7 ∷ TryVerify ∷ Verified 1 ∷ Notarize 1 ∷ Restart 5 (voted_notarize 1 1 0 7 ∷ []) ∷
+      SetProposal 1 0 7 ∷ TryVerify ∷ Notarize 1 ∷ TryPropose ∷ []
+    )
+    ≡
+    Flag true ∷ Work (Verify (context 1 0 0 0) (proposal 1 0 7)) ∷ Flag true ∷ Vote (Some (proposal 1 0 7)) ∷ Done ∷
+    Flag false ∷ Work Wait ∷ Vote None ∷ Asked (Some (Prepare (context 2 1 1 7))) ∷ []
+unfolding first_gap is_admitted in_window explicit_payload is_handoff_parent serves follows optimistic_payload spans payload_for parent_payload preferred_parent may_stand binding_matches may_nullify is_gated required_parent may_finalize may_notarize propose_answer proposed_answer standing
+notarized_once = refl

@@ -1,0 +1,139 @@
+-- The issuance window, optimistic chains and handoffs.
+use Rattle.std.specs.Prelude.{◌≡◌, ℕ, true, false, List, [], ◌∷◌, Some, None}
+use Rattle.std.proofs.Common.{refl}
+use Rattle.simplex_types.specs.Certificates.{Notarized, Nullified, Finalized}
+use Rattle.simplex_types.specs.declared.types.fault.Fault.TheVariants.{TimeOverflow, ViewTooLarge}
+use Rattle.simplex_types.specs.declared.reasons.Kind.TheVariants.{Nullification, Notarization}
+use Rattle.simplex_types.specs.declared.reasons.HandoffAbandonedReason.TheVariants.{AncestryInvalidated, ParentNullify}
+use Rattle.simplex_types.specs.declared.reasons.TimeoutReason.TheVariants.{Retry, Inactivity, LeaderNullify, LeaderTimeout, CertificationTimeout, StallTimeout, MissingProposal, InvalidProposal}
+use Rattle.simplex_voter.specs.Gaps.{first_gap}
+use Rattle.simplex_voter.specs.Windows.{is_admitted, in_window}
+use Rattle.simplex_voter.specs.Payloads.{explicit_payload, is_handoff_parent, serves, follows, optimistic_payload}
+use Rattle.simplex_voter.specs.Parents.{spans, payload_for, parent_payload, preferred_parent, may_stand, binding_matches}
+use Rattle.simplex_voter.specs.Rules.{may_nullify, is_gated, required_parent, may_finalize, may_notarize}
+use Rattle.simplex_voter.specs.Proposing.{propose_answer, proposed_answer}
+use Rattle.simplex_voter.specs.Proposing.Request.{Prepare, Propose}
+use Rattle.simplex_voter.specs.Verifying.{standing}
+use Rattle.simplex_voter.specs.Verifying.Verification.{Verify, Resolve, Wait}
+use Rattle.simplex_voter.proofs.Examples.Scripts.{replies_of, member, voter, keyless, usual, proposal, context, certificate, nullification, fetch, notarized, nullified, finalized, verdict, voted_notarize, voted_nullify, voted_finalize}
+use Rattle.simplex_voter.proofs.Examples.Scripts.Call.{AddNotarization, AddNullification, AddFinalization, SetProposal, TryPropose, Proposed, Supersede, Abandonment, Release, TryVerify, Verified, Rejected, Candidates, SetCertifyHandle, Certified, Notarize, Nullify, Finalize, BroadcastNotarization, BroadcastNullification, BroadcastFinalization, Best, Trigger, NextTimeout, Prune, View, Restart}
+use Rattle.simplex_voter.proofs.Examples.Scripts.Reply.{Done, Flag, Added, Asked, Abandoned, Work, Offered, Judged, Vote, NullifyVote, Certificate, Timeout, Views, Now, Refused, NotAllowed}
+
+-- a chain of votes before any certificate; a parent outside of what was voted for waits for its verdict
+chain :
+    replies_of
+    (voter 1 5 1)
+    (
+      SetProposal 1 0 7 ∷ SetProposal 2 1 9 ∷ TryVerify ∷ TryVerify ∷ Verified 1 ∷ Notarize 1 ∷ TryVerify ∷
+      Verified 2 ∷ Notarize 2 ∷ SetProposal 3 2 4 ∷ AddNotarization 1 0 7 ∷ TryVerify ∷ Certified 1 true 10 ∷
+      TryVerify ∷ []
+    )
+    ≡
+    Flag true ∷ Flag true ∷ Work (Verify (context 1 0 0 0) (proposal 1 0 7)) ∷ Work Wait ∷ Flag true ∷
+    Vote (Some (proposal 1 0 7)) ∷ Work (Verify (context 2 0 1 7) (proposal 2 1 9)) ∷ Flag true ∷
+    Vote (Some (proposal 2 1 9)) ∷ Flag true ∷ Added true None ∷ Work Wait ∷ Judged (Some (proposal 1 0 7)) ∷
+    Work (Verify (context 3 0 2 9) (proposal 3 2 4)) ∷ []
+unfolding first_gap is_admitted in_window explicit_payload is_handoff_parent serves follows optimistic_payload spans payload_for parent_payload preferred_parent may_stand binding_matches may_nullify is_gated required_parent may_finalize may_notarize propose_answer proposed_answer standing
+chain = refl
+
+-- a vote is withheld where the parent was certified with another payload
+other_parent :
+    replies_of
+    (voter 1 5 1)
+    (
+      SetProposal 1 0 7 ∷ SetProposal 2 1 9 ∷ TryVerify ∷ TryVerify ∷ Verified 1 ∷ Notarize 1 ∷ TryVerify ∷
+      Verified 2 ∷ AddNotarization 1 0 8 ∷ Notarize 2 ∷ []
+    )
+    ≡
+    Flag true ∷ Flag true ∷ Work (Verify (context 1 0 0 0) (proposal 1 0 7)) ∷ Work Wait ∷ Flag true ∷
+    Vote (Some (proposal 1 0 7)) ∷ Work (Verify (context 2 0 1 7) (proposal 2 1 9)) ∷ Flag true ∷
+    Added true (Some 0) ∷ Vote None ∷ []
+unfolding first_gap is_admitted in_window explicit_payload is_handoff_parent serves follows optimistic_payload spans payload_for parent_payload preferred_parent may_stand binding_matches may_nullify is_gated required_parent may_finalize may_notarize propose_answer proposed_answer standing
+other_parent = refl
+
+-- the whole term lies in the window
+long_window :
+    replies_of
+    (voter 1 5 4)
+    (
+      SetProposal 1 0 7 ∷ SetProposal 2 1 9 ∷ TryVerify ∷ TryVerify ∷ Verified 1 ∷ Notarize 1 ∷ TryVerify ∷
+      Verified 2 ∷ Notarize 2 ∷ []
+    )
+    ≡
+    Flag true ∷ Flag true ∷ Work (Verify (context 1 0 0 0) (proposal 1 0 7)) ∷ Work Wait ∷ Flag true ∷
+    Vote (Some (proposal 1 0 7)) ∷ Work (Verify (context 2 0 1 7) (proposal 2 1 9)) ∷ Flag true ∷
+    Vote (Some (proposal 2 1 9)) ∷ []
+unfolding first_gap is_admitted in_window explicit_payload is_handoff_parent serves follows optimistic_payload spans payload_for parent_payload preferred_parent may_stand binding_matches may_nullify is_gated required_parent may_finalize may_notarize propose_answer proposed_answer standing
+long_window = refl
+
+-- a handoff is prepared on an uncertified parent, and given up where the term before is nullified
+handoff_given_up :
+    replies_of
+    (voter 1 1 0)
+    (
+      SetProposal 1 0 7 ∷ TryVerify ∷ TryVerify ∷ Verified 1 ∷ Notarize 1 ∷ Notarize 1 ∷ TryPropose ∷ Nullify 1 ∷
+      Abandonment (context 2 1 1 7) ∷ AddNullification 1 10 ∷ View ∷ Abandonment (context 2 1 1 7) ∷
+      Supersede (context 2 1 1 7) ∷ TryPropose ∷ []
+    )
+    ≡
+    Flag true ∷ Work (Verify (context 1 0 0 0) (proposal 1 0 7)) ∷ Work Wait ∷ Flag true ∷
+    Vote (Some (proposal 1 0 7)) ∷ Vote None ∷ Asked (Some (Prepare (context 2 1 1 7))) ∷ NullifyVote (Some false) ∷
+    Abandoned (Some ParentNullify) ∷ Flag true ∷ Now 2 0 0 ∷ Abandoned (Some AncestryInvalidated) ∷ Flag true ∷
+    Asked (Some (Propose (context 2 1 0 0))) ∷ []
+unfolding first_gap is_admitted in_window explicit_payload is_handoff_parent serves follows optimistic_payload spans payload_for parent_payload preferred_parent may_stand binding_matches may_nullify is_gated required_parent may_finalize may_notarize propose_answer proposed_answer standing
+handoff_given_up = refl
+
+-- a handoff is proposed and voted for before its view is entered
+handoff_proposed :
+    replies_of
+    (voter 1 1 0)
+    (
+      SetProposal 1 0 7 ∷ TryVerify ∷ TryVerify ∷ Verified 1 ∷ Notarize 1 ∷ Notarize 1 ∷ TryPropose ∷
+      Proposed (context 2 1 1 7) 8 3 ∷ Notarize 2 ∷ View ∷ []
+    )
+    ≡
+    Flag true ∷ Work (Verify (context 1 0 0 0) (proposal 1 0 7)) ∷ Work Wait ∷ Flag true ∷
+    Vote (Some (proposal 1 0 7)) ∷ Vote None ∷ Asked (Some (Prepare (context 2 1 1 7))) ∷ Flag true ∷
+    Vote (Some (proposal 2 1 8)) ∷ Now 1 0 0 ∷ []
+unfolding first_gap is_admitted in_window explicit_payload is_handoff_parent serves follows optimistic_payload spans payload_for parent_payload preferred_parent may_stand binding_matches may_nullify is_gated required_parent may_finalize may_notarize propose_answer proposed_answer standing
+handoff_proposed = refl
+
+-- a nullification in the term below leaves no handoff
+no_handoff_when_nullified :
+    replies_of
+    (voter 1 2 1)
+    (
+      SetProposal 1 0 7 ∷ TryVerify ∷ Verified 1 ∷ Notarize 1 ∷ SetProposal 2 1 9 ∷ TryVerify ∷ Verified 2 ∷
+      Notarize 2 ∷ AddNullification 2 10 ∷ View ∷ TryPropose ∷ AddNullification 1 11 ∷ TryPropose ∷ []
+    )
+    ≡
+    Flag true ∷ Work (Verify (context 1 0 0 0) (proposal 1 0 7)) ∷ Flag true ∷ Vote (Some (proposal 1 0 7)) ∷
+    Flag true ∷ Work (Verify (context 2 0 1 7) (proposal 2 1 9)) ∷ Flag true ∷ Vote (Some (proposal 2 1 9)) ∷
+    Flag true ∷ Now 3 0 0 ∷ Asked None ∷ Flag true ∷ Asked (Some (Propose (context 3 1 0 0))) ∷ []
+unfolding first_gap is_admitted in_window explicit_payload is_handoff_parent serves follows optimistic_payload spans payload_for parent_payload preferred_parent may_stand binding_matches may_nullify is_gated required_parent may_finalize may_notarize propose_answer proposed_answer standing
+no_handoff_when_nullified = refl
+
+-- a proposal that the slot doesn't take still readies the next view
+leader_copied :
+    replies_of
+    (voter 1 5 1)
+    (
+      Nullify 1 ∷ SetProposal 1 0 7 ∷ SetProposal 2 1 9 ∷ AddNotarization 2 1 8 ∷ []
+    )
+    ≡
+    NullifyVote (Some false) ∷ Flag false ∷ Flag true ∷ Added true (Some 0) ∷ []
+unfolding first_gap is_admitted in_window explicit_payload is_handoff_parent serves follows optimistic_payload spans payload_for parent_payload preferred_parent may_stand binding_matches may_nullify is_gated required_parent may_finalize may_notarize propose_answer proposed_answer standing
+leader_copied = refl
+
+-- a view whose leader is set is tracked, so a verdict there lacks its notarization
+tracked_by_leader :
+    replies_of
+    (voter 0 5 2)
+    (
+      AddNotarization 1 0 7 ∷ Certified 2 true 1 ∷ Certified 4 true 1 ∷ Certified 5 true 1 ∷
+      AddFinalization 30 29 7 2 ∷ Prune ∷ []
+    )
+    ≡
+    Added true None ∷ NotAllowed ∷ NotAllowed ∷ Judged None ∷ Added true None ∷ Views (1 ∷ 2 ∷ 3 ∷ 4 ∷ []) ∷ []
+unfolding first_gap is_admitted in_window explicit_payload is_handoff_parent serves follows optimistic_payload spans payload_for parent_payload preferred_parent may_stand binding_matches may_nullify is_gated required_parent may_finalize may_notarize propose_answer proposed_answer standing
+tracked_by_leader = refl
