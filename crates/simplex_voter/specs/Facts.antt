@@ -1,5 +1,5 @@
 -- What a state knows, as plain data. Each answer of its calls is a function of it.
-use Rattle.std.specs.Prelude.{ℕ, Bool, List, Option, Some, None, is_some, unwrap_or, if◌then◌else◌, map}
+use Rattle.std.specs.Prelude.{ℕ, Bool, false, List, [], Option, Some, None, is_some, unwrap_or, if◌then◌else◌, map}
 use Rattle.std.specs.Ordering.{nat_cmp}
 use Rattle.std.specs.FinMap.Entries.{find, put}
 use Rattle.simplex_types.specs.declared.types.numbers.Round.{Round}
@@ -49,6 +49,26 @@ abbrev pub Elect : Type 0 → Type 0
 Elect L = L → Round → Option (List ℕ) → ℕ
 
 module _ {K L D : Type 0} where
+  -- what a new state knows: how it was set up
+  abbrev pub new_facts : Settings → Option ℕ → List K → L → Terms → Bool → Facts K L D
+  new_facts settings me members elector terms elects_early = record {
+    settings = settings;
+    me = me;
+    members = members;
+    elector = elector;
+    terms = terms;
+    elects_early = elects_early;
+    genesis = None;
+    current = 0;
+    finalized = 0;
+    moment = 0;
+    named = [];
+    nullified = [];
+    nullify_votes = [];
+    rounds = [];
+    failed = false;
+  }
+
   abbrev pub round_at : Facts K L D → ℕ → Option (RoundFacts K D)
   round_at x v = find nat_cmp v x.rounds
 

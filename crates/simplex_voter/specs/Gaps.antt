@@ -1,14 +1,17 @@
 -- Which views nullifications cover, and where they leave a gap.
 use Rattle.std.specs.Prelude.{◌≡◌, ℕ, ◌<◌, ◌+◌, Bool, true, false, not, ◌&&◌, nat_lt, List, [], ◌∷◌, Option, Some, None, is_none, filter, map, min}
 use Rattle.std.specs.List.{list_any}
-use Rattle.std.specs.Option.{option_map_or}
 use Rattle.simplex_types.specs.Terms.{covers, next_term_start}
 use Rattle.simplex_voter.specs.Facts.{Facts}
+
+abbrev pub lower_of : ℕ → Option ℕ → Option ℕ
+lower_of v None = Some v
+lower_of v (Some w) = Some (min v w)
 
 -- the lowest of some views
 abbrev pub lowest : List ℕ → Option ℕ
 lowest [] = None
-lowest (v ∷ views) = Some (option_map_or (min v) (lowest views) v)
+lowest (v ∷ views) = lower_of v (lowest views)
 
 module _ {K L D : Type 0} where
   -- a nullification stands in the term of the view, at or below it

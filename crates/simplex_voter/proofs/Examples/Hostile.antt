@@ -6,14 +6,7 @@ use Rattle.simplex_types.specs.declared.types.fault.Fault.TheVariants.{TimeOverf
 use Rattle.simplex_types.specs.declared.reasons.Kind.TheVariants.{Nullification, Notarization}
 use Rattle.simplex_types.specs.declared.reasons.HandoffAbandonedReason.TheVariants.{AncestryInvalidated, ParentNullify}
 use Rattle.simplex_types.specs.declared.reasons.TimeoutReason.TheVariants.{Retry, Inactivity, LeaderNullify, LeaderTimeout, CertificationTimeout, StallTimeout, MissingProposal, InvalidProposal}
-use Rattle.simplex_voter.specs.Gaps.{first_gap}
-use Rattle.simplex_voter.specs.Windows.{is_admitted, in_window}
-use Rattle.simplex_voter.specs.Payloads.{explicit_payload, is_handoff_parent, serves, follows, optimistic_payload}
-use Rattle.simplex_voter.specs.Parents.{spans, payload_for, parent_payload, preferred_parent, may_stand, binding_matches}
-use Rattle.simplex_voter.specs.Rules.{may_nullify, is_gated, required_parent, may_finalize, may_notarize}
-use Rattle.simplex_voter.specs.Proposing.{propose_answer, proposed_answer}
 use Rattle.simplex_voter.specs.Proposing.Request.{Prepare, Propose}
-use Rattle.simplex_voter.specs.Verifying.{standing}
 use Rattle.simplex_voter.specs.Verifying.Verification.{Verify, Resolve, Wait}
 use Rattle.simplex_voter.proofs.Examples.Scripts.{replies_of, member, voter, keyless, usual, proposal, context, certificate, nullification, fetch, notarized, nullified, finalized, verdict, voted_notarize, voted_nullify, voted_finalize}
 use Rattle.simplex_voter.proofs.Examples.Scripts.Call.{AddNotarization, AddNullification, AddFinalization, SetProposal, TryPropose, Proposed, Supersede, Abandonment, Release, TryVerify, Verified, Rejected, Candidates, SetCertifyHandle, Certified, Notarize, Nullify, Finalize, BroadcastNotarization, BroadcastNullification, BroadcastFinalization, Best, Trigger, NextTimeout, Prune, View, Restart}
@@ -33,7 +26,7 @@ proposed_twice :
     Flag true ∷ Flag false ∷ Work (Verify (context 1 0 0 0) (proposal 1 0 7)) ∷ Flag false ∷ Vote None ∷
     Added true (Some 0) ∷ Offered (proposal 1 0 8 ∷ []) [] ∷ Judged (Some (proposal 1 0 8)) ∷ Vote None ∷
     Asked (Some (Propose (context 2 1 1 8))) ∷ Done ∷ Vote (Some (proposal 1 0 8)) ∷ Done ∷ Vote None ∷ []
-unfolding first_gap is_admitted in_window explicit_payload is_handoff_parent serves follows optimistic_payload spans payload_for parent_payload preferred_parent may_stand binding_matches may_nullify is_gated required_parent may_finalize may_notarize propose_answer proposed_answer standing
+unfolding replies_of
 proposed_twice = refl
 
 -- after a restart a proposal has to come again
@@ -45,7 +38,7 @@ restarted_verification :
     )
     ≡
     Flag true ∷ Work (Verify (context 1 0 0 0) (proposal 1 0 7)) ∷ Done ∷ Work Wait ∷ []
-unfolding first_gap is_admitted in_window explicit_payload is_handoff_parent serves follows optimistic_payload spans payload_for parent_payload preferred_parent may_stand binding_matches may_nullify is_gated required_parent may_finalize may_notarize propose_answer proposed_answer standing
+unfolding replies_of
 restarted_verification = refl
 
 -- the largest view of a certificate
@@ -59,7 +52,7 @@ largest_view :
     ≡
     Added true None ∷ Now 9223372036854775808 9223372036854775807 9223372036854775797 ∷ Refused ViewTooLarge ∷
     Views (1 ∷ []) ∷ NullifyVote (Some false) ∷ []
-unfolding first_gap is_admitted in_window explicit_payload is_handoff_parent serves follows optimistic_payload spans payload_for parent_payload preferred_parent may_stand binding_matches may_nullify is_gated required_parent may_finalize may_notarize propose_answer proposed_answer standing
+unfolding replies_of
 largest_view = refl
 
 -- one view above the largest is proposed in
@@ -73,7 +66,7 @@ proposed_above_largest :
     ≡
     Added true None ∷ Asked (Some (Propose (context 9223372036854775808 3 9223372036854775807 9))) ∷ Flag true ∷
     Vote (Some (proposal 9223372036854775808 9223372036854775807 1)) ∷ []
-unfolding first_gap is_admitted in_window explicit_payload is_handoff_parent serves follows optimistic_payload spans payload_for parent_payload preferred_parent may_stand binding_matches may_nullify is_gated required_parent may_finalize may_notarize propose_answer proposed_answer standing
+unfolding replies_of
 proposed_above_largest = refl
 
 -- view 0
@@ -87,5 +80,5 @@ zeros :
     ≡
     NotAllowed ∷ NotAllowed ∷ NotAllowed ∷ Done ∷ Judged None ∷ Vote None ∷ NullifyVote None ∷ Vote None ∷
     Certificate None ∷ Done ∷ Now 1 0 0 ∷ []
-unfolding first_gap is_admitted in_window explicit_payload is_handoff_parent serves follows optimistic_payload spans payload_for parent_payload preferred_parent may_stand binding_matches may_nullify is_gated required_parent may_finalize may_notarize propose_answer proposed_answer standing
+unfolding replies_of
 zeros = refl

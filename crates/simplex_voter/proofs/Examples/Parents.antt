@@ -6,14 +6,7 @@ use Rattle.simplex_types.specs.declared.types.fault.Fault.TheVariants.{TimeOverf
 use Rattle.simplex_types.specs.declared.reasons.Kind.TheVariants.{Nullification, Notarization}
 use Rattle.simplex_types.specs.declared.reasons.HandoffAbandonedReason.TheVariants.{AncestryInvalidated, ParentNullify}
 use Rattle.simplex_types.specs.declared.reasons.TimeoutReason.TheVariants.{Retry, Inactivity, LeaderNullify, LeaderTimeout, CertificationTimeout, StallTimeout, MissingProposal, InvalidProposal}
-use Rattle.simplex_voter.specs.Gaps.{first_gap}
-use Rattle.simplex_voter.specs.Windows.{is_admitted, in_window}
-use Rattle.simplex_voter.specs.Payloads.{explicit_payload, is_handoff_parent, serves, follows, optimistic_payload}
-use Rattle.simplex_voter.specs.Parents.{spans, payload_for, parent_payload, preferred_parent, may_stand, binding_matches}
-use Rattle.simplex_voter.specs.Rules.{may_nullify, is_gated, required_parent, may_finalize, may_notarize}
-use Rattle.simplex_voter.specs.Proposing.{propose_answer, proposed_answer}
 use Rattle.simplex_voter.specs.Proposing.Request.{Prepare, Propose}
-use Rattle.simplex_voter.specs.Verifying.{standing}
 use Rattle.simplex_voter.specs.Verifying.Verification.{Verify, Resolve, Wait}
 use Rattle.simplex_voter.proofs.Examples.Scripts.{replies_of, member, voter, keyless, usual, proposal, context, certificate, nullification, fetch, notarized, nullified, finalized, verdict, voted_notarize, voted_nullify, voted_finalize}
 use Rattle.simplex_voter.proofs.Examples.Scripts.Call.{AddNotarization, AddNullification, AddFinalization, SetProposal, TryPropose, Proposed, Supersede, Abandonment, Release, TryVerify, Verified, Rejected, Candidates, SetCertifyHandle, Certified, Notarize, Nullify, Finalize, BroadcastNotarization, BroadcastNullification, BroadcastFinalization, Best, Trigger, NextTimeout, Prune, View, Restart}
@@ -31,7 +24,7 @@ verified_and_voted :
     Flag true ∷ Work (Verify (context 1 0 0 0) (proposal 1 0 7)) ∷ Work Wait ∷ Flag true ∷
     Vote (Some (proposal 1 0 7)) ∷ Vote None ∷ Flag true ∷ Asked (Some (Propose (context 2 1 0 0))) ∷ Asked None ∷
     Flag true ∷ Vote (Some (proposal 2 0 8)) ∷ []
-unfolding first_gap is_admitted in_window explicit_payload is_handoff_parent serves follows optimistic_payload spans payload_for parent_payload preferred_parent may_stand binding_matches may_nullify is_gated required_parent may_finalize may_notarize propose_answer proposed_answer standing
+unfolding replies_of
 verified_and_voted = refl
 
 -- the first view of a gap is asked for once, and closed
@@ -44,7 +37,7 @@ gap_asked_once :
     ≡
     Flag true ∷ Flag true ∷ Work (Resolve 3 1 Nullification 2) ∷ Work Wait ∷ Flag true ∷
     Work (Verify (context 3 2 0 0) (proposal 3 0 7)) ∷ []
-unfolding first_gap is_admitted in_window explicit_payload is_handoff_parent serves follows optimistic_payload spans payload_for parent_payload preferred_parent may_stand binding_matches may_nullify is_gated required_parent may_finalize may_notarize propose_answer proposed_answer standing
+unfolding replies_of
 gap_asked_once = refl
 
 -- outside the window a notarized parent has to be certified, and its notarization is asked for
@@ -58,7 +51,7 @@ uncertified_parent :
     ≡
     Added true None ∷ Flag true ∷ Flag true ∷ Work (Resolve 3 1 Notarization 2) ∷ Judged (Some (proposal 1 0 7)) ∷
     Work (Verify (context 3 2 1 7) (proposal 3 1 8)) ∷ []
-unfolding first_gap is_admitted in_window explicit_payload is_handoff_parent serves follows optimistic_payload spans payload_for parent_payload preferred_parent may_stand binding_matches may_nullify is_gated required_parent may_finalize may_notarize propose_answer proposed_answer standing
+unfolding replies_of
 uncertified_parent = refl
 
 -- a view that was pruned is voted for no more
@@ -71,7 +64,7 @@ pruned_view :
     ≡
     Flag true ∷ Work (Verify (context 1 0 0 0) (proposal 1 0 7)) ∷ Flag true ∷ Added true None ∷ Views (1 ∷ []) ∷
     Vote None ∷ []
-unfolding first_gap is_admitted in_window explicit_payload is_handoff_parent serves follows optimistic_payload spans payload_for parent_payload preferred_parent may_stand binding_matches may_nullify is_gated required_parent may_finalize may_notarize propose_answer proposed_answer standing
+unfolding replies_of
 pruned_view = refl
 
 -- a nullification covers nothing below it
@@ -84,7 +77,7 @@ covers_upward :
     ≡
     Flag true ∷ Flag true ∷ Work (Resolve 6 1 Nullification 1) ∷ Flag true ∷
     Work (Verify (context 6 1 0 0) (proposal 6 0 7)) ∷ []
-unfolding first_gap is_admitted in_window explicit_payload is_handoff_parent serves follows optimistic_payload spans payload_for parent_payload preferred_parent may_stand binding_matches may_nullify is_gated required_parent may_finalize may_notarize propose_answer proposed_answer standing
+unfolding replies_of
 covers_upward = refl
 
 -- a view that was asked for already doesn't end the scan
@@ -98,7 +91,7 @@ asks_go_on :
     ≡
     Flag true ∷ Flag true ∷ Added true None ∷ Flag true ∷ Work (Resolve 3 1 Nullification 2) ∷
     Work (Resolve 4 3 Notarization 3) ∷ Work Wait ∷ []
-unfolding first_gap is_admitted in_window explicit_payload is_handoff_parent serves follows optimistic_payload spans payload_for parent_payload preferred_parent may_stand binding_matches may_nullify is_gated required_parent may_finalize may_notarize propose_answer proposed_answer standing
+unfolding replies_of
 asks_go_on = refl
 
 -- a gap of a million views
@@ -110,5 +103,5 @@ long_gap :
     )
     ≡
     Flag true ∷ Flag true ∷ Work (Resolve 1000001 1 Nullification 0) ∷ []
-unfolding first_gap is_admitted in_window explicit_payload is_handoff_parent serves follows optimistic_payload spans payload_for parent_payload preferred_parent may_stand binding_matches may_nullify is_gated required_parent may_finalize may_notarize propose_answer proposed_answer standing
+unfolding replies_of
 long_gap = refl

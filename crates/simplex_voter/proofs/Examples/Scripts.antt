@@ -13,15 +13,19 @@ use Rattle.simplex_types.specs.declared.types.messages.Artifact.TheVariants as a
 use Rattle.simplex_types.specs.declared.reasons.Kind.{Kind}
 use Rattle.simplex_types.specs.declared.reasons.TimeoutReason.{TimeoutReason}
 use Rattle.simplex_types.specs.declared.reasons.HandoffAbandonedReason.{HandoffAbandonedReason}
-use Rattle.simplex_voter.specs.Facts.{Settings, Facts, Elect, is_tracked}
-use Rattle.simplex_voter.specs.Windows.{min_active}
+use Rattle.simplex_voter.specs.Facts.{Settings, Facts, Elect, new_facts}
+use Rattle.simplex_voter.specs.Gaps.{first_gap}
+use Rattle.simplex_voter.specs.Windows.{min_active, is_admitted, in_window}
+use Rattle.simplex_voter.specs.Payloads.{explicit_payload, is_handoff_parent, serves, follows, optimistic_payload}
+use Rattle.simplex_voter.specs.Parents.{spans, payload_for, parent_payload, preferred_parent, may_stand, binding_matches}
+use Rattle.simplex_voter.specs.Rules.{may_nullify, is_gated, required_parent, may_finalize, may_notarize}
 use Rattle.simplex_voter.specs.Refusals.{plain_refusal, proposal_refusal, is_started}
 use Rattle.simplex_voter.specs.Timeouts.{after_trigger_timeout, next_timeout_answer, after_next_timeout, next_timeout_refusal, has_timeout}
 use Rattle.simplex_voter.specs.Certification.{Fetch, candidates_answer, after_candidates, after_set_certify_handle, takes_certify_handle, certified_answer, after_certified, certified_refusal, takes_verdict}
 use Rattle.simplex_voter.specs.Acceptance as accept
 use Rattle.simplex_voter.specs.Votes.{nullify_answer, after_construct_nullify, finalize_answer, after_construct_finalize, notarize_answer, after_construct_notarize}
 use Rattle.simplex_voter.specs.Proposing.{Request, propose_answer, after_try_propose, proposed_answer, after_proposed, supersede_answer, after_supersede, abandonment_answer, after_release}
-use Rattle.simplex_voter.specs.Verifying.{Verification, takes_proposal, set_proposal_answer, after_set_proposal, verify_answer, after_try_verify, verified_answer, after_verified, after_verification_failed}
+use Rattle.simplex_voter.specs.Verifying.{Verification, takes_proposal, set_proposal_answer, after_set_proposal, standing, verify_answer, after_try_verify, verified_answer, after_verified, after_verification_failed}
 use Rattle.simplex_voter.specs.Serving.{best_certificate, broadcast_notarization_answer, after_broadcast_notarization, broadcast_nullification_answer, after_broadcast_nullification, broadcast_finalization_answer, after_broadcast_finalization, prune_answer, after_prune}
 use Rattle.simplex_voter.specs.Replay.{replay_refusal, after_replayed}
 
@@ -160,23 +164,7 @@ entry_taken now x vote = after_replayed same in_turn x vote
 
 -- nothing is known but how the member was set up
 abbrev pub fresh : State → State
-fresh x = record {
-  settings = x.settings;
-  me = x.me;
-  members = x.members;
-  elector = x.elector;
-  terms = x.terms;
-  elects_early = x.elects_early;
-  genesis = None;
-  current = 0;
-  finalized = 0;
-  moment = 0;
-  named = [];
-  nullified = [];
-  nullify_votes = [];
-  rounds = [];
-  failed = false;
-}
+fresh x = new_facts x.settings x.me x.members x.elector x.terms x.elects_early
 
 -- a recovery of a record over genesis of payload 0
 abbrev pub recovered : State → ℕ → List Entry → State
@@ -217,7 +205,9 @@ was_taken (Refused _) = false
 was_taken NotAllowed = false
 was_taken _ = true
 
-abbrev pub replies_of : State → List Call → List Reply
+-- what a list of calls is answered
+unfoldable pub replies_of : State → List Call → List Reply
+unfolding first_gap is_admitted in_window explicit_payload is_handoff_parent serves follows optimistic_payload spans payload_for parent_payload preferred_parent may_stand binding_matches may_nullify is_gated required_parent may_finalize may_notarize propose_answer proposed_answer standing
 replies_of x [] = []
 replies_of x (call ∷ calls) =
     let reply = reply_to x call in
@@ -226,26 +216,7 @@ replies_of x (call ∷ calls) =
 -- a member of four, with this key, terms and settings, that began at genesis of payload 0 at this moment
 abbrev pub member : Option ℕ → Terms → Settings → ℕ → State
 member me terms settings now =
-    recovered
-    (record {
-      settings = settings;
-      me = me;
-      members = 0 ∷ 1 ∷ 2 ∷ 3 ∷ [];
-      elector = terms.term_length;
-      terms = terms;
-      elects_early = true;
-      genesis = None;
-      current = 0;
-      finalized = 0;
-      moment = 0;
-      named = [];
-      nullified = [];
-      nullify_votes = [];
-      rounds = [];
-      failed = false;
-    })
-    now
-    []
+    recovered (new_facts settings me (0 ∷ 1 ∷ 2 ∷ 3 ∷ []) terms.term_length terms true) now []
 
 abbrev pub usual : Settings
 usual = record { epoch = 1; view_retention = 10; leader_timeout = 1000; certification_timeout = 2000; timeout_retry = 500; skip_budget = 4 }

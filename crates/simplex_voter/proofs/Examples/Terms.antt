@@ -6,14 +6,7 @@ use Rattle.simplex_types.specs.declared.types.fault.Fault.TheVariants.{TimeOverf
 use Rattle.simplex_types.specs.declared.reasons.Kind.TheVariants.{Nullification, Notarization}
 use Rattle.simplex_types.specs.declared.reasons.HandoffAbandonedReason.TheVariants.{AncestryInvalidated, ParentNullify}
 use Rattle.simplex_types.specs.declared.reasons.TimeoutReason.TheVariants.{Retry, Inactivity, LeaderNullify, LeaderTimeout, CertificationTimeout, StallTimeout, MissingProposal, InvalidProposal}
-use Rattle.simplex_voter.specs.Gaps.{first_gap}
-use Rattle.simplex_voter.specs.Windows.{is_admitted, in_window}
-use Rattle.simplex_voter.specs.Payloads.{explicit_payload, is_handoff_parent, serves, follows, optimistic_payload}
-use Rattle.simplex_voter.specs.Parents.{spans, payload_for, parent_payload, preferred_parent, may_stand, binding_matches}
-use Rattle.simplex_voter.specs.Rules.{may_nullify, is_gated, required_parent, may_finalize, may_notarize}
-use Rattle.simplex_voter.specs.Proposing.{propose_answer, proposed_answer}
 use Rattle.simplex_voter.specs.Proposing.Request.{Prepare, Propose}
-use Rattle.simplex_voter.specs.Verifying.{standing}
 use Rattle.simplex_voter.specs.Verifying.Verification.{Verify, Resolve, Wait}
 use Rattle.simplex_voter.proofs.Examples.Scripts.{replies_of, member, voter, keyless, usual, proposal, context, certificate, nullification, fetch, notarized, nullified, finalized, verdict, voted_notarize, voted_nullify, voted_finalize}
 use Rattle.simplex_voter.proofs.Examples.Scripts.Call.{AddNotarization, AddNullification, AddFinalization, SetProposal, TryPropose, Proposed, Supersede, Abandonment, Release, TryVerify, Verified, Rejected, Candidates, SetCertifyHandle, Certified, Notarize, Nullify, Finalize, BroadcastNotarization, BroadcastNullification, BroadcastFinalization, Best, Trigger, NextTimeout, Prune, View, Restart}
@@ -38,7 +31,7 @@ gated_until_finalized :
     Certificate (Some (Finalized (certificate 6 2 4))) ∷ Certificate None ∷
     Certificate (Some (Notarized (certificate 6 2 4))) ∷ Certificate (Some (Nullified (nullification 3))) ∷ Done ∷
     Now 8 6 0 ∷ NullifyVote None ∷ []
-unfolding first_gap is_admitted in_window explicit_payload is_handoff_parent serves follows optimistic_payload spans payload_for parent_payload preferred_parent may_stand binding_matches may_nullify is_gated required_parent may_finalize may_notarize propose_answer proposed_answer standing
+unfolding replies_of
 gated_until_finalized = refl
 
 -- a finalization of another proposal than the notarized one names the leader
@@ -50,7 +43,7 @@ replaced_proposal :
     )
     ≡
     Added true None ∷ Added true (Some 0) ∷ []
-unfolding first_gap is_admitted in_window explicit_payload is_handoff_parent serves follows optimistic_payload spans payload_for parent_payload preferred_parent may_stand binding_matches may_nullify is_gated required_parent may_finalize may_notarize propose_answer proposed_answer standing
+unfolding replies_of
 replaced_proposal = refl
 
 -- a finalization at the nullified view opens the gate
@@ -64,7 +57,7 @@ healed_by_finalization :
     ≡
     NullifyVote (Some false) ∷ Added true None ∷ Added true None ∷ Judged (Some (proposal 1 0 7)) ∷
     Judged (Some (proposal 2 1 9)) ∷ Vote None ∷ Added true None ∷ Vote (Some (proposal 2 1 9)) ∷ []
-unfolding first_gap is_admitted in_window explicit_payload is_handoff_parent serves follows optimistic_payload spans payload_for parent_payload preferred_parent may_stand binding_matches may_nullify is_gated required_parent may_finalize may_notarize propose_answer proposed_answer standing
+unfolding replies_of
 healed_by_finalization = refl
 
 -- a view too large for a certificate is refused
@@ -76,7 +69,7 @@ too_large :
     )
     ≡
     Refused ViewTooLarge ∷ Now 1 0 0 ∷ []
-unfolding first_gap is_admitted in_window explicit_payload is_handoff_parent serves follows optimistic_payload spans payload_for parent_payload preferred_parent may_stand binding_matches may_nullify is_gated required_parent may_finalize may_notarize propose_answer proposed_answer standing
+unfolding replies_of
 too_large = refl
 
 -- a finalization far ahead leaves the views below the floor to be pruned, and no certificate below is taken
@@ -88,7 +81,7 @@ far_ahead :
     )
     ≡
     Added true None ∷ Now 21 20 10 ∷ Views (1 ∷ []) ∷ NotAllowed ∷ Flag true ∷ []
-unfolding first_gap is_admitted in_window explicit_payload is_handoff_parent serves follows optimistic_payload spans payload_for parent_payload preferred_parent may_stand binding_matches may_nullify is_gated required_parent may_finalize may_notarize propose_answer proposed_answer standing
+unfolding replies_of
 far_ahead = refl
 
 -- the nullification of the term before helps others into a term's start
@@ -100,7 +93,7 @@ entry_certificate :
     )
     ≡
     Certificate None ∷ Flag true ∷ Now 6 0 0 ∷ Certificate (Some (Nullified (nullification 3))) ∷ []
-unfolding first_gap is_admitted in_window explicit_payload is_handoff_parent serves follows optimistic_payload spans payload_for parent_payload preferred_parent may_stand binding_matches may_nullify is_gated required_parent may_finalize may_notarize propose_answer proposed_answer standing
+unfolding replies_of
 entry_certificate = refl
 
 -- pruning keeps the nullify votes above the last finalized view
@@ -114,7 +107,7 @@ votes_outlive_pruning :
     ≡
     Flag true ∷ Flag true ∷ Work Wait ∷ Added true None ∷ NullifyVote (Some false) ∷ Judged (Some (proposal 6 0 7)) ∷
     Views [] ∷ Added true None ∷ Judged (Some (proposal 7 6 8)) ∷ Vote None ∷ []
-unfolding first_gap is_admitted in_window explicit_payload is_handoff_parent serves follows optimistic_payload spans payload_for parent_payload preferred_parent may_stand binding_matches may_nullify is_gated required_parent may_finalize may_notarize propose_answer proposed_answer standing
+unfolding replies_of
 votes_outlive_pruning = refl
 
 -- a restart on a pruned record knows only what stayed in it
@@ -129,5 +122,5 @@ pruned_record :
     ≡
     NullifyVote (Some false) ∷ Added true None ∷ Done ∷ Now 21 20 10 ∷ NullifyVote None ∷ Done ∷ Now 21 20 10 ∷
     NotAllowed ∷ Flag true ∷ Done ∷ []
-unfolding first_gap is_admitted in_window explicit_payload is_handoff_parent serves follows optimistic_payload spans payload_for parent_payload preferred_parent may_stand binding_matches may_nullify is_gated required_parent may_finalize may_notarize propose_answer proposed_answer standing
+unfolding replies_of
 pruned_record = refl

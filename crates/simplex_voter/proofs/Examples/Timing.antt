@@ -6,14 +6,7 @@ use Rattle.simplex_types.specs.declared.types.fault.Fault.TheVariants.{TimeOverf
 use Rattle.simplex_types.specs.declared.reasons.Kind.TheVariants.{Nullification, Notarization}
 use Rattle.simplex_types.specs.declared.reasons.HandoffAbandonedReason.TheVariants.{AncestryInvalidated, ParentNullify}
 use Rattle.simplex_types.specs.declared.reasons.TimeoutReason.TheVariants.{Retry, Inactivity, LeaderNullify, LeaderTimeout, CertificationTimeout, StallTimeout, MissingProposal, InvalidProposal}
-use Rattle.simplex_voter.specs.Gaps.{first_gap}
-use Rattle.simplex_voter.specs.Windows.{is_admitted, in_window}
-use Rattle.simplex_voter.specs.Payloads.{explicit_payload, is_handoff_parent, serves, follows, optimistic_payload}
-use Rattle.simplex_voter.specs.Parents.{spans, payload_for, parent_payload, preferred_parent, may_stand, binding_matches}
-use Rattle.simplex_voter.specs.Rules.{may_nullify, is_gated, required_parent, may_finalize, may_notarize}
-use Rattle.simplex_voter.specs.Proposing.{propose_answer, proposed_answer}
 use Rattle.simplex_voter.specs.Proposing.Request.{Prepare, Propose}
-use Rattle.simplex_voter.specs.Verifying.{standing}
 use Rattle.simplex_voter.specs.Verifying.Verification.{Verify, Resolve, Wait}
 use Rattle.simplex_voter.proofs.Examples.Scripts.{replies_of, member, voter, keyless, usual, proposal, context, certificate, nullification, fetch, notarized, nullified, finalized, verdict, voted_notarize, voted_nullify, voted_finalize}
 use Rattle.simplex_voter.proofs.Examples.Scripts.Call.{AddNotarization, AddNullification, AddFinalization, SetProposal, TryPropose, Proposed, Supersede, Abandonment, Release, TryVerify, Verified, Rejected, Candidates, SetCertifyHandle, Certified, Notarize, Nullify, Finalize, BroadcastNotarization, BroadcastNullification, BroadcastFinalization, Best, Trigger, NextTimeout, Prune, View, Restart}
@@ -34,7 +27,7 @@ first_path :
     Asked (Some (Prepare (context 2 1 1 7))) ∷ Added true None ∷ Offered (proposal 1 0 7 ∷ []) [] ∷
     Judged (Some (proposal 1 0 7)) ∷ Vote (Some (proposal 1 0 7)) ∷ NullifyVote None ∷ Done ∷ Vote None ∷ Now 2 0 0 ∷
     []
-unfolding first_gap is_admitted in_window explicit_payload is_handoff_parent serves follows optimistic_payload spans payload_for parent_payload preferred_parent may_stand binding_matches may_nullify is_gated required_parent may_finalize may_notarize propose_answer proposed_answer standing
+unfolding replies_of
 first_path = refl
 
 -- a candidate waits for its parent, and a missing parent is fetched once
@@ -50,7 +43,7 @@ candidates :
     Added true None ∷ Offered [] (fetch 2 1 ∷ []) ∷ Offered [] [] ∷ Added true None ∷
     Offered (proposal 1 0 7 ∷ []) [] ∷ Done ∷ Judged (Some (proposal 1 0 7)) ∷ Offered (proposal 2 1 9 ∷ []) [] ∷
     Done ∷ Added true None ∷ Judged (Some (proposal 2 1 9)) ∷ Now 3 2 0 ∷ []
-unfolding first_gap is_admitted in_window explicit_payload is_handoff_parent serves follows optimistic_payload spans payload_for parent_payload preferred_parent may_stand binding_matches may_nullify is_gated required_parent may_finalize may_notarize propose_answer proposed_answer standing
+unfolding replies_of
 candidates = refl
 
 -- each true verdict names the next view again, and a token keeps it from a second offer
@@ -65,7 +58,7 @@ named_again :
     Added true None ∷ Added true None ∷ Judged (Some (proposal 1 0 7)) ∷ Offered (proposal 2 1 9 ∷ []) [] ∷
     Judged (Some (proposal 1 0 7)) ∷ Offered (proposal 2 1 9 ∷ []) [] ∷ Done ∷ Judged (Some (proposal 1 0 7)) ∷
     Offered [] [] ∷ []
-unfolding first_gap is_admitted in_window explicit_payload is_handoff_parent serves follows optimistic_payload spans payload_for parent_payload preferred_parent may_stand binding_matches may_nullify is_gated required_parent may_finalize may_notarize propose_answer proposed_answer standing
+unfolding replies_of
 named_again = refl
 
 -- a verdict of a view that was pruned says nothing
@@ -79,7 +72,7 @@ pruned_verdict :
     ≡
     Added true None ∷ Offered (proposal 1 0 7 ∷ []) [] ∷ Added true None ∷ Views (1 ∷ 2 ∷ []) ∷ Done ∷ Judged None ∷
     []
-unfolding first_gap is_admitted in_window explicit_payload is_handoff_parent serves follows optimistic_payload spans payload_for parent_payload preferred_parent may_stand binding_matches may_nullify is_gated required_parent may_finalize may_notarize propose_answer proposed_answer standing
+unfolding replies_of
 pruned_verdict = refl
 
 -- the first reason latches; a nullify vote moves the retry, and so does a restart
@@ -95,7 +88,7 @@ first_reason_latches :
     Timeout (Some (1000, LeaderTimeout)) ∷ Done ∷ Done ∷ Timeout (Some (5, Inactivity)) ∷ NullifyVote (Some false) ∷
     Timeout (Some (600, Retry)) ∷ Timeout (Some (600, Retry)) ∷ NullifyVote (Some true) ∷
     Timeout (Some (1200, Retry)) ∷ Done ∷ Timeout (Some (530, Retry)) ∷ []
-unfolding first_gap is_admitted in_window explicit_payload is_handoff_parent serves follows optimistic_payload spans payload_for parent_payload preferred_parent may_stand binding_matches may_nullify is_gated required_parent may_finalize may_notarize propose_answer proposed_answer standing
+unfolding replies_of
 first_reason_latches = refl
 
 -- an invalid parent times the view out at the last moment that a call carried
@@ -107,7 +100,7 @@ invalid_latches :
     )
     ≡
     Done ∷ Flag true ∷ Work Wait ∷ Timeout (Some (40, InvalidProposal)) ∷ []
-unfolding first_gap is_admitted in_window explicit_payload is_handoff_parent serves follows optimistic_payload spans payload_for parent_payload preferred_parent may_stand binding_matches may_nullify is_gated required_parent may_finalize may_notarize propose_answer proposed_answer standing
+unfolding replies_of
 invalid_latches = refl
 
 -- a held proposal ends the leader timeout, and a latch comes before the certification timeout
@@ -120,7 +113,7 @@ latch_wins :
     ≡
     Timeout (Some (1000, LeaderTimeout)) ∷ Flag true ∷ Timeout (Some (2000, CertificationTimeout)) ∷ Done ∷
     Timeout (Some (5, LeaderNullify)) ∷ []
-unfolding first_gap is_admitted in_window explicit_payload is_handoff_parent serves follows optimistic_payload spans payload_for parent_payload preferred_parent may_stand binding_matches may_nullify is_gated required_parent may_finalize may_notarize propose_answer proposed_answer standing
+unfolding replies_of
 latch_wins = refl
 
 -- without a key no vote is answered, and nullify is decided all the same
@@ -132,7 +125,7 @@ decided_without_key :
     )
     ≡
     NullifyVote None ∷ Timeout (Some (600, Retry)) ∷ []
-unfolding first_gap is_admitted in_window explicit_payload is_handoff_parent serves follows optimistic_payload spans payload_for parent_payload preferred_parent may_stand binding_matches may_nullify is_gated required_parent may_finalize may_notarize propose_answer proposed_answer standing
+unfolding replies_of
 decided_without_key = refl
 
 -- a refused call leaves no moment
@@ -144,7 +137,7 @@ no_moment_of_a_fault :
     )
     ≡
     Refused TimeOverflow ∷ Flag true ∷ Work Wait ∷ Timeout (Some (0, InvalidProposal)) ∷ []
-unfolding first_gap is_admitted in_window explicit_payload is_handoff_parent serves follows optimistic_payload spans payload_for parent_payload preferred_parent may_stand binding_matches may_nullify is_gated required_parent may_finalize may_notarize propose_answer proposed_answer standing
+unfolding replies_of
 no_moment_of_a_fault = refl
 
 -- a verdict that says nothing leaves its moment
@@ -156,7 +149,7 @@ moment_of_an_untracked_verdict :
     )
     ≡
     Judged None ∷ Flag true ∷ Work Wait ∷ Timeout (Some (70, InvalidProposal)) ∷ []
-unfolding first_gap is_admitted in_window explicit_payload is_handoff_parent serves follows optimistic_payload spans payload_for parent_payload preferred_parent may_stand binding_matches may_nullify is_gated required_parent may_finalize may_notarize propose_answer proposed_answer standing
+unfolding replies_of
 moment_of_an_untracked_verdict = refl
 
 -- a call that is not allowed leaves no moment
@@ -168,7 +161,7 @@ no_moment_unless_allowed :
     )
     ≡
     NotAllowed ∷ Flag true ∷ Work Wait ∷ Timeout (Some (0, InvalidProposal)) ∷ []
-unfolding first_gap is_admitted in_window explicit_payload is_handoff_parent serves follows optimistic_payload spans payload_for parent_payload preferred_parent may_stand binding_matches may_nullify is_gated required_parent may_finalize may_notarize propose_answer proposed_answer standing
+unfolding replies_of
 no_moment_unless_allowed = refl
 
 -- without budget a latch doesn't count
@@ -180,7 +173,7 @@ no_skip_budget :
     )
     ≡
     Flag true ∷ Done ∷ Timeout (Some (2000, CertificationTimeout)) ∷ []
-unfolding first_gap is_admitted in_window explicit_payload is_handoff_parent serves follows optimistic_payload spans payload_for parent_payload preferred_parent may_stand binding_matches may_nullify is_gated required_parent may_finalize may_notarize propose_answer proposed_answer standing
+unfolding replies_of
 no_skip_budget = refl
 
 -- with a budget of one term it does
@@ -192,7 +185,7 @@ little_skip_budget :
     )
     ≡
     Flag true ∷ Done ∷ Timeout (Some (5, LeaderNullify)) ∷ []
-unfolding first_gap is_admitted in_window explicit_payload is_handoff_parent serves follows optimistic_payload spans payload_for parent_payload preferred_parent may_stand binding_matches may_nullify is_gated required_parent may_finalize may_notarize propose_answer proposed_answer standing
+unfolding replies_of
 little_skip_budget = refl
 
 -- the least entered view of the term that isn't finalized says when the term stalls
@@ -207,5 +200,5 @@ stall :
     Timeout (Some (5000, StallTimeout)) ∷ Added true None ∷ Judged (Some (proposal 1 0 0)) ∷
     Timeout (Some (5000, StallTimeout)) ∷ Added true None ∷ Timeout (Some (5100, StallTimeout)) ∷
     Timeout (Some (9100, LeaderTimeout)) ∷ []
-unfolding first_gap is_admitted in_window explicit_payload is_handoff_parent serves follows optimistic_payload spans payload_for parent_payload preferred_parent may_stand binding_matches may_nullify is_gated required_parent may_finalize may_notarize propose_answer proposed_answer standing
+unfolding replies_of
 stall = refl

@@ -6,14 +6,7 @@ use Rattle.simplex_types.specs.declared.types.fault.Fault.TheVariants.{TimeOverf
 use Rattle.simplex_types.specs.declared.reasons.Kind.TheVariants.{Nullification, Notarization}
 use Rattle.simplex_types.specs.declared.reasons.HandoffAbandonedReason.TheVariants.{AncestryInvalidated, ParentNullify}
 use Rattle.simplex_types.specs.declared.reasons.TimeoutReason.TheVariants.{Retry, Inactivity, LeaderNullify, LeaderTimeout, CertificationTimeout, StallTimeout, MissingProposal, InvalidProposal}
-use Rattle.simplex_voter.specs.Gaps.{first_gap}
-use Rattle.simplex_voter.specs.Windows.{is_admitted, in_window}
-use Rattle.simplex_voter.specs.Payloads.{explicit_payload, is_handoff_parent, serves, follows, optimistic_payload}
-use Rattle.simplex_voter.specs.Parents.{spans, payload_for, parent_payload, preferred_parent, may_stand, binding_matches}
-use Rattle.simplex_voter.specs.Rules.{may_nullify, is_gated, required_parent, may_finalize, may_notarize}
-use Rattle.simplex_voter.specs.Proposing.{propose_answer, proposed_answer}
 use Rattle.simplex_voter.specs.Proposing.Request.{Prepare, Propose}
-use Rattle.simplex_voter.specs.Verifying.{standing}
 use Rattle.simplex_voter.specs.Verifying.Verification.{Verify, Resolve, Wait}
 use Rattle.simplex_voter.proofs.Examples.Scripts.{replies_of, member, voter, keyless, usual, proposal, context, certificate, nullification, fetch, notarized, nullified, finalized, verdict, voted_notarize, voted_nullify, voted_finalize}
 use Rattle.simplex_voter.proofs.Examples.Scripts.Call.{AddNotarization, AddNullification, AddFinalization, SetProposal, TryPropose, Proposed, Supersede, Abandonment, Release, TryVerify, Verified, Rejected, Candidates, SetCertifyHandle, Certified, Notarize, Nullify, Finalize, BroadcastNotarization, BroadcastNullification, BroadcastFinalization, Best, Trigger, NextTimeout, Prune, View, Restart}
@@ -28,7 +21,7 @@ untracked :
     )
     ≡
     Judged None ∷ NotAllowed ∷ NotAllowed ∷ []
-unfolding first_gap is_admitted in_window explicit_payload is_handoff_parent serves follows optimistic_payload spans payload_for parent_payload preferred_parent may_stand binding_matches may_nullify is_gated required_parent may_finalize may_notarize propose_answer proposed_answer standing
+unfolding replies_of
 untracked = refl
 
 -- a deadline that passes 64 bits refuses the verdict and changes nothing
@@ -40,7 +33,7 @@ late_verdict :
     )
     ≡
     Added true None ∷ Refused TimeOverflow ∷ Now 1 0 0 ∷ []
-unfolding first_gap is_admitted in_window explicit_payload is_handoff_parent serves follows optimistic_payload spans payload_for parent_payload preferred_parent may_stand binding_matches may_nullify is_gated required_parent may_finalize may_notarize propose_answer proposed_answer standing
+unfolding replies_of
 late_verdict = refl
 
 -- the same verdict again is taken, another one is not allowed
@@ -52,7 +45,7 @@ repeated_verdict :
     )
     ≡
     Added true None ∷ Judged (Some (proposal 1 0 7)) ∷ Judged (Some (proposal 1 0 7)) ∷ NotAllowed ∷ []
-unfolding first_gap is_admitted in_window explicit_payload is_handoff_parent serves follows optimistic_payload spans payload_for parent_payload preferred_parent may_stand binding_matches may_nullify is_gated required_parent may_finalize may_notarize propose_answer proposed_answer standing
+unfolding replies_of
 repeated_verdict = refl
 
 -- a finalize vote asks nothing of a term start's parent
@@ -64,7 +57,7 @@ any_parent :
     )
     ≡
     Added true None ∷ Judged (Some (proposal 1 5 7)) ∷ Vote (Some (proposal 1 5 7)) ∷ []
-unfolding first_gap is_admitted in_window explicit_payload is_handoff_parent serves follows optimistic_payload spans payload_for parent_payload preferred_parent may_stand binding_matches may_nullify is_gated required_parent may_finalize may_notarize propose_answer proposed_answer standing
+unfolding replies_of
 any_parent = refl
 
 -- a nullify vote keeps this member from finalizing the view, also after a restart
@@ -78,7 +71,7 @@ nullify_before_finalize :
     ≡
     NullifyVote (Some false) ∷ NullifyVote (Some true) ∷ Added true None ∷ Judged (Some (proposal 1 0 7)) ∷
     Vote None ∷ Done ∷ Vote None ∷ NullifyVote None ∷ []
-unfolding first_gap is_admitted in_window explicit_payload is_handoff_parent serves follows optimistic_payload spans payload_for parent_payload preferred_parent may_stand binding_matches may_nullify is_gated required_parent may_finalize may_notarize propose_answer proposed_answer standing
+unfolding replies_of
 nullify_before_finalize = refl
 
 -- a view that was left is not voted to nullify
@@ -92,7 +85,7 @@ nullify_of_a_past_view :
     ≡
     NullifyVote (Some false) ∷ NullifyVote (Some true) ∷ Added true None ∷ Judged (Some (proposal 1 0 7)) ∷
     Now 2 0 0 ∷ Vote None ∷ Done ∷ Vote None ∷ NullifyVote None ∷ []
-unfolding first_gap is_admitted in_window explicit_payload is_handoff_parent serves follows optimistic_payload spans payload_for parent_payload preferred_parent may_stand binding_matches may_nullify is_gated required_parent may_finalize may_notarize propose_answer proposed_answer standing
+unfolding replies_of
 nullify_of_a_past_view = refl
 
 -- after a restart that lost the certificates the vote still stands, and is a repeat
@@ -106,7 +99,7 @@ lost_certificates :
     ≡
     NullifyVote (Some false) ∷ NullifyVote (Some true) ∷ Added true None ∷ Judged (Some (proposal 1 0 7)) ∷ Done ∷
     Now 1 0 0 ∷ NullifyVote (Some true) ∷ []
-unfolding first_gap is_admitted in_window explicit_payload is_handoff_parent serves follows optimistic_payload spans payload_for parent_payload preferred_parent may_stand binding_matches may_nullify is_gated required_parent may_finalize may_notarize propose_answer proposed_answer standing
+unfolding replies_of
 lost_certificates = refl
 
 -- a restart remembers the notarize vote, and readies the handoff again
@@ -120,5 +113,5 @@ notarized_once :
     ≡
     Flag true ∷ Work (Verify (context 1 0 0 0) (proposal 1 0 7)) ∷ Flag true ∷ Vote (Some (proposal 1 0 7)) ∷ Done ∷
     Flag false ∷ Work Wait ∷ Vote None ∷ Asked (Some (Prepare (context 2 1 1 7))) ∷ []
-unfolding first_gap is_admitted in_window explicit_payload is_handoff_parent serves follows optimistic_payload spans payload_for parent_payload preferred_parent may_stand binding_matches may_nullify is_gated required_parent may_finalize may_notarize propose_answer proposed_answer standing
+unfolding replies_of
 notarized_once = refl

@@ -6,14 +6,7 @@ use Rattle.simplex_types.specs.declared.types.fault.Fault.TheVariants.{TimeOverf
 use Rattle.simplex_types.specs.declared.reasons.Kind.TheVariants.{Nullification, Notarization}
 use Rattle.simplex_types.specs.declared.reasons.HandoffAbandonedReason.TheVariants.{AncestryInvalidated, ParentNullify}
 use Rattle.simplex_types.specs.declared.reasons.TimeoutReason.TheVariants.{Retry, Inactivity, LeaderNullify, LeaderTimeout, CertificationTimeout, StallTimeout, MissingProposal, InvalidProposal}
-use Rattle.simplex_voter.specs.Gaps.{first_gap}
-use Rattle.simplex_voter.specs.Windows.{is_admitted, in_window}
-use Rattle.simplex_voter.specs.Payloads.{explicit_payload, is_handoff_parent, serves, follows, optimistic_payload}
-use Rattle.simplex_voter.specs.Parents.{spans, payload_for, parent_payload, preferred_parent, may_stand, binding_matches}
-use Rattle.simplex_voter.specs.Rules.{may_nullify, is_gated, required_parent, may_finalize, may_notarize}
-use Rattle.simplex_voter.specs.Proposing.{propose_answer, proposed_answer}
 use Rattle.simplex_voter.specs.Proposing.Request.{Prepare, Propose}
-use Rattle.simplex_voter.specs.Verifying.{standing}
 use Rattle.simplex_voter.specs.Verifying.Verification.{Verify, Resolve, Wait}
 use Rattle.simplex_voter.proofs.Examples.Scripts.{replies_of, member, voter, keyless, usual, proposal, context, certificate, nullification, fetch, notarized, nullified, finalized, verdict, voted_notarize, voted_nullify, voted_finalize}
 use Rattle.simplex_voter.proofs.Examples.Scripts.Call.{AddNotarization, AddNullification, AddFinalization, SetProposal, TryPropose, Proposed, Supersede, Abandonment, Release, TryVerify, Verified, Rejected, Candidates, SetCertifyHandle, Certified, Notarize, Nullify, Finalize, BroadcastNotarization, BroadcastNullification, BroadcastFinalization, Best, Trigger, NextTimeout, Prune, View, Restart}
@@ -33,7 +26,7 @@ chain :
     Vote (Some (proposal 1 0 7)) ∷ Work (Verify (context 2 0 1 7) (proposal 2 1 9)) ∷ Flag true ∷
     Vote (Some (proposal 2 1 9)) ∷ Flag true ∷ Added true None ∷ Work Wait ∷ Judged (Some (proposal 1 0 7)) ∷
     Work (Verify (context 3 0 2 9) (proposal 3 2 4)) ∷ []
-unfolding first_gap is_admitted in_window explicit_payload is_handoff_parent serves follows optimistic_payload spans payload_for parent_payload preferred_parent may_stand binding_matches may_nullify is_gated required_parent may_finalize may_notarize propose_answer proposed_answer standing
+unfolding replies_of
 chain = refl
 
 -- a vote is withheld where the parent was certified with another payload
@@ -48,7 +41,7 @@ other_parent :
     Flag true ∷ Flag true ∷ Work (Verify (context 1 0 0 0) (proposal 1 0 7)) ∷ Work Wait ∷ Flag true ∷
     Vote (Some (proposal 1 0 7)) ∷ Work (Verify (context 2 0 1 7) (proposal 2 1 9)) ∷ Flag true ∷
     Added true (Some 0) ∷ Vote None ∷ []
-unfolding first_gap is_admitted in_window explicit_payload is_handoff_parent serves follows optimistic_payload spans payload_for parent_payload preferred_parent may_stand binding_matches may_nullify is_gated required_parent may_finalize may_notarize propose_answer proposed_answer standing
+unfolding replies_of
 other_parent = refl
 
 -- the whole term lies in the window
@@ -63,7 +56,7 @@ long_window :
     Flag true ∷ Flag true ∷ Work (Verify (context 1 0 0 0) (proposal 1 0 7)) ∷ Work Wait ∷ Flag true ∷
     Vote (Some (proposal 1 0 7)) ∷ Work (Verify (context 2 0 1 7) (proposal 2 1 9)) ∷ Flag true ∷
     Vote (Some (proposal 2 1 9)) ∷ []
-unfolding first_gap is_admitted in_window explicit_payload is_handoff_parent serves follows optimistic_payload spans payload_for parent_payload preferred_parent may_stand binding_matches may_nullify is_gated required_parent may_finalize may_notarize propose_answer proposed_answer standing
+unfolding replies_of
 long_window = refl
 
 -- a handoff is prepared on an uncertified parent, and given up where the term before is nullified
@@ -80,7 +73,7 @@ handoff_given_up :
     Vote (Some (proposal 1 0 7)) ∷ Vote None ∷ Asked (Some (Prepare (context 2 1 1 7))) ∷ NullifyVote (Some false) ∷
     Abandoned (Some ParentNullify) ∷ Flag true ∷ Now 2 0 0 ∷ Abandoned (Some AncestryInvalidated) ∷ Flag true ∷
     Asked (Some (Propose (context 2 1 0 0))) ∷ []
-unfolding first_gap is_admitted in_window explicit_payload is_handoff_parent serves follows optimistic_payload spans payload_for parent_payload preferred_parent may_stand binding_matches may_nullify is_gated required_parent may_finalize may_notarize propose_answer proposed_answer standing
+unfolding replies_of
 handoff_given_up = refl
 
 -- a handoff is proposed and voted for before its view is entered
@@ -95,7 +88,7 @@ handoff_proposed :
     Flag true ∷ Work (Verify (context 1 0 0 0) (proposal 1 0 7)) ∷ Work Wait ∷ Flag true ∷
     Vote (Some (proposal 1 0 7)) ∷ Vote None ∷ Asked (Some (Prepare (context 2 1 1 7))) ∷ Flag true ∷
     Vote (Some (proposal 2 1 8)) ∷ Now 1 0 0 ∷ []
-unfolding first_gap is_admitted in_window explicit_payload is_handoff_parent serves follows optimistic_payload spans payload_for parent_payload preferred_parent may_stand binding_matches may_nullify is_gated required_parent may_finalize may_notarize propose_answer proposed_answer standing
+unfolding replies_of
 handoff_proposed = refl
 
 -- a nullification in the term below leaves no handoff
@@ -110,7 +103,7 @@ no_handoff_when_nullified :
     Flag true ∷ Work (Verify (context 1 0 0 0) (proposal 1 0 7)) ∷ Flag true ∷ Vote (Some (proposal 1 0 7)) ∷
     Flag true ∷ Work (Verify (context 2 0 1 7) (proposal 2 1 9)) ∷ Flag true ∷ Vote (Some (proposal 2 1 9)) ∷
     Flag true ∷ Now 3 0 0 ∷ Asked None ∷ Flag true ∷ Asked (Some (Propose (context 3 1 0 0))) ∷ []
-unfolding first_gap is_admitted in_window explicit_payload is_handoff_parent serves follows optimistic_payload spans payload_for parent_payload preferred_parent may_stand binding_matches may_nullify is_gated required_parent may_finalize may_notarize propose_answer proposed_answer standing
+unfolding replies_of
 no_handoff_when_nullified = refl
 
 -- a proposal that the slot doesn't take still readies the next view
@@ -122,7 +115,7 @@ leader_copied :
     )
     ≡
     NullifyVote (Some false) ∷ Flag false ∷ Flag true ∷ Added true (Some 0) ∷ []
-unfolding first_gap is_admitted in_window explicit_payload is_handoff_parent serves follows optimistic_payload spans payload_for parent_payload preferred_parent may_stand binding_matches may_nullify is_gated required_parent may_finalize may_notarize propose_answer proposed_answer standing
+unfolding replies_of
 leader_copied = refl
 
 -- a view whose leader is set is tracked, so a verdict there lacks its notarization
@@ -135,5 +128,5 @@ tracked_by_leader :
     )
     ≡
     Added true None ∷ NotAllowed ∷ NotAllowed ∷ Judged None ∷ Added true None ∷ Views (1 ∷ 2 ∷ 3 ∷ 4 ∷ []) ∷ []
-unfolding first_gap is_admitted in_window explicit_payload is_handoff_parent serves follows optimistic_payload spans payload_for parent_payload preferred_parent may_stand binding_matches may_nullify is_gated required_parent may_finalize may_notarize propose_answer proposed_answer standing
+unfolding replies_of
 tracked_by_leader = refl
