@@ -4,4 +4,6 @@
 pub mod config;
 pub mod reasons;
 pub mod sorted;
+#[cfg(test)]
+mod tests;
 pub mod types;

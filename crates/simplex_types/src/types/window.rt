@@ -40,9 +40,9 @@ impl Lookahead {
     /// The lowest view whose certificate opens the window of a view for optimistic votes.
     ///
     /// None for genesis, for the first view of a term, and where no view is voted for ahead.
-    pub fn issuance_floor(self, view: View) -> Option<View>
+    pub fn issuance_floor(&self, view: View) -> Option<View>
         requires { view ≤ 2 ^ 64 - 2 ^ 33 }
-        ensures { result ≡ issuance_floor self.term_length self.optimistic_views view }
+        ensures { result ≡ issuance_floor self.now.term_length self.now.optimistic_views view }
     {
         if view.is_zero() || self.optimistic_views == 0 {
             return None;
@@ -63,9 +63,9 @@ impl Lookahead {
     ///
     /// It may at or below the current view, `optimistic_views` ahead inside the current term, and at the next term's
     /// start where that is one view ahead or no more than `optimistic_views`.
-    pub fn admits_outbound(self, current: View, view: View) -> bool
+    pub fn admits_outbound(&self, current: View, view: View) -> bool
         requires { HasTerm current }
-        ensures { IsTrue result ↔ AdmitsOutbound self.term_length self.optimistic_views current view }
+        ensures { IsTrue result ↔ AdmitsOutbound self.now.term_length self.now.optimistic_views current view }
     {
         if view <= current {
             return !view.is_zero();
