@@ -27,6 +27,7 @@ shows_notarization {D = D} same calls r c shown = by (first_notarization calls) 
   where
     unvoted : decision_of calls ≡ decision_of (Notarized c ∷ calls)
     unvoted = by_parts (first_vote calls) calls (Notarized c ∷ calls) refl refl refl refl
+
     by : (n : Option (ProposalFacts D)) → first_notarization calls ≡ n → r.notarization ≡ first_notarization calls → ShowsCalls (Notarized c ∷ calls) (with_notarization same r c)
     by None en from = let is : r.notarization ≡ None = from ∙ en in record {
       notarization = rw (is, en) refl;
@@ -52,6 +53,7 @@ shows_nullification {D = D} calls r c shown = by (first_nullification calls) ref
   where
     unvoted : decision_of calls ≡ decision_of (Nullified c ∷ calls)
     unvoted = by_parts (first_vote calls) calls (Nullified c ∷ calls) refl refl refl refl
+
     by : (n : Option (NullificationFacts)) → first_nullification calls ≡ n → r.nullification ≡ first_nullification calls → ShowsCalls (Nullified c ∷ calls) (with_nullification r c)
     by None en from = let is : r.nullification ≡ None = from ∙ en in record {
       notarization = rw is shown.notarization;
@@ -77,6 +79,7 @@ shows_finalization {D = D} same calls r c shown = by (first_finalization calls) 
   where
     unvoted : decision_of calls ≡ decision_of (Finalized c ∷ calls)
     unvoted = by_parts (first_vote calls) calls (Finalized c ∷ calls) refl refl refl refl
+
     by : (n : Option (ProposalFacts D)) → first_finalization calls ≡ n → r.finalization ≡ first_finalization calls → ShowsCalls (Finalized c ∷ calls) (with_finalization same r c)
     by None en from = let is : r.finalization ≡ None = from ∙ en in record {
       notarization = rw is shown.notarization;
@@ -135,27 +138,27 @@ finalized calls r free shown = by (first_vote calls) refl
   where
     by : (v : Option Vote) → first_vote calls ≡ v → ShowsCalls (FinalizeVote ∷ calls) (record r { decision = Finalize })
     by None ev = record {
-        notarization = shown.notarization;
-        nullification = shown.nullification;
-        finalization = shown.finalization;
-        decision = rw ev refl;
-        stall_deadline = shown.stall_deadline;
-        entered_at = shown.entered_at;
-        proposed_at = shown.proposed_at;
-      }
+      notarization = shown.notarization;
+      nullification = shown.nullification;
+      finalization = shown.finalization;
+      decision = rw ev refl;
+      stall_deadline = shown.stall_deadline;
+      entered_at = shown.entered_at;
+      proposed_at = shown.proposed_at;
+    }
     by (Some ToNullify) ev =
         let d = voted calls r (Some ToNullify) shown ev in
         let bad : true ≡ false = rw d at free in
         absurd (cc)
     by (Some ToFinalize) ev = record {
-        notarization = shown.notarization;
-        nullification = shown.nullification;
-        finalization = shown.finalization;
-        decision = rw ev refl;
-        stall_deadline = shown.stall_deadline;
-        entered_at = shown.entered_at;
-        proposed_at = shown.proposed_at;
-      }
+      notarization = shown.notarization;
+      nullification = shown.nullification;
+      finalization = shown.finalization;
+      decision = rw ev refl;
+      stall_deadline = shown.stall_deadline;
+      entered_at = shown.entered_at;
+      proposed_at = shown.proposed_at;
+    }
 
 shows_finalize : {K D : Type 0} (calls : List (RoundCall D)) (r : RoundFacts K D) → can_finalize r ≡ true → ShowsCalls calls r → ShowsCalls (FinalizeVote ∷ calls) (record r { decision = Finalize })
 shows_finalize calls r can shown = finalized calls r (by r.decision refl) shown
@@ -173,23 +176,23 @@ nullified calls r free shown = by (first_vote calls) refl
   where
     by : (v : Option Vote) → first_vote calls ≡ v → ShowsCalls (NullifyVote ∷ calls) (record r { decision = Nullify None })
     by None ev = record {
-        notarization = shown.notarization;
-        nullification = shown.nullification;
-        finalization = shown.finalization;
-        decision = rw ev refl;
-        stall_deadline = shown.stall_deadline;
-        entered_at = shown.entered_at;
-        proposed_at = shown.proposed_at;
-      }
+      notarization = shown.notarization;
+      nullification = shown.nullification;
+      finalization = shown.finalization;
+      decision = rw ev refl;
+      stall_deadline = shown.stall_deadline;
+      entered_at = shown.entered_at;
+      proposed_at = shown.proposed_at;
+    }
     by (Some ToNullify) ev = record {
-        notarization = shown.notarization;
-        nullification = shown.nullification;
-        finalization = shown.finalization;
-        decision = rw ev refl;
-        stall_deadline = shown.stall_deadline;
-        entered_at = shown.entered_at;
-        proposed_at = shown.proposed_at;
-      }
+      notarization = shown.notarization;
+      nullification = shown.nullification;
+      finalization = shown.finalization;
+      decision = rw ev refl;
+      stall_deadline = shown.stall_deadline;
+      entered_at = shown.entered_at;
+      proposed_at = shown.proposed_at;
+    }
     by (Some ToFinalize) ev =
         let d = voted calls r (Some ToFinalize) shown ev in
         let bad : true ≡ false = rw d at free in
