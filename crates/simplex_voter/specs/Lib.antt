@@ -1,4 +1,5 @@
 pub mod Facts
+pub mod Rounds
 pub mod Gaps
 pub mod Windows
 pub mod Payloads

@@ -1,4 +1,3 @@
 //! A member's state.
 
-/// Trial.
-pub fn trial() {}
+mod rounds;

@@ -1,0 +1,40 @@
+-- The tracked views as the state keeps them: each round is of this member, these members and this epoch.
+use Rattle.std.specs.Prelude.{◌≡◌, ℕ, Bool, List, Option, Some, is_some, unwrap_or, if◌then◌else◌}
+use Rattle.std.specs.Ordering.{nat_cmp}
+use Rattle.std.specs.FinMap.{FinMap, get, entries}
+use Rattle.std.specs.FinMap.Entries.{find, put}
+use Rattle.simplex_types.specs.declared.types.numbers.Round.{Round}
+use Rattle.simplex_round.specs.Round.{RoundFacts, new_round, leader_at}
+
+-- for whom and among whom rounds are made, and in which epoch
+pub record Origin (K : Type 0) : Type 0 where
+  pub me : Option ℕ
+  pub members : List K
+  pub epoch : ℕ
+
+abbrev pub fresh_round : {K D : Type 0} → Origin K → ℕ → RoundFacts K D
+fresh_round o v = new_round o.me o.members (record { epoch = o.epoch; view = v })
+
+-- a round was made so, at this view
+pub record IsMadeBy {K D : Type 0} (o : Origin K) (v : ℕ) (r : RoundFacts K D) : Type 0 where
+  pub me : r.me ≡ o.me
+  pub members : r.members ≡ o.members
+  pub round : r.round ≡ record { epoch = o.epoch; view = v }
+
+-- each tracked round was
+abbrev pub AreMadeBy : {K D : Type 0} → Origin K → FinMap nat_cmp (RoundFacts K D) → Type 0
+AreMadeBy {K} {D} o rounds = (v : ℕ) (r : RoundFacts K D) → get rounds v ≡ Some r → IsMadeBy o v r
+
+-- the round of a view, a fresh one where it isn't tracked
+abbrev pub round_in : {K D : Type 0} → Origin K → List (ℕ × RoundFacts K D) → ℕ → RoundFacts K D
+round_in o es v = unwrap_or (find nat_cmp v es) (fresh_round o v)
+
+abbrev pub put_round : {K D : Type 0} → List (ℕ × RoundFacts K D) → ℕ → RoundFacts K D → List (ℕ × RoundFacts K D)
+put_round es v r = put nat_cmp v r es
+
+-- the rounds with a leader of the view, where it has none
+abbrev pub led_rounds : {K D : Type 0} → Origin K → List (ℕ × RoundFacts K D) → ℕ → ℕ → List (ℕ × RoundFacts K D)
+led_rounds o es v member =
+    if is_some (round_in o es v).leader
+    then es
+    else put_round es v (record (round_in o es v) { leader = leader_at o.members member })
