@@ -9,8 +9,9 @@ use Rattle.std.proofs.lemmas.Bool.{cases_eq, eq-eqb, ne_eqb, false≢true}
 use Rattle.simplex_types.specs.Tracked.{after_insert}
 use Rattle.simplex_types.specs.declared.types.fault.AllocFailed.{AllocFailed}
 use Rattle.simplex_types.proofs.Maps.{get-insert, same_maps}
-use Rattle.simplex_round.specs.Round.{RoundFacts}
-use Rattle.simplex_voter.specs.Rounds.{Origin, IsMadeBy, AreMadeBy, fresh_round, round_in, put_round}
+use Rattle.std.specs.Option.{option_map_or}
+use Rattle.simplex_round.specs.Round.{RoundFacts, leader_at}
+use Rattle.simplex_voter.specs.Rounds.{Origin, IsMadeBy, AreMadeBy, fresh_round, round_in, led_rounds}
 
 module _ {V : Type 0} where
   pub find_entries : (m : map.FinMap nat_cmp V) (v : ℕ) → find nat_cmp v (map.entries m) ≡ map.get m v
@@ -19,8 +20,17 @@ module _ {V : Type 0} where
   pub put_entries : (m : map.FinMap nat_cmp V) (v : ℕ) (x : V) → map.entries (map.insert m v x) ≡ put nat_cmp v x (map.entries m)
   put_entries m v x = map.entries-insert nat_cmp_total m v x
 
-  insert_same : (m : map.FinMap nat_cmp V) (v : ℕ) (x : V) → map.get m v ≡ Some x → map.insert m v x ≡ m
-  insert_same m v x here = same_maps _ _ (λ q. get-insert m v x q ∙ elim (cases_eq q v) [
+  pub get-inserted : (m : map.FinMap nat_cmp V) (v : ℕ) (x : V) → map.get (map.insert m v x) v ≡ Some x
+  get-inserted m v x = get-insert m v x v ∙ rw (eq-eqb v v refl) refl
+
+  pub insert-again : (m : map.FinMap nat_cmp V) (v : ℕ) (x y : V) → map.insert (map.insert m v x) v y ≡ map.insert m v y
+  insert-again m v x y = same_maps _ _ (λ q. get-insert (map.insert m v x) v y q ∙ elim (cases_eq q v) [
+    | inl at ↦ rw (eq-eqb q v at) (sym (rw (get-insert m v y q, eq-eqb q v at) refl))
+    | inr other ↦ rw (ne_eqb q v other, get-insert m v x q, ne_eqb q v other) (sym (rw (get-insert m v y q, ne_eqb q v other) refl))
+  ])
+
+  pub insert-same : (m : map.FinMap nat_cmp V) (v : ℕ) (x : V) → map.get m v ≡ Some x → map.insert m v x ≡ m
+  insert-same m v x here = same_maps _ _ (λ q. get-insert m v x q ∙ elim (cases_eq q v) [
     | inl at ↦ rw (eq-eqb q v at, at) (sym here)
     | inr other ↦ rw (ne_eqb q v other) refl
   ])
@@ -29,18 +39,19 @@ module _ {V : Type 0} where
   some_is None d some = absurd (false≢true some)
   some_is (Some x) d some = refl
 
-  -- what stands is put again
-  pub put_again : (m : map.FinMap nat_cmp V) (v : ℕ) (d : V) → is_some (map.get m v) ≡ true → map.entries m ≡ put nat_cmp v (unwrap_or (find nat_cmp v (map.entries m)) d) (map.entries m)
-  put_again m v d some =
-      let here = some_is (map.get m v) d some in
-      rw (find_entries m v) (sym (sym (put_entries m v (unwrap_or (map.get m v) d)) ∙ ap map.entries (insert_same m v _ here)))
+  none_is : (o : Option V) (d : V) → is_some o ≡ false → d ≡ unwrap_or o d
+  none_is None d none = refl
+  none_is (Some x) d none = absurd (false≢true (sym none))
+
+  -- what stands goes in again
+  pub stays : (m : map.FinMap nat_cmp V) (v : ℕ) (d : V) → is_some (map.get m v) ≡ true → m ≡ map.insert m v (unwrap_or (map.get m v) d)
+  stays m v d some = sym (insert-same m v _ (some_is (map.get m v) d some))
 
   -- a value goes in where none stands
-  pub put_first : (m : map.FinMap nat_cmp V) (v : ℕ) (d : V) → is_some (map.get m v) ≡ false → map.entries (map.insert m v d) ≡ put nat_cmp v (unwrap_or (find nat_cmp v (map.entries m)) d) (map.entries m)
-  put_first m v d none = elim (map.get m v) as (λ o. is_some o ≡ false → map.get m v ≡ o → map.entries (map.insert m v d) ≡ put nat_cmp v (unwrap_or (find nat_cmp v (map.entries m)) d) (map.entries m)) [
-    | None ↦ λ no here. rw (find_entries m v, here) (put_entries m v d)
-    | Some x ↦ λ no here. absurd (false≢true (sym no))
-  ] none refl
+  pub goes_in : (m : map.FinMap nat_cmp V) (v : ℕ) (d : V) → is_some (map.get m v) ≡ false → map.insert m v d ≡ map.insert m v (unwrap_or (map.get m v) d)
+  goes_in m v d none = ap (map.insert m v) (none_is (map.get m v) d none)
+
+  pub ruleset kept_rounds = (get-inserted, insert-again)
 
 -- a value that is looked up is there where it is there
 pub copied_some : {A : Type 0} (o : Option (Bor A)) → is_some (option_copied o) ≡ is_some o
@@ -52,8 +63,24 @@ pub inserted_new : {V : Type 0} (m new : map.FinMap nat_cmp V) (v : ℕ) (x : V)
 inserted_new m new v x None absent standing after = after
 inserted_new m new v x (Some y) absent standing after = let bad : Some y ≡ None = standing ∙ rw absent refl in cc
 
+-- whether a value is looked up
+pub looked_up : {A : Type 0} (o : Option (Bor A)) (found : Option A) (b : Bool) → option_copied o ≡ found → b ≡ is_some o → is_some found ≡ b
+looked_up o found b same is = sym (ap is_some same) ∙ copied_some o ∙ sym is
+
 pub unwrapped : {V : Type 0} (x y : V) → Some x ≡ Some y → x ≡ y
 unwrapped x y same = ap (λ o. unwrap_or o x) same
+
+-- a value that is lent from where it was put
+pub lent : {V : Type 0} (a b : map.FinMap nat_cmp V) (v : ℕ) (x r : V) → b ≡ map.insert a v x → Some r ≡ map.get b v → r ≡ x
+lent a b v x r put_there read = unwrapped r x (read ∙ ap (λ m. map.get m v) put_there ∙ get-inserted a v x)
+
+-- it is written back in place of what was put
+pub written_back : {V : Type 0} (a b : map.FinMap nat_cmp V) (v : ℕ) (x y : V) → b ≡ map.insert a v x → map.insert b v y ≡ map.insert a v y
+written_back a b v x y put_there = ap (λ m. map.insert m v y) put_there ∙ insert-again a v x y
+
+-- what was put is there
+pub there : {V : Type 0} (a b : map.FinMap nat_cmp V) (v : ℕ) (x : V) → b ≡ map.insert a v x → None ≡ map.get b v → ⊥
+there a b v x put_there none = let e : None ≡ Some x = none ∙ ap (λ m. map.get m v) put_there ∙ get-inserted a v x in cc
 
 module _ {K D : Type 0} where
   pub made_insert : (o : Origin K) (m : map.FinMap nat_cmp (RoundFacts K D)) (v : ℕ) (r : RoundFacts K D) → AreMadeBy o m → IsMadeBy o v r → AreMadeBy o (map.insert m v r)
@@ -63,3 +90,30 @@ module _ {K D : Type 0} where
         rw (at, ← unwrapped r s same) here
     | inr other ↦ made q s (sym (rw (get-insert m v r q, ne_eqb q v other) refl) ∙ found)
   ]
+
+  -- the round of a view was made so, tracked or not
+  pub round_made : (o : Origin K) (m : map.FinMap nat_cmp (RoundFacts K D)) (v : ℕ) → AreMadeBy o m → IsMadeBy o v (round_in o m v)
+  round_made o m v made = elim (map.get m v) as (λ found. map.get m v ≡ found → IsMadeBy o v (unwrap_or found (fresh_round o v))) [
+    | None ↦ λ is. record { me = refl; members = refl; round = refl }
+    | Some r ↦ λ is. made v r is
+  ] refl
+
+  -- a change that keeps how the round was made
+  pub made_again : (o : Origin K) (m : map.FinMap nat_cmp (RoundFacts K D)) (v : ℕ) (r s : RoundFacts K D) → AreMadeBy o m → r ≡ round_in o m v → s.me ≡ r.me → s.members ≡ r.members → s.round ≡ r.round → IsMadeBy o v s
+  made_again o m v r s made same me members round =
+      let base = round_made o m v made in
+      record { me = me ∙ ap (λ t. t.me) same ∙ base.me; members = members ∙ ap (λ t. t.members) same ∙ base.members; round = round ∙ ap (λ t. t.round) same ∙ base.round }
+
+  pub leader_known : (o : Origin K) (m : map.FinMap nat_cmp (RoundFacts K D)) (v : ℕ) → option_map_or (λ r. is_some r.leader) (map.get m v) false ≡ is_some (round_in o m v).leader
+  leader_known o m v = elim (map.get m v) as (λ found. option_map_or (λ r. is_some r.leader) found false ≡ is_some (unwrap_or found (fresh_round o v)).leader) [
+    | None ↦ refl
+    | Some r ↦ refl
+  ]
+
+  pub led_new : (o : Origin K) (m : map.FinMap nat_cmp (RoundFacts K D)) (v member : ℕ) (r s : RoundFacts K D) → AreMadeBy o m → r ≡ round_in o m v → is_some (round_in o m v).leader ≡ false → s ≡ record r { leader = leader_at r.members member } → map.insert m v s ≡ led_rounds o m v member
+  led_new o m v member r s made same none is =
+      let standing = round_in o m v in
+      let members = (round_made o m v made).members in
+      rw none (ap (map.insert m v) (
+      is ∙ ap (λ (t : RoundFacts K D). record t { leader = leader_at t.members member }) same
+      ∙ ap (λ all. record standing { leader = leader_at all member }) members))

@@ -1,8 +1,7 @@
 -- The tracked views as the state keeps them: each round is of this member, these members and this epoch.
 use Rattle.std.specs.Prelude.{◌≡◌, ℕ, Bool, List, Option, Some, is_some, unwrap_or, if◌then◌else◌}
 use Rattle.std.specs.Ordering.{nat_cmp}
-use Rattle.std.specs.FinMap.{FinMap, get, entries}
-use Rattle.std.specs.FinMap.Entries.{find, put}
+use Rattle.std.specs.FinMap.{FinMap, get, insert}
 use Rattle.simplex_types.specs.declared.types.numbers.Round.{Round}
 use Rattle.simplex_round.specs.Round.{RoundFacts, new_round, leader_at}
 
@@ -11,6 +10,9 @@ pub record Origin (K : Type 0) : Type 0 where
   pub me : Option ℕ
   pub members : List K
   pub epoch : ℕ
+
+abbrev pub origin_of : {K : Type 0} → Option ℕ → List K → ℕ → Origin K
+origin_of me members epoch = record { me = me; members = members; epoch = epoch }
 
 abbrev pub fresh_round : {K D : Type 0} → Origin K → ℕ → RoundFacts K D
 fresh_round o v = new_round o.me o.members (record { epoch = o.epoch; view = v })
@@ -26,15 +28,12 @@ abbrev pub AreMadeBy : {K D : Type 0} → Origin K → FinMap nat_cmp (RoundFact
 AreMadeBy {K} {D} o rounds = (v : ℕ) (r : RoundFacts K D) → get rounds v ≡ Some r → IsMadeBy o v r
 
 -- the round of a view, a fresh one where it isn't tracked
-abbrev pub round_in : {K D : Type 0} → Origin K → List (ℕ × RoundFacts K D) → ℕ → RoundFacts K D
-round_in o es v = unwrap_or (find nat_cmp v es) (fresh_round o v)
+abbrev pub round_in : {K D : Type 0} → Origin K → FinMap nat_cmp (RoundFacts K D) → ℕ → RoundFacts K D
+round_in o rounds v = unwrap_or (get rounds v) (fresh_round o v)
 
-abbrev pub put_round : {K D : Type 0} → List (ℕ × RoundFacts K D) → ℕ → RoundFacts K D → List (ℕ × RoundFacts K D)
-put_round es v r = put nat_cmp v r es
-
--- the rounds with a leader of the view, where it has none
-abbrev pub led_rounds : {K D : Type 0} → Origin K → List (ℕ × RoundFacts K D) → ℕ → ℕ → List (ℕ × RoundFacts K D)
-led_rounds o es v member =
-    if is_some (round_in o es v).leader
-    then es
-    else put_round es v (record (round_in o es v) { leader = leader_at o.members member })
+-- the rounds with the first leader of a view
+abbrev pub led_rounds : {K D : Type 0} → Origin K → FinMap nat_cmp (RoundFacts K D) → ℕ → ℕ → FinMap nat_cmp (RoundFacts K D)
+led_rounds o rounds v member =
+    if is_some (round_in o rounds v).leader
+    then rounds
+    else insert rounds v (record (round_in o rounds v) { leader = leader_at o.members member })

@@ -1,14 +1,15 @@
 //! The rounds of the tracked views.
 
-ghost use Rattle.std.specs.Prelude.{◌≡◌, ◌<◌, IfErr, OnOk, length};
+ghost use Rattle.std.specs.Prelude.{◌≡◌, ◌<◌, IfErr, OnOk, length, is_some, false};
+ghost use Rattle.std.specs.Option.{option_map_or};
 ghost use Rattle.std.specs.FinMap as map;
 ghost use Rattle.simplex_types.specs.declared.types.fault.Fault.TheVariants.{OutOfMemory};
-ghost use Rattle.simplex_voter.specs.Rounds.{AreMadeBy, round_in, put_round, led_rounds};
+ghost use Rattle.simplex_voter.specs.Rounds.{AreMadeBy, origin_of, round_in, led_rounds};
 
 use simplex_round::round::Round;
 use simplex_types::sorted::Tracked;
 use simplex_types::types;
-use simplex_types::types::{CertificateScheme, Digest, Fault, Participant};
+use simplex_types::types::{CertificateScheme, Digest, Epoch, Fault, Participant, View};
 use std::alloc::Global;
 
 /// Tracks a view from now on.
@@ -16,17 +17,53 @@ pub fn track<S: CertificateScheme, D: Digest>(
     alloc: Global,
     rounds: &mut Tracked<Round<S, D>>,
     scheme: &S,
-    round: types::Round,
+    epoch: Epoch,
+    view: View,
 ) -> Result<(), Fault>
-    requires { AreMadeBy (record { me = S.me scheme.now; members = S.participants scheme.now; epoch = round.epoch }) rounds.old }
-    ensures made { AreMadeBy (record { me = S.me scheme.now; members = S.participants scheme.now; epoch = round.epoch }) rounds.new }
-    ensures tracked { OnOk result (map.entries rounds.new ≡ put_round (map.entries rounds.old) round.view (round_in (record { me = S.me scheme.now; members = S.participants scheme.now; epoch = round.epoch }) (map.entries rounds.old) round.view)) }
+    requires { AreMadeBy (origin_of (S.me scheme.now) (S.participants scheme.now) epoch) rounds.old }
+    ensures made { AreMadeBy (origin_of (S.me scheme.now) (S.participants scheme.now) epoch) rounds.new }
+    ensures tracked { OnOk result (rounds.new ≡ map.insert rounds.old view (round_in (origin_of (S.me scheme.now) (S.participants scheme.now) epoch) rounds.old view)) }
     ensures refused { IfErr result (λ fault. fault ≡ OutOfMemory) }
 {
-    if rounds.get(round.view).is_some() {
+    if rounds.get(view).is_some() {
         return Ok(());
     }
-    let fresh = Round::new(scheme.copy(alloc)?, round);
-    let _standing = rounds.insert(round.view, fresh)?;
+    let fresh = Round::new(scheme.copy(alloc)?, types::Round { epoch, view });
+    let _standing = rounds.insert(view, fresh)?;
     Ok(())
+}
+
+/// Sets the leader of a view that has none.
+pub fn lead<S: CertificateScheme, D: Digest>(
+    alloc: Global,
+    rounds: &mut Tracked<Round<S, D>>,
+    scheme: &S,
+    epoch: Epoch,
+    view: View,
+    leader: Participant,
+) -> Result<(), Fault>
+    requires member { leader < length (S.participants scheme.now) }
+    requires made { AreMadeBy (origin_of (S.me scheme.now) (S.participants scheme.now) epoch) rounds.old }
+    ensures made { AreMadeBy (origin_of (S.me scheme.now) (S.participants scheme.now) epoch) rounds.new }
+    ensures led { OnOk result (rounds.new ≡ led_rounds (origin_of (S.me scheme.now) (S.participants scheme.now) epoch) rounds.old view leader) }
+    ensures refused { IfErr result (λ fault. fault ≡ OutOfMemory) }
+{
+    if has_leader(rounds, view) {
+        return Ok(());
+    }
+    track(alloc, rounds, scheme, epoch, view)?;
+    if let Some(tracked) = rounds.get_mut(view) {
+        tracked.set_leader(leader);
+    }
+    Ok(())
+}
+
+/// Whether a leader of the view is set.
+fn has_leader<S: CertificateScheme, D: Digest>(rounds: &Tracked<Round<S, D>>, view: View) -> bool
+    ensures { result ≡ option_map_or (λ r. is_some r.leader) (map.get rounds.now view) false }
+{
+    match rounds.get(view) {
+        Some(round) => round.leader().is_some(),
+        None => false,
+    }
 }
