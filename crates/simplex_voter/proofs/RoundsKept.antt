@@ -1,5 +1,5 @@
 -- A map of rounds and the list of its entries, which the facts of a state hold.
-use Rattle.std.proofs.Common.{◌≡◌, ℕ, Bool, true, false, cond, eqb, List, Option, Some, None, Result, Ok, Err, is_some, Bor, refl, ap, sym, ◌∙◌, inl, inr, unwrap_or}
+use Rattle.std.proofs.Common.{◌≡◌, ℕ, Bool, true, false, cond, eqb, List, [], Option, Some, None, Result, Ok, Err, is_some, Bor, refl, ap, sym, ◌∙◌, inl, inr, unwrap_or}
 use Rattle.std.specs.Option.{option_copied}
 use Rattle.std.specs.Ordering.{nat_cmp}
 use Rattle.std.specs.Cmp.{nat_cmp_total}
@@ -8,7 +8,8 @@ use Rattle.std.specs.FinMap.Entries.{find, put}
 use Rattle.std.proofs.lemmas.Bool.{cases_eq, eq-eqb, ne_eqb, false≢true}
 use Rattle.simplex_types.specs.Tracked.{after_insert}
 use Rattle.simplex_types.specs.declared.types.fault.AllocFailed.{AllocFailed}
-use Rattle.simplex_types.proofs.Maps.{get-insert, same_maps}
+use Rattle.std.specs.Prelude.{map as map_list}
+use Rattle.simplex_types.proofs.Maps.{get-insert, same_maps, made_empty}
 use Rattle.std.specs.Option.{option_map_or}
 use Rattle.simplex_round.specs.Round.{RoundFacts, leader_at}
 use Rattle.simplex_voter.specs.Rounds.{Origin, IsMadeBy, AreMadeBy, fresh_round, round_in, led_rounds}
@@ -52,6 +53,12 @@ module _ {V : Type 0} where
   goes_in m v d none = ap (map.insert m v) (none_is (map.get m v) d none)
 
   pub ruleset kept_rounds = (get-inserted, insert-again)
+
+pub entries_empty : {V : Type 0} (m : map.FinMap nat_cmp V) → m ≡ map.empty → map.entries m ≡ []
+entries_empty {V} m is = ap map.entries (is ∙ sym (made_empty {V = V} [] refl)) ∙ map.entries-from_sorted nat_cmp [] tt
+
+pub keys_empty : {V : Type 0} (m : map.FinMap nat_cmp V) → m ≡ map.empty → map.keys m ≡ []
+keys_empty m is = ap (map_list (λ e. e.0)) (entries_empty m is)
 
 -- a value that is looked up is there where it is there
 pub copied_some : {A : Type 0} (o : Option (Bor A)) → is_some (option_copied o) ≡ is_some o
@@ -117,3 +124,6 @@ module _ {K D : Type 0} where
       rw none (ap (map.insert m v) (
       is ∙ ap (λ (t : RoundFacts K D). record t { leader = leader_at t.members member }) same
       ∙ ap (λ all. record standing { leader = leader_at all member }) members))
+
+  pub none_made : (o : Origin K) (m : map.FinMap nat_cmp (RoundFacts K D)) → m ≡ map.empty → AreMadeBy o m
+  none_made o m is v r found = let bad : None ≡ Some r = sym (ap (λ n. map.get n v) is ∙ map.get-empty nat_cmp v) ∙ found in cc

@@ -1,5 +1,6 @@
 pub mod Facts
 pub mod Rounds
+pub mod StateView
 pub mod Gaps
 pub mod Windows
 pub mod Payloads

@@ -1,3 +1,6 @@
-//! A member's state.
+//! A member's state over all views: leaders, parents, entering, and the rules of its votes.
 
 mod rounds;
+mod state;
+
+pub use state::{Config, State};

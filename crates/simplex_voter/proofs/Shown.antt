@@ -1,0 +1,35 @@
+-- Changes of the rounds, as changes of a state's facts.
+use Rattle.std.proofs.Common.{◌≡◌, ℕ, Bool, true, false, cond, Option, Some, None, Result, Ok, Err, OnOk, is_some, unwrap_or, refl, ap, sym, ◌∙◌}
+use Rattle.std.specs.Ordering.{nat_cmp}
+use Rattle.std.specs.FinMap as map
+use Rattle.std.specs.FinMap.Entries.{find, put}
+use Rattle.simplex_round.specs.Round.{RoundFacts, leader_at}
+use Rattle.simplex_voter.specs.Facts.{Facts, round_of, with_round}
+use Rattle.simplex_voter.specs.Leaders.{led, has_leader}
+use Rattle.simplex_voter.specs.Rounds.{Origin, origin_of, fresh_round, round_in, led_rounds}
+use Rattle.simplex_voter.proofs.RoundsKept.{find_entries, put_entries}
+
+pub on_ok : {A E P Q : Type 0} (r : Result A E) → (P → Q) → OnOk r P → OnOk r Q
+on_ok (Ok a) f p = f p
+on_ok (Err e) f p = p
+
+module _ {K L D : Type 0} where
+  abbrev pub origin : Facts K L D → Origin K
+  origin x = origin_of x.me x.members x.settings.epoch
+
+  module _ (x : Facts K L D) (m : map.FinMap nat_cmp (RoundFacts K D)) (shown : x.rounds ≡ map.entries m) where
+    -- the round of a view, by the facts and by the map
+    pub round_shown : (v : ℕ) → round_of x v ≡ round_in (origin x) m v
+    round_shown v = ap (λ found. unwrap_or found (fresh_round (origin x) v)) (ap (find nat_cmp v) shown ∙ find_entries m v)
+
+    pub put_shown : (v : ℕ) (r : RoundFacts K D) → record x { rounds = map.entries (map.insert m v r) } ≡ with_round x v r
+    put_shown v r = ap (λ es. record x { rounds = es }) (put_entries m v r ∙ ap (put nat_cmp v r) (sym shown))
+
+    pub led_shown : (new : map.FinMap nat_cmp (RoundFacts K D)) (v member : ℕ) → new ≡ led_rounds (origin x) m v member → record x { rounds = map.entries new } ≡ led x v member
+    led_shown new v member is =
+        let r = round_of x v in
+        ap (λ (n : map.FinMap nat_cmp (RoundFacts K D)). record x { rounds = map.entries n }) is ∙ rw (← round_shown v) (by_leader (is_some r.leader) (record r { leader = leader_at x.members member }))
+      where
+        by_leader : (b : Bool) (t : RoundFacts K D) → record x { rounds = map.entries (cond b m (map.insert m v t)) } ≡ cond b x (with_round x v t)
+        by_leader true t = ap (λ es. record x { rounds = es }) (sym shown)
+        by_leader false t = put_shown v t

@@ -1,0 +1,151 @@
+//! A member's state, its setup and its plain getters.
+
+ghost use Rattle.std.specs.Prelude.{◌≡◌, ◌<◌, ◌≤◌, IfErr, OnOk, length};
+ghost use Rattle.std.specs.FinMap as map;
+ghost use Rattle.simplex_types.specs.declared.types.fault.Fault.TheVariants.{OutOfMemory};
+
+use super::rounds::lead;
+use simplex_round::round::Round;
+use simplex_types::sorted::{ByTerm, Tracked};
+use simplex_types::types::{
+    CertificateScheme, Digest, Elector, Epoch, Fault, Participant, View, ViewDelta,
+};
+use std::alloc::Global;
+use std::marker::Model;
+
+/// How a state is set up. Times are milliseconds.
+#[derive(Drop)]
+pub struct Config<S: CertificateScheme, L: Elector<S>> {
+    /// Who signs, for whom.
+    pub scheme: S,
+    /// Who leads each view. Its members are the scheme's participants.
+    pub elector: L,
+    /// The epoch that every message is of.
+    pub epoch: Epoch,
+    /// How many views below the last finalized one are kept.
+    pub view_retention: ViewDelta,
+    /// From the entry of a view until it times out for want of a proposal.
+    pub leader_timeout: u64,
+    /// From the entry of a view until it times out for want of its certification.
+    pub certification_timeout: u64,
+    /// From the first poll after a vote to nullify until the vote is repeated.
+    pub timeout_retry: u64,
+    /// A latched timeout counts while fewer terms than this were skipped since the last finalized view.
+    pub skip_budget: u64,
+}
+
+/// A member's state over all views.
+///
+/// Contracts see it as the record `Facts`. After a call that found no memory it has failed: no vote is answered, and
+/// each later call with a result answers `Failed`.
+#[derive(Drop)]
+pub struct State<S: CertificateScheme, L: Elector<S>, D: Digest> {
+    alloc: Global,
+    scheme: S,
+    elector: L,
+    epoch: Epoch,
+    view_retention: ViewDelta,
+    leader_timeout: u64,
+    certification_timeout: u64,
+    timeout_retry: u64,
+    skip_budget: u64,
+    genesis: Option<D>,
+    current: View,
+    finalized: View,
+    moment: u64,
+    named: Tracked<()>,
+    nullified: ByTerm<()>,
+    nullify_votes: ByTerm<()>,
+    rounds: Tracked<Round<S, D>>,
+    failed: bool,
+}
+
+impl<S: CertificateScheme, L: Elector<S>, D: Digest> Model for State<S, L, D> {
+    ghost use Rattle.simplex_voter.specs.Facts.{Facts};
+
+    ghost Value = { Facts S.PublicKey L D };
+
+    ghost use Rattle.simplex_voter.specs.StateView.{state_view, IsKept};
+
+    ghost view = { state_view S.me S.participants L.terms L.elects_early };
+
+    ghost invariant = { IsKept S.me S.participants L.terms L.members };
+}
+
+impl<S: CertificateScheme, L: Elector<S>, D: Digest> State<S, L, D> {
+    ghost use Rattle.simplex_voter.specs.Facts.{Facts};
+    ghost use Rattle.simplex_voter.specs.StateView.{new_facts};
+    ghost use Rattle.simplex_voter.specs.Leaders.{led};
+
+    /// A state that has no floor yet: nothing is known, and no view is entered.
+    pub fn new(alloc: Global, config: Config<S, L>) -> State<S, L, D>
+        requires { L.members config.elector ≡ length (S.participants config.scheme) }
+        ensures { result ≡ new_facts S.me S.participants L.terms L.elects_early config }
+    {
+        let term_length = config.elector.terms().term_length;
+        State {
+            alloc,
+            scheme: config.scheme,
+            elector: config.elector,
+            epoch: config.epoch,
+            view_retention: config.view_retention,
+            leader_timeout: config.leader_timeout,
+            certification_timeout: config.certification_timeout,
+            timeout_retry: config.timeout_retry,
+            skip_budget: config.skip_budget,
+            genesis: None,
+            current: View::zero(),
+            finalized: View::zero(),
+            moment: 0,
+            named: Tracked::new(alloc),
+            nullified: ByTerm::new(alloc, term_length),
+            nullify_votes: ByTerm::new(alloc, term_length),
+            rounds: Tracked::new(alloc),
+            failed: false,
+        }
+    }
+
+    /// The epoch.
+    pub fn epoch(&self) -> Epoch
+        ensures { result ≡ self.now.settings.epoch }
+    {
+        self.epoch
+    }
+
+    /// The current view: 0 until a floor is set.
+    pub fn current_view(&self) -> View
+        ensures { result ≡ self.now.current }
+    {
+        self.current
+    }
+
+    /// The last finalized view: 0 until one is finalized.
+    pub fn last_finalized(&self) -> View
+        ensures { result ≡ self.now.finalized }
+    {
+        self.finalized
+    }
+
+    /// Whether a call found no memory.
+    pub fn is_failed(&self) -> bool
+        ensures { result ≡ self.now.failed }
+    {
+        self.failed
+    }
+
+    /// Sets the leader of a view that has none.
+    fn set_leader(&mut self, view: View, leader: Participant) -> Result<(), Fault>
+        requires { leader < length self.old.members }
+        ensures led { OnOk result (self.new ≡ led self.old view leader) }
+        ensures refused { IfErr result (λ fault. fault ≡ OutOfMemory) }
+    {
+        lead(
+            self.alloc,
+            &mut self.rounds,
+            &self.scheme,
+            self.epoch,
+            view,
+            leader,
+        )
+    }
+}
