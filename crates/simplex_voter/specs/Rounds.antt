@@ -3,7 +3,8 @@ use Rattle.std.specs.Prelude.{◌≡◌, ℕ, Bool, List, Option, Some, is_some,
 use Rattle.std.specs.Ordering.{nat_cmp}
 use Rattle.std.specs.FinMap.{FinMap, get, insert}
 use Rattle.simplex_types.specs.declared.types.numbers.Round.{Round}
-use Rattle.simplex_round.specs.Round.{RoundFacts, new_round, leader_at}
+use Rattle.simplex_round.specs.Round.{RoundFacts, new_round, leader_at, with_deadlines}
+use Rattle.simplex_voter.specs.declared.voter.rounds.Deadlines.{Deadlines}
 
 -- for whom and among whom rounds are made, and in which epoch
 pub record Origin (K : Type 0) : Type 0 where
@@ -37,3 +38,9 @@ led_rounds o rounds v member =
     if is_some (round_in o rounds v).leader
     then rounds
     else insert rounds v (record (round_in o rounds v) { leader = leader_at o.members member })
+
+-- the rounds with an entry of a view at a moment, and these deadlines
+abbrev pub entered_rounds : {K D : Type 0} → Origin K → FinMap nat_cmp (RoundFacts K D) → ℕ → ℕ → Deadlines → FinMap nat_cmp (RoundFacts K D)
+entered_rounds o rounds v now deadlines =
+    let r = round_in o rounds v in
+    insert rounds v (with_deadlines (record r { entered_at = Some (unwrap_or r.entered_at now) }) deadlines.leader deadlines.certification deadlines.stall)

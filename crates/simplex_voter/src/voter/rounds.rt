@@ -4,13 +4,21 @@ ghost use Rattle.std.specs.Prelude.{◌≡◌, ◌<◌, IfErr, OnOk, length, is_
 ghost use Rattle.std.specs.Option.{option_map_or};
 ghost use Rattle.std.specs.FinMap as map;
 ghost use Rattle.simplex_types.specs.declared.types.fault.Fault.TheVariants.{OutOfMemory};
-ghost use Rattle.simplex_voter.specs.Rounds.{AreMadeBy, origin_of, round_in, led_rounds};
+ghost use Rattle.simplex_voter.specs.Rounds.{AreMadeBy, origin_of, round_in, led_rounds, entered_rounds};
 
 use simplex_round::round::Round;
 use simplex_types::sorted::Tracked;
 use simplex_types::types;
 use simplex_types::types::{CertificateScheme, Digest, Epoch, Fault, Participant, View};
 use std::alloc::Global;
+
+/// The moments, in milliseconds, at which a view that is entered times out.
+#[derive(Clone, Copy, PartialEq, Eq, Debug)]
+pub struct Deadlines {
+    pub leader: u64,
+    pub certification: u64,
+    pub stall: Option<u64>,
+}
 
 /// Tracks a view from now on.
 pub fn track<S: CertificateScheme, D: Digest>(
@@ -54,6 +62,29 @@ pub fn lead<S: CertificateScheme, D: Digest>(
     track(alloc, rounds, scheme, epoch, view)?;
     if let Some(tracked) = rounds.get_mut(view) {
         tracked.set_leader(leader);
+    }
+    Ok(())
+}
+
+/// Notes the entry of a view, the first one, and arms its deadlines.
+pub fn enter<S: CertificateScheme, D: Digest>(
+    alloc: Global,
+    rounds: &mut Tracked<Round<S, D>>,
+    scheme: &S,
+    epoch: Epoch,
+    view: View,
+    now: u64,
+    deadlines: &Deadlines,
+) -> Result<(), Fault>
+    requires { AreMadeBy (origin_of (S.me scheme.now) (S.participants scheme.now) epoch) rounds.old }
+    ensures made { AreMadeBy (origin_of (S.me scheme.now) (S.participants scheme.now) epoch) rounds.new }
+    ensures entered { OnOk result (rounds.new ≡ entered_rounds (origin_of (S.me scheme.now) (S.participants scheme.now) epoch) rounds.old view now deadlines.now) }
+    ensures refused { IfErr result (λ fault. fault ≡ OutOfMemory) }
+{
+    track(alloc, rounds, scheme, epoch, view)?;
+    if let Some(entered) = rounds.get_mut(view) {
+        entered.mark_entered(now);
+        entered.set_deadlines(deadlines.leader, deadlines.certification, deadlines.stall);
     }
     Ok(())
 }
