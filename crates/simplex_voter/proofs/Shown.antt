@@ -1,13 +1,25 @@
 -- Changes of the rounds, as changes of a state's facts.
-use Rattle.std.proofs.Common.{◌≡◌, ℕ, Bool, true, false, cond, Option, Some, None, Result, Ok, Err, OnOk, is_some, unwrap_or, refl, ap, sym, ◌∙◌}
-use Rattle.std.specs.Ordering.{nat_cmp}
+use Rattle.std.proofs.Common.{◌≡◌, ℕ, Bool, true, false, cond, ltb, leb, Option, Some, None, Result, Ok, Err, OnOk, is_some, unwrap_or, inl, inr, arith, refl, ap, sym, ◌∙◌}
+use Rattle.std.specs.Ordering.{nat_cmp, is_le}
+use Rattle.std.proofs.lemmas.Bool.{cases_lt, lt-ltb}
+use Rattle.std.proofs.lemmas.Bool.Decides.{nat_tests}
 use Rattle.std.specs.FinMap as map
 use Rattle.std.specs.FinMap.Entries.{find, put}
 use Rattle.simplex_round.specs.Round.{RoundFacts, leader_at}
 use Rattle.simplex_voter.specs.Facts.{Facts, round_of, with_round}
-use Rattle.simplex_voter.specs.Leaders.{led, has_leader}
-use Rattle.simplex_voter.specs.Rounds.{Origin, origin_of, fresh_round, round_in, led_rounds}
+use Rattle.simplex_voter.specs.Leaders.{led}
+use Rattle.simplex_voter.specs.Entering.{entered, entered_round}
+use Rattle.simplex_voter.specs.Setup.{deadlines_at}
+use Rattle.simplex_voter.specs.declared.voter.rounds.Deadlines.{Deadlines}
+use Rattle.simplex_voter.specs.Rounds.{Origin, origin_of, fresh_round, round_in, led_rounds, entered_rounds}
 use Rattle.simplex_voter.proofs.RoundsKept.{find_entries, put_entries}
+
+-- a view that is not at or below another is above it
+pub not_le : (v w : ℕ) → false ≡ is_le (nat_cmp v w) → ltb w v ≡ true
+not_le v w refused = elim (cases_lt w v) [
+  | inl above ↦ lt-ltb w v above
+  | inr below ↦ grind (arith, nat_tests)
+]
 
 pub on_ok : {A E P Q : Type 0} (r : Result A E) → (P → Q) → OnOk r P → OnOk r Q
 on_ok (Ok a) f p = f p
@@ -24,6 +36,12 @@ module _ {K L D : Type 0} where
 
     pub put_shown : (v : ℕ) (r : RoundFacts K D) → record x { rounds = map.entries (map.insert m v r) } ≡ with_round x v r
     put_shown v r = ap (λ es. record x { rounds = es }) (put_entries m v r ∙ ap (put nat_cmp v r) (sym shown))
+
+    pub entered_shown : (new : map.FinMap nat_cmp (RoundFacts K D)) (v now : ℕ) (d : Deadlines) → d ≡ deadlines_at x now → ltb x.current v ≡ true → new ≡ entered_rounds (origin x) m v now d → record x { rounds = map.entries new; current = v } ≡ entered x v now
+    entered_shown new v now d same above is =
+        rw above (
+        ap (λ (n : map.FinMap nat_cmp (RoundFacts K D)). record x { rounds = map.entries n; current = v }) is
+        ∙ rw (same, ← round_shown v) (ap (λ (y : Facts K L D). record y { current = v }) (put_shown v (entered_round x (round_of x v) now))))
 
     pub led_shown : (new : map.FinMap nat_cmp (RoundFacts K D)) (v member : ℕ) → new ≡ led_rounds (origin x) m v member → record x { rounds = map.entries new } ≡ led x v member
     led_shown new v member is =

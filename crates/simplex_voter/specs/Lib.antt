@@ -1,6 +1,7 @@
 pub mod Facts
 pub mod Rounds
 pub mod StateView
+pub mod Setup
 pub mod Gaps
 pub mod Windows
 pub mod Payloads

@@ -1,12 +1,14 @@
 //! A member's state, its setup and its plain getters.
 
-ghost use Rattle.std.specs.Prelude.{◌≡◌, ◌<◌, ◌≤◌, IfErr, OnOk, length};
+ghost use Rattle.std.specs.Prelude.{◌≡◌, ◌<◌, ◌≤◌, ◌↔◌, IsTrue, IsNone, IfSome, IfErr, OnOk, None, option_map, length};
+ghost use Rattle.std.specs.Option.{option_copied};
 ghost use Rattle.std.specs.FinMap as map;
 ghost use Rattle.simplex_types.specs.declared.types.fault.Fault.TheVariants.{OutOfMemory};
 
-use super::rounds::lead;
+use super::rounds::{Deadlines, enter, lead};
 use simplex_round::round::Round;
 use simplex_types::sorted::{ByTerm, Tracked};
+use simplex_types::types;
 use simplex_types::types::{
     CertificateScheme, Digest, Elector, Epoch, Fault, Participant, View, ViewDelta,
 };
@@ -75,7 +77,10 @@ impl<S: CertificateScheme, L: Elector<S>, D: Digest> Model for State<S, L, D> {
 impl<S: CertificateScheme, L: Elector<S>, D: Digest> State<S, L, D> {
     ghost use Rattle.simplex_voter.specs.Facts.{Facts};
     ghost use Rattle.simplex_voter.specs.StateView.{new_facts};
-    ghost use Rattle.simplex_voter.specs.Leaders.{led};
+    ghost use Rattle.simplex_voter.specs.Setup.{HasSameSetup, deadlines_at};
+    ghost use Rattle.simplex_voter.specs.Refusals.{has_late_deadline};
+    ghost use Rattle.simplex_voter.specs.Entering.{entered};
+    ghost use Rattle.simplex_voter.specs.Leaders.{led, elected};
 
     /// A state that has no floor yet: nothing is known, and no view is entered.
     pub fn new(alloc: Global, config: Config<S, L>) -> State<S, L, D>
@@ -133,11 +138,74 @@ impl<S: CertificateScheme, L: Elector<S>, D: Digest> State<S, L, D> {
         self.failed
     }
 
+    /// The deadlines of a view that is entered at a moment; none where one passes 2^64 - 1.
+    pub(super) fn deadlines(&self, now: u64) -> Option<Deadlines>
+        ensures late { IsNone result ↔ IsTrue (has_late_deadline self.now now) }
+        ensures moments { IfSome result (λ deadlines. deadlines ≡ deadlines_at self.now now) }
+    {
+        let leader = now.checked_add(self.leader_timeout)?;
+        let certification = now.checked_add(self.certification_timeout)?;
+        let stall = match self.elector.terms().stall_timeout {
+            Some(timeout) => Some(now.checked_add(timeout)?),
+            None => None,
+        };
+        Some(Deadlines {
+            leader,
+            certification,
+            stall,
+        })
+    }
+
+    /// Enters a view that is above the current one.
+    pub(super) fn enter(&mut self, view: View, now: u64, deadlines: &Deadlines) -> Result<(), Fault>
+        requires { deadlines.now ≡ deadlines_at self.old now }
+        ensures entered { OnOk result (self.new ≡ entered self.old view now) }
+        ensures refused { IfErr result (λ fault. fault ≡ OutOfMemory) }
+        ensures setup { HasSameSetup self.old self.new }
+    {
+        if view <= self.current {
+            return Ok(());
+        }
+        enter(
+            self.alloc,
+            &mut self.rounds,
+            &self.scheme,
+            self.epoch,
+            view,
+            now,
+            deadlines,
+        )?;
+        self.current = view;
+        Ok(())
+    }
+
+    /// The elector's choice, after this certificate where there is one, leads a view that has no leader.
+    pub(super) fn elect(&mut self, view: View, certificate: Option<&S::Certificate>) -> Result<(), Fault>
+        ensures elected { OnOk result (self.new ≡ elected L.elect self.old view (option_map S.certificate_bytes (option_copied certificate.entry))) }
+        ensures refused { IfErr result (λ fault. fault ≡ OutOfMemory) }
+        ensures setup { HasSameSetup self.old self.new }
+    {
+        let round = types::Round {
+            epoch: self.epoch,
+            view,
+        };
+        let leader = self.elector.elect(round, certificate);
+        self.set_leader(view, leader)
+    }
+
+    /// No certificate, for an election at genesis.
+    pub(super) fn no_certificate(&self) -> Option<&S::Certificate>
+        ensures { result ≡ None }
+    {
+        None
+    }
+
     /// Sets the leader of a view that has none.
     fn set_leader(&mut self, view: View, leader: Participant) -> Result<(), Fault>
         requires { leader < length self.old.members }
         ensures led { OnOk result (self.new ≡ led self.old view leader) }
         ensures refused { IfErr result (λ fault. fault ≡ OutOfMemory) }
+        ensures setup { HasSameSetup self.old self.new }
     {
         lead(
             self.alloc,
