@@ -1,3 +1,4 @@
 pub mod Examples
 pub mod RoundsKept
 pub mod Shown
+pub mod Faults

@@ -1,6 +1,6 @@
 //! A member's state, its setup and its plain getters.
 
-ghost use Rattle.std.specs.Prelude.{◌≡◌, ◌<◌, ◌≤◌, ◌↔◌, IsTrue, IsNone, IfSome, IfErr, OnOk, None, option_map, length};
+ghost use Rattle.std.specs.Prelude.{◌≡◌, ◌<◌, ◌≤◌, ◌↔◌, IsTrue, IsNone, IfSome, IfErr, OnOk, Some, None, true, option_map, length};
 ghost use Rattle.std.specs.Option.{option_copied};
 ghost use Rattle.std.specs.FinMap as map;
 ghost use Rattle.simplex_types.specs.declared.types.fault.Fault.TheVariants.{OutOfMemory};
@@ -75,11 +75,11 @@ impl<S: CertificateScheme, L: Elector<S>, D: Digest> Model for State<S, L, D> {
 }
 
 impl<S: CertificateScheme, L: Elector<S>, D: Digest> State<S, L, D> {
-    ghost use Rattle.simplex_voter.specs.Facts.{Facts};
+    ghost use Rattle.simplex_voter.specs.Facts.{Facts, round_number};
     ghost use Rattle.simplex_voter.specs.StateView.{new_facts};
     ghost use Rattle.simplex_voter.specs.Setup.{HasSameSetup, deadlines_at};
     ghost use Rattle.simplex_voter.specs.Refusals.{has_late_deadline};
-    ghost use Rattle.simplex_voter.specs.Entering.{entered};
+    ghost use Rattle.simplex_voter.specs.Entering.{at_moment, entered};
     ghost use Rattle.simplex_voter.specs.Leaders.{led, elected};
 
     /// A state that has no floor yet: nothing is known, and no view is entered.
@@ -193,15 +193,46 @@ impl<S: CertificateScheme, L: Elector<S>, D: Digest> State<S, L, D> {
         self.set_leader(view, leader)
     }
 
-    /// No certificate, for an election at genesis.
-    pub(super) fn no_certificate(&self) -> Option<&S::Certificate>
+    /// The elector's choice for a view, without a certificate.
+    pub(super) fn early_leader(&self, view: View) -> Participant
+        ensures leader { result ≡ L.elect self.now.elector (round_number self.now view) None }
+        ensures member { result < length self.now.members }
+    {
+        let round = types::Round {
+            epoch: self.epoch,
+            view,
+        };
+        self.elector.elect(round, self.no_certificate())
+    }
+
+    fn no_certificate(&self) -> Option<&S::Certificate>
         ensures { result ≡ None }
     {
         None
     }
 
+    /// The last moment that a call carried is this one.
+    pub(super) fn note_moment(&mut self, now: u64)
+        ensures { self.new ≡ at_moment self.old now }
+    {
+        self.moment = now;
+    }
+
+    pub(super) fn keep_genesis(&mut self, payload: D)
+        ensures { self.new ≡ record self.old { genesis = Some payload } }
+    {
+        self.genesis = Some(payload);
+    }
+
+    /// A call found no memory.
+    pub(super) fn fail(&mut self)
+        ensures { self.new ≡ record self.old { failed = true } }
+    {
+        self.failed = true;
+    }
+
     /// Sets the leader of a view that has none.
-    fn set_leader(&mut self, view: View, leader: Participant) -> Result<(), Fault>
+    pub(super) fn set_leader(&mut self, view: View, leader: Participant) -> Result<(), Fault>
         requires { leader < length self.old.members }
         ensures led { OnOk result (self.new ≡ led self.old view leader) }
         ensures refused { IfErr result (λ fault. fault ≡ OutOfMemory) }

@@ -1,0 +1,5 @@
+use Rattle.simplex_voter.proofs.Faults.{no_late_fault}
+use Rattle.simplex_voter.proofs.voter.state.State.set_genesis.Goals as goal
+
+pub returns-in-Err-clause-refused : goal.returns-in-Err-clause-refused
+returns-in-Err-clause-refused g c = no_late_fault _ _ _ _ c.if-is_failed.ensures c.in-Some.ensures.late.1
