@@ -11,7 +11,8 @@ use Rattle.simplex_types.specs.declared.types.fault.AllocFailed.{AllocFailed}
 use Rattle.std.specs.Prelude.{map as map_list}
 use Rattle.simplex_types.proofs.Maps.{get-insert, same_maps, made_empty}
 use Rattle.std.specs.Option.{option_map_or}
-use Rattle.simplex_round.specs.Round.{RoundFacts, leader_at}
+use Rattle.simplex_round.specs.Round.{RoundFacts, leader_at, with_nullification}
+use Rattle.simplex_types.specs.Certificates.{NullificationFacts}
 use Rattle.simplex_voter.specs.Rounds.{Origin, IsMadeBy, AreMadeBy, fresh_round, round_in, led_rounds}
 
 module _ {V : Type 0} where
@@ -127,3 +128,10 @@ module _ {K D : Type 0} where
 
   pub none_made : (o : Origin K) (m : map.FinMap nat_cmp (RoundFacts K D)) → m ≡ map.empty → AreMadeBy o m
   none_made o m is v r found = let bad : None ≡ Some r = sym (ap (λ n. map.get n v) is ∙ map.get-empty nat_cmp v) ∙ found in cc
+
+  pub nullified_alike : (r s : RoundFacts K D) (c : NullificationFacts) → s ≡ with_nullification r c → (s.me ≡ r.me) × (s.members ≡ r.members) × (s.round ≡ r.round)
+  nullified_alike r s c is = rw is (by_kept (is_some r.nullification))
+    where
+      by_kept : (b : Bool) → let t : RoundFacts K D = cond b r (record r { nullification = Some c }) in (t.me ≡ r.me) × (t.members ≡ r.members) × (t.round ≡ r.round)
+      by_kept true = (refl, refl, refl)
+      by_kept false = (refl, refl, refl)

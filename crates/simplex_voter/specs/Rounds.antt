@@ -3,7 +3,8 @@ use Rattle.std.specs.Prelude.{◌≡◌, ℕ, Bool, List, Option, Some, is_some,
 use Rattle.std.specs.Ordering.{nat_cmp}
 use Rattle.std.specs.FinMap.{FinMap, get, insert}
 use Rattle.simplex_types.specs.declared.types.numbers.Round.{Round}
-use Rattle.simplex_round.specs.Round.{RoundFacts, new_round, leader_at, with_deadlines}
+use Rattle.simplex_round.specs.Round.{RoundFacts, new_round, leader_at, with_deadlines, with_nullification}
+use Rattle.simplex_types.specs.Certificates.{NullificationFacts}
 use Rattle.simplex_voter.specs.declared.voter.rounds.Deadlines.{Deadlines}
 
 -- for whom and among whom rounds are made, and in which epoch
@@ -44,3 +45,7 @@ abbrev pub entered_rounds : {K D : Type 0} → Origin K → FinMap nat_cmp (Roun
 entered_rounds o rounds v now deadlines =
     let r = round_in o rounds v in
     insert rounds v (with_deadlines (record r { entered_at = Some (unwrap_or r.entered_at now) }) deadlines.leader deadlines.certification deadlines.stall)
+
+-- the rounds with the first nullification of a view
+abbrev pub nullified_rounds : {K D : Type 0} → Origin K → FinMap nat_cmp (RoundFacts K D) → ℕ → NullificationFacts → FinMap nat_cmp (RoundFacts K D)
+nullified_rounds o rounds v c = insert rounds v (with_nullification (round_in o rounds v) c)

@@ -4,12 +4,13 @@ ghost use Rattle.std.specs.Prelude.{◌≡◌, ◌<◌, IfErr, OnOk, length, is_
 ghost use Rattle.std.specs.Option.{option_map_or};
 ghost use Rattle.std.specs.FinMap as map;
 ghost use Rattle.simplex_types.specs.declared.types.fault.Fault.TheVariants.{OutOfMemory};
-ghost use Rattle.simplex_voter.specs.Rounds.{AreMadeBy, origin_of, round_in, led_rounds, entered_rounds};
+ghost use Rattle.simplex_voter.specs.Rounds.{AreMadeBy, origin_of, round_in, led_rounds, entered_rounds, nullified_rounds};
+ghost use Rattle.simplex_types.specs.Certificates.{nullification_facts};
 
 use simplex_round::round::Round;
 use simplex_types::sorted::Tracked;
 use simplex_types::types;
-use simplex_types::types::{CertificateScheme, Digest, Epoch, Fault, Participant, View};
+use simplex_types::types::{CertificateScheme, Digest, Epoch, Fault, Nullification, Participant, View};
 use std::alloc::Global;
 
 /// The moments, in milliseconds, at which a view that is entered times out.
@@ -85,6 +86,27 @@ pub fn enter<S: CertificateScheme, D: Digest>(
     if let Some(entered) = rounds.get_mut(view) {
         entered.mark_entered(now);
         entered.set_deadlines(deadlines.leader, deadlines.certification, deadlines.stall);
+    }
+    Ok(())
+}
+
+/// Keeps the first nullification of a view.
+pub fn keep_nullification<S: CertificateScheme, D: Digest>(
+    alloc: Global,
+    rounds: &mut Tracked<Round<S, D>>,
+    scheme: &S,
+    epoch: Epoch,
+    view: View,
+    nullification: Nullification<S>,
+) -> Result<(), Fault>
+    requires { AreMadeBy (origin_of (S.me scheme.now) (S.participants scheme.now) epoch) rounds.old }
+    ensures made { AreMadeBy (origin_of (S.me scheme.now) (S.participants scheme.now) epoch) rounds.new }
+    ensures kept { OnOk result (rounds.new ≡ nullified_rounds (origin_of (S.me scheme.now) (S.participants scheme.now) epoch) rounds.old view (nullification_facts S.certificate_bytes nullification)) }
+    ensures refused { IfErr result (λ fault. fault ≡ OutOfMemory) }
+{
+    track(alloc, rounds, scheme, epoch, view)?;
+    if let Some(tracked) = rounds.get_mut(view) {
+        let _first = tracked.add_nullification(nullification);
     }
     Ok(())
 }
