@@ -1,10 +1,12 @@
 -- A map of rounds and the list of its entries, which the facts of a state hold.
-use Rattle.std.proofs.Common.{◌≡◌, ℕ, Bool, true, false, cond, eqb, List, [], Option, Some, None, Result, Ok, Err, is_some, Bor, refl, ap, sym, ◌∙◌, inl, inr, unwrap_or}
+use Rattle.std.proofs.Common.{◌≡◌, ℕ, Bool, true, false, cond, eqb, List, [], ◌∷◌, Option, Some, None, Result, Ok, Err, is_some, Bor, refl, ap, sym, ◌∙◌, inl, inr, unwrap_or}
 use Rattle.std.specs.Option.{option_copied}
-use Rattle.std.specs.Ordering.{nat_cmp}
+use Rattle.std.specs.Ordering.{nat_cmp, match_ordering}
 use Rattle.std.specs.Cmp.{nat_cmp_total}
 use Rattle.std.specs.FinMap as map
-use Rattle.std.specs.FinMap.Entries.{find, put}
+use Rattle.std.specs.FinMap.Entries.{find, put, by_order}
+use Rattle.std.specs.BTreeSet.{insert_key}
+use Rattle.std.specs.declared.cmp.Ordering.TheVariants.{Less, Equal, Greater}
 use Rattle.std.proofs.lemmas.Bool.{cases_eq, eq-eqb, ne_eqb, false≢true}
 use Rattle.simplex_types.specs.Tracked.{after_insert}
 use Rattle.simplex_types.specs.declared.types.fault.AllocFailed.{AllocFailed}
@@ -60,6 +62,28 @@ entries_empty {V} m is = ap map.entries (is ∙ sym (made_empty {V = V} [] refl)
 
 pub keys_empty : {V : Type 0} (m : map.FinMap nat_cmp V) → m ≡ map.empty → map.keys m ≡ []
 keys_empty m is = ap (map_list (λ e. e.0)) (entries_empty m is)
+
+-- the keys of a map with one more entry
+keys-put : {V : Type 0} (k : ℕ) (v : V) (es : List (ℕ × V)) → map_list (λ e. e.0) (put nat_cmp k v es) ≡ insert_key nat_cmp (map_list (λ e. e.0) es) k
+keys-put k v [] = refl
+keys-put k v (e ∷ es) = elim (nat_cmp k e.0) as (λ o. map_list (λ f. f.0) (by_order o ((k, v) ∷ e ∷ es) ((e.0, v) ∷ es) (e ∷ put nat_cmp k v es)) ≡ match_ordering o (k ∷ e.0 ∷ map_list (λ f. f.0) es) (e.0 ∷ map_list (λ f. f.0) es) (e.0 ∷ insert_key nat_cmp (map_list (λ f. f.0) es) k)) [
+  | Less ↦ refl
+  | Equal ↦ refl
+  | Greater ↦ ap (λ ks. e.0 ∷ ks) (keys-put k v es)
+]
+
+pub keys-insert : {V : Type 0} (m : map.FinMap nat_cmp V) (v : ℕ) (x : V) → map.keys (map.insert m v x) ≡ insert_key nat_cmp (map.keys m) v
+keys-insert m v x = ap (map_list (λ e. e.0)) (put_entries m v x) ∙ keys-put v x (map.entries m)
+
+-- what a set of views holds once a view is noted, whether it was before or not
+pub noted : (m : map.FinMap nat_cmp (Unit {0})) (v : ℕ) (r : Option (Unit {0})) → r ≡ cond (map.contains_key m v) (Some tt) None → after_insert m v tt (Ok r) ≡ map.insert m v tt
+noted m v r is = by_answer (map.get m v) refl r is
+  where
+    by_answer : (o : Option (Unit {0})) → map.get m v ≡ o → (s : Option (Unit {0})) → s ≡ cond (is_some o) (Some tt) None → after_insert m v tt (Ok s) ≡ map.insert m v tt
+    by_answer None here None is = refl
+    by_answer None here (Some x) is = let bad : Some x ≡ None = is in cc
+    by_answer (Some y) here None is = let bad : None ≡ Some tt = is in cc
+    by_answer (Some y) here (Some x) is = sym (insert-same m v tt here)
 
 -- a value that is looked up is there where it is there
 pub copied_some : {A : Type 0} (o : Option (Bor A)) → is_some (option_copied o) ≡ is_some o

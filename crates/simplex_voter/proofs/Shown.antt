@@ -5,14 +5,18 @@ use Rattle.std.proofs.lemmas.Bool.{cases_lt, lt-ltb}
 use Rattle.std.proofs.lemmas.Bool.Decides.{nat_tests}
 use Rattle.std.specs.FinMap as map
 use Rattle.std.specs.FinMap.Entries.{find, put}
-use Rattle.simplex_round.specs.Round.{RoundFacts, leader_at}
+use Rattle.simplex_round.specs.Round.{RoundFacts, leader_at, with_nullification}
 use Rattle.simplex_voter.specs.Facts.{Facts, round_of, with_round}
 use Rattle.simplex_voter.specs.Leaders.{led}
 use Rattle.simplex_voter.specs.Entering.{entered, entered_round}
 use Rattle.simplex_voter.specs.Setup.{deadlines_at}
+use Rattle.simplex_voter.specs.Acceptance.{nullified_also, with_nullification_at}
+use Rattle.simplex_types.specs.ByTerm.{TermMap}
+use Rattle.std.specs.BTreeSet.{insert_key}
+use Rattle.simplex_types.specs.Certificates.{NullificationFacts}
 use Rattle.simplex_voter.specs.declared.voter.rounds.Deadlines.{Deadlines}
-use Rattle.simplex_voter.specs.Rounds.{Origin, origin_of, fresh_round, round_in, led_rounds, entered_rounds}
-use Rattle.simplex_voter.proofs.RoundsKept.{find_entries, put_entries}
+use Rattle.simplex_voter.specs.Rounds.{Origin, origin_of, fresh_round, round_in, led_rounds, entered_rounds, nullified_rounds}
+use Rattle.simplex_voter.proofs.RoundsKept.{find_entries, put_entries, keys-insert}
 
 -- a view that is not at or below another is above it
 pub not_le : (v w : ℕ) → false ≡ is_le (nat_cmp v w) → ltb w v ≡ true
@@ -43,6 +47,11 @@ module _ {K L D : Type 0} where
         ap (λ (n : map.FinMap nat_cmp (RoundFacts K D)). record x { rounds = map.entries n; current = v }) is
         ∙ rw (same, ← round_shown v) (ap (λ (y : Facts K L D). record y { current = v }) (put_shown v (entered_round x (round_of x v) now))))
 
+    pub nullification_shown : (new : map.FinMap nat_cmp (RoundFacts K D)) (v : ℕ) (c : NullificationFacts) → c.round.view ≡ v → new ≡ nullified_rounds (origin x) m v c → record x { rounds = map.entries new } ≡ with_nullification_at x c
+    nullification_shown new v c at is =
+        ap (λ (n : map.FinMap nat_cmp (RoundFacts K D)). record x { rounds = map.entries n }) (is ∙ ap (λ w. nullified_rounds (origin x) m w c) (sym at))
+        ∙ rw (← round_shown c.round.view) (put_shown c.round.view (with_nullification (round_of x c.round.view) c))
+
     pub led_shown : (new : map.FinMap nat_cmp (RoundFacts K D)) (v member : ℕ) → new ≡ led_rounds (origin x) m v member → record x { rounds = map.entries new } ≡ led x v member
     led_shown new v member is =
         let r = round_of x v in
@@ -51,3 +60,7 @@ module _ {K L D : Type 0} where
         by_leader : (b : Bool) (t : RoundFacts K D) → record x { rounds = map.entries (cond b m (map.insert m v t)) } ≡ cond b x (with_round x v t)
         by_leader true t = ap (λ es. record x { rounds = es }) (sym shown)
         by_leader false t = put_shown v t
+
+  pub nullified_shown : (x : Facts K L D) (m new : TermMap (Unit {0})) (v : ℕ) → x.nullified ≡ map.keys m.by_view → new ≡ record m { by_view = map.insert m.by_view v tt } → record x { nullified = map.keys new.by_view } ≡ nullified_also x v
+  nullified_shown x m new v shown is =
+      ap (λ ks. record x { nullified = ks }) (ap (λ (n : TermMap (Unit {0})). map.keys n.by_view) is ∙ keys-insert m.by_view v tt ∙ ap (λ ks. insert_key nat_cmp ks v) (sym shown))
