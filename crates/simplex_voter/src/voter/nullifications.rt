@@ -1,18 +1,74 @@
 //! Nullifications of views.
 
-ghost use Rattle.std.specs.Prelude.{◌≡◌, IfSome, IfOk, IfErr, OnOk, Err, None, IsTrue};
-ghost use Rattle.simplex_types.specs.Terms.{IsVotable};
+ghost use Rattle.std.specs.Prelude.{◌≡◌, IfSome, IfOk, IfErr, OnOk, Err, None, true, nat_lt};
+ghost use Rattle.simplex_types.specs.Terms.{IsVotable, next_term_start};
 ghost use Rattle.simplex_types.specs.Certificates.{nullification_facts};
 ghost use Rattle.simplex_types.specs.declared.types.fault.Fault.TheVariants.{OutOfMemory};
 
 use super::rounds::{Deadlines, keep_nullification};
-use super::state::State;
+use super::state::{LARGEST_VIEW, State};
 use super::views::note_view;
 use simplex_types::types::{CertificateScheme, Digest, Elector, Fault, Nullification, View, Viewable};
 
 impl<S: CertificateScheme, L: Elector<S>, D: Digest> State<S, L, D> {
-    ghost use Rattle.simplex_voter.specs.Setup.{HasSameSetup};
-    ghost use Rattle.simplex_voter.specs.Acceptance.{nullified_also, with_nullification_at};
+    ghost use Rattle.simplex_voter.specs.Setup.{HasSameSetup, deadlines_at};
+    ghost use Rattle.simplex_voter.specs.Refusals.{HasFailed};
+    ghost use Rattle.simplex_voter.specs.Acceptance.{takes_nullification, nullification_refusal, nullification_added, after_add_nullification, nullified_also, with_nullification_at};
+
+    /// Takes a nullification: the rest of its term is passed over, and the next term's start is entered where that is
+    /// ahead, and led by the elector's choice after this certificate. Answers whether it is the first of its view.
+    ///
+    /// It is of this epoch, and of a view that is kept. `ViewTooLarge` where its view is above 2^63 - 1, `TimeOverflow`
+    /// where a deadline of the view that would be entered passes 2^64 - 1 milliseconds.
+    pub fn add_nullification(&mut self, nullification: Nullification<S>, now: u64) -> Result<bool, Fault>
+        requires { takes_nullification self.old (nullification_facts S.certificate_bytes nullification) ≡ true }
+        ensures refused { IfSome (nullification_refusal self.old (nullification_facts S.certificate_bytes nullification) now) (λ fault. (result ≡ Err fault) × (self.new ≡ self.old)) }
+        ensures added { IfOk result (λ added. added ≡ nullification_added self.old (nullification_facts S.certificate_bytes nullification)) }
+        ensures after { OnOk result (self.new ≡ after_add_nullification L.elect self.old (nullification_facts S.certificate_bytes nullification) now) }
+        ensures out_of_memory { nullification_refusal self.old (nullification_facts S.certificate_bytes nullification) now ≡ None → IfErr result (λ fault. (fault ≡ OutOfMemory) × HasFailed self.old self.new) }
+    {
+        if self.is_failed() {
+            return Err(Fault::Failed);
+        }
+        let view = nullification.view();
+        if view.get() > LARGEST_VIEW {
+            return Err(Fault::ViewTooLarge);
+        }
+        let next = view.next_term_start(self.elector.terms().term_length);
+        let Some(deadlines) = self.deadlines_to(next, now) else {
+            return Err(Fault::TimeOverflow);
+        };
+        let added = self.nullification(view).is_none();
+        match self.accept_nullification(nullification, next, now, &deadlines) {
+            Ok(()) => Ok(added),
+            Err(fault) => {
+                self.fail();
+                Err(fault)
+            }
+        }
+    }
+
+    fn accept_nullification(
+        &mut self,
+        nullification: Nullification<S>,
+        next: View,
+        now: u64,
+        deadlines: &Deadlines,
+    ) -> Result<(), Fault>
+        requires votable { IsVotable nullification.round.view }
+        requires next { next ≡ next_term_start self.old.terms.term_length nullification.round.view }
+        requires deadlines { nat_lt self.old.current next ≡ true → deadlines.now ≡ deadlines_at self.old now }
+        ensures accepted { OnOk result (self.new ≡ after_add_nullification L.elect self.old (nullification_facts S.certificate_bytes nullification) now) }
+        ensures refused { IfErr result (λ fault. fault ≡ OutOfMemory) }
+        ensures setup { HasSameSetup self.old self.new }
+    {
+        let view = nullification.view();
+        self.note_moment(now);
+        self.enter(next, now, deadlines)?;
+        self.elect(next, Some(&nullification.certificate))?;
+        self.keep_nullification(nullification)?;
+        self.nullify_view(view)
+    }
 
     /// The nullification's view and those behind it in its term are nullified.
     fn nullify_view(&mut self, view: View) -> Result<(), Fault>

@@ -21,6 +21,17 @@ pub struct Deadlines {
     pub stall: Option<u64>,
 }
 
+impl Deadlines {
+    /// No moment: for a view that is not entered.
+    pub fn none() -> Deadlines {
+        Deadlines {
+            leader: 0,
+            certification: 0,
+            stall: None,
+        }
+    }
+}
+
 /// Tracks a view from now on.
 pub fn track<S: CertificateScheme, D: Digest>(
     alloc: Global,

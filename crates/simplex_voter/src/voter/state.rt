@@ -1,8 +1,8 @@
 //! A member's state, its setup and its plain getters.
 
-ghost use Rattle.std.specs.Prelude.{◌≡◌, ◌<◌, ◌≤◌, ◌↔◌, IsTrue, IsNone, IfSome, IfErr, OnOk, Some, None, true, option_map, length};
+ghost use Rattle.std.specs.Prelude.{◌≡◌, ◌<◌, ◌≤◌, ◌↔◌, IsTrue, IsNone, IfSome, IfErr, OnOk, Some, None, true, nat_lt, option_and_then, option_map, length};
 ghost use Rattle.std.specs.Option.{option_copied};
-ghost use Rattle.std.specs.FinMap as map;
+ghost use Rattle.simplex_types.specs.Certificates.{nullification_facts};
 ghost use Rattle.simplex_types.specs.declared.types.fault.Fault.TheVariants.{OutOfMemory};
 
 use super::rounds::{Deadlines, enter, lead};
@@ -10,10 +10,13 @@ use simplex_round::round::Round;
 use simplex_types::sorted::{ByTerm, Tracked};
 use simplex_types::types;
 use simplex_types::types::{
-    CertificateScheme, Digest, Elector, Epoch, Fault, Participant, View, ViewDelta,
+    CertificateScheme, Digest, Elector, Epoch, Fault, Nullification, Participant, View, ViewDelta,
 };
 use std::alloc::Global;
 use std::marker::Model;
+
+/// No certificate, proposal or artifact may name a view above this one.
+pub(super) const LARGEST_VIEW: u64 = (1 << 63) - 1;
 
 /// How a state is set up. Times are milliseconds.
 #[derive(Drop)]
@@ -78,9 +81,10 @@ impl<S: CertificateScheme, L: Elector<S>, D: Digest> State<S, L, D> {
     ghost use Rattle.simplex_voter.specs.Facts.{Facts, round_number};
     ghost use Rattle.simplex_voter.specs.StateView.{new_facts};
     ghost use Rattle.simplex_voter.specs.Setup.{HasSameSetup, deadlines_at};
-    ghost use Rattle.simplex_voter.specs.Refusals.{has_late_deadline};
+    ghost use Rattle.simplex_voter.specs.Refusals.{has_late_deadline, enters_late};
     ghost use Rattle.simplex_voter.specs.Entering.{at_moment, entered};
     ghost use Rattle.simplex_voter.specs.Leaders.{led, elected};
+    ghost use Rattle.simplex_voter.specs.Serving.{nullification_of};
 
     /// A state that has no floor yet: nothing is known, and no view is entered.
     pub fn new(alloc: Global, config: Config<S, L>) -> State<S, L, D>
@@ -138,6 +142,13 @@ impl<S: CertificateScheme, L: Elector<S>, D: Digest> State<S, L, D> {
         self.failed
     }
 
+    /// The nullification of a tracked view, if it is there.
+    pub fn nullification(&self, view: View) -> Option<&Nullification<S>>
+        ensures { option_map (nullification_facts S.certificate_bytes) (option_copied result) ≡ nullification_of self.now view }
+    {
+        self.rounds.get(view)?.nullification()
+    }
+
     /// The deadlines of a view that is entered at a moment; none where one passes 2^64 - 1.
     pub(super) fn deadlines(&self, now: u64) -> Option<Deadlines>
         ensures late { IsNone result ↔ IsTrue (has_late_deadline self.now now) }
@@ -156,9 +167,20 @@ impl<S: CertificateScheme, L: Elector<S>, D: Digest> State<S, L, D> {
         })
     }
 
+    /// The deadlines of a view that may be entered at a moment; none where it is ahead and one passes 2^64 - 1.
+    pub(super) fn deadlines_to(&self, view: View, now: u64) -> Option<Deadlines>
+        ensures late { IsNone result ↔ IsTrue (enters_late self.now view now) }
+        ensures moments { IfSome result (λ deadlines. nat_lt self.now.current view ≡ true → deadlines ≡ deadlines_at self.now now) }
+    {
+        if view <= self.current {
+            return Some(Deadlines::none());
+        }
+        self.deadlines(now)
+    }
+
     /// Enters a view that is above the current one.
     pub(super) fn enter(&mut self, view: View, now: u64, deadlines: &Deadlines) -> Result<(), Fault>
-        requires { deadlines.now ≡ deadlines_at self.old now }
+        requires { nat_lt self.old.current view ≡ true → deadlines.now ≡ deadlines_at self.old now }
         ensures entered { OnOk result (self.new ≡ entered self.old view now) }
         ensures refused { IfErr result (λ fault. fault ≡ OutOfMemory) }
         ensures setup { HasSameSetup self.old self.new }
