@@ -78,7 +78,7 @@ impl<S: CertificateScheme, L: Elector<S>, D: Digest> Model for State<S, L, D> {
 }
 
 impl<S: CertificateScheme, L: Elector<S>, D: Digest> State<S, L, D> {
-    ghost use Rattle.simplex_voter.specs.Facts.{Facts, round_number};
+    ghost use Rattle.simplex_voter.specs.Facts.{Facts, round_at, round_number};
     ghost use Rattle.simplex_voter.specs.StateView.{new_facts};
     ghost use Rattle.simplex_voter.specs.Setup.{HasSameSetup, deadlines_at};
     ghost use Rattle.simplex_voter.specs.Refusals.{has_late_deadline, enters_late};
@@ -146,7 +146,14 @@ impl<S: CertificateScheme, L: Elector<S>, D: Digest> State<S, L, D> {
     pub fn nullification(&self, view: View) -> Option<&Nullification<S>>
         ensures { option_map (nullification_facts S.certificate_bytes) (option_copied result) ≡ nullification_of self.now view }
     {
-        self.rounds.get(view)?.nullification()
+        self.round_at(view)?.nullification()
+    }
+
+    /// The round of a tracked view.
+    pub(super) fn round_at(&self, view: View) -> Option<&Round<S, D>>
+        ensures { option_copied result ≡ round_at self.now view }
+    {
+        self.rounds.get(view)
     }
 
     /// The deadlines of a view that is entered at a moment; none where one passes 2^64 - 1.
