@@ -15,3 +15,4 @@ pub mod Proposing
 pub mod Verifying
 pub mod Serving
 pub mod Replay
+pub mod Laws
