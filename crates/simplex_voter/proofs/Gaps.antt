@@ -2,13 +2,15 @@
 use Rattle.std.proofs.Common.{◌≡◌, ◌⊎◌, ℕ, zero, suc, ◌+◌, ◌-◌, ◌<◌, ◌≤◌, Bool, true, false, ◌&&◌, ◌||◌, not, ltb, leb, eqb, List, [], ◌∷◌, Option, Some, None, filter, refl, ap, sym, subst, ◌∙◌, inl, inr, arith, eq-eqb}
 use Rattle.std.specs.Prelude.{map, min, unwrap_or, MatchOption, is_some}
 use Rattle.std.specs.List.{list_any}
-use Rattle.std.specs.Ordering.{nat_cmp}
+use Rattle.std.specs.Ordering.{nat_cmp, match_ordering}
+use Rattle.std.specs.declared.cmp.Ordering.TheVariants.{Less, Equal, Greater}
 use Rattle.std.specs.BTreeSet.{insert_key}
 use Rattle.std.proofs.lemmas.Bool.{cases_lt, eqb-true, false≢true}
 use Rattle.std.proofs.lemmas.Bool.Decides.{nat_tests}
 use Rattle.simplex_types.specs.Terms.{term_start, next_term_start, covers}
 use Rattle.simplex_types.proofs.Gaps.{same_start, next_above}
 use Rattle.simplex_voter.specs.Facts.{Facts}
+use Rattle.simplex_voter.specs.Acceptance.{nullified_also}
 use Rattle.simplex_voter.specs.Gaps.{is_covered, IsGapless, IsFirstGap, lower_of, lowest, gap_starts, is_gap, first_gap}
 
 pub cases_bool : (b : Bool) → (b ≡ true) ⊎ (b ≡ false)
@@ -193,3 +195,26 @@ module _ {K L D : Type 0} (x : Facts K L D) where
       | inr not_past ↦ let same : v ≡ u = omega arith in subst (λ n. is_covered x n ≡ true) same here
     ]
   ]
+
+  -- no view lies between a view and the next one
+  pub no_room : (p v : ℕ) → p + 1 ≡ v → lowest (filter (is_gap x p v) (gap_starts x p)) ≡ None
+  no_room p v before = elim (cases_option (lowest (filter (is_gap x p v) (gap_starts x p)))) [
+    | inl none ↦ none
+    | inr found ↦
+        let parts = gap_parts p v found.0 (lowest_passes (is_gap x p v) (gap_starts x p) found.0 found.1) in
+        absurd (omega arith)
+  ]
+
+any-insert_key : (test : ℕ → Bool) (us : List ℕ) (u : ℕ) → list_any test us ≡ true → list_any test (insert_key nat_cmp us u) ≡ true
+any-insert_key test [] u h = absurd (false≢true h)
+any-insert_key test (v ∷ us) u h = elim (nat_cmp u v) as (λ o. list_any test (match_ordering o (u ∷ v ∷ us) (v ∷ us) (v ∷ insert_key nat_cmp us u)) ≡ true) [
+  | Less ↦ or_right (test u) _ h
+  | Equal ↦ h
+  | Greater ↦ elim (cases_bool (test v)) [
+    | inl here ↦ rw here refl
+    | inr other ↦ or_right (test v) _ (any-insert_key test us u (rw other at h))
+  ]
+]
+
+pub covering_stays : {K L D : Type 0} (x : Facts K L D) (u w : ℕ) → is_covered x w ≡ true → is_covered (nullified_also x u) w ≡ true
+covering_stays x u w h = any-insert_key (λ n. covers x.terms.term_length n w) x.nullified u h

@@ -1,2 +1,4 @@
 pub mod Examples
 pub mod Gaps
+pub mod Payloads
+pub mod Parents
