@@ -1,12 +1,14 @@
 -- The facts' lists are what the sorted containers are seen as.
 use Rattle.std.proofs.Common.{◌≡◌, ℕ, List, [], ◌∷◌, Option, refl, ap, ◌∙◌}
-use Rattle.std.specs.Prelude.{map}
+use Rattle.std.specs.Prelude.{map, filter, nat_le}
 use Rattle.std.specs.Cmp.{nat_cmp_total}
 use Rattle.std.specs.declared.cmp.Ordering.TheVariants.{Less, Equal, Greater}
 use Rattle.std.specs.Ordering.{nat_cmp, match_ordering}
 use Rattle.std.specs.FinMap as fin
 use Rattle.std.specs.FinMap.Entries.{find, put, by_order}
 use Rattle.std.specs.BTreeSet.{insert_key}
+use Rattle.simplex_types.specs.Tracked.{at_or_above}
+use Rattle.simplex_types.proofs.Maps.{entries-retain_keys}
 
 module _ {R : Type 0} where
   keys-put : (es : List (ℕ × R)) (v : ℕ) (r : R) → map (λ e. e.0) (put nat_cmp v r es) ≡ insert_key nat_cmp (map (λ e. e.0) es) v
@@ -22,3 +24,6 @@ module _ {R : Type 0} where
 
   pub keys-insert : (m : fin.FinMap nat_cmp R) (v : ℕ) (r : R) → fin.keys (fin.insert m v r) ≡ insert_key nat_cmp (fin.keys m) v
   keys-insert m v r = ap (λ es. map (λ e. e.0) es) (entries-insert m v r) ∙ keys-put (fin.entries m) v r
+
+  pub entries-kept : (m : fin.FinMap nat_cmp R) (v : ℕ) → fin.entries (at_or_above m v) ≡ filter (λ e. nat_le v e.0) (fin.entries m)
+  entries-kept m v = entries-retain_keys m (λ key. nat_le v key)

@@ -5,3 +5,4 @@ pub mod Parents
 pub mod Rules
 pub mod Windows
 pub mod Containers
+pub mod Opened

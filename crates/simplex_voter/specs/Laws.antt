@@ -1,5 +1,5 @@
 -- The laws of the definitions, in the subject's own words. K are the members' keys, L the elector, D the payloads.
-use Rattle.std.specs.Prelude.{◌≡◌, ℕ, ◌<◌, ◌≤◌, ◌+◌, ◌-◌, ◌↔◌, ◌⊎◌, Bool, true, false, Option, Some, is_some, IsTrue, MatchOption}
+use Rattle.std.specs.Prelude.{◌≡◌, ℕ, ◌<◌, ◌≤◌, ◌+◌, ◌-◌, ◌↔◌, ◌⊎◌, ◌==◌, Bool, true, false, nat_le, Option, Some, is_some, MatchOption, filter}
 use Rattle.std.specs.List.{list_any}
 use Rattle.std.specs.Ordering.{nat_cmp}
 use Rattle.std.specs.FinMap as fin
@@ -103,15 +103,23 @@ pub record WindowsAgree (K L D : Type 0) : Type 0 where
   pub certificate : (x : Facts K L D) (v : ℕ) → (admits_certificate x v ≡ true) ↔ AdmitsCertificate (viewport x) v
   pub vote : (x : Facts K L D) (v : ℕ) → (admits_vote x v ≡ true) ↔ AdmitsVote (viewport x) v
 
--- a view's window reaches down to v
+-- a certificate of v lies in the window of w: not below its floor
 pub record IsOpenedBy {K L D : Type 0} (x : Facts K L D) (v w low : ℕ) : Type 0 where
-  pub above : v < w
   pub floor : issuance_floor x.terms.term_length x.terms.optimistic_views w ≡ Some low
   pub reached : low ≤ v
+
+-- the views that take their leader from below when v is certified: v lies in the window of each view up to them
+abbrev pub OpenedViewsAre : (K L D : Type 0) → Type 0
+OpenedViewsAre K L D =
+    (x : Facts K L D) (v w : ℕ)
+    → 0 < v
+    → 0 < x.terms.term_length
+    → (list_any (λ u. u == w) (opened_views x v) ≡ true) ↔ ((v < w) × ((u : ℕ) → v < u → u ≤ w → (low : ℕ) × IsOpenedBy x v u low))
 
 -- the facts' lists are what the sorted containers are seen as
 
 pub record ListsAreContainers (R : Type 0) : Type 0 where
   pub looked_up : (m : fin.FinMap nat_cmp R) (v : ℕ) → fin.get m v ≡ find nat_cmp v (fin.entries m)
   pub put_in : (m : fin.FinMap nat_cmp R) (v : ℕ) (r : R) → fin.entries (fin.insert m v r) ≡ put nat_cmp v r (fin.entries m)
+  pub kept : (m : fin.FinMap nat_cmp R) (v : ℕ) → fin.entries (at_or_above m v) ≡ filter (λ e. nat_le v e.0) (fin.entries m)
   pub noted : (m : fin.FinMap nat_cmp R) (v : ℕ) (r : R) → fin.keys (fin.insert m v r) ≡ insert_key nat_cmp (fin.keys m) v

@@ -1,4 +1,3 @@
-//! A member's state.
+//! A member's votes: the rules that say when it signs, and what each call of its state changes.
 
-/// Trial.
-pub fn trial() {}
+pub mod laws;
