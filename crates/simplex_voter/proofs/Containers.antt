@@ -1,11 +1,11 @@
 -- The facts' lists are what the sorted containers are seen as.
-use Rattle.std.proofs.Common.{◌≡◌, ℕ, List, [], ◌∷◌, Option, refl, ap, ◌∙◌}
+use Rattle.std.proofs.Common.{◌≡◌, ℕ, List, [], ◌∷◌, refl, ap, ◌∙◌}
 use Rattle.std.specs.Prelude.{map, filter, nat_le}
 use Rattle.std.specs.Cmp.{nat_cmp_total}
 use Rattle.std.specs.declared.cmp.Ordering.TheVariants.{Less, Equal, Greater}
 use Rattle.std.specs.Ordering.{nat_cmp, match_ordering}
 use Rattle.std.specs.FinMap as fin
-use Rattle.std.specs.FinMap.Entries.{find, put, by_order}
+use Rattle.std.specs.FinMap.Entries.{put, by_order}
 use Rattle.std.specs.BTreeSet.{insert_key}
 use Rattle.simplex_types.specs.Tracked.{at_or_above}
 use Rattle.simplex_types.proofs.Maps.{entries-retain_keys}

@@ -1,7 +1,7 @@
 -- Which windows a certificate opens.
-use Rattle.std.proofs.Common.{◌≡◌, ◌⊎◌, ℕ, zero, suc, ◌+◌, ◌-◌, ◌*◌, ◌/◌, ◌<◌, ◌≤◌, ◌≢◌, Bool, true, false, ◌&&◌, ◌||◌, cond, eqb, List, [], ◌∷◌, Option, Some, None, refl, ap, sym, subst, ◌∙◌, inl, inr, arith, eq-eqb}
-use Rattle.std.specs.Prelude.{min, max, is_some, unwrap_or, ◌==◌, ◌↔◌}
-use Rattle.std.specs.List.{list_any, range_with_len}
+use Rattle.std.proofs.Common.{◌≡◌, ℕ, zero, suc, ◌+◌, ◌-◌, ◌*◌, ◌/◌, ◌<◌, ◌≤◌, ◌≢◌, Bool, true, false, ◌||◌, cond, eqb, Some, None, refl, ap, sym, ◌∙◌, inl, inr, arith, eq-eqb}
+use Rattle.std.specs.Prelude.{min, max, is_some, unwrap_or, ◌==◌}
+use Rattle.std.specs.List.{range_with_len}
 use Rattle.std.proofs.lemmas.Bool.{cases_lt, eqb-true, false≢true, ne_eqb}
 use Rattle.std.proofs.Math.Nat.{div-mul-le_self, le-div_iff_mul-le, mul-div_cancel, mul-le-mul_right}
 use Rattle.simplex_types.specs.Terms.{term_start, term_end, next_term_start}
@@ -85,11 +85,13 @@ module _ {K L D : Type 0} (x : Facts K L D) (v : ℕ) (one : 0 < v) (some : 0 < 
   opened-each : (u : ℕ) → optimistic ≢ 0 → v < u → u ≤ term_end length v → u ≤ v + optimistic + 1 → (low : ℕ) × IsOpenedBy x v u low
   opened-each u ahead above inside near =
       let start : term_start length u ≡ term_start length v = same_start length v u one (omega arith) (omega arith) in
-      let begins : term_start length v ≤ v = start_below length some v one in
-      (max (term_start length u - 1) (u - 1 - optimistic), record {
-        floor = some_floor length optimistic u (λ e. absurd (omega arith)) (λ e. absurd (omega arith)) ahead;
-        reached = omega arith;
-      })
+      let begins : term_start length v ≤ v = start_below length some v one in (
+        max (term_start length u - 1) (u - 1 - optimistic),
+        record {
+          floor = some_floor length optimistic u (λ e. absurd (omega arith)) (λ e. absurd (omega arith)) ahead;
+          reached = omega arith;
+        },
+      )
 
   pub opened_reached : (w : ℕ) → IsIn w (opened_views x v) → (v < w) × ((u : ℕ) → v < u → u ≤ w → (low : ℕ) × IsOpenedBy x v u low)
   opened_reached w is =

@@ -1,24 +1,22 @@
 -- Which parents are allowed or preferred, and how the rules of votes come apart.
-use Rattle.std.proofs.Common.{◌≡◌, ◌⊎◌, ℕ, zero, suc, ◌+◌, ◌-◌, ◌<◌, ◌≤◌, Bool, true, false, ◌&&◌, ◌||◌, not, ltb, leb, eqb, cond, List, [], ◌∷◌, Option, Some, None, filter, refl, ap, sym, subst, ◌∙◌, inl, inr, arith, eq-eqb, T}
-use Rattle.std.specs.Prelude.{is_some, is_none, option_and_then, option_map, unwrap_or, ◌↔◌, ◌==◌}
+use Rattle.std.proofs.Common.{◌≡◌, ◌⊎◌, ℕ, ◌+◌, ◌-◌, ◌<◌, ◌≤◌, Bool, true, false, ◌&&◌, ◌||◌, ltb, leb, eqb, cond, List, [], ◌∷◌, Option, Some, None, refl, ap, sym, subst, ◌∙◌, inl, inr, arith, eq-eqb, T}
+use Rattle.std.specs.Prelude.{is_some, is_none, option_and_then, unwrap_or, ◌==◌}
 use Rattle.std.specs.List.{filter_map, last_or, cons_option}
 use Rattle.std.specs.Ordering.{nat_cmp}
-use Rattle.std.specs.FinMap.Entries.{find, is_sorted}
+use Rattle.std.specs.FinMap.Entries.{find}
 use Rattle.std.proofs.lemmas.Bool.{cases_lt, eqb-true, false≢true, lt-ltb, le-leb}
 use Rattle.std.proofs.lemmas.Bool.Decides.{nat_tests}
 use Rattle.simplex_types.proofs.Maps.{is_eq-nat_cmp}
 use Rattle.simplex_types.proofs.Entries.{AllAbove, Rises, rises}
-use Rattle.simplex_types.specs.declared.types.messages.Proposal.{Proposal}
-use Rattle.simplex_types.specs.Terms.{term_start}
 use Rattle.simplex_types.specs.Window.{issuance_floor}
 use Rattle.simplex_round.specs.Round.{RoundFacts}
-use Rattle.simplex_voter.specs.Facts.{Facts, Elect, round_at}
+use Rattle.simplex_voter.specs.Facts.{Facts, Elect}
 use Rattle.simplex_voter.specs.Windows.{is_start, in_window, is_open}
-use Rattle.simplex_voter.specs.Gaps.{is_gapless, first_gap, lowest, gap_starts, is_gap}
+use Rattle.simplex_voter.specs.Gaps.{is_gapless, first_gap}
 use Rattle.simplex_voter.specs.Payloads.{explicit_payload, optimistic_payload, is_handoff_parent}
-use Rattle.simplex_voter.specs.Parents.{at_view, spans, explicit_below, highest_explicit, payload_for, parent_payload, handoff, preferred_at_start, preferred_parent, IsAllowedParent}
+use Rattle.simplex_voter.specs.Parents.{at_view, spans, explicit_below, highest_explicit, payload_for, parent_payload, handoff, preferred_parent, IsAllowedParent}
 use Rattle.simplex_voter.specs.Laws.{StandsBelow, IsHandedOff, KnowsFinalized}
-use Rattle.simplex_voter.proofs.Gaps.{cases_bool, cases_option, and_parts, and_both, or_right, no_room}
+use Rattle.simplex_voter.proofs.Gaps.{cases_bool, and_parts, and_both, or_right, no_room}
 
 true_or : (b c : Bool) → (b || c) ≡ true → c ≡ false → b ≡ true
 true_or true c h n = refl
@@ -54,8 +52,8 @@ module _ {K L D : Type 0} (x : Facts K L D) where
   unfolding in_window
   start_in_no_window v start = ap (is_open x v) (no_floor v start)
     where
-    no_floor : (v : ℕ) → is_start x v ≡ true → issuance_floor x.terms.term_length x.terms.optimistic_views v ≡ None
-    no_floor v start = rw (start, or_middle (v == 0) (x.terms.optimistic_views == 0)) refl
+      no_floor : (v : ℕ) → is_start x v ≡ true → issuance_floor x.terms.term_length x.terms.optimistic_views v ≡ None
+      no_floor v start = rw (start, or_middle (v == 0) (x.terms.optimistic_views == 0)) refl
 
 module _ {K L D : Type 0} (same : D → D → Bool) (elect : Elect L) (x : Facts K L D) where
   pub allowed_stands : (v p : ℕ) (d : D) → IsAllowedParent same elect x v p d → StandsBelow x v p × (payload_for same elect x v p ≡ Some d)
@@ -63,13 +61,15 @@ module _ {K L D : Type 0} (same : D → D → Bool) (elect : Elect L) (x : Facts
   allowed_stands v p d allowed =
       let found = guarded_some (spans x v p && is_gapless x p v) _ d allowed in
       let parts = and_parts (spans x v p) _ found.0 in
-      let span = spans_parts x v p parts.0 in
-      (record {
-        at_least_finalized = span.1;
-        below = span.0;
-        just_below = λ inside. eqb-true (p + 1) v (true_or _ _ span.2 inside);
-        gapless = parts.1;
-      }, found.1)
+      let span = spans_parts x v p parts.0 in (
+        record {
+          at_least_finalized = span.1;
+          below = span.0;
+          just_below = λ inside. eqb-true (p + 1) v (true_or _ _ span.2 inside);
+          gapless = parts.1;
+        },
+        found.1,
+      )
 
   one_step : (v p : ℕ) → (is_start x v ≡ false → p + 1 ≡ v) → (p + 1 == v || is_start x v) ≡ true
   one_step v p inside = elim (cases_bool (is_start x v)) [
@@ -117,10 +117,10 @@ module _ {K L D : Type 0} (same : D → D → Bool) (elect : Elect L) (x : Facts
   last_above v m (a ∷ es) start above from e is = elim (explicit_below x v a) as (λ o. explicit_below x v a ≡ o → last_or start (cons_option o (filter_map (explicit_below x v) es)) ≡ Some e → m ≤ e.0) [
     | None ↦ λ none is. last_above v m es start above.1 from e is
     | Some b ↦ λ found is. last_above v m es (Some b) above.1 (λ c as_c.
-      let higher : m < a.0 = above.0 in
-      let at : b.0 ≡ a.0 = (explicit_entry v a b found).0 in
-      let same_view : b.0 ≡ c.0 = ap (λ (f : ℕ × D). f.0) (same_some b c as_c) in
-      omega arith) e is
+        let higher : m < a.0 = above.0 in
+        let at : b.0 ≡ a.0 = (explicit_entry v a b found).0 in
+        let same_view : b.0 ≡ c.0 = ap (λ (f : ℕ × D). f.0) (same_some b c as_c) in
+        omega arith) e is
   ] refl is
 
   last_not_below : (v m : ℕ) (es : List (ℕ × RoundFacts K D)) (start : Option (ℕ × D)) → Rises es → is_some (find nat_cmp m es) ≡ true → m < v → (d : D) → explicit_payload x m ≡ Some d → (e : ℕ × D) → last_or start (filter_map (explicit_below x v) es) ≡ Some e → m ≤ e.0

@@ -1,17 +1,15 @@
 -- The optimistic payload meets its equation, however many steps it was computed with.
-use Rattle.std.proofs.Common.{◌≡◌, ◌⊎◌, ℕ, zero, suc, ◌+◌, ◌-◌, ◌<◌, ◌≤◌, Bool, true, false, ◌&&◌, ◌||◌, not, ltb, leb, eqb, cond, List, [], ◌∷◌, Option, Some, None, filter, refl, ap, sym, subst, ◌∙◌, inl, inr, arith, eq-eqb, length}
-use Rattle.std.specs.Prelude.{is_some, option_and_then, map}
-use Rattle.std.specs.Ordering.{nat_cmp, eq_by_cmp}
+use Rattle.std.proofs.Common.{◌≡◌, ℕ, zero, suc, ◌<◌, ◌≤◌, Bool, true, false, ◌&&◌, ltb, leb, eqb, cond, List, [], ◌∷◌, Option, Some, None, refl, ap, ◌∙◌, inl, inr, arith, length}
+use Rattle.std.specs.Prelude.{is_some, option_and_then}
+use Rattle.std.specs.Ordering.{nat_cmp}
 use Rattle.std.specs.FinMap.Entries.{find}
-use Rattle.std.proofs.lemmas.Bool.{cases_lt, eqb-true, false≢true, lt-ltb, le-leb}
+use Rattle.std.proofs.lemmas.Bool.{cases_lt, eqb-true, false≢true, le-leb}
 use Rattle.std.proofs.lemmas.Bool.Decides.{nat_tests}
 use Rattle.simplex_types.proofs.Maps.{is_eq-nat_cmp}
 use Rattle.simplex_types.specs.declared.types.messages.Proposal.{Proposal}
 use Rattle.simplex_round.specs.Round.{RoundFacts}
 use Rattle.simplex_voter.specs.Facts.{Facts, Elect, round_at}
-use Rattle.simplex_voter.specs.Windows.{is_notarized}
-use Rattle.simplex_voter.specs.Gaps.{is_gapless}
-use Rattle.simplex_voter.specs.Payloads.{follows, is_bound_to, voted_payload, served_payload, payload_by, payload_within, optimistic_payload, serves}
+use Rattle.simplex_voter.specs.Payloads.{follows, is_bound_to, voted_payload, served_payload, payload_by, payload_within, optimistic_payload}
 use Rattle.simplex_voter.proofs.Gaps.{cases_bool, and_parts}
 
 -- how many entries stand at or below a view
@@ -98,17 +96,17 @@ module _ {K L D : Type 0} (same : D → D → Bool) (elect : Elect L) (x : Facts
   by_same : (f g : ℕ → Option D) (v : ℕ) → ((p : ℕ) → p < v → is_some (round_at x v) ≡ true → f p ≡ g p) → payload_by same elect x f v ≡ payload_by same elect x g v
   by_same f g v alike =
       let served : option_and_then (served_payload same elect x f v) (round_at x v) ≡ option_and_then (served_payload same elect x g v) (round_at x v) =
-        each_same _ _ (round_at x v) (λ r is. served_same f g v r (λ p low. alike p low (ap is_some is))) in
+      each_same _ _ (round_at x v) (λ r is. served_same f g v r (λ p low. alike p low (ap is_some is))) in
       rw served refl
 
   -- as many steps as entries stand at or below the view are enough
   enough : (m n v : ℕ) → rank x.rounds v ≤ m → rank x.rounds v ≤ n → payload_within same elect x (suc m) v ≡ payload_within same elect x (suc n) v
   enough zero n v in_m in_n = by_same (payload_within same elect x zero) (payload_within same elect x n) v (λ p low tracked.
-    let fewer = rank-below x.rounds p v low tracked in absurd (omega arith))
+      let fewer = rank-below x.rounds p v low tracked in absurd (omega arith))
   enough (suc m) zero v in_m in_n = by_same (payload_within same elect x (suc m)) (payload_within same elect x zero) v (λ p low tracked.
-    let fewer = rank-below x.rounds p v low tracked in absurd (omega arith))
+      let fewer = rank-below x.rounds p v low tracked in absurd (omega arith))
   enough (suc m) (suc n) v in_m in_n = by_same (payload_within same elect x (suc m)) (payload_within same elect x (suc n)) v (λ p low tracked.
-    let fewer = rank-below x.rounds p v low tracked in enough m n p (omega arith) (omega arith))
+      let fewer = rank-below x.rounds p v low tracked in enough m n p (omega arith) (omega arith))
 
   one_less : (n : ℕ) → 0 < n → (m : ℕ) × (n ≡ suc m)
   one_less zero some = absurd (omega arith)
@@ -118,7 +116,7 @@ module _ {K L D : Type 0} (same : D → D → Bool) (elect : Elect L) (x : Facts
   pub optimistic_payload-is : (v : ℕ) → optimistic_payload same elect x v ≡ payload_by same elect x (optimistic_payload same elect x) v
   unfolding optimistic_payload
   optimistic_payload-is v = by_same (payload_within same elect x (length x.rounds)) (optimistic_payload same elect x) v (λ p low tracked.
-    let fewer = rank-below x.rounds p v low tracked in
-    let all = rank-le x.rounds v in
-    let less = one_less (length x.rounds) (omega arith) in
-    ap (λ n. payload_within same elect x n p) less.1 ∙ enough less.0 (length x.rounds) p (omega arith) (omega arith))
+      let fewer = rank-below x.rounds p v low tracked in
+      let all = rank-le x.rounds v in
+      let less = one_less (length x.rounds) (omega arith) in
+      ap (λ n. payload_within same elect x n p) less.1 ∙ enough less.0 (length x.rounds) p (omega arith) (omega arith))

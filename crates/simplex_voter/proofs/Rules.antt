@@ -1,17 +1,15 @@
 -- How the rules of votes come apart into their parts, and back.
-use Rattle.std.proofs.Common.{◌≡◌, ◌⊎◌, ℕ, ◌+◌, ◌-◌, ◌<◌, ◌≤◌, Bool, true, false, ◌&&◌, ◌||◌, not, ltb, leb, eqb, cond, Option, Some, None, refl, ap, sym, ◌∙◌, inl, inr, arith, eq-eqb}
-use Rattle.std.specs.Prelude.{is_some, is_none, unwrap_or, ◌==◌}
+use Rattle.std.proofs.Common.{◌≡◌, ℕ, ◌+◌, ◌-◌, ◌<◌, Bool, true, false, ◌&&◌, ◌||◌, not, ltb, cond, Some, None, refl, ap, sym, inl, inr, arith, eq-eqb}
+use Rattle.std.specs.Prelude.{is_some, unwrap_or, ◌==◌}
 use Rattle.std.proofs.lemmas.Bool.{eqb-true, false≢true, lt-ltb}
 use Rattle.std.proofs.lemmas.Bool.Decides.{nat_tests}
 use Rattle.simplex_types.specs.declared.types.messages.Proposal.{Proposal}
-use Rattle.simplex_round.specs.Round.{RoundFacts, is_pending, is_nullify, is_finalize, is_certified, is_verified_slot, can_notarize, can_finalize}
+use Rattle.simplex_round.specs.Round.{is_pending, is_nullify, can_notarize}
 use Rattle.simplex_round.specs.Slot.{is_unequivocated}
 use Rattle.simplex_voter.specs.Facts.{Facts, Elect, round_of}
 use Rattle.simplex_voter.specs.Windows.{is_start, is_admitted, in_window}
-use Rattle.simplex_voter.specs.Payloads.{optimistic_payload, is_elected_early}
-use Rattle.simplex_voter.specs.Parents.{binding_matches}
-use Rattle.simplex_voter.specs.Rules.{may_notarize, may_nullify, may_finalize, is_gated, has_required_parent, was_handed_over, required_parent, has_ancestry, NotarizeRule, NullifyRule, FinalizeRule}
-use Rattle.simplex_voter.proofs.Gaps.{cases_bool, and_parts, and_both, or_right, not_true}
+use Rattle.simplex_voter.specs.Rules.{may_notarize, may_nullify, may_finalize, is_gated, has_required_parent, required_parent, has_ancestry, NotarizeRule, NullifyRule, FinalizeRule}
+use Rattle.simplex_voter.proofs.Gaps.{cases_bool, and_parts, and_both, not_true}
 
 not_false : (b : Bool) → b ≡ false → not b ≡ true
 not_false true h = absurd (false≢true (sym h))

@@ -1,5 +1,5 @@
 -- The tests of the windows are those of the views.
-use Rattle.std.proofs.Common.{◌≡◌, ◌⊎◌, ℕ, ◌+◌, ◌-◌, ◌<◌, ◌≤◌, Bool, true, false, ◌&&◌, ◌||◌, not, ltb, leb, eqb, refl, inl, inr, arith}
+use Rattle.std.proofs.Common.{◌≡◌, ◌⊎◌, ℕ, ◌-◌, ◌<◌, ◌≤◌, true, ◌&&◌, ◌||◌, ltb, leb, eqb, arith}
 use Rattle.std.specs.Prelude.{◌↔◌, max}
 use Rattle.std.proofs.lemmas.Bool.Decides.{nat_tests}
 use Rattle.simplex_types.specs.Terms.{term_end, next_term_start}
@@ -16,9 +16,10 @@ outbound_to : (last next optimistic most current view : ℕ) → ((1 ≤ view) �
 outbound_to last next optimistic most current view h = grind (arith, nat_tests)
 
 pub outbound_agrees : (length optimistic current view : ℕ) → (admits_outbound length optimistic current view ≡ true) ↔ AdmitsOutbound length optimistic current view
-outbound_agrees length optimistic current view =
-    (outbound_by (term_end length current) (next_term_start length current) optimistic (max 1 optimistic) current view,
-    outbound_to (term_end length current) (next_term_start length current) optimistic (max 1 optimistic) current view)
+outbound_agrees length optimistic current view = (
+  outbound_by (term_end length current) (next_term_start length current) optimistic (max 1 optimistic) current view,
+  outbound_to (term_end length current) (next_term_start length current) optimistic (max 1 optimistic) current view,
+)
 
 certificate_by : (low view : ℕ) → (leb 1 view && leb low view) ≡ true → (1 ≤ view) × (low ≤ view)
 certificate_by low view h = grind (arith, nat_tests)

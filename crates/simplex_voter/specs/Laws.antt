@@ -1,5 +1,5 @@
 -- The laws of the definitions, in the subject's own words. K are the members' keys, L the elector, D the payloads.
-use Rattle.std.specs.Prelude.{◌≡◌, ℕ, ◌<◌, ◌≤◌, ◌+◌, ◌-◌, ◌↔◌, ◌⊎◌, ◌==◌, Bool, true, false, nat_le, Option, Some, is_some, MatchOption, filter}
+use Rattle.std.specs.Prelude.{◌≡◌, ℕ, ◌<◌, ◌≤◌, ◌+◌, ◌↔◌, ◌⊎◌, ◌==◌, Bool, true, false, nat_le, Some, is_some, MatchOption, filter}
 use Rattle.std.specs.List.{list_any}
 use Rattle.std.specs.Ordering.{nat_cmp}
 use Rattle.std.specs.FinMap as fin
@@ -12,7 +12,7 @@ use Rattle.simplex_voter.specs.Facts.{Facts, Elect}
 use Rattle.simplex_voter.specs.Windows.{is_start, admits_outbound, admits_certificate, admits_vote, viewport}
 use Rattle.simplex_voter.specs.Gaps.{is_covered, IsGapless, IsFirstGap, first_gap, is_gapless}
 use Rattle.simplex_voter.specs.Payloads.{explicit_payload, optimistic_payload, payload_by, is_handoff_parent}
-use Rattle.simplex_voter.specs.Parents.{payload_for, parent_payload, IsAllowedParent, preferred_parent}
+use Rattle.simplex_voter.specs.Parents.{payload_for, IsAllowedParent, preferred_parent}
 use Rattle.simplex_voter.specs.Rules.{may_notarize, may_nullify, may_finalize, required_parent, NotarizeRule, NullifyRule, FinalizeRule}
 use Rattle.simplex_voter.specs.Leaders.{opened_views}
 use Rattle.simplex_voter.specs.Acceptance.{nullified_also}

@@ -1,5 +1,5 @@
 -- On which views a view may build.
-use Rattle.std.specs.Prelude.{◌≡◌, ℕ, ◌+◌, ◌-◌, Bool, true, false, ◌&&◌, ◌||◌, ◌==◌, nat_lt, nat_le, List, Option, Some, None, option_map, option_and_then, if◌then◌else◌, length, slice_get}
+use Rattle.std.specs.Prelude.{◌≡◌, ℕ, ◌+◌, ◌-◌, Bool, true, false, ◌&&◌, ◌||◌, ◌==◌, nat_lt, nat_le, Option, Some, None, option_map, option_and_then, if◌then◌else◌}
 use Rattle.std.specs.List.{filter_map, last_or}
 use Rattle.std.specs.Option.{option_map_or}
 use Rattle.simplex_types.specs.Proposal.{same_proposal}
@@ -71,7 +71,7 @@ module _ {K L D : Type 0} (same : D → D → Bool) (elect : Elect L) where
   holds_binding x v r bound =
       option_map_or
       (λ p. same_proposal same p bound.0
-          && (is_payload same (parent_payload x v p.parent) bound.1 || (leads x r && is_parent same (preferred_parent x v) p.parent bound.1)))
+      && (is_payload same (parent_payload x v p.parent) bound.1 || (leads x r && is_parent same (preferred_parent x v) p.parent bound.1)))
       r.slot.held
       false
 

@@ -1,11 +1,11 @@
 -- What a state hands out and shows, and what it drops.
-use Rattle.std.specs.Prelude.{ℕ, ◌-◌, Bool, true, ◌&&◌, ◌||◌, ◌==◌, nat_lt, nat_le, List, Option, Some, None, is_some, option_map, option_and_then, if◌then◌else◌, map, filter}
+use Rattle.std.specs.Prelude.{ℕ, ◌-◌, Bool, ◌||◌, ◌==◌, nat_lt, nat_le, List, Option, None, is_some, option_map, option_and_then, if◌then◌else◌, map, filter}
 use Rattle.std.specs.List.{last_or}
 use Rattle.std.specs.Option.{option_or}
 use Rattle.simplex_types.specs.Terms.{covers}
 use Rattle.simplex_types.specs.Certificates.{ProposalFacts, NullificationFacts, CertificateFacts, Notarized, Nullified, Finalized}
 use Rattle.simplex_types.specs.declared.types.messages.Proposal.{Proposal}
-use Rattle.simplex_round.specs.Round.{RoundFacts, forwardable, start_of, elapsed}
+use Rattle.simplex_round.specs.Round.{forwardable, start_of, elapsed}
 use Rattle.simplex_voter.specs.Facts.{Facts, round_at, round_of, with_tracked}
 use Rattle.simplex_voter.specs.Windows.{is_start, min_active}
 

@@ -1,9 +1,8 @@
 -- Which proposals of other leaders this member verifies, and what it lacks to do so.
-use Rattle.std.specs.Prelude.{ℕ, Bool, true, false, ◌&&◌, ◌||◌, ◌==◌, not, nat_le, List, [], ◌∷◌, Option, Some, None, is_some, is_none, option_map, option_and_then, if◌then◌else◌, filter, slice_get, fold}
+use Rattle.std.specs.Prelude.{ℕ, Bool, true, false, ◌&&◌, ◌==◌, not, List, [], ◌∷◌, Option, Some, None, is_none, option_map, option_and_then, if◌then◌else◌, slice_get, fold}
 use Rattle.std.specs.List.{filter_map}
 use Rattle.std.specs.Option.{option_map_or}
 use Rattle.simplex_types.specs.Proposal.{same_proposal}
-use Rattle.simplex_types.specs.declared.types.fault.Fault.{Fault}
 use Rattle.simplex_types.specs.declared.types.messages.Context.{Context}
 use Rattle.simplex_types.specs.declared.types.messages.Proposal.{Proposal}
 use Rattle.simplex_types.specs.declared.reasons.Kind.{Kind}
@@ -11,9 +10,9 @@ use Rattle.simplex_types.specs.declared.reasons.Kind.TheVariants.{Nullification,
 use Rattle.simplex_types.specs.declared.reasons.TimeoutReason.{TimeoutReason}
 use Rattle.simplex_types.specs.declared.reasons.TimeoutReason.TheVariants.{InvalidProposal}
 use Rattle.simplex_round.specs.declared.round.Leader.{Leader}
-use Rattle.simplex_round.specs.Slot.{SlotFacts, after_vote, after_mark, is_unverified}
+use Rattle.simplex_round.specs.Slot.{after_vote, after_mark, is_unverified}
 use Rattle.simplex_round.specs.Round.{RoundFacts, is_nullify, pending_proposal, with_latch}
-use Rattle.simplex_voter.specs.Facts.{Facts, Elect, round_at, round_of, round_number, with_round, with_tracked}
+use Rattle.simplex_voter.specs.Facts.{Facts, Elect, round_at, round_of, with_round, with_tracked}
 use Rattle.simplex_voter.specs.Gaps.{first_gap}
 use Rattle.simplex_voter.specs.Windows.{in_window, is_admitted}
 use Rattle.simplex_voter.specs.Parents.{spans, payload_for, binding_matches}

@@ -1,24 +1,20 @@
 -- Parents, proposing, verifying, and the notarize vote outside the window.
-use Rattle.std.specs.Prelude.{◌≡◌, ℕ, true, false, List, [], ◌∷◌, Some, None}
+use Rattle.std.specs.Prelude.{◌≡◌, true, [], ◌∷◌, Some, None}
 use Rattle.std.proofs.Common.{refl}
-use Rattle.simplex_types.specs.Certificates.{Notarized, Nullified, Finalized}
-use Rattle.simplex_types.specs.declared.types.fault.Fault.TheVariants.{TimeOverflow, ViewTooLarge}
 use Rattle.simplex_types.specs.declared.reasons.Kind.TheVariants.{Nullification, Notarization}
-use Rattle.simplex_types.specs.declared.reasons.HandoffAbandonedReason.TheVariants.{AncestryInvalidated, ParentNullify}
-use Rattle.simplex_types.specs.declared.reasons.TimeoutReason.TheVariants.{Retry, Inactivity, LeaderNullify, LeaderTimeout, CertificationTimeout, StallTimeout, MissingProposal, InvalidProposal}
-use Rattle.simplex_voter.specs.Proposing.Request.{Prepare, Propose}
+use Rattle.simplex_voter.specs.Proposing.Request.{Propose}
 use Rattle.simplex_voter.specs.Verifying.Verification.{Verify, Resolve, Wait}
-use Rattle.simplex_voter.proofs.Examples.Scripts.{replies_of, member, voter, keyless, usual, proposal, context, certificate, nullification, fetch, notarized, nullified, finalized, verdict, voted_notarize, voted_nullify, voted_finalize}
-use Rattle.simplex_voter.proofs.Examples.Scripts.Call.{AddNotarization, AddNullification, AddFinalization, SetProposal, TryPropose, Proposed, Supersede, Abandonment, Release, TryVerify, Verified, Rejected, Candidates, SetCertifyHandle, Certified, Notarize, Nullify, Finalize, BroadcastNotarization, BroadcastNullification, BroadcastFinalization, Best, Trigger, NextTimeout, Prune, View, Restart}
-use Rattle.simplex_voter.proofs.Examples.Scripts.Reply.{Done, Flag, Added, Asked, Abandoned, Work, Offered, Judged, Vote, NullifyVote, Certificate, Timeout, Views, Now, Refused, NotAllowed}
+use Rattle.simplex_voter.proofs.Examples.Scripts.{replies_of, voter, proposal, context}
+use Rattle.simplex_voter.proofs.Examples.Scripts.Call.{AddNotarization, AddNullification, AddFinalization, SetProposal, TryPropose, Proposed, TryVerify, Verified, Certified, Notarize, Prune}
+use Rattle.simplex_voter.proofs.Examples.Scripts.Reply.{Flag, Added, Asked, Work, Judged, Vote, Views}
 
 -- a proposal is verified once, voted for once, and given up for the term after a nullification
 verified_and_voted :
     replies_of
     (voter 1 1 0)
     (
-      SetProposal 1 0 7 ∷ TryVerify ∷ TryVerify ∷ Verified 1 ∷ Notarize 1 ∷ Notarize 1 ∷ AddNullification 1 10 ∷
-      TryPropose ∷ TryPropose ∷ Proposed (context 2 1 0 0) 8 12 ∷ Notarize 2 ∷ []
+    SetProposal 1 0 7 ∷ TryVerify ∷ TryVerify ∷ Verified 1 ∷ Notarize 1 ∷ Notarize 1 ∷ AddNullification 1 10 ∷
+    TryPropose ∷ TryPropose ∷ Proposed (context 2 1 0 0) 8 12 ∷ Notarize 2 ∷ []
     )
     ≡
     Flag true ∷ Work (Verify (context 1 0 0 0) (proposal 1 0 7)) ∷ Work Wait ∷ Flag true ∷
@@ -32,7 +28,7 @@ gap_asked_once :
     replies_of
     (voter 0 1 0)
     (
-      AddNullification 2 10 ∷ SetProposal 3 0 7 ∷ TryVerify ∷ TryVerify ∷ AddNullification 1 11 ∷ TryVerify ∷ []
+    AddNullification 2 10 ∷ SetProposal 3 0 7 ∷ TryVerify ∷ TryVerify ∷ AddNullification 1 11 ∷ TryVerify ∷ []
     )
     ≡
     Flag true ∷ Flag true ∷ Work (Resolve 3 1 Nullification 2) ∷ Work Wait ∷ Flag true ∷
@@ -45,8 +41,8 @@ uncertified_parent :
     replies_of
     (voter 0 1 0)
     (
-      AddNotarization 1 0 7 ∷ AddNullification 2 10 ∷ SetProposal 3 1 8 ∷ TryVerify ∷ Certified 1 true 11 ∷
-      TryVerify ∷ []
+    AddNotarization 1 0 7 ∷ AddNullification 2 10 ∷ SetProposal 3 1 8 ∷ TryVerify ∷ Certified 1 true 11 ∷
+    TryVerify ∷ []
     )
     ≡
     Added true None ∷ Flag true ∷ Flag true ∷ Work (Resolve 3 1 Notarization 2) ∷ Judged (Some (proposal 1 0 7)) ∷
@@ -59,7 +55,7 @@ pruned_view :
     replies_of
     (voter 1 1 0)
     (
-      SetProposal 1 0 7 ∷ TryVerify ∷ Verified 1 ∷ AddFinalization 20 19 9 10 ∷ Prune ∷ Notarize 1 ∷ []
+    SetProposal 1 0 7 ∷ TryVerify ∷ Verified 1 ∷ AddFinalization 20 19 9 10 ∷ Prune ∷ Notarize 1 ∷ []
     )
     ≡
     Flag true ∷ Work (Verify (context 1 0 0 0) (proposal 1 0 7)) ∷ Flag true ∷ Added true None ∷ Views (1 ∷ []) ∷
@@ -72,7 +68,7 @@ covers_upward :
     replies_of
     (voter 0 5 0)
     (
-      AddNullification 3 10 ∷ SetProposal 6 0 7 ∷ TryVerify ∷ AddNullification 1 11 ∷ TryVerify ∷ []
+    AddNullification 3 10 ∷ SetProposal 6 0 7 ∷ TryVerify ∷ AddNullification 1 11 ∷ TryVerify ∷ []
     )
     ≡
     Flag true ∷ Flag true ∷ Work (Resolve 6 1 Nullification 1) ∷ Flag true ∷
@@ -85,8 +81,8 @@ asks_go_on :
     replies_of
     (voter 0 1 0)
     (
-      AddNullification 2 10 ∷ SetProposal 3 0 7 ∷ AddNotarization 3 0 7 ∷ SetProposal 4 3 8 ∷ TryVerify ∷ TryVerify ∷
-      TryVerify ∷ []
+    AddNullification 2 10 ∷ SetProposal 3 0 7 ∷ AddNotarization 3 0 7 ∷ SetProposal 4 3 8 ∷ TryVerify ∷ TryVerify ∷
+    TryVerify ∷ []
     )
     ≡
     Flag true ∷ Flag true ∷ Added true None ∷ Flag true ∷ Work (Resolve 3 1 Nullification 2) ∷
@@ -99,7 +95,7 @@ long_gap :
     replies_of
     (voter 1 1 0)
     (
-      AddNullification 1000000 10 ∷ SetProposal 1000001 0 7 ∷ TryVerify ∷ []
+    AddNullification 1000000 10 ∷ SetProposal 1000001 0 7 ∷ TryVerify ∷ []
     )
     ≡
     Flag true ∷ Flag true ∷ Work (Resolve 1000001 1 Nullification 0) ∷ []

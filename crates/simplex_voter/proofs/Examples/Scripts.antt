@@ -1,16 +1,14 @@
 -- Scripts of calls: what each is answered, by the definitions, in a network of four members.
-use Rattle.std.specs.Prelude.{ℕ, Bool, true, false, not, ◌+◌, ◌%◌, ◌==◌, ◌&&◌, List, [], ◌∷◌, Option, Some, None, nat_eq, option_map, if◌then◌else◌, fold, map, is_some}
+use Rattle.std.specs.Prelude.{ℕ, Bool, true, false, ◌%◌, List, [], ◌∷◌, Option, Some, None, nat_eq, option_map, if◌then◌else◌, fold}
 use Rattle.std.specs.Option.{option_map_or}
 use Rattle.simplex_types.specs.Terms.{term_index}
 use Rattle.simplex_types.specs.Certificates.{ProposalFacts, NullificationFacts, CertificateFacts, Notarized, Nullified, Finalized}
 use Rattle.simplex_types.specs.declared.types.fault.Fault.{Fault}
 use Rattle.simplex_types.specs.declared.types.window.Terms.{Terms}
-use Rattle.simplex_types.specs.declared.types.numbers.Round.{Round}
 use Rattle.simplex_types.specs.declared.types.messages.Proposal.{Proposal}
 use Rattle.simplex_types.specs.declared.types.messages.Context.{Context}
 use Rattle.simplex_types.specs.declared.types.messages.Artifact.{Artifact}
 use Rattle.simplex_types.specs.declared.types.messages.Artifact.TheVariants as artifact
-use Rattle.simplex_types.specs.declared.reasons.Kind.{Kind}
 use Rattle.simplex_types.specs.declared.reasons.TimeoutReason.{TimeoutReason}
 use Rattle.simplex_types.specs.declared.reasons.HandoffAbandonedReason.{HandoffAbandonedReason}
 use Rattle.simplex_voter.specs.Facts.{Settings, Facts, Elect, new_facts}
@@ -19,7 +17,7 @@ use Rattle.simplex_voter.specs.Windows.{min_active, is_admitted, in_window}
 use Rattle.simplex_voter.specs.Payloads.{explicit_payload, is_handoff_parent, serves, follows, optimistic_payload}
 use Rattle.simplex_voter.specs.Parents.{spans, payload_for, parent_payload, preferred_parent, may_stand, binding_matches}
 use Rattle.simplex_voter.specs.Rules.{may_nullify, is_gated, required_parent, may_finalize, may_notarize}
-use Rattle.simplex_voter.specs.Refusals.{plain_refusal, proposal_refusal, is_started}
+use Rattle.simplex_voter.specs.Refusals.{plain_refusal, proposal_refusal}
 use Rattle.simplex_voter.specs.Timeouts.{after_trigger_timeout, next_timeout_answer, after_next_timeout, next_timeout_refusal, has_timeout}
 use Rattle.simplex_voter.specs.Certification.{Fetch, candidates_answer, after_candidates, after_set_certify_handle, takes_certify_handle, certified_answer, after_certified, certified_refusal, takes_verdict}
 use Rattle.simplex_voter.specs.Acceptance as accept
@@ -27,7 +25,7 @@ use Rattle.simplex_voter.specs.Votes.{nullify_answer, after_construct_nullify, f
 use Rattle.simplex_voter.specs.Proposing.{Request, propose_answer, after_try_propose, proposed_answer, after_proposed, supersede_answer, after_supersede, abandonment_answer, after_release}
 use Rattle.simplex_voter.specs.Verifying.{Verification, takes_proposal, set_proposal_answer, after_set_proposal, standing, verify_answer, after_try_verify, verified_answer, after_verified, after_verification_failed}
 use Rattle.simplex_voter.specs.Serving.{best_certificate, broadcast_notarization_answer, after_broadcast_notarization, broadcast_nullification_answer, after_broadcast_nullification, broadcast_finalization_answer, after_broadcast_finalization, prune_answer, after_prune}
-use Rattle.simplex_voter.specs.Replay.{replay_refusal, after_replayed}
+use Rattle.simplex_voter.specs.Replay.{after_replayed}
 
 -- keys are the members' indices, payloads numbers, and an elector is the length of its terms
 abbrev pub State : Type 0

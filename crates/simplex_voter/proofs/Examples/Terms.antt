@@ -1,28 +1,24 @@
 -- Terms of any length, floors, certificates, pruning and the gate on finalize votes.
-use Rattle.std.specs.Prelude.{◌≡◌, ℕ, true, false, List, [], ◌∷◌, Some, None}
+use Rattle.std.specs.Prelude.{◌≡◌, true, false, [], ◌∷◌, Some, None}
 use Rattle.std.proofs.Common.{refl}
 use Rattle.simplex_types.specs.Certificates.{Notarized, Nullified, Finalized}
-use Rattle.simplex_types.specs.declared.types.fault.Fault.TheVariants.{TimeOverflow, ViewTooLarge}
-use Rattle.simplex_types.specs.declared.reasons.Kind.TheVariants.{Nullification, Notarization}
-use Rattle.simplex_types.specs.declared.reasons.HandoffAbandonedReason.TheVariants.{AncestryInvalidated, ParentNullify}
-use Rattle.simplex_types.specs.declared.reasons.TimeoutReason.TheVariants.{Retry, Inactivity, LeaderNullify, LeaderTimeout, CertificationTimeout, StallTimeout, MissingProposal, InvalidProposal}
-use Rattle.simplex_voter.specs.Proposing.Request.{Prepare, Propose}
-use Rattle.simplex_voter.specs.Verifying.Verification.{Verify, Resolve, Wait}
-use Rattle.simplex_voter.proofs.Examples.Scripts.{replies_of, member, voter, keyless, usual, proposal, context, certificate, nullification, fetch, notarized, nullified, finalized, verdict, voted_notarize, voted_nullify, voted_finalize}
-use Rattle.simplex_voter.proofs.Examples.Scripts.Call.{AddNotarization, AddNullification, AddFinalization, SetProposal, TryPropose, Proposed, Supersede, Abandonment, Release, TryVerify, Verified, Rejected, Candidates, SetCertifyHandle, Certified, Notarize, Nullify, Finalize, BroadcastNotarization, BroadcastNullification, BroadcastFinalization, Best, Trigger, NextTimeout, Prune, View, Restart}
-use Rattle.simplex_voter.proofs.Examples.Scripts.Reply.{Done, Flag, Added, Asked, Abandoned, Work, Offered, Judged, Vote, NullifyVote, Certificate, Timeout, Views, Now, Refused, NotAllowed}
+use Rattle.simplex_types.specs.declared.types.fault.Fault.TheVariants.{ViewTooLarge}
+use Rattle.simplex_voter.specs.Verifying.Verification.{Wait}
+use Rattle.simplex_voter.proofs.Examples.Scripts.{replies_of, voter, proposal, certificate, nullification, notarized, nullified, finalized, verdict, voted_nullify, voted_finalize}
+use Rattle.simplex_voter.proofs.Examples.Scripts.Call.{AddNotarization, AddNullification, AddFinalization, SetProposal, TryVerify, Certified, Nullify, Finalize, BroadcastNotarization, BroadcastNullification, BroadcastFinalization, Best, Prune, View, Restart}
+use Rattle.simplex_voter.proofs.Examples.Scripts.Reply.{Done, Flag, Added, Work, Judged, Vote, NullifyVote, Certificate, Views, Now, Refused, NotAllowed}
 
 -- a nullify vote holds back the finalize votes above it in its term until a finalization covers it
 gated_until_finalized :
     replies_of
     (voter 0 5 0)
     (
-      AddNullification 3 10 ∷ Best ∷ AddFinalization 2 1 9 12 ∷ View ∷ Nullify 6 ∷ AddNotarization 6 2 4 ∷
-      Certified 6 true 13 ∷ Finalize 6 ∷ AddNotarization 7 6 5 ∷ Certified 7 true 14 ∷ Finalize 7 ∷
-      AddFinalization 6 2 4 15 ∷ Finalize 7 ∷ BroadcastFinalization 6 ∷ BroadcastFinalization 6 ∷
-      BroadcastNotarization 6 ∷ BroadcastNullification 3 ∷
-      Restart 20 (finalized 2 1 9 ∷ nullified 3 ∷ voted_nullify 0 6 ∷ notarized 6 2 4 ∷ verdict 6 true ∷ finalized 6 2 4 ∷ notarized 7 6 5 ∷ verdict 7 true ∷ voted_finalize 0 7 6 5 ∷ []) ∷
-      View ∷ Nullify 6 ∷ []
+    AddNullification 3 10 ∷ Best ∷ AddFinalization 2 1 9 12 ∷ View ∷ Nullify 6 ∷ AddNotarization 6 2 4 ∷
+    Certified 6 true 13 ∷ Finalize 6 ∷ AddNotarization 7 6 5 ∷ Certified 7 true 14 ∷ Finalize 7 ∷
+    AddFinalization 6 2 4 15 ∷ Finalize 7 ∷ BroadcastFinalization 6 ∷ BroadcastFinalization 6 ∷
+    BroadcastNotarization 6 ∷ BroadcastNullification 3 ∷
+    Restart 20 (finalized 2 1 9 ∷ nullified 3 ∷ voted_nullify 0 6 ∷ notarized 6 2 4 ∷ verdict 6 true ∷ finalized 6 2 4 ∷ notarized 7 6 5 ∷ verdict 7 true ∷ voted_finalize 0 7 6 5 ∷ []) ∷
+    View ∷ Nullify 6 ∷ []
     )
     ≡
     Flag true ∷ Certificate (Some (Nullified (nullification 3))) ∷ Added true None ∷ Now 6 2 0 ∷
@@ -39,7 +35,7 @@ replaced_proposal :
     replies_of
     (voter 1 1 0)
     (
-      AddNotarization 1 0 7 ∷ AddFinalization 1 0 8 10 ∷ []
+    AddNotarization 1 0 7 ∷ AddFinalization 1 0 8 10 ∷ []
     )
     ≡
     Added true None ∷ Added true (Some 0) ∷ []
@@ -51,8 +47,8 @@ healed_by_finalization :
     replies_of
     (voter 0 5 0)
     (
-      Nullify 1 ∷ AddNotarization 1 0 7 ∷ AddNotarization 2 1 9 ∷ Certified 1 true 10 ∷ Certified 2 true 11 ∷
-      Finalize 2 ∷ AddFinalization 1 0 7 12 ∷ Finalize 2 ∷ []
+    Nullify 1 ∷ AddNotarization 1 0 7 ∷ AddNotarization 2 1 9 ∷ Certified 1 true 10 ∷ Certified 2 true 11 ∷
+    Finalize 2 ∷ AddFinalization 1 0 7 12 ∷ Finalize 2 ∷ []
     )
     ≡
     NullifyVote (Some false) ∷ Added true None ∷ Added true None ∷ Judged (Some (proposal 1 0 7)) ∷
@@ -65,7 +61,7 @@ too_large :
     replies_of
     (voter 0 1 0)
     (
-      AddNullification 9223372036854775808 10 ∷ View ∷ []
+    AddNullification 9223372036854775808 10 ∷ View ∷ []
     )
     ≡
     Refused ViewTooLarge ∷ Now 1 0 0 ∷ []
@@ -77,7 +73,7 @@ far_ahead :
     replies_of
     (voter 0 1 0)
     (
-      AddFinalization 20 19 0 5 ∷ View ∷ Prune ∷ AddNullification 9 6 ∷ AddNullification 10 7 ∷ []
+    AddFinalization 20 19 0 5 ∷ View ∷ Prune ∷ AddNullification 9 6 ∷ AddNullification 10 7 ∷ []
     )
     ≡
     Added true None ∷ Now 21 20 10 ∷ Views (1 ∷ []) ∷ NotAllowed ∷ Flag true ∷ []
@@ -89,7 +85,7 @@ entry_certificate :
     replies_of
     (voter 0 5 0)
     (
-      Best ∷ AddNullification 3 5 ∷ View ∷ Best ∷ []
+    Best ∷ AddNullification 3 5 ∷ View ∷ Best ∷ []
     )
     ≡
     Certificate None ∷ Flag true ∷ Now 6 0 0 ∷ Certificate (Some (Nullified (nullification 3))) ∷ []
@@ -101,8 +97,8 @@ votes_outlive_pruning :
     replies_of
     (voter 1 5 0)
     (
-      AddNullification 2 10 ∷ SetProposal 6 0 7 ∷ TryVerify ∷ AddNotarization 6 0 7 ∷ Nullify 6 ∷
-      Certified 6 true 11 ∷ Prune ∷ AddNotarization 7 6 8 ∷ Certified 7 true 12 ∷ Finalize 7 ∷ []
+    AddNullification 2 10 ∷ SetProposal 6 0 7 ∷ TryVerify ∷ AddNotarization 6 0 7 ∷ Nullify 6 ∷
+    Certified 6 true 11 ∷ Prune ∷ AddNotarization 7 6 8 ∷ Certified 7 true 12 ∷ Finalize 7 ∷ []
     )
     ≡
     Flag true ∷ Flag true ∷ Work Wait ∷ Added true None ∷ NullifyVote (Some false) ∷ Judged (Some (proposal 6 0 7)) ∷
@@ -115,9 +111,9 @@ pruned_record :
     replies_of
     (voter 0 1 0)
     (
-      Nullify 1 ∷ AddFinalization 20 19 9 10 ∷ Restart 20 (finalized 20 19 9 ∷ []) ∷ View ∷ Nullify 1 ∷
-      Restart 30 (finalized 20 19 9 ∷ []) ∷ View ∷ AddNullification 9 31 ∷ AddNullification 10 32 ∷
-      Restart 40 (finalized 20 19 9 ∷ []) ∷ []
+    Nullify 1 ∷ AddFinalization 20 19 9 10 ∷ Restart 20 (finalized 20 19 9 ∷ []) ∷ View ∷ Nullify 1 ∷
+    Restart 30 (finalized 20 19 9 ∷ []) ∷ View ∷ AddNullification 9 31 ∷ AddNullification 10 32 ∷
+    Restart 40 (finalized 20 19 9 ∷ []) ∷ []
     )
     ≡
     NullifyVote (Some false) ∷ Added true None ∷ Done ∷ Now 21 20 10 ∷ NullifyVote None ∷ Done ∷ Now 21 20 10 ∷

@@ -1,25 +1,21 @@
 -- The issuance window, optimistic chains and handoffs.
-use Rattle.std.specs.Prelude.{◌≡◌, ℕ, true, false, List, [], ◌∷◌, Some, None}
+use Rattle.std.specs.Prelude.{◌≡◌, true, false, [], ◌∷◌, Some, None}
 use Rattle.std.proofs.Common.{refl}
-use Rattle.simplex_types.specs.Certificates.{Notarized, Nullified, Finalized}
-use Rattle.simplex_types.specs.declared.types.fault.Fault.TheVariants.{TimeOverflow, ViewTooLarge}
-use Rattle.simplex_types.specs.declared.reasons.Kind.TheVariants.{Nullification, Notarization}
 use Rattle.simplex_types.specs.declared.reasons.HandoffAbandonedReason.TheVariants.{AncestryInvalidated, ParentNullify}
-use Rattle.simplex_types.specs.declared.reasons.TimeoutReason.TheVariants.{Retry, Inactivity, LeaderNullify, LeaderTimeout, CertificationTimeout, StallTimeout, MissingProposal, InvalidProposal}
 use Rattle.simplex_voter.specs.Proposing.Request.{Prepare, Propose}
-use Rattle.simplex_voter.specs.Verifying.Verification.{Verify, Resolve, Wait}
-use Rattle.simplex_voter.proofs.Examples.Scripts.{replies_of, member, voter, keyless, usual, proposal, context, certificate, nullification, fetch, notarized, nullified, finalized, verdict, voted_notarize, voted_nullify, voted_finalize}
-use Rattle.simplex_voter.proofs.Examples.Scripts.Call.{AddNotarization, AddNullification, AddFinalization, SetProposal, TryPropose, Proposed, Supersede, Abandonment, Release, TryVerify, Verified, Rejected, Candidates, SetCertifyHandle, Certified, Notarize, Nullify, Finalize, BroadcastNotarization, BroadcastNullification, BroadcastFinalization, Best, Trigger, NextTimeout, Prune, View, Restart}
-use Rattle.simplex_voter.proofs.Examples.Scripts.Reply.{Done, Flag, Added, Asked, Abandoned, Work, Offered, Judged, Vote, NullifyVote, Certificate, Timeout, Views, Now, Refused, NotAllowed}
+use Rattle.simplex_voter.specs.Verifying.Verification.{Verify, Wait}
+use Rattle.simplex_voter.proofs.Examples.Scripts.{replies_of, voter, proposal, context}
+use Rattle.simplex_voter.proofs.Examples.Scripts.Call.{AddNotarization, AddNullification, AddFinalization, SetProposal, TryPropose, Proposed, Supersede, Abandonment, TryVerify, Verified, Certified, Notarize, Nullify, Prune, View}
+use Rattle.simplex_voter.proofs.Examples.Scripts.Reply.{Flag, Added, Asked, Abandoned, Work, Judged, Vote, NullifyVote, Views, Now, NotAllowed}
 
 -- a chain of votes before any certificate; a parent outside of what was voted for waits for its verdict
 chain :
     replies_of
     (voter 1 5 1)
     (
-      SetProposal 1 0 7 ∷ SetProposal 2 1 9 ∷ TryVerify ∷ TryVerify ∷ Verified 1 ∷ Notarize 1 ∷ TryVerify ∷
-      Verified 2 ∷ Notarize 2 ∷ SetProposal 3 2 4 ∷ AddNotarization 1 0 7 ∷ TryVerify ∷ Certified 1 true 10 ∷
-      TryVerify ∷ []
+    SetProposal 1 0 7 ∷ SetProposal 2 1 9 ∷ TryVerify ∷ TryVerify ∷ Verified 1 ∷ Notarize 1 ∷ TryVerify ∷
+    Verified 2 ∷ Notarize 2 ∷ SetProposal 3 2 4 ∷ AddNotarization 1 0 7 ∷ TryVerify ∷ Certified 1 true 10 ∷
+    TryVerify ∷ []
     )
     ≡
     Flag true ∷ Flag true ∷ Work (Verify (context 1 0 0 0) (proposal 1 0 7)) ∷ Work Wait ∷ Flag true ∷
@@ -34,8 +30,8 @@ other_parent :
     replies_of
     (voter 1 5 1)
     (
-      SetProposal 1 0 7 ∷ SetProposal 2 1 9 ∷ TryVerify ∷ TryVerify ∷ Verified 1 ∷ Notarize 1 ∷ TryVerify ∷
-      Verified 2 ∷ AddNotarization 1 0 8 ∷ Notarize 2 ∷ []
+    SetProposal 1 0 7 ∷ SetProposal 2 1 9 ∷ TryVerify ∷ TryVerify ∷ Verified 1 ∷ Notarize 1 ∷ TryVerify ∷
+    Verified 2 ∷ AddNotarization 1 0 8 ∷ Notarize 2 ∷ []
     )
     ≡
     Flag true ∷ Flag true ∷ Work (Verify (context 1 0 0 0) (proposal 1 0 7)) ∷ Work Wait ∷ Flag true ∷
@@ -49,8 +45,8 @@ long_window :
     replies_of
     (voter 1 5 4)
     (
-      SetProposal 1 0 7 ∷ SetProposal 2 1 9 ∷ TryVerify ∷ TryVerify ∷ Verified 1 ∷ Notarize 1 ∷ TryVerify ∷
-      Verified 2 ∷ Notarize 2 ∷ []
+    SetProposal 1 0 7 ∷ SetProposal 2 1 9 ∷ TryVerify ∷ TryVerify ∷ Verified 1 ∷ Notarize 1 ∷ TryVerify ∷
+    Verified 2 ∷ Notarize 2 ∷ []
     )
     ≡
     Flag true ∷ Flag true ∷ Work (Verify (context 1 0 0 0) (proposal 1 0 7)) ∷ Work Wait ∷ Flag true ∷
@@ -64,9 +60,9 @@ handoff_given_up :
     replies_of
     (voter 1 1 0)
     (
-      SetProposal 1 0 7 ∷ TryVerify ∷ TryVerify ∷ Verified 1 ∷ Notarize 1 ∷ Notarize 1 ∷ TryPropose ∷ Nullify 1 ∷
-      Abandonment (context 2 1 1 7) ∷ AddNullification 1 10 ∷ View ∷ Abandonment (context 2 1 1 7) ∷
-      Supersede (context 2 1 1 7) ∷ TryPropose ∷ []
+    SetProposal 1 0 7 ∷ TryVerify ∷ TryVerify ∷ Verified 1 ∷ Notarize 1 ∷ Notarize 1 ∷ TryPropose ∷ Nullify 1 ∷
+    Abandonment (context 2 1 1 7) ∷ AddNullification 1 10 ∷ View ∷ Abandonment (context 2 1 1 7) ∷
+    Supersede (context 2 1 1 7) ∷ TryPropose ∷ []
     )
     ≡
     Flag true ∷ Work (Verify (context 1 0 0 0) (proposal 1 0 7)) ∷ Work Wait ∷ Flag true ∷
@@ -81,8 +77,8 @@ handoff_proposed :
     replies_of
     (voter 1 1 0)
     (
-      SetProposal 1 0 7 ∷ TryVerify ∷ TryVerify ∷ Verified 1 ∷ Notarize 1 ∷ Notarize 1 ∷ TryPropose ∷
-      Proposed (context 2 1 1 7) 8 3 ∷ Notarize 2 ∷ View ∷ []
+    SetProposal 1 0 7 ∷ TryVerify ∷ TryVerify ∷ Verified 1 ∷ Notarize 1 ∷ Notarize 1 ∷ TryPropose ∷
+    Proposed (context 2 1 1 7) 8 3 ∷ Notarize 2 ∷ View ∷ []
     )
     ≡
     Flag true ∷ Work (Verify (context 1 0 0 0) (proposal 1 0 7)) ∷ Work Wait ∷ Flag true ∷
@@ -96,8 +92,8 @@ no_handoff_when_nullified :
     replies_of
     (voter 1 2 1)
     (
-      SetProposal 1 0 7 ∷ TryVerify ∷ Verified 1 ∷ Notarize 1 ∷ SetProposal 2 1 9 ∷ TryVerify ∷ Verified 2 ∷
-      Notarize 2 ∷ AddNullification 2 10 ∷ View ∷ TryPropose ∷ AddNullification 1 11 ∷ TryPropose ∷ []
+    SetProposal 1 0 7 ∷ TryVerify ∷ Verified 1 ∷ Notarize 1 ∷ SetProposal 2 1 9 ∷ TryVerify ∷ Verified 2 ∷
+    Notarize 2 ∷ AddNullification 2 10 ∷ View ∷ TryPropose ∷ AddNullification 1 11 ∷ TryPropose ∷ []
     )
     ≡
     Flag true ∷ Work (Verify (context 1 0 0 0) (proposal 1 0 7)) ∷ Flag true ∷ Vote (Some (proposal 1 0 7)) ∷
@@ -111,7 +107,7 @@ leader_copied :
     replies_of
     (voter 1 5 1)
     (
-      Nullify 1 ∷ SetProposal 1 0 7 ∷ SetProposal 2 1 9 ∷ AddNotarization 2 1 8 ∷ []
+    Nullify 1 ∷ SetProposal 1 0 7 ∷ SetProposal 2 1 9 ∷ AddNotarization 2 1 8 ∷ []
     )
     ≡
     NullifyVote (Some false) ∷ Flag false ∷ Flag true ∷ Added true (Some 0) ∷ []
@@ -123,8 +119,8 @@ tracked_by_leader :
     replies_of
     (voter 0 5 2)
     (
-      AddNotarization 1 0 7 ∷ Certified 2 true 1 ∷ Certified 4 true 1 ∷ Certified 5 true 1 ∷
-      AddFinalization 30 29 7 2 ∷ Prune ∷ []
+    AddNotarization 1 0 7 ∷ Certified 2 true 1 ∷ Certified 4 true 1 ∷ Certified 5 true 1 ∷
+    AddFinalization 30 29 7 2 ∷ Prune ∷ []
     )
     ≡
     Added true None ∷ NotAllowed ∷ NotAllowed ∷ Judged None ∷ Added true None ∷ Views (1 ∷ 2 ∷ 3 ∷ 4 ∷ []) ∷ []
