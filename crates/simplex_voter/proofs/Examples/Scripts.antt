@@ -17,7 +17,7 @@ use Rattle.simplex_voter.specs.Windows.{admits_vote, min_active, is_admitted, in
 use Rattle.simplex_voter.specs.Payloads.{explicit_payload, is_handoff_parent, serves, follows, optimistic_payload}
 use Rattle.simplex_voter.specs.Parents.{spans, payload_for, parent_payload, preferred_parent, may_stand, binding_matches}
 use Rattle.simplex_voter.specs.Rules.{may_nullify, is_gated, required_parent, may_finalize, may_notarize}
-use Rattle.simplex_voter.specs.Refusals.{plain_refusal, proposal_refusal}
+use Rattle.simplex_voter.specs.Refusals.{plain_refusal, proposal_refusal, takes_round}
 use Rattle.simplex_voter.specs.Timeouts.{after_trigger_timeout, next_timeout_answer, after_next_timeout, next_timeout_refusal, has_timeout}
 use Rattle.simplex_voter.specs.Certification.{Fetch, candidates_answer, after_candidates, after_set_certify_handle, takes_certify_handle, certified_answer, after_certified, certified_refusal, takes_verdict}
 use Rattle.simplex_voter.specs.Acceptance as accept
@@ -25,7 +25,7 @@ use Rattle.simplex_voter.specs.Votes.{nullify_answer, after_construct_nullify, f
 use Rattle.simplex_voter.specs.Proposing.{Request, propose_answer, after_try_propose, proposed_answer, after_proposed, supersede_answer, after_supersede, abandonment_answer, after_release, parent_certified, voted_nullify as gives_up}
 use Rattle.simplex_voter.specs.Verifying.{Verification, takes_proposal, set_proposal_answer, after_set_proposal, standing, verify_answer, after_try_verify, verified_answer, after_verified, after_verification_failed}
 use Rattle.simplex_voter.specs.Serving.{best_certificate, broadcast_notarization_answer, after_broadcast_notarization, broadcast_nullification_answer, after_broadcast_nullification, broadcast_finalization_answer, after_broadcast_finalization, prune_answer, after_prune, elapsed_since_start, elapsed_since_entry, leader_of, forwardable_of}
-use Rattle.simplex_voter.specs.Replay.{after_replayed}
+use Rattle.simplex_voter.specs.Replay.{artifact_round, replay_refusal, after_replayed}
 
 -- keys are the members' indices, payloads numbers, and an elector is the length of its terms
 abbrev pub State : Type 0
@@ -71,6 +71,7 @@ pub data Call : Type 0 where
   NextTimeout : ℕ → Call
   Prune : Call
   View : Call
+  Replayed : Entry → Call
   Elapsed : (view now : ℕ) → Call
   Leader : ℕ → Call
   Forwardable : ℕ → Call
@@ -153,6 +154,7 @@ reply_to x Best = Certificate (best_certificate x)
 reply_to x (Trigger v reason now) = Done
 reply_to x (NextTimeout now) = guarded (has_timeout x) (next_timeout_refusal x now) (Timeout (next_timeout_answer x now))
 reply_to x Prune = Views (prune_answer x)
+reply_to x (Replayed entry) = guarded (takes_round x (artifact_round entry)) (replay_refusal x entry) Done
 reply_to x View = Now x.current x.finalized (min_active x)
 reply_to x (Elapsed v now) = Since (elapsed_since_start x v now) (elapsed_since_entry x v now)
 reply_to x (Leader v) = Member (leader_of x v)
@@ -210,6 +212,7 @@ after_call x Best = x
 after_call x (Trigger v reason now) = after_trigger_timeout x v reason now
 after_call x (NextTimeout now) = after_next_timeout x now
 after_call x Prune = after_prune x
+after_call x (Replayed entry) = after_replayed same in_turn x entry
 after_call x View = x
 after_call x (Elapsed v now) = x
 after_call x (Leader v) = x
@@ -251,6 +254,10 @@ keyless length optimistic = member None (record { term_length = length; optimist
 
 abbrev pub fetch : ℕ → ℕ → Fetch
 fetch p v = record { proposal = p; view = v }
+
+-- a member that begins above a finalization
+abbrev pub above : ℕ → ℕ → ℕ → ℕ → State
+above me v p d = accept.after_set_floor same in_turn (fresh (voter me 1 0)) (accept.FloorFacts.Finalized (certificate v p d)) 0
 
 -- entries of a record
 

@@ -2,11 +2,12 @@
 use Rattle.std.specs.Prelude.{◌≡◌, true, false, [], ◌∷◌, Some, None}
 use Rattle.std.proofs.Common.{refl}
 use Rattle.simplex_types.specs.Certificates.{Notarized, Nullified, Finalized}
-use Rattle.simplex_types.specs.declared.types.fault.Fault.TheVariants.{ViewTooLarge}
-use Rattle.simplex_voter.specs.Verifying.Verification.{Wait}
-use Rattle.simplex_voter.proofs.Examples.Scripts.{replies_of, voter, proposal, certificate, nullification, notarized, nullified, finalized, verdict, voted_nullify, voted_finalize}
-use Rattle.simplex_voter.proofs.Examples.Scripts.Call.{AddNotarization, AddNullification, AddFinalization, SetProposal, TryVerify, Certified, Nullify, Finalize, BroadcastNotarization, BroadcastNullification, BroadcastFinalization, Best, Prune, View, Restart}
-use Rattle.simplex_voter.proofs.Examples.Scripts.Reply.{Done, Flag, Added, Work, Judged, Vote, NullifyVote, Certificate, Views, Now, Refused, NotAllowed}
+use Rattle.simplex_types.specs.declared.types.fault.Fault.TheVariants.{TimeOverflow, ViewTooLarge}
+use Rattle.simplex_types.specs.declared.reasons.Kind.TheVariants.{Notarization}
+use Rattle.simplex_voter.specs.Verifying.Verification.{Resolve, Wait}
+use Rattle.simplex_voter.proofs.Examples.Scripts.{replies_of, voter, above, proposal, certificate, nullification, notarized, nullified, finalized, verdict, voted_nullify, voted_finalize}
+use Rattle.simplex_voter.proofs.Examples.Scripts.Call.{AddNotarization, AddNullification, AddFinalization, SetProposal, TryVerify, Certified, Nullify, Finalize, BroadcastNotarization, BroadcastNullification, BroadcastFinalization, Best, Prune, Replayed, View, Leader, ParentCertified, VotedNullify, AdmitsVote, Restart}
+use Rattle.simplex_voter.proofs.Examples.Scripts.Reply.{Done, Flag, Added, Work, Judged, Vote, NullifyVote, Certificate, Views, Now, Member, Refused, NotAllowed}
 
 -- a nullify vote holds back the finalize votes above it in its term until a finalization covers it
 gated_until_finalized :
@@ -120,3 +121,137 @@ pruned_record :
     NotAllowed ∷ Flag true ∷ Done ∷ []
 unfolding replies_of
 pruned_record = refl
+
+-- a finalize vote inside a term waits for the view before
+unready_parent :
+    replies_of
+    (voter 0 5 0)
+    (
+    AddNotarization 2 1 9 ∷ Certified 2 true 10 ∷ Finalize 2 ∷ AddNotarization 1 0 7 ∷ Certified 1 true 11 ∷
+    Finalize 2 ∷ []
+    )
+    ≡
+    Added true None ∷ Judged (Some (proposal 2 1 9)) ∷ Vote None ∷ Added true None ∷ Judged (Some (proposal 1 0 7)) ∷
+    Vote (Some (proposal 2 1 9)) ∷ []
+unfolding replies_of
+unready_parent = refl
+
+-- the gate holds above the nullified view and not below it
+gate_above_the_vote :
+    replies_of
+    (voter 0 5 0)
+    (
+    AddNotarization 1 0 7 ∷ Certified 1 true 10 ∷ Nullify 2 ∷ Finalize 1 ∷ AddNotarization 3 2 9 ∷
+    Replayed (verdict 3 true) ∷ Finalize 3 ∷ []
+    )
+    ≡
+    Added true None ∷ Judged (Some (proposal 1 0 7)) ∷ NullifyVote (Some false) ∷ Vote (Some (proposal 1 0 7)) ∷
+    Added true None ∷ Done ∷ Vote None ∷ []
+unfolding replies_of
+gate_above_the_vote = refl
+
+-- a certificate handed in again adds nothing, and the first stays
+handed_in_again :
+    replies_of
+    (voter 1 1 0)
+    (
+    AddNotarization 1 0 7 ∷ AddNotarization 1 0 8 ∷ AddNullification 1 5 ∷ AddNullification 1 6 ∷
+    AddFinalization 1 0 7 7 ∷ AddFinalization 1 0 8 8 ∷ BroadcastNotarization 1 ∷ []
+    )
+    ≡
+    Added true None ∷ Added false None ∷ Flag true ∷ Flag false ∷ Added true None ∷ Added false None ∷
+    Certificate (Some (Notarized (certificate 1 0 7))) ∷ []
+unfolding replies_of
+handed_in_again = refl
+
+-- the finalization of the view before helps into a view, and else its notarization
+entry_finalization :
+    replies_of
+    (voter 0 1 0)
+    (
+    AddNotarization 1 0 7 ∷ Certified 1 true 5 ∷ Best ∷ AddFinalization 1 0 7 6 ∷ Best ∷ []
+    )
+    ≡
+    Added true None ∷ Judged (Some (proposal 1 0 7)) ∷ Certificate (Some (Notarized (certificate 1 0 7))) ∷
+    Added true None ∷ Certificate (Some (Finalized (certificate 1 0 7))) ∷ []
+unfolding replies_of
+entry_finalization = refl
+
+-- at a term's start its nullification comes before the notarization of the view before
+entry_at_a_start :
+    replies_of
+    (voter 0 5 0)
+    (
+    AddNotarization 5 4 7 ∷ AddNullification 3 5 ∷ Best ∷ []
+    )
+    ≡
+    Added true None ∷ Flag true ∷ Certificate (Some (Nullified (nullification 3))) ∷ []
+unfolding replies_of
+entry_at_a_start = refl
+
+-- above a finalized floor its certificate counts as handed out
+floor :
+    replies_of
+    (above 0 20 19 9)
+    (
+    View ∷ Best ∷ BroadcastFinalization 20 ∷ AddFinalization 20 19 9 5 ∷ AddNullification 9 6 ∷
+    ParentCertified 0 0 ∷ ParentCertified 20 9 ∷ Leader 21 ∷ []
+    )
+    ≡
+    Now 21 20 10 ∷ Certificate (Some (Finalized (certificate 20 19 9))) ∷ Certificate None ∷ Added false None ∷
+    NotAllowed ∷ Flag false ∷ Flag true ∷ Member (Some 0) ∷ []
+unfolding replies_of
+floor = refl
+
+-- a nullification of an earlier term enters nothing, so its moment is not late
+no_lower_entry :
+    replies_of
+    (voter 0 5 0)
+    (
+    AddNullification 3 10 ∷ AddNullification 2 18446744073709551615 ∷ View ∷ []
+    )
+    ≡
+    Flag true ∷ Flag true ∷ Now 6 0 0 ∷ []
+unfolding replies_of
+no_lower_entry = refl
+
+-- a deadline that passes 64 bits refuses a nullification; a view too large comes first
+late_entry :
+    replies_of
+    (voter 0 5 0)
+    (
+    AddNullification 3 18446744073709550000 ∷ AddNullification 9223372036854775808 18446744073709550000 ∷
+    AddNotarization 3 9223372036854775808 7 ∷ View ∷ []
+    )
+    ≡
+    Refused TimeOverflow ∷ Refused ViewTooLarge ∷ Refused ViewTooLarge ∷ Now 1 0 0 ∷ []
+unfolding replies_of
+late_entry = refl
+
+-- a replayed nullification covers, and is no certificate yet
+replayed_nullification :
+    replies_of
+    (voter 0 1 0)
+    (
+    Replayed (nullified 2) ∷ SetProposal 3 1 7 ∷ BroadcastNullification 2 ∷ AddNullification 1 5 ∷ View ∷
+    TryVerify ∷ AddNullification 2 6 ∷ View ∷ TryVerify ∷ []
+    )
+    ≡
+    Done ∷ Flag true ∷ Certificate None ∷ Flag true ∷ Now 2 0 0 ∷ Work Wait ∷ Flag true ∷ Now 3 0 0 ∷
+    Work (Resolve 3 1 Notarization 2) ∷ []
+unfolding replies_of
+replayed_nullification = refl
+
+-- the leader of a view, and which votes are taken
+known_member :
+    replies_of
+    (voter 0 5 0)
+    (
+    Leader 1 ∷ Leader 6 ∷ AddNullification 3 10 ∷ Leader 6 ∷ AdmitsVote 0 ∷ AdmitsVote 11 ∷ AdmitsVote 12 ∷
+    VotedNullify 6 ∷ Nullify 6 ∷ VotedNullify 6 ∷ []
+    )
+    ≡
+    Member (Some 0) ∷ Member None ∷ Flag true ∷ Member (Some 1) ∷ Flag false ∷ Flag true ∷ Flag false ∷ Flag false ∷
+    NullifyVote (Some false) ∷ Flag true ∷ []
+unfolding replies_of
+known_member = refl

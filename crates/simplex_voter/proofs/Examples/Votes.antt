@@ -1,11 +1,11 @@
 -- One view a term: votes and restarts.
 use Rattle.std.specs.Prelude.{◌≡◌, true, false, [], ◌∷◌, Some, None}
 use Rattle.std.proofs.Common.{refl}
-use Rattle.simplex_types.specs.declared.types.fault.Fault.TheVariants.{TimeOverflow}
+use Rattle.simplex_types.specs.declared.types.fault.Fault.TheVariants.{Failed, TimeOverflow}
 use Rattle.simplex_voter.specs.Proposing.Request.{Prepare}
 use Rattle.simplex_voter.specs.Verifying.Verification.{Verify, Wait}
-use Rattle.simplex_voter.proofs.Examples.Scripts.{replies_of, voter, proposal, context, notarized, verdict, voted_notarize, voted_nullify}
-use Rattle.simplex_voter.proofs.Examples.Scripts.Call.{AddNotarization, SetProposal, TryPropose, TryVerify, Verified, Certified, Notarize, Nullify, Finalize, View, Restart}
+use Rattle.simplex_voter.proofs.Examples.Scripts.{replies_of, voter, keyless, proposal, context, notarized, verdict, voted_notarize, voted_nullify}
+use Rattle.simplex_voter.proofs.Examples.Scripts.Call.{AddNotarization, AddNullification, AddFinalization, SetProposal, TryPropose, TryVerify, Verified, Certified, Notarize, Nullify, Finalize, NextTimeout, Replayed, View, Restart}
 use Rattle.simplex_voter.proofs.Examples.Scripts.Reply.{Done, Flag, Added, Asked, Work, Judged, Vote, NullifyVote, Now, Refused, NotAllowed}
 
 -- a verdict where nothing is known says nothing; one without its notarization is not allowed, nor is view 0
@@ -111,3 +111,66 @@ notarized_once :
     Flag false ∷ Work Wait ∷ Vote None ∷ Asked (Some (Prepare (context 2 1 1 7))) ∷ []
 unfolding replies_of
 notarized_once = refl
+
+-- a nullify vote gates no other term
+other_terms_gate_nothing :
+    replies_of
+    (voter 0 1 0)
+    (
+    Nullify 1 ∷ AddNullification 1 5 ∷ AddNotarization 2 0 9 ∷ Certified 2 true 6 ∷ Finalize 2 ∷ []
+    )
+    ≡
+    NullifyVote (Some false) ∷ Flag true ∷ Added true None ∷ Judged (Some (proposal 2 0 9)) ∷
+    Vote (Some (proposal 2 0 9)) ∷ []
+unfolding replies_of
+other_terms_gate_nothing = refl
+
+-- a view below the last finalized one is not finalized again
+below_finalized :
+    replies_of
+    (voter 0 1 0)
+    (
+    AddNotarization 1 0 7 ∷ Certified 1 true 5 ∷ AddFinalization 2 1 9 6 ∷ Finalize 1 ∷ []
+    )
+    ≡
+    Added true None ∷ Judged (Some (proposal 1 0 7)) ∷ Added true None ∷ Vote None ∷ []
+unfolding replies_of
+below_finalized = refl
+
+-- a view far ahead is not voted for, though its verdict was replayed
+verdict_far_ahead :
+    replies_of
+    (voter 0 1 0)
+    (
+    AddNotarization 5 4 7 ∷ Replayed (verdict 5 true) ∷ Finalize 5 ∷ Notarize 5 ∷ []
+    )
+    ≡
+    Added true None ∷ Done ∷ Vote None ∷ Vote None ∷ []
+unfolding replies_of
+verdict_far_ahead = refl
+
+-- a finalize vote without a key is decided and not answered
+certified_without_key :
+    replies_of
+    (keyless 1 0)
+    (
+    AddNotarization 1 0 7 ∷ Certified 1 true 5 ∷ Finalize 1 ∷ Restart 6 (notarized 1 0 7 ∷ verdict 1 true ∷ []) ∷
+    Nullify 2 ∷ []
+    )
+    ≡
+    Added true None ∷ Judged (Some (proposal 1 0 7)) ∷ Vote None ∷ Done ∷ NullifyVote None ∷ []
+unfolding replies_of
+certified_without_key = refl
+
+-- a failed state is asked for nothing
+failed :
+    replies_of
+    (record (voter 0 1 0) { failed = true })
+    (
+    AddNotarization 1 0 7 ∷ AddNullification 9223372036854775808 18446744073709551615 ∷ Certified 1 true 5 ∷
+    NextTimeout 5 ∷ []
+    )
+    ≡
+    Refused Failed ∷ Refused Failed ∷ NotAllowed ∷ Refused Failed ∷ []
+unfolding replies_of
+failed = refl
