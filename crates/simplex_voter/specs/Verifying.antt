@@ -11,7 +11,7 @@ use Rattle.simplex_types.specs.declared.reasons.TimeoutReason.{TimeoutReason}
 use Rattle.simplex_types.specs.declared.reasons.TimeoutReason.TheVariants.{InvalidProposal}
 use Rattle.simplex_round.specs.declared.round.Leader.{Leader}
 use Rattle.simplex_round.specs.Slot.{after_vote, after_mark, is_unverified}
-use Rattle.simplex_round.specs.Round.{RoundFacts, is_nullify, pending_proposal, with_latch}
+use Rattle.simplex_round.specs.Round.{RoundFacts, is_nullify, pending_proposal, with_latch, is_last_request}
 use Rattle.simplex_voter.specs.Facts.{Facts, Elect, round_at, round_of, with_round, with_tracked}
 use Rattle.simplex_voter.specs.Gaps.{first_gap}
 use Rattle.simplex_voter.specs.Windows.{in_window, is_admitted}
@@ -38,7 +38,7 @@ pub data Verification (K D : Type 0) : Type 0 where
 
 -- a certificate is asked for, unless its view was the last one asked for
 abbrev pub unless_asked : {K D : Type 0} → RoundFacts K D → ℕ → Kind → Standing D
-unless_asked r w kind = if option_map_or (λ asked. asked == w) r.last_request false then Passed else Lacks w kind
+unless_asked r w kind = if is_last_request r w then Passed else Lacks w kind
 
 -- the held proposal is given out to be verified, bound to its parent's payload
 abbrev pub verifying_round : {K D : Type 0} → RoundFacts K D → D → RoundFacts K D

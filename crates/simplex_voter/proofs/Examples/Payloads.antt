@@ -1,7 +1,8 @@
 -- What single definitions say of facts that calls alone don't show.
-use Rattle.std.specs.Prelude.{◌≡◌, ℕ, [], ◌∷◌, Some, None, map}
+use Rattle.std.specs.Prelude.{◌≡◌, ℕ, true, false, [], ◌∷◌, Some, None, map}
 use Rattle.std.proofs.Common.{refl}
 use Rattle.simplex_round.specs.declared.round.Certification.TheVariants.{Outstanding, Aborted}
+use Rattle.simplex_voter.specs.Windows.{in_window}
 use Rattle.simplex_voter.specs.Facts.{Elect, round_of}
 use Rattle.simplex_voter.specs.Payloads.{optimistic_payload}
 use Rattle.simplex_voter.specs.Leaders.{elected, opened_views}
@@ -32,6 +33,16 @@ first_leader = refl
 aborted : map (λ v. (round_of (after_call (after_call (after_call (after_call (after_call (voter 0 1 0) (AddNotarization 1 0 7)) (AddNotarization 3 2 4)) (SetCertifyHandle 1 5)) (SetCertifyHandle 3 6)) (AddFinalization 2 1 9 7)) v).certification) (1 ∷ 3 ∷ []) ≡ Aborted ∷ Outstanding 6 ∷ []
 unfolding replies_of
 aborted = refl
+
+-- a notarization opens the windows of the views above it, and not its own
+notarized_windows : map (in_window (after_call (voter 0 5 1) (AddNotarization 3 2 4))) (3 ∷ 4 ∷ 5 ∷ []) ≡ false ∷ true ∷ true ∷ []
+unfolding replies_of
+notarized_windows = refl
+
+-- a finalization opens them too
+finalized_windows : map (in_window (after_call (voter 0 5 1) (AddFinalization 3 2 4 5))) (3 ∷ 4 ∷ 5 ∷ []) ≡ false ∷ true ∷ true ∷ []
+unfolding replies_of
+finalized_windows = refl
 
 -- a certificate hands its leader on to at most one view more than the optimistic ones, and not into the next term
 opened : map (opened_views (voter 0 5 2)) (1 ∷ 3 ∷ 5 ∷ []) ≡ (2 ∷ 3 ∷ 4 ∷ []) ∷ (4 ∷ 5 ∷ []) ∷ [] ∷ []

@@ -20,6 +20,7 @@ use Rattle.simplex_voter.specs.Rules.{may_nullify, is_gated, required_parent, ma
 use Rattle.simplex_voter.specs.Refusals.{plain_refusal, proposal_refusal, takes_round}
 use Rattle.simplex_voter.specs.Timeouts.{after_trigger_timeout, next_timeout_answer, after_next_timeout, next_timeout_refusal, has_timeout}
 use Rattle.simplex_voter.specs.Certification.{Fetch, candidates_answer, after_candidates, after_set_certify_handle, takes_certify_handle, certified_answer, after_certified, certified_refusal, takes_verdict}
+use Rattle.simplex_types.specs.Config.{Finalized as FinalizedFloor}
 use Rattle.simplex_voter.specs.Acceptance as accept
 use Rattle.simplex_voter.specs.Votes.{nullify_answer, after_construct_nullify, finalize_answer, after_construct_finalize, notarize_answer, after_construct_notarize}
 use Rattle.simplex_voter.specs.Proposing.{Request, propose_answer, after_try_propose, proposed_answer, after_proposed, supersede_answer, after_supersede, abandonment_answer, after_release, parent_certified, voted_nullify as gives_up}
@@ -257,7 +258,7 @@ fetch p v = record { proposal = p; view = v }
 
 -- a member that begins above a finalization
 abbrev pub above : ℕ → ℕ → ℕ → ℕ → State
-above me v p d = accept.after_set_floor same in_turn (fresh (voter me 1 0)) (accept.FloorFacts.Finalized (certificate v p d)) 0
+above me v p d = accept.after_set_floor same in_turn (fresh (voter me 1 0)) (FinalizedFloor (certificate v p d)) 0
 
 -- entries of a record
 
