@@ -6,3 +6,4 @@ pub mod Parents
 pub mod Windows
 pub mod Timing
 pub mod Hostile
+pub mod Payloads

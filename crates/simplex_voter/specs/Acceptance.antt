@@ -5,6 +5,7 @@ use Rattle.std.specs.BTreeSet.{insert_key}
 use Rattle.simplex_types.specs.Terms.{next_term_start}
 use Rattle.simplex_types.specs.Proposal.{same_proposal}
 use Rattle.simplex_types.specs.Certificates.{ProposalFacts, NullificationFacts}
+use Rattle.simplex_types.specs.Config.{FloorFacts, Genesis, Finalized}
 use Rattle.simplex_types.specs.declared.types.fault.Fault.{Fault}
 use Rattle.simplex_types.specs.declared.types.messages.Proposal.{Proposal}
 use Rattle.simplex_round.specs.Round.{RoundFacts, equivocator, with_notarization, with_nullification, with_finalization}
@@ -13,11 +14,6 @@ use Rattle.simplex_voter.specs.Refusals.{first_fault, is_too_large, names_too_la
 use Rattle.simplex_voter.specs.Entering.{entered, at_moment}
 use Rattle.simplex_voter.specs.Leaders.{elected, slid}
 use Rattle.simplex_voter.specs.Certification.{named_also, raised, woken}
-
--- where a state begins: at genesis' payload, or above a finalization
-pub data FloorFacts (D : Type 0) : Type 0 where
-  Genesis : D → FloorFacts D
-  Finalized : ProposalFacts D → FloorFacts D
 
 -- whether the certificate is the first of its kind and view; and, where its proposal differs from the held one, the leader's key
 abbrev pub added_answer : {K D : Type 0} → (D → D → Bool) → Option (ProposalFacts D) → RoundFacts K D → Proposal D → Bool × Option K

@@ -1,5 +1,5 @@
 -- Which proposals are offered for certification, and what their verdicts do.
-use Rattle.std.specs.Prelude.{ℕ, ◌+◌, Bool, true, false, ◌&&◌, ◌==◌, not, nat_lt, nat_le, List, [], Option, Some, None, is_some, is_none, option_map, option_and_then, if◌then◌else◌, map, filter}
+use Rattle.std.specs.Prelude.{ℕ, ◌+◌, Bool, true, false, ◌&&◌, ◌==◌, not, nat_lt, nat_le, List, [], Option, Some, None, is_some, is_none, option_and_then, if◌then◌else◌, map, filter}
 use Rattle.std.specs.List.{filter_map}
 use Rattle.std.specs.Option.{option_map_or}
 use Rattle.std.specs.Ordering.{nat_cmp}
@@ -10,7 +10,7 @@ use Rattle.simplex_types.specs.declared.types.fault.Fault.{Fault}
 use Rattle.simplex_types.specs.declared.types.messages.Proposal.{Proposal}
 use Rattle.simplex_types.specs.declared.reasons.TimeoutReason.TheVariants.{FailedCertification}
 use Rattle.simplex_round.specs.declared.round.Certification.TheVariants.{Outstanding}
-use Rattle.simplex_round.specs.Round.{RoundFacts, certifiable_proposal, certified_round, token_of, after_abort, is_judged, is_ready, is_aborted}
+use Rattle.simplex_round.specs.Round.{RoundFacts, certifiable_proposal, certified_round, token_of, after_abort, is_judged}
 use Rattle.simplex_voter.specs.Facts.{Facts, Elect, round_at, round_of, is_tracked, with_round, with_tracked}
 use Rattle.simplex_voter.specs.Refusals.{first_fault, enters_late, is_started}
 use Rattle.simplex_voter.specs.Payloads.{explicit_payload}
@@ -65,8 +65,8 @@ module _ {K L D : Type 0} (elect : Elect L) where
   fetch_for x v p =
       option_and_then
       (λ q. if spans x v p.parent && is_none (explicit_payload x q) && is_none (round_of x q).notarization
-          then Some (record { proposal = p.round.view; view = q })
-          else None)
+      then Some (record { proposal = p.round.view; view = q })
+      else None)
       (required_parent elect x v p)
 
   abbrev pub fetched_of : Facts K L D → ℕ → Option Fetch

@@ -1,5 +1,5 @@
 -- What a state knows, as plain data. Each answer of its calls is a function of it.
-use Rattle.std.specs.Prelude.{ℕ, Bool, false, List, [], Option, Some, None, is_some, unwrap_or, if◌then◌else◌, map}
+use Rattle.std.specs.Prelude.{ℕ, Bool, false, List, [], Option, None, is_some, unwrap_or, if◌then◌else◌}
 use Rattle.std.specs.Ordering.{nat_cmp}
 use Rattle.std.specs.FinMap.Entries.{find, put}
 use Rattle.simplex_types.specs.declared.types.numbers.Round.{Round}

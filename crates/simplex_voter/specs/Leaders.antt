@@ -1,9 +1,9 @@
 -- Who leads a view. A leader that is set stays.
-use Rattle.std.specs.Prelude.{ℕ, ◌+◌, ◌-◌, Bool, ◌&&◌, ◌==◌, List, [], Option, Some, None, is_some, if◌then◌else◌, min, fold}
+use Rattle.std.specs.Prelude.{ℕ, ◌+◌, ◌-◌, Bool, ◌&&◌, ◌==◌, List, [], Option, None, is_some, if◌then◌else◌, min, fold}
 use Rattle.std.specs.List.{range_with_len}
 use Rattle.std.specs.Option.{option_map_or}
 use Rattle.simplex_types.specs.Terms.{term_end}
-use Rattle.simplex_round.specs.Round.{RoundFacts, leader_at}
+use Rattle.simplex_round.specs.Round.{leader_at}
 use Rattle.simplex_voter.specs.Facts.{Facts, Elect, round_of, with_round, round_number}
 use Rattle.simplex_voter.specs.Windows.{in_window}
 use Rattle.simplex_voter.specs.Payloads.{is_elected_early}

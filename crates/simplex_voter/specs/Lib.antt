@@ -18,3 +18,4 @@ pub mod Proposing
 pub mod Verifying
 pub mod Serving
 pub mod Replay
+pub mod Laws

@@ -1,33 +1,30 @@
 -- On which views a view may build.
-use Rattle.std.specs.Prelude.{◌≡◌, ℕ, ◌+◌, ◌-◌, Bool, true, false, ◌&&◌, ◌||◌, ◌==◌, nat_lt, nat_le, List, Option, Some, None, option_map, option_and_then, if◌then◌else◌, length, slice_get}
-use Rattle.std.specs.List.{filter_map}
-use Rattle.std.specs.Option.{option_map_or, option_or}
+use Rattle.std.specs.Prelude.{◌≡◌, ℕ, ◌+◌, ◌-◌, Bool, true, false, ◌&&◌, ◌||◌, ◌==◌, nat_lt, nat_le, Option, Some, None, option_map, option_and_then, if◌then◌else◌}
+use Rattle.std.specs.List.{filter_map, last_or}
+use Rattle.std.specs.Option.{option_map_or}
 use Rattle.simplex_types.specs.Proposal.{same_proposal}
 use Rattle.simplex_types.specs.declared.types.messages.Proposal.{Proposal}
 use Rattle.simplex_round.specs.Round.{RoundFacts}
 use Rattle.simplex_voter.specs.Facts.{Facts, Elect, round_at}
 use Rattle.simplex_voter.specs.Gaps.{is_gapless}
 use Rattle.simplex_voter.specs.Windows.{is_me, is_start, in_window}
-use Rattle.simplex_voter.specs.Payloads.{certified_payload, explicit_payload, optimistic_payload, is_handoff_parent}
+use Rattle.simplex_voter.specs.Payloads.{explicit_payload, optimistic_payload, is_handoff_parent}
 
 -- the view with its payload, where it has one
 abbrev pub at_view : {D : Type 0} → ℕ → Option D → Option (ℕ × D)
 at_view v payload = option_map (λ d. (v, d)) payload
-
-abbrev pub explicit_entry : {K D : Type 0} → ℕ → ℕ × RoundFacts K D → Option (ℕ × D)
-explicit_entry v e = if nat_lt e.0 v then at_view e.0 (certified_payload e.1) else None
-
-abbrev pub last_of : {A : Type 0} → List A → Option A
-last_of xs = slice_get xs (length xs - 1)
 
 module _ {K L D : Type 0} where
   -- what can't change for the better: the parent is below, not under the last finalized view, and inside a term the view before
   unfoldable pub spans : Facts K L D → ℕ → ℕ → Bool
   spans x v p = nat_lt p v && nat_le x.finalized p && (p + 1 == v || is_start x v)
 
+  abbrev pub explicit_below : Facts K L D → ℕ → ℕ × RoundFacts K D → Option (ℕ × D)
+  explicit_below x v e = if nat_lt e.0 v then at_view e.0 (explicit_payload x e.0) else None
+
   -- the highest tracked view below with an explicit payload, else genesis
   abbrev pub highest_explicit : Facts K L D → ℕ → Option (ℕ × D)
-  highest_explicit x v = option_or (last_of (filter_map (explicit_entry v) x.rounds)) (at_view 0 x.genesis)
+  highest_explicit x v = last_or (at_view 0 x.genesis) (filter_map (explicit_below x v) x.rounds)
 
   -- this member leads the view
   abbrev pub leads : Facts K L D → RoundFacts K D → Bool
@@ -74,7 +71,7 @@ module _ {K L D : Type 0} (same : D → D → Bool) (elect : Elect L) where
   holds_binding x v r bound =
       option_map_or
       (λ p. same_proposal same p bound.0
-          && (is_payload same (parent_payload x v p.parent) bound.1 || (leads x r && is_parent same (preferred_parent x v) p.parent bound.1)))
+      && (is_payload same (parent_payload x v p.parent) bound.1 || (leads x r && is_parent same (preferred_parent x v) p.parent bound.1)))
       r.slot.held
       false
 

@@ -1,19 +1,17 @@
 -- When this member builds a proposal, and what it may build on.
-use Rattle.std.specs.Prelude.{ℕ, Bool, true, false, ◌&&◌, ◌||◌, ◌==◌, not, nat_le, List, Option, Some, None, is_some, option_map, option_and_then, if◌then◌else◌, filter, slice_get}
+use Rattle.std.specs.Prelude.{ℕ, Bool, true, false, ◌&&◌, ◌==◌, not, nat_le, List, Option, Some, None, is_some, option_map, option_and_then, if◌then◌else◌, filter, slice_get}
 use Rattle.std.specs.List.{filter_map, list_any}
 use Rattle.std.specs.Option.{option_map_or}
 use Rattle.simplex_types.specs.Terms.{next_term_start}
 use Rattle.simplex_types.specs.Proposal.{same_proposal}
-use Rattle.simplex_types.specs.declared.types.fault.Fault.{Fault}
 use Rattle.simplex_types.specs.declared.types.messages.Context.{Context}
 use Rattle.simplex_types.specs.declared.types.messages.Proposal.{Proposal}
-use Rattle.simplex_types.specs.declared.types.numbers.Round.{Round}
 use Rattle.simplex_types.specs.declared.reasons.HandoffAbandonedReason.{HandoffAbandonedReason}
 use Rattle.simplex_types.specs.declared.reasons.HandoffAbandonedReason.TheVariants.{AncestryInvalidated, ParentNullify}
 use Rattle.simplex_round.specs.declared.round.Leader.{Leader}
 use Rattle.simplex_round.specs.Slot.{SlotFacts, after_own, holds_or_empty}
 use Rattle.simplex_round.specs.Round.{RoundFacts, is_nullify, should_propose}
-use Rattle.simplex_voter.specs.Facts.{Facts, Elect, round_at, round_of, round_number, is_tracked, with_round, with_tracked}
+use Rattle.simplex_voter.specs.Facts.{Facts, Elect, round_at, round_of, round_number, with_round, with_tracked}
 use Rattle.simplex_voter.specs.Windows.{is_start, is_admitted}
 use Rattle.simplex_voter.specs.Payloads.{explicit_payload}
 use Rattle.simplex_voter.specs.Parents.{is_payload, preferred_parent, may_stand}
@@ -128,5 +126,5 @@ module _ {K L D : Type 0} (same : D → D → Bool) (elect : Elect L) where
       if parent_certified same x context.parent
       then None
       else (if voted_nullify x x.current
-        then Some ParentNullify
-        else (if context_stands x context then None else Some AncestryInvalidated))
+      then Some ParentNullify
+      else (if context_stands x context then None else Some AncestryInvalidated))

@@ -1,12 +1,12 @@
 -- When this member may vote.
-use Rattle.std.specs.Prelude.{◌≡◌, ◌≤◌, ◌<◌, ℕ, ◌+◌, ◌-◌, Bool, true, false, ◌&&◌, ◌||◌, ◌==◌, not, nat_lt, nat_le, Option, Some, None, is_some, if◌then◌else◌}
+use Rattle.std.specs.Prelude.{◌≡◌, ◌<◌, ℕ, ◌+◌, ◌-◌, Bool, true, false, ◌&&◌, ◌||◌, ◌==◌, not, nat_lt, Option, Some, None, is_some, if◌then◌else◌}
 use Rattle.std.specs.List.{list_any}
 use Rattle.std.specs.Option.{option_map_or}
-use Rattle.simplex_types.specs.Terms.{covers, term_start}
+use Rattle.simplex_types.specs.Terms.{covers}
 use Rattle.simplex_types.specs.declared.types.messages.Proposal.{Proposal}
-use Rattle.simplex_round.specs.Round.{RoundFacts, is_nullify, is_finalize, is_pending, is_certified, is_verified_slot, can_notarize, can_finalize}
+use Rattle.simplex_round.specs.Round.{is_nullify, is_finalize, is_pending, is_certified, is_verified_slot, can_notarize, can_finalize}
 use Rattle.simplex_round.specs.Slot.{is_unequivocated}
-use Rattle.simplex_voter.specs.Facts.{Facts, Elect, round_at, round_of}
+use Rattle.simplex_voter.specs.Facts.{Facts, Elect, round_of}
 use Rattle.simplex_voter.specs.Windows.{is_start, is_admitted, in_window}
 use Rattle.simplex_voter.specs.Payloads.{explicit_payload, optimistic_payload, is_elected_early}
 use Rattle.simplex_voter.specs.Parents.{binding_matches}

@@ -1,13 +1,13 @@
 -- What a state hands out and shows, and what it drops.
-use Rattle.std.specs.Prelude.{ℕ, ◌-◌, Bool, true, ◌&&◌, ◌||◌, ◌==◌, nat_lt, nat_le, List, Option, Some, None, is_some, option_map, option_and_then, if◌then◌else◌, map, filter}
-use Rattle.std.specs.Option.{option_map_or, option_or}
+use Rattle.std.specs.Prelude.{ℕ, ◌-◌, Bool, ◌||◌, ◌==◌, nat_lt, nat_le, List, Option, None, is_some, option_map, option_and_then, if◌then◌else◌, map, filter}
+use Rattle.std.specs.List.{last_or}
+use Rattle.std.specs.Option.{option_or}
 use Rattle.simplex_types.specs.Terms.{covers}
 use Rattle.simplex_types.specs.Certificates.{ProposalFacts, NullificationFacts, CertificateFacts, Notarized, Nullified, Finalized}
 use Rattle.simplex_types.specs.declared.types.messages.Proposal.{Proposal}
-use Rattle.simplex_round.specs.Round.{RoundFacts, forwardable, start_of, elapsed}
+use Rattle.simplex_round.specs.Round.{forwardable, start_of, elapsed}
 use Rattle.simplex_voter.specs.Facts.{Facts, round_at, round_of, with_tracked}
 use Rattle.simplex_voter.specs.Windows.{is_start, min_active}
-use Rattle.simplex_voter.specs.Parents.{last_of}
 
 -- unless it was handed out
 abbrev pub once : {C : Type 0} → Bool → Option C → Option C
@@ -69,7 +69,7 @@ module _ {K L D : Type 0} where
 
   -- the highest nullified view that covers a view
   abbrev pub highest_nullified : Facts K L D → ℕ → Option ℕ
-  highest_nullified x v = last_of (filter (λ u. covers x.terms.term_length u v) x.nullified)
+  highest_nullified x v = last_or None (filter (λ u. covers x.terms.term_length u v) x.nullified)
 
   -- the nullification held there, where a term begins above
   abbrev pub entry_nullification : Facts K L D → ℕ → Option NullificationFacts

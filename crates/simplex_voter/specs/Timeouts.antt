@@ -1,5 +1,5 @@
 -- When the current view times out, and why.
-use Rattle.std.specs.Prelude.{ℕ, ◌+◌, ◌-◌, Bool, true, false, ◌&&◌, ◌||◌, not, nat_lt, nat_le, max, List, Option, Some, None, is_some, option_map, option_and_then, if◌then◌else◌, filter, slice_get}
+use Rattle.std.specs.Prelude.{ℕ, ◌+◌, ◌-◌, Bool, true, false, ◌&&◌, ◌||◌, not, nat_lt, nat_le, Option, is_some, option_map, option_and_then, if◌then◌else◌, filter, slice_get}
 use Rattle.std.specs.Option.{option_map_or}
 use Rattle.simplex_types.specs.Terms.{term_index, term_start}
 use Rattle.simplex_types.specs.declared.types.fault.Fault.{Fault}

@@ -1,9 +1,8 @@
 -- Which proposals of other leaders this member verifies, and what it lacks to do so.
-use Rattle.std.specs.Prelude.{ℕ, Bool, true, false, ◌&&◌, ◌||◌, ◌==◌, not, nat_le, List, [], ◌∷◌, Option, Some, None, is_some, is_none, option_map, option_and_then, if◌then◌else◌, filter, slice_get, fold}
+use Rattle.std.specs.Prelude.{ℕ, Bool, true, false, ◌&&◌, ◌==◌, not, List, [], ◌∷◌, Option, Some, None, is_none, option_map, option_and_then, if◌then◌else◌, slice_get, fold}
 use Rattle.std.specs.List.{filter_map}
 use Rattle.std.specs.Option.{option_map_or}
 use Rattle.simplex_types.specs.Proposal.{same_proposal}
-use Rattle.simplex_types.specs.declared.types.fault.Fault.{Fault}
 use Rattle.simplex_types.specs.declared.types.messages.Context.{Context}
 use Rattle.simplex_types.specs.declared.types.messages.Proposal.{Proposal}
 use Rattle.simplex_types.specs.declared.reasons.Kind.{Kind}
@@ -11,9 +10,9 @@ use Rattle.simplex_types.specs.declared.reasons.Kind.TheVariants.{Nullification,
 use Rattle.simplex_types.specs.declared.reasons.TimeoutReason.{TimeoutReason}
 use Rattle.simplex_types.specs.declared.reasons.TimeoutReason.TheVariants.{InvalidProposal}
 use Rattle.simplex_round.specs.declared.round.Leader.{Leader}
-use Rattle.simplex_round.specs.Slot.{SlotFacts, after_vote, after_mark, is_unverified}
-use Rattle.simplex_round.specs.Round.{RoundFacts, is_nullify, pending_proposal, with_latch}
-use Rattle.simplex_voter.specs.Facts.{Facts, Elect, round_at, round_of, round_number, with_round, with_tracked}
+use Rattle.simplex_round.specs.Slot.{after_vote, after_mark, is_unverified}
+use Rattle.simplex_round.specs.Round.{RoundFacts, is_nullify, pending_proposal, with_latch, is_last_request}
+use Rattle.simplex_voter.specs.Facts.{Facts, Elect, round_at, round_of, with_round, with_tracked}
 use Rattle.simplex_voter.specs.Gaps.{first_gap}
 use Rattle.simplex_voter.specs.Windows.{in_window, is_admitted}
 use Rattle.simplex_voter.specs.Parents.{spans, payload_for, binding_matches}
@@ -39,14 +38,11 @@ pub data Verification (K D : Type 0) : Type 0 where
 
 -- a certificate is asked for, unless its view was the last one asked for
 abbrev pub unless_asked : {K D : Type 0} → RoundFacts K D → ℕ → Kind → Standing D
-unless_asked r w kind = if option_map_or (λ asked. asked == w) r.last_request false then Passed else Lacks w kind
+unless_asked r w kind = if is_last_request r w then Passed else Lacks w kind
 
--- what the scan leaves of a view that it comes to
-abbrev pub scanned_round : {K D : Type 0} → ℕ → RoundFacts K D → Standing D → RoundFacts K D
-scanned_round moment r Passed = r
-scanned_round moment r Invalid = with_latch r moment InvalidProposal
-scanned_round moment r (Lacks w kind) = record r { last_request = Some w }
-scanned_round moment r (Ready d) =
+-- the held proposal is given out to be verified, bound to its parent's payload
+abbrev pub verifying_round : {K D : Type 0} → RoundFacts K D → D → RoundFacts K D
+verifying_round r d =
     record r { slot = record (r.slot) { verify_requested = true }; binding = option_map (λ p. (p, d)) r.slot.held }
 
 abbrev pub is_answered : {D : Type 0} → Standing D → Bool
@@ -71,6 +67,13 @@ answer_at v (Lacks w kind) found = Some (Resolve v w kind found.0.key)
 answer_at v (Ready d) found = Some (Verify (verify_context found d) found.1)
 
 module _ {K L D : Type 0} where
+  -- what the scan leaves where it comes to a view of this standing
+  abbrev pub left_at : Facts K L D → ℕ × RoundFacts K D → Standing D → Facts K L D
+  left_at x e Passed = x
+  left_at x e Invalid = with_round x e.0 (with_latch e.1 x.moment InvalidProposal)
+  left_at x e (Lacks w kind) = with_round x e.0 (record e.1 { last_request = Some w })
+  left_at x e (Ready d) = with_round x e.0 (verifying_round e.1 d)
+
   -- what a proposal of this view handed in asks: this epoch, and a view that is kept
   abbrev pub takes_proposal : Facts K L D → ℕ → Proposal D → Bool
   takes_proposal x v p = takes_round x p.round && p.round.view == v
@@ -127,7 +130,7 @@ module _ {K L D : Type 0} (same : D → D → Bool) (elect : Elect L) where
 
   -- those with an invalid parent time out, and the one that is answered is verified or asks
   abbrev pub after_try_verify : Facts K L D → Facts K L D
-  after_try_verify x = fold (λ y e. with_round y e.0 (scanned_round x.moment e.1 (standing x e))) x (scanned x)
+  after_try_verify x = fold (λ y e. left_at y e (standing x e)) x (scanned x)
 
   -- `verified`: whether the held proposal is marked; an answer for what is no longer bound takes the binding away
   abbrev pub verified_answer : Facts K L D → ℕ → Bool

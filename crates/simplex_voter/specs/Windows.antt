@@ -1,5 +1,5 @@
 -- In which views a member may work now.
-use Rattle.std.specs.Prelude.{ℕ, ◌+◌, ◌-◌, Bool, false, ◌&&◌, ◌||◌, ◌==◌, not, nat_le, nat_lt, max, Option, Some, None, is_some}
+use Rattle.std.specs.Prelude.{ℕ, ◌-◌, Bool, false, ◌&&◌, ◌||◌, ◌==◌, nat_le, nat_lt, max, Option, Some, None, is_some}
 use Rattle.std.specs.List.{list_any}
 use Rattle.simplex_types.specs.Terms.{term_start, term_end, next_term_start}
 use Rattle.simplex_types.specs.Window.{issuance_floor}

@@ -1,6 +1,8 @@
-//! A member's state over all views: leaders, parents, entering, and the rules of its votes.
+//! A member's votes over all views: leaders, parents, entering, the rules that say when it signs, and the state that
+//! keeps them.
 
 mod floor;
+pub mod laws;
 mod nullifications;
 mod rounds;
 mod state;

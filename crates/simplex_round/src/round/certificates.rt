@@ -14,18 +14,21 @@ use simplex_types::types::{
 use std::alloc::Global;
 
 impl<S: CertificateScheme, D: Digest> Round<S, D> {
+    /// The view's notarization, where one was added.
     pub fn notarization(&self) -> Option<&Notarization<S, D>>
         ensures { option_map (notarization_facts S.certificate_bytes) (option_copied result) ≡ self.now.notarization }
     {
         self.notarization.as_ref()
     }
 
+    /// The view's nullification, where one was added.
     pub fn nullification(&self) -> Option<&Nullification<S>>
         ensures { option_map (nullification_facts S.certificate_bytes) (option_copied result) ≡ self.now.nullification }
     {
         self.nullification.as_ref()
     }
 
+    /// The view's finalization, where one was added.
     pub fn finalization(&self) -> Option<&Finalization<S, D>>
         ensures { option_map (finalization_facts S.certificate_bytes) (option_copied result) ≡ self.now.finalization }
     {

@@ -1,9 +1,9 @@
 //! The proposal of a view: whether to build or to verify one, and what came of it.
 
-ghost use Rattle.std.specs.Prelude.{◌≡◌, ◌≢◌, ◌↔◌, ◌&&◌, IsTrue, Some, None, true, false, not, is_some, if◌then◌else◌};
+ghost use Rattle.std.specs.Prelude.{◌≡◌, ◌&&◌, Some, None, true, false, not, is_some, if◌then◌else◌};
 ghost use Rattle.std.specs.Option.{option_copied};
 ghost use Rattle.simplex_types.specs.Proposal.{same_proposal};
-ghost use Rattle.simplex_round.specs.Round.{is_nullify, is_verified_slot, pending_proposal, should_propose, should_verify};
+ghost use Rattle.simplex_round.specs.Round.{is_last_request, is_nullify, is_verified_slot, pending_proposal, should_propose, should_verify};
 ghost use Rattle.simplex_round.specs.Slot.{is_unequivocated, is_unverified, holds_or_empty, after_own, after_mark, after_vote};
 
 use super::{Leader, Round};
@@ -150,7 +150,7 @@ impl<S: CertificateScheme, D: Digest> Round<S, D> {
     /// Notes that the verification of this view's proposal asks peers for a certificate of
     /// `view`. False where that view was the last one asked for.
     pub fn request(&mut self, view: View) -> bool
-        ensures first { IsTrue result ↔ (self.old.last_request ≢ Some view) }
+        ensures first { result ≡ not (is_last_request self.old view) }
         ensures facts { self.new ≡ record self.old { last_request = Some view } }
     {
         if self.last_request == Some(view) {

@@ -102,9 +102,7 @@ impl<S: CertificateScheme, D: Digest> Round<S, D> {
         }
         match self.decision {
             Decision::Finalize => Ok(None),
-            Decision::Nullify {
-                retry: Some(moment),
-            } => Ok(Some((moment, TimeoutReason::Retry))),
+            Decision::Nullify { retry: Some(due) } => Ok(Some((due, TimeoutReason::Retry))),
             Decision::Nullify { retry: None } => {
                 let moment = now.checked_add(retry_interval).ok_or(Fault::TimeOverflow)?;
                 self.decision = Decision::Nullify {

@@ -1,26 +1,23 @@
 -- Leaders who propose twice, certificates far ahead, and view 0.
-use Rattle.std.specs.Prelude.{◌≡◌, ℕ, true, false, List, [], ◌∷◌, Some, None}
+use Rattle.std.specs.Prelude.{◌≡◌, true, false, [], ◌∷◌, Some, None}
 use Rattle.std.proofs.Common.{refl}
-use Rattle.simplex_types.specs.Certificates.{Notarized, Nullified, Finalized}
-use Rattle.simplex_types.specs.declared.types.fault.Fault.TheVariants.{TimeOverflow, ViewTooLarge}
-use Rattle.simplex_types.specs.declared.reasons.Kind.TheVariants.{Nullification, Notarization}
-use Rattle.simplex_types.specs.declared.reasons.HandoffAbandonedReason.TheVariants.{AncestryInvalidated, ParentNullify}
-use Rattle.simplex_types.specs.declared.reasons.TimeoutReason.TheVariants.{Retry, Inactivity, LeaderNullify, LeaderTimeout, CertificationTimeout, StallTimeout, MissingProposal, InvalidProposal}
-use Rattle.simplex_voter.specs.Proposing.Request.{Prepare, Propose}
-use Rattle.simplex_voter.specs.Verifying.Verification.{Verify, Resolve, Wait}
-use Rattle.simplex_voter.proofs.Examples.Scripts.{replies_of, member, voter, keyless, usual, proposal, context, certificate, nullification, fetch, notarized, nullified, finalized, verdict, voted_notarize, voted_nullify, voted_finalize}
-use Rattle.simplex_voter.proofs.Examples.Scripts.Call.{AddNotarization, AddNullification, AddFinalization, SetProposal, TryPropose, Proposed, Supersede, Abandonment, Release, TryVerify, Verified, Rejected, Candidates, SetCertifyHandle, Certified, Notarize, Nullify, Finalize, BroadcastNotarization, BroadcastNullification, BroadcastFinalization, Best, Trigger, NextTimeout, Prune, View, Restart}
-use Rattle.simplex_voter.proofs.Examples.Scripts.Reply.{Done, Flag, Added, Asked, Abandoned, Work, Offered, Judged, Vote, NullifyVote, Certificate, Timeout, Views, Now, Refused, NotAllowed}
+use Rattle.simplex_types.specs.declared.types.fault.Fault.TheVariants.{ViewTooLarge}
+use Rattle.simplex_types.specs.declared.reasons.TimeoutReason.TheVariants.{Retry}
+use Rattle.simplex_voter.specs.Proposing.Request.{Propose}
+use Rattle.simplex_voter.specs.Verifying.Verification.{Verify, Wait}
+use Rattle.simplex_voter.proofs.Examples.Scripts.{replies_of, voter, proposal, context, notarized, verdict, voted_finalize}
+use Rattle.simplex_voter.proofs.Examples.Scripts.Call.{AddNotarization, AddNullification, AddFinalization, SetProposal, TryPropose, Proposed, Release, TryVerify, Verified, Candidates, Certified, Notarize, Nullify, Finalize, BroadcastFinalization, Trigger, Prune, View, Restart}
+use Rattle.simplex_voter.proofs.Examples.Scripts.Reply.{Done, Flag, Added, Asked, Work, Offered, Judged, Vote, NullifyVote, Certificate, Views, Now, Refused, NotAllowed}
 
 -- a leader who proposes twice is not voted for; the notarized proposal is certified, and finalized after a restart
 proposed_twice :
     replies_of
     (voter 1 1 0)
     (
-      SetProposal 1 0 7 ∷ SetProposal 1 0 8 ∷ TryVerify ∷ Verified 1 ∷ Notarize 1 ∷ AddNotarization 1 0 8 ∷
-      Candidates ∷ Certified 1 true 10 ∷ Finalize 1 ∷ TryPropose ∷
-      Restart 20 (notarized 1 0 8 ∷ verdict 1 true ∷ []) ∷ Finalize 1 ∷
-      Restart 30 (notarized 1 0 8 ∷ verdict 1 true ∷ voted_finalize 1 1 0 8 ∷ []) ∷ Finalize 1 ∷ []
+    SetProposal 1 0 7 ∷ SetProposal 1 0 8 ∷ TryVerify ∷ Verified 1 ∷ Notarize 1 ∷ AddNotarization 1 0 8 ∷
+    Candidates ∷ Certified 1 true 10 ∷ Finalize 1 ∷ TryPropose ∷
+    Restart 20 (notarized 1 0 8 ∷ verdict 1 true ∷ []) ∷ Finalize 1 ∷
+    Restart 30 (notarized 1 0 8 ∷ verdict 1 true ∷ voted_finalize 1 1 0 8 ∷ []) ∷ Finalize 1 ∷ []
     )
     ≡
     Flag true ∷ Flag false ∷ Work (Verify (context 1 0 0 0) (proposal 1 0 7)) ∷ Flag false ∷ Vote None ∷
@@ -34,7 +31,7 @@ restarted_verification :
     replies_of
     (voter 1 1 0)
     (
-      SetProposal 1 0 7 ∷ TryVerify ∷ Restart 5 [] ∷ TryVerify ∷ []
+    SetProposal 1 0 7 ∷ TryVerify ∷ Restart 5 [] ∷ TryVerify ∷ []
     )
     ≡
     Flag true ∷ Work (Verify (context 1 0 0 0) (proposal 1 0 7)) ∷ Done ∷ Work Wait ∷ []
@@ -46,8 +43,8 @@ largest_view :
     replies_of
     (voter 0 1 0)
     (
-      AddFinalization 9223372036854775807 5 9 10 ∷ View ∷ AddNotarization 9223372036854775808 1 1 ∷ Prune ∷
-      Nullify 9223372036854775808 ∷ []
+    AddFinalization 9223372036854775807 5 9 10 ∷ View ∷ AddNotarization 9223372036854775808 1 1 ∷ Prune ∷
+    Nullify 9223372036854775808 ∷ []
     )
     ≡
     Added true None ∷ Now 9223372036854775808 9223372036854775807 9223372036854775797 ∷ Refused ViewTooLarge ∷
@@ -60,8 +57,8 @@ proposed_above_largest :
     replies_of
     (voter 3 1 0)
     (
-      AddFinalization 9223372036854775807 5 9 10 ∷ TryPropose ∷
-      Proposed (context 9223372036854775808 3 9223372036854775807 9) 1 11 ∷ Notarize 9223372036854775808 ∷ []
+    AddFinalization 9223372036854775807 5 9 10 ∷ TryPropose ∷
+    Proposed (context 9223372036854775808 3 9223372036854775807 9) 1 11 ∷ Notarize 9223372036854775808 ∷ []
     )
     ≡
     Added true None ∷ Asked (Some (Propose (context 9223372036854775808 3 9223372036854775807 9))) ∷ Flag true ∷
@@ -74,8 +71,8 @@ zeros :
     replies_of
     (voter 0 1 0)
     (
-      AddNullification 0 1 ∷ AddFinalization 0 0 7 1 ∷ SetProposal 0 0 7 ∷ Release 0 ∷ Certified 0 true 1 ∷
-      Notarize 0 ∷ Nullify 0 ∷ Finalize 0 ∷ BroadcastFinalization 0 ∷ Trigger 0 Retry 1 ∷ View ∷ []
+    AddNullification 0 1 ∷ AddFinalization 0 0 7 1 ∷ SetProposal 0 0 7 ∷ Release 0 ∷ Certified 0 true 1 ∷
+    Notarize 0 ∷ Nullify 0 ∷ Finalize 0 ∷ BroadcastFinalization 0 ∷ Trigger 0 Retry 1 ∷ View ∷ []
     )
     ≡
     NotAllowed ∷ NotAllowed ∷ NotAllowed ∷ Done ∷ Judged None ∷ Vote None ∷ NullifyVote None ∷ Vote None ∷

@@ -1,24 +1,21 @@
 -- Parents, proposing, verifying, and the notarize vote outside the window.
-use Rattle.std.specs.Prelude.{◌≡◌, ℕ, true, false, List, [], ◌∷◌, Some, None}
+use Rattle.std.specs.Prelude.{◌≡◌, true, false, [], ◌∷◌, Some, None}
 use Rattle.std.proofs.Common.{refl}
-use Rattle.simplex_types.specs.Certificates.{Notarized, Nullified, Finalized}
-use Rattle.simplex_types.specs.declared.types.fault.Fault.TheVariants.{TimeOverflow, ViewTooLarge}
 use Rattle.simplex_types.specs.declared.reasons.Kind.TheVariants.{Nullification, Notarization}
-use Rattle.simplex_types.specs.declared.reasons.HandoffAbandonedReason.TheVariants.{AncestryInvalidated, ParentNullify}
-use Rattle.simplex_types.specs.declared.reasons.TimeoutReason.TheVariants.{Retry, Inactivity, LeaderNullify, LeaderTimeout, CertificationTimeout, StallTimeout, MissingProposal, InvalidProposal}
-use Rattle.simplex_voter.specs.Proposing.Request.{Prepare, Propose}
+use Rattle.simplex_types.specs.declared.reasons.TimeoutReason.TheVariants.{InvalidProposal}
+use Rattle.simplex_voter.specs.Proposing.Request.{Propose}
 use Rattle.simplex_voter.specs.Verifying.Verification.{Verify, Resolve, Wait}
-use Rattle.simplex_voter.proofs.Examples.Scripts.{replies_of, member, voter, keyless, usual, proposal, context, certificate, nullification, fetch, notarized, nullified, finalized, verdict, voted_notarize, voted_nullify, voted_finalize}
-use Rattle.simplex_voter.proofs.Examples.Scripts.Call.{AddNotarization, AddNullification, AddFinalization, SetProposal, TryPropose, Proposed, Supersede, Abandonment, Release, TryVerify, Verified, Rejected, Candidates, SetCertifyHandle, Certified, Notarize, Nullify, Finalize, BroadcastNotarization, BroadcastNullification, BroadcastFinalization, Best, Trigger, NextTimeout, Prune, View, Restart}
-use Rattle.simplex_voter.proofs.Examples.Scripts.Reply.{Done, Flag, Added, Asked, Abandoned, Work, Offered, Judged, Vote, NullifyVote, Certificate, Timeout, Views, Now, Refused, NotAllowed}
+use Rattle.simplex_voter.proofs.Examples.Scripts.{replies_of, voter, proposal, context}
+use Rattle.simplex_voter.proofs.Examples.Scripts.Call.{AddNotarization, AddNullification, AddFinalization, SetProposal, TryPropose, Proposed, Supersede, Abandonment, Release, TryVerify, Verified, Rejected, Certified, Notarize, Nullify, NextTimeout, Prune, Elapsed}
+use Rattle.simplex_voter.proofs.Examples.Scripts.Reply.{Done, Flag, Added, Asked, Abandoned, Work, Judged, Vote, NullifyVote, Timeout, Views, Since}
 
 -- a proposal is verified once, voted for once, and given up for the term after a nullification
 verified_and_voted :
     replies_of
     (voter 1 1 0)
     (
-      SetProposal 1 0 7 ∷ TryVerify ∷ TryVerify ∷ Verified 1 ∷ Notarize 1 ∷ Notarize 1 ∷ AddNullification 1 10 ∷
-      TryPropose ∷ TryPropose ∷ Proposed (context 2 1 0 0) 8 12 ∷ Notarize 2 ∷ []
+    SetProposal 1 0 7 ∷ TryVerify ∷ TryVerify ∷ Verified 1 ∷ Notarize 1 ∷ Notarize 1 ∷ AddNullification 1 10 ∷
+    TryPropose ∷ TryPropose ∷ Proposed (context 2 1 0 0) 8 12 ∷ Notarize 2 ∷ []
     )
     ≡
     Flag true ∷ Work (Verify (context 1 0 0 0) (proposal 1 0 7)) ∷ Work Wait ∷ Flag true ∷
@@ -32,7 +29,7 @@ gap_asked_once :
     replies_of
     (voter 0 1 0)
     (
-      AddNullification 2 10 ∷ SetProposal 3 0 7 ∷ TryVerify ∷ TryVerify ∷ AddNullification 1 11 ∷ TryVerify ∷ []
+    AddNullification 2 10 ∷ SetProposal 3 0 7 ∷ TryVerify ∷ TryVerify ∷ AddNullification 1 11 ∷ TryVerify ∷ []
     )
     ≡
     Flag true ∷ Flag true ∷ Work (Resolve 3 1 Nullification 2) ∷ Work Wait ∷ Flag true ∷
@@ -45,8 +42,8 @@ uncertified_parent :
     replies_of
     (voter 0 1 0)
     (
-      AddNotarization 1 0 7 ∷ AddNullification 2 10 ∷ SetProposal 3 1 8 ∷ TryVerify ∷ Certified 1 true 11 ∷
-      TryVerify ∷ []
+    AddNotarization 1 0 7 ∷ AddNullification 2 10 ∷ SetProposal 3 1 8 ∷ TryVerify ∷ Certified 1 true 11 ∷
+    TryVerify ∷ []
     )
     ≡
     Added true None ∷ Flag true ∷ Flag true ∷ Work (Resolve 3 1 Notarization 2) ∷ Judged (Some (proposal 1 0 7)) ∷
@@ -59,7 +56,7 @@ pruned_view :
     replies_of
     (voter 1 1 0)
     (
-      SetProposal 1 0 7 ∷ TryVerify ∷ Verified 1 ∷ AddFinalization 20 19 9 10 ∷ Prune ∷ Notarize 1 ∷ []
+    SetProposal 1 0 7 ∷ TryVerify ∷ Verified 1 ∷ AddFinalization 20 19 9 10 ∷ Prune ∷ Notarize 1 ∷ []
     )
     ≡
     Flag true ∷ Work (Verify (context 1 0 0 0) (proposal 1 0 7)) ∷ Flag true ∷ Added true None ∷ Views (1 ∷ []) ∷
@@ -72,7 +69,7 @@ covers_upward :
     replies_of
     (voter 0 5 0)
     (
-      AddNullification 3 10 ∷ SetProposal 6 0 7 ∷ TryVerify ∷ AddNullification 1 11 ∷ TryVerify ∷ []
+    AddNullification 3 10 ∷ SetProposal 6 0 7 ∷ TryVerify ∷ AddNullification 1 11 ∷ TryVerify ∷ []
     )
     ≡
     Flag true ∷ Flag true ∷ Work (Resolve 6 1 Nullification 1) ∷ Flag true ∷
@@ -85,8 +82,8 @@ asks_go_on :
     replies_of
     (voter 0 1 0)
     (
-      AddNullification 2 10 ∷ SetProposal 3 0 7 ∷ AddNotarization 3 0 7 ∷ SetProposal 4 3 8 ∷ TryVerify ∷ TryVerify ∷
-      TryVerify ∷ []
+    AddNullification 2 10 ∷ SetProposal 3 0 7 ∷ AddNotarization 3 0 7 ∷ SetProposal 4 3 8 ∷ TryVerify ∷ TryVerify ∷
+    TryVerify ∷ []
     )
     ≡
     Flag true ∷ Flag true ∷ Added true None ∷ Flag true ∷ Work (Resolve 3 1 Nullification 2) ∷
@@ -99,9 +96,113 @@ long_gap :
     replies_of
     (voter 1 1 0)
     (
-      AddNullification 1000000 10 ∷ SetProposal 1000001 0 7 ∷ TryVerify ∷ []
+    AddNullification 1000000 10 ∷ SetProposal 1000001 0 7 ∷ TryVerify ∷ []
     )
     ≡
     Flag true ∷ Flag true ∷ Work (Resolve 1000001 1 Nullification 0) ∷ []
 unfolding replies_of
 long_gap = refl
+
+-- a parent under the last finalized view is invalid for good
+under_finalized :
+    replies_of
+    (voter 0 1 0)
+    (
+    AddFinalization 2 1 9 10 ∷ SetProposal 3 1 7 ∷ TryVerify ∷ NextTimeout 20 ∷ []
+    )
+    ≡
+    Added true None ∷ Flag true ∷ Work Wait ∷ Timeout (Some (10, InvalidProposal)) ∷ []
+unfolding replies_of
+under_finalized = refl
+
+-- a marked proposal far ahead is not voted for
+admitted_first :
+    replies_of
+    (voter 0 1 0)
+    (
+    SetProposal 3 0 7 ∷ Verified 3 ∷ Notarize 3 ∷ []
+    )
+    ≡
+    Flag true ∷ Flag true ∷ Vote None ∷ []
+unfolding replies_of
+admitted_first = refl
+
+-- a rejected proposal times the view out, once
+rejected :
+    replies_of
+    (voter 1 1 0)
+    (
+    SetProposal 1 0 7 ∷ TryVerify ∷ Rejected 1 InvalidProposal 40 ∷ NextTimeout 50 ∷ Notarize 1 ∷ []
+    )
+    ≡
+    Flag true ∷ Work (Verify (context 1 0 0 0) (proposal 1 0 7)) ∷ Done ∷ Timeout (Some (40, InvalidProposal)) ∷
+    Vote None ∷ []
+unfolding replies_of
+rejected = refl
+
+-- a proposal is not marked once the view is given up
+verified_after_nullify :
+    replies_of
+    (voter 1 1 0)
+    (
+    SetProposal 1 0 7 ∷ TryVerify ∷ Nullify 1 ∷ Verified 1 ∷ TryVerify ∷ []
+    )
+    ≡
+    Flag true ∷ Work (Verify (context 1 0 0 0) (proposal 1 0 7)) ∷ NullifyVote (Some false) ∷ Flag false ∷ Work Wait ∷
+    []
+unfolding replies_of
+verified_after_nullify = refl
+
+-- what was built on another parent is not recorded
+other_capture :
+    replies_of
+    (voter 1 1 0)
+    (
+    AddNullification 1 10 ∷ TryPropose ∷ Proposed (context 2 1 1 0) 8 12 ∷ Proposed (context 2 1 0 5) 8 12 ∷
+    Proposed (context 3 1 0 0) 8 12 ∷ Proposed (context 2 1 0 0) 8 13 ∷ Elapsed 2 33 ∷ Notarize 2 ∷ []
+    )
+    ≡
+    Flag true ∷ Asked (Some (Propose (context 2 1 0 0))) ∷ Flag false ∷ Flag false ∷ Flag false ∷ Flag true ∷
+    Since (Some 20) (Some 23) ∷ Vote (Some (proposal 2 0 8)) ∷ []
+unfolding replies_of
+other_capture = refl
+
+-- the parent is the highest certified view below
+lower_certified_parent :
+    replies_of
+    (voter 2 1 0)
+    (
+    AddNotarization 1 0 7 ∷ Certified 1 true 10 ∷ AddNullification 2 11 ∷ TryPropose ∷ []
+    )
+    ≡
+    Added true None ∷ Judged (Some (proposal 1 0 7)) ∷ Flag true ∷ Asked (Some (Propose (context 3 2 1 7))) ∷ []
+unfolding replies_of
+lower_certified_parent = refl
+
+-- with a gap above the highest certified view nothing is built
+certified_parent_gap :
+    replies_of
+    (voter 2 1 0)
+    (
+    AddNotarization 1 0 7 ∷ AddNotarization 2 1 9 ∷ Certified 2 true 10 ∷ TryPropose ∷ AddNullification 5 11 ∷
+    TryPropose ∷ []
+    )
+    ≡
+    Added true None ∷ Added true None ∷ Judged (Some (proposal 2 1 9)) ∷ Asked (Some (Propose (context 3 2 2 9))) ∷
+    Flag true ∷ Asked None ∷ []
+unfolding replies_of
+certified_parent_gap = refl
+
+-- a released request is asked for again, and superseded only by another parent
+released :
+    replies_of
+    (voter 1 1 0)
+    (
+    AddNullification 1 10 ∷ TryPropose ∷ Supersede (context 2 1 0 0) ∷ Abandonment (context 2 1 0 0) ∷ TryPropose ∷
+    Release 2 ∷ TryPropose ∷ []
+    )
+    ≡
+    Flag true ∷ Asked (Some (Propose (context 2 1 0 0))) ∷ Flag false ∷ Abandoned None ∷ Asked None ∷ Done ∷
+    Asked (Some (Propose (context 2 1 0 0))) ∷ []
+unfolding replies_of
+released = refl

@@ -1,33 +1,32 @@
 -- Scripts of calls: what each is answered, by the definitions, in a network of four members.
-use Rattle.std.specs.Prelude.{ℕ, Bool, true, false, not, ◌+◌, ◌%◌, ◌==◌, ◌&&◌, List, [], ◌∷◌, Option, Some, None, nat_eq, option_map, if◌then◌else◌, fold, map, is_some}
+use Rattle.std.specs.Prelude.{ℕ, Bool, true, false, ◌%◌, List, [], ◌∷◌, Option, Some, None, nat_eq, option_map, if◌then◌else◌, fold}
 use Rattle.std.specs.Option.{option_map_or}
 use Rattle.simplex_types.specs.Terms.{term_index}
 use Rattle.simplex_types.specs.Certificates.{ProposalFacts, NullificationFacts, CertificateFacts, Notarized, Nullified, Finalized}
 use Rattle.simplex_types.specs.declared.types.fault.Fault.{Fault}
 use Rattle.simplex_types.specs.declared.types.window.Terms.{Terms}
-use Rattle.simplex_types.specs.declared.types.numbers.Round.{Round}
 use Rattle.simplex_types.specs.declared.types.messages.Proposal.{Proposal}
 use Rattle.simplex_types.specs.declared.types.messages.Context.{Context}
 use Rattle.simplex_types.specs.declared.types.messages.Artifact.{Artifact}
 use Rattle.simplex_types.specs.declared.types.messages.Artifact.TheVariants as artifact
-use Rattle.simplex_types.specs.declared.reasons.Kind.{Kind}
 use Rattle.simplex_types.specs.declared.reasons.TimeoutReason.{TimeoutReason}
 use Rattle.simplex_types.specs.declared.reasons.HandoffAbandonedReason.{HandoffAbandonedReason}
 use Rattle.simplex_voter.specs.Facts.{Settings, Facts, Elect, new_facts}
 use Rattle.simplex_voter.specs.Gaps.{first_gap}
-use Rattle.simplex_voter.specs.Windows.{min_active, is_admitted, in_window}
+use Rattle.simplex_voter.specs.Windows.{admits_vote, min_active, is_admitted, in_window}
 use Rattle.simplex_voter.specs.Payloads.{explicit_payload, is_handoff_parent, serves, follows, optimistic_payload}
 use Rattle.simplex_voter.specs.Parents.{spans, payload_for, parent_payload, preferred_parent, may_stand, binding_matches}
 use Rattle.simplex_voter.specs.Rules.{may_nullify, is_gated, required_parent, may_finalize, may_notarize}
-use Rattle.simplex_voter.specs.Refusals.{plain_refusal, proposal_refusal, is_started}
+use Rattle.simplex_voter.specs.Refusals.{plain_refusal, proposal_refusal, takes_round}
 use Rattle.simplex_voter.specs.Timeouts.{after_trigger_timeout, next_timeout_answer, after_next_timeout, next_timeout_refusal, has_timeout}
 use Rattle.simplex_voter.specs.Certification.{Fetch, candidates_answer, after_candidates, after_set_certify_handle, takes_certify_handle, certified_answer, after_certified, certified_refusal, takes_verdict}
+use Rattle.simplex_types.specs.Config.{Finalized as FinalizedFloor}
 use Rattle.simplex_voter.specs.Acceptance as accept
 use Rattle.simplex_voter.specs.Votes.{nullify_answer, after_construct_nullify, finalize_answer, after_construct_finalize, notarize_answer, after_construct_notarize}
-use Rattle.simplex_voter.specs.Proposing.{Request, propose_answer, after_try_propose, proposed_answer, after_proposed, supersede_answer, after_supersede, abandonment_answer, after_release}
+use Rattle.simplex_voter.specs.Proposing.{Request, propose_answer, after_try_propose, proposed_answer, after_proposed, supersede_answer, after_supersede, abandonment_answer, after_release, parent_certified, voted_nullify as gives_up}
 use Rattle.simplex_voter.specs.Verifying.{Verification, takes_proposal, set_proposal_answer, after_set_proposal, standing, verify_answer, after_try_verify, verified_answer, after_verified, after_verification_failed}
-use Rattle.simplex_voter.specs.Serving.{best_certificate, broadcast_notarization_answer, after_broadcast_notarization, broadcast_nullification_answer, after_broadcast_nullification, broadcast_finalization_answer, after_broadcast_finalization, prune_answer, after_prune}
-use Rattle.simplex_voter.specs.Replay.{replay_refusal, after_replayed}
+use Rattle.simplex_voter.specs.Serving.{best_certificate, broadcast_notarization_answer, after_broadcast_notarization, broadcast_nullification_answer, after_broadcast_nullification, broadcast_finalization_answer, after_broadcast_finalization, prune_answer, after_prune, elapsed_since_start, elapsed_since_entry, leader_of, forwardable_of}
+use Rattle.simplex_voter.specs.Replay.{artifact_round, replay_refusal, after_replayed}
 
 -- keys are the members' indices, payloads numbers, and an elector is the length of its terms
 abbrev pub State : Type 0
@@ -73,6 +72,13 @@ pub data Call : Type 0 where
   NextTimeout : ℕ → Call
   Prune : Call
   View : Call
+  Replayed : Entry → Call
+  Elapsed : (view now : ℕ) → Call
+  Leader : ℕ → Call
+  Forwardable : ℕ → Call
+  ParentCertified : (view payload : ℕ) → Call
+  VotedNullify : ℕ → Call
+  AdmitsVote : ℕ → Call
   -- a new state takes this record, in view order
   Restart : ℕ → List Entry → Call
 
@@ -91,6 +97,9 @@ pub data Reply : Type 0 where
   Timeout : Option (ℕ × TimeoutReason) → Reply
   Views : List ℕ → Reply
   Now : (current finalized low : ℕ) → Reply
+  -- since the start, and since the entry
+  Since : (start entry : Option ℕ) → Reply
+  Member : Option ℕ → Reply
   Refused : Fault → Reply
   NotAllowed : Reply
 
@@ -146,7 +155,14 @@ reply_to x Best = Certificate (best_certificate x)
 reply_to x (Trigger v reason now) = Done
 reply_to x (NextTimeout now) = guarded (has_timeout x) (next_timeout_refusal x now) (Timeout (next_timeout_answer x now))
 reply_to x Prune = Views (prune_answer x)
+reply_to x (Replayed entry) = guarded (takes_round x (artifact_round entry)) (replay_refusal x entry) Done
 reply_to x View = Now x.current x.finalized (min_active x)
+reply_to x (Elapsed v now) = Since (elapsed_since_start x v now) (elapsed_since_entry x v now)
+reply_to x (Leader v) = Member (leader_of x v)
+reply_to x (Forwardable v) = Vote (forwardable_of x v)
+reply_to x (ParentCertified v d) = Flag (parent_certified same x (v, d))
+reply_to x (VotedNullify v) = Flag (gives_up x v)
+reply_to x (AdmitsVote v) = Flag (admits_vote x v)
 reply_to x (Restart now entries) = Done
 
 -- a recovery takes an entry: votes are replayed, a certificate is added first, and a verdict is certified after
@@ -197,7 +213,14 @@ after_call x Best = x
 after_call x (Trigger v reason now) = after_trigger_timeout x v reason now
 after_call x (NextTimeout now) = after_next_timeout x now
 after_call x Prune = after_prune x
+after_call x (Replayed entry) = after_replayed same in_turn x entry
 after_call x View = x
+after_call x (Elapsed v now) = x
+after_call x (Leader v) = x
+after_call x (Forwardable v) = x
+after_call x (ParentCertified v d) = x
+after_call x (VotedNullify v) = x
+after_call x (AdmitsVote v) = x
 after_call x (Restart now entries) = recovered x now entries
 
 abbrev pub was_taken : Reply → Bool
@@ -232,6 +255,10 @@ keyless length optimistic = member None (record { term_length = length; optimist
 
 abbrev pub fetch : ℕ → ℕ → Fetch
 fetch p v = record { proposal = p; view = v }
+
+-- a member that begins above a finalization
+abbrev pub above : ℕ → ℕ → ℕ → ℕ → State
+above me v p d = accept.after_set_floor same in_turn (fresh (voter me 1 0)) (FinalizedFloor (certificate v p d)) 0
 
 -- entries of a record
 

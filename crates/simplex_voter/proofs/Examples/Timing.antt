@@ -1,26 +1,23 @@
 -- Certification, timeouts and the moments of calls.
-use Rattle.std.specs.Prelude.{◌≡◌, ℕ, true, false, List, [], ◌∷◌, Some, None}
+use Rattle.std.specs.Prelude.{◌≡◌, true, false, [], ◌∷◌, Some, None}
 use Rattle.std.proofs.Common.{refl}
-use Rattle.simplex_types.specs.Certificates.{Notarized, Nullified, Finalized}
-use Rattle.simplex_types.specs.declared.types.fault.Fault.TheVariants.{TimeOverflow, ViewTooLarge}
-use Rattle.simplex_types.specs.declared.reasons.Kind.TheVariants.{Nullification, Notarization}
-use Rattle.simplex_types.specs.declared.reasons.HandoffAbandonedReason.TheVariants.{AncestryInvalidated, ParentNullify}
-use Rattle.simplex_types.specs.declared.reasons.TimeoutReason.TheVariants.{Retry, Inactivity, LeaderNullify, LeaderTimeout, CertificationTimeout, StallTimeout, MissingProposal, InvalidProposal}
-use Rattle.simplex_voter.specs.Proposing.Request.{Prepare, Propose}
-use Rattle.simplex_voter.specs.Verifying.Verification.{Verify, Resolve, Wait}
-use Rattle.simplex_voter.proofs.Examples.Scripts.{replies_of, member, voter, keyless, usual, proposal, context, certificate, nullification, fetch, notarized, nullified, finalized, verdict, voted_notarize, voted_nullify, voted_finalize}
-use Rattle.simplex_voter.proofs.Examples.Scripts.Call.{AddNotarization, AddNullification, AddFinalization, SetProposal, TryPropose, Proposed, Supersede, Abandonment, Release, TryVerify, Verified, Rejected, Candidates, SetCertifyHandle, Certified, Notarize, Nullify, Finalize, BroadcastNotarization, BroadcastNullification, BroadcastFinalization, Best, Trigger, NextTimeout, Prune, View, Restart}
-use Rattle.simplex_voter.proofs.Examples.Scripts.Reply.{Done, Flag, Added, Asked, Abandoned, Work, Offered, Judged, Vote, NullifyVote, Certificate, Timeout, Views, Now, Refused, NotAllowed}
+use Rattle.simplex_types.specs.declared.types.fault.Fault.TheVariants.{TimeOverflow}
+use Rattle.simplex_types.specs.declared.reasons.TimeoutReason.TheVariants.{Retry, Inactivity, LeaderNullify, LeaderTimeout, CertificationTimeout, StallTimeout, MissingProposal, InvalidProposal, FailedCertification}
+use Rattle.simplex_voter.specs.Proposing.Request.{Prepare}
+use Rattle.simplex_voter.specs.Verifying.Verification.{Verify, Wait}
+use Rattle.simplex_voter.proofs.Examples.Scripts.{replies_of, member, voter, keyless, usual, proposal, context, fetch, notarized, verdict, voted_notarize, voted_nullify, voted_finalize}
+use Rattle.simplex_voter.proofs.Examples.Scripts.Call.{AddNotarization, AddNullification, AddFinalization, SetProposal, TryPropose, TryVerify, Verified, Candidates, SetCertifyHandle, Certified, Notarize, Nullify, Finalize, Trigger, NextTimeout, Prune, Replayed, View, Elapsed, Forwardable, Restart}
+use Rattle.simplex_voter.proofs.Examples.Scripts.Reply.{Done, Flag, Added, Asked, Work, Offered, Judged, Vote, NullifyVote, Timeout, Views, Now, Since, Refused, NotAllowed}
 
 -- a view led by another, from its proposal to its finalize vote, with a handoff of the next term and a restart
 first_path :
     replies_of
     (voter 1 1 0)
     (
-      SetProposal 1 0 7 ∷ TryVerify ∷ Verified 1 ∷ Notarize 1 ∷ TryPropose ∷ AddNotarization 1 0 7 ∷ Candidates ∷
-      Certified 1 true 10 ∷ Finalize 1 ∷ Nullify 1 ∷
-      Restart 20 (voted_notarize 1 1 0 7 ∷ notarized 1 0 7 ∷ verdict 1 true ∷ voted_finalize 1 1 0 7 ∷ []) ∷
-      Finalize 1 ∷ View ∷ []
+    SetProposal 1 0 7 ∷ TryVerify ∷ Verified 1 ∷ Notarize 1 ∷ TryPropose ∷ AddNotarization 1 0 7 ∷ Candidates ∷
+    Certified 1 true 10 ∷ Finalize 1 ∷ Nullify 1 ∷
+    Restart 20 (voted_notarize 1 1 0 7 ∷ notarized 1 0 7 ∷ verdict 1 true ∷ voted_finalize 1 1 0 7 ∷ []) ∷
+    Finalize 1 ∷ View ∷ []
     )
     ≡
     Flag true ∷ Work (Verify (context 1 0 0 0) (proposal 1 0 7)) ∷ Flag true ∷ Vote (Some (proposal 1 0 7)) ∷
@@ -35,9 +32,9 @@ candidates :
     replies_of
     (voter 0 5 0)
     (
-      AddNotarization 2 1 9 ∷ Candidates ∷ Candidates ∷ AddNotarization 1 0 7 ∷ Candidates ∷ SetCertifyHandle 1 5 ∷
-      Certified 1 true 10 ∷ Candidates ∷ SetCertifyHandle 2 6 ∷ AddFinalization 2 1 9 12 ∷ Certified 2 true 13 ∷
-      View ∷ []
+    AddNotarization 2 1 9 ∷ Candidates ∷ Candidates ∷ AddNotarization 1 0 7 ∷ Candidates ∷ SetCertifyHandle 1 5 ∷
+    Certified 1 true 10 ∷ Candidates ∷ SetCertifyHandle 2 6 ∷ AddFinalization 2 1 9 12 ∷ Certified 2 true 13 ∷
+    View ∷ []
     )
     ≡
     Added true None ∷ Offered [] (fetch 2 1 ∷ []) ∷ Offered [] [] ∷ Added true None ∷
@@ -51,8 +48,8 @@ named_again :
     replies_of
     (voter 0 5 0)
     (
-      AddNotarization 1 0 7 ∷ AddNotarization 2 1 9 ∷ Certified 1 true 10 ∷ Candidates ∷ Certified 1 true 11 ∷
-      Candidates ∷ SetCertifyHandle 2 5 ∷ Certified 1 true 12 ∷ Candidates ∷ []
+    AddNotarization 1 0 7 ∷ AddNotarization 2 1 9 ∷ Certified 1 true 10 ∷ Candidates ∷ Certified 1 true 11 ∷
+    Candidates ∷ SetCertifyHandle 2 5 ∷ Certified 1 true 12 ∷ Candidates ∷ []
     )
     ≡
     Added true None ∷ Added true None ∷ Judged (Some (proposal 1 0 7)) ∷ Offered (proposal 2 1 9 ∷ []) [] ∷
@@ -66,8 +63,8 @@ pruned_verdict :
     replies_of
     (voter 0 1 0)
     (
-      AddNotarization 1 0 7 ∷ Candidates ∷ AddFinalization 20 19 9 10 ∷ Prune ∷ SetCertifyHandle 1 5 ∷
-      Certified 1 true 11 ∷ []
+    AddNotarization 1 0 7 ∷ Candidates ∷ AddFinalization 20 19 9 10 ∷ Prune ∷ SetCertifyHandle 1 5 ∷
+    Certified 1 true 11 ∷ []
     )
     ≡
     Added true None ∷ Offered (proposal 1 0 7 ∷ []) [] ∷ Added true None ∷ Views (1 ∷ 2 ∷ []) ∷ Done ∷ Judged None ∷
@@ -80,9 +77,9 @@ first_reason_latches :
     replies_of
     (voter 0 1 0)
     (
-      NextTimeout 0 ∷ Trigger 1 Inactivity 5 ∷ Trigger 1 LeaderNullify 7 ∷ NextTimeout 8 ∷ Nullify 1 ∷
-      NextTimeout 100 ∷ NextTimeout 300 ∷ Nullify 1 ∷ NextTimeout 700 ∷ Restart 20 (voted_nullify 0 1 ∷ []) ∷
-      NextTimeout 30 ∷ []
+    NextTimeout 0 ∷ Trigger 1 Inactivity 5 ∷ Trigger 1 LeaderNullify 7 ∷ NextTimeout 8 ∷ Nullify 1 ∷
+    NextTimeout 100 ∷ NextTimeout 300 ∷ Nullify 1 ∷ NextTimeout 700 ∷ Restart 20 (voted_nullify 0 1 ∷ []) ∷
+    NextTimeout 30 ∷ []
     )
     ≡
     Timeout (Some (1000, LeaderTimeout)) ∷ Done ∷ Done ∷ Timeout (Some (5, Inactivity)) ∷ NullifyVote (Some false) ∷
@@ -96,7 +93,7 @@ invalid_latches :
     replies_of
     (voter 1 1 0)
     (
-      Trigger 2 MissingProposal 40 ∷ SetProposal 1 1 7 ∷ TryVerify ∷ NextTimeout 50 ∷ []
+    Trigger 2 MissingProposal 40 ∷ SetProposal 1 1 7 ∷ TryVerify ∷ NextTimeout 50 ∷ []
     )
     ≡
     Done ∷ Flag true ∷ Work Wait ∷ Timeout (Some (40, InvalidProposal)) ∷ []
@@ -108,7 +105,7 @@ latch_wins :
     replies_of
     (voter 0 1 0)
     (
-      NextTimeout 0 ∷ SetProposal 1 0 7 ∷ NextTimeout 0 ∷ Trigger 1 LeaderNullify 5 ∷ NextTimeout 0 ∷ []
+    NextTimeout 0 ∷ SetProposal 1 0 7 ∷ NextTimeout 0 ∷ Trigger 1 LeaderNullify 5 ∷ NextTimeout 0 ∷ []
     )
     ≡
     Timeout (Some (1000, LeaderTimeout)) ∷ Flag true ∷ Timeout (Some (2000, CertificationTimeout)) ∷ Done ∷
@@ -121,7 +118,7 @@ decided_without_key :
     replies_of
     (keyless 1 0)
     (
-      Nullify 1 ∷ NextTimeout 100 ∷ []
+    Nullify 1 ∷ NextTimeout 100 ∷ []
     )
     ≡
     NullifyVote None ∷ Timeout (Some (600, Retry)) ∷ []
@@ -133,7 +130,7 @@ no_moment_of_a_fault :
     replies_of
     (voter 1 1 0)
     (
-      AddFinalization 1 0 7 18446744073709551615 ∷ SetProposal 1 1 7 ∷ TryVerify ∷ NextTimeout 50 ∷ []
+    AddFinalization 1 0 7 18446744073709551615 ∷ SetProposal 1 1 7 ∷ TryVerify ∷ NextTimeout 50 ∷ []
     )
     ≡
     Refused TimeOverflow ∷ Flag true ∷ Work Wait ∷ Timeout (Some (0, InvalidProposal)) ∷ []
@@ -145,7 +142,7 @@ moment_of_an_untracked_verdict :
     replies_of
     (voter 1 1 0)
     (
-      Certified 9 true 70 ∷ SetProposal 1 1 7 ∷ TryVerify ∷ NextTimeout 50 ∷ []
+    Certified 9 true 70 ∷ SetProposal 1 1 7 ∷ TryVerify ∷ NextTimeout 50 ∷ []
     )
     ≡
     Judged None ∷ Flag true ∷ Work Wait ∷ Timeout (Some (70, InvalidProposal)) ∷ []
@@ -157,7 +154,7 @@ no_moment_unless_allowed :
     replies_of
     (voter 1 1 0)
     (
-      Certified 1 true 99 ∷ SetProposal 1 1 7 ∷ TryVerify ∷ NextTimeout 50 ∷ []
+    Certified 1 true 99 ∷ SetProposal 1 1 7 ∷ TryVerify ∷ NextTimeout 50 ∷ []
     )
     ≡
     NotAllowed ∷ Flag true ∷ Work Wait ∷ Timeout (Some (0, InvalidProposal)) ∷ []
@@ -169,7 +166,7 @@ no_skip_budget :
     replies_of
     (member (Some 0) (record { term_length = 1; optimistic_views = 0; stall_timeout = None }) (record usual { skip_budget = 0 }) 0)
     (
-      SetProposal 1 0 7 ∷ Trigger 1 LeaderNullify 5 ∷ NextTimeout 0 ∷ []
+    SetProposal 1 0 7 ∷ Trigger 1 LeaderNullify 5 ∷ NextTimeout 0 ∷ []
     )
     ≡
     Flag true ∷ Done ∷ Timeout (Some (2000, CertificationTimeout)) ∷ []
@@ -181,7 +178,7 @@ little_skip_budget :
     replies_of
     (member (Some 0) (record { term_length = 1; optimistic_views = 0; stall_timeout = None }) (record usual { skip_budget = 1 }) 0)
     (
-      SetProposal 1 0 7 ∷ Trigger 1 LeaderNullify 5 ∷ NextTimeout 0 ∷ []
+    SetProposal 1 0 7 ∷ Trigger 1 LeaderNullify 5 ∷ NextTimeout 0 ∷ []
     )
     ≡
     Flag true ∷ Done ∷ Timeout (Some (5, LeaderNullify)) ∷ []
@@ -193,8 +190,8 @@ stall :
     replies_of
     (member (Some 0) (record { term_length = 5; optimistic_views = 0; stall_timeout = Some 5000 }) (record usual { leader_timeout = 9000; certification_timeout = 10000 }) 0)
     (
-      NextTimeout 10 ∷ AddNotarization 1 0 0 ∷ Certified 1 true 100 ∷ NextTimeout 100 ∷ AddFinalization 1 0 0 100 ∷
-      NextTimeout 100 ∷ NextTimeout 9100 ∷ []
+    NextTimeout 10 ∷ AddNotarization 1 0 0 ∷ Certified 1 true 100 ∷ NextTimeout 100 ∷ AddFinalization 1 0 0 100 ∷
+    NextTimeout 100 ∷ NextTimeout 9100 ∷ []
     )
     ≡
     Timeout (Some (5000, StallTimeout)) ∷ Added true None ∷ Judged (Some (proposal 1 0 0)) ∷
@@ -202,3 +199,179 @@ stall :
     Timeout (Some (9100, LeaderTimeout)) ∷ []
 unfolding replies_of
 stall = refl
+
+-- inactivity is not believed of a leader whose proposal is held
+active_leader :
+    replies_of
+    (voter 1 1 0)
+    (
+    SetProposal 1 0 7 ∷ Trigger 1 Inactivity 5 ∷ NextTimeout 8 ∷ SetProposal 1 0 8 ∷ Trigger 1 Inactivity 9 ∷
+    NextTimeout 10 ∷ []
+    )
+    ≡
+    Flag true ∷ Done ∷ Timeout (Some (2000, CertificationTimeout)) ∷ Flag false ∷ Done ∷
+    Timeout (Some (9, Inactivity)) ∷ []
+unfolding replies_of
+active_leader = refl
+
+-- a false verdict times the view out
+failed_certification :
+    replies_of
+    (voter 1 1 0)
+    (
+    AddNotarization 1 0 7 ∷ Candidates ∷ Certified 1 false 30 ∷ NextTimeout 40 ∷ Finalize 1 ∷ Forwardable 1 ∷ []
+    )
+    ≡
+    Added true None ∷ Offered (proposal 1 0 7 ∷ []) [] ∷ Judged (Some (proposal 1 0 7)) ∷
+    Timeout (Some (30, FailedCertification)) ∷ Vote None ∷ Vote None ∷ []
+unfolding replies_of
+failed_certification = refl
+
+-- a retry that passes 64 bits is refused
+late_retry :
+    replies_of
+    (voter 0 1 0)
+    (
+    Nullify 1 ∷ NextTimeout 18446744073709551615 ∷ NextTimeout 30 ∷ []
+    )
+    ≡
+    NullifyVote (Some false) ∷ Refused TimeOverflow ∷ Timeout (Some (530, Retry)) ∷ []
+unfolding replies_of
+late_retry = refl
+
+-- a stall deadline that passes 64 bits is refused
+late_stall :
+    replies_of
+    (member (Some 0) (record { term_length = 5; optimistic_views = 0; stall_timeout = Some 5000 }) usual 0)
+    (
+    AddNullification 3 18446744073709548616 ∷ AddNullification 3 18446744073709540000 ∷ []
+    )
+    ≡
+    Refused TimeOverflow ∷ Flag true ∷ []
+unfolding replies_of
+late_stall = refl
+
+-- a round's own timeout that is due comes before the stall
+expired_round :
+    replies_of
+    (member (Some 0) (record { term_length = 5; optimistic_views = 0; stall_timeout = Some 500 }) usual 0)
+    (
+    NextTimeout 400 ∷ NextTimeout 999 ∷ NextTimeout 1000 ∷ []
+    )
+    ≡
+    Timeout (Some (500, StallTimeout)) ∷ Timeout (Some (500, StallTimeout)) ∷ Timeout (Some (1000, LeaderTimeout)) ∷
+    []
+unfolding replies_of
+expired_round = refl
+
+-- a retry comes before the stall
+retry_over_stall :
+    replies_of
+    (member (Some 0) (record { term_length = 5; optimistic_views = 0; stall_timeout = Some 500 }) usual 0)
+    (
+    Nullify 1 ∷ NextTimeout 600 ∷ []
+    )
+    ≡
+    NullifyVote (Some false) ∷ Timeout (Some (1100, Retry)) ∷ []
+unfolding replies_of
+retry_over_stall = refl
+
+-- a latch waits while too many terms were skipped
+skipped_terms :
+    replies_of
+    (member (Some 0) (record { term_length = 1; optimistic_views = 0; stall_timeout = None }) (record usual { skip_budget = 2 }) 0)
+    (
+    AddNullification 1 5 ∷ Trigger 2 MissingProposal 6 ∷ NextTimeout 7 ∷ AddNullification 2 8 ∷
+    Trigger 3 MissingProposal 9 ∷ NextTimeout 10 ∷ AddFinalization 1 0 7 11 ∷ NextTimeout 12 ∷ []
+    )
+    ≡
+    Flag true ∷ Done ∷ Timeout (Some (6, MissingProposal)) ∷ Flag true ∷ Done ∷ Timeout (Some (1008, LeaderTimeout)) ∷
+    Added true None ∷ Timeout (Some (9, MissingProposal)) ∷ []
+unfolding replies_of
+skipped_terms = refl
+
+-- a current view whose finalize vote was replayed has no timeout
+decided_current_view :
+    replies_of
+    (voter 0 1 0)
+    (
+    AddNotarization 1 0 7 ∷ Replayed (verdict 1 true) ∷ Replayed (voted_finalize 0 1 0 7) ∷ NextTimeout 5 ∷ []
+    )
+    ≡
+    Added true None ∷ Done ∷ Done ∷ NotAllowed ∷ []
+unfolding replies_of
+decided_current_view = refl
+
+-- no view at or below the last finalized one waits for certification
+finalized_candidates :
+    replies_of
+    (voter 0 1 0)
+    (
+    AddNotarization 1 0 7 ∷ AddFinalization 2 1 9 5 ∷ AddNotarization 2 1 9 ∷ Candidates ∷ AddNotarization 3 2 4 ∷
+    Candidates ∷ []
+    )
+    ≡
+    Added true None ∷ Added true None ∷ Added true None ∷ Offered [] [] ∷ Added true None ∷
+    Offered (proposal 3 2 4 ∷ []) [] ∷ []
+unfolding replies_of
+finalized_candidates = refl
+
+-- a proposal that skips views inside its term is never offered
+invalid_candidate :
+    replies_of
+    (voter 0 5 0)
+    (
+    AddNotarization 2 0 9 ∷ Candidates ∷ AddNotarization 1 0 7 ∷ Certified 1 true 10 ∷ Candidates ∷ []
+    )
+    ≡
+    Added true None ∷ Offered [] [] ∷ Added true None ∷ Judged (Some (proposal 1 0 7)) ∷ Offered [] [] ∷ []
+unfolding replies_of
+invalid_candidate = refl
+
+-- nor is one whose parent is not below
+parent_not_below :
+    replies_of
+    (voter 0 1 0)
+    (
+    AddNotarization 1 5 7 ∷ Candidates ∷ []
+    )
+    ≡
+    Added true None ∷ Offered [] [] ∷ []
+unfolding replies_of
+parent_not_below = refl
+
+-- a finalization of the parent lets a proposal be offered
+woken_by_finalization :
+    replies_of
+    (voter 0 5 0)
+    (
+    AddNotarization 2 1 9 ∷ Candidates ∷ AddFinalization 1 0 7 10 ∷ Candidates ∷ []
+    )
+    ≡
+    Added true None ∷ Offered [] (fetch 2 1 ∷ []) ∷ Added true None ∷ Offered (proposal 2 1 9 ∷ []) [] ∷ []
+unfolding replies_of
+woken_by_finalization = refl
+
+-- a verdict or a token ends the offers
+judged_once :
+    replies_of
+    (voter 0 1 0)
+    (
+    AddNotarization 1 0 7 ∷ Candidates ∷ SetCertifyHandle 1 5 ∷ Certified 1 true 10 ∷ SetCertifyHandle 1 6 ∷ []
+    )
+    ≡
+    Added true None ∷ Offered (proposal 1 0 7 ∷ []) [] ∷ Done ∷ Judged (Some (proposal 1 0 7)) ∷ NotAllowed ∷ []
+unfolding replies_of
+judged_once = refl
+
+-- how long a view has been worked on
+elapsed :
+    replies_of
+    (voter 0 1 0)
+    (
+    Elapsed 1 30 ∷ Elapsed 2 30 ∷ AddNullification 1 40 ∷ Elapsed 2 30 ∷ Elapsed 2 50 ∷ []
+    )
+    ≡
+    Since (Some 30) (Some 30) ∷ Since None None ∷ Flag true ∷ Since (Some 0) (Some 0) ∷ Since (Some 10) (Some 10) ∷ []
+unfolding replies_of
+elapsed = refl

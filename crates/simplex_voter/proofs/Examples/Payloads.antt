@@ -1,0 +1,49 @@
+-- What single definitions say of facts that calls alone don't show.
+use Rattle.std.specs.Prelude.{◌≡◌, ℕ, true, false, [], ◌∷◌, Some, None, map}
+use Rattle.std.proofs.Common.{refl}
+use Rattle.simplex_round.specs.declared.round.Certification.TheVariants.{Outstanding, Aborted}
+use Rattle.simplex_voter.specs.Windows.{in_window}
+use Rattle.simplex_voter.specs.Facts.{Elect, round_of}
+use Rattle.simplex_voter.specs.Payloads.{optimistic_payload}
+use Rattle.simplex_voter.specs.Leaders.{elected, opened_views}
+use Rattle.simplex_voter.specs.Serving.{leader_of}
+use Rattle.simplex_voter.proofs.Examples.Scripts.{same, in_turn, voter, recovered, replies_of, after_call, voted_notarize}
+use Rattle.simplex_voter.proofs.Examples.Scripts.Call.{AddNotarization, AddFinalization, SetCertifyHandle}
+
+-- without a window two replayed votes are no chain, though the second ends a term that this member takes over
+no_chain_without_window : optimistic_payload same in_turn (recovered (voter 1 2 0) 0 (voted_notarize 1 1 0 7 ∷ voted_notarize 1 2 1 9 ∷ [])) 2 ≡ None
+unfolding replies_of
+no_chain_without_window = refl
+
+-- with a window they are
+chain_in_window : optimistic_payload same in_turn (recovered (voter 1 2 1) 0 (voted_notarize 1 1 0 7 ∷ voted_notarize 1 2 1 9 ∷ [])) 2 ≡ Some 9
+unfolding replies_of
+chain_in_window = refl
+
+-- member 1 leads where there is no certificate, and else member 2
+abbrev by_seed : Elect ℕ
+by_seed elector round None = 1
+by_seed elector round (Some bytes) = 2
+
+-- a leader that is set stays
+first_leader : leader_of (elected by_seed (elected by_seed (voter 0 1 0) 2 None) 2 (Some [])) 2 ≡ Some 1
+first_leader = refl
+
+-- a finalization ends the certification that is under way, and leaves one above it alone
+aborted : map (λ v. (round_of (after_call (after_call (after_call (after_call (after_call (voter 0 1 0) (AddNotarization 1 0 7)) (AddNotarization 3 2 4)) (SetCertifyHandle 1 5)) (SetCertifyHandle 3 6)) (AddFinalization 2 1 9 7)) v).certification) (1 ∷ 3 ∷ []) ≡ Aborted ∷ Outstanding 6 ∷ []
+unfolding replies_of
+aborted = refl
+
+-- a notarization opens the windows of the views above it, and not its own
+notarized_windows : map (in_window (after_call (voter 0 5 1) (AddNotarization 3 2 4))) (3 ∷ 4 ∷ 5 ∷ []) ≡ false ∷ true ∷ true ∷ []
+unfolding replies_of
+notarized_windows = refl
+
+-- a finalization opens them too
+finalized_windows : map (in_window (after_call (voter 0 5 1) (AddFinalization 3 2 4 5))) (3 ∷ 4 ∷ 5 ∷ []) ≡ false ∷ true ∷ true ∷ []
+unfolding replies_of
+finalized_windows = refl
+
+-- a certificate hands its leader on to at most one view more than the optimistic ones, and not into the next term
+opened : map (opened_views (voter 0 5 2)) (1 ∷ 3 ∷ 5 ∷ []) ≡ (2 ∷ 3 ∷ 4 ∷ []) ∷ (4 ∷ 5 ∷ []) ∷ [] ∷ []
+opened = refl
