@@ -1,9 +1,7 @@
 pub mod Examples
-<<<<<<< HEAD
 pub mod RoundsKept
 pub mod Shown
 pub mod Faults
-=======
 pub mod Gaps
 pub mod Payloads
 pub mod Parents
@@ -11,4 +9,3 @@ pub mod Rules
 pub mod Windows
 pub mod Containers
 pub mod Opened
->>>>>>> voter

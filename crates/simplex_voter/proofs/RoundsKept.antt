@@ -13,7 +13,8 @@ use Rattle.simplex_types.specs.declared.types.fault.AllocFailed.{AllocFailed}
 use Rattle.std.specs.Prelude.{map as map_list}
 use Rattle.simplex_types.proofs.Maps.{get-insert, same_maps, made_empty}
 use Rattle.std.specs.Option.{option_map_or}
-use Rattle.simplex_round.specs.Round.{RoundFacts, leader_at, with_nullification}
+use Rattle.simplex_round.specs.Round.{RoundFacts, leader_at, with_nullification, after_nullify, is_finalize}
+use Rattle.simplex_round.specs.declared.round.Decision.TheVariants.{Nullify}
 use Rattle.simplex_types.specs.Certificates.{NullificationFacts}
 use Rattle.simplex_voter.specs.Rounds.{Origin, IsMadeBy, AreMadeBy, fresh_round, round_in, led_rounds}
 
@@ -159,3 +160,10 @@ module _ {K D : Type 0} where
       by_kept : (b : Bool) → let t : RoundFacts K D = cond b r (record r { nullification = Some c }) in (t.me ≡ r.me) × (t.members ≡ r.members) × (t.round ≡ r.round)
       by_kept true = (refl, refl, refl)
       by_kept false = (refl, refl, refl)
+
+  pub decided_alike : (r s : RoundFacts K D) → s ≡ after_nullify r → (s.me ≡ r.me) × (s.members ≡ r.members) × (s.round ≡ r.round)
+  decided_alike r s is = rw is (by_decision (is_finalize r.decision))
+    where
+      by_decision : (b : Bool) → let t : RoundFacts K D = cond b r (record r { decision = Nullify None }) in (t.me ≡ r.me) × (t.members ≡ r.members) × (t.round ≡ r.round)
+      by_decision true = (refl, refl, refl)
+      by_decision false = (refl, refl, refl)

@@ -5,7 +5,7 @@ use Rattle.std.proofs.lemmas.Bool.{cases_lt, lt-ltb}
 use Rattle.std.proofs.lemmas.Bool.Decides.{nat_tests}
 use Rattle.std.specs.FinMap as map
 use Rattle.std.specs.FinMap.Entries.{find, put}
-use Rattle.simplex_round.specs.Round.{RoundFacts, leader_at, with_nullification}
+use Rattle.simplex_round.specs.Round.{RoundFacts, leader_at, with_nullification, after_nullify}
 use Rattle.simplex_voter.specs.Facts.{Facts, round_of, with_round}
 use Rattle.simplex_voter.specs.Leaders.{led}
 use Rattle.simplex_voter.specs.Entering.{entered, entered_round}
@@ -15,7 +15,7 @@ use Rattle.simplex_types.specs.ByTerm.{TermMap}
 use Rattle.std.specs.BTreeSet.{insert_key}
 use Rattle.simplex_types.specs.Certificates.{NullificationFacts}
 use Rattle.simplex_voter.specs.declared.voter.rounds.Deadlines.{Deadlines}
-use Rattle.simplex_voter.specs.Rounds.{Origin, origin_of, fresh_round, round_in, led_rounds, entered_rounds, nullified_rounds}
+use Rattle.simplex_voter.specs.Rounds.{Origin, origin_of, fresh_round, round_in, led_rounds, entered_rounds, nullified_rounds, decided_rounds}
 use Rattle.simplex_voter.proofs.RoundsKept.{find_entries, put_entries, keys-insert}
 
 -- a view that is not at or below another is above it
@@ -51,6 +51,11 @@ module _ {K L D : Type 0} where
     nullification_shown new v c at is =
         ap (λ (n : map.FinMap nat_cmp (RoundFacts K D)). record x { rounds = map.entries n }) (is ∙ ap (λ w. nullified_rounds (origin x) m w c) (sym at))
         ∙ rw (← round_shown c.round.view) (put_shown c.round.view (with_nullification (round_of x c.round.view) c))
+
+    pub decided_shown : (new : map.FinMap nat_cmp (RoundFacts K D)) (v : ℕ) → new ≡ decided_rounds (origin x) m v → record x { rounds = map.entries new } ≡ with_round x v (after_nullify (round_of x v))
+    decided_shown new v is =
+        ap (λ (n : map.FinMap nat_cmp (RoundFacts K D)). record x { rounds = map.entries n }) is
+        ∙ rw (← round_shown v) (put_shown v (after_nullify (round_of x v)))
 
     pub led_shown : (new : map.FinMap nat_cmp (RoundFacts K D)) (v member : ℕ) → new ≡ led_rounds (origin x) m v member → record x { rounds = map.entries new } ≡ led x v member
     led_shown new v member is =

@@ -3,7 +3,7 @@ use Rattle.std.specs.Prelude.{◌≡◌, ℕ, Bool, List, Option, Some, is_some,
 use Rattle.std.specs.Ordering.{nat_cmp}
 use Rattle.std.specs.FinMap.{FinMap, get, insert}
 use Rattle.simplex_types.specs.declared.types.numbers.Round.{Round}
-use Rattle.simplex_round.specs.Round.{RoundFacts, new_round, leader_at, with_deadlines, with_nullification}
+use Rattle.simplex_round.specs.Round.{RoundFacts, new_round, leader_at, with_deadlines, with_nullification, after_nullify}
 use Rattle.simplex_types.specs.Certificates.{NullificationFacts}
 use Rattle.simplex_voter.specs.declared.voter.rounds.Deadlines.{Deadlines}
 
@@ -49,3 +49,7 @@ entered_rounds o rounds v now deadlines =
 -- the rounds with the first nullification of a view
 abbrev pub nullified_rounds : {K D : Type 0} → Origin K → FinMap nat_cmp (RoundFacts K D) → ℕ → NullificationFacts → FinMap nat_cmp (RoundFacts K D)
 nullified_rounds o rounds v c = insert rounds v (with_nullification (round_in o rounds v) c)
+
+-- the rounds with the vote to nullify a view decided, unless it is decided to finalize it
+abbrev pub decided_rounds : {K D : Type 0} → Origin K → FinMap nat_cmp (RoundFacts K D) → ℕ → FinMap nat_cmp (RoundFacts K D)
+decided_rounds o rounds v = insert rounds v (after_nullify (round_in o rounds v))

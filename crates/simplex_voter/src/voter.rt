@@ -2,10 +2,12 @@
 //! keeps them.
 
 mod floor;
+mod getters;
 pub mod laws;
 mod nullifications;
 mod rounds;
 mod state;
 mod views;
+mod votes;
 
 pub use state::{Config, State};

@@ -10,7 +10,8 @@ use simplex_types::types::{CertificateScheme, Digest, Elector, Fault, View};
 impl<S: CertificateScheme, L: Elector<S>, D: Digest> State<S, L, D> {
     ghost use Rattle.simplex_voter.specs.Setup.{HasSameSetup, deadlines_at};
     ghost use Rattle.simplex_voter.specs.Refusals.{HasFailed};
-    ghost use Rattle.simplex_voter.specs.Acceptance.{Genesis, floor_refusal, after_set_genesis};
+    ghost use Rattle.simplex_types.specs.Config.{Genesis};
+    ghost use Rattle.simplex_voter.specs.Acceptance.{floor_refusal, after_set_genesis};
 
     /// Starts at genesis: its payload is known, and view 1 is entered at the moment `now`, in milliseconds, and led by
     /// the elector's choice.

@@ -4,7 +4,7 @@ ghost use Rattle.std.specs.Prelude.{◌≡◌, ◌<◌, IfErr, OnOk, length, is_
 ghost use Rattle.std.specs.Option.{option_map_or};
 ghost use Rattle.std.specs.FinMap as map;
 ghost use Rattle.simplex_types.specs.declared.types.fault.Fault.TheVariants.{OutOfMemory};
-ghost use Rattle.simplex_voter.specs.Rounds.{AreMadeBy, origin_of, round_in, led_rounds, entered_rounds, nullified_rounds};
+ghost use Rattle.simplex_voter.specs.Rounds.{AreMadeBy, origin_of, round_in, led_rounds, entered_rounds, nullified_rounds, decided_rounds};
 ghost use Rattle.simplex_types.specs.Certificates.{nullification_facts};
 
 use simplex_round::round::Round;
@@ -118,6 +118,26 @@ pub fn keep_nullification<S: CertificateScheme, D: Digest>(
     track(alloc, rounds, scheme, epoch, view)?;
     if let Some(tracked) = rounds.get_mut(view) {
         let _first = tracked.add_nullification(nullification);
+    }
+    Ok(())
+}
+
+/// Decides the vote to nullify a view, unless the vote to finalize it was decided.
+pub fn decide_nullify<S: CertificateScheme, D: Digest>(
+    alloc: Global,
+    rounds: &mut Tracked<Round<S, D>>,
+    scheme: &S,
+    epoch: Epoch,
+    view: View,
+) -> Result<(), Fault>
+    requires { AreMadeBy (origin_of (S.me scheme.now) (S.participants scheme.now) epoch) rounds.old }
+    ensures made { AreMadeBy (origin_of (S.me scheme.now) (S.participants scheme.now) epoch) rounds.new }
+    ensures decided { OnOk result (rounds.new ≡ decided_rounds (origin_of (S.me scheme.now) (S.participants scheme.now) epoch) rounds.old view) }
+    ensures refused { IfErr result (λ fault. fault ≡ OutOfMemory) }
+{
+    track(alloc, rounds, scheme, epoch, view)?;
+    if let Some(tracked) = rounds.get_mut(view) {
+        let _retry = tracked.construct_nullify();
     }
     Ok(())
 }

@@ -2,7 +2,6 @@
 
 ghost use Rattle.std.specs.Prelude.{◌≡◌, ◌<◌, ◌≤◌, ◌↔◌, IsTrue, IsNone, IfSome, IfErr, OnOk, Some, None, true, nat_lt, option_and_then, option_map, length};
 ghost use Rattle.std.specs.Option.{option_copied};
-ghost use Rattle.simplex_types.specs.Certificates.{nullification_facts};
 ghost use Rattle.simplex_types.specs.declared.types.fault.Fault.TheVariants.{OutOfMemory};
 
 use super::rounds::{Deadlines, enter, lead};
@@ -10,7 +9,7 @@ use simplex_round::round::Round;
 use simplex_types::sorted::{ByTerm, Tracked};
 use simplex_types::types;
 use simplex_types::types::{
-    CertificateScheme, Digest, Elector, Epoch, Fault, Nullification, Participant, View, ViewDelta,
+    CertificateScheme, Digest, Elector, Epoch, Fault, Participant, View, ViewDelta,
 };
 use std::alloc::Global;
 use std::marker::Model;
@@ -84,7 +83,6 @@ impl<S: CertificateScheme, L: Elector<S>, D: Digest> State<S, L, D> {
     ghost use Rattle.simplex_voter.specs.Refusals.{has_late_deadline, enters_late};
     ghost use Rattle.simplex_voter.specs.Entering.{at_moment, entered};
     ghost use Rattle.simplex_voter.specs.Leaders.{led, elected};
-    ghost use Rattle.simplex_voter.specs.Serving.{nullification_of};
 
     /// A state that has no floor yet: nothing is known, and no view is entered.
     pub fn new(alloc: Global, config: Config<S, L>) -> State<S, L, D>
@@ -112,41 +110,6 @@ impl<S: CertificateScheme, L: Elector<S>, D: Digest> State<S, L, D> {
             rounds: Tracked::new(alloc),
             failed: false,
         }
-    }
-
-    /// The epoch.
-    pub fn epoch(&self) -> Epoch
-        ensures { result ≡ self.now.settings.epoch }
-    {
-        self.epoch
-    }
-
-    /// The current view: 0 until a floor is set.
-    pub fn current_view(&self) -> View
-        ensures { result ≡ self.now.current }
-    {
-        self.current
-    }
-
-    /// The last finalized view: 0 until one is finalized.
-    pub fn last_finalized(&self) -> View
-        ensures { result ≡ self.now.finalized }
-    {
-        self.finalized
-    }
-
-    /// Whether a call found no memory.
-    pub fn is_failed(&self) -> bool
-        ensures { result ≡ self.now.failed }
-    {
-        self.failed
-    }
-
-    /// The nullification of a tracked view, if it is there.
-    pub fn nullification(&self, view: View) -> Option<&Nullification<S>>
-        ensures { option_map (nullification_facts S.certificate_bytes) (option_copied result) ≡ nullification_of self.now view }
-    {
-        self.round_at(view)?.nullification()
     }
 
     /// The round of a tracked view.
