@@ -4,7 +4,7 @@ ghost use Rattle.std.specs.Prelude.{◌≡◌, ◌≤◌, ◌<◌, ◌-◌, ◌+
 ghost use Rattle.std.specs.Option.{option_copied};
 ghost use Rattle.std.specs.FinMap as map;
 ghost use Rattle.simplex_types.specs.Tracked.{after_insert, at_or_above};
-ghost use Rattle.simplex_types.specs.Terms.{IsVotable, term_start};
+ghost use Rattle.simplex_types.specs.Terms.{term_start};
 ghost use Rattle.simplex_types.specs.ByTerm.{covering, covering_below, not_ended, IsByTerm, map_of_terms, Gapless, IsFirstGap};
 
 use crate::sorted::tracked::Tracked;
@@ -82,9 +82,10 @@ impl<V> ByTerm<V> {
 }
 
 impl<V: Drop> ByTerm<V> {
-    /// Sets the value of a view that has none. A value that finds another there, or no memory, comes back.
+    /// Sets the value of a view that has none; genesis has none. A value that finds another there, or no memory, comes
+    /// back.
     pub fn insert(&mut self, view: View, value: V) -> Result<Option<V>, AllocFailed<V>>
-        requires { IsVotable view }
+        requires { 1 ≤ view }
         ensures standing { IfOk result (λ back. back ≡ (if map.contains_key self.old.by_view view then Some value else None)) }
         ensures refused { IfErr result (λ refused. refused.value ≡ value) }
         ensures refused_only_new { OnErr result (map.get self.old.by_view view ≡ None) }
