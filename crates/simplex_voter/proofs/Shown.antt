@@ -69,3 +69,7 @@ module _ {K L D : Type 0} where
   pub nullified_shown : (x : Facts K L D) (m new : TermMap (Unit {0})) (v : ℕ) → x.nullified ≡ map.keys m.by_view → new ≡ record m { by_view = map.insert m.by_view v tt } → record x { nullified = map.keys new.by_view } ≡ nullified_also x v
   nullified_shown x m new v shown is =
       ap (λ ks. record x { nullified = ks }) (ap (λ (n : TermMap (Unit {0})). map.keys n.by_view) is ∙ keys-insert m.by_view v tt ∙ ap (λ ks. insert_key nat_cmp ks v) (sym shown))
+
+  pub nullify_vote_shown : (x : Facts K L D) (m new : TermMap (Unit {0})) (v : ℕ) → x.nullify_votes ≡ map.keys m.by_view → new ≡ record m { by_view = map.insert m.by_view v tt } → record x { nullify_votes = map.keys new.by_view } ≡ record x { nullify_votes = insert_key nat_cmp x.nullify_votes v }
+  nullify_vote_shown x m new v shown is =
+      ap (λ ks. record x { nullify_votes = ks }) (ap (λ (n : TermMap (Unit {0})). map.keys n.by_view) is ∙ keys-insert m.by_view v tt ∙ ap (λ ks. insert_key nat_cmp ks v) (sym shown))

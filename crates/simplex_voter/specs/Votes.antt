@@ -1,13 +1,22 @@
 -- What the calls for a vote answer, and what they decide. Where there is no key the vote is decided and not answered.
-use Rattle.std.specs.Prelude.{ℕ, Bool, true, ◌&&◌, Option, Some, None, is_some, if◌then◌else◌}
+use Rattle.std.specs.Prelude.{◌≡◌, ℕ, Bool, true, ◌&&◌, Option, Some, None, is_some, if◌then◌else◌}
 use Rattle.std.specs.Ordering.{nat_cmp}
 use Rattle.std.specs.BTreeSet.{insert_key}
 use Rattle.simplex_types.specs.declared.types.messages.Proposal.{Proposal}
 use Rattle.simplex_round.specs.declared.round.Decision.TheVariants.{Finalize}
 use Rattle.simplex_round.specs.Round.{after_nullify, is_nullify}
-use Rattle.simplex_voter.specs.Facts.{Facts, Elect, round_of, with_round}
+use Rattle.simplex_types.specs.declared.types.messages.Nullify.{Nullify}
+use Rattle.simplex_types.specs.declared.types.messages.Subject.{Subject}
+use Rattle.simplex_types.specs.declared.types.messages.Subject.TheVariants as subject
+use Rattle.simplex_voter.specs.Facts.{Facts, Elect, round_number, round_of, with_round}
 use Rattle.simplex_voter.specs.Leaders.{prepared}
 use Rattle.simplex_voter.specs.Rules.{may_notarize, may_nullify, may_finalize}
+
+-- the vote is this member's, for this view of its epoch, with its signature on just that
+pub record IsSignedNullify {S L D K G C : Type 0} (signature_of : ℕ → Subject D → G) (x : Facts K L D) (v : ℕ) (vote : Nullify S K G C) : Type 0 where
+  pub round : vote.round ≡ round_number x v
+  pub signer : x.me ≡ Some vote.signer
+  pub signature : vote.signature ≡ signature_of vote.signer (subject.Nullify vote.round)
 
 module _ {K L D : Type 0} where
   -- this member's nullify vote for the view is out, where it has a key

@@ -1,6 +1,6 @@
 //! Nullifications of views.
 
-ghost use Rattle.std.specs.Prelude.{◌≡◌, IfSome, IfOk, IfErr, OnOk, Err, None, true, nat_lt};
+ghost use Rattle.std.specs.Prelude.{◌≡◌, ◌≤◌, IfSome, IfOk, IfErr, OnOk, Err, None, true, nat_lt};
 ghost use Rattle.simplex_types.specs.Terms.{IsVotable, next_term_start};
 ghost use Rattle.simplex_types.specs.Certificates.{nullification_facts};
 ghost use Rattle.simplex_types.specs.declared.types.fault.Fault.TheVariants.{OutOfMemory};
@@ -72,7 +72,7 @@ impl<S: CertificateScheme, L: Elector<S>, D: Digest> State<S, L, D> {
 
     /// The nullification's view and those behind it in its term are nullified.
     fn nullify_view(&mut self, view: View) -> Result<(), Fault>
-        requires { IsVotable view }
+        requires { 1 ≤ view }
         ensures noted { OnOk result (self.new ≡ nullified_also self.old view) }
         ensures refused { IfErr result (λ fault. fault ≡ OutOfMemory) }
         ensures setup { HasSameSetup self.old self.new }

@@ -112,6 +112,16 @@ impl<S: CertificateScheme, L: Elector<S>, D: Digest> State<S, L, D> {
         }
     }
 
+    /// The view in this epoch.
+    pub(super) fn round_number(&self, view: View) -> types::Round
+        ensures { result ≡ round_number self.now view }
+    {
+        types::Round {
+            epoch: self.epoch,
+            view,
+        }
+    }
+
     /// The round of a tracked view.
     pub(super) fn round_at(&self, view: View) -> Option<&Round<S, D>>
         ensures { option_copied result ≡ round_at self.now view }

@@ -1,8 +1,7 @@
 //! Sets of views by their terms.
 
-ghost use Rattle.std.specs.Prelude.{◌≡◌, IfErr, OnOk};
+ghost use Rattle.std.specs.Prelude.{◌≡◌, ◌≤◌, IfErr, OnOk};
 ghost use Rattle.std.specs.FinMap as map;
-ghost use Rattle.simplex_types.specs.Terms.{IsVotable};
 ghost use Rattle.simplex_types.specs.declared.types.fault.Fault.TheVariants.{OutOfMemory};
 
 use simplex_types::sorted::ByTerm;
@@ -11,7 +10,7 @@ use simplex_types::types::{Fault, View};
 /// Notes a view, which may be noted already.
 #[tactic(auto, using(crate::proofs::RoundsKept::noted))]
 pub fn note_view(views: &mut ByTerm<()>, view: View) -> Result<(), Fault>
-    requires { IsVotable view }
+    requires { 1 ≤ view }
     ensures same_terms { views.new.term_length ≡ views.old.term_length }
     ensures noted { OnOk result (views.new ≡ record views.old { by_view = map.insert views.old.by_view view tt }) }
     ensures refused { IfErr result (λ fault. fault ≡ OutOfMemory) }

@@ -1,29 +1,103 @@
 //! This member's votes, each signed exactly where its rule allows.
 
-ghost use Rattle.std.specs.Prelude.{◌≡◌, ◌&&◌, IfSome, IfOk, IfErr, OnOk, Err, None, Some, true, is_some, option_map, if◌then◌else◌};
-ghost use Rattle.simplex_types.specs.Terms.{IsVotable};
+ghost use Rattle.std.specs.Prelude.{◌≡◌, ◌≤◌, IfSome, IfOk, IfErr, OnOk, OnSome, Err, None, Some, true, is_some, option_map, if◌then◌else◌};
 ghost use Rattle.simplex_types.specs.declared.types.fault.Fault.TheVariants.{OutOfMemory};
 
 use super::rounds::decide_nullify;
 use super::state::State;
 use super::views::note_view;
 use simplex_round::round::Decision;
-use simplex_types::types;
+use simplex_types::reasons::TimeoutReason;
 use simplex_types::types::{
-    CertificateScheme, Digest, Elector, Fault, Nullify, Participant, Scheme, Subject, View,
+    CertificateScheme, Digest, Elector, Fault, Nullify, Scheme, Subject, View,
 };
 
 impl<S: CertificateScheme, L: Elector<S>, D: Digest> State<S, L, D> {
     ghost use Rattle.simplex_voter.specs.Setup.{HasSameSetup};
     ghost use Rattle.simplex_voter.specs.Facts.{round_of, with_round};
     ghost use Rattle.simplex_voter.specs.Rules.{may_nullify};
-    ghost use Rattle.simplex_voter.specs.Votes.{nullify_cast};
+    ghost use Rattle.simplex_voter.specs.Votes.{nullify_answer, nullify_cast, after_construct_nullify, IsSignedNullify};
+    ghost use Rattle.simplex_voter.specs.Refusals.{HasFailed, plain_refusal, is_started};
+    ghost use Rattle.std.specs.Ordering.{nat_cmp};
+    ghost use Rattle.std.specs.BTreeSet.{insert_key};
     ghost use Rattle.simplex_round.specs.Round.{is_nullify, after_nullify};
+
+    /// Votes to nullify the current view, unless it was voted to finalize it: the decision is set, also without a key,
+    /// and the vote is answered, with whether it is a repeat, where the scheme has a key. Else nothing changes.
+    ///
+    /// The reason has no effect. The state has a floor.
+    pub fn construct_nullify(
+        &mut self,
+        view: View,
+        _reason: TimeoutReason,
+    ) -> Result<Option<(bool, Nullify<S>)>, Fault>
+    where
+        S: Scheme<D>,
+        requires { is_started self.old ≡ true }
+        ensures refused { IfSome (plain_refusal self.old) (λ fault. (result ≡ Err fault) × (self.new ≡ self.old)) }
+        ensures vote { IfOk result (λ vote. option_map (λ v. v.0) vote ≡ nullify_answer self.old view) }
+        ensures signed { IfOk result (λ vote. IfSome vote (λ v. IsSignedNullify S.signature_of self.old view v.1)) }
+        ensures after { OnOk result (self.new ≡ after_construct_nullify self.old view) }
+        ensures out_of_memory { plain_refusal self.old ≡ None → IfErr result (λ fault. (fault ≡ OutOfMemory) × HasFailed self.old self.new) }
+    {
+        if self.is_failed() {
+            return Err(Fault::Failed);
+        }
+        let Some(retry) = self.nullify_retry(view) else {
+            return Ok(None);
+        };
+        match self.cast_nullify(view) {
+            Ok(Some(vote)) => Ok(Some((retry, vote))),
+            Ok(None) => Ok(None),
+            Err(fault) => {
+                self.fail();
+                Err(fault)
+            }
+        }
+    }
+
+    /// Decides the vote to nullify a view, and signs it where there is a key.
+    fn cast_nullify(&mut self, view: View) -> Result<Option<Nullify<S>>, Fault>
+    where
+        S: Scheme<D>,
+        requires { 1 ≤ view }
+        ensures cast { OnOk result (self.new ≡ nullify_cast (with_round self.old view (after_nullify (round_of self.old view))) view) }
+        ensures keyed { IfOk result (λ vote. is_some vote ≡ is_some self.old.me) }
+        ensures signed { IfOk result (λ vote. IfSome vote (IsSignedNullify S.signature_of self.old view)) }
+        ensures refused { IfErr result (λ fault. fault ≡ OutOfMemory) }
+        ensures setup { HasSameSetup self.old self.new }
+    {
+        self.decide_nullify(view)?;
+        let Some(signer) = self.scheme.me() else {
+            return Ok(None);
+        };
+        let subject = Subject::Nullify(self.round_number(view));
+        let Some(signature) = self.scheme.sign(self.alloc, &subject)? else {
+            unreachable!()
+        };
+        self.note_nullify_vote(view)?;
+        Ok(Some(Nullify {
+            round: self.round_number(view),
+            signer,
+            signature,
+        }))
+    }
+
+    /// This member's vote to nullify a view is out.
+    fn note_nullify_vote(&mut self, view: View) -> Result<(), Fault>
+        requires { 1 ≤ view }
+        ensures noted { OnOk result (self.new ≡ record self.old { nullify_votes = insert_key nat_cmp self.old.nullify_votes view }) }
+        ensures refused { IfErr result (λ fault. fault ≡ OutOfMemory) }
+        ensures setup { HasSameSetup self.old self.new }
+    {
+        note_view(&mut self.nullify_votes, view)
+    }
 
     /// Whether the current view may be voted to nullify, and whether that was decided before.
     #[tactic(auto, unfolding(crate::specs::Rules::may_nullify))]
     fn nullify_retry(&self, view: View) -> Option<bool>
-        ensures { result ≡ (if may_nullify self.now view then Some (is_nullify (round_of self.now view).decision) else None) }
+        ensures retry { result ≡ (if may_nullify self.now view then Some (is_nullify (round_of self.now view).decision) else None) }
+        ensures current { OnSome result (view ≡ self.now.current) }
     {
         if view != self.current {
             return None;
