@@ -1,5 +1,5 @@
 -- A map of rounds and the list of its entries, which the facts of a state hold.
-use Rattle.std.proofs.Common.{◌≡◌, ℕ, Bool, true, false, cond, eqb, List, [], ◌∷◌, Option, Some, None, Result, Ok, Err, is_some, Bor, refl, ap, sym, ◌∙◌, inl, inr, unwrap_or}
+use Rattle.std.proofs.Common.{◌≡◌, ℕ, Bool, true, false, cond, eqb, List, [], ◌∷◌, Option, Some, None, Result, Ok, Err, is_some, OnOk, OnErr, Bor, refl, ap, sym, ◌∙◌, inl, inr, unwrap_or}
 use Rattle.std.specs.Option.{option_copied}
 use Rattle.std.specs.Ordering.{nat_cmp, match_ordering}
 use Rattle.std.specs.Cmp.{nat_cmp_total}
@@ -167,3 +167,28 @@ module _ {K D : Type 0} where
       by_decision : (b : Bool) → let t : RoundFacts K D = cond b r (record r { decision = Nullify None }) in (t.me ≡ r.me) × (t.members ≡ r.members) × (t.round ≡ r.round)
       by_decision true = (refl, refl, refl)
       by_decision false = (refl, refl, refl)
+
+  abbrev pub IsAlike : RoundFacts K D → RoundFacts K D → Type 0
+  IsAlike r s = (s.me ≡ r.me) × (s.members ≡ r.members) × (s.round ≡ r.round)
+
+  pub alike_same : (r s : RoundFacts K D) → s ≡ r → IsAlike r s
+  alike_same r s same = (ap (λ t. t.me) same, ap (λ t. t.members) same, ap (λ t. t.round) same)
+
+  pub alike_made : (o : Origin K) (v : ℕ) (r s : RoundFacts K D) → IsMadeBy o v r → IsAlike r s → IsMadeBy o v s
+  alike_made o v r s base alike = record { me = alike.0 ∙ base.me; members = alike.1 ∙ base.members; round = alike.2 ∙ base.round }
+
+  -- a tracked round is changed in place
+  pub made_in_place : (o : Origin K) (m : map.FinMap nat_cmp (RoundFacts K D)) (v : ℕ) (r s : RoundFacts K D) → Some r ≡ map.get m v → IsAlike r s → AreMadeBy o m → AreMadeBy o (map.insert m v s)
+  made_in_place o m v r s here alike made = made_insert o m v s made (alike_made o v r s (made v r (sym here)) alike)
+
+  pub notarization_handed_out_alike : {A E : Type 0} (result : Result A E) (r s : RoundFacts K D) (b : Bool) → OnErr result (s ≡ r) → OnOk result (s ≡ record r { notarization_broadcast = b }) → IsAlike r s
+  notarization_handed_out_alike (Ok a) r s b err ok = (ap (λ t. t.me) ok, ap (λ t. t.members) ok, ap (λ t. t.round) ok)
+  notarization_handed_out_alike (Err e) r s b err ok = alike_same r s err
+
+  pub nullification_handed_out_alike : {A E : Type 0} (result : Result A E) (r s : RoundFacts K D) (b : Bool) → OnErr result (s ≡ r) → OnOk result (s ≡ record r { nullification_broadcast = b }) → IsAlike r s
+  nullification_handed_out_alike (Ok a) r s b err ok = (ap (λ t. t.me) ok, ap (λ t. t.members) ok, ap (λ t. t.round) ok)
+  nullification_handed_out_alike (Err e) r s b err ok = alike_same r s err
+
+  pub finalization_handed_out_alike : {A E : Type 0} (result : Result A E) (r s : RoundFacts K D) (b : Bool) → OnErr result (s ≡ r) → OnOk result (s ≡ record r { finalization_broadcast = b }) → IsAlike r s
+  finalization_handed_out_alike (Ok a) r s b err ok = (ap (λ t. t.me) ok, ap (λ t. t.members) ok, ap (λ t. t.round) ok)
+  finalization_handed_out_alike (Err e) r s b err ok = alike_same r s err

@@ -1,12 +1,14 @@
 -- Changes of the rounds, as changes of a state's facts.
-use Rattle.std.proofs.Common.{◌≡◌, ℕ, Bool, true, false, cond, ltb, leb, Option, Some, None, Result, Ok, Err, OnOk, is_some, unwrap_or, inl, inr, arith, refl, ap, sym, ◌∙◌}
+use Rattle.std.proofs.Common.{◌≡◌, ℕ, Bool, true, false, cond, ◌||◌, ltb, leb, Option, Some, None, Result, Ok, Err, OnOk, is_some, unwrap_or, inl, inr, arith, refl, ap, sym, ◌∙◌}
 use Rattle.std.specs.Ordering.{nat_cmp, is_le}
 use Rattle.std.proofs.lemmas.Bool.{cases_lt, lt-ltb}
 use Rattle.std.proofs.lemmas.Bool.Decides.{nat_tests}
 use Rattle.std.specs.FinMap as map
 use Rattle.std.specs.FinMap.Entries.{find, put}
 use Rattle.simplex_round.specs.Round.{RoundFacts, leader_at, with_nullification, after_nullify}
-use Rattle.simplex_voter.specs.Facts.{Facts, round_of, with_round}
+use Rattle.std.specs.Option.{option_map_or}
+use Rattle.simplex_voter.specs.Facts.{Facts, round_of, with_round, with_tracked}
+use Rattle.simplex_voter.specs.Serving.{after_broadcast_notarization, after_broadcast_nullification, after_broadcast_finalization}
 use Rattle.simplex_voter.specs.Leaders.{led}
 use Rattle.simplex_voter.specs.Entering.{entered, entered_round}
 use Rattle.simplex_voter.specs.Setup.{deadlines_at}
@@ -15,7 +17,7 @@ use Rattle.simplex_types.specs.ByTerm.{TermMap}
 use Rattle.std.specs.BTreeSet.{insert_key}
 use Rattle.simplex_types.specs.Certificates.{NullificationFacts}
 use Rattle.simplex_voter.specs.declared.voter.rounds.Deadlines.{Deadlines}
-use Rattle.simplex_voter.specs.Rounds.{Origin, origin_of, fresh_round, round_in, led_rounds, entered_rounds, nullified_rounds, decided_rounds}
+use Rattle.simplex_voter.specs.Rounds.{Origin, origin_of, fresh_round, round_in, led_rounds, entered_rounds, nullified_rounds, decided_rounds, with_notarization_handed_out, with_nullification_handed_out, with_finalization_handed_out}
 use Rattle.simplex_voter.proofs.RoundsKept.{find_entries, put_entries, keys-insert}
 
 -- a view that is not at or below another is above it
@@ -41,6 +43,13 @@ module _ {K L D : Type 0} where
     pub put_shown : (v : ℕ) (r : RoundFacts K D) → record x { rounds = map.entries (map.insert m v r) } ≡ with_round x v r
     put_shown v r = ap (λ es. record x { rounds = es }) (put_entries m v r ∙ ap (put nat_cmp v r) (sym shown))
 
+    -- a change of a view that is tracked, and none of another
+    pub in_place : (v : ℕ) (f : RoundFacts K D → RoundFacts K D) → record x { rounds = map.entries (option_map_or (λ r. map.insert m v (f r)) (map.get m v) m) } ≡ with_tracked x v (f (round_of x v))
+    in_place v f = elim (map.get m v) as (λ found. map.get m v ≡ found → record x { rounds = map.entries (option_map_or (λ r. map.insert m v (f r)) found m) } ≡ with_tracked x v (f (round_of x v))) [
+      | None ↦ λ is. rw (ap (find nat_cmp v) shown ∙ find_entries m v ∙ is) (ap (λ es. record x { rounds = es }) (sym shown))
+      | Some r ↦ λ is. rw (ap (find nat_cmp v) shown ∙ find_entries m v ∙ is) (put_shown v (f r))
+    ] refl
+
     pub entered_shown : (new : map.FinMap nat_cmp (RoundFacts K D)) (v now : ℕ) (d : Deadlines) → d ≡ deadlines_at x now → ltb x.current v ≡ true → new ≡ entered_rounds (origin x) m v now d → record x { rounds = map.entries new; current = v } ≡ entered x v now
     entered_shown new v now d same above is =
         rw above (
@@ -56,6 +65,21 @@ module _ {K L D : Type 0} where
     decided_shown new v is =
         ap (λ (n : map.FinMap nat_cmp (RoundFacts K D)). record x { rounds = map.entries n }) is
         ∙ rw (← round_shown v) (put_shown v (after_nullify (round_of x v)))
+
+    pub notarization_handed_out_shown : (new : map.FinMap nat_cmp (RoundFacts K D)) (v : ℕ) → new ≡ with_notarization_handed_out m v → record x { rounds = map.entries new } ≡ after_broadcast_notarization x v
+    notarization_handed_out_shown new v is =
+        ap (λ (n : map.FinMap nat_cmp (RoundFacts K D)). record x { rounds = map.entries n }) is
+        ∙ in_place v (λ r. record r { notarization_broadcast = r.notarization_broadcast || is_some r.notarization })
+
+    pub nullification_handed_out_shown : (new : map.FinMap nat_cmp (RoundFacts K D)) (v : ℕ) → new ≡ with_nullification_handed_out m v → record x { rounds = map.entries new } ≡ after_broadcast_nullification x v
+    nullification_handed_out_shown new v is =
+        ap (λ (n : map.FinMap nat_cmp (RoundFacts K D)). record x { rounds = map.entries n }) is
+        ∙ in_place v (λ r. record r { nullification_broadcast = r.nullification_broadcast || is_some r.nullification })
+
+    pub finalization_handed_out_shown : (new : map.FinMap nat_cmp (RoundFacts K D)) (v : ℕ) → new ≡ with_finalization_handed_out m v → record x { rounds = map.entries new } ≡ after_broadcast_finalization x v
+    finalization_handed_out_shown new v is =
+        ap (λ (n : map.FinMap nat_cmp (RoundFacts K D)). record x { rounds = map.entries n }) is
+        ∙ in_place v (λ r. record r { finalization_broadcast = r.finalization_broadcast || is_some r.finalization })
 
     pub led_shown : (new : map.FinMap nat_cmp (RoundFacts K D)) (v member : ℕ) → new ≡ led_rounds (origin x) m v member → record x { rounds = map.entries new } ≡ led x v member
     led_shown new v member is =

@@ -1,5 +1,6 @@
 -- The tracked views as the state keeps them: each round is of this member, these members and this epoch.
-use Rattle.std.specs.Prelude.{◌≡◌, ℕ, Bool, List, Option, Some, is_some, unwrap_or, if◌then◌else◌}
+use Rattle.std.specs.Prelude.{◌≡◌, ℕ, Bool, List, Option, Some, is_some, unwrap_or, ◌||◌, if◌then◌else◌}
+use Rattle.std.specs.Option.{option_map_or}
 use Rattle.std.specs.Ordering.{nat_cmp}
 use Rattle.std.specs.FinMap.{FinMap, get, insert}
 use Rattle.simplex_types.specs.declared.types.numbers.Round.{Round}
@@ -53,3 +54,18 @@ nullified_rounds o rounds v c = insert rounds v (with_nullification (round_in o 
 -- the rounds with the vote to nullify a view decided, unless it is decided to finalize it
 abbrev pub decided_rounds : {K D : Type 0} → Origin K → FinMap nat_cmp (RoundFacts K D) → ℕ → FinMap nat_cmp (RoundFacts K D)
 decided_rounds o rounds v = insert rounds v (after_nullify (round_in o rounds v))
+
+-- the notarization of a tracked view counts as handed out, where it is there
+abbrev pub with_notarization_handed_out : {K D : Type 0} → FinMap nat_cmp (RoundFacts K D) → ℕ → FinMap nat_cmp (RoundFacts K D)
+with_notarization_handed_out rounds v =
+    option_map_or (λ r. insert rounds v (record r { notarization_broadcast = r.notarization_broadcast || is_some r.notarization })) (get rounds v) rounds
+
+-- the nullification of a tracked view counts as handed out, where it is there
+abbrev pub with_nullification_handed_out : {K D : Type 0} → FinMap nat_cmp (RoundFacts K D) → ℕ → FinMap nat_cmp (RoundFacts K D)
+with_nullification_handed_out rounds v =
+    option_map_or (λ r. insert rounds v (record r { nullification_broadcast = r.nullification_broadcast || is_some r.nullification })) (get rounds v) rounds
+
+-- the finalization of a tracked view counts as handed out, where it is there
+abbrev pub with_finalization_handed_out : {K D : Type 0} → FinMap nat_cmp (RoundFacts K D) → ℕ → FinMap nat_cmp (RoundFacts K D)
+with_finalization_handed_out rounds v =
+    option_map_or (λ r. insert rounds v (record r { finalization_broadcast = r.finalization_broadcast || is_some r.finalization })) (get rounds v) rounds

@@ -1,6 +1,7 @@
 //! A member's votes over all views: leaders, parents, entering, the rules that say when it signs, and the state that
 //! keeps them.
 
+mod broadcasts;
 mod floor;
 mod getters;
 pub mod laws;

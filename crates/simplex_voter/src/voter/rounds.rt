@@ -1,16 +1,17 @@
 //! The rounds of the tracked views.
 
-ghost use Rattle.std.specs.Prelude.{◌≡◌, ◌<◌, IfErr, OnOk, length, is_some, false};
+ghost use Rattle.std.specs.Prelude.{◌≡◌, ◌<◌, IfOk, IfErr, OnOk, option_map, option_and_then, length, is_some, false};
 ghost use Rattle.std.specs.Option.{option_map_or};
 ghost use Rattle.std.specs.FinMap as map;
 ghost use Rattle.simplex_types.specs.declared.types.fault.Fault.TheVariants.{OutOfMemory};
-ghost use Rattle.simplex_voter.specs.Rounds.{AreMadeBy, origin_of, round_in, led_rounds, entered_rounds, nullified_rounds, decided_rounds};
-ghost use Rattle.simplex_types.specs.Certificates.{nullification_facts};
+ghost use Rattle.simplex_voter.specs.Rounds.{AreMadeBy, origin_of, round_in, led_rounds, entered_rounds, nullified_rounds, decided_rounds, Origin, with_notarization_handed_out, with_nullification_handed_out, with_finalization_handed_out};
+ghost use Rattle.simplex_voter.specs.Serving.{once};
+ghost use Rattle.simplex_types.specs.Certificates.{notarization_facts, nullification_facts, finalization_facts};
 
 use simplex_round::round::Round;
 use simplex_types::sorted::Tracked;
 use simplex_types::types;
-use simplex_types::types::{CertificateScheme, Digest, Epoch, Fault, Nullification, Participant, View};
+use simplex_types::types::{CertificateScheme, Digest, Epoch, Fault, Finalization, Notarization, Nullification, Participant, View};
 use std::alloc::Global;
 
 /// The moments, in milliseconds, at which a view that is entered times out.
@@ -140,6 +141,57 @@ pub fn decide_nullify<S: CertificateScheme, D: Digest>(
         let _retry = tracked.construct_nullify();
     }
     Ok(())
+}
+
+/// Hands out the notarization of a tracked view, once.
+pub fn hand_out_notarization<S: CertificateScheme, D: Digest>(
+    alloc: Global,
+    rounds: &mut Tracked<Round<S, D>>,
+    view: View,
+) -> Result<Option<Notarization<S, D>>, Fault>
+    ensures made { (o : Origin S.PublicKey) → AreMadeBy o rounds.old → AreMadeBy o rounds.new }
+    ensures answer { IfOk result (λ c. option_map (notarization_facts S.certificate_bytes) c ≡ option_and_then (λ r. once r.notarization_broadcast r.notarization) (map.get rounds.old view)) }
+    ensures handed_out { OnOk result (rounds.new ≡ with_notarization_handed_out rounds.old view) }
+    ensures refused { IfErr result (λ fault. fault ≡ OutOfMemory) }
+{
+    match rounds.get_mut(view) {
+        Some(round) => round.broadcast_notarization(alloc),
+        None => Ok(None),
+    }
+}
+
+/// Hands out the nullification of a tracked view, once.
+pub fn hand_out_nullification<S: CertificateScheme, D: Digest>(
+    alloc: Global,
+    rounds: &mut Tracked<Round<S, D>>,
+    view: View,
+) -> Result<Option<Nullification<S>>, Fault>
+    ensures made { (o : Origin S.PublicKey) → AreMadeBy o rounds.old → AreMadeBy o rounds.new }
+    ensures answer { IfOk result (λ c. option_map (nullification_facts S.certificate_bytes) c ≡ option_and_then (λ r. once r.nullification_broadcast r.nullification) (map.get rounds.old view)) }
+    ensures handed_out { OnOk result (rounds.new ≡ with_nullification_handed_out rounds.old view) }
+    ensures refused { IfErr result (λ fault. fault ≡ OutOfMemory) }
+{
+    match rounds.get_mut(view) {
+        Some(round) => round.broadcast_nullification(alloc),
+        None => Ok(None),
+    }
+}
+
+/// Hands out the finalization of a tracked view, once.
+pub fn hand_out_finalization<S: CertificateScheme, D: Digest>(
+    alloc: Global,
+    rounds: &mut Tracked<Round<S, D>>,
+    view: View,
+) -> Result<Option<Finalization<S, D>>, Fault>
+    ensures made { (o : Origin S.PublicKey) → AreMadeBy o rounds.old → AreMadeBy o rounds.new }
+    ensures answer { IfOk result (λ c. option_map (finalization_facts S.certificate_bytes) c ≡ option_and_then (λ r. once r.finalization_broadcast r.finalization) (map.get rounds.old view)) }
+    ensures handed_out { OnOk result (rounds.new ≡ with_finalization_handed_out rounds.old view) }
+    ensures refused { IfErr result (λ fault. fault ≡ OutOfMemory) }
+{
+    match rounds.get_mut(view) {
+        Some(round) => round.broadcast_finalization(alloc),
+        None => Ok(None),
+    }
 }
 
 /// Whether a leader of the view is set.
