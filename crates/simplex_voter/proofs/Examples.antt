@@ -7,3 +7,4 @@ pub mod Windows
 pub mod Timing
 pub mod Hostile
 pub mod Payloads
+pub mod Mixed

@@ -229,6 +229,32 @@ bound_chain :
 unfolding replies_of
 bound_chain = refl
 
+-- a chain rests on votes, and not on verified proposals
+verified_is_not_voted :
+    replies_of
+    (voter 1 5 1)
+    (
+    SetProposal 1 0 7 ∷ SetProposal 2 1 9 ∷ TryVerify ∷ Verified 1 ∷ TryVerify ∷ Notarize 1 ∷ TryVerify ∷ []
+    )
+    ≡
+    Flag true ∷ Flag true ∷ Work (Verify (context 1 0 0 0) (proposal 1 0 7)) ∷ Flag true ∷ Work Wait ∷
+    Vote (Some (proposal 1 0 7)) ∷ Work (Verify (context 2 0 1 7) (proposal 2 1 9)) ∷ []
+unfolding replies_of
+verified_is_not_voted = refl
+
+-- inside its own term a leader takes over nothing
+own_term :
+    replies_of
+    (voter 0 5 0)
+    (
+    TryPropose ∷ Proposed (context 1 0 0 0) 7 3 ∷ Notarize 1 ∷ Leader 2 ∷ TryPropose ∷ []
+    )
+    ≡
+    Asked (Some (Propose (context 1 0 0 0))) ∷ Flag true ∷ Vote (Some (proposal 1 0 7)) ∷ Member None ∷ Asked None ∷
+    []
+unfolding replies_of
+own_term = refl
+
 -- inside its window a view waits for a payload of the view before
 unvoted_parent :
     replies_of
