@@ -2,7 +2,7 @@
 use Rattle.std.specs.Prelude.{◌≡◌, true, false, [], ◌∷◌, Some, None}
 use Rattle.std.proofs.Common.{refl}
 use Rattle.simplex_types.specs.declared.reasons.Kind.TheVariants.{Nullification, Notarization}
-use Rattle.simplex_types.specs.declared.reasons.TimeoutReason.TheVariants.{InvalidProposal}
+use Rattle.simplex_types.specs.declared.reasons.TimeoutReason.TheVariants.{CertificationTimeout, InvalidProposal}
 use Rattle.simplex_voter.specs.Proposing.Request.{Propose}
 use Rattle.simplex_voter.specs.Verifying.Verification.{Verify, Resolve, Wait}
 use Rattle.simplex_voter.proofs.Examples.Scripts.{replies_of, voter, proposal, context, nullified, verdict}
@@ -270,6 +270,19 @@ passed_view :
     Flag true ∷ Asked None ∷ []
 unfolding replies_of
 passed_view = refl
+
+-- a rejection of a proposal that was replaced does not time the view out
+rejected_replaced :
+    replies_of
+    (voter 1 1 0)
+    (
+    SetProposal 1 0 7 ∷ TryVerify ∷ AddNotarization 1 0 8 ∷ Rejected 1 InvalidProposal 40 ∷ NextTimeout 50 ∷ []
+    )
+    ≡
+    Flag true ∷ Work (Verify (context 1 0 0 0) (proposal 1 0 7)) ∷ Added true (Some 0) ∷ Done ∷
+    Timeout (Some (2000, CertificationTimeout)) ∷ []
+unfolding replies_of
+rejected_replaced = refl
 
 -- a proposal of a view that is given up is not held
 given_up_slot :

@@ -343,6 +343,22 @@ opened_by_finalization :
 unfolding replies_of
 opened_by_finalization = refl
 
+-- each certificate is handed out once
+handed_out_once :
+    replies_of
+    (voter 0 1 0)
+    (
+    AddNotarization 1 0 7 ∷ BroadcastNotarization 1 ∷ BroadcastNotarization 1 ∷ AddNullification 1 5 ∷
+    BroadcastNullification 1 ∷ BroadcastNullification 1 ∷ BroadcastFinalization 1 ∷ AddFinalization 1 0 7 6 ∷
+    BroadcastFinalization 1 ∷ []
+    )
+    ≡
+    Added true None ∷ Certificate (Some (Notarized (certificate 1 0 7))) ∷ Certificate None ∷ Flag true ∷
+    Certificate (Some (Nullified (nullification 1))) ∷ Certificate None ∷ Certificate None ∷ Added true None ∷
+    Certificate (Some (Finalized (certificate 1 0 7))) ∷ []
+unfolding replies_of
+handed_out_once = refl
+
 -- each view takes its leader from the one before
 led_in_turn :
     replies_of
