@@ -6,4 +6,5 @@ pub mod Parents
 pub mod Windows
 pub mod Timing
 pub mod Hostile
-pub mod Payloads
+pub mod Definitions
+pub mod Mixed

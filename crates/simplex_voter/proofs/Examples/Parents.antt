@@ -2,11 +2,11 @@
 use Rattle.std.specs.Prelude.{◌≡◌, true, false, [], ◌∷◌, Some, None}
 use Rattle.std.proofs.Common.{refl}
 use Rattle.simplex_types.specs.declared.reasons.Kind.TheVariants.{Nullification, Notarization}
-use Rattle.simplex_types.specs.declared.reasons.TimeoutReason.TheVariants.{InvalidProposal}
+use Rattle.simplex_types.specs.declared.reasons.TimeoutReason.TheVariants.{CertificationTimeout, InvalidProposal}
 use Rattle.simplex_voter.specs.Proposing.Request.{Propose}
 use Rattle.simplex_voter.specs.Verifying.Verification.{Verify, Resolve, Wait}
-use Rattle.simplex_voter.proofs.Examples.Scripts.{replies_of, voter, proposal, context}
-use Rattle.simplex_voter.proofs.Examples.Scripts.Call.{AddNotarization, AddNullification, AddFinalization, SetProposal, TryPropose, Proposed, Supersede, Abandonment, Release, TryVerify, Verified, Rejected, Certified, Notarize, Nullify, NextTimeout, Prune, Elapsed}
+use Rattle.simplex_voter.proofs.Examples.Scripts.{replies_of, voter, proposal, context, nullified, verdict}
+use Rattle.simplex_voter.proofs.Examples.Scripts.Call.{AddNotarization, AddNullification, AddFinalization, SetProposal, TryPropose, Proposed, Supersede, Abandonment, Release, TryVerify, Verified, Rejected, Certified, Notarize, Nullify, NextTimeout, Prune, Replayed, Elapsed}
 use Rattle.simplex_voter.proofs.Examples.Scripts.Reply.{Done, Flag, Added, Asked, Abandoned, Work, Judged, Vote, NullifyVote, Timeout, Views, Since}
 
 -- a proposal is verified once, voted for once, and given up for the term after a nullification
@@ -159,11 +159,12 @@ other_capture :
     (voter 1 1 0)
     (
     AddNullification 1 10 ∷ TryPropose ∷ Proposed (context 2 1 1 0) 8 12 ∷ Proposed (context 2 1 0 5) 8 12 ∷
-    Proposed (context 3 1 0 0) 8 12 ∷ Proposed (context 2 1 0 0) 8 13 ∷ Elapsed 2 33 ∷ Notarize 2 ∷ []
+    Proposed (context 3 1 0 0) 8 12 ∷ Proposed (context 2 1 0 0) 8 13 ∷ Elapsed 2 33 ∷
+    Proposed (context 2 1 0 0) 9 14 ∷ Notarize 2 ∷ []
     )
     ≡
     Flag true ∷ Asked (Some (Propose (context 2 1 0 0))) ∷ Flag false ∷ Flag false ∷ Flag false ∷ Flag true ∷
-    Since (Some 20) (Some 23) ∷ Vote (Some (proposal 2 0 8)) ∷ []
+    Since (Some 20) (Some 23) ∷ Flag false ∷ Vote (Some (proposal 2 0 8)) ∷ []
 unfolding replies_of
 other_capture = refl
 
@@ -206,3 +207,105 @@ released :
     Asked (Some (Propose (context 2 1 0 0))) ∷ []
 unfolding replies_of
 released = refl
+
+-- the next view of a gap is asked for once the first is covered
+next_gap :
+    replies_of
+    (voter 0 1 0)
+    (
+    AddNullification 3 5 ∷ SetProposal 4 0 7 ∷ TryVerify ∷ AddNullification 1 6 ∷ TryVerify ∷ TryVerify ∷
+    AddNullification 2 7 ∷ TryVerify ∷ []
+    )
+    ≡
+    Flag true ∷ Flag true ∷ Work (Resolve 4 1 Nullification 3) ∷ Flag true ∷ Work (Resolve 4 2 Nullification 3) ∷
+    Work Wait ∷ Flag true ∷ Work (Verify (context 4 3 0 0) (proposal 4 0 7)) ∷ []
+unfolding replies_of
+next_gap = refl
+
+-- the scan goes on past a proposal that is invalid
+past_invalid :
+    replies_of
+    (voter 3 1 0)
+    (
+    AddNotarization 1 1 7 ∷ Replayed (nullified 1) ∷ SetProposal 2 0 9 ∷ TryVerify ∷ TryVerify ∷ NextTimeout 50 ∷ []
+    )
+    ≡
+    Added true None ∷ Done ∷ Flag true ∷ Work (Verify (context 2 1 0 0) (proposal 2 0 9)) ∷ Work Wait ∷
+    Timeout (Some (0, InvalidProposal)) ∷ []
+unfolding replies_of
+past_invalid = refl
+
+-- a proposal that is not admitted waits
+not_admitted_yet :
+    replies_of
+    (voter 1 5 0)
+    (
+    AddNotarization 1 0 7 ∷ SetProposal 2 1 9 ∷ TryVerify ∷ TryVerify ∷ []
+    )
+    ≡
+    Added true None ∷ Flag true ∷ Work (Verify (context 1 0 0 0) (proposal 1 0 7)) ∷ Work Wait ∷ []
+unfolding replies_of
+not_admitted_yet = refl
+
+-- nor is anything built there
+not_led_yet :
+    replies_of
+    (voter 0 5 0)
+    (
+    AddNotarization 1 0 7 ∷ Replayed (verdict 1 true) ∷ TryPropose ∷ []
+    )
+    ≡
+    Added true None ∷ Done ∷ Asked None ∷ []
+unfolding replies_of
+not_led_yet = refl
+
+-- nothing is built in a view that is passed
+passed_view :
+    replies_of
+    (voter 0 1 0)
+    (
+    AddNullification 1 5 ∷ TryPropose ∷ []
+    )
+    ≡
+    Flag true ∷ Asked None ∷ []
+unfolding replies_of
+passed_view = refl
+
+-- a rejection of a proposal that was replaced does not time the view out
+rejected_replaced :
+    replies_of
+    (voter 1 1 0)
+    (
+    SetProposal 1 0 7 ∷ TryVerify ∷ AddNotarization 1 0 8 ∷ Rejected 1 InvalidProposal 40 ∷ NextTimeout 50 ∷ []
+    )
+    ≡
+    Flag true ∷ Work (Verify (context 1 0 0 0) (proposal 1 0 7)) ∷ Added true (Some 0) ∷ Done ∷
+    Timeout (Some (2000, CertificationTimeout)) ∷ []
+unfolding replies_of
+rejected_replaced = refl
+
+-- a proposal of a view that is given up is not held
+given_up_slot :
+    replies_of
+    (voter 1 1 0)
+    (
+    Nullify 1 ∷ SetProposal 1 0 7 ∷ AddNotarization 1 0 8 ∷ []
+    )
+    ≡
+    NullifyVote (Some false) ∷ Flag false ∷ Added true None ∷ []
+unfolding replies_of
+given_up_slot = refl
+
+-- a captured parent stands while it is allowed, though another is preferred
+lower_parent_stands :
+    replies_of
+    (voter 1 1 0)
+    (
+    AddNotarization 1 0 7 ∷ AddNullification 1 10 ∷ TryPropose ∷ Certified 1 true 11 ∷ Supersede (context 2 1 0 0) ∷
+    Proposed (context 2 1 0 0) 8 12 ∷ []
+    )
+    ≡
+    Added true None ∷ Flag true ∷ Asked (Some (Propose (context 2 1 0 0))) ∷ Judged (Some (proposal 1 0 7)) ∷
+    Flag false ∷ Flag true ∷ []
+unfolding replies_of
+lower_parent_stands = refl

@@ -3,9 +3,9 @@ use Rattle.std.specs.Prelude.{◌≡◌, true, false, [], ◌∷◌, Some, None}
 use Rattle.std.proofs.Common.{refl}
 use Rattle.simplex_types.specs.Certificates.{Notarized, Nullified, Finalized}
 use Rattle.simplex_types.specs.declared.types.fault.Fault.TheVariants.{TimeOverflow, ViewTooLarge}
-use Rattle.simplex_types.specs.declared.reasons.Kind.TheVariants.{Notarization}
-use Rattle.simplex_voter.specs.Verifying.Verification.{Resolve, Wait}
-use Rattle.simplex_voter.proofs.Examples.Scripts.{replies_of, voter, above, proposal, certificate, nullification, notarized, nullified, finalized, verdict, voted_nullify, voted_finalize}
+use Rattle.simplex_types.specs.declared.reasons.Kind.TheVariants.{Nullification, Notarization}
+use Rattle.simplex_voter.specs.Verifying.Verification.{Verify, Resolve, Wait}
+use Rattle.simplex_voter.proofs.Examples.Scripts.{replies_of, voter, above, proposal, context, certificate, nullification, notarized, nullified, finalized, verdict, voted_nullify, voted_finalize}
 use Rattle.simplex_voter.proofs.Examples.Scripts.Call.{AddNotarization, AddNullification, AddFinalization, SetProposal, TryVerify, Certified, Nullify, Finalize, BroadcastNotarization, BroadcastNullification, BroadcastFinalization, Best, Prune, Replayed, View, Leader, ParentCertified, VotedNullify, AdmitsVote, Restart}
 use Rattle.simplex_voter.proofs.Examples.Scripts.Reply.{Done, Flag, Added, Work, Judged, Vote, NullifyVote, Certificate, Views, Now, Member, Refused, NotAllowed}
 
@@ -255,3 +255,118 @@ known_member :
     NullifyVote (Some false) ∷ Flag true ∷ []
 unfolding replies_of
 known_member = refl
+
+-- a replayed nullification closes a gap
+replayed_covers :
+    replies_of
+    (voter 0 1 0)
+    (
+    AddNullification 2 10 ∷ SetProposal 3 0 7 ∷ TryVerify ∷ Replayed (nullified 1) ∷ TryVerify ∷ []
+    )
+    ≡
+    Flag true ∷ Flag true ∷ Work (Resolve 3 1 Nullification 2) ∷ Done ∷
+    Work (Verify (context 3 2 0 0) (proposal 3 0 7)) ∷ []
+unfolding replies_of
+replayed_covers = refl
+
+-- an artifact that names a view too large is refused
+replayed_too_large :
+    replies_of
+    (voter 0 1 0)
+    (
+    Replayed (nullified 9223372036854775808) ∷ Replayed (notarized 3 9223372036854775808 7) ∷
+    Replayed (verdict 3 true) ∷ []
+    )
+    ≡
+    Refused ViewTooLarge ∷ Refused ViewTooLarge ∷ Done ∷ []
+unfolding replies_of
+replayed_too_large = refl
+
+-- a finalization below the last one lowers nothing
+lower_finalization :
+    replies_of
+    (voter 0 1 0)
+    (
+    AddFinalization 5 4 7 10 ∷ AddFinalization 3 2 4 11 ∷ View ∷ []
+    )
+    ≡
+    Added true None ∷ Added true None ∷ Now 6 5 0 ∷ []
+unfolding replies_of
+lower_finalization = refl
+
+-- the finalization of the view before comes before a nullification
+finalization_first :
+    replies_of
+    (voter 0 5 0)
+    (
+    AddFinalization 5 4 7 10 ∷ AddNullification 3 11 ∷ Best ∷ []
+    )
+    ≡
+    Added true None ∷ Flag true ∷ Certificate (Some (Finalized (certificate 5 4 7))) ∷ []
+unfolding replies_of
+finalization_first = refl
+
+-- pruning keeps the view at the floor
+kept_at_the_floor :
+    replies_of
+    (voter 0 1 0)
+    (
+    AddNotarization 10 9 7 ∷ AddFinalization 20 19 9 5 ∷ Prune ∷ Leader 11 ∷ BroadcastNotarization 10 ∷ []
+    )
+    ≡
+    Added true None ∷ Added true None ∷ Views (1 ∷ []) ∷ Member (Some 2) ∷
+    Certificate (Some (Notarized (certificate 10 9 7))) ∷ []
+unfolding replies_of
+kept_at_the_floor = refl
+
+-- pruning keeps the nullifications from the floor on
+kept_nullifications :
+    replies_of
+    (voter 0 1 0)
+    (
+    AddNullification 1 5 ∷ AddNullification 2 6 ∷ Prune ∷ SetProposal 3 0 7 ∷ TryVerify ∷ []
+    )
+    ≡
+    Flag true ∷ Flag true ∷ Views [] ∷ Flag true ∷ Work (Verify (context 3 2 0 0) (proposal 3 0 7)) ∷ []
+unfolding replies_of
+kept_nullifications = refl
+
+-- a finalization hands its leader on
+opened_by_finalization :
+    replies_of
+    (voter 0 5 2)
+    (
+    AddFinalization 1 0 7 5 ∷ Leader 3 ∷ Leader 4 ∷ Leader 5 ∷ []
+    )
+    ≡
+    Added true None ∷ Member (Some 0) ∷ Member (Some 0) ∷ Member None ∷ []
+unfolding replies_of
+opened_by_finalization = refl
+
+-- each certificate is handed out once
+handed_out_once :
+    replies_of
+    (voter 0 1 0)
+    (
+    AddNotarization 1 0 7 ∷ BroadcastNotarization 1 ∷ BroadcastNotarization 1 ∷ AddNullification 1 5 ∷
+    BroadcastNullification 1 ∷ BroadcastNullification 1 ∷ BroadcastFinalization 1 ∷ AddFinalization 1 0 7 6 ∷
+    BroadcastFinalization 1 ∷ []
+    )
+    ≡
+    Added true None ∷ Certificate (Some (Notarized (certificate 1 0 7))) ∷ Certificate None ∷ Flag true ∷
+    Certificate (Some (Nullified (nullification 1))) ∷ Certificate None ∷ Certificate None ∷ Added true None ∷
+    Certificate (Some (Finalized (certificate 1 0 7))) ∷ []
+unfolding replies_of
+handed_out_once = refl
+
+-- each view takes its leader from the one before
+led_in_turn :
+    replies_of
+    (voter 0 5 2)
+    (
+    AddNotarization 2 1 9 ∷ Leader 2 ∷ Leader 4 ∷ []
+    )
+    ≡
+    Added true None ∷ Member None ∷ Member (Some 0) ∷ []
+unfolding replies_of
+led_in_turn = refl

@@ -375,3 +375,40 @@ elapsed :
     Since (Some 30) (Some 30) ∷ Since None None ∷ Flag true ∷ Since (Some 0) (Some 0) ∷ Since (Some 10) (Some 10) ∷ []
 unfolding replies_of
 elapsed = refl
+
+-- an earlier term stalls nothing
+stall_of_the_term :
+    replies_of
+    (member (Some 0) (record { term_length = 1; optimistic_views = 0; stall_timeout = Some 500 }) usual 0)
+    (
+    AddNullification 1 100 ∷ NextTimeout 100 ∷ []
+    )
+    ≡
+    Flag true ∷ Timeout (Some (600, StallTimeout)) ∷ []
+unfolding replies_of
+stall_of_the_term = refl
+
+-- a verdict wakes the next view only where that waited
+wakes_what_waited :
+    replies_of
+    (voter 0 1 0)
+    (
+    AddNotarization 2 0 9 ∷ Candidates ∷ AddNotarization 1 0 7 ∷ Candidates ∷ Certified 1 true 5 ∷ Candidates ∷ []
+    )
+    ≡
+    Added true None ∷ Offered (proposal 2 0 9 ∷ []) [] ∷ Added true None ∷ Offered (proposal 1 0 7 ∷ []) [] ∷
+    Judged (Some (proposal 1 0 7)) ∷ Offered [] [] ∷ []
+unfolding replies_of
+wakes_what_waited = refl
+
+-- a leader that did not vote needs no parent certified
+not_handed_over :
+    replies_of
+    (voter 1 1 0)
+    (
+    AddNotarization 2 1 8 ∷ Candidates ∷ []
+    )
+    ≡
+    Added true None ∷ Offered (proposal 2 1 8 ∷ []) [] ∷ []
+unfolding replies_of
+not_handed_over = refl

@@ -5,7 +5,7 @@ use Rattle.simplex_types.specs.declared.types.fault.Fault.TheVariants.{Failed, T
 use Rattle.simplex_voter.specs.Proposing.Request.{Prepare}
 use Rattle.simplex_voter.specs.Verifying.Verification.{Verify, Wait}
 use Rattle.simplex_voter.proofs.Examples.Scripts.{replies_of, voter, keyless, proposal, context, notarized, verdict, voted_notarize, voted_nullify}
-use Rattle.simplex_voter.proofs.Examples.Scripts.Call.{AddNotarization, AddNullification, AddFinalization, SetProposal, TryPropose, TryVerify, Verified, Certified, Notarize, Nullify, Finalize, NextTimeout, Replayed, View, Restart}
+use Rattle.simplex_voter.proofs.Examples.Scripts.Call.{AddNotarization, AddNullification, AddFinalization, SetProposal, TryPropose, TryVerify, Verified, Certified, Notarize, Nullify, Finalize, NextTimeout, Replayed, View, VotedNullify, Restart}
 use Rattle.simplex_voter.proofs.Examples.Scripts.Reply.{Done, Flag, Added, Asked, Work, Judged, Vote, NullifyVote, Now, Refused, NotAllowed}
 
 -- a verdict where nothing is known says nothing; one without its notarization is not allowed, nor is view 0
@@ -174,3 +174,41 @@ failed :
     Refused Failed ∷ Refused Failed ∷ NotAllowed ∷ Refused Failed ∷ []
 unfolding replies_of
 failed = refl
+
+-- a replayed nullify vote gates its term
+replayed_nullify_gates :
+    replies_of
+    (voter 0 5 0)
+    (
+    Nullify 1 ∷ Restart 5 (voted_nullify 0 1 ∷ []) ∷ AddNotarization 1 0 7 ∷ Certified 1 true 10 ∷
+    AddNotarization 2 1 9 ∷ Certified 2 true 11 ∷ Finalize 2 ∷ []
+    )
+    ≡
+    NullifyVote (Some false) ∷ Done ∷ Added true None ∷ Judged (Some (proposal 1 0 7)) ∷ Added true None ∷
+    Judged (Some (proposal 2 1 9)) ∷ Vote None ∷ []
+unfolding replies_of
+replayed_nullify_gates = refl
+
+-- only a true verdict of a tracked view can be late
+late_verdicts :
+    replies_of
+    (voter 0 1 0)
+    (
+    Certified 9 true 18446744073709551615 ∷ AddNotarization 1 0 7 ∷ Certified 1 false 18446744073709551615 ∷ []
+    )
+    ≡
+    Judged None ∷ Added true None ∷ Judged (Some (proposal 1 0 7)) ∷ []
+unfolding replies_of
+late_verdicts = refl
+
+-- without a key no vote is out
+votes_without_key :
+    replies_of
+    (keyless 1 0)
+    (
+    Nullify 1 ∷ VotedNullify 1 ∷ AddNotarization 1 0 7 ∷ Certified 1 true 5 ∷ Finalize 1 ∷ []
+    )
+    ≡
+    NullifyVote None ∷ Flag false ∷ Added true None ∷ Judged (Some (proposal 1 0 7)) ∷ Vote None ∷ []
+unfolding replies_of
+votes_without_key = refl

@@ -5,8 +5,8 @@ use Rattle.simplex_types.specs.declared.reasons.HandoffAbandonedReason.TheVarian
 use Rattle.simplex_types.specs.declared.reasons.TimeoutReason.TheVariants.{CertificationTimeout, InvalidProposal}
 use Rattle.simplex_voter.specs.Proposing.Request.{Prepare, Propose}
 use Rattle.simplex_voter.specs.Verifying.Verification.{Verify, Wait}
-use Rattle.simplex_voter.proofs.Examples.Scripts.{replies_of, voter, proposal, context, fetch, voted_notarize}
-use Rattle.simplex_voter.proofs.Examples.Scripts.Call.{AddNotarization, AddNullification, AddFinalization, SetProposal, TryPropose, Proposed, Supersede, Abandonment, Release, TryVerify, Verified, Candidates, Certified, Notarize, Nullify, Finalize, NextTimeout, Prune, Replayed, View, Leader, Forwardable, ParentCertified}
+use Rattle.simplex_voter.proofs.Examples.Scripts.{replies_of, voter, proposal, context, fetch, notarized, voted_notarize}
+use Rattle.simplex_voter.proofs.Examples.Scripts.Call.{AddNotarization, AddNullification, AddFinalization, SetProposal, TryPropose, Proposed, Supersede, Abandonment, Release, TryVerify, Verified, Rejected, Candidates, Certified, Notarize, Nullify, Finalize, NextTimeout, Prune, Replayed, View, Leader, Forwardable, ParentCertified, Restart}
 use Rattle.simplex_voter.proofs.Examples.Scripts.Reply.{Done, Flag, Added, Asked, Abandoned, Work, Offered, Judged, Vote, NullifyVote, Timeout, Views, Now, Member, NotAllowed}
 
 -- a chain of votes before any certificate; a parent outside of what was voted for waits for its verdict
@@ -205,14 +205,29 @@ stale_answer :
     (voter 1 5 1)
     (
     SetProposal 1 0 7 ∷ SetProposal 2 1 9 ∷ TryVerify ∷ Verified 1 ∷ Notarize 1 ∷ TryVerify ∷
-    AddNotarization 1 0 8 ∷ Verified 2 ∷ NextTimeout 20 ∷ []
+    AddNotarization 1 0 8 ∷ Verified 2 ∷ NextTimeout 20 ∷ Verified 2 ∷ []
     )
     ≡
     Flag true ∷ Flag true ∷ Work (Verify (context 1 0 0 0) (proposal 1 0 7)) ∷ Flag true ∷
     Vote (Some (proposal 1 0 7)) ∷ Work (Verify (context 2 0 1 7) (proposal 2 1 9)) ∷ Added true (Some 0) ∷
-    Flag false ∷ Timeout (Some (2000, CertificationTimeout)) ∷ []
+    Flag false ∷ Timeout (Some (2000, CertificationTimeout)) ∷ Flag true ∷ []
 unfolding replies_of
 stale_answer = refl
+
+-- a rejection for a parent that was replaced does not time the view out
+stale_rejection :
+    replies_of
+    (voter 1 5 1)
+    (
+    SetProposal 1 0 7 ∷ SetProposal 2 1 9 ∷ TryVerify ∷ Verified 1 ∷ Notarize 1 ∷ TryVerify ∷
+    AddNotarization 1 0 8 ∷ Rejected 2 InvalidProposal 30 ∷ Certified 1 true 40 ∷ NextTimeout 50 ∷ []
+    )
+    ≡
+    Flag true ∷ Flag true ∷ Work (Verify (context 1 0 0 0) (proposal 1 0 7)) ∷ Flag true ∷
+    Vote (Some (proposal 1 0 7)) ∷ Work (Verify (context 2 0 1 7) (proposal 2 1 9)) ∷ Added true (Some 0) ∷ Done ∷
+    Judged (Some (proposal 1 0 8)) ∷ Timeout (Some (2040, CertificationTimeout)) ∷ []
+unfolding replies_of
+stale_rejection = refl
 
 -- nor does a chain rest on a view that was bound to another payload
 bound_chain :
@@ -228,6 +243,32 @@ bound_chain :
     Vote (Some (proposal 2 1 9)) ∷ Added true (Some 0) ∷ Flag true ∷ Work Wait ∷ []
 unfolding replies_of
 bound_chain = refl
+
+-- a chain rests on votes, and not on verified proposals
+verified_is_not_voted :
+    replies_of
+    (voter 1 5 1)
+    (
+    SetProposal 1 0 7 ∷ SetProposal 2 1 9 ∷ TryVerify ∷ Verified 1 ∷ TryVerify ∷ Notarize 1 ∷ TryVerify ∷ []
+    )
+    ≡
+    Flag true ∷ Flag true ∷ Work (Verify (context 1 0 0 0) (proposal 1 0 7)) ∷ Flag true ∷ Work Wait ∷
+    Vote (Some (proposal 1 0 7)) ∷ Work (Verify (context 2 0 1 7) (proposal 2 1 9)) ∷ []
+unfolding replies_of
+verified_is_not_voted = refl
+
+-- inside its own term a leader takes over nothing
+own_term :
+    replies_of
+    (voter 0 5 0)
+    (
+    TryPropose ∷ Proposed (context 1 0 0 0) 7 3 ∷ Notarize 1 ∷ Leader 2 ∷ TryPropose ∷ []
+    )
+    ≡
+    Asked (Some (Propose (context 1 0 0 0))) ∷ Flag true ∷ Vote (Some (proposal 1 0 7)) ∷ Member None ∷ Asked None ∷
+    []
+unfolding replies_of
+own_term = refl
 
 -- inside its window a view waits for a payload of the view before
 unvoted_parent :
@@ -345,3 +386,93 @@ others_handoff :
     Asked None ∷ Member None ∷ []
 unfolding replies_of
 others_handoff = refl
+
+-- inside its term a leader builds on its own votes
+own_chain :
+    replies_of
+    (voter 0 5 1)
+    (
+    TryPropose ∷ Proposed (context 1 0 0 0) 7 3 ∷ Notarize 1 ∷ TryPropose ∷ []
+    )
+    ≡
+    Asked (Some (Propose (context 1 0 0 0))) ∷ Flag true ∷ Vote (Some (proposal 1 0 7)) ∷
+    Asked (Some (Propose (context 2 0 1 7))) ∷ []
+unfolding replies_of
+own_chain = refl
+
+-- a member takes over after its own vote
+not_taken_over_yet :
+    replies_of
+    (voter 1 1 0)
+    (
+    SetProposal 1 0 7 ∷ Leader 2 ∷ TryVerify ∷ Verified 1 ∷ Notarize 1 ∷ Leader 2 ∷ []
+    )
+    ≡
+    Flag true ∷ Member None ∷ Work (Verify (context 1 0 0 0) (proposal 1 0 7)) ∷ Flag true ∷
+    Vote (Some (proposal 1 0 7)) ∷ Member (Some 1) ∷ []
+unfolding replies_of
+not_taken_over_yet = refl
+
+-- a replayed vote readies the handoff
+replayed_handoff :
+    replies_of
+    (voter 1 1 0)
+    (
+    Restart 5 (voted_notarize 1 1 0 7 ∷ []) ∷ TryPropose ∷ []
+    )
+    ≡
+    Done ∷ Asked (Some (Prepare (context 2 1 1 7))) ∷ []
+unfolding replies_of
+replayed_handoff = refl
+
+-- a replayed vote is bound to what its parent holds
+replayed_binding :
+    replies_of
+    (voter 1 5 2)
+    (
+    Restart 5 (voted_notarize 1 1 0 7 ∷ voted_notarize 1 2 1 9 ∷ []) ∷ AddNotarization 1 0 8 ∷ SetProposal 3 2 4 ∷
+    TryVerify ∷ []
+    )
+    ≡
+    Done ∷ Added true (Some 0) ∷ Flag true ∷ Work Wait ∷ []
+unfolding replies_of
+replayed_binding = refl
+
+-- and serves where its parent is certified so
+replayed_on_the_same :
+    replies_of
+    (voter 1 5 2)
+    (
+    Restart 5 (voted_notarize 1 1 0 7 ∷ voted_notarize 1 2 1 9 ∷ []) ∷ AddNotarization 1 0 7 ∷ SetProposal 3 2 4 ∷
+    TryVerify ∷ []
+    )
+    ≡
+    Done ∷ Added true None ∷ Flag true ∷ Work (Verify (context 3 0 2 9) (proposal 3 2 4)) ∷ []
+unfolding replies_of
+replayed_on_the_same = refl
+
+-- a replayed vote on a notarized parent is bound to nothing
+replayed_unbound :
+    replies_of
+    (voter 1 5 2)
+    (
+    Restart 5 (notarized 1 0 7 ∷ voted_notarize 1 2 1 9 ∷ []) ∷ AddFinalization 1 0 8 10 ∷ SetProposal 3 2 4 ∷
+    TryVerify ∷ []
+    )
+    ≡
+    Done ∷ Added true (Some 0) ∷ Flag true ∷ Work (Verify (context 3 0 2 9) (proposal 3 2 4)) ∷ []
+unfolding replies_of
+replayed_unbound = refl
+
+-- a nullify vote of an earlier view hinders no handoff
+gave_up_before :
+    replies_of
+    (voter 2 1 0)
+    (
+    Nullify 1 ∷ AddNullification 1 5 ∷ SetProposal 2 0 9 ∷ TryVerify ∷ Verified 2 ∷ Notarize 2 ∷ TryPropose ∷ []
+    )
+    ≡
+    NullifyVote (Some false) ∷ Flag true ∷ Flag true ∷ Work (Verify (context 2 1 0 0) (proposal 2 0 9)) ∷ Flag true ∷
+    Vote (Some (proposal 2 0 9)) ∷ Asked (Some (Prepare (context 3 2 2 9))) ∷ []
+unfolding replies_of
+gave_up_before = refl
