@@ -1,0 +1,7 @@
+pub mod Terms
+pub mod Anchors
+pub mod Views
+pub mod Maps
+pub mod Scan
+pub mod Changes
+pub mod RepairLaw

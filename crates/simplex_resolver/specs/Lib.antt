@@ -1,0 +1,6 @@
+pub mod Encoding
+pub mod Facts
+pub mod Steps
+pub mod Held
+pub mod Received
+pub mod Repair
