@@ -30,6 +30,18 @@ is_outstanding (e ∷ es) v = (fetches v e && not (list_any (settles v) es)) || 
 abbrev pub has : List ℕ → ℕ → Bool
 has vs v = list_any (λ u. v == u) vs
 
+-- the effects, in order, lead from one set of views to another
+abbrev pub IsApplied : List ℕ → List Effect → List ℕ → Type 0
+IsApplied old es new = (v : ℕ) → has new v ≡ ((has old v && not (list_any (settles v) es)) || is_outstanding es v)
+
+-- the set holds the outstanding views of the effects
+abbrev pub IsOutstandingSet : List ℕ → List Effect → Type 0
+IsOutstandingSet vs es = (v : ℕ) → has vs v ≡ is_outstanding es v
+
+-- the set of what is outstanding after some effects becomes that of these followed by the new ones
+abbrev pub KeepsOutstanding : List ℕ → List Effect → List ℕ → Type 0
+KeepsOutstanding old es new = (earlier : List Effect) → IsOutstandingSet old earlier → IsOutstandingSet new (earlier ++ es)
+
 -- ---- runs, the last call first
 
 abbrev pub facts_of : ℕ → List Call → Facts

@@ -1,15 +1,21 @@
 //! The resolver: which certificates are kept and served, and which views are fetched.
-
-ghost use Rattle.simplex_resolver.specs.Repair.{OutstandingIsWanted};
+//!
+//! A resolver is told of every certificate that its member accepts (`State::updated`), of every
+//! verdict on a notarization (`State::certified`) and of the end of its journal's replay
+//! (`State::replayed`). Each call answers effects, in order: what is settled, whether the floor
+//! rose, and which nullifications have to be fetched. `apply` keeps the set of open fetches, and
+//! `State::produce` serves a peer that repairs below the current view.
 
 mod effect;
+mod nullifications;
+mod outstanding;
+mod repair;
+mod scan;
+mod state;
+mod stand_in;
 
 pub use effect::Effect;
+pub use outstanding::apply;
+pub use repair::repair;
 pub use simplex_types::sorted::ByTerm;
-
-
-/// Whatever calls were made, in whatever order: once it was replayed, a resolver's outstanding
-/// fetches are exactly the wanted views.
-pub fn repair()
-    ensures { OutstandingIsWanted }
-{}
+pub use state::State;

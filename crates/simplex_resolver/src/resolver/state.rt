@@ -1,0 +1,3 @@
+//! What a resolver holds, and what each call makes of it.
+
+pub struct State {}
