@@ -8,7 +8,7 @@ use Rattle.std.specs.FinMap as map
 use Rattle.std.specs.FinMap.{FinMap, find}
 use Rattle.std.proofs.lemmas.Bool.{cases_eq, cases_lt, cases_order, lt-ltb, le-ltb, le-leb, lt-leb, eq-eqb, ne_eqb, false≢true}
 use Rattle.simplex_types.specs.Tracked.{below, at_or_above, last_entry, after_insert}
-use Rattle.simplex_types.specs.declared.types.AllocFailed.{AllocFailed}
+use Rattle.simplex_types.specs.declared.types.fault.AllocFailed.{AllocFailed}
 use Rattle.simplex_types.specs.Terms.{term_start, term_end, covers}
 use Rattle.simplex_types.specs.ByTerm.{TermMap, in_term, joined, IsByTerm}
 use Rattle.simplex_types.proofs.Entries.{AllAbove, Rises, find_above}
@@ -56,10 +56,10 @@ kept_some true o some = some
 kept_some false o some = absurd (false≢true some)
 
 module _ {V : Type 0} where
-  find_at_key : (q : ℕ) (e : ℕ × V) (es : List (ℕ × V)) → q ≡ e.0 → find nat_cmp q (e ∷ es) ≡ Some e.1
+  pub find_at_key : (q : ℕ) (e : ℕ × V) (es : List (ℕ × V)) → q ≡ e.0 → find nat_cmp q (e ∷ es) ≡ Some e.1
   find_at_key q e es same = rw (is_eq-nat_cmp q e.0, eq-eqb q e.0 same) refl
 
-  find_other : (q : ℕ) (e : ℕ × V) (es : List (ℕ × V)) → (q ≡ e.0 → ⊥) → find nat_cmp q (e ∷ es) ≡ find nat_cmp q es
+  pub find_other : (q : ℕ) (e : ℕ × V) (es : List (ℕ × V)) → (q ≡ e.0 → ⊥) → find nat_cmp q (e ∷ es) ≡ find nat_cmp q es
   find_other q e es other = rw (is_eq-nat_cmp q e.0, ne_eqb q e.0 other) refl
 
   find_first : (q : ℕ) (x : V) (es fs : List (ℕ × V)) → find nat_cmp q es ≡ Some x → find nat_cmp q (es ++ fs) ≡ Some x

@@ -3,3 +3,5 @@ pub mod Entries
 pub mod Maps
 pub mod Digits
 pub mod Joined
+pub mod Gaps
+pub mod EncodingLaw

@@ -1,5 +1,5 @@
 -- A finite map from views, by its entries.
-use Rattle.std.proofs.Common.{◌≡◌, ◌⊎◌, ℕ, ◌<◌, ◌≤◌, Bool, true, false, cond, ltb, leb, List, [], length, get_or, take, drop, set, Option, Some, None, slice_get, is_some, filter, T, eqb, refl, ap, sym, ◌∙◌, subst, inl, inr, arith}
+use Rattle.std.proofs.Common.{◌≡◌, ◌⊎◌, ℕ, ◌+◌, ◌<◌, ◌≤◌, Bool, true, false, cond, ltb, leb, List, [], length, get_or, take, drop, set, Option, Some, None, slice_get, is_some, filter, T, eqb, refl, ap, sym, ◌∙◌, subst, inl, inr, arith}
 use Rattle.std.specs.List.{insert}
 use Rattle.std.specs.Ordering.{nat_cmp, is_lt, eq_by_cmp}
 use Rattle.std.proofs.lemmas.Bool.{cases_eq, cases_lt, lt-ltb, le-ltb, eq-eqb, ne_eqb, eqb-true, false≢true}
@@ -9,7 +9,7 @@ use Rattle.std.specs.Cmp.{nat_cmp_total}
 use Rattle.std.specs.FinMap as map
 use Rattle.std.specs.FinMap.Entries.{where_key, is_sorted-where_key, find-where_key}
 use Rattle.simplex_types.specs.Tracked.{below, at_or_above}
-use Rattle.simplex_types.proofs.Entries.{Rises, rises, place, lower-take, upper-drop, place-le-length, below_place, value_if_at, find_at, put_absent, put_present}
+use Rattle.simplex_types.proofs.Entries.{Rises, rises, place, lower-take, upper-drop, place-le-length, below_place, value_if_at, find_at, place-next, put_absent, put_present}
 
 true_from_T : (b : Bool) → T b → b ≡ true
 true_from_T true t = refl
@@ -24,6 +24,10 @@ is_lt-nat_cmp x y = grind (arith, nat_tests)
 -- a loan says the same by two functions that agree
 pub lent_alike : {N W M D : Type 0} {name : N} {f g : W → M} → ((w : W) → f w ≡ g w) → ◌≡◌ {A = (N × (W → M)) ⊎ D} (inl (name, f)) (inl (name, g))
 lent_alike {name = name} alike i = inl (name, λ w. alike w i)
+
+cases_bool : (b : Bool) → (b ≡ true) ⊎ (b ≡ false)
+cases_bool true = inl refl
+cases_bool false = inr refl
 
 none_from_is_some : {V : Type 0} (o : Option V) → is_some o ≡ false → o ≡ None
 none_from_is_some None e = refl
@@ -82,6 +86,11 @@ module _ {V : Type 0} where
   pub kept_entries : (es fs : List (ℕ × V)) (m : map.FinMap nat_cmp V) (v : ℕ) → es ≡ map.entries m → fs ≡ filter (λ e. leb v e.0) es → fs ≡ map.entries (at_or_above m v)
   kept_entries es fs m v e f = f ∙ ap (filter (λ e. leb v e.0)) e ∙ sym (entries-retain_keys m (λ key. leb v key))
 
+  ends_within : (m : map.FinMap nat_cmp V) (v : ℕ) → map.len (below m v) ≤ map.len m
+  ends_within m v =
+      let n = map.len-entries (below m v) ∙ ap length (entries-retain_keys m (λ key. ltb key v)) in
+      rw (n, map.len-entries m) (place-le-length v (map.entries m))
+
   module _ (m : map.FinMap nat_cmp V) (v : ℕ) where
     pub len-below : map.len (below m v) ≡ place v (map.entries m)
     len-below = map.len-entries _ ∙ ap length (entries-retain_keys m (λ key. ltb key v))
@@ -112,6 +121,25 @@ module _ {V : Type 0} where
 
     pub at_or_above_read : (es : List (ℕ × V)) (r : ℕ) → es ≡ map.entries m → r ≡ map.len (below m v) → drop r es ≡ map.entries (at_or_above m v)
     at_or_above_read es r e p = rw (e, p) (sym entries-at_or_above)
+
+    -- the entries at or below v end one past v's place where v is there, else at it
+    pub len-below-next : map.len (below m (v + 1)) ≡ map.len (below m v) + cond (map.contains_key m v) 1 0
+    len-below-next =
+        let next : map.len (below m (v + 1)) ≡ place (v + 1) (map.entries m) = map.len-entries _ ∙ ap length (entries-retain_keys m (λ key. ltb key (v + 1))) in
+        rw (next, len-below, map.get-entries m v) (place-next v _ (map_rises m))
+
+    pub len-below-there : (r : ℕ) → r ≡ map.len (below m v) → map.contains_key m v ≡ true → r + 1 ≡ map.len (below m (v + 1))
+    len-below-there r at_place there = rw (len-below-next, there) (omega (arith, at_place))
+
+    pub len-below-not_there : (r : ℕ) → r ≡ map.len (below m v) → map.contains_key m v ≡ false → r ≡ map.len (below m (v + 1))
+    len-below-not_there r at_place none = rw (len-below-next, none) (omega (arith, at_place))
+
+    -- where all entries are below v, none is at it
+    pub len-below-end : (r : ℕ) → r ≡ map.len (below m v) → r ≡ map.len m → r ≡ map.len (below m (v + 1))
+    len-below-end r at_place all = elim (cases_bool (map.contains_key m v)) [
+      | inl there ↦ absurd (omega (arith, all, len-below-there r at_place there, ends_within m (v + 1)))
+      | inr none ↦ len-below-not_there r at_place none
+    ]
 
     -- what stands at v's place says whether v is there
     pub contains_at : (e : ℕ × V) → slice_get (map.entries m) (map.len (below m v)) ≡ Some e → eqb e.0 v ≡ map.contains_key m v

@@ -7,3 +7,6 @@ pub mod Window
 pub mod Tracked
 pub mod ByTerm
 pub mod Reasons
+pub mod Fault
+pub mod Encoding
+pub mod Viewed

@@ -2,7 +2,7 @@
 use Rattle.std.specs.Prelude.{ℕ, ◌<◌, ◌≤◌, ◌^◌, ◌-◌, nat_lt, nat_le, Option, Some, None, Result, Ok, Err, slice_get, length}
 use Rattle.std.specs.Ordering.{nat_cmp}
 use Rattle.std.specs.FinMap.{FinMap, entries, insert, retain_keys}
-use Rattle.simplex_types.specs.declared.types.AllocFailed.{AllocFailed}
+use Rattle.simplex_types.specs.declared.types.fault.AllocFailed.{AllocFailed}
 
 -- the entries of the views below a view
 abbrev pub below : {V : Type 0} → FinMap nat_cmp V → ℕ → FinMap nat_cmp V

@@ -1,11 +1,11 @@
 //! Values at views, kept by the terms of the views.
 
-ghost use Rattle.std.specs.Prelude.{◌≡◌, ◌<◌, ◌^◌, IfOk, IfErr, OnErr, Some, None, option_map, if◌then◌else◌};
+ghost use Rattle.std.specs.Prelude.{◌≡◌, ◌≤◌, ◌<◌, ◌-◌, ◌+◌, ◌^◌, IfOk, IfErr, OnErr, Some, None, option_map, MatchOption, if◌then◌else◌};
 ghost use Rattle.std.specs.Option.{option_copied};
 ghost use Rattle.std.specs.FinMap as map;
 ghost use Rattle.simplex_types.specs.Tracked.{after_insert, at_or_above};
-ghost use Rattle.simplex_types.specs.Terms.{IsVotable};
-ghost use Rattle.simplex_types.specs.ByTerm.{covering, covering_below, not_ended};
+ghost use Rattle.simplex_types.specs.Terms.{IsVotable, term_start};
+ghost use Rattle.simplex_types.specs.ByTerm.{covering, covering_below, not_ended, IsByTerm, map_of_terms, Gapless, IsFirstGap};
 
 use crate::sorted::tracked::Tracked;
 use crate::types::{AllocFailed, TermLength, View};
@@ -46,29 +46,38 @@ impl<V> ByTerm<V> {
 
     /// The entry of the highest view that covers a view.
     pub fn covering(&self, view: View) -> Option<(View, &V)>
-        requires { IsVotable view }
         ensures { option_map (λ entry. (entry.0, entry.1.now)) result ≡ covering self.now view }
     {
-        let term = self.terms.get(view.term_start(self.term_length))?;
-        term.last_below(view.next())
+        let term = self.terms.get(start_of(view, self.term_length))?;
+        term.last_at(view)
     }
 
     /// The entry of the highest view below a view in its term.
     pub fn covering_below(&self, view: View) -> Option<(View, &V)>
-        requires { IsVotable view }
         ensures { option_map (λ entry. (entry.0, entry.1.now)) result ≡ covering_below self.now view }
     {
-        let term = self.terms.get(view.term_start(self.term_length))?;
+        let term = self.terms.get(start_of(view, self.term_length))?;
         term.last_below(view)
     }
 
     /// The value at a view.
     pub fn get(&self, view: View) -> Option<&V>
-        requires { IsVotable view }
         ensures { option_copied result ≡ map.get self.now.by_view view }
     {
-        let term = self.terms.get(view.term_start(self.term_length))?;
+        let term = self.terms.get(start_of(view, self.term_length))?;
         term.get(view)
+    }
+}
+
+impl<V> ByTerm<V> {
+    /// The first view strictly between two others that no view covers.
+    ///
+    /// It goes by one search for the first term, and then from each term to the next.
+    pub fn first_uncovered(&self, after: View, before: View) -> Option<View>
+        requires { before ≤ 2 ^ 64 - 2 ^ 33 }
+        ensures { MatchOption result (Gapless self.now after before) (IsFirstGap self.now after before) }
+    {
+        first_uncovered_in(&self.terms, self.term_length, after, before)
     }
 }
 
@@ -81,7 +90,7 @@ impl<V: Drop> ByTerm<V> {
         ensures refused_only_new { OnErr result (map.get self.old.by_view view ≡ None) }
         ensures after { self.new ≡ record self.old { by_view = after_insert self.old.by_view view value result } }
     {
-        let start = view.term_start(self.term_length);
+        let start = start_of(view, self.term_length);
         if self.terms.insert(start, Tracked::new(self.alloc)).is_err() {
             return Err(AllocFailed { value });
         }
@@ -93,7 +102,7 @@ impl<V: Drop> ByTerm<V> {
 
     /// Removes the terms that end at or below a view.
     pub fn drop_ended(&mut self, view: View)
-        requires { view < 2 ^ 63 }
+        requires { view + 1 < 2 ^ 64 }
         ensures { self.new ≡ record self.old { by_view = not_ended self.old view } }
     {
         let last_start = view
@@ -104,14 +113,60 @@ impl<V: Drop> ByTerm<V> {
 
     /// Removes the entries below a view.
     pub fn drop_below(&mut self, view: View)
-        requires { IsVotable view }
         ensures { self.new ≡ record self.old { by_view = at_or_above self.old.by_view view } }
     {
-        let start = view.term_start(self.term_length);
+        let start = start_of(view, self.term_length);
         self.terms.drop_below(start);
         let Some(term) = self.terms.get_mut(start) else {
             return;
         };
         term.drop_below(view);
     }
+}
+
+/// The first view of a view's term, at any view: view 0 counts to the first term, where nothing stands at it.
+fn start_of(view: View, length: TermLength) -> View
+    ensures { result ≡ term_start length view }
+{
+    let length = u64::from(length.get().get());
+    View::new(view.get().saturating_sub(1) / length * length + 1)
+}
+
+/// The first view strictly between two others that no view of the terms covers.
+fn first_uncovered_in<V>(
+    terms: &Tracked<Tracked<V>>,
+    length: TermLength,
+    after: View,
+    before: View,
+) -> Option<View>
+    requires below_limit { before ≤ 2 ^ 64 - 2 ^ 33 }
+    requires by_term { IsByTerm length terms.now }
+    ensures { MatchOption result (Gapless (map_of_terms length terms.now) after before) (IsFirstGap (map_of_terms length terms.now) after before) }
+{
+    if before <= after {
+        return None;
+    }
+    let mut cursor = after.next();
+    if cursor >= before {
+        return None;
+    }
+    let _views = length.get();
+    let rest = terms.at_or_above(cursor.term_start(length));
+    for term in rest {
+        if cursor >= before {
+            return None;
+        }
+        let start = cursor.term_start(length);
+        if term.0 < start {
+            continue;
+        }
+        if term.0 > start {
+            return Some(cursor);
+        }
+        if term.1.last_below(cursor.next()).is_none() {
+            return Some(cursor);
+        }
+        cursor = cursor.next_term_start(length);
+    }
+    if cursor < before { Some(cursor) } else { None }
 }

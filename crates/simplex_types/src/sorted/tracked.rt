@@ -93,6 +93,22 @@ impl<V> Tracked<V> {
         }
     }
 
+    /// The number of entries at or below the view.
+    fn end_of(&self, view: View) -> usize
+        ensures { result ≡ map.len (below self.now (view + 1)) }
+    {
+        let (place, _) = self.find(view);
+        if place == self.len() {
+            return place;
+        }
+        if self.stands_at(place, view) {
+            place + 1
+        } else {
+            place
+        }
+    }
+
+    /// The value at a view.
     pub fn get(&self, view: View) -> Option<&V>
         ensures { option_copied result ≡ map.get self.now view }
     {
@@ -151,6 +167,14 @@ impl<V> Tracked<V> {
         &self.entries[..place]
     }
 
+    /// The entries at or below a view, by rising view.
+    pub fn up_to(&self, view: View) -> &[(View, V)]
+        ensures { result.now ≡ map.entries (below self.now (view + 1)) }
+    {
+        let end = self.end_of(view);
+        &self.entries[..end]
+    }
+
     /// The entries of the views from one view on and below another, by rising view.
     pub fn between(&self, from: View, to: View) -> &[(View, V)]
         requires { from ≤ to }
@@ -172,6 +196,14 @@ impl<V> Tracked<V> {
         ensures { option_map (λ entry. (entry.0, entry.1.now)) result ≡ first_entry (at_or_above self.now view) }
     {
         let entry = self.at_or_above(view).first()?;
+        Some((entry.0, &entry.1))
+    }
+
+    /// The entry of the highest view at or below a view.
+    pub fn last_at(&self, view: View) -> Option<(View, &V)>
+        ensures { option_map (λ entry. (entry.0, entry.1.now)) result ≡ last_entry (below self.now (view + 1)) }
+    {
+        let entry = self.up_to(view).last()?;
         Some((entry.0, &entry.1))
     }
 

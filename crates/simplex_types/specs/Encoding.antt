@@ -1,0 +1,35 @@
+-- The bytes of a certificate as members exchange them: a kind byte, then numbers of eight bytes each, big-endian,
+-- the payload, and last the scheme's own bytes.
+use Rattle.std.specs.Prelude.{◌≡◌, ℕ, ◌<◌, ◌^◌, List, [], ◌∷◌, ◌++◌}
+use Rattle.std.specs.Int.{w64, to_be_bytes}
+use Rattle.simplex_types.specs.declared.types.numbers.Round.{Round}
+use Rattle.simplex_types.specs.declared.types.messages.Proposal.{Proposal}
+use Rattle.simplex_types.specs.Certificates.{CertificateFacts, Notarized, Nullified, Finalized}
+
+-- the epoch and the view
+abbrev pub round_bytes : Round → List ℕ
+round_bytes r = to_be_bytes w64 r.epoch ++ to_be_bytes w64 r.view
+
+-- the epoch, the view, the parent's view and the payload, by the payload's bytes
+abbrev pub proposal_bytes : {D : Type 0} → (D → List ℕ) → Proposal D → List ℕ
+proposal_bytes payload_bytes p = round_bytes p.round ++ to_be_bytes w64 p.parent ++ payload_bytes p.payload
+
+-- the encoding of a certificate: 0 marks a notarization, 1 a nullification, 2 a finalization
+abbrev pub encoding : {D : Type 0} → (D → List ℕ) → CertificateFacts D → List ℕ
+encoding payload_bytes (Notarized c) = 0 ∷ (proposal_bytes payload_bytes c.proposal ++ c.bytes)
+encoding payload_bytes (Nullified c) = 1 ∷ (round_bytes c.round ++ c.bytes)
+encoding payload_bytes (Finalized c) = 2 ∷ (proposal_bytes payload_bytes c.proposal ++ c.bytes)
+
+-- the numbers of a round fit eight bytes each, as those of each `Round` of the program do
+abbrev pub IsEncodableRound : Round → Type 0
+IsEncodableRound r = (r.epoch < 2 ^ 64) × (r.view < 2 ^ 64)
+
+abbrev pub IsEncodable : {D : Type 0} → CertificateFacts D → Type 0
+IsEncodable (Notarized c) = IsEncodableRound c.proposal.round × (c.proposal.parent < 2 ^ 64)
+IsEncodable (Nullified c) = IsEncodableRound c.round
+IsEncodable (Finalized c) = IsEncodableRound c.proposal.round × (c.proposal.parent < 2 ^ 64)
+
+-- two certificates with one encoding are of one kind, round and proposal, and have the same scheme's bytes
+abbrev pub EncodingTellsApart : {D : Type 0} → (D → List ℕ) → Type 0
+EncodingTellsApart {D} payload_bytes =
+    (c d : CertificateFacts D) → IsEncodable c → IsEncodable d → encoding payload_bytes c ≡ encoding payload_bytes d → c ≡ d

@@ -1,0 +1,75 @@
+//! The bytes of certificates, as members keep and exchange them.
+
+ghost use Rattle.std.specs.Prelude.{◌≡◌, ◌++◌, OnOk, IfOk, IsOkUnless};
+ghost use Rattle.std.specs.Int.{w64, to_be_bytes};
+ghost use Rattle.simplex_types.specs.Certificates.{certificate_facts};
+ghost use Rattle.simplex_types.specs.Encoding.{encoding, round_bytes, proposal_bytes, EncodingTellsApart};
+
+use crate::types::Fault;
+use crate::types::messages::{Certificate, Proposal};
+use crate::types::numbers::Round;
+use crate::types::scheme::{CertificateScheme, Digest};
+use bytes::{BufMut, Bytes, BytesMut};
+use std::alloc::{AllocError, Global};
+
+/// The first byte of an encoded notarization.
+const NOTARIZATION: u8 = 0;
+/// The first byte of an encoded nullification.
+const NULLIFICATION: u8 = 1;
+/// The first byte of an encoded finalization.
+const FINALIZATION: u8 = 2;
+
+impl<S: CertificateScheme, D: Digest> Certificate<S, D> {
+    /// The certificate's bytes: the kind, the round or the whole proposal, and the scheme's own bytes.
+    ///
+    /// Two certificates have equal encodings exactly where their kind, round, proposal and scheme's bytes are equal.
+    /// The only fault is `OutOfMemory`. There is no decoder: members decode by their wire's own codec.
+    pub fn encode(&self, alloc: Global) -> Result<Bytes, Fault>
+        ensures encoded { IfOk result (λ bytes. bytes ≡ encoding D.bytes (certificate_facts S.certificate_bytes self.now)) }
+        ensures refused { IsOkUnless result Fault.OutOfMemory }
+    {
+        let mut out = BytesMut::new(alloc);
+        match self {
+            Certificate::Notarization(notarization) => {
+                out.put_u8(NOTARIZATION)?;
+                put_proposal(&mut out, &notarization.proposal)?;
+                out.put_slice(S::certificate_bytes(&notarization.certificate))?;
+            }
+            Certificate::Nullification(nullification) => {
+                out.put_u8(NULLIFICATION)?;
+                put_round(&mut out, nullification.round)?;
+                out.put_slice(S::certificate_bytes(&nullification.certificate))?;
+            }
+            Certificate::Finalization(finalization) => {
+                out.put_u8(FINALIZATION)?;
+                put_proposal(&mut out, &finalization.proposal)?;
+                out.put_slice(S::certificate_bytes(&finalization.certificate))?;
+            }
+        }
+        Ok(out.freeze()?)
+    }
+}
+
+/// Encodings tell certificates apart: equal ones are of one kind, round and proposal, and have the same scheme's bytes.
+///
+/// It does nothing: its contract is the law.
+pub fn encoding_tells_apart<D: Digest>()
+    ensures { EncodingTellsApart D.bytes }
+{}
+
+fn put_round(out: &mut BytesMut, round: Round) -> Result<(), AllocError>
+    ensures { OnOk result (out.new.items ≡ out.old.items ++ round_bytes round) }
+{
+    out.put_u64(round.epoch.get())?;
+    out.put_u64(round.view.get())?;
+    Ok(())
+}
+
+fn put_proposal<D: Digest>(out: &mut BytesMut, proposal: &Proposal<D>) -> Result<(), AllocError>
+    ensures { OnOk result (out.new.items ≡ out.old.items ++ proposal_bytes D.bytes proposal.now) }
+{
+    put_round(out, proposal.round)?;
+    out.put_u64(proposal.parent.get())?;
+    out.put_slice(proposal.payload.as_bytes())?;
+    Ok(())
+}

@@ -1,0 +1,78 @@
+//! Why a call is refused.
+
+use std::alloc::AllocError;
+use std::error::Error;
+use std::fmt;
+
+/// Why a call was refused, by rising number from 1.
+///
+/// After `ViewTooLarge` and `TimeOverflow` nothing has changed. After `OutOfMemory` a state that was to be changed has
+/// failed, unless its call says otherwise, and answers `Failed` from then on.
+#[derive(Clone, Copy, PartialEq, Eq, Debug)]
+pub enum Fault {
+    /// A growth was refused for want of memory.
+    OutOfMemory,
+    /// The state or the member has failed before.
+    Failed,
+    /// A view or a parent that was handed in is above 2^63 - 1.
+    ViewTooLarge,
+    /// A deadline or a retry moment passes 2^64 - 1 milliseconds.
+    TimeOverflow,
+}
+
+impl fmt::Display for Fault {
+    ghost use Rattle.std.specs.Prelude.{Some};
+    ghost use Rattle.simplex_types.specs.Fault.{fault_name};
+
+    ghost output = { λ fault. Some (fault_name fault) };
+
+    fn fmt<W: fmt::Write>(&self, f: &mut fmt::Formatter<W>) -> fmt::Result {
+        match self {
+            Fault::OutOfMemory => write!(f, "OutOfMemory"),
+            Fault::Failed => write!(f, "Failed"),
+            Fault::ViewTooLarge => write!(f, "ViewTooLarge"),
+            Fault::TimeOverflow => write!(f, "TimeOverflow"),
+        }
+    }
+}
+
+impl Error for Fault {}
+
+impl From<AllocError> for Fault {
+    ghost use Rattle.std.specs.Prelude.{◌≡◌};
+    ghost use Rattle.simplex_types.specs.declared.types.fault.Fault.TheVariants.{OutOfMemory};
+
+    ghost from_gives = { λ _ fault. fault ≡ OutOfMemory };
+
+    fn from(_refused: AllocError) -> Fault {
+        Fault::OutOfMemory
+    }
+}
+
+/// There was no memory for the value, which is handed back.
+#[derive(Debug, Drop)]
+pub struct AllocFailed<V> {
+    pub value: V,
+}
+
+impl<V: Drop> From<AllocFailed<V>> for Fault {
+    ghost use Rattle.std.specs.Prelude.{◌≡◌};
+    ghost use Rattle.simplex_types.specs.declared.types.fault.Fault.TheVariants.{OutOfMemory};
+
+    ghost from_gives = { λ _ fault. fault ≡ OutOfMemory };
+
+    fn from(_refused: AllocFailed<V>) -> Fault {
+        Fault::OutOfMemory
+    }
+}
+
+impl<V: Drop> From<std::alloc::AllocFailed<V>> for Fault {
+    ghost use Rattle.std.specs.Prelude.{◌≡◌};
+    ghost use Rattle.simplex_types.specs.declared.types.fault.Fault.TheVariants.{OutOfMemory};
+
+    ghost from_gives = { λ _ fault. fault ≡ OutOfMemory };
+
+    fn from(_refused: std::alloc::AllocFailed<V>) -> Fault {
+        Fault::OutOfMemory
+    }
+}
