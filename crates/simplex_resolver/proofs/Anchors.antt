@@ -4,11 +4,11 @@ use Rattle.std.specs.List.{list_any, range_with_len}
 use Rattle.std.proofs.lemmas.Bool.Decides.{nat_tests}
 use Rattle.std.proofs.lemmas.Bool.{cond-true, cond-false, cases_lt}
 use Rattle.simplex_types.specs.Terms.{term_start, term_end, next_term_start}
-use Rattle.simplex_types.specs.ByTerm.{TermMap}
+use Rattle.simplex_types.specs.ByTerm.{is_covered, TermMap}
 use Rattle.simplex_types.specs.declared.reasons.FetchReason.TheVariants.{MissingNullification, CertificationFailed}
 use Rattle.simplex_resolver.specs.declared.resolver.effect.Effect.{Effect}
 use Rattle.simplex_resolver.specs.declared.resolver.effect.Effect.TheVariants.{Fetch}
-use Rattle.simplex_resolver.specs.Facts.{is_covered, anchors, uncovered, end_of_scan}
+use Rattle.simplex_resolver.specs.Facts.{anchors, uncovered, end_of_scan}
 use Rattle.simplex_resolver.specs.Steps.{missing_fetches}
 use Rattle.simplex_resolver.proofs.Terms.{AreTerms, terms}
 
@@ -93,16 +93,18 @@ pub end_of_scan-next : (t a end : ℕ) → 0 < t → 1 ≤ a → a < end → end
 end_of_scan-next t a end h low more = end-next (term_start t) (term_end t) (terms t h) a end low more
 
 -- one turn of the loop of a scan: what it has and what is to come stays the same
-pub turn : (bare : Bool) (cause a end : ℕ) (m : TermMap (List ℕ)) (items items' all : List Effect) → 0 < m.term_length → 1 ≤ a → a < end
-    → not (is_covered m a) ≡ bare → items' ≡ items ++ cond bare (Fetch a cause MissingNullification ∷ []) []
+pub turn : (bare : Bool) (cause a next end : ℕ) (m : TermMap (List ℕ)) (items items' all : List Effect) → 0 < m.term_length → 1 ≤ a → a < end
+    → next ≡ next_term_start m.term_length a → not (is_covered m a) ≡ bare → items' ≡ items ++ cond bare (Fetch a cause MissingNullification ∷ []) []
     → items ++ missing_fetches cause (uncovered m a end) ≡ all
-    → items' ++ missing_fetches cause (uncovered m (next_term_start m.term_length a) end) ≡ all
-turn true cause a end m items items' all h low more is grown before =
-    ap (λ xs. xs ++ missing_fetches cause (uncovered m (next_term_start m.term_length a) end)) grown
+    → items' ++ missing_fetches cause (uncovered m next end) ≡ all
+turn true cause a next end m items items' all h low more to is grown before =
+    ap (λ xs. xs ++ missing_fetches cause (uncovered m next end)) grown
     ∙ append_assoc items (Fetch a cause MissingNullification ∷ []) _
+    ∙ ap (λ n. items ++ (Fetch a cause MissingNullification ∷ missing_fetches cause (uncovered m n end))) to
     ∙ ap (λ vs. items ++ missing_fetches cause vs) (sym (uncovered-next m a end h low more ∙ cond-true (not (is_covered m a)) _ _ is))
     ∙ before
-turn false cause a end m items items' all h low more is grown before =
-    ap (λ xs. xs ++ missing_fetches cause (uncovered m (next_term_start m.term_length a) end)) (grown ∙ append-nil items)
+turn false cause a next end m items items' all h low more to is grown before =
+    ap (λ xs. xs ++ missing_fetches cause (uncovered m next end)) (grown ∙ append-nil items)
+    ∙ ap (λ n. items ++ missing_fetches cause (uncovered m n end)) to
     ∙ ap (λ vs. items ++ missing_fetches cause vs) (sym (uncovered-next m a end h low more ∙ cond-false (not (is_covered m a)) _ _ is))
     ∙ before

@@ -4,4 +4,5 @@ pub mod Views
 pub mod Maps
 pub mod Scan
 pub mod Changes
+pub mod Failures
 pub mod RepairLaw

@@ -1,5 +1,5 @@
 -- Finite maps from views, read by the tests that contracts make.
-use Rattle.std.proofs.Common.{◌≡◌, ℕ, ◌+◌, ◌-◌, ◌<◌, ◌≤◌, Bool, true, false, ◌&&◌, ◌||◌, not, ◌==◌, nat_lt, nat_le, cond, List, [], ◌∷◌, map, filter, Option, Some, None, is_some, ◌⊎◌, inl, inr, refl, sym, ◌∙◌, ap, arith}
+use Rattle.std.proofs.Common.{◌≡◌, ℕ, ◌+◌, ◌-◌, ◌<◌, ◌≤◌, Bool, true, false, ◌&&◌, ◌||◌, not, ◌==◌, nat_lt, nat_le, cond, List, [], ◌∷◌, length, slice_get, map, filter, Option, Some, None, is_some, ◌⊎◌, inl, inr, refl, sym, ◌∙◌, ap, arith}
 use Rattle.std.specs.List.{list_any}
 use Rattle.std.specs.Ordering.{nat_cmp}
 use Rattle.std.specs.Cmp.{nat_cmp_total}
@@ -7,12 +7,13 @@ use Rattle.std.specs.declared.cmp.Ordering.TheVariants.{Less, Equal, Greater}
 use Rattle.std.specs.FinMap as finmap
 use Rattle.std.specs.FinMap.{FinMap, put}
 use Rattle.std.specs.FinMap.Entries.{by_order}
+use Rattle.std.proofs.lemmas.Option.{slice_get-get_or}
+use Rattle.std.proofs.lemmas.Bool.{cond-true}
 use Rattle.std.proofs.lemmas.Bool.Decides.{nat_tests}
 use Rattle.simplex_types.specs.Terms.{term_end, term_start, covers}
-use Rattle.simplex_types.specs.Tracked.{at_or_above}
-use Rattle.simplex_types.specs.ByTerm.{TermMap, not_ended}
-use Rattle.simplex_types.proofs.Maps.{get-insert, get-kept, entries-retain_keys, is_eq-nat_cmp, made_empty}
-use Rattle.simplex_resolver.specs.Facts.{is_covered}
+use Rattle.simplex_types.specs.Tracked.{at_or_above, last_entry}
+use Rattle.simplex_types.specs.ByTerm.{is_covered, TermMap, not_ended, covering}
+use Rattle.simplex_types.proofs.Maps.{get-insert, get-kept, entries-retain_keys, is_eq-nat_cmp, made_empty, same_maps}
 use Rattle.simplex_resolver.specs.Steps.{insert_new}
 use Rattle.simplex_resolver.specs.Repair.{has}
 use Rattle.simplex_resolver.proofs.Terms.{terms, AreTerms}
@@ -25,6 +26,10 @@ any_alike p q xs same = ap (λ f. list_any f xs) (λ i x. same x i)
 any_found : (p : ℕ → Bool) (us : List ℕ) (v : ℕ) → has us v ≡ true → p v ≡ true → list_any p us ≡ true
 any_found p [] v h k = cc
 any_found p (u ∷ us) v h k = let rest = any_found p us v in grind (arith, nat_tests, rest, h, k)
+
+absorb-true : (b c : Bool) → ((b && true) || c) ≡ (b || c)
+absorb-true true c = refl
+absorb-true false c = refl
 
 absorbed : (found any : Bool) → (found ≡ true → any ≡ true) → any ≡ (found || any)
 absorbed true any h = h refl
@@ -57,6 +62,23 @@ module _ {V : Type 0} where
   any-filter : (p q : ℕ → Bool) (es : List (ℕ × V)) → list_any (λ e. p e.0) (filter (λ e. q e.0) es) ≡ list_any (λ e. q e.0 && p e.0) es
   any-filter p q [] = refl
   any-filter p q (e ∷ es) = any-cond (λ (w : ℕ × V). p w.0) (q e.0) e (filter (λ w. q w.0) es) ∙ ap (λ b. (q e.0 && p e.0) || b) (any-filter p q es)
+
+  any_always : (q : (ℕ × V) → Bool) (es : List (ℕ × V)) → list_any (λ e. true) (filter q es) ≡ list_any q es
+  any_always q [] = refl
+  any_always q (e ∷ es) = any-cond (λ (w : ℕ × V). true) (q e) e (filter q es) ∙ absorb-true (q e) (list_any (λ e. true) (filter q es)) ∙ ap (λ b. q e || b) (any_always q es)
+
+  some_last : (es : List (ℕ × V)) → is_some (slice_get es (length es - 1)) ≡ list_any (λ e. true) es
+  some_last [] = refl
+  some_last (e ∷ es) = ap is_some (slice_get-get_or (e ∷ es) (length (e ∷ es) - 1) e (omega arith))
+
+  -- a map has a last entry among those that pass a test exactly where some key passes it
+  pub some_last_key : (p : ℕ → Bool) (m : FinMap nat_cmp V) → is_some (last_entry (finmap.retain_keys m p)) ≡ list_any p (finmap.keys m)
+  some_last_key p m =
+      some_last (finmap.entries (finmap.retain_keys m p)) ∙ ap (list_any (λ (e : ℕ × V). true)) (entries-retain_keys m p)
+      ∙ any_always (λ e. p e.0) (finmap.entries m) ∙ sym (any-map p (finmap.entries m))
+
+  pub all_at_or_above : (m : FinMap nat_cmp V) → at_or_above m 0 ≡ m
+  all_at_or_above m = same_maps _ m (λ q. get-kept m (λ u. nat_le 0 u) q ∙ cond-true (nat_le 0 q) _ _ (grind (arith, nat_tests)))
 
   -- some key passes a test, once an entry is put in or those that fail another test are taken out
   pub any_key-insert : (p : ℕ → Bool) (m : FinMap nat_cmp V) (u : ℕ) (x : V) → list_any p (finmap.keys (finmap.insert m u x)) ≡ (p u || list_any p (finmap.keys m))
@@ -108,6 +130,10 @@ module _ {V : Type 0} where
 
   pub any_key-insert_new : (p : ℕ → Bool) (m : FinMap nat_cmp V) (u : ℕ) (x : V) → list_any p (finmap.keys (insert_new m u x)) ≡ (p u || list_any p (finmap.keys m))
   any_key-insert_new p m u x = any_by_new (finmap.contains_key m u) p m u x refl
+
+-- a view is covered exactly where there is a nullification to serve for it
+pub some_covering : (m : TermMap (List ℕ)) (v : ℕ) → is_some (covering m v) ≡ is_covered m v
+some_covering m v = some_last_key (λ u. covers m.term_length u v) m.by_view
 
 -- a nullification that covers a view above f is in a term that ends above f
 outlasts : (first last : ℕ → ℕ) → AreTerms first last → (f u v : ℕ) → f < v

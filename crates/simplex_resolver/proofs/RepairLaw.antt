@@ -9,7 +9,8 @@ use Rattle.simplex_types.specs.Terms.{term_start, term_end, next_term_start, cov
 use Rattle.simplex_types.specs.declared.reasons.FetchReason.TheVariants.{MissingNullification, CertificationFailed}
 use Rattle.simplex_resolver.specs.declared.resolver.effect.Effect.{Effect}
 use Rattle.simplex_resolver.specs.declared.resolver.effect.Effect.TheVariants.{Fetch}
-use Rattle.simplex_resolver.specs.Facts.{Facts, term_length, last_finalized, is_covered, empty, anchors, is_term_start}
+use Rattle.simplex_types.specs.ByTerm.{is_covered}
+use Rattle.simplex_resolver.specs.Facts.{Facts, term_length, last_finalized, empty, anchors, is_term_start}
 use Rattle.simplex_resolver.specs.Steps.{Call, Nullification, Notarization, Finalization, Verdict, Replayed, before_scan, settle_effects, after, after_scan, effects, scan_start, scan_end, scan_fetches, missing, needs_nullification, failing, failure_fetches}
 use Rattle.simplex_resolver.specs.Received.{finalized_view, current_view, floor_view, finalized_of, current_of, floor_of, is_covering, is_false_verdict, is_notarizing, is_replayed, is_wanted, NamesAView}
 use Rattle.simplex_resolver.specs.Repair.{has, settles, is_outstanding, facts_of, effects_of, OutstandingIsWanted}

@@ -9,7 +9,7 @@ use Rattle.std.proofs.lemmas.List.Folds.{list_any-append}
 use Rattle.simplex_types.specs.declared.reasons.FetchReason.{FetchReason}
 use Rattle.simplex_resolver.specs.declared.resolver.effect.Effect.{Effect}
 use Rattle.simplex_resolver.specs.declared.resolver.effect.Effect.TheVariants.{Fetch}
-use Rattle.simplex_resolver.specs.Repair.{has, fetches, settles, is_outstanding}
+use Rattle.simplex_resolver.specs.Repair.{has, fetches, settles, is_outstanding, IsApplied, KeepsOutstanding}
 
 -- one step of a filter, and one of an insertion, read by a test
 pub any-cond : {A : Type 0} (q : A → Bool) (b : Bool) (x : A) (rest : List A) → list_any q (cond b (x ∷ rest) rest) ≡ ((b && q x) || list_any q rest)
@@ -66,3 +66,8 @@ pub applied-next : (first : Bool) (before : Bool) (after : Bool) (es : List Effe
 applied-next first before after es e v so_far next =
     let outstanding = is_outstanding-append es (e ∷ []) v in
     let any = list_any-append (settles v) es (e ∷ []) in grind (arith, so_far, next, outstanding, any)
+
+-- effects that are applied to what is outstanding after earlier ones
+pub keeps_outstanding : (old new : List ℕ) (es : List Effect) → IsApplied old es new → KeepsOutstanding old es new
+keeps_outstanding old new es applied earlier was v =
+    applied v ∙ ap (λ b. (b && not (list_any (settles v) es)) || is_outstanding es v) (was v) ∙ sym (is_outstanding-append earlier es v)

@@ -1,12 +1,14 @@
 -- What a resolver holds, as its contracts see it.
-use Rattle.std.specs.Prelude.{◌≡◌, ℕ, ◌+◌, ◌-◌, ◌<◌, Bool, true, false, ◌&&◌, ◌||◌, not, ◌==◌, nat_lt, if◌then◌else◌, List, Option, None, Some, filter, is_some, IsTrue}
-use Rattle.std.specs.List.{list_any, range_with_len}
+use Rattle.std.specs.Prelude.{◌≡◌, ℕ, ◌+◌, ◌-◌, ◌<◌, Bool, true, false, ◌&&◌, ◌||◌, not, ◌==◌, nat_lt, if◌then◌else◌, List, Option, None, Some, filter, refl}
+use Rattle.std.specs.List.{range_with_len}
 use Rattle.std.specs.Option.{option_map, option_map_or, option_and_then}
 use Rattle.std.specs.Ordering.{nat_cmp}
+use Rattle.std.specs.Coded.{Coded, code_by, coded×, coded_ℕ, coded_bool, coded_list, coded_option}
+use base.Stored.{coded_unit}
 use Rattle.std.specs.FinMap as map
 use Rattle.std.specs.FinMap.{FinMap}
-use Rattle.simplex_types.specs.Terms.{term_start, next_term_start, covers, IsVotable}
-use Rattle.simplex_types.specs.ByTerm.{TermMap}
+use Rattle.simplex_types.specs.Terms.{term_start, next_term_start}
+use Rattle.simplex_types.specs.ByTerm.{TermMap, term_map_code, is_covered}
 use Rattle.simplex_types.specs.ByTerm as by_term
 
 pub record Facts : Type 0 where
@@ -41,10 +43,6 @@ term_length x = x.nullifications.term_length
 abbrev pub last_finalized : Facts → ℕ
 last_finalized x = option_map_or (λ f. f.0) x.finalization 0
 
--- some nullification covers v
-abbrev pub is_covered : TermMap (List ℕ) → ℕ → Bool
-is_covered m v = list_any (λ u. covers m.term_length u v) (map.keys m.by_view)
-
 -- the encoding of the nullification of the highest view that covers v
 abbrev pub covering_encoding : TermMap (List ℕ) → ℕ → Option (List ℕ)
 covering_encoding m v = option_map (λ e. e.1) (by_term.covering m v)
@@ -52,10 +50,6 @@ covering_encoding m v = option_map (λ e. e.1) (by_term.covering m v)
 -- the encoding of the notarization at v, where its last verdict was true
 abbrev pub certified_encoding : FinMap nat_cmp (Option (List ℕ)) → ℕ → Option (List ℕ)
 certified_encoding m v = option_and_then (λ e. e) (map.get m v)
-
--- each nullification is of a view that a certificate may have
-abbrev pub AreVotable : FinMap nat_cmp (List ℕ) → Type 0
-AreVotable m = (u : ℕ) → IsTrue (map.contains_key m u) → IsVotable u
 
 -- ---- anchors
 
@@ -77,3 +71,26 @@ uncovered m first end = filter (λ v. not (is_covered m v)) (anchors m.term_leng
 -- where a scan ends: at the first anchor that is not below end
 abbrev pub end_of_scan : ℕ → ℕ → ℕ → ℕ
 end_of_scan t first end = if nat_lt first end then next_term_start t (end - 1) else first
+
+-- ---- how facts are stored: as the tuple of their fields
+
+abbrev pub facts_code : Coded Facts
+facts_code =
+    code_by
+    (((ℕ × ℕ) × (ℕ × Option (ℕ × List ℕ))) × ((TermMap (List ℕ) × FinMap nat_cmp (Option (List ℕ))) × (FinMap nat_cmp (Unit {0}) × (Bool × Bool))))
+    (coded× (coded× (coded× coded_ℕ coded_ℕ) (coded× coded_ℕ (coded_option (coded× coded_ℕ (coded_list coded_ℕ)))))
+    (coded× (coded× (term_map_code (coded_list coded_ℕ)) (map.code coded_ℕ (coded_option (coded_list coded_ℕ))))
+    (coded× (map.code coded_ℕ coded_unit) (coded× coded_bool coded_bool))))
+    (λ x. (((x.current, x.floor), (x.scanned, x.finalization)), ((x.nullifications, x.notarizations), (x.uncertifiable, (x.replaying, x.is_failed)))))
+    (λ p. record {
+      current = p.0.0.0;
+      floor = p.0.0.1;
+      scanned = p.0.1.0;
+      finalization = p.0.1.1;
+      nullifications = p.1.0.0;
+      notarizations = p.1.0.1;
+      uncertifiable = p.1.1.0;
+      replaying = p.1.1.1.0;
+      is_failed = p.1.1.1.1;
+    })
+    (λ _. refl)

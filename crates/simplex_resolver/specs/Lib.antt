@@ -1,4 +1,3 @@
-pub mod Encoding
 pub mod Facts
 pub mod Steps
 pub mod Held

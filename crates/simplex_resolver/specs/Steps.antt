@@ -5,16 +5,16 @@ use Rattle.std.specs.FinMap as map
 use Rattle.std.specs.FinMap.{FinMap}
 use Rattle.simplex_types.specs.Terms.{term_end}
 use Rattle.simplex_types.specs.Tracked.{at_or_above}
-use Rattle.simplex_types.specs.ByTerm.{not_ended}
+use Rattle.simplex_types.specs.ByTerm.{not_ended, is_covered}
 use Rattle.simplex_types.specs.Certificates.{CertificateFacts, Notarized, Nullified, Finalized as FinalizedOf}
-use Rattle.simplex_types.specs.declared.types.Fault.{Fault}
-use Rattle.simplex_types.specs.declared.types.Fault.TheVariants.{OutOfMemory, Failed, ViewTooLarge, TimeOverflow}
+use Rattle.simplex_types.specs.Encoding.{encoding}
+use Rattle.simplex_types.specs.declared.types.fault.Fault.{Fault}
+use Rattle.simplex_types.specs.declared.types.fault.Fault.TheVariants.{OutOfMemory, Failed, ViewTooLarge, TimeOverflow}
 use Rattle.simplex_types.specs.declared.reasons.Kind.TheVariants.{Nullification as OfNullification, Notarization as OfNotarization}
 use Rattle.simplex_types.specs.declared.reasons.FetchReason.TheVariants.{MissingNullification, CertificationFailed}
-use Rattle.simplex_resolver.specs.Encoding.{encoding}
 use Rattle.simplex_resolver.specs.declared.resolver.effect.Effect.{Effect}
 use Rattle.simplex_resolver.specs.declared.resolver.effect.Effect.TheVariants.{Fetch, Settled, Finalized, Raised}
-use Rattle.simplex_resolver.specs.Facts.{Facts, term_length, last_finalized, is_covered, uncovered, is_term_start, end_of_scan}
+use Rattle.simplex_resolver.specs.Facts.{Facts, term_length, last_finalized, uncovered, is_term_start, end_of_scan}
 
 -- what a resolver is told: a certificate of a view with its encoding, a verdict on a notarization,
 -- or the end of the replay. Of a notarization the view alone matters until a verdict brings it again
@@ -30,11 +30,6 @@ abbrev pub update : {D : Type 0} → (D → List ℕ) → CertificateFacts D →
 update bytes_of (Nullified n) = Nullification n.round.view (encoding bytes_of (Nullified n))
 update bytes_of (Notarized n) = Notarization n.proposal.round.view
 update bytes_of (FinalizedOf f) = Finalization f.proposal.round.view (encoding bytes_of (FinalizedOf f))
-
-abbrev pub certificate_view : {D : Type 0} → CertificateFacts D → ℕ
-certificate_view (Nullified n) = n.round.view
-certificate_view (Notarized n) = n.proposal.round.view
-certificate_view (FinalizedOf f) = f.proposal.round.view
 
 -- ---- a scan
 

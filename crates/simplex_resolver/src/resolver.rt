@@ -7,15 +7,14 @@
 //! `State::produce` serves a peer that repairs below the current view.
 
 mod effect;
-mod nullifications;
+mod held;
+mod laws;
 mod outstanding;
-mod repair;
 mod scan;
 mod state;
-mod stand_in;
 
 pub use effect::Effect;
 pub use outstanding::apply;
-pub use repair::repair;
+pub use laws::repair;
 pub use simplex_types::sorted::ByTerm;
 pub use state::State;
