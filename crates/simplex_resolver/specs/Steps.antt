@@ -6,7 +6,7 @@ use Rattle.std.specs.FinMap.{FinMap}
 use Rattle.simplex_types.specs.Terms.{term_end}
 use Rattle.simplex_types.specs.Tracked.{at_or_above}
 use Rattle.simplex_types.specs.ByTerm.{not_ended, is_covered}
-use Rattle.simplex_types.specs.Certificates.{CertificateFacts, Notarized, Nullified, Finalized as FinalizedOf}
+use Rattle.simplex_types.specs.Certificates.{CertificateFacts, ProposalFacts, Notarized, Nullified, Finalized as FinalizedOf}
 use Rattle.simplex_types.specs.Encoding.{encoding}
 use Rattle.simplex_types.specs.declared.types.fault.Fault.{Fault}
 use Rattle.simplex_types.specs.declared.types.fault.Fault.TheVariants.{OutOfMemory, Failed, ViewTooLarge, TimeOverflow}
@@ -30,6 +30,10 @@ abbrev pub update : {D : Type 0} → (D → List ℕ) → CertificateFacts D →
 update bytes_of (Nullified n) = Nullification n.round.view (encoding bytes_of (Nullified n))
 update bytes_of (Notarized n) = Notarization n.proposal.round.view
 update bytes_of (FinalizedOf f) = Finalization f.proposal.round.view (encoding bytes_of (FinalizedOf f))
+
+-- the call that hands a verdict in
+abbrev pub verdict : {D : Type 0} → (D → List ℕ) → ProposalFacts D → Bool → Call
+verdict bytes_of n success = Verdict n.proposal.round.view (encoding bytes_of (Notarized n)) success
 
 -- ---- a scan
 

@@ -14,7 +14,11 @@ pub enum Effect {
         reason: FetchReason,
     },
     /// Nothing is left to ask for of `kind` at the views `start..=end`.
-    Settled { kind: Kind, start: View, end: View },
+    Settled {
+        kind: Kind,
+        start: View,
+        end: View,
+    },
     /// A finalization settles every ask at or below the view.
     Finalized(View),
     /// The floor rose to the view, which ends every fetch at or below it.

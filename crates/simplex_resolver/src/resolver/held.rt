@@ -62,7 +62,8 @@ pub fn keep_nullification<S: CertificateScheme, D: Digest>(
 ) -> Result<(), Fault>
     requires { IsVotable view }
     ensures kept { OnOk result (nullifications.new ≡ record nullifications.old {
-        by_view = insert_new nullifications.old.by_view view (encoding D.bytes (certificate_facts S.certificate_bytes certificate.now)) }) }
+      by_view = insert_new nullifications.old.by_view view (encoding D.bytes (certificate_facts S.certificate_bytes certificate.now));
+    }) }
     ensures same_terms { nullifications.new.term_length ≡ nullifications.old.term_length }
 {
     if nullifications.get(view).is_some() {

@@ -1,25 +1,18 @@
-//! What a resolver holds, and what each call makes of it.
+//! What a resolver holds, and its calls.
 
-ghost use Rattle.std.specs.Prelude.{◌≡◌, ◌+◌, ◌^◌, ◌<◌, ◌≤◌, ◌++◌, ◌&&◌, IfOk, OnOk, IfErr, true, false, is_some, filter, [], ◌∷◌};
-ghost use Rattle.std.specs.Option.{option_copied};
-ghost use Rattle.std.specs.FinMap as map;
-ghost use Rattle.simplex_types.specs.Terms.{IsVotable};
-ghost use Rattle.simplex_types.specs.ByTerm.{is_covered};
+mod certificates;
+mod serving;
+mod verdicts;
+
+ghost use Rattle.std.specs.Prelude.{◌≡◌, ◌^◌, ◌<◌, ◌≤◌, IfOk, OnOk, IfErr, false};
 ghost use Rattle.simplex_types.specs.Certificates.{certificate_facts, notarization_facts, Notarized};
 ghost use Rattle.simplex_types.specs.Encoding.{encoding};
 ghost use Rattle.simplex_types.specs.Viewed.{certificate_view};
-ghost use Rattle.simplex_types.specs.declared.types.fault.Fault.TheVariants.{OutOfMemory, Failed};
-ghost use Rattle.simplex_types.specs.declared.reasons.Kind.TheVariants.{Nullification as OfNullification, Notarization as OfNotarization};
-ghost use Rattle.simplex_resolver.specs.declared.resolver.effect.Effect.TheVariants.{Settled};
-ghost use Rattle.simplex_resolver.specs.Facts.{empty, term_length, last_finalized, covering_encoding, certified_encoding};
-ghost use Rattle.simplex_resolver.specs.Steps.{update, Verdict, Replayed, Refused, after, effects, after_scan, scan_fetches, after_raise, raise_effects, after_nullification, nullification_effects, after_notarization, notarization_effects, with_finalization, without_finalized, after_finalization, finalization_effects, with_certified, after_failure, failure_fetches, failing, needs_nullification};
-ghost use Rattle.simplex_resolver.specs.Held.{is_settled, served_encoding, finalized_for, floor_for};
+ghost use Rattle.simplex_resolver.specs.Facts.{empty, term_length, last_finalized};
+ghost use Rattle.simplex_resolver.specs.Steps.{update, verdict, Replayed, Refused, after, effects};
 
 use crate::resolver::effect::Effect;
-
-
 use bytes::Bytes;
-use simplex_types::reasons::{FetchReason, Kind};
 use simplex_types::sorted::{ByTerm, Tracked};
 use simplex_types::types::{
     Certificate, CertificateScheme, Digest, Fault, Notarization, TermLength, View, Viewable,
@@ -126,6 +119,102 @@ impl State {
         match &self.finalization {
             Some((view, _)) => *view,
             None => View::zero(),
+        }
+    }
+
+    /// Records a certificate that the member accepted, and answers what follows from it, in order: what it
+    /// settles, whether the floor rose, and the views whose nullification is to be fetched.
+    ///
+    /// The current view rises to the certificate's. A nullification is kept where its term ends above the
+    /// last finalized view. A finalization raises the floor and drops what it covers. A notarization is
+    /// noted, and served once it is certified.
+    ///
+    /// # Errors
+    ///
+    /// `Failed` on a failed state, `ViewTooLarge` above view 2^63 - 1; both change nothing. After
+    /// `OutOfMemory` the state is failed.
+    pub fn updated<S: CertificateScheme, D: Digest>(
+        &mut self,
+        certificate: &Certificate<S, D>,
+    ) -> Result<Vec<Effect>, Fault>
+        requires { 1 ≤ certificate_view certificate.now }
+        ensures after { OnOk result (self.new ≡ after self.old (update D.bytes (certificate_facts S.certificate_bytes certificate.now))) }
+        ensures effects { IfOk result (λ es. es.items ≡ effects self.old (update D.bytes (certificate_facts S.certificate_bytes certificate.now))) }
+        ensures accepted { OnOk result ((self.old.is_failed ≡ false) × (certificate_view certificate.now < 2 ^ 63)) }
+        ensures refused { IfErr result (λ fault. Refused self.old (certificate_view certificate.now) fault self.new) }
+    {
+        if self.failed {
+            return Err(Fault::Failed);
+        }
+        if certificate.view().get() > LARGEST_VIEW {
+            return Err(Fault::ViewTooLarge);
+        }
+        match self.record(certificate) {
+            Ok(effects) => Ok(effects),
+            Err(_) => {
+                self.failed = true;
+                Err(Fault::OutOfMemory)
+            }
+        }
+    }
+
+    /// Records a verdict on a notarization, and answers what follows from it. The verdict may come before
+    /// `updated` hands in its notarization, or after it.
+    ///
+    /// A true verdict raises the floor to the notarization, which is served from then on. A false one is
+    /// remembered until a finalization; its view is fetched where it is above the floor and uncovered. The
+    /// current view stays.
+    ///
+    /// # Errors
+    ///
+    /// As `updated`.
+    pub fn certified<S: CertificateScheme, D: Digest>(
+        &mut self,
+        notarization: Notarization<S, D>,
+        success: bool,
+    ) -> Result<Vec<Effect>, Fault>
+        requires { 1 ≤ notarization.proposal.round.view }
+        ensures after { OnOk result (self.new ≡ after self.old (verdict D.bytes (notarization_facts S.certificate_bytes notarization) success)) }
+        ensures effects { IfOk result (λ es. es.items ≡ effects self.old (verdict D.bytes (notarization_facts S.certificate_bytes notarization) success)) }
+        ensures accepted { OnOk result ((self.old.is_failed ≡ false) × (notarization.proposal.round.view < 2 ^ 63)) }
+        ensures refused { IfErr result (λ fault. Refused self.old notarization.proposal.round.view fault self.new) }
+    {
+        if self.failed {
+            return Err(Fault::Failed);
+        }
+        if notarization.view().get() > LARGEST_VIEW {
+            return Err(Fault::ViewTooLarge);
+        }
+        match self.judge(notarization, success) {
+            Ok(effects) => Ok(effects),
+            Err(_) => {
+                self.failed = true;
+                Err(Fault::OutOfMemory)
+            }
+        }
+    }
+
+    /// Ends the replay of the journal, and answers the fetches that waited for it: the uncovered anchors
+    /// below the current view, then the failed views that need a nullification.
+    ///
+    /// # Errors
+    ///
+    /// `Failed` on a failed state, which changes nothing. After `OutOfMemory` the state is failed.
+    pub fn replayed(&mut self) -> Result<Vec<Effect>, Fault>
+        ensures after { OnOk result (self.new ≡ after self.old Replayed) }
+        ensures effects { IfOk result (λ es. es.items ≡ effects self.old Replayed) }
+        ensures accepted { OnOk result (self.old.is_failed ≡ false) }
+        ensures refused { IfErr result (λ fault. Refused self.old 0 fault self.new) }
+    {
+        if self.failed {
+            return Err(Fault::Failed);
+        }
+        match self.end_replay() {
+            Ok(effects) => Ok(effects),
+            Err(_) => {
+                self.failed = true;
+                Err(Fault::OutOfMemory)
+            }
         }
     }
 }
