@@ -196,7 +196,7 @@ by_raise false x y u c e is l = record {
   unfetched = λ v. grind (arith, l.unfetched v);
 }
 
-last-put : (new : Bool) (x : Facts) (u : ℕ) (b : List ℕ) → new ≡ nat_lt (last_finalized x) u
+pub last-put : (new : Bool) (x : Facts) (u : ℕ) (b : List ℕ) → new ≡ nat_lt (last_finalized x) u
     → option_map_or (λ f. f.0) (cond new (Some (u, b)) x.finalization) 0 ≡ max u (last_finalized x)
 last-put true x u b is = grind (arith, nat_tests, is)
 last-put false x u b is = grind (arith, nat_tests, is)

@@ -6,3 +6,6 @@ pub mod Scan
 pub mod Changes
 pub mod Failures
 pub mod RepairLaw
+pub mod Kept
+pub mod Last
+pub mod AnswersLaw

@@ -3,3 +3,4 @@ pub mod Steps
 pub mod Held
 pub mod Received
 pub mod Repair
+pub mod Answers

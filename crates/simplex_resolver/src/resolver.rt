@@ -14,7 +14,7 @@ mod scan;
 mod state;
 
 pub use effect::Effect;
-pub use laws::repair;
+pub use laws::{answers, repair};
 pub use outstanding::apply;
 pub use simplex_types::sorted::ByTerm;
 pub use state::State;
