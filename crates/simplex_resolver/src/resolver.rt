@@ -12,6 +12,8 @@ mod laws;
 mod outstanding;
 mod scan;
 mod state;
+#[cfg(test)]
+mod tests;
 
 pub use effect::Effect;
 pub use laws::{answers, repair};
