@@ -59,7 +59,7 @@ any_on p q (u ∷ us) f h = elim (cases_bool (p u)) [
 ]
 
 -- views of one term have one start
-same_index : (T a m : ℕ) → a * T ≤ m → m < a * T + T → m / T ≡ a
+pub same_index : (T a m : ℕ) → a * T ≤ m → m < a * T + T → m / T ≡ a
 same_index T a m low high =
     let e : m ≡ a * T + (m - a * T) = omega arith in
     let b : m - a * T < T = omega arith in

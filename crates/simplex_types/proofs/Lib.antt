@@ -4,4 +4,5 @@ pub mod Maps
 pub mod Digits
 pub mod Joined
 pub mod Gaps
+pub mod Covers
 pub mod EncodingLaw

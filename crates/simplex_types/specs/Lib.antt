@@ -1,12 +1,13 @@
 pub mod Terms
+pub mod Covering
 pub mod Plain
 pub mod Proposal
 pub mod Certificates
-pub mod Keys
 pub mod Window
 pub mod Tracked
 pub mod ByTerm
 pub mod Reasons
+pub mod Config
 pub mod Fault
 pub mod Encoding
 pub mod Viewed

@@ -1,8 +1,13 @@
-ghost use Rattle.std.specs.Prelude.{◌≡◌, ◌+◌, ◌-◌, ◌^◌, ◌<◌, ◌≤◌, ◌↔◌, IsTrue, IsSome, SomeIff};
+//! The numbers that messages are about: views and their terms, epochs, members and counts of views.
+
+ghost use Rattle.std.specs.Range.{range_inclusive_start, range_inclusive_end, range_inclusive_exhausted};
+ghost use Rattle.std.specs.Prelude.{◌≡◌, false, ◌+◌, ◌-◌, ◌^◌, ◌<◌, ◌≤◌, ◌↔◌, IsTrue, IsSome, SomeIff};
 ghost use Rattle.simplex_types.specs.Terms.{term_index, term_start, term_end, next_term_start, HasTerm};
+ghost use Rattle.simplex_types.specs.Covering.{CoveringLaws};
 
 use std::marker::Model;
 use std::num::NonZeroU32;
+use std::ops::RangeInclusive;
 
 /// A view: 0 is genesis, and the views from 1 on stand in terms.
 #[derive(Clone, Copy, PartialEq, Eq, PartialOrd, Ord, Debug)]
@@ -41,12 +46,17 @@ impl Model for TermLength {
 }
 
 impl TermLength {
+    /// Terms of one view each.
+    pub const ONE: TermLength = TermLength { views: 1 };
+
+    /// Terms of this many views.
     pub fn new(views: NonZeroU32) -> TermLength
         ensures { result ≡ views.value }
     {
         TermLength { views: views.get() }
     }
 
+    /// The number of views.
     pub fn get(self) -> NonZeroU32
         ensures value { result.value ≡ self }
         ensures positive { 0 < self }
@@ -61,30 +71,35 @@ impl TermLength {
 }
 
 impl View {
+    /// The view of a number.
     pub fn new(number: u64) -> View
         ensures { result ≡ number }
     {
         View { number }
     }
 
+    /// Genesis.
     pub fn zero() -> View
         ensures { result ≡ 0 }
     {
         View { number: 0 }
     }
 
+    /// The view's number.
     pub fn get(self) -> u64
         ensures { result ≡ self }
     {
         self.number
     }
 
+    /// Whether this is genesis.
     pub fn is_zero(self) -> bool
         ensures { IsTrue result ↔ (self ≡ 0) }
     {
         self.number == 0
     }
 
+    /// The view after this one, which is to be below the greatest of 64 bits.
     pub fn next(self) -> View
         requires { self + 1 < 2 ^ 64 }
         ensures { result ≡ self + 1 }
@@ -94,6 +109,7 @@ impl View {
         }
     }
 
+    /// The view before this one; genesis has none.
     pub fn previous(self) -> Option<View>
         ensures { SomeIff result (0 < self) (self - 1) }
     {
@@ -101,7 +117,7 @@ impl View {
         Some(View { number })
     }
 
-    /// The number of the term that the view stands in.
+    /// The number of the term that the view stands in, from 0. Genesis stands in none.
     pub fn term_index(self, length: TermLength) -> u64
         requires { HasTerm self }
         ensures { result ≡ term_index length self }
@@ -109,6 +125,7 @@ impl View {
         (self.number - 1) / u64::from(length.views)
     }
 
+    /// The first view of the view's term.
     pub fn term_start(self, length: TermLength) -> View
         requires { HasTerm self }
         ensures { result ≡ term_start length self }
@@ -119,6 +136,7 @@ impl View {
         }
     }
 
+    /// The last view of the view's term.
     pub fn term_end(self, length: TermLength) -> View
         requires { HasTerm self }
         ensures { result ≡ term_end length self }
@@ -129,6 +147,7 @@ impl View {
         }
     }
 
+    /// The first view of the term after the view's.
     pub fn next_term_start(self, length: TermLength) -> View
         requires { HasTerm self }
         ensures { result ≡ next_term_start length self }
@@ -139,6 +158,17 @@ impl View {
         }
     }
 
+    /// The views whose nullifications cover this one: from its term's start to itself.
+    pub fn covering_range(self, length: TermLength) -> RangeInclusive<View>
+        requires { HasTerm self }
+        ensures start { range_inclusive_start result ≡ term_start length self }
+        ensures end { range_inclusive_end result ≡ self }
+        ensures whole { range_inclusive_exhausted result ≡ false }
+    {
+        self.term_start(length)..=self
+    }
+
+    /// Whether the view is the first of its term.
     pub fn is_term_start(self, length: TermLength) -> bool
         requires { HasTerm self }
         ensures { IsTrue result ↔ (self ≡ term_start length self) }
@@ -147,7 +177,8 @@ impl View {
     }
 }
 
-#[derive(Clone, Copy, PartialEq, Eq, Debug)]
+/// An epoch: one engine runs in each, and every message names its own.
+#[derive(Clone, Copy, PartialEq, Eq, PartialOrd, Ord, Debug)]
 pub struct Epoch {
     number: u64,
 }
@@ -165,12 +196,14 @@ impl Model for Epoch {
 }
 
 impl Epoch {
+    /// The epoch of a number.
     pub fn new(number: u64) -> Epoch
         ensures { result ≡ number }
     {
         Epoch { number }
     }
 
+    /// The epoch's number.
     pub fn get(self) -> u64
         ensures { result ≡ self }
     {
@@ -178,8 +211,8 @@ impl Epoch {
     }
 }
 
-/// The index of a member.
-#[derive(Clone, Copy, PartialEq, Eq, Debug)]
+/// A member, by its index among the participants.
+#[derive(Clone, Copy, PartialEq, Eq, PartialOrd, Ord, Debug)]
 pub struct Participant {
     index: u32,
 }
@@ -197,12 +230,14 @@ impl Model for Participant {
 }
 
 impl Participant {
+    /// The member of an index.
     pub fn new(index: u32) -> Participant
         ensures { result ≡ index }
     {
         Participant { index }
     }
 
+    /// The member's index.
     pub fn get(self) -> u32
         ensures { result ≡ self }
     {
@@ -218,7 +253,7 @@ pub struct Round {
 }
 
 /// A number of views.
-#[derive(Clone, Copy, PartialEq, Eq, Debug)]
+#[derive(Clone, Copy, PartialEq, Eq, PartialOrd, Ord, Debug)]
 pub struct ViewDelta {
     views: u64,
 }
@@ -236,15 +271,24 @@ impl Model for ViewDelta {
 }
 
 impl ViewDelta {
+    /// This many views.
     pub fn new(views: u64) -> ViewDelta
         ensures { result ≡ views }
     {
         ViewDelta { views }
     }
 
+    /// How many views.
     pub fn get(self) -> u64
         ensures { result ≡ self }
     {
         self.views
     }
 }
+
+/// What covering says of a term: a nullification covers its own view and the rest of its term, and nothing below.
+///
+/// It does nothing: its contract is the law.
+pub fn covering_keeps_to_terms()
+    ensures { CoveringLaws }
+{}

@@ -11,15 +11,18 @@ use crate::types::window::Terms;
 use std::alloc::{AllocError, Global};
 
 /// A digest of eight bytes.
-#[derive(Clone, Copy, PartialEq, Eq)]
+#[derive(Clone, Copy, PartialEq, Eq, Debug)]
 pub struct PlainDigest {
     bytes: [u8; 8],
     ghost sized: { length bytes ≡ 8 },
 }
 
 impl PlainDigest {
+    ghost use Rattle.simplex_types.specs.Plain.{digest_bytes};
+
+    /// The digest whose bytes are the number's, big-endian.
     pub fn new(number: u64) -> PlainDigest
-        ensures { result.bytes ≡ to_be_bytes w64 number }
+        ensures { digest_bytes result ≡ to_be_bytes w64 number }
     {
         PlainDigest {
             bytes: number.to_be_bytes(),
@@ -28,13 +31,13 @@ impl PlainDigest {
 }
 
 impl Digest for PlainDigest {
-    ghost use Rattle.simplex_types.specs.Plain.{digest_from_eq, digest_eq_self, same_digest};
+    ghost use Rattle.simplex_types.specs.Plain.{digest_bytes, digest_from_eq, digest_eq_self, same_digest};
 
     const SIZE: usize = 8;
 
     ghost SIZE = { 8 };
 
-    ghost bytes = { λ d. d.bytes };
+    ghost bytes = { digest_bytes };
 
     fn as_bytes(&self) -> &[u8] {
         &self.bytes
@@ -70,16 +73,17 @@ pub struct PlainScheme {
 }
 
 impl PlainScheme {
-    ghost use Rattle.simplex_types.specs.Keys.{keys_below};
+    ghost use Rattle.simplex_types.specs.Plain.{signer_of, keys_of, keys_below};
 
+    /// The scheme of this many members, with the key of one of them or of none.
     pub fn new(
         alloc: Global,
         members: u32,
         signer: Option<Participant>,
     ) -> Result<PlainScheme, AllocError>
         requires { ForSome signer (λ m. m < members) }
-        ensures signer { IfOk result (λ s. s.signer ≡ signer) }
-        ensures members { IfOk result (λ s. s.keys.items ≡ keys_below members) }
+        ensures signer { IfOk result (λ s. signer_of s ≡ signer) }
+        ensures members { IfOk result (λ s. keys_of s ≡ keys_below members) }
     {
         let mut keys = Vec::new(alloc);
         for index in 0..members {
@@ -97,10 +101,11 @@ impl CertificateScheme for PlainScheme {
     type Certificate = PlainCertificate;
 
     ghost use Rattle.std.specs.Prelude.{◌∷◌, [], if◌then◌else◌};
+    ghost use Rattle.simplex_types.specs.Plain.{signer_of, keys_of};
 
-    ghost me = { λ s. s.signer };
+    ghost me = { signer_of };
 
-    ghost participants = { λ s. s.keys.items };
+    ghost participants = { keys_of };
 
     ghost certificate_bytes = { λ c. (if c.good then 1 else 0) ∷ [] };
 
@@ -165,27 +170,29 @@ pub struct PlainElector {
 }
 
 impl PlainElector {
+    ghost use Rattle.simplex_types.specs.Plain.{members_of, terms_of};
+
+    /// The elector of this many members.
     pub fn new(count: u32, terms: Terms) -> PlainElector
         requires { 0 < count }
-        ensures count { result.count ≡ count }
-        ensures terms { result.terms ≡ terms }
+        ensures count { members_of result ≡ count }
+        ensures terms { terms_of result ≡ terms }
     {
         PlainElector { count, terms }
     }
 }
 
 impl<S: CertificateScheme> Elector<S> for PlainElector {
-    ghost use Rattle.simplex_types.specs.Terms.{term_index};
-    ghost use Rattle.simplex_types.specs.Plain.{elected_below};
+    ghost use Rattle.simplex_types.specs.Plain.{members_of, terms_of, leader_in_turn, elected_below};
     ghost use Rattle.std.specs.Prelude.{◌%◌, refl, true};
 
-    ghost terms = { λ e. e.terms };
+    ghost terms = { terms_of };
 
-    ghost members = { λ e. e.count };
+    ghost members = { members_of };
 
     ghost elects_early = { λ _. true };
 
-    ghost elect = { λ e round _. term_index e.terms.term_length round.view % e.count };
+    ghost elect = { λ e round _. leader_in_turn e round.view };
 
     fn terms(&self) -> Terms {
         self.terms

@@ -13,12 +13,15 @@ use std::alloc::{AllocError, Global};
 
 /// A payload's digest: a value of `SIZE` bytes.
 pub trait Digest: Copy + Eq {
+    /// How many bytes a digest has.
     const SIZE: usize;
 
     ghost SIZE: { ℕ };
 
+    /// The bytes of a digest: as many as `SIZE`, and equal exactly where the digests are.
     ghost bytes: { Self → List ℕ };
 
+    /// The digest's bytes.
     fn as_bytes(&self) -> &[u8]
         ensures { result.now ≡ bytes self.now };
 
@@ -51,28 +54,34 @@ pub trait CertificateScheme: Drop {
     /// The bytes of a certificate.
     ghost certificate_bytes: { Self.Certificate → List ℕ };
 
+    /// A scheme with the same key and the same participants.
     fn copy(&self, alloc: Global) -> Result<Self, AllocError>
         ensures signer { IfOk result (λ s. me s ≡ me self.now) }
         ensures members { IfOk result (λ s. participants s ≡ participants self.now) };
 
+    /// An equal signature.
     fn copy_signature(
         alloc: Global,
         signature: &Self::Signature,
     ) -> Result<Self::Signature, AllocError>
         ensures { IfOk result (λ s. s ≡ signature.now) };
 
+    /// A certificate with the same bytes.
     fn copy_certificate(
         alloc: Global,
         certificate: &Self::Certificate,
     ) -> Result<Self::Certificate, AllocError>
         ensures { IfOk result (λ c. certificate_bytes c ≡ certificate_bytes certificate.now) };
 
+    /// The member that the scheme signs for; none without a key.
     fn me(&self) -> Option<Participant>
         ensures { result ≡ me self.now };
 
+    /// The members' keys, by index.
     fn participants(&self) -> &[Self::PublicKey]
         ensures { result.now ≡ participants self.now };
 
+    /// The bytes of a certificate, which encodings hold.
     fn certificate_bytes(certificate: &Self::Certificate) -> &[u8]
         ensures { result.now ≡ certificate_bytes certificate.now };
 
@@ -88,6 +97,7 @@ pub trait Scheme<D: Digest>: CertificateScheme {
     /// Whether a certificate is good for a subject.
     ghost accepts: { Self → Subject D → Self.Certificate → Bool };
 
+    /// The signature of this scheme's member on a subject; none exactly where the scheme has no key.
     fn sign(
         &self,
         alloc: Global,
@@ -95,6 +105,7 @@ pub trait Scheme<D: Digest>: CertificateScheme {
     ) -> Result<Option<Self::Signature>, AllocError>
         ensures { IfOk result (λ s. s ≡ option_map (λ m. signature_of m subject.now) (Self.me self.now)) };
 
+    /// Whether the certificate is good for the subject.
     fn verify(&self, subject: &Subject<D>, certificate: &Self::Certificate) -> bool
         ensures { result ≡ accepts self.now subject.now certificate.now };
 }
@@ -113,19 +124,25 @@ pub trait Elector<S: CertificateScheme>: Drop {
     /// The leader of a round, after a certificate of these bytes.
     ghost elect: { Self → Round → Option (List ℕ) → ℕ };
 
+    /// How the views are parted into terms.
     fn terms(&self) -> Terms
         ensures { result ≡ terms self.now };
 
+    /// How many members there are.
     fn members(&self) -> usize
         ensures { result ≡ members self.now };
 
+    /// Whether leaders are known before any certificate.
     fn elects_early(&self) -> bool
         ensures { result ≡ elects_early self.now };
 
+    /// The leader of a view, after the certificate that leads to it where there is one.
     fn elect(&self, round: Round, certificate: Option<&S::Certificate>) -> Participant
         ensures { result ≡ elect self.now round (option_map S.certificate_bytes (option_copied certificate.entry)) };
 
+    /// Each leader is a member.
     ghost elected_is_member: { (e : Self) (round : Round) (seed : Option (List ℕ)) → elect e round seed < members e };
 
+    /// Where leaders are known early, the certificate makes no difference.
     ghost early_needs_no_seed: { (e : Self) (round : Round) (seed : Option (List ℕ)) → elects_early e ≡ true → elect e round seed ≡ elect e round None };
 }

@@ -37,10 +37,12 @@ pub struct Lookahead {
 }
 
 impl Lookahead {
-    /// The view below the window of `view`, where it has one.
-    pub fn issuance_floor(self, view: View) -> Option<View>
+    /// The lowest view whose certificate opens the window of a view for optimistic votes.
+    ///
+    /// None for genesis, for the first view of a term, and where no view is voted for ahead.
+    pub fn issuance_floor(&self, view: View) -> Option<View>
         requires { view ≤ 2 ^ 64 - 2 ^ 33 }
-        ensures { result ≡ issuance_floor self.term_length self.optimistic_views view }
+        ensures { result ≡ issuance_floor self.now.term_length self.now.optimistic_views view }
     {
         if view.is_zero() || self.optimistic_views == 0 {
             return None;
@@ -57,10 +59,13 @@ impl Lookahead {
         Some(View::new(before_term.max(before_window)))
     }
 
-    /// Whether a member at `current` may vote for `view`.
-    pub fn admits_outbound(self, current: View, view: View) -> bool
+    /// Whether a member whose current view is `current` may send a vote for `view`.
+    ///
+    /// It may at or below the current view, `optimistic_views` ahead inside the current term, and at the next term's
+    /// start where that is one view ahead or no more than `optimistic_views`.
+    pub fn admits_outbound(&self, current: View, view: View) -> bool
         requires { HasTerm current }
-        ensures { IsTrue result ↔ AdmitsOutbound self.term_length self.optimistic_views current view }
+        ensures { IsTrue result ↔ AdmitsOutbound self.now.term_length self.now.optimistic_views current view }
     {
         if view <= current {
             return !view.is_zero();
@@ -73,7 +78,7 @@ impl Lookahead {
     }
 }
 
-/// The views that a member keeps and takes messages of.
+/// Which views a member keeps, and which messages it takes, at its current and last finalized view.
 #[derive(Clone, Copy, PartialEq, Eq, Debug)]
 pub struct Viewport {
     pub finalized: View,
@@ -83,7 +88,7 @@ pub struct Viewport {
 }
 
 impl Viewport {
-    /// The lowest view that is kept.
+    /// The lowest view that is kept: the retention below the last finalized one, and not below 0.
     pub fn floor(&self) -> View
         ensures { result ≡ self.now.finalized - self.now.view_retention }
     {
@@ -94,12 +99,14 @@ impl Viewport {
         )
     }
 
+    /// Whether a certificate of the view is taken: the view is not genesis and is kept.
     pub fn admits_certificate(&self, view: View) -> bool
         ensures { IsTrue result ↔ AdmitsCertificate self.now view }
     {
         !view.is_zero() && self.floor() <= view
     }
 
+    /// Whether a vote for the view is taken: the view is kept, and not above the next term's start.
     pub fn admits_vote(&self, view: View) -> bool
         requires { HasTerm self.now.current }
         ensures { IsTrue result ↔ AdmitsVote self.now view }

@@ -1,0 +1,244 @@
+//! The policies of an engine, the point that it starts from, and the check of its settings.
+
+ghost use Rattle.std.specs.Prelude.{◌≡◌, ◌≢◌, ◌↔◌, ◌<◌, ◌^◌, IsTrue, IfOk, IsOkUnless, MatchOption, Ok, Err, length};
+ghost use Rattle.simplex_types.specs.Config.{skip_budget, floor_view, floor_facts, is_at_or_below, first_broken_rule, first_broken_floor_rule};
+ghost use Rattle.simplex_types.specs.declared.config.ForwardPolicy.TheVariants.{Disabled as ForwardDisabled};
+
+use crate::types::{
+    CertificateScheme, Digest, Epoch, Fault, Finalization, Scheme, Subject, View, ViewDelta,
+    Viewable,
+};
+use std::alloc::Global;
+use std::error::Error;
+use std::fmt;
+use std::num::NonZeroU64;
+
+/// How many unfinalized terms may be skipped.
+#[derive(Clone, Copy, PartialEq, Eq, Debug, Default)]
+pub enum SkipBudget {
+    /// As many as there are participants.
+    #[default]
+    Participants,
+    /// This many.
+    Fixed(NonZeroU64),
+}
+
+impl SkipBudget {
+    /// The number of terms, where there are this many participants.
+    pub fn resolve(self, participants: usize) -> u64
+        ensures { result ≡ skip_budget self participants }
+    {
+        match self {
+            SkipBudget::Participants => participants as u64,
+            SkipBudget::Fixed(budget) => budget.get(),
+        }
+    }
+}
+
+/// Whether a view may be voted to nullify before its own deadlines, where its leader is inactive.
+///
+/// The view's own deadlines stand whatever the policy is.
+#[derive(Clone, Copy, PartialEq, Eq, Debug)]
+pub enum SkipPolicy {
+    /// Only the view's own deadlines count.
+    Disabled,
+    /// An inactive leader's view may be skipped.
+    Enabled {
+        /// The milliseconds after which a leader counts as inactive, above the certification timeout and the retry.
+        timeout: u64,
+        /// How many unfinalized terms may be skipped.
+        budget: SkipBudget,
+    },
+}
+
+impl SkipPolicy {
+    /// Whether skipping is enabled with a timeout at or below this one.
+    fn is_at_or_below(&self, timeout: u64) -> bool
+        ensures { result ≡ is_at_or_below self.now timeout }
+    {
+        match self {
+            SkipPolicy::Disabled => false,
+            SkipPolicy::Enabled { timeout: skip, .. } => *skip <= timeout,
+        }
+    }
+}
+
+/// Whom a proposal is forwarded to when the next view is entered.
+///
+/// Forwarding never bears on safety: a batcher sends what `forwardable_proposal` of the voter answers.
+#[derive(Clone, Copy, PartialEq, Eq, Debug)]
+pub enum ForwardPolicy {
+    /// Nobody.
+    Disabled,
+    /// Each participant whose vote for the proposal was not seen.
+    SilentVoters,
+    /// The next view's leader, where its vote for the proposal was not seen.
+    SilentLeader,
+}
+
+impl ForwardPolicy {
+    /// Whether proposals are forwarded at all.
+    pub fn is_enabled(&self) -> bool
+        ensures { IsTrue result ↔ (self.now ≢ ForwardDisabled) }
+    {
+        !matches!(self, ForwardPolicy::Disabled)
+    }
+}
+
+/// The certified point that an engine starts from.
+#[derive(Drop)]
+pub enum Floor<S: CertificateScheme, D: Digest> {
+    /// The payload of genesis, at view 0.
+    Genesis(D),
+    /// A proposal that is finalized.
+    Finalized(Finalization<S, D>),
+}
+
+impl<S: CertificateScheme, D: Digest> Floor<S, D> {
+    /// The finalized view that the engine starts from: 0 for genesis.
+    pub fn view(&self) -> View
+        ensures { result ≡ floor_view self.now }
+    {
+        match self {
+            Floor::Genesis(_) => View::zero(),
+            Floor::Finalized(finalization) => finalization.view(),
+        }
+    }
+
+    /// A copy, with the same payload or proposal and the same certificate bytes. The only fault is `OutOfMemory`.
+    pub fn clone(&self, alloc: Global) -> Result<Self, Fault>
+        ensures same { IfOk result (λ floor. floor_facts S.certificate_bytes floor ≡ floor_facts S.certificate_bytes self.now) }
+        ensures refused { IsOkUnless result Fault.OutOfMemory }
+    {
+        Ok(match self {
+            Floor::Genesis(payload) => Floor::Genesis(*payload),
+            Floor::Finalized(finalization) => Floor::Finalized(finalization.clone(alloc)?),
+        })
+    }
+}
+
+/// The settings of an engine, as far as the decision core reads them. Times are milliseconds.
+#[derive(Drop)]
+pub struct Config<S: CertificateScheme, D: Digest> {
+    /// Who signs, for whom.
+    pub scheme: S,
+    /// The epoch that every message is of.
+    pub epoch: Epoch,
+    /// The certified point that the engine starts from.
+    pub floor: Floor<S, D>,
+    /// How long a view waits for its proposal.
+    pub leader_timeout: u64,
+    /// How long a view waits for its certification, above the leader timeout.
+    pub certification_timeout: u64,
+    /// After how long a vote to nullify is sent again.
+    pub timeout_retry: u64,
+    /// How many views below the last finalized one are kept.
+    pub view_retention: ViewDelta,
+    /// Whether views of inactive leaders are skipped.
+    pub skip: SkipPolicy,
+    /// Whom proposals are forwarded to.
+    pub forward: ForwardPolicy,
+}
+
+impl<S: CertificateScheme, D: Digest> Config<S, D> {
+    /// Tests the settings, and answers the first rule of `ConfigError`'s list that they break.
+    pub fn assert(&self) -> Result<(), ConfigError>
+    where
+        S: Scheme<D>,
+        ensures { MatchOption (first_broken_rule (length (S.participants self.now.scheme)) (S.accepts self.now.scheme) self.now) (result ≡ Ok tt) (λ broken. result ≡ Err broken) }
+    {
+        if self.scheme.participants().is_empty() {
+            return Err(ConfigError::NoParticipants);
+        }
+        if self.leader_timeout == 0 {
+            return Err(ConfigError::LeaderTimeoutZero);
+        }
+        if self.certification_timeout <= self.leader_timeout {
+            return Err(ConfigError::CertificationNotAboveLeader);
+        }
+        if self.skip.is_at_or_below(self.certification_timeout) {
+            return Err(ConfigError::SkipNotAboveCertification);
+        }
+        if self.skip.is_at_or_below(self.timeout_retry) {
+            return Err(ConfigError::SkipNotAboveRetry);
+        }
+        if self.timeout_retry == 0 {
+            return Err(ConfigError::RetryZero);
+        }
+        if self.view_retention.get() == 0 {
+            return Err(ConfigError::RetentionZero);
+        }
+        self.assert_floor()
+    }
+
+    /// Tests the floor alone.
+    fn assert_floor(&self) -> Result<(), ConfigError>
+    where
+        S: Scheme<D>,
+        ensures { MatchOption (first_broken_floor_rule (S.accepts self.now.scheme) self.now.epoch self.now.floor) (result ≡ Ok tt) (λ broken. result ≡ Err broken) }
+    {
+        let Floor::Finalized(finalization) = &self.floor else {
+            return Ok(());
+        };
+        if finalization.proposal.round.epoch != self.epoch {
+            return Err(ConfigError::FloorEpoch);
+        }
+        if finalization.proposal.round.view.is_zero() {
+            return Err(ConfigError::FloorAtGenesis);
+        }
+        let subject = Subject::Finalize(finalization.proposal);
+        if !self.scheme.verify(&subject, &finalization.certificate) {
+            return Err(ConfigError::FloorUnverified);
+        }
+        Ok(())
+    }
+}
+
+/// Why an engine's settings are refused, in the order in which they are tested.
+#[derive(Clone, Copy, PartialEq, Eq, Debug)]
+pub enum ConfigError {
+    /// The scheme has no participants.
+    NoParticipants,
+    /// The leader timeout is 0.
+    LeaderTimeoutZero,
+    /// The certification timeout is not above the leader timeout.
+    CertificationNotAboveLeader,
+    /// The skip timeout is not above the certification timeout.
+    SkipNotAboveCertification,
+    /// The skip timeout is not above the retry.
+    SkipNotAboveRetry,
+    /// The retry is 0.
+    RetryZero,
+    /// The view retention is 0.
+    RetentionZero,
+    /// The floor's finalization is of another epoch.
+    FloorEpoch,
+    /// The floor's finalization is of view 0, which genesis stands for.
+    FloorAtGenesis,
+    /// The scheme does not accept the floor's finalization.
+    FloorUnverified,
+}
+
+impl fmt::Display for ConfigError {
+    ghost use Rattle.std.specs.Prelude.{Some};
+    ghost use Rattle.simplex_types.specs.Config.{config_error_name};
+
+    ghost output = { λ error. Some (config_error_name error) };
+
+    fn fmt<W: fmt::Write>(&self, f: &mut fmt::Formatter<W>) -> fmt::Result {
+        match self {
+            ConfigError::NoParticipants => write!(f, "NoParticipants"),
+            ConfigError::LeaderTimeoutZero => write!(f, "LeaderTimeoutZero"),
+            ConfigError::CertificationNotAboveLeader => write!(f, "CertificationNotAboveLeader"),
+            ConfigError::SkipNotAboveCertification => write!(f, "SkipNotAboveCertification"),
+            ConfigError::SkipNotAboveRetry => write!(f, "SkipNotAboveRetry"),
+            ConfigError::RetryZero => write!(f, "RetryZero"),
+            ConfigError::RetentionZero => write!(f, "RetentionZero"),
+            ConfigError::FloorEpoch => write!(f, "FloorEpoch"),
+            ConfigError::FloorAtGenesis => write!(f, "FloorAtGenesis"),
+            ConfigError::FloorUnverified => write!(f, "FloorUnverified"),
+        }
+    }
+}
+
+impl Error for ConfigError {}
