@@ -105,10 +105,7 @@ impl Resolver {
     }
 
     /// The effects of a call, applied to the open fetches.
-    fn effects_of(
-        &mut self,
-        told: Result<Vec<Effect>, Fault>,
-    ) -> Result<Answer<'_>, AllocError> {
+    fn effects_of(&mut self, told: Result<Vec<Effect>, Fault>) -> Result<Answer<'_>, AllocError> {
         let effects = match told {
             Ok(effects) => effects,
             Err(fault) => return refused(fault),

@@ -58,7 +58,8 @@ pub fn scan(
                 reason: FetchReason::MissingNullification,
             })?;
         }
-        anchor = anchor.next_term_start(term_length);
+        let next = anchor.next_term_start(term_length);
+        anchor = next;
     }
     Ok(anchor)
 }

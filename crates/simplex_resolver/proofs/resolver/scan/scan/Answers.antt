@@ -12,7 +12,7 @@ pub loop-term_length-smaller : goal.loop-term_length-smaller
 loop-term_length-smaller c =
     let own = (terms c.args.term_length c.requires.long).le-last c.loop-term_length.anchor c.loop-term_length.invariant.low in
     let more : c.loop-term_length.anchor < c.args.current = let is = c.lt.ensures in let holds = c.loop-term_length-test.true in grind (arith, nat_tests, is, holds) in
-    omega (arith, own, more, c.next_term_start-anchor.ensures)
+    omega (arith, own, more, c.next_term_start-next.ensures)
 
 pub loop-term_length-preserved : goal.loop-term_length-preserved
 loop-term_length-preserved c =
@@ -21,11 +21,11 @@ loop-term_length-preserved c =
     let own = (terms c.args.term_length c.requires.long).le-last anchor low in
     let more : anchor < c.args.current = let is = c.lt.ensures in let holds = c.loop-term_length-test.true in grind (arith, nat_tests, is, holds) in
     let long = subst (λ t. 0 < t) (sym c.requires.same_terms) c.requires.long in
-    let to = c.next_term_start-anchor.ensures ∙ ap (λ t. next_term_start t anchor) (sym c.requires.same_terms) in
+    let to = c.next_term_start-next.ensures ∙ ap (λ t. next_term_start t anchor) (sym c.requires.same_terms) in
     let before = c.loop-term_length.effects.items in
     record {
-      low = omega (arith, own, c.next_term_start-anchor.ensures);
-      end = ap (λ n. end_of_scan c.args.term_length n c.args.current) c.next_term_start-anchor.ensures
+      low = omega (arith, own, c.next_term_start-next.ensures);
+      end = ap (λ n. end_of_scan c.args.term_length n c.args.current) c.next_term_start-next.ensures
           ∙ end_of_scan-next c.args.term_length anchor c.args.current c.requires.long low more ∙ c.loop-term_length.invariant.end;
       fetched =
           let m = c.args.nullifications.now in
