@@ -15,9 +15,9 @@ use Rattle.simplex_types.specs.declared.reasons.Kind.TheVariants.{Nullification 
 use Rattle.simplex_resolver.specs.Facts.{Facts, empty, term_length, last_finalized, covering_encoding, certified_encoding}
 use Rattle.simplex_resolver.specs.Steps.{Call, Nullification, Notarization, Finalization, Verdict, Replayed, before_scan, settle_effects, after}
 use Rattle.simplex_resolver.specs.Held.{is_settled, served_encoding, or_else, finalized_for, floor_for}
-use Rattle.simplex_resolver.specs.Received.{NamesAView, greatest, finalized_view, floor_view, finalized_of, floor_of, is_true_verdict, is_false_verdict, is_notarizing, is_covering}
+use Rattle.simplex_resolver.specs.Received.{NamesAView, greatest, finalized_view, floor_view, finalized_of, floor_of, is_true_verdict, is_false_verdict, is_notarizing, is_covering, WasMade}
 use Rattle.simplex_resolver.specs.Repair.{facts_of}
-use Rattle.simplex_resolver.specs.Answers.{is_settled_by, is_failed_by, Source, OfFinalization, OfCertified, OfNullified, covering_view, source, bringing, WasMade, ServesReceived, NoContradiction, AnswersFit, AnswersAreOfTheReceived}
+use Rattle.simplex_resolver.specs.Answers.{is_settled_by, is_failed_by, Source, OfFinalization, OfCertified, OfNullified, covering_view, source, bringing, ServesReceived, NoContradiction, AnswersFit, AnswersAreOfTheReceived}
 use Rattle.simplex_resolver.proofs.Terms.{terms, covers_upto}
 use Rattle.simplex_resolver.proofs.Maps.{contains-empty, some_covering}
 use Rattle.simplex_resolver.proofs.Changes.{Changed, changed}

@@ -9,3 +9,4 @@ pub mod RepairLaw
 pub mod Kept
 pub mod Last
 pub mod AnswersLaw
+pub mod Again

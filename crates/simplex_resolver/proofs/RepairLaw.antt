@@ -235,7 +235,7 @@ fails-if : (above : Bool) (x y : Facts) → Fails x y → Fails x (cond above y 
 fails-if true x y f = f
 fails-if false x y f = record { floor = refl; current = refl; scanned = refl; nullifications = refl; replaying = refl }
 
-fails : (x : Facts) (u : ℕ) (b : List ℕ) → Fails x (before_scan x (Verdict u b false))
+pub fails : (x : Facts) (u : ℕ) (b : List ℕ) → Fails x (before_scan x (Verdict u b false))
 fails x u b = fails-if (nat_lt (last_finalized x) u) x _ (record { floor = refl; current = refl; scanned = refl; nullifications = refl; replaying = refl })
 
 quiet_alike : (x y : Facts) (out : ℕ → Bool) → Fails x y

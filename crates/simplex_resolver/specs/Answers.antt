@@ -1,5 +1,5 @@
 -- What a resolver answers, against what it was told, in whatever order.
-use Rattle.std.specs.Prelude.{◌≡◌, ℕ, ◌+◌, ◌<◌, ◌≤◌, ◌⊎◌, Bool, true, false, ◌&&◌, ◌||◌, ◌==◌, nat_lt, nat_le, if◌then◌else◌, List, [], ◌∷◌, map, Option, None, Some, IsSome}
+use Rattle.std.specs.Prelude.{◌≡◌, ℕ, ◌+◌, ◌<◌, ◌≤◌, Bool, true, false, ◌&&◌, ◌||◌, ◌==◌, nat_lt, nat_le, if◌then◌else◌, List, [], ◌∷◌, map, Option, None, Some, IsSome}
 use Rattle.std.specs.List.{list_any, AllByRecursion}
 use Rattle.std.specs.FinMap as finmap
 use Rattle.simplex_types.specs.Terms.{covers}
@@ -8,7 +8,7 @@ use Rattle.simplex_types.specs.declared.reasons.Kind.TheVariants.{Nullification 
 use Rattle.simplex_resolver.specs.Facts.{Facts}
 use Rattle.simplex_resolver.specs.Steps.{Call, Nullification, Notarization, Finalization, Verdict, Replayed}
 use Rattle.simplex_resolver.specs.Held.{is_settled, served_encoding}
-use Rattle.simplex_resolver.specs.Received.{NamesAView, greatest, finalized_of, floor_of, is_true_verdict, is_false_verdict, is_notarizing, is_covering}
+use Rattle.simplex_resolver.specs.Received.{NamesAView, greatest, finalized_of, floor_of, is_true_verdict, is_false_verdict, is_notarizing, is_covering, WasMade}
 use Rattle.simplex_resolver.specs.Repair.{facts_of}
 
 -- ---- what is settled
@@ -50,11 +50,6 @@ abbrev pub bringing : Source → List ℕ → Call
 bringing (OfFinalization v) encoding = Finalization v encoding
 bringing (OfCertified v) encoding = Verdict v encoding true
 bringing (OfNullified v) encoding = Nullification v encoding
-
--- the call is among those that were made
-abbrev pub WasMade : Call → List Call → Type 0
-WasMade call [] = ⊥
-WasMade call (made ∷ earlier) = (call ≡ made) ⊎ WasMade call earlier
 
 -- an answer is the encoding of a received certificate of the kind and view that is to be served, and there is
 -- one exactly where there is something to serve

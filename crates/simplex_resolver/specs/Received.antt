@@ -1,5 +1,5 @@
 -- What a resolver was told, without its order, and what follows from it.
-use Rattle.std.specs.Prelude.{◌≡◌, ℕ, ◌+◌, ◌<◌, ◌≤◌, Bool, true, false, ◌&&◌, ◌||◌, not, ◌==◌, nat_lt, nat_le, if◌then◌else◌, List, [], ◌∷◌, map, filter, max, Option, None, Some}
+use Rattle.std.specs.Prelude.{◌≡◌, ℕ, ◌+◌, ◌<◌, ◌≤◌, ◌⊎◌, Bool, true, false, ◌&&◌, ◌||◌, not, ◌==◌, nat_lt, nat_le, if◌then◌else◌, List, [], ◌∷◌, map, filter, max, Option, None, Some}
 use Rattle.std.specs.List.{list_any}
 use Rattle.simplex_types.specs.Terms.{covers}
 use Rattle.simplex_types.specs.declared.reasons.Kind.{Kind}
@@ -14,6 +14,17 @@ NamesAView (Notarization v) = 1 ≤ v
 NamesAView (Finalization v encoding) = 1 ≤ v
 NamesAView (Verdict v encoding success) = 1 ≤ v
 NamesAView Replayed = Unit {0}
+
+-- the call is among those that were made
+abbrev pub WasMade : Call → List Call → Type 0
+WasMade call [] = ⊥
+WasMade call (made ∷ earlier) = (call ≡ made) ⊎ WasMade call earlier
+
+abbrev pub is_certificate : Call → Bool
+is_certificate (Nullification v encoding) = true
+is_certificate (Notarization v) = true
+is_certificate (Finalization v encoding) = true
+is_certificate call = false
 
 abbrev pub is_replayed : Call → Bool
 is_replayed Replayed = true

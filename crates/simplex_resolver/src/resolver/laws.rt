@@ -1,10 +1,13 @@
-ghost use Rattle.simplex_resolver.specs.Answers.{AnswersAreOfTheReceived};
-ghost use Rattle.simplex_resolver.specs.Repair.{OutstandingIsWanted};
+//! What holds over all lists of calls.
 
-/// Whatever calls were made, in whatever order: once it was replayed, a resolver's outstanding
-/// fetches are exactly the wanted views.
+ghost use Rattle.simplex_resolver.specs.Answers.{AnswersAreOfTheReceived};
+ghost use Rattle.simplex_resolver.specs.Repair.{OutstandingIsWanted, RecordedAgainFetchesNothing};
+
+/// Whatever calls were made, in whatever order: once it was replayed, a resolver's outstanding fetches are
+/// exactly the wanted views, and a certificate that it was given before opens no fetch.
 pub fn repair()
-    ensures { OutstandingIsWanted }
+    ensures wanted { OutstandingIsWanted }
+    ensures again { RecordedAgainFetchesNothing }
 {}
 
 /// Whatever calls were made, in whatever order: what a resolver answers (`State::settled`,
