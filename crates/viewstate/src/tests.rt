@@ -144,33 +144,111 @@ const SETTLED: (&str, &str) = (
      outstanding\n",
 );
 
+/// A term that reaches above the finalized view keeps its nullification, until it ends.
+const FINALIZED: (&str, &str) = (
+    "replayed\nfinalization 3\nnullification 2\nproduce 5\nfinalization 4\nproduce 5\nfinalization 5\nnullification 2\n",
+    "-\n\
+     finalized 3; raised 3\n\
+     settled nullification 2 5\n\
+     010000000000000001000000000000000201\n\
+     finalized 4; raised 4\n\
+     010000000000000001000000000000000201\n\
+     finalized 5; raised 5\n\
+     -\n",
+);
+
+/// The highest finalization is kept, and served for all views at or below it.
+const HIGHEST: (&str, &str) = (
+    "replayed\nnullification 14\nnotarization 3\ncertified 3 true\nfinalization 3\nfinalization 2\nproduce 1\nproduce 3\n",
+    "-\n\
+     settled nullification 14 15; fetch 1 14 missing_nullification; fetch 6 14 missing_nullification; fetch 11 14 missing_nullification\n\
+     settled notarization 3 3\n\
+     settled notarization 3 3; raised 3; fetch 4 3 missing_nullification; fetch 6 3 missing_nullification; fetch 11 3 missing_nullification\n\
+     finalized 3\n\
+     finalized 3\n\
+     02000000000000000100000000000000030000000000000002000000000000000001\n\
+     02000000000000000100000000000000030000000000000002000000000000000001\n",
+);
+
+/// The nullification of the highest view that covers a view is served, and nothing that a later one covers.
+const COVERING: (&str, &str) = (
+    "replayed\nnullification 2\nnullification 4\nproduce 1\nproduce 3\nproduce 5\n",
+    "-\n\
+     settled nullification 2 5; fetch 1 2 missing_nullification\n\
+     settled nullification 4 5\n\
+     none\n\
+     010000000000000001000000000000000201\n\
+     010000000000000001000000000000000401\n",
+);
+
+/// What is outstanding, call by call, over a floor inside a term.
+const FLOOR: (&str, &str) = (
+    "replayed\nnotarization 4\noutstanding\ncertified 4 true\noutstanding\nnullification 14\noutstanding\n",
+    "-\n\
+     settled notarization 4 4; fetch 1 4 missing_nullification\n\
+     outstanding 1\n\
+     settled notarization 4 4; raised 4\n\
+     outstanding\n\
+     settled nullification 14 15; fetch 5 14 missing_nullification; fetch 6 14 missing_nullification; fetch 11 14 missing_nullification\n\
+     outstanding 5 6 11\n",
+);
+
+/// One notarization, its verdict and a nullification, in any order, and what is outstanding in the end.
+const ORDERS: [&str; 6] = [
+    "replayed\nnotarization 3\ncertified 3 true\nnullification 14\noutstanding\n",
+    "replayed\nnotarization 3\nnullification 14\ncertified 3 true\noutstanding\n",
+    "replayed\ncertified 3 true\nnotarization 3\nnullification 14\noutstanding\n",
+    "replayed\ncertified 3 true\nnullification 14\nnotarization 3\noutstanding\n",
+    "replayed\nnullification 14\nnotarization 3\ncertified 3 true\noutstanding\n",
+    "replayed\nnullification 14\ncertified 3 true\nnotarization 3\noutstanding\n",
+];
+
 /// View 0, which no certificate has.
 const GENESIS: (&str, &str) = (
     "notarization 0\nfinalization 0\ncertified 0 true\nsettled 0 nullification\nproduce 0",
     "not-allowed\nnot-allowed\nnot-allowed\ntrue\nnone\n",
 );
 
-fn serves(rt: &HostRuntime, line: &str, row: (&str, &str)) -> Result<(), Fail> {
-    let mode = mode_of(rt.alloc(), line)?.ok_or("no mode")?;
-    let (output, ended) = run(rt.alloc(), mode, row.0)?;
-    assert_eq!(rt; output.as_str(), row.1);
-    assert_eq!(rt; ended, Ok(()));
-    Ok(())
+/// Whether serving the row's input writes its output, and ends well.
+fn is_served(alloc: Global, line: &str, row: (&str, &str)) -> Result<bool, Fail> {
+    let mode = mode_of(alloc, line)?.ok_or("no mode")?;
+    let (output, ended) = run(alloc, mode, row.0)?;
+    Ok(ended == Ok(()) && output.as_str() == row.1)
 }
 
 #[test]
 fn transcripts_of_terms_of_one_view(rt: HostRuntime) -> Result<(), Fail> {
-    serves(&rt, "viewstate resolver 1", REPAIR)?;
-    serves(&rt, "viewstate resolver 1", REPLAY)?;
-    serves(&rt, "viewstate resolver 1", SERVED)?;
-    serves(&rt, "viewstate resolver 1", GENESIS)?;
-    serves(&rt, "viewstate resolver 1", ("", ""))
+    assert!(rt; is_served(rt.alloc(), "viewstate resolver 1", REPAIR)?);
+    assert!(rt; is_served(rt.alloc(), "viewstate resolver 1", REPLAY)?);
+    assert!(rt; is_served(rt.alloc(), "viewstate resolver 1", SERVED)?);
+    assert!(rt; is_served(rt.alloc(), "viewstate resolver 1", GENESIS)?);
+    assert!(rt; is_served(rt.alloc(), "viewstate resolver 1", ("", ""))?);
+    Ok(())
 }
 
 #[test]
 fn transcripts_of_terms_of_five_views(rt: HostRuntime) -> Result<(), Fail> {
-    serves(&rt, "viewstate resolver 5", TERMS)?;
-    serves(&rt, "viewstate resolver 5", SETTLED)
+    assert!(rt; is_served(rt.alloc(), "viewstate resolver 5", TERMS)?);
+    assert!(rt; is_served(rt.alloc(), "viewstate resolver 5", SETTLED)?);
+    assert!(rt; is_served(rt.alloc(), "viewstate resolver 5", FINALIZED)?);
+    assert!(rt; is_served(rt.alloc(), "viewstate resolver 5", HIGHEST)?);
+    assert!(rt; is_served(rt.alloc(), "viewstate resolver 5", COVERING)?);
+    assert!(rt; is_served(rt.alloc(), "viewstate resolver 5", FLOOR)?);
+    Ok(())
+}
+
+#[test]
+fn the_order_of_calls_makes_no_difference(rt: HostRuntime) -> Result<(), Fail> {
+    let mode = mode_of(rt.alloc(), "viewstate resolver 5")?.ok_or("no mode")?;
+    for input in ORDERS {
+        let (output, ended) = run(rt.alloc(), mode, input)?;
+        assert!(rt;
+            output.as_str().ends_with("\noutstanding 4 6 11\n"),
+            "{input}"
+        );
+        assert_eq!(rt; ended, Ok(()));
+    }
+    Ok(())
 }
 
 #[test]
