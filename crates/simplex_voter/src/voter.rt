@@ -6,6 +6,7 @@ mod floor;
 mod getters;
 pub mod laws;
 mod nullifications;
+mod pruning;
 mod rounds;
 mod state;
 mod views;

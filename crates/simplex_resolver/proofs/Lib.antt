@@ -1,0 +1,12 @@
+pub mod Terms
+pub mod Anchors
+pub mod Views
+pub mod Maps
+pub mod Scan
+pub mod Changes
+pub mod Failures
+pub mod RepairLaw
+pub mod Kept
+pub mod Last
+pub mod AnswersLaw
+pub mod Again

@@ -1,0 +1,6 @@
+use Rattle.simplex_resolver.proofs.RepairLaw.{outstanding_is_wanted}
+use Rattle.simplex_resolver.proofs.Again.{recorded_again}
+use Rattle.simplex_resolver.proofs.resolver.laws.repair.Goals as goal
+
+pub returns : goal.returns
+returns c = record { wanted = outstanding_is_wanted; again = recorded_again }

@@ -1,0 +1,4 @@
+use Rattle.simplex_resolver.proofs.resolver.state.State.judge.Goals as goal
+
+pub returns-then-success-clause-after : goal.returns-then-success-clause-after
+returns-then-success-clause-after g c = rw c.if-success.true c.record_success.ensures.after

@@ -1,0 +1,94 @@
+-- What a resolver was told, without its order, and what follows from it.
+use Rattle.std.specs.Prelude.{◌≡◌, ℕ, ◌+◌, ◌<◌, ◌≤◌, ◌⊎◌, Bool, true, false, ◌&&◌, ◌||◌, not, ◌==◌, nat_lt, nat_le, if◌then◌else◌, List, [], ◌∷◌, map, filter, max, Option, None, Some}
+use Rattle.std.specs.List.{list_any}
+use Rattle.simplex_types.specs.Terms.{covers}
+use Rattle.simplex_types.specs.declared.reasons.Kind.{Kind}
+use Rattle.simplex_types.specs.declared.reasons.Kind.TheVariants.{Nullification as OfNullification, Notarization as OfNotarization}
+use Rattle.simplex_resolver.specs.Facts.{is_anchor}
+use Rattle.simplex_resolver.specs.Steps.{Call, Nullification, Notarization, Finalization, Verdict, Replayed}
+
+-- certificates and verdicts name a view of at least 1
+abbrev pub NamesAView : Call → Type 0
+NamesAView (Nullification v encoding) = 1 ≤ v
+NamesAView (Notarization v) = 1 ≤ v
+NamesAView (Finalization v encoding) = 1 ≤ v
+NamesAView (Verdict v encoding success) = 1 ≤ v
+NamesAView Replayed = Unit {0}
+
+-- the call is among those that were made
+abbrev pub WasMade : Call → List Call → Type 0
+WasMade call [] = ⊥
+WasMade call (made ∷ earlier) = (call ≡ made) ⊎ WasMade call earlier
+
+abbrev pub is_certificate : Call → Bool
+is_certificate (Nullification v encoding) = true
+is_certificate (Notarization v) = true
+is_certificate (Finalization v encoding) = true
+is_certificate call = false
+
+abbrev pub is_replayed : Call → Bool
+is_replayed Replayed = true
+is_replayed call = false
+
+-- ---- views
+
+abbrev pub greatest : List ℕ → ℕ
+greatest [] = 0
+greatest (v ∷ vs) = max v (greatest vs)
+
+abbrev pub finalized_view : Call → ℕ
+finalized_view (Finalization v encoding) = v
+finalized_view call = 0
+
+-- the view that a call puts under the floor
+abbrev pub floor_view : Call → ℕ
+floor_view (Finalization v encoding) = v
+floor_view (Verdict v encoding true) = v
+floor_view call = 0
+
+abbrev pub current_view : Call → ℕ
+current_view (Nullification v encoding) = v
+current_view (Notarization v) = v
+current_view (Finalization v encoding) = v
+current_view call = 0
+
+-- the last finalized view, the floor and the current view; 0 where there is none
+abbrev pub finalized_of : List Call → ℕ
+finalized_of calls = greatest (map finalized_view calls)
+
+abbrev pub floor_of : List Call → ℕ
+floor_of calls = greatest (map floor_view calls)
+
+abbrev pub current_of : List Call → ℕ
+current_of calls = greatest (map current_view calls)
+
+-- ---- what a call says of a view
+
+abbrev pub is_true_verdict : ℕ → Call → Bool
+is_true_verdict v (Verdict u encoding true) = v == u
+is_true_verdict v call = false
+
+abbrev pub is_false_verdict : ℕ → Call → Bool
+is_false_verdict v (Verdict u encoding false) = v == u
+is_false_verdict v call = false
+
+-- a notarization of v, or a verdict on it
+abbrev pub is_notarizing : ℕ → Call → Bool
+is_notarizing v (Notarization u) = v == u
+is_notarizing v (Verdict u encoding success) = v == u
+is_notarizing v call = false
+
+-- a nullification that covers v
+abbrev pub is_covering : ℕ → ℕ → Call → Bool
+is_covering t v (Nullification u encoding) = covers t u v
+is_covering t v call = false
+
+-- ---- what is to be fetched
+
+-- the uncovered views among each term's lowest above the floor, where it is below the current view,
+-- and those of false verdicts above the floor
+abbrev pub is_wanted : ℕ → List Call → ℕ → Bool
+is_wanted t calls v =
+    not (list_any (is_covering t v) calls)
+    && ((is_anchor t (floor_of calls) v && nat_lt v (current_of calls))
+    || (list_any (is_false_verdict v) calls && nat_lt (floor_of calls) v))

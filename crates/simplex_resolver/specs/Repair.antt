@@ -1,0 +1,67 @@
+-- Which fetches are open: the effects in order, against what was received.
+use Rattle.std.specs.Prelude.{◌≡◌, ℕ, ◌<◌, Bool, true, false, ◌&&◌, ◌||◌, not, ◌==◌, nat_le, List, [], ◌∷◌, ◌++◌}
+use Rattle.std.specs.List.{list_any, AllByRecursion}
+use Rattle.simplex_types.specs.declared.reasons.Kind.TheVariants.{Nullification as OfNullification, Notarization as OfNotarization}
+use Rattle.simplex_resolver.specs.declared.resolver.effect.Effect.{Effect}
+use Rattle.simplex_resolver.specs.declared.resolver.effect.Effect.TheVariants.{Fetch, Settled, Finalized, Raised}
+use Rattle.simplex_resolver.specs.Facts.{Facts, empty}
+use Rattle.simplex_resolver.specs.Steps.{Call, after, effects}
+use Rattle.simplex_resolver.specs.Received.{is_replayed, is_certificate, NamesAView, WasMade, is_wanted}
+
+-- ---- the effects
+
+abbrev pub fetches : ℕ → Effect → Bool
+fetches v (Fetch u cause reason) = v == u
+fetches v effect = false
+
+-- the effect ends the fetch of v
+abbrev pub settles : ℕ → Effect → Bool
+settles v (Settled OfNullification start end) = nat_le start v && nat_le v end
+settles v (Finalized u) = nat_le v u
+settles v (Raised u) = nat_le v u
+settles v effect = false
+
+-- some fetch of v has nothing behind it that settles v
+abbrev pub is_outstanding : List Effect → ℕ → Bool
+is_outstanding [] v = false
+is_outstanding (e ∷ es) v = (fetches v e && not (list_any (settles v) es)) || is_outstanding es v
+
+-- whether a view stands in a list
+abbrev pub has : List ℕ → ℕ → Bool
+has vs v = list_any (λ u. v == u) vs
+
+-- the effects, in order, lead from one set of views to another
+abbrev pub IsApplied : List ℕ → List Effect → List ℕ → Type 0
+IsApplied old es new = (v : ℕ) → has new v ≡ ((has old v && not (list_any (settles v) es)) || is_outstanding es v)
+
+-- the set holds the outstanding views of the effects
+abbrev pub IsOutstandingSet : List ℕ → List Effect → Type 0
+IsOutstandingSet vs es = (v : ℕ) → has vs v ≡ is_outstanding es v
+
+-- the set of what is outstanding after some effects becomes that of these followed by the new ones
+abbrev pub KeepsOutstanding : List ℕ → List Effect → List ℕ → Type 0
+KeepsOutstanding old es new = (earlier : List Effect) → IsOutstandingSet old earlier → IsOutstandingSet new (earlier ++ es)
+
+-- ---- runs, the last call first
+
+abbrev pub facts_of : ℕ → List Call → Facts
+facts_of t [] = empty t
+facts_of t (call ∷ earlier) = after (facts_of t earlier) call
+
+abbrev pub effects_of : ℕ → List Call → List Effect
+effects_of t [] = []
+effects_of t (call ∷ earlier) = effects_of t earlier ++ effects (facts_of t earlier) call
+
+-- once it was replayed, a resolver's outstanding fetches are exactly the wanted views
+abbrev pub OutstandingIsWanted : Type 0
+OutstandingIsWanted =
+    (t : ℕ) (calls : List Call) → 0 < t → AllByRecursion NamesAView calls
+    → list_any is_replayed calls ≡ true
+    → (v : ℕ) → is_outstanding (effects_of t calls) v ≡ is_wanted t calls v
+
+-- a certificate that was handed in before opens no fetch
+abbrev pub RecordedAgainFetchesNothing : Type 0
+RecordedAgainFetchesNothing =
+    (t : ℕ) (calls : List Call) (c : Call) → 0 < t → AllByRecursion NamesAView calls
+    → WasMade c calls → is_certificate c ≡ true
+    → (v : ℕ) → list_any (fetches v) (effects (facts_of t calls) c) ≡ false

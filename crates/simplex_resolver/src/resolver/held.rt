@@ -1,0 +1,99 @@
+//! What is kept at views: steps over plain maps.
+
+ghost use Rattle.std.specs.Prelude.{◌≡◌, ◌<◌, ◌^◌, ◌+◌, nat_lt, if◌then◌else◌, Some, OnOk, OnErr, is_some};
+ghost use Rattle.std.specs.Option.{option_copied, option_map_or};
+ghost use Rattle.std.specs.FinMap as map;
+ghost use Rattle.simplex_types.specs.Terms.{IsVotable};
+ghost use Rattle.simplex_types.specs.Certificates.{certificate_facts};
+ghost use Rattle.simplex_types.specs.Encoding.{encoding};
+ghost use Rattle.simplex_resolver.specs.Facts.{certified_encoding};
+ghost use Rattle.simplex_resolver.specs.Steps.{insert_new};
+
+use bytes::Bytes;
+use simplex_types::sorted::{ByTerm, Tracked};
+use simplex_types::types::{Certificate, CertificateScheme, Digest, Fault, View};
+use std::alloc::Global;
+
+/// Puts the value in, unless the view has one.
+pub fn insert_new<V: Drop>(tracked: &mut Tracked<V>, view: View, value: V) -> Result<(), Fault>
+    ensures { OnOk result (tracked.new ≡ insert_new tracked.old view value) }
+{
+    match tracked.insert(view, value) {
+        Ok(_) => Ok(()),
+        Err(_) => Err(Fault::OutOfMemory),
+    }
+}
+
+/// Puts the value in, in place of the one that the view has.
+pub fn put<V: Drop>(tracked: &mut Tracked<V>, view: View, value: V) -> Result<(), Fault>
+    ensures { OnOk result (tracked.new ≡ map.insert tracked.old view value) }
+{
+    if let Some(value) = tracked.insert(view, value)? {
+        if let Some(entry) = tracked.get_mut(view) {
+            *entry = value;
+        }
+    }
+    Ok(())
+}
+
+/// Whether the view stands there.
+pub fn contains<V>(tracked: &Tracked<V>, view: View) -> bool
+    ensures { result ≡ map.contains_key tracked.now view }
+{
+    tracked.get(view).is_some()
+}
+
+/// The encoding of the notarization at the view, where its last verdict was true.
+pub fn certified_at(notarizations: &Tracked<Option<Bytes>>, view: View) -> Option<&Bytes>
+    ensures { option_copied result ≡ certified_encoding notarizations.now view }
+{
+    match notarizations.get(view) {
+        Some(Some(encoding)) => Some(encoding),
+        _ => None,
+    }
+}
+
+/// Keeps the nullification's encoding, unless the view has one.
+pub fn keep_nullification<S: CertificateScheme, D: Digest>(
+    alloc: Global,
+    nullifications: &mut ByTerm<Bytes>,
+    view: View,
+    certificate: &Certificate<S, D>,
+) -> Result<(), Fault>
+    requires { IsVotable view }
+    ensures kept { OnOk result (nullifications.new ≡ record nullifications.old {
+      by_view = insert_new nullifications.old.by_view view (encoding D.bytes (certificate_facts S.certificate_bytes certificate.now));
+    }) }
+    ensures same_terms { nullifications.new.term_length ≡ nullifications.old.term_length }
+{
+    if nullifications.get(view).is_some() {
+        return Ok(());
+    }
+    let encoding = certificate.encode(alloc)?;
+    match nullifications.insert(view, encoding) {
+        Ok(_) => Ok(()),
+        Err(_) => Err(Fault::OutOfMemory),
+    }
+}
+
+/// Keeps the finalization of the higher view.
+pub fn keep_finalization<S: CertificateScheme, D: Digest>(
+    alloc: Global,
+    finalization: &mut Option<(View, Bytes)>,
+    view: View,
+    certificate: &Certificate<S, D>,
+) -> Result<(), Fault>
+    ensures kept { OnOk result (finalization.new ≡ (if nat_lt (option_map_or (λ f. f.0) finalization.old 0) view
+        then Some (view, encoding D.bytes (certificate_facts S.certificate_bytes certificate.now)) else finalization.old)) }
+    ensures refused { OnErr result (finalization.new ≡ finalization.old) }
+{
+    let last = match finalization {
+        Some((last, _)) => *last,
+        None => View::zero(),
+    };
+    if view > last {
+        let encoding = certificate.encode(alloc)?;
+        *finalization = Some((view, encoding));
+    }
+    Ok(())
+}

@@ -1,0 +1,17 @@
+//! What holds over all lists of calls.
+
+ghost use Rattle.simplex_resolver.specs.Answers.{AnswersAreOfTheReceived};
+ghost use Rattle.simplex_resolver.specs.Repair.{OutstandingIsWanted, RecordedAgainFetchesNothing};
+
+/// Whatever calls were made, in whatever order: once it was replayed, a resolver's outstanding fetches are
+/// exactly the wanted views, and a certificate that it was given before opens no fetch.
+pub fn repair()
+    ensures wanted { OutstandingIsWanted }
+    ensures again { RecordedAgainFetchesNothing }
+{}
+
+/// Whatever calls were made, in whatever order: what a resolver answers (`State::settled`,
+/// `State::uncertifiable`, `State::produce`) follows from the certificates and verdicts that it was given.
+pub fn answers()
+    ensures { AnswersAreOfTheReceived }
+{}

@@ -1,0 +1,65 @@
+//! The views whose fetch is open.
+
+ghost use Rattle.std.specs.Prelude.{◌≡◌, ℕ, ◌≤◌, ◌==◌, ◌&&◌, ◌||◌, not, nat_le, length, take, OnOk, OnErr, IsOkUnless};
+ghost use Rattle.simplex_resolver.specs.Repair.{has, fetches, settles, IsApplied, KeepsOutstanding};
+
+use crate::resolver::effect::Effect;
+use simplex_types::reasons::Kind;
+use simplex_types::types::{Fault, View};
+use std::alloc::AllocError;
+use std::collections::BTreeSet;
+
+/// Puts the view in.
+fn add_view(views: &mut BTreeSet<View>, view: View) -> Result<(), AllocError>
+    ensures after { OnOk result ((v : ℕ) → has views.new.keys v ≡ (v == view || has views.old.keys v)) }
+    ensures refused { OnErr result (views.new.keys ≡ views.old.keys) }
+{
+    views.insert(view)?;
+    Ok(())
+}
+
+/// Drops the views of the range.
+fn drop_range(views: &mut BTreeSet<View>, start: View, end: View)
+    ensures { (v : ℕ) → has views.new.keys v ≡ (not (nat_le start v && nat_le v end) && has views.old.keys v) }
+{
+    views.retain(|view| *view < start || *view > end);
+}
+
+fn apply_one(outstanding: &mut BTreeSet<View>, effect: &Effect) -> Result<(), AllocError>
+    ensures after { OnOk result ((v : ℕ) → has outstanding.new.keys v
+        ≡ (fetches v effect.now || (has outstanding.old.keys v && not (settles v effect.now)))) }
+    ensures refused { OnErr result (outstanding.new.keys ≡ outstanding.old.keys) }
+{
+    match *effect {
+        Effect::Fetch { view, .. } => add_view(outstanding, view)?,
+        Effect::Settled {
+            kind: Kind::Nullification,
+            start,
+            end,
+        } => drop_range(outstanding, start, end),
+        Effect::Settled { .. } => {}
+        Effect::Finalized(settled) | Effect::Raised(settled) => {
+            drop_range(outstanding, View::zero(), settled);
+        }
+    }
+    Ok(())
+}
+
+/// Applies the effects, in order, to the views whose fetch is open: a fetch puts its view in, what a
+/// nullification, a finalization or the floor settles goes out. A settled notarization changes nothing.
+///
+/// # Errors
+///
+/// `OutOfMemory` alone; then a beginning of the effects is applied.
+pub fn apply(outstanding: &mut BTreeSet<View>, effects: &[Effect]) -> Result<(), Fault>
+    ensures applied { OnOk result (IsApplied outstanding.old.keys effects.now outstanding.new.keys) }
+    ensures kept { OnOk result (KeepsOutstanding outstanding.old.keys effects.now outstanding.new.keys) }
+    ensures refused { IsOkUnless result Fault.OutOfMemory }
+    ensures a_beginning { OnErr result ((n : ℕ) × (n ≤ length effects.now)
+        × IsApplied outstanding.old.keys (take n effects.now) outstanding.new.keys) }
+{
+    for effect in effects {
+        apply_one(outstanding, effect)?;
+    }
+    Ok(())
+}

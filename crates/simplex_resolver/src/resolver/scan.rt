@@ -1,0 +1,87 @@
+//! Which views have to be fetched.
+
+ghost use Rattle.std.specs.Prelude.{◌≡◌, ◌<◌, ◌≤◌, ◌^◌, ◌++◌, filter, not, nat_lt, ◌&&◌, is_some, IfOk, OnOk};
+ghost use Rattle.std.specs.Option.{option_copied};
+ghost use Rattle.std.specs.FinMap as map;
+ghost use Rattle.simplex_types.specs.ByTerm.{is_covered};
+ghost use Rattle.simplex_resolver.specs.Facts.{covering_encoding, uncovered, end_of_scan};
+ghost use Rattle.simplex_resolver.specs.Steps.{missing_fetches, failure_fetches};
+
+use crate::resolver::effect::Effect;
+use bytes::Bytes;
+use simplex_types::reasons::FetchReason;
+use simplex_types::sorted::{ByTerm, Tracked};
+use simplex_types::types::{TermLength, View};
+use std::alloc::AllocError;
+
+/// The encoding of the nullification of the highest view that covers `view`.
+pub fn covering_nullification(nullifications: &ByTerm<Bytes>, view: View) -> Option<&Bytes>
+    ensures value { option_copied result ≡ covering_encoding nullifications.now view }
+    ensures found { is_some result ≡ is_covered nullifications.now view }
+{
+    match nullifications.covering(view) {
+        Some((_, encoding)) => Some(encoding),
+        None => None,
+    }
+}
+
+/// Whether the view is above the floor and no nullification covers it.
+pub fn needs_nullification(nullifications: &ByTerm<Bytes>, floor: View, view: View) -> bool
+    ensures { result ≡ (nat_lt floor view && not (is_covered nullifications.now view)) }
+{
+    view > floor && covering_nullification(nullifications, view).is_none()
+}
+
+/// Fetches the uncovered anchors from `first` on below `current`, and answers the first anchor that is not below it.
+pub fn scan(
+    nullifications: &ByTerm<Bytes>,
+    term_length: TermLength,
+    first: View,
+    current: View,
+    cause: View,
+    effects: &mut Vec<Effect>,
+) -> Result<View, AllocError>
+    requires same_terms { nullifications.now.term_length ≡ term_length }
+    requires long { 0 < term_length }
+    requires first { 1 ≤ first }
+    requires current { current < 2 ^ 63 }
+    ensures end { IfOk result (λ end. end ≡ end_of_scan term_length first current) }
+    ensures fetched { OnOk result (effects.new.items ≡ effects.old.items
+        ++ missing_fetches cause (uncovered nullifications.now first current)) }
+{
+    let mut anchor = first;
+    while anchor < current {
+        if covering_nullification(nullifications, anchor).is_none() {
+            effects.push(Effect::Fetch {
+                view: anchor,
+                cause,
+                reason: FetchReason::MissingNullification,
+            })?;
+        }
+        let next = anchor.next_term_start(term_length);
+        anchor = next;
+    }
+    Ok(anchor)
+}
+
+/// Fetches each of the views that is above the floor and uncovered.
+pub fn fetch_failures(
+    views: &Tracked<()>,
+    nullifications: &ByTerm<Bytes>,
+    floor: View,
+    effects: &mut Vec<Effect>,
+) -> Result<(), AllocError>
+    ensures { OnOk result (effects.new.items ≡ effects.old.items ++ failure_fetches
+        (filter (λ v. nat_lt floor v && not (is_covered nullifications.now v)) (map.keys views.now))) }
+{
+    for entry in views.at_or_above(View::zero()) {
+        if needs_nullification(nullifications, floor, entry.0) {
+            effects.push(Effect::Fetch {
+                view: entry.0,
+                cause: entry.0,
+                reason: FetchReason::CertificationFailed,
+            })?;
+        }
+    }
+    Ok(())
+}

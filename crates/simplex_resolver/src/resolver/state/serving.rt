@@ -1,0 +1,101 @@
+//! What a resolver answers from what it holds.
+
+ghost use Rattle.std.specs.Prelude.{◌≡◌, ◌&&◌, IfOk, IfErr, true, false};
+ghost use Rattle.std.specs.Option.{option_copied};
+ghost use Rattle.std.specs.FinMap as map;
+ghost use Rattle.simplex_types.specs.declared.types.fault.Fault.TheVariants.{OutOfMemory, Failed};
+ghost use Rattle.simplex_types.specs.declared.reasons.Kind.TheVariants.{Nullification as OfNullification, Notarization as OfNotarization};
+ghost use Rattle.simplex_resolver.specs.Held.{is_settled, served_encoding, finalized_for, floor_for};
+
+use crate::resolver::state::State;
+use crate::resolver::{held, scan};
+use bytes::Bytes;
+use simplex_types::reasons::Kind;
+use simplex_types::types::{Fault, View};
+
+impl State {
+    /// Whether nothing is left to ask for of the kind at the view: it is finalized, or the resolver holds
+    /// what was asked for, or a verdict has failed it.
+    pub fn settled(&self, view: View, kind: Kind) -> bool
+        ensures { result ≡ is_settled self.now view kind }
+    {
+        if view <= self.last_finalized() {
+            return true;
+        }
+        match kind {
+            Kind::Nullification => {
+                scan::covering_nullification(&self.nullifications, view).is_some()
+            }
+            Kind::Notarization => held::contains(&self.notarizations, view),
+        }
+    }
+
+    /// Whether nothing is left to ask for at the view, of either kind.
+    pub fn key_settled(&self, view: View) -> bool
+        ensures { result ≡ (is_settled self.now view OfNullification && is_settled self.now view OfNotarization) }
+    {
+        self.settled(view, Kind::Nullification) && self.settled(view, Kind::Notarization)
+    }
+
+    /// Whether a verdict has failed the notarization at the view, which isn't finalized.
+    pub fn uncertifiable(&self, view: View) -> bool
+        ensures { result ≡ map.contains_key self.now.uncertifiable view }
+    {
+        held::contains(&self.uncertifiable, view)
+    }
+
+    /// The encoding of the certificate to serve to a peer that asks for the view: the highest finalization
+    /// where it is at or above the view, else the certified notarization of the view, else the nullification
+    /// of the highest view that covers it, else the certified notarization at the floor where the view is
+    /// below it.
+    ///
+    /// # Errors
+    ///
+    /// `Failed` on a failed state, and `OutOfMemory`, which does not fail the state.
+    pub fn produce(&self, view: View) -> Result<Option<Bytes>, Fault>
+        ensures served { IfOk result (λ bytes. bytes ≡ served_encoding self.now view) }
+        ensures failed { self.now.is_failed ≡ true → result ≡ Err Failed }
+        ensures live { self.now.is_failed ≡ false → IfErr result (λ fault. fault ≡ OutOfMemory) }
+    {
+        if self.failed {
+            return Err(Fault::Failed);
+        }
+        match self.served(view) {
+            Some(encoding) => Ok(Some(encoding.clone()?)),
+            None => Ok(None),
+        }
+    }
+
+    fn finalized_for(&self, view: View) -> Option<&Bytes>
+        ensures { option_copied result ≡ finalized_for self.now view }
+    {
+        match &self.finalization {
+            Some((finalized, encoding)) if view <= *finalized => Some(encoding),
+            _ => None,
+        }
+    }
+
+    fn floor_for(&self, view: View) -> Option<&Bytes>
+        ensures { option_copied result ≡ floor_for self.now view }
+    {
+        if view > self.floor {
+            return None;
+        }
+        held::certified_at(&self.notarizations, self.floor)
+    }
+
+    fn served(&self, view: View) -> Option<&Bytes>
+        ensures { option_copied result ≡ served_encoding self.now view }
+    {
+        if let Some(encoding) = self.finalized_for(view) {
+            return Some(encoding);
+        }
+        if let Some(encoding) = held::certified_at(&self.notarizations, view) {
+            return Some(encoding);
+        }
+        if let Some(encoding) = scan::covering_nullification(&self.nullifications, view) {
+            return Some(encoding);
+        }
+        self.floor_for(view)
+    }
+}

@@ -1,0 +1,4 @@
+pub mod Decimal
+pub mod Words
+pub mod Mode
+pub mod ResolverLine

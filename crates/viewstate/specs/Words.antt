@@ -1,0 +1,24 @@
+-- The words of lines.
+use Rattle.std.specs.Prelude.{◌≡◌, ◌≢◌, Bool, true, false, List, ℕ, map, codes, Option, MatchOption}
+use Rattle.std.specs.Borrow.{Bor}
+use Rattle.simplex_types.specs.declared.reasons.Kind.{Kind}
+use Rattle.simplex_types.specs.Reasons.{kind_text}
+
+-- the bytes behind each `&str`
+abbrev pub texts_of : List (Bor (List ℕ)) → List (List ℕ)
+texts_of words = map (λ word. word.now) words
+
+-- a Boolean's word
+abbrev pub flag_word : Bool → List ℕ
+flag_word true = codes "true"
+flag_word false = codes "false"
+
+-- the value whose word this is, if there is one
+abbrev pub ReadsWord : {T : Type 0} → (T → List ℕ) → List ℕ → Option T → Type 0
+ReadsWord {T = T} spelled word r = MatchOption r ((x : T) → word ≢ spelled x) (λ x. word ≡ spelled x)
+
+abbrev pub ReadsFlag : List ℕ → Option Bool → Type 0
+ReadsFlag = ReadsWord flag_word
+
+abbrev pub ReadsKind : List ℕ → Option Kind → Type 0
+ReadsKind = ReadsWord kind_text

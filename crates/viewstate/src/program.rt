@@ -1,0 +1,106 @@
+//! Serves lines of calls.
+
+use crate::line_reader::{LineReader, line_text};
+use crate::mode::Mode;
+use crate::resolver::Resolver;
+use crate::resolver_line::ResolverLine;
+use std::alloc::{AllocError, Global};
+use std::fmt::{Display, Write as _};
+use std::io::{Read, Write};
+use thiserror::Error;
+
+/// Why serving ended before the end of the input.
+#[derive(Debug, Drop, PartialEq, Eq, Error)]
+pub enum ServeError {
+    #[error("line {0}: not a call")]
+    NotACall(u64),
+    #[error("out of memory")]
+    OutOfMemory,
+    #[error("read failed")]
+    Read,
+    #[error("write failed")]
+    Write,
+}
+
+impl ServeError {
+    /// The program's exit status.
+    pub fn status(&self) -> u8 {
+        match self {
+            ServeError::NotACall(_) => 3,
+            ServeError::OutOfMemory => 4,
+            ServeError::Read | ServeError::Write => 5,
+        }
+    }
+}
+
+/// Answers each line of the reader by a line of the writer, before it reads the next.
+pub fn serve<R: Read + Drop, W: Write + Drop>(
+    alloc: Global,
+    mode: Mode,
+    reader: R,
+    mut writer: W,
+) -> Result<(), ServeError> {
+    let mut session = Session::start(alloc, mode);
+    let Ok(mut lines) = LineReader::new(alloc, reader) else {
+        return Err(ServeError::OutOfMemory);
+    };
+    let mut reply = String::new(alloc);
+    for number in 1..u64::MAX {
+        let Ok(line) = lines.next_line() else {
+            return Err(ServeError::Read);
+        };
+        let Some(line) = line else {
+            break;
+        };
+        let text = line_text(line).ok_or(ServeError::NotACall(number))?;
+        reply.clear();
+        session.answer(alloc, number, text, &mut reply)?;
+        if writer.write_all(reply.as_bytes()).is_err() || writer.flush().is_err() {
+            return Err(ServeError::Write);
+        }
+    }
+    Ok(())
+}
+
+/// What the lines are asked of.
+#[derive(Drop)]
+enum Session {
+    Resolver(Resolver),
+}
+
+impl Session {
+    fn start(alloc: Global, mode: Mode) -> Session {
+        match mode {
+            Mode::Resolver(term_length) => Session::Resolver(Resolver::new(alloc, term_length)),
+        }
+    }
+
+    /// Writes the reply to a line, and its line feed.
+    fn answer(
+        &mut self,
+        alloc: Global,
+        number: u64,
+        text: &str,
+        reply: &mut String,
+    ) -> Result<(), ServeError> {
+        match self {
+            Session::Resolver(resolver) => {
+                let Ok(line) = ResolverLine::parse(alloc, text) else {
+                    return Err(ServeError::OutOfMemory);
+                };
+                let line = line.ok_or(ServeError::NotACall(number))?;
+                match resolver.answer(line) {
+                    Ok(answer) => write_line(reply, answer),
+                    Err(AllocError) => Err(ServeError::OutOfMemory),
+                }
+            }
+        }
+    }
+}
+
+fn write_line<D: Display + Drop>(reply: &mut String, answer: D) -> Result<(), ServeError> {
+    match writeln!(reply, "{answer}") {
+        Ok(()) => Ok(()),
+        Err(_) => Err(ServeError::OutOfMemory),
+    }
+}
