@@ -1,5 +1,5 @@
 -- A map of rounds and the list of its entries, which the facts of a state hold.
-use Rattle.std.proofs.Common.{◌≡◌, ℕ, Bool, true, false, cond, eqb, List, [], ◌∷◌, Option, Some, None, Result, Ok, Err, is_some, OnOk, OnErr, Bor, refl, ap, sym, ◌∙◌, inl, inr, unwrap_or}
+use Rattle.std.proofs.Common.{◌≡◌, ℕ, Bool, true, false, cond, eqb, leb, ltb, filter, List, [], ◌∷◌, Option, Some, None, Result, Ok, Err, is_some, OnOk, OnErr, Bor, refl, ap, sym, ◌∙◌, inl, inr, unwrap_or}
 use Rattle.std.specs.Option.{option_copied}
 use Rattle.std.specs.Ordering.{nat_cmp, match_ordering}
 use Rattle.std.specs.Cmp.{nat_cmp_total}
@@ -8,10 +8,10 @@ use Rattle.std.specs.FinMap.Entries.{find, put, by_order}
 use Rattle.std.specs.BTreeSet.{insert_key}
 use Rattle.std.specs.declared.cmp.Ordering.TheVariants.{Less, Equal, Greater}
 use Rattle.std.proofs.lemmas.Bool.{cases_eq, eq-eqb, ne_eqb, false≢true}
-use Rattle.simplex_types.specs.Tracked.{after_insert}
+use Rattle.simplex_types.specs.Tracked.{after_insert, at_or_above, below}
 use Rattle.simplex_types.specs.declared.types.fault.AllocFailed.{AllocFailed}
 use Rattle.std.specs.Prelude.{map as map_list}
-use Rattle.simplex_types.proofs.Maps.{get-insert, same_maps, made_empty}
+use Rattle.simplex_types.proofs.Maps.{get-insert, get-kept, same_maps, made_empty, entries-retain_keys}
 use Rattle.std.specs.Option.{option_map_or}
 use Rattle.simplex_round.specs.Round.{RoundFacts, leader_at, with_nullification, after_nullify, is_finalize}
 use Rattle.simplex_round.specs.declared.round.Decision.TheVariants.{Nullify}
@@ -75,6 +75,20 @@ keys-put k v (e ∷ es) = elim (nat_cmp k e.0) as (λ o. map_list (λ f. f.0) (b
 
 pub keys-insert : {V : Type 0} (m : map.FinMap nat_cmp V) (v : ℕ) (x : V) → map.keys (map.insert m v x) ≡ insert_key nat_cmp (map.keys m) v
 keys-insert m v x = ap (map_list (λ e. e.0)) (put_entries m v x) ∙ keys-put v x (map.entries m)
+
+filter-keys : {V : Type 0} (p : ℕ → Bool) (es : List (ℕ × V)) → map_list (λ e. e.0) (filter (λ e. p e.0) es) ≡ filter p (map_list (λ e. e.0) es)
+filter-keys p [] = refl
+filter-keys p (e ∷ es) = elim (p e.0) as (λ b. map_list (λ f. f.0) (cond b (e ∷ filter (λ f. p f.0) es) (filter (λ f. p f.0) es)) ≡ cond b (e.0 ∷ filter p (map_list (λ f. f.0) es)) (filter p (map_list (λ f. f.0) es))) [
+  | true ↦ ap (λ ks. e.0 ∷ ks) (filter-keys p es)
+  | false ↦ filter-keys p es
+]
+
+-- the keys at or above a view, and the views below one
+pub keys-kept : {V : Type 0} (m : map.FinMap nat_cmp V) (v : ℕ) → map.keys (at_or_above m v) ≡ filter (λ u. leb v u) (map.keys m)
+keys-kept m v = ap (map_list (λ e. e.0)) (entries-retain_keys m (λ u. leb v u)) ∙ filter-keys (λ u. leb v u) (map.entries m)
+
+pub keys-below : {V : Type 0} (m : map.FinMap nat_cmp V) (v : ℕ) → map.keys (below m v) ≡ map_list (λ e. e.0) (filter (λ e. ltb e.0 v) (map.entries m))
+keys-below m v = ap (map_list (λ e. e.0)) (entries-retain_keys m (λ u. ltb u v))
 
 -- what a set of views holds once a view is noted, whether it was before or not
 pub noted : (m : map.FinMap nat_cmp (Unit {0})) (v : ℕ) (r : Option (Unit {0})) → r ≡ cond (map.contains_key m v) (Some tt) None → after_insert m v tt (Ok r) ≡ map.insert m v tt
@@ -192,3 +206,11 @@ module _ {K D : Type 0} where
   pub finalization_handed_out_alike : {A E : Type 0} (result : Result A E) (r s : RoundFacts K D) (b : Bool) → OnErr result (s ≡ r) → OnOk result (s ≡ record r { finalization_broadcast = b }) → IsAlike r s
   finalization_handed_out_alike (Ok a) r s b err ok = (ap (λ t. t.me) ok, ap (λ t. t.members) ok, ap (λ t. t.round) ok)
   finalization_handed_out_alike (Err e) r s b err ok = alike_same r s err
+
+  -- the rounds that are left were made so
+  pub made_kept : (o : Origin K) (m : map.FinMap nat_cmp (RoundFacts K D)) (v : ℕ) → AreMadeBy o m → AreMadeBy o (at_or_above m v)
+  made_kept o m v made q r found = by_test (leb v q) (sym (get-kept m (λ u. leb v u) q) ∙ found)
+    where
+      by_test : (b : Bool) → cond b (map.get m q) None ≡ Some r → IsMadeBy o q r
+      by_test true here = made q r here
+      by_test false here = cc

@@ -1,5 +1,5 @@
 -- Changes of the rounds, as changes of a state's facts.
-use Rattle.std.proofs.Common.{◌≡◌, ℕ, Bool, true, false, cond, ◌||◌, ltb, leb, Option, Some, None, Result, Ok, Err, OnOk, is_some, unwrap_or, inl, inr, arith, refl, ap, sym, ◌∙◌}
+use Rattle.std.proofs.Common.{◌≡◌, ℕ, Bool, true, false, cond, ◌||◌, ltb, leb, filter, Option, Some, None, Result, Ok, Err, OnOk, is_some, unwrap_or, inl, inr, arith, refl, ap, sym, ◌∙◌}
 use Rattle.std.specs.Ordering.{nat_cmp, is_le}
 use Rattle.std.proofs.lemmas.Bool.{cases_lt, lt-ltb}
 use Rattle.std.proofs.lemmas.Bool.Decides.{nat_tests}
@@ -8,7 +8,7 @@ use Rattle.std.specs.FinMap.Entries.{find, put}
 use Rattle.simplex_round.specs.Round.{RoundFacts, leader_at, with_nullification, after_nullify}
 use Rattle.std.specs.Option.{option_map_or}
 use Rattle.simplex_voter.specs.Facts.{Facts, round_of, with_round, with_tracked}
-use Rattle.simplex_voter.specs.Serving.{after_broadcast_notarization, after_broadcast_nullification, after_broadcast_finalization}
+use Rattle.simplex_voter.specs.Serving.{prune_answer, after_prune, after_broadcast_notarization, after_broadcast_nullification, after_broadcast_finalization}
 use Rattle.simplex_voter.specs.Leaders.{led}
 use Rattle.simplex_voter.specs.Entering.{entered, entered_round}
 use Rattle.simplex_voter.specs.Setup.{deadlines_at}
@@ -18,7 +18,11 @@ use Rattle.std.specs.BTreeSet.{insert_key}
 use Rattle.simplex_types.specs.Certificates.{NullificationFacts}
 use Rattle.simplex_voter.specs.declared.voter.rounds.Deadlines.{Deadlines}
 use Rattle.simplex_voter.specs.Rounds.{Origin, origin_of, fresh_round, round_in, led_rounds, entered_rounds, nullified_rounds, decided_rounds, with_notarization_handed_out, with_nullification_handed_out, with_finalization_handed_out}
-use Rattle.simplex_voter.proofs.RoundsKept.{find_entries, put_entries, keys-insert}
+use Rattle.simplex_voter.proofs.RoundsKept.{find_entries, put_entries, keys-insert, keys-kept, keys-below}
+use Rattle.simplex_types.proofs.Maps.{entries-retain_keys}
+use Rattle.simplex_types.specs.Tracked.{at_or_above, below}
+use Rattle.std.specs.Prelude.{map as map_list}
+use Rattle.simplex_voter.specs.Windows.{min_active}
 
 -- a view that is not at or below another is above it
 pub not_le : (v w : ℕ) → false ≡ is_le (nat_cmp v w) → ltb w v ≡ true
@@ -97,3 +101,17 @@ module _ {K L D : Type 0} where
   pub nullify_vote_shown : (x : Facts K L D) (m new : TermMap (Unit {0})) (v : ℕ) → x.nullify_votes ≡ map.keys m.by_view → new ≡ record m { by_view = map.insert m.by_view v tt } → record x { nullify_votes = map.keys new.by_view } ≡ record x { nullify_votes = insert_key nat_cmp x.nullify_votes v }
   nullify_vote_shown x m new v shown is =
       ap (λ ks. record x { nullify_votes = ks }) (ap (λ (n : TermMap (Unit {0})). map.keys n.by_view) is ∙ keys-insert m.by_view v tt ∙ ap (λ ks. insert_key nat_cmp ks v) (sym shown))
+
+  -- what is left after pruning
+  pub pruned_shown : (x : Facts K L D) (m : map.FinMap nat_cmp (RoundFacts K D)) (n k : map.FinMap nat_cmp (Unit {0})) (v : ℕ) → x.rounds ≡ map.entries m → x.nullified ≡ map.keys n → x.nullify_votes ≡ map.keys k → v ≡ min_active x → record x { rounds = map.entries (at_or_above m v); nullified = map.keys (at_or_above n v); nullify_votes = map.keys (at_or_above k v) } ≡ after_prune x
+  pruned_shown x m n k v rounds nullified votes floor =
+      let a = entries-retain_keys m (λ u. leb v u) ∙ ap (filter (λ (e : ℕ × RoundFacts K D). leb v e.0)) (sym rounds) in
+      let b = keys-kept n v ∙ ap (filter (λ u. leb v u)) (sym nullified) in
+      let c = keys-kept k v ∙ ap (filter (λ u. leb v u)) (sym votes) in
+      (λ i. record x { rounds = a i; nullified = b i; nullify_votes = c i })
+      ∙ ap (λ w. record x { rounds = filter (λ (e : ℕ × RoundFacts K D). leb w e.0) x.rounds; nullified = filter (λ u. leb w u) x.nullified; nullify_votes = filter (λ u. leb w u) x.nullify_votes }) floor
+
+  pub dropped_shown : (x : Facts K L D) (m : map.FinMap nat_cmp (RoundFacts K D)) (v : ℕ) → x.rounds ≡ map.entries m → v ≡ min_active x → map.keys (below m v) ≡ prune_answer x
+  dropped_shown x m v rounds floor =
+      keys-below m v ∙ ap (λ es. map_list (λ (e : ℕ × RoundFacts K D). e.0) (filter (λ e. ltb e.0 v) es)) (sym rounds)
+      ∙ ap (λ w. map_list (λ (e : ℕ × RoundFacts K D). e.0) (filter (λ e. ltb e.0 w) x.rounds)) floor
