@@ -9,6 +9,8 @@ mod nullifications;
 mod pruning;
 mod rounds;
 mod state;
+#[cfg(test)]
+mod tests;
 mod views;
 mod votes;
 
