@@ -11,10 +11,12 @@ use Rattle.simplex_round.specs.Round.{leader_at}
 use Rattle.simplex_voter.specs.Parents.{binding_matches}
 use Rattle.simplex_voter.specs.Facts.{Elect, round_of, with_round}
 use Rattle.simplex_voter.specs.Payloads.{optimistic_payload}
+use Rattle.simplex_types.specs.declared.reasons.TimeoutReason.TheVariants.{MissingProposal}
+use Rattle.simplex_voter.specs.Entering.{entered}
 use Rattle.simplex_voter.specs.Leaders.{elected, opened_views}
 use Rattle.simplex_voter.specs.Serving.{leader_of}
 use Rattle.simplex_voter.proofs.Examples.Scripts.{State, context, same, fresh, proposal, certificate, in_turn, voter, recovered, replies_of, after_call, voted_notarize}
-use Rattle.simplex_voter.proofs.Examples.Scripts.Call.{AddNotarization, AddFinalization, SetProposal, TryPropose, Proposed, TryVerify, Verified, SetCertifyHandle, Notarize}
+use Rattle.simplex_voter.proofs.Examples.Scripts.Call.{Candidates, Certified, AddNotarization, AddNullification, Trigger, AddFinalization, SetProposal, TryPropose, Proposed, TryVerify, Verified, SetCertifyHandle, Notarize}
 
 -- without a window two replayed votes are no chain, though the second ends a term that this member takes over
 no_chain_without_window : optimistic_payload same in_turn (recovered (voter 1 2 0) 0 (voted_notarize 1 1 0 7 ∷ voted_notarize 1 2 1 9 ∷ [])) 2 ≡ None
@@ -75,6 +77,20 @@ leaders_binding = refl
 others_binding : binding_matches same in_turn (with_round handed_off 2 (record (round_of handed_off 2) { leader = leader_at handed_off.members 3 })) 2 ≡ false
 unfolding replies_of
 others_binding = refl
+
+-- a view's first entry is kept
+first_entry : (round_of (entered (with_round (voter 0 1 0) 2 (record (round_of (voter 0 1 0) 2) { entered_at = Some 3 })) 2 9) 2).entered_at ≡ Some 3
+first_entry = refl
+
+-- a view that is passed times out no more
+passed_view : (round_of (after_call (after_call (voter 0 1 0) (AddNullification 1 5)) (Trigger 1 MissingProposal 6)) 1).decision ≡ (round_of (voter 0 1 0) 1).decision
+unfolding replies_of
+passed_view = refl
+
+-- a proposal that isn't notarized waits for no certification
+not_named : (fold after_call (voter 0 5 0) (AddNotarization 1 0 7 ∷ Candidates ∷ SetProposal 2 1 9 ∷ Certified 1 true 5 ∷ [])).named ≡ []
+unfolding replies_of
+not_named = refl
 
 -- a finalization ends the certification that is under way, and leaves one above it alone
 aborted : map (λ v. (round_of (after_call (after_call (after_call (after_call (after_call (voter 0 1 0) (AddNotarization 1 0 7)) (AddNotarization 3 2 4)) (SetCertifyHandle 1 5)) (SetCertifyHandle 3 6)) (AddFinalization 2 1 9 7)) v).certification) (1 ∷ 3 ∷ []) ≡ Aborted ∷ Outstanding 6 ∷ []
