@@ -1,15 +1,11 @@
 -- A map of rounds and the list of its entries, which the facts of a state hold.
-use Rattle.std.proofs.Common.{◌≡◌, ℕ, Bool, true, false, cond, eqb, leb, ltb, filter, List, [], ◌∷◌, Option, Some, None, Result, Ok, Err, is_some, OnOk, OnErr, Bor, refl, ap, sym, ◌∙◌, inl, inr, unwrap_or}
+use Rattle.std.proofs.Common.{◌≡◌, ℕ, Bool, true, false, cond, leb, ltb, filter, List, [], ◌∷◌, Option, Some, None, Result, Ok, Err, is_some, OnOk, OnErr, Bor, refl, ap, sym, ◌∙◌, inl, inr, unwrap_or}
 use Rattle.std.specs.Option.{option_copied}
-use Rattle.std.specs.Ordering.{nat_cmp, match_ordering}
-use Rattle.std.specs.Cmp.{nat_cmp_total}
+use Rattle.std.specs.Ordering.{nat_cmp}
 use Rattle.std.specs.FinMap as map
-use Rattle.std.specs.FinMap.Entries.{find, put, by_order}
-use Rattle.std.specs.BTreeSet.{insert_key}
-use Rattle.std.specs.declared.cmp.Ordering.TheVariants.{Less, Equal, Greater}
+use Rattle.std.specs.FinMap.Entries.{find}
 use Rattle.std.proofs.lemmas.Bool.{cases_eq, eq-eqb, ne_eqb, false≢true}
 use Rattle.simplex_types.specs.Tracked.{after_insert, at_or_above, below}
-use Rattle.simplex_types.specs.declared.types.fault.AllocFailed.{AllocFailed}
 use Rattle.std.specs.Prelude.{map as map_list}
 use Rattle.simplex_types.proofs.Maps.{get-insert, get-kept, same_maps, made_empty, entries-retain_keys}
 use Rattle.std.specs.Option.{option_map_or}
@@ -21,9 +17,6 @@ use Rattle.simplex_voter.specs.Rounds.{Origin, IsMadeBy, AreMadeBy, fresh_round,
 module _ {V : Type 0} where
   pub find_entries : (m : map.FinMap nat_cmp V) (v : ℕ) → find nat_cmp v (map.entries m) ≡ map.get m v
   find_entries m v = sym (map.get-entries m v)
-
-  pub put_entries : (m : map.FinMap nat_cmp V) (v : ℕ) (x : V) → map.entries (map.insert m v x) ≡ put nat_cmp v x (map.entries m)
-  put_entries m v x = map.entries-insert nat_cmp_total m v x
 
   pub get-inserted : (m : map.FinMap nat_cmp V) (v : ℕ) (x : V) → map.get (map.insert m v x) v ≡ Some x
   get-inserted m v x = get-insert m v x v ∙ rw (eq-eqb v v refl) refl
@@ -63,18 +56,6 @@ entries_empty {V} m is = ap map.entries (is ∙ sym (made_empty {V = V} [] refl)
 
 pub keys_empty : {V : Type 0} (m : map.FinMap nat_cmp V) → m ≡ map.empty → map.keys m ≡ []
 keys_empty m is = ap (map_list (λ e. e.0)) (entries_empty m is)
-
--- the keys of a map with one more entry
-keys-put : {V : Type 0} (k : ℕ) (v : V) (es : List (ℕ × V)) → map_list (λ e. e.0) (put nat_cmp k v es) ≡ insert_key nat_cmp (map_list (λ e. e.0) es) k
-keys-put k v [] = refl
-keys-put k v (e ∷ es) = elim (nat_cmp k e.0) as (λ o. map_list (λ f. f.0) (by_order o ((k, v) ∷ e ∷ es) ((e.0, v) ∷ es) (e ∷ put nat_cmp k v es)) ≡ match_ordering o (k ∷ e.0 ∷ map_list (λ f. f.0) es) (e.0 ∷ map_list (λ f. f.0) es) (e.0 ∷ insert_key nat_cmp (map_list (λ f. f.0) es) k)) [
-  | Less ↦ refl
-  | Equal ↦ refl
-  | Greater ↦ ap (λ ks. e.0 ∷ ks) (keys-put k v es)
-]
-
-pub keys-insert : {V : Type 0} (m : map.FinMap nat_cmp V) (v : ℕ) (x : V) → map.keys (map.insert m v x) ≡ insert_key nat_cmp (map.keys m) v
-keys-insert m v x = ap (map_list (λ e. e.0)) (put_entries m v x) ∙ keys-put v x (map.entries m)
 
 filter-keys : {V : Type 0} (p : ℕ → Bool) (es : List (ℕ × V)) → map_list (λ e. e.0) (filter (λ e. p e.0) es) ≡ filter p (map_list (λ e. e.0) es)
 filter-keys p [] = refl

@@ -1,5 +1,5 @@
 -- Changes of the rounds, as changes of a state's facts.
-use Rattle.std.proofs.Common.{◌≡◌, ℕ, Bool, true, false, cond, ◌||◌, ltb, leb, filter, Option, Some, None, Result, Ok, Err, OnOk, is_some, unwrap_or, inl, inr, arith, refl, ap, sym, ◌∙◌}
+use Rattle.std.proofs.Common.{◌≡◌, ℕ, Bool, true, false, cond, ◌||◌, ltb, leb, filter, Some, None, Result, Ok, Err, OnOk, is_some, unwrap_or, inl, inr, arith, refl, ap, sym, ◌∙◌}
 use Rattle.std.specs.Ordering.{nat_cmp, is_le}
 use Rattle.std.proofs.lemmas.Bool.{cases_lt, lt-ltb}
 use Rattle.std.proofs.lemmas.Bool.Decides.{nat_tests}
@@ -18,7 +18,8 @@ use Rattle.std.specs.BTreeSet.{insert_key}
 use Rattle.simplex_types.specs.Certificates.{NullificationFacts}
 use Rattle.simplex_voter.specs.declared.voter.rounds.Deadlines.{Deadlines}
 use Rattle.simplex_voter.specs.Rounds.{Origin, origin_of, fresh_round, round_in, led_rounds, entered_rounds, nullified_rounds, decided_rounds, with_notarization_handed_out, with_nullification_handed_out, with_finalization_handed_out}
-use Rattle.simplex_voter.proofs.RoundsKept.{find_entries, put_entries, keys-insert, keys-kept, keys-below}
+use Rattle.simplex_voter.proofs.RoundsKept.{find_entries, keys-kept, keys-below}
+use Rattle.simplex_voter.proofs.Containers.{entries-insert, keys-insert}
 use Rattle.simplex_types.proofs.Maps.{entries-retain_keys}
 use Rattle.simplex_types.specs.Tracked.{at_or_above, below}
 use Rattle.std.specs.Prelude.{map as map_list}
@@ -45,7 +46,7 @@ module _ {K L D : Type 0} where
     round_shown v = ap (λ found. unwrap_or found (fresh_round (origin x) v)) (ap (find nat_cmp v) shown ∙ find_entries m v)
 
     pub put_shown : (v : ℕ) (r : RoundFacts K D) → record x { rounds = map.entries (map.insert m v r) } ≡ with_round x v r
-    put_shown v r = ap (λ es. record x { rounds = es }) (put_entries m v r ∙ ap (put nat_cmp v r) (sym shown))
+    put_shown v r = ap (λ es. record x { rounds = es }) (entries-insert m v r ∙ ap (put nat_cmp v r) (sym shown))
 
     -- a change of a view that is tracked, and none of another
     pub in_place : (v : ℕ) (f : RoundFacts K D → RoundFacts K D) → record x { rounds = map.entries (option_map_or (λ r. map.insert m v (f r)) (map.get m v) m) } ≡ with_tracked x v (f (round_of x v))

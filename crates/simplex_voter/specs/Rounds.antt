@@ -1,9 +1,8 @@
 -- The tracked views as the state keeps them: each round is of this member, these members and this epoch.
-use Rattle.std.specs.Prelude.{◌≡◌, ℕ, Bool, List, Option, Some, is_some, unwrap_or, ◌||◌, if◌then◌else◌}
+use Rattle.std.specs.Prelude.{◌≡◌, ℕ, List, Option, Some, is_some, unwrap_or, ◌||◌, if◌then◌else◌}
 use Rattle.std.specs.Option.{option_map_or}
 use Rattle.std.specs.Ordering.{nat_cmp}
 use Rattle.std.specs.FinMap.{FinMap, get, insert}
-use Rattle.simplex_types.specs.declared.types.numbers.Round.{Round}
 use Rattle.simplex_round.specs.Round.{RoundFacts, new_round, leader_at, with_deadlines, with_nullification, after_nullify}
 use Rattle.simplex_types.specs.Certificates.{NullificationFacts}
 use Rattle.simplex_voter.specs.declared.voter.rounds.Deadlines.{Deadlines}

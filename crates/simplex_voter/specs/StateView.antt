@@ -1,10 +1,10 @@
 -- How a state's fields show its facts, and what it keeps of them.
-use Rattle.std.specs.Prelude.{◌≡◌, ℕ, Bool, false, List, [], Option, None, length}
+use Rattle.std.specs.Prelude.{◌≡◌, ℕ, Bool, List, Option, length}
 use Rattle.std.specs.FinMap.{entries, keys}
 use Rattle.simplex_types.specs.declared.types.window.Terms.{Terms}
 use Rattle.simplex_voter.specs.declared.voter.state.Config.{Config}
 use Rattle.simplex_voter.specs.declared.voter.state.State.TheInside.{Inside}
-use Rattle.simplex_voter.specs.Facts.{Facts}
+use Rattle.simplex_voter.specs.Facts.{Settings, Facts}
 use Rattle.simplex_voter.specs.Rounds.{origin_of, AreMadeBy}
 
 abbrev pub state_view : {S L D K G C : Type 0} → (S → Option ℕ) → (S → List K) → (L → Terms) → (L → Bool) → Inside S L D K G C → Facts K L D
@@ -41,30 +41,14 @@ pub record IsKept {S L D K G C : Type 0} (me : S → Option ℕ) (members : S �
   pub nullify_votes : s.nullify_votes.term_length ≡ (terms s.elector).term_length
   pub elector : count s.elector ≡ length (members s.scheme)
 
--- a state without a floor
-abbrev pub new_facts : {S L K D G C : Type 0} → (S → Option ℕ) → (S → List K) → (L → Terms) → (L → Bool) → Config S L K G C → Facts K L D
-new_facts me members terms elects_early c =
+-- how a configuration sets a state up
+abbrev pub settings_of : {S L K G C : Type 0} → Config S L K G C → Settings
+settings_of c =
     record {
-      settings = record {
-        epoch = c.epoch;
-        view_retention = c.view_retention;
-        leader_timeout = c.leader_timeout;
-        certification_timeout = c.certification_timeout;
-        timeout_retry = c.timeout_retry;
-        skip_budget = c.skip_budget;
-      };
-      me = me c.scheme;
-      members = members c.scheme;
-      elector = c.elector;
-      terms = terms c.elector;
-      elects_early = elects_early c.elector;
-      genesis = None;
-      current = 0;
-      finalized = 0;
-      moment = 0;
-      named = [];
-      nullified = [];
-      nullify_votes = [];
-      rounds = [];
-      failed = false;
+      epoch = c.epoch;
+      view_retention = c.view_retention;
+      leader_timeout = c.leader_timeout;
+      certification_timeout = c.certification_timeout;
+      timeout_retry = c.timeout_retry;
+      skip_budget = c.skip_budget;
     }

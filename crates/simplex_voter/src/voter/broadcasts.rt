@@ -18,7 +18,10 @@ impl<S: CertificateScheme, L: Elector<S>, D: Digest> State<S, L, D> {
     /// Hands out the notarization of a tracked view, if it is there and was not handed out or replayed before.
     ///
     /// The state has a floor.
-    pub fn broadcast_notarization(&mut self, view: View) -> Result<Option<Notarization<S, D>>, Fault>
+    pub fn broadcast_notarization(
+        &mut self,
+        view: View,
+    ) -> Result<Option<Notarization<S, D>>, Fault>
         requires { is_started self.old ≡ true }
         ensures refused { IfSome (plain_refusal self.old) (λ fault. (result ≡ Err fault) × (self.new ≡ self.old)) }
         ensures answer { IfOk result (λ c. option_map (notarization_facts S.certificate_bytes) c ≡ broadcast_notarization_answer self.old view) }
@@ -80,7 +83,10 @@ impl<S: CertificateScheme, L: Elector<S>, D: Digest> State<S, L, D> {
     /// Hands out the finalization of a tracked view, if it is there and was not handed out or replayed before.
     ///
     /// The state has a floor.
-    pub fn broadcast_finalization(&mut self, view: View) -> Result<Option<Finalization<S, D>>, Fault>
+    pub fn broadcast_finalization(
+        &mut self,
+        view: View,
+    ) -> Result<Option<Finalization<S, D>>, Fault>
         requires { is_started self.old ≡ true }
         ensures refused { IfSome (plain_refusal self.old) (λ fault. (result ≡ Err fault) × (self.new ≡ self.old)) }
         ensures answer { IfOk result (λ c. option_map (finalization_facts S.certificate_bytes) c ≡ broadcast_finalization_answer self.old view) }

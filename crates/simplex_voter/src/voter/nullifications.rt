@@ -8,7 +8,9 @@ ghost use Rattle.simplex_types.specs.declared.types.fault.Fault.TheVariants.{Out
 use super::rounds::{Deadlines, keep_nullification};
 use super::state::{LARGEST_VIEW, State};
 use super::views::note_view;
-use simplex_types::types::{CertificateScheme, Digest, Elector, Fault, Nullification, View, Viewable};
+use simplex_types::types::{
+    CertificateScheme, Digest, Elector, Fault, Nullification, View, Viewable,
+};
 
 impl<S: CertificateScheme, L: Elector<S>, D: Digest> State<S, L, D> {
     ghost use Rattle.simplex_voter.specs.Setup.{HasSameSetup, deadlines_at};
@@ -20,7 +22,11 @@ impl<S: CertificateScheme, L: Elector<S>, D: Digest> State<S, L, D> {
     ///
     /// It is of this epoch, and of a view that is kept. `ViewTooLarge` where its view is above 2^63 - 1, `TimeOverflow`
     /// where a deadline of the view that would be entered passes 2^64 - 1 milliseconds.
-    pub fn add_nullification(&mut self, nullification: Nullification<S>, now: u64) -> Result<bool, Fault>
+    pub fn add_nullification(
+        &mut self,
+        nullification: Nullification<S>,
+        now: u64,
+    ) -> Result<bool, Fault>
         requires { takes_nullification self.old (nullification_facts S.certificate_bytes nullification) ≡ true }
         ensures refused { IfSome (nullification_refusal self.old (nullification_facts S.certificate_bytes nullification) now) (λ fault. (result ≡ Err fault) × (self.new ≡ self.old)) }
         ensures added { IfOk result (λ added. added ≡ nullification_added self.old (nullification_facts S.certificate_bytes nullification)) }

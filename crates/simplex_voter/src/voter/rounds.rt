@@ -11,7 +11,10 @@ ghost use Rattle.simplex_types.specs.Certificates.{notarization_facts, nullifica
 use simplex_round::round::Round;
 use simplex_types::sorted::Tracked;
 use simplex_types::types;
-use simplex_types::types::{CertificateScheme, Digest, Epoch, Fault, Finalization, Notarization, Nullification, Participant, View};
+use simplex_types::types::{
+    CertificateScheme, Digest, Epoch, Fault, Finalization, Notarization, Nullification,
+    Participant, View,
+};
 use std::alloc::Global;
 
 /// The moments, in milliseconds, at which a view that is entered times out.

@@ -77,8 +77,8 @@ impl<S: CertificateScheme, L: Elector<S>, D: Digest> Model for State<S, L, D> {
 }
 
 impl<S: CertificateScheme, L: Elector<S>, D: Digest> State<S, L, D> {
-    ghost use Rattle.simplex_voter.specs.Facts.{Facts, round_at, round_number};
-    ghost use Rattle.simplex_voter.specs.StateView.{new_facts};
+    ghost use Rattle.simplex_voter.specs.Facts.{new_facts, round_at, round_number};
+    ghost use Rattle.simplex_voter.specs.StateView.{settings_of};
     ghost use Rattle.simplex_voter.specs.Setup.{HasSameSetup, deadlines_at};
     ghost use Rattle.simplex_voter.specs.Refusals.{has_late_deadline, enters_late};
     ghost use Rattle.simplex_voter.specs.Entering.{at_moment, entered};
@@ -87,7 +87,7 @@ impl<S: CertificateScheme, L: Elector<S>, D: Digest> State<S, L, D> {
     /// A state that has no floor yet: nothing is known, and no view is entered.
     pub fn new(alloc: Global, config: Config<S, L>) -> State<S, L, D>
         requires { L.members config.elector ≡ length (S.participants config.scheme) }
-        ensures { result ≡ new_facts S.me S.participants L.terms L.elects_early config }
+        ensures { result ≡ new_facts (settings_of config) (S.me config.scheme) (S.participants config.scheme) config.elector (L.terms config.elector) (L.elects_early config.elector) }
     {
         let term_length = config.elector.terms().term_length;
         State {
@@ -182,7 +182,11 @@ impl<S: CertificateScheme, L: Elector<S>, D: Digest> State<S, L, D> {
     }
 
     /// The elector's choice, after this certificate where there is one, leads a view that has no leader.
-    pub(super) fn elect(&mut self, view: View, certificate: Option<&S::Certificate>) -> Result<(), Fault>
+    pub(super) fn elect(
+        &mut self,
+        view: View,
+        certificate: Option<&S::Certificate>,
+    ) -> Result<(), Fault>
         ensures elected { OnOk result (self.new ≡ elected L.elect self.old view (option_map S.certificate_bytes (option_copied certificate.entry))) }
         ensures refused { IfErr result (λ fault. fault ≡ OutOfMemory) }
         ensures setup { HasSameSetup self.old self.new }

@@ -1,4 +1,4 @@
-use Rattle.std.proofs.Common.{◌≡◌, ap, ◌∙◌, refl}
+use Rattle.std.proofs.Common.{◌∙◌, refl}
 use Rattle.simplex_voter.proofs.RoundsKept.{lent, written_back, there, made_insert, made_again}
 use Rattle.simplex_voter.proofs.voter.rounds.enter.Goals as goal
 

@@ -1,5 +1,4 @@
-use Rattle.std.proofs.Common.{◌≡◌, ap, ◌∙◌, refl}
-use Rattle.simplex_round.specs.Round.{with_nullification}
+use Rattle.std.proofs.Common.{◌∙◌, refl}
 use Rattle.simplex_voter.proofs.RoundsKept.{lent, written_back, there, made_insert, made_again, nullified_alike}
 use Rattle.simplex_voter.proofs.voter.rounds.keep_nullification.Goals as goal
 

@@ -1,4 +1,4 @@
-use Rattle.std.proofs.Common.{◌≡◌, is_some, sym, ◌∙◌, ap, refl}
+use Rattle.std.proofs.Common.{sym, ◌∙◌, refl}
 use Rattle.simplex_voter.proofs.RoundsKept.{lent, written_back, there, made_insert, made_again, leader_known, led_new}
 use Rattle.simplex_voter.proofs.voter.rounds.lead.Goals as goal
 

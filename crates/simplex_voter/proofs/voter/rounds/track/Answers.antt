@@ -1,4 +1,4 @@
-use Rattle.std.proofs.Common.{◌≡◌, is_some, sym, ◌∙◌, ap, refl}
+use Rattle.std.proofs.Common.{◌≡◌, sym, ◌∙◌, ap, refl}
 use Rattle.std.specs.FinMap as map
 use Rattle.simplex_round.specs.Round.{new_round}
 use Rattle.simplex_voter.proofs.RoundsKept.{stays, goes_in, looked_up, made_insert, inserted_new}

@@ -1,4 +1,4 @@
-use Rattle.std.proofs.Common.{◌≡◌, refl}
+use Rattle.std.proofs.Common.{refl}
 use Rattle.simplex_voter.proofs.Shown.{on_ok, decided_shown}
 use Rattle.simplex_voter.proofs.voter.state.State.decide_nullify.Goals as goal
 

@@ -1,5 +1,4 @@
-use Rattle.std.proofs.Common.{◌≡◌, ap, sym, ◌∙◌, refl}
-use Rattle.std.specs.FinMap as map
+use Rattle.std.proofs.Common.{ap, sym, ◌∙◌, refl}
 use Rattle.simplex_voter.specs.Windows.{min_active}
 use Rattle.simplex_voter.proofs.RoundsKept.{made_kept}
 use Rattle.simplex_voter.proofs.Shown.{pruned_shown}

@@ -1,4 +1,4 @@
-use Rattle.std.proofs.Common.{◌≡◌, ap, sym, ◌∙◌, refl}
+use Rattle.std.proofs.Common.{ap, sym, ◌∙◌, refl}
 use Rattle.simplex_voter.specs.Setup.{deadlines_at}
 use Rattle.simplex_voter.proofs.Shown.{not_le, entered_shown}
 use Rattle.simplex_voter.proofs.voter.state.State.enter.Goals as goal

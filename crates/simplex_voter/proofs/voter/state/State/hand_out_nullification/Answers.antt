@@ -1,4 +1,4 @@
-use Rattle.std.proofs.Common.{◌≡◌, refl}
+use Rattle.std.proofs.Common.{refl}
 use Rattle.simplex_voter.proofs.RoundsKept.{find_entries}
 use Rattle.simplex_voter.proofs.Shown.{on_ok, nullification_handed_out_shown}
 use Rattle.simplex_voter.proofs.voter.state.State.hand_out_nullification.Goals as goal

@@ -1,4 +1,4 @@
-use Rattle.std.proofs.Common.{◌≡◌, sym, refl}
+use Rattle.std.proofs.Common.{sym, refl}
 use Rattle.simplex_voter.proofs.Shown.{on_ok, nullification_shown}
 use Rattle.simplex_voter.proofs.voter.state.State.keep_nullification.Goals as goal
 

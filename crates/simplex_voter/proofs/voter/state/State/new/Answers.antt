@@ -1,4 +1,4 @@
-use Rattle.std.proofs.Common.{◌≡◌, ap, sym, ◌∙◌, refl}
+use Rattle.std.proofs.Common.{ap, ◌∙◌, refl}
 use Rattle.simplex_voter.proofs.RoundsKept.{none_made, entries_empty, keys_empty}
 use Rattle.simplex_voter.proofs.voter.state.State.new.Goals as goal
 

@@ -1,4 +1,4 @@
-use Rattle.std.proofs.Common.{◌≡◌, refl}
+use Rattle.std.proofs.Common.{refl}
 use Rattle.simplex_voter.proofs.Shown.{on_ok, nullify_vote_shown}
 use Rattle.simplex_voter.proofs.voter.state.State.note_nullify_vote.Goals as goal
 

@@ -1,4 +1,4 @@
-use Rattle.std.proofs.Common.{◌≡◌, ap, sym, ◌∙◌}
+use Rattle.std.proofs.Common.{ap, sym, ◌∙◌}
 use Rattle.simplex_voter.specs.Facts.{round_at}
 use Rattle.simplex_voter.proofs.RoundsKept.{find_entries}
 use Rattle.simplex_voter.proofs.voter.state.State.round_at.Goals as goal

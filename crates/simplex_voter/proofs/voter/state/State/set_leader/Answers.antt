@@ -1,4 +1,4 @@
-use Rattle.std.proofs.Common.{◌≡◌, ap, sym, ◌∙◌, refl}
+use Rattle.std.proofs.Common.{refl}
 use Rattle.simplex_voter.proofs.Shown.{on_ok, led_shown}
 use Rattle.simplex_voter.proofs.voter.state.State.set_leader.Goals as goal
 

@@ -1,4 +1,4 @@
-use Rattle.std.proofs.Common.{◌≡◌, ap, sym, ◌∙◌}
+use Rattle.std.proofs.Common.{ap, sym, ◌∙◌}
 use Rattle.simplex_voter.proofs.Shown.{dropped_shown}
 use Rattle.simplex_voter.proofs.voter.state.State.views_below.Goals as goal
 
