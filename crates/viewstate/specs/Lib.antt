@@ -2,3 +2,4 @@ pub mod Decimal
 pub mod Words
 pub mod Mode
 pub mod ResolverLine
+pub mod Status

@@ -1,5 +1,7 @@
 //! Serves lines of calls.
 
+ghost use Rattle.std.specs.Prelude.{◌≡◌};
+
 use crate::line_reader::{LineReader, line_text};
 use crate::mode::Mode;
 use crate::resolver::Resolver;
@@ -23,8 +25,12 @@ pub enum ServeError {
 }
 
 impl ServeError {
-    /// The program's exit status.
-    pub fn status(&self) -> u8 {
+    ghost use Rattle.viewstate.specs.Status.{exit_status};
+
+    /// The program's exit status: 3 for a line that is no call, 4 for want of memory, 5 where reading or writing failed.
+    pub fn status(&self) -> u8
+        ensures { result ≡ exit_status self.now }
+    {
         match self {
             ServeError::NotACall(_) => 3,
             ServeError::OutOfMemory => 4,

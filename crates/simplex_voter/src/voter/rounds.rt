@@ -1,6 +1,6 @@
 //! The rounds of the tracked views.
 
-ghost use Rattle.std.specs.Prelude.{◌≡◌, ◌<◌, IfOk, IfErr, OnOk, option_map, option_and_then, length, is_some, false};
+ghost use Rattle.std.specs.Prelude.{◌≡◌, ◌<◌, IfOk, IfErr, OnOk, option_map, option_and_then, length, is_some, None, false};
 ghost use Rattle.std.specs.Option.{option_map_or};
 ghost use Rattle.std.specs.FinMap as map;
 ghost use Rattle.simplex_types.specs.declared.types.fault.Fault.TheVariants.{OutOfMemory};
@@ -27,7 +27,9 @@ pub struct Deadlines {
 
 impl Deadlines {
     /// No moment: for a view that is not entered.
-    pub fn none() -> Deadlines {
+    pub fn none() -> Deadlines
+        ensures { result ≡ record { leader = 0; certification = 0; stall = None } }
+    {
         Deadlines {
             leader: 0,
             certification: 0,
