@@ -1,5 +1,5 @@
 -- A certificate that is recorded again opens no fetch.
-use Rattle.std.proofs.Common.{◌≡◌, ℕ, ◌+◌, ◌-◌, ◌<◌, ◌≤◌, Bool, true, false, ◌&&◌, ◌||◌, not, nat_lt, cond, List, [], ◌∷◌, ◌++◌, map, ◌⊎◌, inl, inr, max, min, refl, sym, ◌∙◌, ap, subst, arith}
+use Rattle.std.proofs.Common.{◌≡◌, ℕ, ◌+◌, ◌-◌, ◌<◌, ◌≤◌, Bool, true, false, ◌&&◌, not, nat_lt, cond, List, [], ◌∷◌, ◌++◌, map, inl, inr, max, min, refl, sym, ◌∙◌, ap, subst, arith}
 use Rattle.std.specs.List.{list_any, AllByRecursion}
 use Rattle.std.specs.FinMap as finmap
 use Rattle.std.proofs.lemmas.Bool.Decides.{nat_tests}
@@ -8,15 +8,15 @@ use Rattle.simplex_types.specs.Terms.{term_start, term_end}
 use Rattle.simplex_types.specs.declared.reasons.Kind.{Kind}
 use Rattle.simplex_types.specs.declared.reasons.Kind.TheVariants.{Nullification as OfNullification, Notarization as OfNotarization}
 use Rattle.simplex_resolver.specs.declared.resolver.effect.Effect.{Effect}
-use Rattle.simplex_resolver.specs.declared.resolver.effect.Effect.TheVariants.{Settled, Finalized, Raised}
+use Rattle.simplex_resolver.specs.declared.resolver.effect.Effect.TheVariants.{Settled, Raised}
 use Rattle.simplex_resolver.specs.Facts.{Facts, term_length, last_finalized, is_term_start}
 use Rattle.simplex_resolver.specs.Steps.{Call, Nullification, Notarization, Finalization, Verdict, Replayed, scan_start, scan_end, scan_fetches, missing_fetches, missing, without_finalized, with_finalization, before_scan, settle_effects, after, effects}
-use Rattle.simplex_resolver.specs.Received.{NamesAView, greatest, floor_view, current_view, floor_of, current_of, is_certificate, is_replayed, WasMade}
+use Rattle.simplex_resolver.specs.Received.{NamesAView, greatest, floor_view, current_view, is_certificate, WasMade}
 use Rattle.simplex_resolver.specs.Repair.{fetches, facts_of, RecordedAgainFetchesNothing}
 use Rattle.simplex_resolver.proofs.Terms.{AreTerms, terms}
 use Rattle.simplex_resolver.proofs.Anchors.{uncovered-none}
-use Rattle.simplex_resolver.proofs.Changes.{Changed, changed}
-use Rattle.simplex_resolver.proofs.RepairLaw.{Stands, stands, Fails, fails}
+use Rattle.simplex_resolver.proofs.Changes.{changed}
+use Rattle.simplex_resolver.proofs.RepairLaw.{stands, fails}
 
 -- ---- scans have reached the current view
 

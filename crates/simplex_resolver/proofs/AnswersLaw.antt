@@ -1,28 +1,26 @@
 -- What a resolver answers follows from what it was told.
-use Rattle.std.proofs.Common.{◌≡◌, ℕ, ◌+◌, ◌-◌, ◌<◌, ◌≤◌, Bool, true, false, ◌&&◌, ◌||◌, not, ◌==◌, nat_lt, nat_le, cond, List, [], ◌∷◌, map, Option, None, Some, IsSome, is_some, rules, ◌⊎◌, inl, inr, max, refl, sym, ◌∙◌, ap, subst, arith, zero, suc}
+use Rattle.std.proofs.Common.{◌≡◌, ℕ, ◌<◌, ◌≤◌, Bool, true, false, ◌&&◌, ◌||◌, not, ◌==◌, nat_lt, nat_le, cond, List, [], ◌∷◌, map, Option, None, Some, IsSome, is_some, rules, ◌⊎◌, inl, inr, refl, sym, ◌∙◌, ap, subst, arith}
 use Rattle.std.specs.List.{list_any, AllByRecursion}
 use Rattle.std.specs.Option.{option_map, option_and_then}
 use Rattle.std.specs.Ordering.{nat_cmp}
 use Rattle.std.specs.FinMap as finmap
-use Rattle.std.specs.FinMap.{FinMap}
 use Rattle.std.proofs.lemmas.Bool.Decides.{nat_tests}
-use Rattle.std.proofs.lemmas.Bool.{cases_eq, cases_lt, lt-ltb, le-ltb, le-leb, lt-leb, false≢true}
+use Rattle.std.proofs.lemmas.Bool.{cases_eq, cases_lt, false≢true}
 use Rattle.simplex_types.specs.Terms.{term_start, term_end, covers}
-use Rattle.simplex_types.specs.Tracked.{last_entry}
 use Rattle.simplex_types.specs.ByTerm.{TermMap, is_covered, covering}
 use Rattle.simplex_types.specs.declared.reasons.Kind.{Kind}
 use Rattle.simplex_types.specs.declared.reasons.Kind.TheVariants.{Nullification as OfNullification, Notarization as OfNotarization}
 use Rattle.simplex_resolver.specs.Facts.{Facts, empty, term_length, last_finalized, covering_encoding, certified_encoding}
-use Rattle.simplex_resolver.specs.Steps.{Call, Nullification, Notarization, Finalization, Verdict, Replayed, before_scan, settle_effects, after}
-use Rattle.simplex_resolver.specs.Held.{is_settled, served_encoding, or_else, finalized_for, floor_for}
+use Rattle.simplex_resolver.specs.Steps.{Call, Nullification, Notarization, Finalization, Verdict, Replayed, before_scan, after}
+use Rattle.simplex_resolver.specs.Held.{is_settled, or_else, finalized_for, floor_for}
 use Rattle.simplex_resolver.specs.Received.{NamesAView, greatest, finalized_view, floor_view, finalized_of, floor_of, is_true_verdict, is_false_verdict, is_notarizing, is_covering, WasMade}
 use Rattle.simplex_resolver.specs.Repair.{facts_of}
-use Rattle.simplex_resolver.specs.Answers.{is_settled_by, is_failed_by, Source, OfFinalization, OfCertified, OfNullified, covering_view, source, bringing, ServesReceived, NoContradiction, AnswersFit, AnswersAreOfTheReceived}
-use Rattle.simplex_resolver.proofs.Terms.{terms, covers_upto}
+use Rattle.simplex_resolver.specs.Answers.{is_settled_by, is_failed_by, Source, OfFinalization, OfCertified, OfNullified, covering_view, bringing, ServesReceived, NoContradiction, AnswersAreOfTheReceived}
+use Rattle.simplex_resolver.proofs.Terms.{covers_upto}
 use Rattle.simplex_resolver.proofs.Maps.{contains-empty, some_covering}
-use Rattle.simplex_resolver.proofs.Changes.{Changed, changed}
+use Rattle.simplex_resolver.proofs.Changes.{changed}
 use Rattle.simplex_resolver.proofs.RepairLaw.{Stands, stands, held}
-use Rattle.simplex_resolver.proofs.Kept.{Kept, kept, is_nullification, is_certified, IsAbove}
+use Rattle.simplex_resolver.proofs.Kept.{kept, is_nullification, is_certified, IsAbove}
 use Rattle.simplex_resolver.proofs.Last.{IsLastKept, last_kept}
 
 -- ---- what is kept comes from what was received

@@ -1,19 +1,16 @@
 -- What each call changes before its scan.
-use Rattle.std.proofs.Common.{◌≡◌, ℕ, ◌+◌, ◌-◌, ◌<◌, ◌≤◌, Bool, true, false, ◌&&◌, ◌||◌, not, ◌==◌, nat_lt, nat_le, cond, List, [], ◌∷◌, ◌++◌, Option, None, Some, ◌⊎◌, inl, inr, max, min, refl, sym, ◌∙◌, ap, subst, arith}
-use Rattle.std.specs.Ordering.{nat_cmp}
+use Rattle.std.proofs.Common.{◌≡◌, ℕ, ◌+◌, ◌<◌, ◌≤◌, Bool, true, false, ◌&&◌, ◌||◌, not, ◌==◌, nat_lt, nat_le, cond, List, [], ◌∷◌, None, Some, ◌⊎◌, inl, inr, max, min, refl, sym, ◌∙◌, ap, arith}
 use Rattle.std.specs.List.{list_any}
 use Rattle.std.specs.Option.{option_map_or}
 use Rattle.std.specs.FinMap as finmap
-use Rattle.std.specs.FinMap.{FinMap}
 use Rattle.std.proofs.lemmas.Bool.Decides.{nat_tests}
-use Rattle.simplex_types.specs.Terms.{term_start, term_end, covers}
-use Rattle.simplex_types.specs.Tracked.{at_or_above}
-use Rattle.simplex_types.specs.ByTerm.{is_covered, not_ended}
+use Rattle.simplex_types.specs.Terms.{term_end, covers}
+use Rattle.simplex_types.specs.ByTerm.{is_covered}
 use Rattle.simplex_types.specs.declared.reasons.Kind.TheVariants.{Nullification as OfNullification, Notarization as OfNotarization}
 use Rattle.simplex_resolver.specs.declared.resolver.effect.Effect.{Effect}
 use Rattle.simplex_resolver.specs.declared.resolver.effect.Effect.TheVariants.{Settled, Finalized, Raised}
 use Rattle.simplex_resolver.specs.Facts.{Facts, term_length, last_finalized, is_term_start}
-use Rattle.simplex_resolver.specs.Steps.{Call, Nullification, Notarization, Finalization, Verdict, Replayed, insert_new, with_nullification, with_certified, with_finalization, without_finalized, after_raise, raise_effects, before_scan, settle_effects}
+use Rattle.simplex_resolver.specs.Steps.{Call, Nullification, Notarization, Finalization, Verdict, Replayed, insert_new, with_nullification, with_finalization, without_finalized, after_raise, raise_effects, before_scan, settle_effects}
 use Rattle.simplex_resolver.specs.Received.{finalized_view, floor_view, current_view, is_covering, is_false_verdict, is_notarizing, is_replayed, NamesAView}
 use Rattle.simplex_resolver.specs.Repair.{fetches, settles, is_outstanding}
 use Rattle.simplex_resolver.proofs.Terms.{covers_upto}

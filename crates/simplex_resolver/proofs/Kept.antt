@@ -5,13 +5,12 @@ use Rattle.std.specs.Option.{option_and_then, unwrap_or}
 use Rattle.std.specs.FinMap as finmap
 use Rattle.std.specs.FinMap.{FinMap}
 use Rattle.std.proofs.lemmas.Bool.Decides.{nat_tests}
-use Rattle.std.proofs.lemmas.Bool.{cases_eq, eq-eqb, ne_eqb, lt-leb, false≢true}
+use Rattle.std.proofs.lemmas.Bool.{cases_eq, eq-eqb, ne_eqb, false≢true}
 use Rattle.simplex_types.specs.Terms.{term_end}
 use Rattle.simplex_types.specs.Tracked.{at_or_above}
-use Rattle.simplex_types.specs.ByTerm.{not_ended}
 use Rattle.simplex_types.proofs.Maps.{get-insert, get-kept}
 use Rattle.simplex_resolver.specs.Facts.{Facts, term_length, last_finalized, certified_encoding, is_term_start}
-use Rattle.simplex_resolver.specs.Steps.{Call, Nullification, Notarization, Finalization, Verdict, Replayed, insert_new, with_nullification, with_finalization, without_finalized, after_raise, before_scan}
+use Rattle.simplex_resolver.specs.Steps.{Call, Nullification, Notarization, Finalization, Verdict, Replayed, insert_new, with_nullification, with_finalization, without_finalized, before_scan}
 use Rattle.simplex_resolver.specs.Received.{is_true_verdict, is_false_verdict}
 use Rattle.simplex_resolver.proofs.Maps.{contains-insert, contains-insert_new, contains-kept}
 use Rattle.simplex_resolver.proofs.Changes.{last-put}

@@ -1,21 +1,21 @@
 -- Over all runs of calls: once it was replayed, what is outstanding is what is wanted.
-use Rattle.std.proofs.Common.{◌≡◌, ℕ, ◌+◌, ◌-◌, ◌<◌, ◌≤◌, Bool, true, false, ◌&&◌, ◌||◌, not, ◌==◌, nat_lt, nat_le, cond, List, [], ◌∷◌, ◌++◌, map, filter, Option, None, Some, ◌⊎◌, inl, inr, max, min, refl, sym, ◌∙◌, ap, subst, arith, append-nil}
+use Rattle.std.proofs.Common.{◌≡◌, ℕ, ◌+◌, ◌-◌, ◌<◌, ◌≤◌, Bool, true, false, ◌&&◌, ◌||◌, not, ◌==◌, nat_lt, cond, List, [], ◌∷◌, ◌++◌, map, filter, Option, inl, inr, max, refl, sym, ◌∙◌, ap, subst, arith}
 use Rattle.std.specs.List.{list_any, range_with_len, AllByRecursion}
 use Rattle.std.specs.FinMap as finmap
 use Rattle.std.proofs.lemmas.Bool.Decides.{nat_tests}
 use Rattle.std.proofs.lemmas.Bool.{cases_eq}
 use Rattle.std.proofs.lemmas.List.Folds.{list_any-append}
-use Rattle.simplex_types.specs.Terms.{term_start, term_end, next_term_start, covers}
+use Rattle.simplex_types.specs.Terms.{term_start, term_end, covers}
 use Rattle.simplex_types.specs.declared.reasons.FetchReason.TheVariants.{MissingNullification, CertificationFailed}
 use Rattle.simplex_resolver.specs.declared.resolver.effect.Effect.{Effect}
 use Rattle.simplex_resolver.specs.declared.resolver.effect.Effect.TheVariants.{Fetch}
 use Rattle.simplex_types.specs.ByTerm.{is_covered}
 use Rattle.simplex_resolver.specs.Facts.{Facts, term_length, last_finalized, empty, anchors, is_term_start}
-use Rattle.simplex_resolver.specs.Steps.{Call, Nullification, Notarization, Finalization, Verdict, Replayed, before_scan, settle_effects, after, after_scan, effects, scan_start, scan_end, scan_fetches, missing, needs_nullification, failing, failure_fetches}
-use Rattle.simplex_resolver.specs.Received.{finalized_view, current_view, floor_view, finalized_of, current_of, floor_of, is_covering, is_false_verdict, is_notarizing, is_replayed, is_wanted, NamesAView}
+use Rattle.simplex_resolver.specs.Steps.{Call, Nullification, Notarization, Finalization, Verdict, Replayed, before_scan, settle_effects, after, effects, scan_start, scan_end, missing, needs_nullification, failing, failure_fetches}
+use Rattle.simplex_resolver.specs.Received.{finalized_view, current_view, floor_view, finalized_of, current_of, floor_of, is_covering, is_false_verdict, is_notarizing, is_replayed, NamesAView}
 use Rattle.simplex_resolver.specs.Repair.{has, settles, is_outstanding, facts_of, effects_of, OutstandingIsWanted}
 use Rattle.simplex_resolver.proofs.Terms.{AreTerms, terms}
-use Rattle.simplex_resolver.proofs.Scan.{QuietAt, ReadyAt, ChangesAt, EndsAt, is_found_by, is_wanted_by, found_is_wanted, ready_after_change, failed_after_change, quiet_after_scan, quiet_after_failure}
+use Rattle.simplex_resolver.proofs.Scan.{QuietAt, ReadyAt, ChangesAt, EndsAt, is_found_by, is_wanted_by, ready_after_change, failed_after_change, quiet_after_scan, quiet_after_failure}
 use Rattle.simplex_resolver.proofs.Views.{has-filter, has-range, fetches-map, settles-map, is_outstanding-append}
 use Rattle.simplex_resolver.proofs.Maps.{has_keys, keys-empty, contains-empty}
 use Rattle.simplex_resolver.proofs.Changes.{Changed, changed}

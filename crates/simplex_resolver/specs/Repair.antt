@@ -1,7 +1,7 @@
 -- Which fetches are open: the effects in order, against what was received.
 use Rattle.std.specs.Prelude.{◌≡◌, ℕ, ◌<◌, Bool, true, false, ◌&&◌, ◌||◌, not, ◌==◌, nat_le, List, [], ◌∷◌, ◌++◌}
 use Rattle.std.specs.List.{list_any, AllByRecursion}
-use Rattle.simplex_types.specs.declared.reasons.Kind.TheVariants.{Nullification as OfNullification, Notarization as OfNotarization}
+use Rattle.simplex_types.specs.declared.reasons.Kind.TheVariants.{Nullification as OfNullification}
 use Rattle.simplex_resolver.specs.declared.resolver.effect.Effect.{Effect}
 use Rattle.simplex_resolver.specs.declared.resolver.effect.Effect.TheVariants.{Fetch, Settled, Finalized, Raised}
 use Rattle.simplex_resolver.specs.Facts.{Facts, empty}

@@ -52,31 +52,10 @@ impl Resolver {
     /// Does what the line asks. The one error is want of memory.
     pub fn answer(&mut self, line: ResolverLine) -> Result<Answer<'_>, AllocError> {
         match line {
-            ResolverLine::Notarization(view) => {
-                let Some(notarization) = notarization_of(view) else {
-                    return Ok(Answer::NotAllowed);
-                };
-                self.update(&Certificate::Notarization(notarization))
-            }
-            ResolverLine::Nullification(view) => {
-                if view.is_zero() {
-                    return Ok(Answer::NotAllowed);
-                }
-                self.update(&Certificate::Nullification(nullification_of(view)))
-            }
-            ResolverLine::Finalization(view) => {
-                let Some(finalization) = finalization_of(view) else {
-                    return Ok(Answer::NotAllowed);
-                };
-                self.update(&Certificate::Finalization(finalization))
-            }
-            ResolverLine::Certified { view, success } => {
-                let Some(notarization) = notarization_of(view) else {
-                    return Ok(Answer::NotAllowed);
-                };
-                let told = self.state.certified(notarization, success);
-                self.effects_of(told)
-            }
+            ResolverLine::Notarization(view) => self.notarize(view),
+            ResolverLine::Nullification(view) => self.nullify(view),
+            ResolverLine::Finalization(view) => self.finalize(view),
+            ResolverLine::Certified { view, success } => self.certify(view, success),
             ResolverLine::Replayed => {
                 let told = self.state.replayed();
                 self.effects_of(told)
@@ -92,6 +71,35 @@ impl Resolver {
             },
             ResolverLine::Outstanding => Ok(Answer::Outstanding(&self.outstanding)),
         }
+    }
+
+    fn notarize(&mut self, view: View) -> Result<Answer<'_>, AllocError> {
+        let Some(notarization) = notarization_of(view) else {
+            return Ok(Answer::NotAllowed);
+        };
+        self.update(&Certificate::Notarization(notarization))
+    }
+
+    fn nullify(&mut self, view: View) -> Result<Answer<'_>, AllocError> {
+        if view.is_zero() {
+            return Ok(Answer::NotAllowed);
+        }
+        self.update(&Certificate::Nullification(nullification_of(view)))
+    }
+
+    fn finalize(&mut self, view: View) -> Result<Answer<'_>, AllocError> {
+        let Some(finalization) = finalization_of(view) else {
+            return Ok(Answer::NotAllowed);
+        };
+        self.update(&Certificate::Finalization(finalization))
+    }
+
+    fn certify(&mut self, view: View, success: bool) -> Result<Answer<'_>, AllocError> {
+        let Some(notarization) = notarization_of(view) else {
+            return Ok(Answer::NotAllowed);
+        };
+        let told = self.state.certified(notarization, success);
+        self.effects_of(told)
     }
 
     fn update(

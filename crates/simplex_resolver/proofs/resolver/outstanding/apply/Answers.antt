@@ -1,4 +1,4 @@
-use Rattle.std.proofs.Common.{◌≡◌, ◌≤◌, ◌&&◌, ◌||◌, not, ap, sym, subst, ◌∙◌, take, ◌++◌, [], ◌∷◌, arith}
+use Rattle.std.proofs.Common.{◌&&◌, ◌||◌, not, ap, sym, subst, ◌∙◌, take, ◌++◌, [], ◌∷◌, arith}
 use Rattle.std.proofs.lemmas.List.{take_more, take_all}
 use Rattle.std.proofs.lemmas.Result.{err_from_is_err_and}
 use Rattle.std.specs.List.{list_any}

@@ -1,8 +1,7 @@
-use Rattle.std.proofs.Common.{rules, arith, ◌≡◌, ◌∙◌, sym, ap, not, ◌<◌, ◌≤◌, ◌++◌, append-nil, subst, true, false}
+use Rattle.std.proofs.Common.{arith, ◌∙◌, sym, ap, not, ◌<◌, append-nil, subst, true, false}
 use Rattle.std.proofs.lemmas.Bool.Decides.{nat_tests}
 use Rattle.simplex_types.specs.Terms.{next_term_start}
-use Rattle.simplex_resolver.specs.Facts.{uncovered, end_of_scan}
-use Rattle.simplex_resolver.specs.Steps.{missing_fetches}
+use Rattle.simplex_resolver.specs.Facts.{end_of_scan}
 use Rattle.simplex_resolver.proofs.Terms.{terms}
 use Rattle.simplex_resolver.proofs.Anchors.{turn, end_of_scan-next}
 use Rattle.simplex_resolver.proofs.resolver.scan.scan.Goals as goal

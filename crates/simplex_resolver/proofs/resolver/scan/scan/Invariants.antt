@@ -1,4 +1,4 @@
-use Rattle.std.proofs.Common.{◌≡◌, ℕ, ◌+◌, ◌-◌, ◌≤◌, ◌++◌}
+use Rattle.std.proofs.Common.{◌≡◌, ◌-◌, ◌≤◌, ◌++◌}
 use Rattle.simplex_resolver.specs.Facts.{uncovered, end_of_scan}
 use Rattle.simplex_resolver.specs.Steps.{missing_fetches}
 use Rattle.simplex_resolver.proofs.resolver.scan.scan.Given as goal
