@@ -189,6 +189,18 @@ replayed_nullify_gates :
 unfolding replies_of
 replayed_nullify_gates = refl
 
+-- a finalize vote is cast once
+finalized_once :
+    replies_of
+    (voter 0 1 0)
+    (
+    AddNotarization 1 0 7 ∷ Certified 1 true 5 ∷ Finalize 1 ∷ Finalize 1 ∷ []
+    )
+    ≡
+    Added true None ∷ Judged (Some (proposal 1 0 7)) ∷ Vote (Some (proposal 1 0 7)) ∷ Vote None ∷ []
+unfolding replies_of
+finalized_once = refl
+
 -- only a true verdict of a tracked view can be late
 late_verdicts :
     replies_of
