@@ -1,5 +1,5 @@
 -- Where no refusal stands.
-use Rattle.std.proofs.Common.{◌≡◌, Bool, true, false, ◌&&◌, IsTrue, IfSome, refl, sym}
+use Rattle.std.proofs.Common.{◌≡◌, Bool, true, false, ◌&&◌, Option, Some, None, Result, Ok, Err, IsTrue, IfSome, refl, ap, sym}
 use Rattle.std.proofs.lemmas.Bool.{false≢true}
 use Rattle.simplex_types.specs.declared.types.fault.Fault.{Fault}
 use Rattle.simplex_voter.specs.Refusals.{first_fault}
@@ -13,3 +13,12 @@ not_late false late never = refl
 pub no_late_fault : (failed b late : Bool) (P : Fault → Type 0) → false ≡ failed → (IsTrue late → true ≡ false) → IfSome (first_fault failed false (b && late)) P
 no_late_fault true b late P sound never = absurd (false≢true sound)
 no_late_fault false b late P sound never = rw (not_late b late never) tt
+
+abbrev fault_in : {A : Type 0} → Result A Fault → Fault → Fault
+fault_in (Ok a) other = other
+fault_in (Err fault) other = fault
+
+-- a refusal of one kind of answer, passed on as that of another
+pub passed_on : (A B Q : Type 0) (refusal : Option Fault) (fault : Fault) → IfSome refusal (λ f. ◌≡◌ {A = Result A Fault} (Err fault) (Err f) × Q) → IfSome refusal (λ f. ◌≡◌ {A = Result B Fault} (Err fault) (Err f) × Q)
+passed_on A B Q None fault refused = tt
+passed_on A B Q (Some f) fault refused = (ap Err (ap (λ (r : Result A Fault). fault_in r fault) refused.0), refused.1)

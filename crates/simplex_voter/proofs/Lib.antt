@@ -7,5 +7,17 @@ pub mod Payloads
 pub mod Parents
 pub mod Rules
 pub mod Windows
+pub mod Gate
 pub mod Containers
 pub mod Opened
+pub mod Waiting
+pub mod Verdicts
+pub mod Highest
+pub mod Between
+pub mod Kept
+pub mod Sliding
+pub mod Walked
+pub mod Elsewhere
+pub mod Raising
+pub mod Accepting
+pub mod Recalled

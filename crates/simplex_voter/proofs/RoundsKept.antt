@@ -1,5 +1,5 @@
 -- A map of rounds and the list of its entries, which the facts of a state hold.
-use Rattle.std.proofs.Common.{◌≡◌, ℕ, Bool, true, false, cond, leb, ltb, filter, List, [], ◌∷◌, Option, Some, None, Result, Ok, Err, is_some, OnOk, OnErr, Bor, refl, ap, sym, ◌∙◌, inl, inr, unwrap_or}
+use Rattle.std.proofs.Common.{◌≡◌, ℕ, ◌<◌, ◌^◌, Bool, true, false, cond, leb, ltb, filter, List, [], ◌∷◌, Option, Some, None, Result, Ok, Err, is_some, OnOk, OnErr, Bor, refl, ap, sym, ◌∙◌, inl, inr, unwrap_or}
 use Rattle.std.specs.Option.{option_copied}
 use Rattle.std.specs.Ordering.{nat_cmp}
 use Rattle.std.specs.FinMap as map
@@ -9,8 +9,10 @@ use Rattle.simplex_types.specs.Tracked.{after_insert, at_or_above, below}
 use Rattle.std.specs.Prelude.{map as map_list}
 use Rattle.simplex_types.proofs.Maps.{get-insert, get-kept, same_maps, made_empty, entries-retain_keys}
 use Rattle.std.specs.Option.{option_map_or}
-use Rattle.simplex_round.specs.Round.{RoundFacts, leader_at, with_nullification, after_nullify, is_finalize}
-use Rattle.simplex_round.specs.declared.round.Decision.TheVariants.{Nullify}
+use Rattle.simplex_round.specs.Round.{RoundFacts, leader_at, with_nullification, after_nullify, is_finalize, can_finalize, certified_round, with_latch}
+use Rattle.simplex_types.specs.declared.reasons.TimeoutReason.{TimeoutReason}
+use Rattle.simplex_voter.specs.InPlace.{after_finalize}
+use Rattle.simplex_round.specs.declared.round.Decision.TheVariants.{Nullify, Finalize}
 use Rattle.simplex_types.specs.Certificates.{NullificationFacts}
 use Rattle.simplex_voter.specs.Rounds.{Origin, IsMadeBy, AreMadeBy, fresh_round, round_in, led_rounds}
 
@@ -57,7 +59,7 @@ entries_empty {V} m is = ap map.entries (is ∙ sym (made_empty {V = V} [] refl)
 pub keys_empty : {V : Type 0} (m : map.FinMap nat_cmp V) → m ≡ map.empty → map.keys m ≡ []
 keys_empty m is = ap (map_list (λ e. e.0)) (entries_empty m is)
 
-filter-keys : {V : Type 0} (p : ℕ → Bool) (es : List (ℕ × V)) → map_list (λ e. e.0) (filter (λ e. p e.0) es) ≡ filter p (map_list (λ e. e.0) es)
+pub filter-keys : {V : Type 0} (p : ℕ → Bool) (es : List (ℕ × V)) → map_list (λ e. e.0) (filter (λ e. p e.0) es) ≡ filter p (map_list (λ e. e.0) es)
 filter-keys p [] = refl
 filter-keys p (e ∷ es) = elim (p e.0) as (λ b. map_list (λ f. f.0) (cond b (e ∷ filter (λ f. p f.0) es) (filter (λ f. p f.0) es)) ≡ cond b (e.0 ∷ filter p (map_list (λ f. f.0) es)) (filter p (map_list (λ f. f.0) es))) [
   | true ↦ ap (λ ks. e.0 ∷ ks) (filter-keys p es)
@@ -119,18 +121,38 @@ module _ {K D : Type 0} where
     | inr other ↦ made q s (sym (rw (get-insert m v r q, ne_eqb q v other) refl) ∙ found)
   ]
 
+  -- a fresh round is made so
+  pub fresh_made : (o : Origin K) (v : ℕ) → IsMadeBy o v (fresh_round {D = D} o v)
+  fresh_made o v = record { me = refl; members = refl; round = refl; votable = λ notarized. absurd (false≢true notarized) }
+
   -- the round of a view was made so, tracked or not
   pub round_made : (o : Origin K) (m : map.FinMap nat_cmp (RoundFacts K D)) (v : ℕ) → AreMadeBy o m → IsMadeBy o v (round_in o m v)
   round_made o m v made = elim (map.get m v) as (λ found. map.get m v ≡ found → IsMadeBy o v (unwrap_or found (fresh_round o v))) [
-    | None ↦ λ is. record { me = refl; members = refl; round = refl }
+    | None ↦ λ is. fresh_made o v
     | Some r ↦ λ is. made v r is
   ] refl
 
   -- a change that keeps how the round was made
-  pub made_again : (o : Origin K) (m : map.FinMap nat_cmp (RoundFacts K D)) (v : ℕ) (r s : RoundFacts K D) → AreMadeBy o m → r ≡ round_in o m v → s.me ≡ r.me → s.members ≡ r.members → s.round ≡ r.round → IsMadeBy o v s
-  made_again o m v r s made same me members round =
+  pub made_again : (o : Origin K) (m : map.FinMap nat_cmp (RoundFacts K D)) (v : ℕ) (r s : RoundFacts K D) → AreMadeBy o m → r ≡ round_in o m v → s.me ≡ r.me → s.members ≡ r.members → s.round ≡ r.round → s.notarization ≡ r.notarization → IsMadeBy o v s
+  made_again o m v r s made same me members round notarization =
       let base = round_made o m v made in
-      record { me = me ∙ ap (λ t. t.me) same ∙ base.me; members = members ∙ ap (λ t. t.members) same ∙ base.members; round = round ∙ ap (λ t. t.round) same ∙ base.round }
+      record {
+        me = me ∙ ap (λ t. t.me) same ∙ base.me;
+        members = members ∙ ap (λ t. t.members) same ∙ base.members;
+        round = round ∙ ap (λ t. t.round) same ∙ base.round;
+        votable = λ notarized. base.votable (sym (ap is_some (notarization ∙ ap (λ t. t.notarization) same)) ∙ notarized);
+      }
+
+  -- the same of a view that a notarization may have
+  pub made_notarized : (o : Origin K) (m : map.FinMap nat_cmp (RoundFacts K D)) (v : ℕ) (r s : RoundFacts K D) → AreMadeBy o m → r ≡ round_in o m v → s.me ≡ r.me → s.members ≡ r.members → s.round ≡ r.round → v < 2 ^ 63 → IsMadeBy o v s
+  made_notarized o m v r s made same me members round votable =
+      let base = round_made o m v made in
+      record {
+        me = me ∙ ap (λ t. t.me) same ∙ base.me;
+        members = members ∙ ap (λ t. t.members) same ∙ base.members;
+        round = round ∙ ap (λ t. t.round) same ∙ base.round;
+        votable = λ notarized. votable;
+      }
 
   pub leader_known : (o : Origin K) (m : map.FinMap nat_cmp (RoundFacts K D)) (v : ℕ) → option_map_or (λ r. is_some r.leader) (map.get m v) false ≡ is_some (round_in o m v).leader
   leader_known o m v = elim (map.get m v) as (λ found. option_map_or (λ r. is_some r.leader) found false ≡ is_some (unwrap_or found (fresh_round o v)).leader) [
@@ -149,44 +171,63 @@ module _ {K D : Type 0} where
   pub none_made : (o : Origin K) (m : map.FinMap nat_cmp (RoundFacts K D)) → m ≡ map.empty → AreMadeBy o m
   none_made o m is v r found = let bad : None ≡ Some r = sym (ap (λ n. map.get n v) is ∙ map.get-empty nat_cmp v) ∙ found in cc
 
-  pub nullified_alike : (r s : RoundFacts K D) (c : NullificationFacts) → s ≡ with_nullification r c → (s.me ≡ r.me) × (s.members ≡ r.members) × (s.round ≡ r.round)
+  -- changes that keep for whom a round was made, and its notarization
+  abbrev pub IsAlike : RoundFacts K D → RoundFacts K D → Type 0
+  IsAlike r s = (s.me ≡ r.me) × (s.members ≡ r.members) × (s.round ≡ r.round) × (s.notarization ≡ r.notarization)
+
+  pub nullified_alike : (r s : RoundFacts K D) (c : NullificationFacts) → s ≡ with_nullification r c → IsAlike r s
   nullified_alike r s c is = rw is (by_kept (is_some r.nullification))
     where
-      by_kept : (b : Bool) → let t : RoundFacts K D = cond b r (record r { nullification = Some c }) in (t.me ≡ r.me) × (t.members ≡ r.members) × (t.round ≡ r.round)
-      by_kept true = (refl, refl, refl)
-      by_kept false = (refl, refl, refl)
+      by_kept : (b : Bool) → IsAlike r (cond b r (record r { nullification = Some c }))
+      by_kept true = (refl, refl, refl, refl)
+      by_kept false = (refl, refl, refl, refl)
 
-  pub decided_alike : (r s : RoundFacts K D) → s ≡ after_nullify r → (s.me ≡ r.me) × (s.members ≡ r.members) × (s.round ≡ r.round)
+  pub decided_alike : (r s : RoundFacts K D) → s ≡ after_nullify r → IsAlike r s
   decided_alike r s is = rw is (by_decision (is_finalize r.decision))
     where
-      by_decision : (b : Bool) → let t : RoundFacts K D = cond b r (record r { decision = Nullify None }) in (t.me ≡ r.me) × (t.members ≡ r.members) × (t.round ≡ r.round)
-      by_decision true = (refl, refl, refl)
-      by_decision false = (refl, refl, refl)
-
-  abbrev pub IsAlike : RoundFacts K D → RoundFacts K D → Type 0
-  IsAlike r s = (s.me ≡ r.me) × (s.members ≡ r.members) × (s.round ≡ r.round)
+      by_decision : (b : Bool) → IsAlike r (cond b r (record r { decision = Nullify None }))
+      by_decision true = (refl, refl, refl, refl)
+      by_decision false = (refl, refl, refl, refl)
 
   pub alike_same : (r s : RoundFacts K D) → s ≡ r → IsAlike r s
-  alike_same r s same = (ap (λ t. t.me) same, ap (λ t. t.members) same, ap (λ t. t.round) same)
+  alike_same r s same = (ap (λ t. t.me) same, ap (λ t. t.members) same, ap (λ t. t.round) same, ap (λ t. t.notarization) same)
 
   pub alike_made : (o : Origin K) (v : ℕ) (r s : RoundFacts K D) → IsMadeBy o v r → IsAlike r s → IsMadeBy o v s
-  alike_made o v r s base alike = record { me = alike.0 ∙ base.me; members = alike.1 ∙ base.members; round = alike.2 ∙ base.round }
+  alike_made o v r s base alike = record {
+    me = alike.0 ∙ base.me;
+    members = alike.1 ∙ base.members;
+    round = alike.2 ∙ base.round;
+    votable = λ notarized. base.votable (sym (ap is_some alike.3) ∙ notarized);
+  }
 
   -- a tracked round is changed in place
   pub made_in_place : (o : Origin K) (m : map.FinMap nat_cmp (RoundFacts K D)) (v : ℕ) (r s : RoundFacts K D) → Some r ≡ map.get m v → IsAlike r s → AreMadeBy o m → AreMadeBy o (map.insert m v s)
   made_in_place o m v r s here alike made = made_insert o m v s made (alike_made o v r s (made v r (sym here)) alike)
 
   pub notarization_handed_out_alike : {A E : Type 0} (result : Result A E) (r s : RoundFacts K D) (b : Bool) → OnErr result (s ≡ r) → OnOk result (s ≡ record r { notarization_broadcast = b }) → IsAlike r s
-  notarization_handed_out_alike (Ok a) r s b err ok = (ap (λ t. t.me) ok, ap (λ t. t.members) ok, ap (λ t. t.round) ok)
+  notarization_handed_out_alike (Ok a) r s b err ok = (ap (λ t. t.me) ok, ap (λ t. t.members) ok, ap (λ t. t.round) ok, ap (λ t. t.notarization) ok)
   notarization_handed_out_alike (Err e) r s b err ok = alike_same r s err
 
   pub nullification_handed_out_alike : {A E : Type 0} (result : Result A E) (r s : RoundFacts K D) (b : Bool) → OnErr result (s ≡ r) → OnOk result (s ≡ record r { nullification_broadcast = b }) → IsAlike r s
-  nullification_handed_out_alike (Ok a) r s b err ok = (ap (λ t. t.me) ok, ap (λ t. t.members) ok, ap (λ t. t.round) ok)
+  nullification_handed_out_alike (Ok a) r s b err ok = (ap (λ t. t.me) ok, ap (λ t. t.members) ok, ap (λ t. t.round) ok, ap (λ t. t.notarization) ok)
   nullification_handed_out_alike (Err e) r s b err ok = alike_same r s err
 
   pub finalization_handed_out_alike : {A E : Type 0} (result : Result A E) (r s : RoundFacts K D) (b : Bool) → OnErr result (s ≡ r) → OnOk result (s ≡ record r { finalization_broadcast = b }) → IsAlike r s
-  finalization_handed_out_alike (Ok a) r s b err ok = (ap (λ t. t.me) ok, ap (λ t. t.members) ok, ap (λ t. t.round) ok)
+  finalization_handed_out_alike (Ok a) r s b err ok = (ap (λ t. t.me) ok, ap (λ t. t.members) ok, ap (λ t. t.round) ok, ap (λ t. t.notarization) ok)
   finalization_handed_out_alike (Err e) r s b err ok = alike_same r s err
+
+  pub finalize_decided_alike : (r s : RoundFacts K D) → s ≡ after_finalize r → IsAlike r s
+  finalize_decided_alike r s is = rw is (by_test (can_finalize r))
+    where
+      by_test : (b : Bool) → IsAlike r (cond b (record r { decision = Finalize }) r)
+      by_test true = (refl, refl, refl, refl)
+      by_test false = (refl, refl, refl, refl)
+
+  pub judged_alike : (r s : RoundFacts K D) (success : Bool) → s ≡ certified_round r success → IsAlike r s
+  judged_alike r s success is = rw is (refl, refl, refl, refl)
+
+  pub latched_alike : (r s : RoundFacts K D) (now : ℕ) (reason : TimeoutReason) → s ≡ with_latch r now reason → IsAlike r s
+  latched_alike r s now reason is = rw is (refl, refl, refl, refl)
 
   -- the rounds that are left were made so
   pub made_kept : (o : Origin K) (m : map.FinMap nat_cmp (RoundFacts K D)) (v : ℕ) → AreMadeBy o m → AreMadeBy o (at_or_above m v)

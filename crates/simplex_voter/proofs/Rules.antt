@@ -4,7 +4,7 @@ use Rattle.std.specs.Prelude.{is_some, unwrap_or, ◌==◌}
 use Rattle.std.proofs.lemmas.Bool.{eqb-true, false≢true, lt-ltb}
 use Rattle.std.proofs.lemmas.Bool.Decides.{nat_tests}
 use Rattle.simplex_types.specs.declared.types.messages.Proposal.{Proposal}
-use Rattle.simplex_round.specs.Round.{is_pending, is_nullify, can_notarize}
+use Rattle.simplex_round.specs.Round.{is_pending, is_nullify, can_notarize, can_finalize}
 use Rattle.simplex_round.specs.Slot.{is_unequivocated}
 use Rattle.simplex_voter.specs.Facts.{Facts, Elect, round_of}
 use Rattle.simplex_voter.specs.Windows.{is_start, is_admitted, in_window}
@@ -59,6 +59,11 @@ module _ {K L D : Type 0} (elect : Elect L) (x : Facts K L D) (v : ℕ) where
         notarized = f.1;
         certified = e.1;
       }
+
+  -- what the rule asks of the view's own round
+  pub finalize_round : may_finalize elect x v ≡ true → can_finalize (round_of x v) ≡ true
+  unfolding may_finalize
+  finalize_round h = (and_parts (ltb x.finalized v && is_admitted x v && not (is_gated x v) && has_required_parent elect x v) _ h).1
 
   pub finalize_whole : FinalizeRule elect x v → may_finalize elect x v ≡ true
   unfolding may_finalize

@@ -1,13 +1,18 @@
 -- Changes of the rounds, as changes of a state's facts.
-use Rattle.std.proofs.Common.{◌≡◌, ℕ, Bool, true, false, cond, ◌||◌, ltb, leb, filter, Some, None, Result, Ok, Err, OnOk, is_some, unwrap_or, inl, inr, arith, refl, ap, sym, ◌∙◌}
+use Rattle.std.proofs.Common.{◌≡◌, ℕ, Bool, true, false, cond, ◌||◌, ltb, leb, filter, Option, Some, None, Result, Ok, Err, OnOk, is_some, unwrap_or, inl, inr, arith, refl, ap, sym, ◌∙◌}
 use Rattle.std.specs.Ordering.{nat_cmp, is_le}
-use Rattle.std.proofs.lemmas.Bool.{cases_lt, lt-ltb}
+use Rattle.std.proofs.lemmas.Bool.{cases_lt, lt-ltb, false≢true}
 use Rattle.std.proofs.lemmas.Bool.Decides.{nat_tests}
 use Rattle.std.specs.FinMap as map
 use Rattle.std.specs.FinMap.Entries.{find, put}
-use Rattle.simplex_round.specs.Round.{RoundFacts, leader_at, with_nullification, after_nullify}
+use Rattle.simplex_round.specs.Round.{RoundFacts, leader_at, with_nullification, after_nullify, can_finalize, certified_round, with_latch}
+use Rattle.simplex_voter.specs.InPlace.{after_finalize, finalize_decided_rounds, judged_rounds, latched_rounds}
+use Rattle.simplex_voter.specs.Certification.{judged}
+use Rattle.simplex_types.specs.declared.reasons.TimeoutReason.{TimeoutReason}
+use Rattle.simplex_voter.specs.Votes.{finalize_cast}
+use Rattle.std.specs.Prelude.{option_and_then}
 use Rattle.std.specs.Option.{option_map_or}
-use Rattle.simplex_voter.specs.Facts.{Facts, round_of, with_round, with_tracked}
+use Rattle.simplex_voter.specs.Facts.{Facts, round_of, is_tracked, with_round, with_tracked}
 use Rattle.simplex_voter.specs.Serving.{prune_answer, after_prune, after_broadcast_notarization, after_broadcast_nullification, after_broadcast_finalization}
 use Rattle.simplex_voter.specs.Leaders.{led}
 use Rattle.simplex_voter.specs.Entering.{entered, entered_round}
@@ -39,6 +44,14 @@ on_ok (Err e) f p = p
 module _ {K L D : Type 0} where
   abbrev pub origin : Facts K L D → Origin K
   origin x = origin_of x.me x.members x.settings.epoch
+
+  -- only a tracked round can be finalized
+  finalizable_tracked : (x : Facts K L D) (v : ℕ) → can_finalize (round_of x v) ≡ true → is_tracked x v ≡ true
+  finalizable_tracked x v can = by_found (find nat_cmp v x.rounds) can
+    where
+      by_found : (found : Option (RoundFacts K D)) → can_finalize (unwrap_or found (fresh_round (origin x) v)) ≡ true → is_some found ≡ true
+      by_found None can = absurd (false≢true can)
+      by_found (Some r) can = refl
 
   module _ (x : Facts K L D) (m : map.FinMap nat_cmp (RoundFacts K D)) (shown : x.rounds ≡ map.entries m) where
     -- the round of a view, by the facts and by the map
@@ -85,6 +98,30 @@ module _ {K L D : Type 0} where
     finalization_handed_out_shown new v is =
         ap (λ (n : map.FinMap nat_cmp (RoundFacts K D)). record x { rounds = map.entries n }) is
         ∙ in_place v (λ r. record r { finalization_broadcast = r.finalization_broadcast || is_some r.finalization })
+
+    pub finalize_decided_shown : (new : map.FinMap nat_cmp (RoundFacts K D)) (v : ℕ) → new ≡ finalize_decided_rounds m v → can_finalize (round_of x v) ≡ true → record x { rounds = map.entries new } ≡ finalize_cast x v
+    finalize_decided_shown new v is can =
+        ap (λ (n : map.FinMap nat_cmp (RoundFacts K D)). record x { rounds = map.entries n }) is
+        ∙ in_place v after_finalize
+        ∙ rw (can, finalizable_tracked x v can) refl
+
+    pub latched_shown : (new : map.FinMap nat_cmp (RoundFacts K D)) (v now : ℕ) (reason : TimeoutReason) → new ≡ latched_rounds m v now reason → record x { rounds = map.entries new } ≡ with_tracked x v (with_latch (round_of x v) now reason)
+    latched_shown new v now reason is =
+        ap (λ (n : map.FinMap nat_cmp (RoundFacts K D)). record x { rounds = map.entries n }) is
+        ∙ in_place v (λ r. with_latch r now reason)
+
+    pub judged_shown : (new : map.FinMap nat_cmp (RoundFacts K D)) (v : ℕ) (success : Bool) → new ≡ judged_rounds m v success → is_tracked x v ≡ true → record x { rounds = map.entries new } ≡ judged x v success
+    judged_shown new v success is tracked =
+        ap (λ (n : map.FinMap nat_cmp (RoundFacts K D)). record x { rounds = map.entries n }) is
+        ∙ in_place v (λ r. certified_round r success)
+        ∙ rw tracked refl
+
+    pub finalize_vote_shown : (v : ℕ) → can_finalize (round_of x v) ≡ true → option_and_then (λ (r : RoundFacts K D). cond (can_finalize r) r.slot.held None) (map.get m v) ≡ (round_of x v).slot.held
+    finalize_vote_shown v can = voted (map.get m v) (rw (round_shown v) at can) ∙ ap (λ (r : RoundFacts K D). r.slot.held) (sym (round_shown v))
+      where
+        voted : (found : Option (RoundFacts K D)) → can_finalize (unwrap_or found (fresh_round (origin x) v)) ≡ true → option_and_then (λ (r : RoundFacts K D). cond (can_finalize r) r.slot.held None) found ≡ (unwrap_or found (fresh_round (origin x) v)).slot.held
+        voted None can = absurd (false≢true can)
+        voted (Some r) can = rw can refl
 
     pub led_shown : (new : map.FinMap nat_cmp (RoundFacts K D)) (v member : ℕ) → new ≡ led_rounds (origin x) m v member → record x { rounds = map.entries new } ≡ led x v member
     led_shown new v member is =

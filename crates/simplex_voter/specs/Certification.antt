@@ -107,6 +107,11 @@ module _ {K L D : Type 0} where
       is_started x
       && option_map_or (λ r. is_some r.notarization && not (is_judged (not success) r.certification)) (round_at x v) true
 
+  -- the view is tracked, and has no verdict yet
+  abbrev pub is_first_verdict : Facts K L D → ℕ → Bool
+  is_first_verdict x v =
+      option_map_or (λ r. not (is_judged true r.certification) && not (is_judged false r.certification)) (round_at x v) false
+
   abbrev pub certified_refusal : Facts K L D → ℕ → Bool → ℕ → Option Fault
   certified_refusal x v success now = first_fault x.failed false (success && is_tracked x v && enters_late x (v + 1) now)
 

@@ -1,5 +1,6 @@
 pub mod Facts
 pub mod Rounds
+pub mod InPlace
 pub mod StateView
 pub mod Setup
 pub mod Gaps

@@ -1,13 +1,16 @@
 -- What an artifact of the record restores. It never moves the current view.
-use Rattle.std.specs.Prelude.{◌≡◌, Bool, true, false, ◌||◌, Option, Some, None, is_some, option_map, option_and_then, if◌then◌else◌}
+use Rattle.std.specs.Prelude.{◌≡◌, ℕ, Bool, true, false, ◌||◌, Option, Some, None, is_some, option_map, option_and_then, if◌then◌else◌}
 use Rattle.std.specs.Option.{option_map_or}
 use Rattle.std.specs.Ordering.{nat_cmp}
 use Rattle.std.specs.BTreeSet.{insert_key}
+use Rattle.std.specs.FinMap.{FinMap, insert}
+use Rattle.simplex_voter.specs.Rounds.{Origin, round_in}
 use Rattle.simplex_types.specs.Proposal.{same_proposal}
 use Rattle.simplex_types.specs.Viewed.{artifact_view}
 use Rattle.simplex_types.specs.declared.types.fault.Fault.{Fault}
 use Rattle.simplex_types.specs.declared.types.messages.Proposal.{Proposal}
 use Rattle.simplex_types.specs.declared.types.messages.Artifact.{Artifact}
+use Rattle.simplex_types.specs.declared.types.messages.Finalization.{Finalization}
 use Rattle.simplex_types.specs.declared.types.messages.Artifact.TheVariants as artifact
 use Rattle.simplex_types.specs.declared.types.numbers.Round.{Round}
 use Rattle.simplex_round.specs.Round.{RoundFacts, after_replay, TakesArtifact}
@@ -40,6 +43,11 @@ module _ {S K G C D : Type 0} where
   -- its view or its parent's is too large
   abbrev pub artifact_too_large : Artifact S D K G C → Bool
   artifact_too_large a = is_too_large (artifact_view a) || option_map_or names_too_large (artifact_proposal a) false
+
+  -- the finalization that it is
+  abbrev pub finalization_in : Artifact S D K G C → Option (Finalization S D K G C)
+  finalization_in (artifact.Finalization f) = Some f
+  finalization_in _ = None
 
   -- the proposal of a notarize vote
   abbrev pub voted_proposal : Artifact S D K G C → Option (Proposal D)
@@ -86,3 +94,7 @@ module _ {K L D : Type 0} (same : D → D → Bool) (elect : Elect L) where
   after_replayed x a =
       let restored = with_round (replayed_sets x a) (artifact_view a) (replayed_round same x a) in
       if is_some (voted_proposal a) then prepared elect restored (artifact_view a) else restored
+
+-- the rounds with what an artifact restores of its view's, and its binding
+abbrev pub recalled_rounds : {K D S G C : Type 0} → (D → D → Bool) → Origin K → FinMap nat_cmp (RoundFacts K D) → ℕ → Artifact S D K G C → Option (Proposal D × D) → FinMap nat_cmp (RoundFacts K D)
+recalled_rounds same o rounds v a binding = insert rounds v (bound_again (after_replay (same_proposal same) (round_in o rounds v) a) binding)

@@ -1,10 +1,11 @@
 -- The tracked views as the state keeps them: each round is of this member, these members and this epoch.
-use Rattle.std.specs.Prelude.{◌≡◌, ℕ, List, Option, Some, is_some, unwrap_or, ◌||◌, if◌then◌else◌}
+use Rattle.std.specs.Prelude.{◌≡◌, ◌<◌, ◌^◌, ℕ, Bool, true, List, Option, Some, is_some, unwrap_or, ◌||◌, if◌then◌else◌}
 use Rattle.std.specs.Option.{option_map_or}
 use Rattle.std.specs.Ordering.{nat_cmp}
 use Rattle.std.specs.FinMap.{FinMap, get, insert}
-use Rattle.simplex_round.specs.Round.{RoundFacts, new_round, leader_at, with_deadlines, with_nullification, after_nullify}
-use Rattle.simplex_types.specs.Certificates.{NullificationFacts}
+use Rattle.simplex_round.specs.Round.{RoundFacts, new_round, leader_at, with_deadlines, with_notarization, with_nullification, with_finalization, after_nullify}
+use Rattle.simplex_types.specs.Certificates.{ProposalFacts, NullificationFacts}
+use Rattle.simplex_types.specs.Proposal.{same_proposal}
 use Rattle.simplex_voter.specs.declared.voter.rounds.Deadlines.{Deadlines}
 
 -- for whom and among whom rounds are made, and in which epoch
@@ -19,11 +20,12 @@ origin_of me members epoch = record { me = me; members = members; epoch = epoch 
 abbrev pub fresh_round : {K D : Type 0} → Origin K → ℕ → RoundFacts K D
 fresh_round o v = new_round o.me o.members (record { epoch = o.epoch; view = v })
 
--- a round was made so, at this view
+-- a round was made so, at this view; a certificate of its proposal has a view of 63 bits
 pub record IsMadeBy {K D : Type 0} (o : Origin K) (v : ℕ) (r : RoundFacts K D) : Type 0 where
   pub me : r.me ≡ o.me
   pub members : r.members ≡ o.members
   pub round : r.round ≡ record { epoch = o.epoch; view = v }
+  pub votable : is_some r.notarization ≡ true → v < 2 ^ 63
 
 -- each tracked round was
 abbrev pub AreMadeBy : {K D : Type 0} → Origin K → FinMap nat_cmp (RoundFacts K D) → Type 0
@@ -45,6 +47,14 @@ abbrev pub entered_rounds : {K D : Type 0} → Origin K → FinMap nat_cmp (Roun
 entered_rounds o rounds v now deadlines =
     let r = round_in o rounds v in
     insert rounds v (with_deadlines (record r { entered_at = Some (unwrap_or r.entered_at now) }) deadlines.leader deadlines.certification deadlines.stall)
+
+-- the rounds with the first notarization of a view
+abbrev pub notarized_rounds : {K D : Type 0} → (D → D → Bool) → Origin K → FinMap nat_cmp (RoundFacts K D) → ℕ → ProposalFacts D → FinMap nat_cmp (RoundFacts K D)
+notarized_rounds same o rounds v c = insert rounds v (with_notarization (same_proposal same) (round_in o rounds v) c)
+
+-- the rounds with the first finalization of a view
+abbrev pub finalized_rounds : {K D : Type 0} → (D → D → Bool) → Origin K → FinMap nat_cmp (RoundFacts K D) → ℕ → ProposalFacts D → FinMap nat_cmp (RoundFacts K D)
+finalized_rounds same o rounds v c = insert rounds v (with_finalization (same_proposal same) (round_in o rounds v) c)
 
 -- the rounds with the first nullification of a view
 abbrev pub nullified_rounds : {K D : Type 0} → Origin K → FinMap nat_cmp (RoundFacts K D) → ℕ → NullificationFacts → FinMap nat_cmp (RoundFacts K D)

@@ -6,6 +6,7 @@ use Rattle.simplex_types.specs.declared.types.messages.Proposal.{Proposal}
 use Rattle.simplex_round.specs.declared.round.Decision.TheVariants.{Finalize}
 use Rattle.simplex_round.specs.Round.{after_nullify, is_nullify}
 use Rattle.simplex_types.specs.declared.types.messages.Nullify.{Nullify}
+use Rattle.simplex_types.specs.declared.types.messages.Finalize as message
 use Rattle.simplex_types.specs.declared.types.messages.Subject.{Subject}
 use Rattle.simplex_types.specs.declared.types.messages.Subject.TheVariants as subject
 use Rattle.simplex_voter.specs.Facts.{Facts, Elect, round_number, round_of, with_round}
@@ -17,6 +18,11 @@ pub record IsSignedNullify {S L D K G C : Type 0} (signature_of : ℕ → Subjec
   pub round : vote.round ≡ round_number x v
   pub signer : x.me ≡ Some vote.signer
   pub signature : vote.signature ≡ signature_of vote.signer (subject.Nullify vote.round)
+
+-- the vote is this member's, with its signature on just its proposal
+pub record IsSignedFinalize {S L D K G C : Type 0} (signature_of : ℕ → Subject D → G) (x : Facts K L D) (vote : message.Finalize S D K G C) : Type 0 where
+  pub signer : x.me ≡ Some vote.signer
+  pub signature : vote.signature ≡ signature_of vote.signer (subject.Finalize vote.proposal)
 
 module _ {K L D : Type 0} where
   -- this member's nullify vote for the view is out, where it has a key
@@ -31,14 +37,22 @@ module _ {K L D : Type 0} where
   after_construct_nullify x v =
       if may_nullify x v then nullify_cast (with_round x v (after_nullify (round_of x v))) v else x
 
+module _ {K L D : Type 0} where
+  -- the vote to finalize the view is decided
+  abbrev pub finalize_cast : Facts K L D → ℕ → Facts K L D
+  finalize_cast x v = with_round x v (record (round_of x v) { decision = Finalize })
+
+  -- the proposal that is held, where there is a key
+  abbrev pub signed_proposal : Facts K L D → ℕ → Option (Proposal D)
+  signed_proposal x v = if is_some x.me then (round_of x v).slot.held else None
+
 module _ {K L D : Type 0} (elect : Elect L) where
   -- `construct_finalize`: what is signed
   abbrev pub finalize_answer : Facts K L D → ℕ → Option (Proposal D)
   finalize_answer x v = if is_some x.me && may_finalize elect x v then (round_of x v).slot.held else None
 
   abbrev pub after_construct_finalize : Facts K L D → ℕ → Facts K L D
-  after_construct_finalize x v =
-      if may_finalize elect x v then with_round x v (record (round_of x v) { decision = Finalize }) else x
+  after_construct_finalize x v = if may_finalize elect x v then finalize_cast x v else x
 
 module _ {K L D : Type 0} (same : D → D → Bool) (elect : Elect L) where
   -- `construct_notarize`: what is signed

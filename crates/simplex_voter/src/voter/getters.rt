@@ -11,7 +11,7 @@ use simplex_types::types::{
 };
 
 impl<S: CertificateScheme, L: Elector<S>, D: Digest> State<S, L, D> {
-    ghost use Rattle.simplex_voter.specs.Facts.{round_at};
+    ghost use Rattle.simplex_voter.specs.Facts.{round_at, is_tracked};
     ghost use Rattle.simplex_voter.specs.Windows.{is_me, viewport, min_active, admits_certificate, admits_vote};
     ghost use Rattle.simplex_voter.specs.Serving.{notarization_of, nullification_of, finalization_of, leader_of, forwardable_of, elapsed_since_start, elapsed_since_entry};
 
@@ -81,6 +81,13 @@ impl<S: CertificateScheme, L: Elector<S>, D: Digest> State<S, L, D> {
     {
         let leader = self.round_at(view)?.leader()?;
         Some(leader.idx)
+    }
+
+    /// Whether the view is tracked.
+    pub fn is_tracked(&self, view: View) -> bool
+        ensures { result ≡ is_tracked self.now view }
+    {
+        self.round_at(view).is_some()
     }
 
     /// The notarization of a tracked view, if it is there.

@@ -77,7 +77,7 @@ impl<S: CertificateScheme, L: Elector<S>, D: Digest> State<S, L, D> {
     }
 
     /// The nullification's view and those behind it in its term are nullified.
-    fn nullify_view(&mut self, view: View) -> Result<(), Fault>
+    pub(super) fn nullify_view(&mut self, view: View) -> Result<(), Fault>
         requires { 1 ≤ view }
         ensures noted { OnOk result (self.new ≡ nullified_also self.old view) }
         ensures refused { IfErr result (λ fault. fault ≡ OutOfMemory) }

@@ -53,7 +53,7 @@ pub struct State<S: CertificateScheme, L: Elector<S>, D: Digest> {
     certification_timeout: u64,
     pub(super) timeout_retry: u64,
     pub(super) skip_budget: u64,
-    genesis: Option<D>,
+    pub(super) genesis: Option<D>,
     pub(super) current: View,
     pub(super) finalized: View,
     pub(super) moment: u64,

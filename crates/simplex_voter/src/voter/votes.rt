@@ -3,13 +3,14 @@
 ghost use Rattle.std.specs.Prelude.{◌≡◌, ◌≤◌, IfSome, IfOk, IfErr, OnOk, OnSome, Err, None, Some, true, is_some, option_map, if◌then◌else◌};
 ghost use Rattle.simplex_types.specs.declared.types.fault.Fault.TheVariants.{OutOfMemory};
 
+use super::in_place::decide_finalize;
 use super::rounds::decide_nullify;
 use super::state::State;
 use super::views::note_view;
 use simplex_round::round::Decision;
 use simplex_types::reasons::TimeoutReason;
 use simplex_types::types::{
-    CertificateScheme, Digest, Elector, Fault, Nullify, Scheme, Subject, View,
+    CertificateScheme, Digest, Elector, Fault, Finalize, Nullify, Proposal, Scheme, Subject, View,
 };
 
 impl<S: CertificateScheme, L: Elector<S>, D: Digest> State<S, L, D> {
@@ -17,10 +18,11 @@ impl<S: CertificateScheme, L: Elector<S>, D: Digest> State<S, L, D> {
     ghost use Rattle.simplex_voter.specs.Facts.{round_of, with_round};
     ghost use Rattle.simplex_voter.specs.Rules.{may_nullify};
     ghost use Rattle.simplex_voter.specs.Votes.{nullify_answer, nullify_cast, after_construct_nullify, IsSignedNullify};
+    ghost use Rattle.simplex_voter.specs.Votes.{finalize_answer, signed_proposal, finalize_cast, after_construct_finalize, IsSignedFinalize};
     ghost use Rattle.simplex_voter.specs.Refusals.{HasFailed, plain_refusal, is_started};
     ghost use Rattle.std.specs.Ordering.{nat_cmp};
     ghost use Rattle.std.specs.BTreeSet.{insert_key};
-    ghost use Rattle.simplex_round.specs.Round.{is_nullify, after_nullify};
+    ghost use Rattle.simplex_round.specs.Round.{is_nullify, after_nullify, can_finalize};
 
     /// Votes to nullify the current view, unless it was voted to finalize it: the decision is set, also without a key,
     /// and the vote is answered, with whether it is a repeat, where the scheme has a key. Else nothing changes.
@@ -84,7 +86,7 @@ impl<S: CertificateScheme, L: Elector<S>, D: Digest> State<S, L, D> {
     }
 
     /// This member's vote to nullify a view is out.
-    fn note_nullify_vote(&mut self, view: View) -> Result<(), Fault>
+    pub(super) fn note_nullify_vote(&mut self, view: View) -> Result<(), Fault>
         requires { 1 ≤ view }
         ensures noted { OnOk result (self.new ≡ record self.old { nullify_votes = insert_key nat_cmp self.old.nullify_votes view }) }
         ensures refused { IfErr result (λ fault. fault ≡ OutOfMemory) }
@@ -119,5 +121,71 @@ impl<S: CertificateScheme, L: Elector<S>, D: Digest> State<S, L, D> {
         ensures setup { HasSameSetup self.old self.new }
     {
         decide_nullify(self.alloc, &mut self.rounds, &self.scheme, self.epoch, view)
+    }
+
+    /// Votes to finalize a view where the rule allows it: the decision is set, also without a key, and the vote is
+    /// answered where the scheme has a key. Else nothing changes, so the vote is cast once.
+    ///
+    /// The state has a floor.
+    pub fn construct_finalize(&mut self, view: View) -> Result<Option<Finalize<S, D>>, Fault>
+    where
+        S: Scheme<D>,
+        requires { is_started self.old ≡ true }
+        ensures refused { IfSome (plain_refusal self.old) (λ fault. (result ≡ Err fault) × (self.new ≡ self.old)) }
+        ensures vote { IfOk result (λ vote. option_map (λ v. v.proposal) vote ≡ finalize_answer L.elect self.old view) }
+        ensures signed { IfOk result (λ vote. IfSome vote (IsSignedFinalize S.signature_of self.old)) }
+        ensures after { OnOk result (self.new ≡ after_construct_finalize L.elect self.old view) }
+        ensures out_of_memory { plain_refusal self.old ≡ None → IfErr result (λ fault. (fault ≡ OutOfMemory) × HasFailed self.old self.new) }
+    {
+        if self.is_failed() {
+            return Err(Fault::Failed);
+        }
+        if !self.may_finalize(view) {
+            return Ok(None);
+        }
+        match self.cast_finalize(view) {
+            Ok(vote) => Ok(vote),
+            Err(fault) => {
+                self.fail();
+                Err(fault)
+            }
+        }
+    }
+
+    /// Decides the vote to finalize a view, and signs it where there is a key.
+    fn cast_finalize(&mut self, view: View) -> Result<Option<Finalize<S, D>>, Fault>
+    where
+        S: Scheme<D>,
+        requires { can_finalize (round_of self.old view) ≡ true }
+        ensures cast { OnOk result (self.new ≡ finalize_cast self.old view) }
+        ensures vote { IfOk result (λ vote. option_map (λ v. v.proposal) vote ≡ signed_proposal self.old view) }
+        ensures signed { IfOk result (λ vote. IfSome vote (IsSignedFinalize S.signature_of self.old)) }
+        ensures refused { IfErr result (λ fault. fault ≡ OutOfMemory) }
+        ensures setup { HasSameSetup self.old self.new }
+    {
+        let Some(proposal) = self.decide_finalize(view) else {
+            return Ok(None);
+        };
+        let Some(signer) = self.scheme.me() else {
+            return Ok(None);
+        };
+        let subject = Subject::Finalize(proposal);
+        let Some(signature) = self.scheme.sign(self.alloc, &subject)? else {
+            unreachable!()
+        };
+        Ok(Some(Finalize {
+            proposal,
+            signer,
+            signature,
+        }))
+    }
+
+    /// Decides the vote to finalize a view, and answers what is voted for.
+    fn decide_finalize(&mut self, view: View) -> Option<Proposal<D>>
+        requires { can_finalize (round_of self.old view) ≡ true }
+        ensures decided { self.new ≡ finalize_cast self.old view }
+        ensures vote { result ≡ (round_of self.old view).slot.held }
+    {
+        decide_finalize(&mut self.rounds, view)
     }
 }

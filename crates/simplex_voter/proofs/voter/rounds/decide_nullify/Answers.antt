@@ -6,7 +6,7 @@ pub returns-in-Some-clause-made : goal.returns-in-Some-clause-made
 returns-in-Some-clause-made g c =
     let same = lent _ _ _ _ _ c.in_ok-track.ensures.tracked c.in-Some.ensures.value in
     let alike = decided_alike _ _ c.construct_nullify-retry.ensures.facts in
-    made_insert _ _ _ _ c.in_ok-track.ensures.made (made_again _ _ _ _ _ c.requires same alike.0 alike.1 alike.2)
+    made_insert _ _ _ _ c.in_ok-track.ensures.made (made_again _ _ _ _ _ c.requires same alike.0 alike.1 alike.2 alike.3)
 
 pub returns-in-Some-clause-decided : goal.returns-in-Some-clause-decided
 returns-in-Some-clause-decided g c =

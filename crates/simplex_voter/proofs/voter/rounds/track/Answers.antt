@@ -1,7 +1,7 @@
 use Rattle.std.proofs.Common.{◌≡◌, sym, ◌∙◌, ap, refl}
 use Rattle.std.specs.FinMap as map
 use Rattle.simplex_round.specs.Round.{new_round}
-use Rattle.simplex_voter.proofs.RoundsKept.{stays, goes_in, looked_up, made_insert, inserted_new}
+use Rattle.simplex_voter.proofs.RoundsKept.{stays, goes_in, looked_up, made_insert, fresh_made, inserted_new}
 use Rattle.simplex_voter.proofs.voter.rounds.track.Goals as goal
 
 pub returns-then-is_some-clause-tracked : goal.returns-then-is_some-clause-tracked
@@ -16,7 +16,7 @@ returns-clause-made g c =
     let fresh : c.new-fresh.result ≡ new_round (g.S.CertificateScheme.me c.args.scheme.now) (g.S.CertificateScheme.participants c.args.scheme.now) (record { epoch = c.args.epoch; view = c.args.view }) =
     c.new-fresh.ensures ∙ rw (c.in_ok-copy.ensures.signer, c.in_ok-copy.ensures.members) refl in
     let new = inserted_new _ _ _ _ _ absent c.in_ok-_standing.ensures.standing c.in_ok-_standing.ensures.after in
-    rw (new, fresh) (made_insert _ _ _ _ c.requires (record { me = refl; members = refl; round = refl }))
+    rw (new, fresh) (made_insert _ _ _ _ c.requires (fresh_made _ _))
 
 pub returns-clause-tracked : goal.returns-clause-tracked
 returns-clause-tracked g c =

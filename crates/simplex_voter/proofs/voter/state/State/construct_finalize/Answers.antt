@@ -1,0 +1,6 @@
+use Rattle.std.proofs.Common.{sym}
+use Rattle.simplex_voter.proofs.Rules.{finalize_round}
+use Rattle.simplex_voter.proofs.voter.state.State.construct_finalize.Goals as goal
+
+pub cast_finalize-requires : goal.cast_finalize-requires
+cast_finalize-requires g c = finalize_round _ _ _ (sym c.if-not-may_finalize.ensures)

@@ -1,0 +1,8 @@
+use Rattle.std.proofs.Common.{refl}
+use Rattle.simplex_voter.proofs.Shown.{on_ok, not_le}
+use Rattle.simplex_voter.proofs.Waiting.{named_shown}
+use Rattle.simplex_voter.proofs.voter.state.State.name_for_certification.Goals as goal
+
+pub returns-clause-named : goal.returns-clause-named
+returns-clause-named g c =
+    rw (← c.self.view_is) (on_ok c.name_view.result (named_shown _ _ _ _ refl (not_le _ _ c.if-le.ensures)) c.name_view.ensures.named)

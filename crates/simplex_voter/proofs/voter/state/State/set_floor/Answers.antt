@@ -1,0 +1,5 @@
+use Rattle.simplex_voter.proofs.Faults.{passed_on}
+use Rattle.simplex_voter.proofs.voter.state.State.set_floor.Goals as goal
+
+pub returns-in-Err-clause-refused : goal.returns-in-Err-clause-refused
+returns-in-Err-clause-refused g c = rw c.in-Genesis.is (passed_on _ _ _ _ c.in-Err.fault c.in-Err.ensures.refused)

@@ -1,0 +1,160 @@
+//! Verdicts of certifications, and the views that wait for them.
+
+ghost use Rattle.std.specs.Prelude.{◌≡◌, ◌↔◌, ◌+◌, ◌<◌, ◌^◌, ◌&&◌, IsTrue, IsNone, IfSome, IfOk, IfErr, OnOk, Err, None, true, false, is_some, nat_lt, option_map};
+ghost use Rattle.std.specs.Option.{option_map_or};
+ghost use Rattle.simplex_types.specs.Certificates.{notarization_facts};
+ghost use Rattle.simplex_types.specs.declared.types.fault.Fault.TheVariants.{OutOfMemory};
+
+use super::in_place::judge;
+use super::rounds::Deadlines;
+use super::state::State;
+use simplex_types::reasons::TimeoutReason;
+use simplex_types::types::{CertificateScheme, Digest, Elector, Fault, Notarization, View};
+
+impl<S: CertificateScheme, L: Elector<S>, D: Digest> State<S, L, D> {
+    ghost use Rattle.simplex_voter.specs.Setup.{HasSameSetup, deadlines_at};
+    ghost use Rattle.simplex_voter.specs.Facts.{round_at, is_tracked};
+    ghost use Rattle.simplex_voter.specs.Refusals.{HasFailed, enters_late};
+    ghost use Rattle.simplex_voter.specs.Entering.{at_moment};
+    ghost use Rattle.simplex_voter.specs.Certification.{waits_for, woken, takes_verdict, certified_refusal, certified_answer, judged, verdict_taken, after_certified};
+
+    /// Takes the verdict of a view's certification. A true one enters the next view, where that is ahead, and names the
+    /// view above where that waited for this one; a false one times the view out. Answers the view's notarization; where
+    /// the view isn't tracked, none, and only the moment is noted.
+    ///
+    /// The state has a floor, and a tracked view has its notarization and no other verdict. `TimeOverflow` where a
+    /// deadline of the view that would be entered passes 2^64 - 1 milliseconds.
+    pub fn certified(
+        &mut self,
+        view: View,
+        success: bool,
+        now: u64,
+    ) -> Result<Option<Notarization<S, D>>, Fault>
+        requires { takes_verdict self.old view success ≡ true }
+        ensures refused { IfSome (certified_refusal self.old view success now) (λ fault. (result ≡ Err fault) × (self.new ≡ self.old)) }
+        ensures answer { IfOk result (λ answer. option_map (notarization_facts S.certificate_bytes) answer ≡ certified_answer self.old view) }
+        ensures after { OnOk result (self.new ≡ after_certified L.elect self.old view success now) }
+        ensures out_of_memory { certified_refusal self.old view success now ≡ None → IfErr result (λ fault. (fault ≡ OutOfMemory) × HasFailed self.old self.new) }
+    {
+        if self.is_failed() {
+            return Err(Fault::Failed);
+        }
+        if !self.is_tracked(view) {
+            self.note_moment(now);
+            return Ok(None);
+        }
+        let Some(deadlines) = self.verdict_deadlines(view, success, now) else {
+            return Err(Fault::TimeOverflow);
+        };
+        match self.take_verdict(view, success, now, &deadlines) {
+            Ok(notarization) => Ok(notarization),
+            Err(fault) => {
+                self.fail();
+                Err(fault)
+            }
+        }
+    }
+
+    fn take_verdict(
+        &mut self,
+        view: View,
+        success: bool,
+        now: u64,
+        deadlines: &Deadlines,
+    ) -> Result<Option<Notarization<S, D>>, Fault>
+        requires taken { takes_verdict self.old view success ≡ true }
+        requires tracked { is_tracked self.old view ≡ true }
+        requires deadlines { success ≡ true → nat_lt self.old.current (view + 1) ≡ true → deadlines.now ≡ deadlines_at self.old now }
+        ensures answer { IfOk result (λ answer. option_map (notarization_facts S.certificate_bytes) answer ≡ certified_answer self.old view) }
+        ensures taken { OnOk result (self.new ≡ verdict_taken L.elect (at_moment self.old now) view success now) }
+        ensures refused { IfErr result (λ fault. fault ≡ OutOfMemory) }
+        ensures setup { HasSameSetup self.old self.new }
+    {
+        let next = self.after_notarized(view);
+        let notarization = self.copy_notarization(view)?;
+        self.note_moment(now);
+        self.judge(view, success);
+        if !success {
+            self.trigger(view, TimeoutReason::FailedCertification, now);
+            return Ok(notarization);
+        }
+        self.enter(next, now, deadlines)?;
+        self.wake(view)?;
+        Ok(notarization)
+    }
+
+    /// The deadlines of the view after a notarized one, which a true verdict may enter; none where one is too late.
+    fn verdict_deadlines(&self, view: View, success: bool, now: u64) -> Option<Deadlines>
+        requires { is_some (certified_answer self.now view) ≡ true }
+        ensures late { IsNone result ↔ IsTrue (success && enters_late self.now (view + 1) now) }
+        ensures moments { IfSome result (λ deadlines. success ≡ true → nat_lt self.now.current (view + 1) ≡ true → deadlines ≡ deadlines_at self.now now) }
+    {
+        if !success {
+            return Some(Deadlines::none());
+        }
+        self.deadlines_to(self.after_notarized(view), now)
+    }
+
+    /// The view after a notarized one.
+    fn after_notarized(&self, view: View) -> View
+        requires { is_some (certified_answer self.now view) ≡ true }
+        ensures next { result ≡ view + 1 }
+        ensures in_range { view + 1 < 2 ^ 64 }
+    {
+        match self.rounds.get(view) {
+            Some(_) => view.next(),
+            None => unreachable!(),
+        }
+    }
+
+    /// A copy of the view's notarization, if it is there.
+    fn copy_notarization(&self, view: View) -> Result<Option<Notarization<S, D>>, Fault>
+        ensures copy { IfOk result (λ answer. option_map (notarization_facts S.certificate_bytes) answer ≡ certified_answer self.now view) }
+        ensures refused { IfErr result (λ fault. fault ≡ OutOfMemory) }
+    {
+        match self.notarization(view) {
+            Some(notarization) => Ok(Some(notarization.clone(self.alloc)?)),
+            None => Ok(None),
+        }
+    }
+
+    /// Keeps the verdict of a tracked view.
+    fn judge(&mut self, view: View, success: bool)
+        requires taken { takes_verdict self.old view success ≡ true }
+        requires tracked { is_tracked self.old view ≡ true }
+        ensures { self.new ≡ judged self.old view success }
+    {
+        judge(&mut self.rounds, view, success);
+    }
+
+    /// Once a view is certified or finalized, the view above it that waited for it is a candidate again.
+    pub(super) fn wake(&mut self, view: View) -> Result<(), Fault>
+        requires { view + 1 < 2 ^ 64 }
+        ensures woken { OnOk result (self.new ≡ woken L.elect self.old view) }
+        ensures refused { IfErr result (λ fault. fault ≡ OutOfMemory) }
+        ensures setup { HasSameSetup self.old self.new }
+    {
+        if !self.is_awaited(view) {
+            return Ok(());
+        }
+        self.name_for_certification(view.next())
+    }
+
+    /// Whether the view above is notarized and its proposal needs this one certified.
+    fn is_awaited(&self, view: View) -> bool
+        requires { view + 1 < 2 ^ 64 }
+        ensures { result ≡ option_map_or (waits_for L.elect self.now view) (round_at self.now (view + 1)) false }
+    {
+        let next = view.next();
+        let Some(round) = self.round_at(next) else {
+            return false;
+        };
+        if round.notarization().is_none() {
+            return false;
+        }
+        match round.proposal() {
+            Some(proposal) => self.required_parent(next, proposal) == Some(view),
+            None => false,
+        }
+    }
+}

@@ -1,0 +1,117 @@
+//! Finalizations of proposals.
+
+ghost use Rattle.std.specs.Prelude.{◌≡◌, ◌+◌, ◌<◌, ◌^◌, IfSome, IfOk, IfErr, OnOk, Err, Some, None, true, nat_lt};
+ghost use Rattle.simplex_types.specs.Terms.{IsVotable};
+ghost use Rattle.simplex_types.specs.Certificates.{finalization_facts};
+ghost use Rattle.simplex_types.specs.declared.types.fault.Fault.TheVariants.{OutOfMemory};
+
+use super::kept::keep_finalization;
+use super::refusals::names_too_large;
+use super::rounds::Deadlines;
+use super::state::State;
+use simplex_types::types::{CertificateScheme, Digest, Elector, Fault, Finalization, Viewable};
+
+impl<S: CertificateScheme, L: Elector<S>, D: Digest> State<S, L, D> {
+    ghost use Rattle.simplex_voter.specs.Setup.{HasSameSetup, deadlines_at};
+    ghost use Rattle.simplex_voter.specs.Refusals.{HasFailed};
+    ghost use Rattle.simplex_voter.specs.Acceptance.{takes_proposal_certificate, finalization_refusal, finalization_added, after_add_finalization, with_finalization_at};
+
+    /// Takes a finalization: its view is the last finalized one where that is above the one before, and then nothing at
+    /// or below it waits for certification; the next view is entered where that is ahead, and led by the elector's choice
+    /// after this certificate. The first of its view is kept, the view that waited for its own is a candidate for
+    /// certification again, and the views whose window it opens take the leader of the view before them. Answers whether
+    /// it is the first of its view, with the key of a leader found to equivocate.
+    ///
+    /// It is of this epoch, and of a view that is kept. `ViewTooLarge` where its view or its parent's is above 2^63 - 1,
+    /// `TimeOverflow` where a deadline of the view that would be entered passes 2^64 - 1 milliseconds.
+    pub fn add_finalization(
+        &mut self,
+        finalization: Finalization<S, D>,
+        now: u64,
+    ) -> Result<(bool, Option<S::PublicKey>), Fault>
+        requires { takes_proposal_certificate self.old (finalization_facts S.certificate_bytes finalization) ≡ true }
+        ensures refused { IfSome (finalization_refusal self.old finalization.proposal now) (λ fault. (result ≡ Err fault) × (self.new ≡ self.old)) }
+        ensures added { IfOk result (λ added. added ≡ finalization_added D.eq L.elect self.old (finalization_facts S.certificate_bytes finalization)) }
+        ensures after { OnOk result (self.new ≡ after_add_finalization D.eq L.elect self.old (finalization_facts S.certificate_bytes finalization) now) }
+        ensures out_of_memory { finalization_refusal self.old finalization.proposal now ≡ None → IfErr result (λ fault. (fault ≡ OutOfMemory) × HasFailed self.old self.new) }
+    {
+        let deadlines = self.deadlines_above(&finalization, now)?;
+        match self.accept_finalization(finalization, now, &deadlines) {
+            Ok(added) => Ok(added),
+            Err(fault) => {
+                self.fail();
+                Err(fault)
+            }
+        }
+    }
+
+    /// The deadlines of the view above a finalization, or why that is refused.
+    pub(super) fn deadlines_above(
+        &self,
+        finalization: &Finalization<S, D>,
+        now: u64,
+    ) -> Result<Deadlines, Fault>
+        ensures refused { IfErr result (λ fault. finalization_refusal self.now finalization.now.proposal now ≡ Some fault) }
+        ensures taken { OnOk result ((finalization_refusal self.now finalization.now.proposal now ≡ None) × (finalization.now.proposal.round.view < 2 ^ 63)) }
+        ensures moments { IfOk result (λ deadlines. nat_lt self.now.current (finalization.now.proposal.round.view + 1) ≡ true → deadlines ≡ deadlines_at self.now now) }
+    {
+        if self.is_failed() {
+            return Err(Fault::Failed);
+        }
+        if names_too_large(&finalization.proposal) {
+            return Err(Fault::ViewTooLarge);
+        }
+        match self.deadlines_to(finalization.view().next(), now) {
+            Some(deadlines) => Ok(deadlines),
+            None => Err(Fault::TimeOverflow),
+        }
+    }
+
+    /// Keeps a finalization that is not refused, with all that it does.
+    pub(super) fn accept_finalization(
+        &mut self,
+        finalization: Finalization<S, D>,
+        now: u64,
+        deadlines: &Deadlines,
+    ) -> Result<(bool, Option<S::PublicKey>), Fault>
+        requires votable { IsVotable finalization.proposal.round.view }
+        requires deadlines { nat_lt self.old.current (finalization.proposal.round.view + 1) ≡ true → deadlines.now ≡ deadlines_at self.old now }
+        ensures added { IfOk result (λ added. added ≡ finalization_added D.eq L.elect self.old (finalization_facts S.certificate_bytes finalization)) }
+        ensures accepted { OnOk result (self.new ≡ after_add_finalization D.eq L.elect self.old (finalization_facts S.certificate_bytes finalization) now) }
+        ensures refused { IfErr result (λ fault. fault ≡ OutOfMemory) }
+        ensures setup { HasSameSetup self.old self.new }
+    {
+        let view = finalization.view();
+        self.note_moment(now);
+        self.raise(view);
+        self.enter(view.next(), now, deadlines)?;
+        self.elect(view.next(), Some(&finalization.certificate))?;
+        let added = self.keep_finalization(finalization)?;
+        if !added.0 {
+            return Ok(added);
+        }
+        self.wake(view)?;
+        self.slide(view)?;
+        Ok(added)
+    }
+
+    fn keep_finalization(
+        &mut self,
+        finalization: Finalization<S, D>,
+    ) -> Result<(bool, Option<S::PublicKey>), Fault>
+        ensures added { IfOk result (λ added. added ≡ finalization_added D.eq L.elect self.old (finalization_facts S.certificate_bytes finalization)) }
+        ensures kept { OnOk result (self.new ≡ with_finalization_at D.eq L.elect self.old (finalization_facts S.certificate_bytes finalization)) }
+        ensures refused { IfErr result (λ fault. fault ≡ OutOfMemory) }
+        ensures setup { HasSameSetup self.old self.new }
+    {
+        let view = finalization.view();
+        keep_finalization(
+            self.alloc,
+            &mut self.rounds,
+            &self.scheme,
+            self.epoch,
+            view,
+            finalization,
+        )
+    }
+}

@@ -1,0 +1,126 @@
+//! What the entries of this member's record restore after a restart.
+
+ghost use Rattle.std.specs.Prelude.{◌≡◌, ◌≤◌, IfSome, IfErr, OnOk, Err, None, option_and_then};
+ghost use Rattle.simplex_types.specs.Terms.{IsVotable};
+ghost use Rattle.simplex_types.specs.Viewed.{artifact_view};
+ghost use Rattle.simplex_types.specs.declared.types.fault.Fault.TheVariants.{OutOfMemory};
+ghost use Rattle.simplex_round.specs.Round.{TakesArtifact};
+ghost use Rattle.simplex_voter.specs.Replay.{artifact_too_large, voted_proposal};
+
+use super::refusals::names_too_large;
+use super::state::{LARGEST_VIEW, State};
+use simplex_types::types::{
+    Artifact, CertificateScheme, Digest, Elector, Fault, Proposal, Viewable,
+};
+
+/// Whether the artifact's view or its proposal's parent is above 2^63 - 1.
+fn is_too_large<S: CertificateScheme, D: Digest>(artifact: &Artifact<S, D>) -> bool
+    ensures { result ≡ artifact_too_large artifact.now }
+{
+    if artifact.view().get() > LARGEST_VIEW {
+        return true;
+    }
+    match artifact {
+        Artifact::Notarize(vote) => names_too_large(&vote.proposal),
+        Artifact::Notarization(notarization) => names_too_large(&notarization.proposal),
+        Artifact::Finalize(vote) => names_too_large(&vote.proposal),
+        Artifact::Finalization(finalization) => names_too_large(&finalization.proposal),
+        Artifact::Certification(_, _) | Artifact::Nullify(_) | Artifact::Nullification(_) => false,
+    }
+}
+
+impl<S: CertificateScheme, L: Elector<S>, D: Digest> State<S, L, D> {
+    ghost use Rattle.simplex_voter.specs.Setup.{HasSameSetup};
+    ghost use Rattle.simplex_voter.specs.Facts.{round_of, with_round};
+    ghost use Rattle.simplex_voter.specs.Refusals.{HasFailed};
+    ghost use Rattle.simplex_voter.specs.Replay.{TakesReplay, replay_refusal, restored_binding, replayed_sets, replayed_round, after_replayed};
+
+    /// Restores what an entry of this member's record says: a vote is decided again, a certificate counts as handed out
+    /// and is not added, a verdict stands. The current view stays.
+    ///
+    /// The state has a floor. The artifact is of this epoch and of a view that is kept, a vote is this member's own and
+    /// doesn't meet its opposite, and no verdict contradicts another. `ViewTooLarge` where its view or its proposal's
+    /// parent is above 2^63 - 1.
+    pub fn replay(&mut self, artifact: &Artifact<S, D>) -> Result<(), Fault>
+        requires { TakesReplay self.old artifact.now }
+        ensures refused { IfSome (replay_refusal self.old artifact.now) (λ fault. (result ≡ Err fault) × (self.new ≡ self.old)) }
+        ensures after { OnOk result (self.new ≡ after_replayed D.eq L.elect self.old artifact.now) }
+        ensures out_of_memory { replay_refusal self.old artifact.now ≡ None → IfErr result (λ fault. (fault ≡ OutOfMemory) × HasFailed self.old self.new) }
+    {
+        if self.is_failed() {
+            return Err(Fault::Failed);
+        }
+        if is_too_large(artifact) {
+            return Err(Fault::ViewTooLarge);
+        }
+        match self.take_artifact(artifact) {
+            Ok(()) => Ok(()),
+            Err(fault) => {
+                self.fail();
+                Err(fault)
+            }
+        }
+    }
+
+    fn take_artifact(&mut self, artifact: &Artifact<S, D>) -> Result<(), Fault>
+        requires taken { TakesArtifact (round_of self.old (artifact_view artifact.now)) artifact.now }
+        requires votable { IsVotable (artifact_view artifact.now) }
+        ensures replayed { OnOk result (self.new ≡ after_replayed D.eq L.elect self.old artifact.now) }
+        ensures refused { IfErr result (λ fault. fault ≡ OutOfMemory) }
+        ensures setup { HasSameSetup self.old self.new }
+    {
+        self.restore_round(artifact)?;
+        self.restore_sets(artifact)?;
+        match artifact {
+            Artifact::Notarize(vote) => self.prepare(vote.view()),
+            _ => Ok(()),
+        }
+    }
+
+    /// Restores what the artifact says of its view's round.
+    fn restore_round(&mut self, artifact: &Artifact<S, D>) -> Result<(), Fault>
+        requires { TakesArtifact (round_of self.old (artifact_view artifact.now)) artifact.now }
+        ensures restored { OnOk result (self.new ≡ with_round self.old (artifact_view artifact.now) (replayed_round D.eq self.old artifact.now)) }
+        ensures refused { IfErr result (λ fault. fault ≡ OutOfMemory) }
+        ensures setup { HasSameSetup self.old self.new }
+    {
+        let binding = self.binding_of(artifact);
+        self.recall(artifact.view(), artifact, binding)
+    }
+
+    /// Restores the sets of views that the rules look up.
+    fn restore_sets(&mut self, artifact: &Artifact<S, D>) -> Result<(), Fault>
+        requires { 1 ≤ artifact_view artifact.now }
+        ensures restored { OnOk result (self.new ≡ replayed_sets self.old artifact.now) }
+        ensures refused { IfErr result (λ fault. fault ≡ OutOfMemory) }
+        ensures setup { HasSameSetup self.old self.new }
+    {
+        match artifact {
+            Artifact::Nullify(vote) => self.note_nullify_vote(vote.view()),
+            Artifact::Nullification(nullification) => self.nullify_view(nullification.view()),
+            _ => Ok(()),
+        }
+    }
+
+    /// What a replayed notarize vote is bound to: its proposal, on what the parent holds.
+    fn binding_of(&self, artifact: &Artifact<S, D>) -> Option<(Proposal<D>, D)>
+        ensures { result ≡ option_and_then (restored_binding self.now) (voted_proposal artifact.now) }
+    {
+        match artifact {
+            Artifact::Notarize(vote) => self.restored_binding(&vote.proposal),
+            _ => None,
+        }
+    }
+
+    /// The proposal with its parent's held payload, where no certificate decides that.
+    fn restored_binding(&self, proposal: &Proposal<D>) -> Option<(Proposal<D>, D)>
+        ensures { result ≡ restored_binding self.now proposal.now }
+    {
+        let parent = self.round_at(proposal.parent)?;
+        if parent.is_directly_notarized() {
+            return None;
+        }
+        let held = parent.proposal()?;
+        Some((*proposal, held.payload))
+    }
+}

@@ -1,0 +1,148 @@
+//! The parts of the rules that say when this member votes. Each method answers one of them.
+
+ghost use Rattle.std.specs.Prelude.{◌≡◌};
+ghost use Rattle.std.specs.Option.{option_copied};
+
+use super::state::State;
+use super::terms::{admits_outbound, before, start_of};
+use simplex_round::round::Decision;
+use simplex_types::types::{CertificateScheme, Digest, Elector, Proposal, View};
+
+impl<S: CertificateScheme, L: Elector<S>, D: Digest> State<S, L, D> {
+    ghost use Rattle.simplex_voter.specs.Facts.{round_of};
+    ghost use Rattle.simplex_round.specs.Round.{can_finalize};
+    ghost use Rattle.simplex_voter.specs.Windows.{is_start, is_admitted};
+    ghost use Rattle.simplex_voter.specs.Payloads.{explicit_payload, is_elected_early};
+    ghost use Rattle.simplex_voter.specs.Rules.{is_gated, was_handed_over, required_parent, is_parent_ready, has_required_parent, may_finalize};
+
+    /// Whether a vote of this member for the view may go out.
+    #[tactic(auto, unfolding(crate::specs::Windows::is_admitted))]
+    pub(super) fn is_admitted(&self, view: View) -> bool
+        ensures { result ≡ is_admitted self.now view }
+    {
+        admits_outbound(&self.elector.terms().lookahead(), self.current, view)
+    }
+
+    /// Whether the view starts a term.
+    pub(super) fn is_start(&self, view: View) -> bool
+        ensures { result ≡ is_start self.now view }
+    {
+        view == start_of(view, self.elector.terms().term_length)
+    }
+
+    /// Whether this member voted to nullify a view below in the term, above the last finalized view.
+    #[tactic(auto, unfolding(crate::specs::Rules::is_gated))]
+    pub(super) fn is_gated(&self, view: View) -> bool
+        ensures { result ≡ is_gated self.now view }
+    {
+        match self.nullify_votes.covering_below(view) {
+            Some(highest) => highest.0 > self.finalized,
+            None => false,
+        }
+    }
+
+    /// Genesis' payload, or that of a finalized or certified view.
+    #[tactic(auto, unfolding(crate::specs::Payloads::explicit_payload))]
+    pub(super) fn explicit_payload(&self, view: View) -> Option<&D>
+        ensures { option_copied result ≡ explicit_payload self.now view }
+    {
+        if view.is_zero() {
+            return self.genesis.as_ref();
+        }
+        self.round_at(view)?.certified_payload()
+    }
+
+    /// Whether this member is elected, before any certificate, for the term that the view starts.
+    pub(super) fn is_elected_early(&self, view: View) -> bool
+        ensures { result ≡ is_elected_early L.elect self.now view }
+    {
+        self.is_start(view) && self.elector.elects_early() && self.is_me(self.early_leader(view))
+    }
+
+    /// Whether this member was elected early for the term that the view starts, and voted for a proposal there.
+    fn was_handed_over(&self, view: View) -> bool
+        ensures { result ≡ was_handed_over L.elect self.now view }
+    {
+        self.is_elected_early(view) && self.has_voted_to_notarize(view)
+    }
+
+    /// Whether the vote to notarize was decided.
+    pub(super) fn has_voted_to_notarize(&self, view: View) -> bool
+        ensures { result ≡ (round_of self.now view).notarize_decided }
+    {
+        match self.round_at(view) {
+            Some(round) => round.broadcast_notarize(),
+            None => false,
+        }
+    }
+
+    /// The view that has to be certified before a proposal of this view.
+    #[tactic(auto, unfolding(crate::specs::Rules::required_parent))]
+    pub(super) fn required_parent(&self, view: View, proposal: &Proposal<D>) -> Option<View>
+        ensures { result ≡ required_parent L.elect self.now view proposal.now }
+    {
+        if !self.is_start(view) {
+            return Some(before(view));
+        }
+        if view.is_zero() || proposal.parent != before(view) {
+            return None;
+        }
+        if self.was_handed_over(view) {
+            Some(proposal.parent)
+        } else {
+            None
+        }
+    }
+
+    /// Whether what has to be certified before the proposal is.
+    fn is_parent_ready(&self, view: View, proposal: &Proposal<D>) -> bool
+        ensures { result ≡ is_parent_ready L.elect self.now view proposal.now }
+    {
+        match self.required_parent(view, proposal) {
+            Some(parent) => self.explicit_payload(parent).is_some(),
+            None => true,
+        }
+    }
+
+    /// The proposal that the view holds.
+    pub(super) fn held_proposal(&self, view: View) -> Option<&Proposal<D>>
+        ensures { option_copied result ≡ (round_of self.now view).slot.held }
+    {
+        self.round_at(view)?.proposal()
+    }
+
+    /// Whether the view's held proposal, if there is one, has what it requires.
+    fn has_required_parent(&self, view: View) -> bool
+        ensures { result ≡ has_required_parent L.elect self.now view }
+    {
+        match self.held_proposal(view) {
+            Some(proposal) => self.is_parent_ready(view, proposal),
+            None => false,
+        }
+    }
+
+    /// Whether the view's own facts let this member vote to finalize it.
+    fn can_finalize(&self, view: View) -> bool
+        ensures { result ≡ can_finalize (round_of self.now view) }
+    {
+        let Some(round) = self.round_at(view) else {
+            return false;
+        };
+        matches!(round.decision(), Decision::Pending { .. })
+            && round.has_unequivocated_proposal()
+            && round.notarization().is_some()
+            && round.is_certified()
+    }
+
+    /// Whether this member may vote to finalize the view.
+    #[tactic(auto, unfolding(crate::specs::Rules::may_finalize))]
+    pub(super) fn may_finalize(&self, view: View) -> bool
+        ensures { result ≡ may_finalize L.elect self.now view }
+    {
+        view > self.finalized
+            && self.is_admitted(view)
+            && !self.is_gated(view)
+            && self.has_required_parent(view)
+            && self.can_finalize(view)
+    }
+}
