@@ -1,0 +1,223 @@
+-- A call that was made leaves a state that goes on: it has not failed, and its current view is no genesis.
+use Rattle.std.proofs.Common.{◌≡◌, refl, ap, ◌∙◌, ℕ, ◌+◌, ◌-◌, Bool, true, false, ◌&&◌, not, if◌then◌else◌, nat_lt, nat_le, List, [], ◌∷◌, Option, Some, None, ◌≤◌, is_some, arith, inl, inr}
+use Rattle.std.proofs.lemmas.Bool.Decides.{nat_tests}
+use Rattle.std.specs.List.{fold}
+use Rattle.std.specs.Option.{option_map_or}
+use Rattle.simplex_types.specs.Terms.{next_term_start}
+use Rattle.simplex_types.specs.Config.{FloorFacts, Genesis, Finalized}
+use Rattle.simplex_types.specs.Certificates.{ProposalFacts, NullificationFacts, ArtifactFacts}
+use Rattle.simplex_types.specs.declared.types.fault.Fault.{Fault}
+use Rattle.simplex_types.specs.declared.types.messages.Subject.{Subject}
+use Rattle.simplex_types.specs.declared.reasons.TimeoutReason.{TimeoutReason}
+use Rattle.simplex_types.specs.declared.reasons.TimeoutReason.TheVariants.{FailedCertification}
+use Rattle.simplex_round.specs.declared.round.Leader.{Leader}
+use Rattle.simplex_round.specs.Round.{RoundFacts, leader_at, with_latch, after_nullify}
+use Rattle.simplex_voter.specs.Facts.{Facts, Elect, round_at, round_of, round_number, is_tracked, with_round, with_tracked}
+use Rattle.simplex_voter.specs.Refusals.{is_started, has_late_deadline}
+use Rattle.simplex_voter.specs.Entering.{at_moment, entered}
+use Rattle.simplex_voter.specs.Leaders.{has_leader, led, inherited, opened_views, slid, elected}
+use Rattle.simplex_voter.specs.Timeouts.{triggered, is_contradicted}
+use Rattle.simplex_voter.specs.Certification.{named_also, raised, waits_for, woken, judged, verdict_taken, after_certified}
+use Rattle.simplex_voter.specs.Acceptance.{nullified_also, with_notarization_at, with_nullification_at, with_finalization_at, after_add_notarization, after_add_nullification, after_add_finalization, after_set_floor}
+use Rattle.simplex_voter.specs.Rules.{may_nullify, may_finalize}
+use Rattle.simplex_voter.specs.Votes.{nullify_cast, finalize_cast, after_construct_nullify, after_construct_finalize}
+use Rattle.simplex_member.specs.Calls.{CallFacts, AddNotarization, AddNullification, AddFinalization, Certified, ConstructNullify, ConstructFinalize, BroadcastNotarization, BroadcastNullification, BroadcastFinalization, GetBestCertificate, Prune, Refused, is_allowed, fault_of, after_call}
+use Rattle.simplex_member.specs.Made.{IsRefusal}
+use Rattle.simplex_member.specs.Lives.{living, IsCall}
+
+-- what a call keeps
+pub record Goes {K L D : Type 0} (x y : Facts K L D) : Type 0 where
+  pub failed : y.failed ≡ x.failed
+  pub settings : y.settings ≡ x.settings
+  pub terms : y.terms ≡ x.terms
+  pub started : is_started x ≡ true → is_started y ≡ true
+
+module _ {K L D : Type 0} where
+  pub stays : (x : Facts K L D) → Goes x x
+  stays x = record { failed = refl; settings = refl; terms = refl; started = λ h. h }
+
+  pub joined : (x y z : Facts K L D) → Goes x y → Goes y z → Goes x z
+  joined x y z p q = record { failed = q.failed ∙ p.failed; settings = q.settings ∙ p.settings; terms = q.terms ∙ p.terms; started = λ h. q.started (p.started h) }
+
+  pub where_so : (x : Facts K L D) (b : Bool) (y z : Facts K L D) → Goes x y → Goes x z → Goes x (if b then y else z)
+  where_so x true y z p q = p
+  where_so x false y z p q = q
+
+  pub with_round_goes : (x : Facts K L D) (v : ℕ) (r : RoundFacts K D) → Goes x (with_round x v r)
+  with_round_goes x v r = record { failed = refl; settings = refl; terms = refl; started = λ h. h }
+
+  tracked_goes : (x : Facts K L D) (v : ℕ) (r : RoundFacts K D) → Goes x (with_tracked x v r)
+  tracked_goes x v r = where_so x (is_tracked x v) (with_round x v r) x (with_round_goes x v r) (stays x)
+
+  led_goes : (x : Facts K L D) (v member : ℕ) → Goes x (led x v member)
+  led_goes x v member =
+      where_so x (has_leader x v) x (with_round x v (record (round_of x v) { leader = leader_at x.members member })) (stays x) (with_round_goes x v _)
+
+  pub inherited_goes : (x : Facts K L D) (from to : ℕ) → Goes x (inherited x from to)
+  inherited_goes x from to = inherits (round_of x from).leader
+    where
+      inherits : (leader : Option (Leader K)) → Goes x (option_map_or (λ l. led x to l.idx) leader x)
+      inherits None = stays x
+      inherits (Some l) = led_goes x to l.idx
+
+  slides : (views : List ℕ) (x : Facts K L D) → Goes x (fold (λ y w. inherited y (w - 1) w) x views)
+  slides [] x = stays x
+  slides (w ∷ views) x = joined x (inherited x (w - 1) w) (fold (λ y w. inherited y (w - 1) w) (inherited x (w - 1) w) views) (inherited_goes x (w - 1) w) (slides views (inherited x (w - 1) w))
+
+  entered_goes : (x : Facts K L D) (v now : ℕ) → Goes x (entered x v now)
+  entered_goes x v now = enters (nat_lt x.current v) refl
+    where
+      enters : (b : Bool) → nat_lt x.current v ≡ b → Goes x (entered x v now)
+      enters true is = rw is (record { failed = refl; settings = refl; terms = refl; started = λ h. grind (arith, nat_tests) })
+      enters false is = rw is (stays x)
+
+  named_goes : (x : Facts K L D) (v : ℕ) → Goes x (named_also x v)
+  named_goes x v = where_so x (nat_lt x.finalized v) _ x (record { failed = refl; settings = refl; terms = refl; started = λ h. h }) (stays x)
+
+  raised_goes : (x : Facts K L D) (v : ℕ) → Goes x (raised x v)
+  raised_goes x v = where_so x (nat_lt x.finalized v) _ x (record { failed = refl; settings = refl; terms = refl; started = λ h. h }) (stays x)
+
+  triggered_goes : (x : Facts K L D) (v : ℕ) (reason : TimeoutReason) (now : ℕ) → Goes x (triggered x v reason now)
+  triggered_goes x v reason now =
+      where_so x (nat_le x.current v && is_tracked x v && not (is_contradicted reason (round_of x v))) (with_round x v (with_latch (round_of x v) now reason)) x
+      (with_round_goes x v _) (stays x)
+
+module _ {K L D : Type 0} where
+  -- its deadlines are no later
+  pub still_in_time : (x y : Facts K L D) (now : ℕ) → Goes x y → has_late_deadline x now ≡ false → has_late_deadline y now ≡ false
+  still_in_time x y now goes in_time = rw (goes.settings, goes.terms) in_time
+
+module _ {K L D : Type 0} (elect : Elect L) where
+  pub elected_goes : (x : Facts K L D) (v : ℕ) (seed : Option (List ℕ)) → Goes x (elected elect x v seed)
+  elected_goes x v seed = led_goes x v (elect x.elector (round_number x v) seed)
+
+  woken_goes : (x : Facts K L D) (p : ℕ) → Goes x (woken elect x p)
+  woken_goes x p = where_so x (option_map_or (waits_for elect x p) (round_at x (p + 1)) false) (named_also x (p + 1)) x (named_goes x (p + 1)) (stays x)
+
+module _ {K L D : Type 0} where
+  moment_goes : (x : Facts K L D) (now : ℕ) → Goes x (at_moment x now)
+  moment_goes x now = record { failed = refl; settings = refl; terms = refl; started = λ h. h }
+
+  cast_goes : (x : Facts K L D) (v : ℕ) → Goes x (nullify_cast x v)
+  cast_goes x v = where_so x (is_some x.me) _ x (record { failed = refl; settings = refl; terms = refl; started = λ h. h }) (stays x)
+
+  pub nullify_goes : (x : Facts K L D) (v : ℕ) → Goes x (after_construct_nullify x v)
+  nullify_goes x v =
+      let decided = with_round x v (after_nullify (round_of x v)) in
+      where_so x (may_nullify x v) (nullify_cast decided v) x (joined x decided (nullify_cast decided v) (with_round_goes x v _) (cast_goes decided v)) (stays x)
+
+module _ {K L D : Type 0} (elect : Elect L) where
+  pub finalize_goes : (x : Facts K L D) (v : ℕ) → Goes x (after_construct_finalize elect x v)
+  finalize_goes x v = where_so x (may_finalize elect x v) (finalize_cast x v) x (with_round_goes x v _) (stays x)
+
+  pub nullification_goes : (x : Facts K L D) (c : NullificationFacts) (now : ℕ) → Goes x (after_add_nullification elect x c now)
+  nullification_goes x c now =
+      let next = next_term_start x.terms.term_length c.round.view in
+      let y = entered (at_moment x now) next now in
+      let z = elected elect y next (Some c.bytes) in
+      let w = with_nullification_at z c in
+      joined x w (nullified_also w c.round.view)
+      (joined x z w (joined x y z (joined x (at_moment x now) y (moment_goes x now) (entered_goes (at_moment x now) next now)) (elected_goes elect y next (Some c.bytes))) (with_round_goes z c.round.view _))
+      (record { failed = refl; settings = refl; terms = refl; started = λ h. h })
+
+  verdict_goes : (x : Facts K L D) (v : ℕ) (success : Bool) (now : ℕ) → Goes x (verdict_taken elect x v success now)
+  verdict_goes x v true now =
+      let y = judged x v true in
+      let z = entered y (v + 1) now in
+      joined x z (woken elect z v) (joined x y z (with_round_goes x v _) (entered_goes y (v + 1) now)) (woken_goes elect z v)
+  verdict_goes x v false now =
+      let y = judged x v false in
+      joined x y (triggered y v FailedCertification now) (with_round_goes x v _) (triggered_goes y v FailedCertification now)
+
+  pub certified_goes : (x : Facts K L D) (v : ℕ) (success : Bool) (now : ℕ) → Goes x (after_certified elect x v success now)
+  certified_goes x v success now =
+      let y = at_moment x now in
+      where_so x (is_tracked x v) (verdict_taken elect y v success now) y (joined x y (verdict_taken elect y v success now) (moment_goes x now) (verdict_goes y v success now)) (moment_goes x now)
+
+module _ {K L D : Type 0} (same : D → D → Bool) (elect : Elect L) where
+  pub notarization_goes : (x : Facts K L D) (c : ProposalFacts D) → Goes x (after_add_notarization same elect x c)
+  notarization_goes x c =
+      let v = c.proposal.round.view in
+      let y = elected elect x (v + 1) (Some c.bytes) in
+      let kept = with_notarization_at same elect y c in
+      let named = named_also kept v in
+      let k = joined x y kept (elected_goes elect x (v + 1) (Some c.bytes)) (with_round_goes y v _) in
+      where_so x (is_some (round_of x v).notarization) kept (slid named v) k
+      (joined x named (slid named v) (joined x kept named k (named_goes kept v)) (slides (opened_views named v) named))
+
+  pub finalization_goes : (x : Facts K L D) (c : ProposalFacts D) (now : ℕ) → Goes x (after_add_finalization same elect x c now)
+  finalization_goes x c now =
+      let v = c.proposal.round.view in
+      let noted = at_moment x now in
+      let up = raised noted v in
+      let y = entered up (v + 1) now in
+      let z = elected elect y (v + 1) (Some c.bytes) in
+      let kept = with_finalization_at same elect z c in
+      let awake = woken elect kept v in
+      let k = joined x z kept (joined x y z (joined x up y (joined x noted up (moment_goes x now) (raised_goes noted v)) (entered_goes up (v + 1) now)) (elected_goes elect y (v + 1) (Some c.bytes))) (with_round_goes z v _) in
+      where_so x (is_some (round_of x v).finalization) kept (slid awake v) k
+      (joined x awake (slid awake v) (joined x kept awake k (woken_goes elect kept v)) (slides (opened_views awake v) awake))
+
+module _ {K L D : Type 0} where
+  -- a view that is no genesis is reached
+  reached : (x : Facts K L D) (v now : ℕ) → 1 ≤ v → is_started (entered x v now) ≡ true
+  reached x v now h = enters (nat_lt x.current v) refl
+    where
+      enters : (b : Bool) → nat_lt x.current v ≡ b → is_started (entered x v now) ≡ true
+      enters true is = rw is (grind (arith, nat_tests))
+      enters false is = rw is (grind (arith, nat_tests))
+
+module _ {K L D : Type 0} (same : D → D → Bool) (elect : Elect L) where
+  finalization_starts : (x : Facts K L D) (c : ProposalFacts D) (now : ℕ) → is_started (after_add_finalization same elect x c now) ≡ true
+  finalization_starts x c now =
+      let v = c.proposal.round.view in
+      let up = raised (at_moment x now) v in
+      let y = entered up (v + 1) now in
+      let z = elected elect y (v + 1) (Some c.bytes) in
+      let kept = with_finalization_at same elect z c in
+      let awake = woken elect kept v in
+      let k = joined y z kept (elected_goes elect y (v + 1) (Some c.bytes)) (with_round_goes z v _) in
+      let g = where_so y (is_some (round_of x v).finalization) kept (slid awake v) k (joined y awake (slid awake v) (joined y kept awake k (woken_goes elect kept v)) (slides (opened_views awake v) awake)) in
+      g.started (reached up (v + 1) now (omega arith))
+
+  -- a floor is set
+  pub floor_goes : (x : Facts K L D) (floor : FloorFacts D) (now : ℕ) → x.failed ≡ false → ((after_set_floor same elect x floor now).failed ≡ false) × (is_started (after_set_floor same elect x floor now) ≡ true)
+  floor_goes x (Genesis payload) now going =
+      let noted = record (at_moment x now) { genesis = Some payload } in
+      let y = entered noted 1 now in
+      let g = elected_goes elect y 1 None in
+      (g.failed ∙ (entered_goes noted 1 now).failed ∙ going, g.started (reached noted 1 now (omega arith)))
+  floor_goes x (Finalized c) now going = ((finalization_goes same elect x c now).failed ∙ going, finalization_starts x c now)
+
+module _ {K L D G : Type 0} (same : D → D → Bool) (elect : Elect L) (signature_of : ℕ → Subject D → G) where
+  pub goes : (x : Facts K L D) (call : CallFacts D) → Goes x (after_call same elect signature_of x call)
+  goes x (AddNotarization c) = notarization_goes same elect x c
+  goes x (AddNullification c now) = nullification_goes elect x c now
+  goes x (AddFinalization c now) = finalization_goes same elect x c now
+  goes x (Certified v success now) = certified_goes elect x v success now
+  goes x (ConstructNullify v) = nullify_goes x v
+  goes x (ConstructFinalize v) = finalize_goes elect x v
+  goes x (BroadcastNotarization v) = tracked_goes x v _
+  goes x (BroadcastNullification v) = tracked_goes x v _
+  goes x (BroadcastFinalization v) = tracked_goes x v _
+  goes x GetBestCertificate = stays x
+  goes x Prune = record { failed = refl; settings = refl; terms = refl; started = λ h. h }
+
+  pub goes_on : (x : Facts K L D) (call : CallFacts D) (y : Facts K L D) → y ≡ after_call same elect signature_of x call → x.failed ≡ false → is_started x ≡ true → (y.failed ≡ false) × (is_started y ≡ true)
+  goes_on x call y made failed started = let g = goes x call in (ap (λ z. z.failed) made ∙ g.failed ∙ failed, ap is_started made ∙ g.started started)
+
+  -- a call that was refused
+  pub refused_call : (x : Facts K L D) (entries : List (ArtifactFacts D G)) (call : CallFacts D) (fault : Fault) (y : Facts K L D) (lost : Bool) → is_allowed x call ≡ true
+      → IsRefusal (fault_of x call) fault x y lost
+      → IsCall same elect signature_of (record { life = Some x; entries = entries }) call (Refused fault) (record { life = living lost y; entries = entries })
+  unfolding IsCall
+  refused_call x entries call fault y lost allowed (inl h) = inl (rw (allowed, h.0) refl, rw (allowed, h.0, h.1, h.2) refl)
+  refused_call x entries call fault y lost allowed (inr (memory, inl l)) = inr (allowed, ap Refused memory, inr (rw l refl))
+  refused_call x entries call fault y lost allowed (inr (memory, inr h)) = inr (allowed, ap Refused memory, inl (rw (h.0, h.1) refl))
+
+module _ {K L D : Type 0} where
+  -- a state that was refused goes on where it isn't lost
+  pub stays_on : (due : Option Fault) (fault : Fault) (x y : Facts K L D) (lost : Bool) → IsRefusal due fault x y lost → x.failed ≡ false → is_started x ≡ true → lost ≡ false → (y.failed ≡ false) × (is_started y ≡ true)
+  stays_on due fault x y lost (inl h) failed started found = (rw h.1 failed, rw h.1 started)
+  stays_on due fault x y lost (inr (memory, inl l)) failed started found = absurd cc
+  stays_on due fault x y lost (inr (memory, inr h)) failed started found = (rw h.0 failed, rw h.0 started)

@@ -1,0 +1,20 @@
+-- The names of refusals.
+use Rattle.std.specs.Prelude.{ℕ, List, codes}
+use Rattle.simplex_member.specs.declared.member.error.RecoverError.{RecoverError}
+use Rattle.simplex_member.specs.declared.member.error.RecoverError.TheVariants as error
+
+abbrev pub recover_error_name : RecoverError → List ℕ
+recover_error_name error.OutOfOrder = codes "OutOfOrder"
+recover_error_name error.OtherEpoch = codes "OtherEpoch"
+recover_error_name error.ZeroView = codes "ZeroView"
+recover_error_name error.ViewTooLarge = codes "ViewTooLarge"
+recover_error_name error.ForeignSigner = codes "ForeignSigner"
+recover_error_name error.ParentNotBelow = codes "ParentNotBelow"
+recover_error_name error.VerdictWithoutNotarization = codes "VerdictWithoutNotarization"
+recover_error_name error.ContradictingVerdicts = codes "ContradictingVerdicts"
+recover_error_name error.NullifyBesideFinalize = codes "NullifyBesideFinalize"
+recover_error_name error.ContradictingVotes = codes "ContradictingVotes"
+recover_error_name error.FinalizeWithoutVerdict = codes "FinalizeWithoutVerdict"
+recover_error_name error.TimeOverflow = codes "TimeOverflow"
+recover_error_name error.OutOfMemory = codes "OutOfMemory"
+recover_error_name error.RetentionGrown = codes "RetentionGrown"

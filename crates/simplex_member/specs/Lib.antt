@@ -1,0 +1,10 @@
+pub mod Errors
+pub mod Entries
+pub mod Check
+pub mod Seen
+pub mod Cuts
+pub mod Recovery
+pub mod Calls
+pub mod Made
+pub mod Lives
+pub mod Start

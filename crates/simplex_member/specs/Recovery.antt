@@ -1,0 +1,96 @@
+-- What a recovery makes of a floor and a record: certificates are added, votes, verdicts and certificates replayed, and
+-- verdicts given.
+use Rattle.std.specs.Prelude.{◌≡◌, ℕ, Bool, true, false, nat_lt, if◌then◌else◌, List, [], ◌∷◌, ◌++◌, Option, Some, None}
+use Rattle.std.specs.Option.{option_or}
+use Rattle.simplex_types.specs.Certificates.{Notarized, Nullified, Finalized, ArtifactFacts, NotarizeVote, NullifyVote, FinalizeVote, Verdict, Accepted, artifact_facts}
+use Rattle.simplex_types.specs.Config.{FloorFacts, Genesis, Finalized as FinalizedFloor}
+use Rattle.simplex_types.specs.declared.types.messages.Artifact.{Artifact}
+use Rattle.simplex_types.specs.declared.types.messages.Artifact.TheVariants as artifact
+use Rattle.simplex_voter.specs.Facts.{Facts, Elect}
+use Rattle.simplex_voter.specs.Windows.{min_active}
+use Rattle.simplex_voter.specs.Refusals.{has_late_deadline, takes_round}
+use Rattle.simplex_voter.specs.Acceptance.{after_add_notarization, after_add_nullification, after_add_finalization, after_set_floor}
+use Rattle.simplex_voter.specs.Certification.{takes_verdict, after_certified}
+use Rattle.simplex_voter.specs.Replay.{after_replayed, artifact_round, TakesReplay}
+use Rattle.simplex_member.specs.declared.member.error.RecoverError.{RecoverError}
+use Rattle.simplex_member.specs.declared.member.error.RecoverError.TheVariants as error
+use Rattle.simplex_member.specs.Entries.{entry_view}
+use Rattle.simplex_member.specs.Check.{stands, first_broken_rule}
+
+-- an entry as an artifact whose certificates are their bytes
+abbrev pub as_artifact : {K D G : Type 0} → ArtifactFacts D G → Artifact (Unit {0}) D K G (List ℕ)
+as_artifact (NotarizeVote p signer signature) = artifact.Notarize (record { proposal = p; signer = signer; signature = signature })
+as_artifact (NullifyVote round signer signature) = artifact.Nullify (record { round = round; signer = signer; signature = signature })
+as_artifact (FinalizeVote p signer signature) = artifact.Finalize (record { proposal = p; signer = signer; signature = signature })
+as_artifact (Verdict round success) = artifact.Certification round success
+as_artifact (Accepted (Notarized c)) = artifact.Notarization (record { proposal = c.proposal; certificate = c.bytes })
+as_artifact (Accepted (Nullified c)) = artifact.Nullification (record { round = c.round; certificate = c.bytes })
+as_artifact (Accepted (Finalized c)) = artifact.Finalization (record { proposal = c.proposal; certificate = c.bytes })
+
+module _ {K L D G : Type 0} (same : D → D → Bool) (elect : Elect L) where
+  -- a certificate is added before it is replayed
+  abbrev pub added : Facts K L D → ℕ → ArtifactFacts D G → Facts K L D
+  added x now (Accepted (Notarized c)) = after_add_notarization same elect x c
+  added x now (Accepted (Nullified c)) = after_add_nullification elect x c now
+  added x now (Accepted (Finalized c)) = after_add_finalization same elect x c now
+  added x now _ = x
+
+  -- an entry is replayed
+  abbrev pub replayed : Facts K L D → ArtifactFacts D G → Facts K L D
+  replayed x e = after_replayed same elect x (as_artifact e)
+
+module _ {K L D G : Type 0} (elect : Elect L) where
+  -- a verdict is given after it was replayed
+  abbrev pub given : Facts K L D → ℕ → ArtifactFacts D G → Facts K L D
+  given x now (Verdict round success) = after_certified elect x round.view success now
+  given x now _ = x
+
+module _ {K L D G : Type 0} (same : D → D → Bool) (elect : Elect L) where
+  -- an entry is taken again
+  abbrev pub retaken : Facts K L D → ℕ → ArtifactFacts D G → Facts K L D
+  retaken x now e = given elect (replayed same elect (added same elect x now e) e) now e
+
+  -- but one below the views that are kept is passed over
+  unfoldable pub taken : Facts K L D → ℕ → ArtifactFacts D G → Facts K L D
+  taken x now e = if nat_lt (entry_view e) (min_active x) then x else retaken x now e
+
+  -- the entries are taken in order
+  abbrev pub all_taken : Facts K L D → ℕ → List (ArtifactFacts D G) → Facts K L D
+  all_taken x now [] = x
+  all_taken x now (e ∷ rest) = all_taken (taken x now e) now rest
+
+  -- a state that knows nothing yet sets the floor, and takes the record
+  unfoldable pub recovered : Facts K L D → FloorFacts D → ℕ → List (ArtifactFacts D G) → Facts K L D
+  recovered x floor now entries = all_taken (after_set_floor same elect x floor now) now entries
+
+module _ {K L D G : Type 0} (same : D → D → Bool) where
+  -- why no state is made, but for want of memory: the first broken rule, or else a deadline that passes 64 bits
+  abbrev pub recover_error : Facts K L D → FloorFacts D → ℕ → List (ArtifactFacts D G) → Option RecoverError
+  recover_error x floor now entries =
+      option_or
+      (first_broken_rule same x.settings.epoch x.me floor entries)
+      (if has_late_deadline x now then Some error.TimeOverflow else None)
+
+module _ {D G : Type 0} where
+  abbrev pub is_finalization : ArtifactFacts D G → Bool
+  is_finalization (Accepted (Finalized _)) = true
+  is_finalization _ = false
+
+  -- the floor's finalization is recorded, unless one of its view stands there
+  abbrev pub with_floor : List (ArtifactFacts D G) → FloorFacts D → List (ArtifactFacts D G)
+  with_floor entries (Genesis _) = entries
+  with_floor entries (FinalizedFloor c) =
+      if stands c.proposal.round.view is_finalization entries then entries else entries ++ Accepted (Finalized c) ∷ []
+
+module _ {K L D : Type 0} where
+  -- if it is a verdict, it may be given
+  abbrev pub GivesVerdict : {G : Type 0} → Facts K L D → ArtifactFacts D G → Type 0
+  GivesVerdict x (Verdict round success) = takes_verdict x round.view success ≡ true
+  GivesVerdict x _ = Unit {0}
+
+module _ {S K L D G C : Type 0} (bytes_of : C → List ℕ) (same : D → D → Bool) (elect : Elect L) where
+  -- each step of taking an artifact again is one that the state allows
+  pub record TakesEntry (x : Facts K L D) (now : ℕ) (a : Artifact S D K G C) : Type 0 where
+    pub kept : takes_round x (artifact_round a) ≡ true
+    pub replays : TakesReplay (added same elect x now (artifact_facts bytes_of a)) a
+    pub gives : GivesVerdict (replayed same elect (added same elect x now (artifact_facts bytes_of a)) (artifact_facts bytes_of a)) (artifact_facts bytes_of a)

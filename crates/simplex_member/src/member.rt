@@ -1,0 +1,21 @@
+//! What a member records, what a restart asks of its record and leaves of it.
+
+mod calls;
+mod check;
+mod cuts;
+mod error;
+mod handing;
+mod life;
+mod parts;
+mod recovery;
+mod seen;
+mod serving;
+mod start;
+mod votes;
+
+pub use calls::{Call, Reply};
+pub use check::check_record;
+pub use cuts::{drop_last, prune_record};
+pub use error::RecoverError;
+pub use life::Member;
+pub use start::Start;

@@ -1,0 +1,123 @@
+//! A member: its state, and the record from which a state can be made again.
+
+ghost use Rattle.std.specs.Prelude.{◌≡◌, [], None, IfOk, IfErr, OnOk, length};
+ghost use Rattle.std.specs.Option.{option_copied};
+
+use super::calls::{Call, Reply};
+use super::error::RecoverError;
+use super::serving::{is_allowed, serve};
+use super::start::{Start, begin, first_record};
+use simplex_types::types::{Artifact, CertificateScheme, Digest, Elector, Fault, Scheme};
+use simplex_voter::voter::State;
+use std::alloc::Global;
+use std::marker::Model;
+
+/// A voter's state with its record, which holds each vote before it is handed out.
+///
+/// A member tests what a call asks of its caller, and answers `NotAllowed` where it is not so. It fails where a call left
+/// its state without memory, or where a vote that was cast could not be recorded; then its record alone is left.
+#[derive(Drop)]
+pub struct Member<S: CertificateScheme, L: Elector<S>, D: Digest> {
+    alloc: Global,
+    state: State<S, L, D>,
+    artifacts: Vec<Artifact<S, D>>,
+    failed: bool,
+}
+
+impl<S: CertificateScheme, L: Elector<S>, D: Digest> Model for Member<S, L, D> {
+    ghost use Rattle.std.specs.Prelude.{◌≡◌, true, false};
+    ghost use Rattle.simplex_voter.specs.Refusals.{is_started};
+    ghost use Rattle.simplex_member.specs.Entries.{entries_of};
+    ghost use Rattle.simplex_member.specs.Lives.{MemberFacts, living};
+
+    ghost Value = { MemberFacts S.PublicKey L D S.Signature };
+
+    ghost view = { λ m. record { life = living m.failed m.state; entries = entries_of S.certificate_bytes m.artifacts.items } };
+
+    ghost invariant = { λ m. m.failed ≡ false → (m.state.failed ≡ false) × (is_started m.state ≡ true) };
+}
+
+impl<S: CertificateScheme, L: Elector<S>, D: Digest> Member<S, L, D> {
+    ghost use Rattle.simplex_member.specs.Entries.{entries_of};
+    ghost use Rattle.simplex_member.specs.Calls.{call_facts, told};
+    ghost use Rattle.simplex_member.specs.Lives.{IsCall};
+    ghost use Rattle.simplex_member.specs.Recovery.{recover_error};
+    ghost use Rattle.simplex_member.specs.Start.{set_up, started, IsDue};
+    ghost use Rattle.simplex_types.specs.Config.{floor_facts};
+
+    /// A member whose state starts at a floor, with nothing in its record but the floor's finalization.
+    ///
+    /// The elector's members are the scheme's participants. `OtherEpoch`, `ZeroView` or `ViewTooLarge` where the floor's
+    /// finalization is of another epoch or of view 0, or names a view above 2^63 - 1; `TimeOverflow` where a deadline
+    /// passes 2^64 - 1 milliseconds.
+    pub fn start(alloc: Global, start: Start<S, L, D>) -> Result<Member<S, L, D>, RecoverError>
+        requires { L.members start.settings.elector ≡ length (S.participants start.settings.scheme) }
+        ensures started { IfOk result (λ member. member ≡ started D.eq L.elect (set_up S.me S.participants L.terms L.elects_early start.settings) (floor_facts S.certificate_bytes start.floor) start.now) }
+        ensures accepted { OnOk result (recover_error {G = S.Signature} D.eq (set_up S.me S.participants L.terms L.elects_early start.settings) (floor_facts S.certificate_bytes start.floor) start.now [] ≡ None) }
+        ensures refused { IfErr result (IsDue (recover_error {G = S.Signature} D.eq (set_up S.me S.participants L.terms L.elects_early start.settings) (floor_facts S.certificate_bytes start.floor) start.now [])) }
+    {
+        let (state, finalization) = begin(alloc, start.settings, start.floor, start.now)?;
+        let artifacts = first_record(alloc, finalization)?;
+        Ok(Member {
+            alloc,
+            state,
+            artifacts,
+            failed: false,
+        })
+    }
+
+    /// The state, while the member has not failed.
+    pub fn state(&self) -> Option<&State<S, L, D>>
+        ensures { option_copied result ≡ self.now.life }
+    {
+        if self.failed {
+            return None;
+        }
+        Some(&self.state)
+    }
+
+    /// The record, oldest entry first; also of a member that has failed.
+    pub fn record(&self) -> &[Artifact<S, D>]
+        ensures { entries_of S.certificate_bytes result.now ≡ self.now.entries }
+    {
+        &self.artifacts
+    }
+
+    /// Makes a call of the state and records what came of it: a certificate that was newly added, a view's first verdict,
+    /// and a vote, unless it is a repeat, before it is handed out.
+    ///
+    /// `NotAllowed`, with nothing changed, where a certificate is of another epoch or of a view that is not kept, or a
+    /// tracked view has no notarization or another verdict. Of the faults `ViewTooLarge` and `TimeOverflow` change nothing.
+    /// After `OutOfMemory` nothing has changed, or the member has failed, and answers `Failed` from then on.
+    #[tactic(auto, unfolding(crate::specs::Lives::IsCall))]
+    pub fn call(&mut self, call: Call<S, D>) -> Reply<S, D>
+    where
+        S: Scheme<D>,
+        ensures { IsCall D.eq L.elect S.signature_of self.old (call_facts S.certificate_bytes call) (told S.certificate_bytes result) self.new }
+    {
+        if self.failed {
+            return Reply::Fault(Fault::Failed);
+        }
+        if !is_allowed(&self.state, &call) {
+            return Reply::NotAllowed;
+        }
+        self.failed = true;
+        let mut lost = false;
+        match serve(
+            self.alloc,
+            &mut self.state,
+            &mut self.artifacts,
+            &mut lost,
+            call,
+        ) {
+            Ok(reply) => {
+                self.failed = false;
+                reply
+            }
+            Err(fault) => {
+                self.failed = lost;
+                Reply::Fault(fault)
+            }
+        }
+    }
+}

@@ -1,0 +1,75 @@
+//! How a member starts.
+
+ghost use Rattle.std.specs.Prelude.{◌≡◌, [], Some, None, IfOk, IfErr, OnOk, length, option_map};
+ghost use Rattle.simplex_types.specs.Certificates.{finalization_facts};
+ghost use Rattle.simplex_types.specs.Config.{floor_facts};
+ghost use Rattle.simplex_voter.specs.Acceptance.{floor_answer, after_set_floor};
+ghost use Rattle.simplex_member.specs.Recovery.{recover_error};
+ghost use Rattle.simplex_member.specs.Start.{set_up, IsDue, error_of, recorded_floor};
+ghost use Rattle.simplex_member.specs.Entries.{entries_of};
+ghost use Rattle.simplex_member.specs.declared.member.error.RecoverError.TheVariants.{OutOfMemory};
+
+use super::check::check_floor;
+use super::error::RecoverError;
+use simplex_types::config::Floor;
+use simplex_types::types::{Artifact, CertificateScheme, Digest, Elector, Fault, Finalization};
+use simplex_voter::voter::{Config, State};
+use std::alloc::Global;
+
+/// How a member starts: its settings, its floor, and the moment, in milliseconds.
+#[derive(Drop)]
+pub struct Start<S: CertificateScheme, L: Elector<S>, D: Digest> {
+    /// The elector's members are the scheme's participants.
+    pub settings: Config<S, L>,
+    pub floor: Floor<S, D>,
+    pub now: u64,
+}
+
+/// A new state at a floor, with the floor's finalization.
+pub(super) fn begin<S: CertificateScheme, L: Elector<S>, D: Digest>(
+    alloc: Global,
+    settings: Config<S, L>,
+    floor: Floor<S, D>,
+    now: u64,
+) -> Result<(State<S, L, D>, Option<Finalization<S, D>>), RecoverError>
+    requires { L.members settings.elector ≡ length (S.participants settings.scheme) }
+    ensures begun { IfOk result (λ begun. begun.0 ≡ after_set_floor D.eq L.elect (set_up S.me S.participants L.terms L.elects_early settings) (floor_facts S.certificate_bytes floor) now) }
+    ensures floor { IfOk result (λ begun. option_map (finalization_facts S.certificate_bytes) begun.1 ≡ floor_answer (floor_facts S.certificate_bytes floor)) }
+    ensures accepted { OnOk result (recover_error {G = S.Signature} D.eq (set_up S.me S.participants L.terms L.elects_early settings) (floor_facts S.certificate_bytes floor) now [] ≡ None) }
+    ensures refused { IfErr result (IsDue (recover_error {G = S.Signature} D.eq (set_up S.me S.participants L.terms L.elects_early settings) (floor_facts S.certificate_bytes floor) now [])) }
+{
+    check_floor(settings.epoch, &floor)?;
+    let mut state = State::new(alloc, settings);
+    match state.set_floor(floor, now) {
+        Ok(finalization) => Ok((state, finalization)),
+        Err(fault) => Err(error_of(fault)),
+    }
+}
+
+/// Why a state whose floor is good could not start.
+fn error_of(fault: Fault) -> RecoverError
+    ensures { result ≡ error_of fault }
+{
+    match fault {
+        Fault::TimeOverflow => RecoverError::TimeOverflow,
+        Fault::OutOfMemory | Fault::Failed | Fault::ViewTooLarge => RecoverError::OutOfMemory,
+    }
+}
+
+/// A record of the floor's finalization, where there is one.
+pub(super) fn first_record<S: CertificateScheme, D: Digest>(
+    alloc: Global,
+    finalization: Option<Finalization<S, D>>,
+) -> Result<Vec<Artifact<S, D>>, RecoverError>
+    ensures recorded { IfOk result (λ artifacts. entries_of S.certificate_bytes artifacts.items ≡ recorded_floor (option_map (finalization_facts S.certificate_bytes) finalization)) }
+    ensures refused { IfErr result (λ error. error ≡ OutOfMemory) }
+{
+    let mut artifacts = Vec::new(alloc);
+    let Some(finalization) = finalization else {
+        return Ok(artifacts);
+    };
+    match artifacts.push(Artifact::Finalization(finalization)) {
+        Ok(()) => Ok(artifacts),
+        Err(_) => Err(RecoverError::OutOfMemory),
+    }
+}

@@ -1,0 +1,114 @@
+//! The calls of a member for votes, each over its state and its record.
+//!
+//! A vote is recorded before it is handed out: the state counts as lost until it is.
+
+ghost use Rattle.std.specs.Prelude.{◌≡◌, ◌<◌, ◌++◌, Option, Some, None, Bool, true, false, IfOk, IfErr, OnOk, OnErr, vec_len, vec_capacity};
+ghost use Rattle.simplex_types.specs.declared.types.fault.Fault.TheVariants.{OutOfMemory};
+ghost use Rattle.simplex_voter.specs.Refusals.{plain_refusal, is_started};
+ghost use Rattle.simplex_voter.specs.Votes.{after_construct_nullify, after_construct_finalize};
+ghost use Rattle.simplex_member.specs.Entries.{entries_of};
+ghost use Rattle.simplex_member.specs.Calls.{told_nullify, told_finalize, nullify_vote, finalize_vote, first_vote, vote_entry};
+ghost use Rattle.simplex_member.specs.Made.{IsRefusal};
+
+use super::parts::keep;
+use simplex_types::reasons::TimeoutReason;
+use simplex_types::types::{
+    Artifact, CertificateScheme, Digest, Elector, Fault, Finalize, Nullify, Scheme, View,
+};
+use simplex_voter::voter::State;
+use std::alloc::Global;
+
+/// Records a vote that is no repeat.
+fn keep_nullify<S: CertificateScheme, D: Digest>(
+    alloc: Global,
+    artifacts: &mut Vec<Artifact<S, D>>,
+    vote: &Option<(bool, Nullify<S>)>,
+) -> Result<(), Fault>
+    requires { vec_len artifacts.old < vec_capacity artifacts.old }
+    ensures kept { OnOk result (entries_of S.certificate_bytes artifacts.new.items ≡ entries_of S.certificate_bytes artifacts.old.items ++ first_vote (told_nullify vote.now)) }
+    ensures same_record { OnErr result (entries_of S.certificate_bytes artifacts.new.items ≡ entries_of S.certificate_bytes artifacts.old.items) }
+    ensures out_of_memory { IfErr result (λ fault. fault ≡ OutOfMemory) }
+{
+    match vote {
+        Some((false, vote)) => {
+            let copy = vote.clone(alloc)?;
+            keep(artifacts, Artifact::Nullify(copy));
+            Ok(())
+        }
+        _ => Ok(()),
+    }
+}
+
+/// Records a vote.
+fn keep_finalize<S: CertificateScheme, D: Digest>(
+    alloc: Global,
+    artifacts: &mut Vec<Artifact<S, D>>,
+    vote: &Option<Finalize<S, D>>,
+) -> Result<(), Fault>
+    requires { vec_len artifacts.old < vec_capacity artifacts.old }
+    ensures kept { OnOk result (entries_of S.certificate_bytes artifacts.new.items ≡ entries_of S.certificate_bytes artifacts.old.items ++ vote_entry (told_finalize vote.now)) }
+    ensures same_record { OnErr result (entries_of S.certificate_bytes artifacts.new.items ≡ entries_of S.certificate_bytes artifacts.old.items) }
+    ensures out_of_memory { IfErr result (λ fault. fault ≡ OutOfMemory) }
+{
+    match vote {
+        Some(vote) => {
+            let copy = vote.clone(alloc)?;
+            keep(artifacts, Artifact::Finalize(copy));
+            Ok(())
+        }
+        None => Ok(()),
+    }
+}
+
+/// Votes to nullify a view, and records the vote before it is handed out.
+pub(super) fn construct_nullify<S: Scheme<D>, L: Elector<S>, D: Digest>(
+    alloc: Global,
+    state: &mut State<S, L, D>,
+    artifacts: &mut Vec<Artifact<S, D>>,
+    lost: &mut bool,
+    view: View,
+    reason: TimeoutReason,
+) -> Result<Option<(bool, Nullify<S>)>, Fault>
+    requires going_on { state.old.failed ≡ false }
+    requires begun { is_started state.old ≡ true }
+    ensures answer { IfOk result (λ vote. told_nullify vote ≡ nullify_vote S.signature_of state.old view) }
+    ensures after { OnOk result (state.new ≡ after_construct_nullify state.old view) }
+    ensures recorded { OnOk result (entries_of S.certificate_bytes artifacts.new.items ≡ entries_of S.certificate_bytes artifacts.old.items ++ first_vote (nullify_vote S.signature_of state.old view)) }
+    ensures found { OnOk result (lost.new ≡ false) }
+    ensures refused { IfErr result (λ fault. IsRefusal (plain_refusal state.old) fault state.old state.new lost.new) }
+    ensures same_record { OnErr result (entries_of S.certificate_bytes artifacts.new.items ≡ entries_of S.certificate_bytes artifacts.old.items) }
+{
+    *lost = false;
+    artifacts.reserve(1)?;
+    *lost = true;
+    let vote = state.construct_nullify(view, reason)?;
+    keep_nullify(alloc, artifacts, &vote)?;
+    *lost = false;
+    Ok(vote)
+}
+
+/// Votes to finalize a view, and records the vote before it is handed out.
+pub(super) fn construct_finalize<S: Scheme<D>, L: Elector<S>, D: Digest>(
+    alloc: Global,
+    state: &mut State<S, L, D>,
+    artifacts: &mut Vec<Artifact<S, D>>,
+    lost: &mut bool,
+    view: View,
+) -> Result<Option<Finalize<S, D>>, Fault>
+    requires going_on { state.old.failed ≡ false }
+    requires begun { is_started state.old ≡ true }
+    ensures answer { IfOk result (λ vote. told_finalize vote ≡ finalize_vote L.elect S.signature_of state.old view) }
+    ensures after { OnOk result (state.new ≡ after_construct_finalize L.elect state.old view) }
+    ensures recorded { OnOk result (entries_of S.certificate_bytes artifacts.new.items ≡ entries_of S.certificate_bytes artifacts.old.items ++ vote_entry (finalize_vote L.elect S.signature_of state.old view)) }
+    ensures found { OnOk result (lost.new ≡ false) }
+    ensures refused { IfErr result (λ fault. IsRefusal (plain_refusal state.old) fault state.old state.new lost.new) }
+    ensures same_record { OnErr result (entries_of S.certificate_bytes artifacts.new.items ≡ entries_of S.certificate_bytes artifacts.old.items) }
+{
+    *lost = false;
+    artifacts.reserve(1)?;
+    *lost = true;
+    let vote = state.construct_finalize(view)?;
+    keep_finalize(alloc, artifacts, &vote)?;
+    *lost = false;
+    Ok(vote)
+}
