@@ -1,5 +1,6 @@
 -- The words of lines.
-use Rattle.std.specs.Prelude.{◌≡◌, ◌≢◌, Bool, true, false, List, ℕ, map, codes, Option, MatchOption}
+use Rattle.std.specs.Prelude.{◌≡◌, ◌≢◌, ◌==◌, Bool, true, false, List, ℕ, map, codes, Option, MatchOption}
+use Rattle.std.specs.List.{slice_split}
 use Rattle.std.specs.Borrow.{Bor}
 use Rattle.simplex_types.specs.declared.reasons.Kind.{Kind}
 use Rattle.simplex_types.specs.Reasons.{kind_text}
@@ -7,6 +8,10 @@ use Rattle.simplex_types.specs.Reasons.{kind_text}
 -- the bytes behind each `&str`
 abbrev pub texts_of : List (Bor (List ℕ)) → List (List ℕ)
 texts_of words = map (λ word. word.now) words
+
+-- the words of a line: what one space parts from the next
+abbrev pub words_in : List ℕ → List (List ℕ)
+words_in text = slice_split (λ byte. byte == 32) text
 
 -- a Boolean's word
 abbrev pub flag_word : Bool → List ℕ

@@ -2,13 +2,13 @@
 
 ghost use Rattle.std.specs.Prelude.{◌≡◌};
 
-use crate::line_reader::{LineReader, line_text};
+use crate::line_reader::{LONGEST_LINE, line_text, read_line};
 use crate::mode::Mode;
 use crate::resolver::Resolver;
 use crate::resolver_line::ResolverLine;
 use std::alloc::{AllocError, Global};
 use std::fmt::{Display, Write as _};
-use std::io::{Read, Write};
+use std::io::{BufReader, Read, Write};
 use thiserror::Error;
 
 /// Why serving ended before the end of the input.
@@ -47,18 +47,21 @@ pub fn serve<R: Read + Drop, W: Write + Drop>(
     mut writer: W,
 ) -> Result<(), ServeError> {
     let mut session = Session::start(alloc, mode);
-    let Ok(mut lines) = LineReader::new(alloc, reader) else {
+    let (Ok(mut reader), Ok(mut line)) = (
+        BufReader::new(alloc, reader),
+        Vec::with_capacity(alloc, LONGEST_LINE + 1),
+    ) else {
         return Err(ServeError::OutOfMemory);
     };
     let mut reply = String::new(alloc);
     for number in 1..u64::MAX {
-        let Ok(line) = lines.next_line() else {
+        let Ok(found) = read_line(&mut reader, &mut line) else {
             return Err(ServeError::Read);
         };
-        let Some(line) = line else {
+        if !found {
             break;
-        };
-        let text = line_text(line).ok_or(ServeError::NotACall(number))?;
+        }
+        let text = line_text(&line).ok_or(ServeError::NotACall(number))?;
         reply.clear();
         session.answer(alloc, number, text, &mut reply)?;
         if writer.write_all(reply.as_bytes()).is_err() || writer.flush().is_err() {
@@ -95,7 +98,7 @@ impl Session {
                     return Err(ServeError::OutOfMemory);
                 };
                 let line = line.ok_or(ServeError::NotACall(number))?;
-                match resolver.answer(line) {
+                match resolver.answer(alloc, line) {
                     Ok(answer) => write_line(reply, answer),
                     Err(AllocError) => Err(ServeError::OutOfMemory),
                 }

@@ -1,7 +1,12 @@
 //! A resolver behind lines: what each line does, and its reply.
 
-ghost use Rattle.std.specs.Prelude.{◌≡◌, ◌≤◌, IfSome};
-ghost use Rattle.simplex_types.specs.Viewed.{certificate_view};
+ghost use Rattle.std.specs.Prelude.{◌≡◌, ◌≢◌, [], IfOk, OnOk, MatchOption, true};
+ghost use Rattle.simplex_types.specs.declared.types.fault.Fault.TheVariants.{OutOfMemory};
+ghost use Rattle.simplex_resolver.specs.Facts.{empty};
+ghost use Rattle.simplex_resolver.specs.Steps.{Replayed};
+ghost use Rattle.simplex_resolver.specs.Repair.{IsApplied};
+ghost use Rattle.viewstate.specs.Answers.{Answers, Calls, Reports, IsProposedAt, round_at, notarization_call, nullification_call, finalization_call, verdict_call};
+ghost use Rattle.viewstate.specs.declared.resolver.Answer.TheVariants.{Effects as AreEffects, Fault as IsFault};
 
 use crate::resolver_line::ResolverLine;
 use bytes::Bytes;
@@ -31,18 +36,21 @@ pub struct Resolver {
 
 /// A reply line.
 #[derive(Drop)]
-pub enum Answer<'a> {
+pub enum Answer {
     Effects(Vec<Effect>),
     Flag(bool),
     Encoding(Option<Bytes>),
-    Outstanding(&'a BTreeSet<View>),
+    Outstanding(Vec<View>),
     Fault(Fault),
     NotAllowed,
 }
 
 impl Resolver {
     /// A resolver that replays its journal: it fetches nothing before the line `replayed`.
-    pub fn new(alloc: Global, term_length: TermLength) -> Resolver {
+    pub fn new(alloc: Global, term_length: TermLength) -> Resolver
+        ensures state { result.state ≡ empty term_length }
+        ensures outstanding { result.outstanding.keys ≡ [] }
+    {
         Resolver {
             state: State::new(alloc, term_length),
             outstanding: BTreeSet::new(alloc),
@@ -50,16 +58,15 @@ impl Resolver {
     }
 
     /// Does what the line asks. The one error is want of memory.
-    pub fn answer(&mut self, line: ResolverLine) -> Result<Answer<'_>, AllocError> {
+    pub fn answer(&mut self, alloc: Global, line: ResolverLine) -> Result<Answer, AllocError>
+        ensures { IfOk result (λ answer. Answers self.old.state self.old.outstanding.keys line answer self.new.state self.new.outstanding.keys) }
+    {
         match line {
             ResolverLine::Notarization(view) => self.notarize(view),
             ResolverLine::Nullification(view) => self.nullify(view),
             ResolverLine::Finalization(view) => self.finalize(view),
             ResolverLine::Certified { view, success } => self.certify(view, success),
-            ResolverLine::Replayed => {
-                let told = self.state.replayed();
-                self.effects_of(told)
-            }
+            ResolverLine::Replayed => self.end_replay(),
             ResolverLine::Settled { view, kind } => {
                 Ok(Answer::Flag(self.state.settled(view, kind)))
             }
@@ -69,55 +76,79 @@ impl Resolver {
                 Ok(encoding) => Ok(Answer::Encoding(encoding)),
                 Err(fault) => refused(fault),
             },
-            ResolverLine::Outstanding => Ok(Answer::Outstanding(&self.outstanding)),
+            ResolverLine::Outstanding => {
+                let views = self.outstanding.iter().copied().collect(alloc)?;
+                Ok(Answer::Outstanding(views))
+            }
         }
     }
 
-    fn notarize(&mut self, view: View) -> Result<Answer<'_>, AllocError> {
+    fn notarize(&mut self, view: View) -> Result<Answer, AllocError>
+        ensures { IfOk result (λ answer. Reports self.old.state self.old.outstanding.keys view (notarization_call view) answer self.new.state self.new.outstanding.keys) }
+    {
         let Some(notarization) = notarization_of(view) else {
             return Ok(Answer::NotAllowed);
         };
-        self.update(&Certificate::Notarization(notarization))
+        match self.state.updated(&Certificate::Notarization(notarization)) {
+            Ok(effects) => self.apply(effects),
+            Err(fault) => refused(fault),
+        }
     }
 
-    fn nullify(&mut self, view: View) -> Result<Answer<'_>, AllocError> {
+    fn nullify(&mut self, view: View) -> Result<Answer, AllocError>
+        ensures { IfOk result (λ answer. Reports self.old.state self.old.outstanding.keys view (nullification_call view) answer self.new.state self.new.outstanding.keys) }
+    {
         if view.is_zero() {
             return Ok(Answer::NotAllowed);
         }
-        self.update(&Certificate::Nullification(nullification_of(view)))
+        let certificate: Certificate<PlainScheme, PlainDigest> = Certificate::Nullification(
+            nullification_of(view),
+        );
+        match self.state.updated(&certificate) {
+            Ok(effects) => self.apply(effects),
+            Err(fault) => refused(fault),
+        }
     }
 
-    fn finalize(&mut self, view: View) -> Result<Answer<'_>, AllocError> {
+    fn finalize(&mut self, view: View) -> Result<Answer, AllocError>
+        ensures { IfOk result (λ answer. Reports self.old.state self.old.outstanding.keys view (finalization_call view) answer self.new.state self.new.outstanding.keys) }
+    {
         let Some(finalization) = finalization_of(view) else {
             return Ok(Answer::NotAllowed);
         };
-        self.update(&Certificate::Finalization(finalization))
+        match self.state.updated(&Certificate::Finalization(finalization)) {
+            Ok(effects) => self.apply(effects),
+            Err(fault) => refused(fault),
+        }
     }
 
-    fn certify(&mut self, view: View, success: bool) -> Result<Answer<'_>, AllocError> {
+    fn certify(&mut self, view: View, success: bool) -> Result<Answer, AllocError>
+        ensures { IfOk result (λ answer. Reports self.old.state self.old.outstanding.keys view (verdict_call view success) answer self.new.state self.new.outstanding.keys) }
+    {
         let Some(notarization) = notarization_of(view) else {
             return Ok(Answer::NotAllowed);
         };
-        let told = self.state.certified(notarization, success);
-        self.effects_of(told)
+        match self.state.certified(notarization, success) {
+            Ok(effects) => self.apply(effects),
+            Err(fault) => refused(fault),
+        }
     }
 
-    fn update(
-        &mut self,
-        certificate: &Certificate<PlainScheme, PlainDigest>,
-    ) -> Result<Answer<'_>, AllocError>
-        requires { 1 ≤ certificate_view certificate.now }
+    fn end_replay(&mut self) -> Result<Answer, AllocError>
+        ensures { IfOk result (λ answer. Calls self.old.state self.old.outstanding.keys 0 Replayed answer self.new.state self.new.outstanding.keys) }
     {
-        let told = self.state.updated(certificate);
-        self.effects_of(told)
+        match self.state.replayed() {
+            Ok(effects) => self.apply(effects),
+            Err(fault) => refused(fault),
+        }
     }
 
-    /// The effects of a call, applied to the open fetches.
-    fn effects_of(&mut self, told: Result<Vec<Effect>, Fault>) -> Result<Answer<'_>, AllocError> {
-        let effects = match told {
-            Ok(effects) => effects,
-            Err(fault) => return refused(fault),
-        };
+    /// Replies with the effects of a call, which are applied to the open fetches.
+    fn apply(&mut self, effects: Vec<Effect>) -> Result<Answer, AllocError>
+        ensures state { self.new.state ≡ self.old.state }
+        ensures applied { OnOk result (IsApplied self.old.outstanding.keys effects.items self.new.outstanding.keys) }
+        ensures answer { IfOk result (λ answer. answer ≡ AreEffects effects) }
+    {
         if apply(&mut self.outstanding, effects.as_slice()).is_err() {
             return Err(AllocError);
         }
@@ -125,7 +156,10 @@ impl Resolver {
     }
 }
 
-fn refused<'a>(fault: Fault) -> Result<Answer<'a>, AllocError> {
+/// The reply to a refused call, unless it found no memory.
+fn refused(fault: Fault) -> Result<Answer, AllocError>
+    ensures { IfOk result (λ answer. (answer ≡ IsFault fault) × (fault ≢ OutOfMemory)) }
+{
     match fault {
         Fault::OutOfMemory => Err(AllocError),
         _ => Ok(Answer::Fault(fault)),
@@ -134,7 +168,7 @@ fn refused<'a>(fault: Fault) -> Result<Answer<'a>, AllocError> {
 
 /// The round of a view.
 fn round_of(view: View) -> Round
-    ensures { result.view ≡ view }
+    ensures { result ≡ round_at view }
 {
     Round {
         epoch: Epoch::new(EPOCH),
@@ -144,7 +178,7 @@ fn round_of(view: View) -> Round
 
 /// The proposal of a view that a line stands for, which names the view before it as its parent.
 fn proposal_of(view: View) -> Option<Proposal<PlainDigest>>
-    ensures { IfSome result (λ p. 1 ≤ p.round.view) }
+    ensures { MatchOption result (view ≡ 0) (IsProposedAt view) }
 {
     let parent = view.previous()?;
     Some(Proposal {
@@ -155,7 +189,7 @@ fn proposal_of(view: View) -> Option<Proposal<PlainDigest>>
 }
 
 fn notarization_of(view: View) -> Option<Notarization<PlainScheme, PlainDigest>>
-    ensures { IfSome result (λ n. 1 ≤ n.proposal.round.view) }
+    ensures { MatchOption result (view ≡ 0) (λ n. IsProposedAt view n.proposal × (n.certificate.good ≡ true)) }
 {
     Some(Notarization {
         proposal: proposal_of(view)?,
@@ -164,7 +198,7 @@ fn notarization_of(view: View) -> Option<Notarization<PlainScheme, PlainDigest>>
 }
 
 fn finalization_of(view: View) -> Option<Finalization<PlainScheme, PlainDigest>>
-    ensures { IfSome result (λ f. 1 ≤ f.proposal.round.view) }
+    ensures { MatchOption result (view ≡ 0) (λ f. IsProposedAt view f.proposal × (f.certificate.good ≡ true)) }
 {
     Some(Finalization {
         proposal: proposal_of(view)?,
@@ -173,7 +207,8 @@ fn finalization_of(view: View) -> Option<Finalization<PlainScheme, PlainDigest>>
 }
 
 fn nullification_of(view: View) -> Nullification<PlainScheme>
-    ensures { result.round.view ≡ view }
+    ensures round { result.round ≡ round_at view }
+    ensures good { result.certificate.good ≡ true }
 {
     Nullification {
         round: round_of(view),
@@ -181,7 +216,7 @@ fn nullification_of(view: View) -> Nullification<PlainScheme>
     }
 }
 
-impl<'a> Display for Answer<'a> {
+impl Display for Answer {
     fn fmt<W: fmt::Write>(&self, f: &mut Formatter<W>) -> fmt::Result {
         match self {
             Answer::Effects(effects) => write_effects(f, effects.as_slice()),
@@ -242,7 +277,7 @@ fn write_effect<W: fmt::Write>(f: &mut Formatter<W>, effect: &Effect) -> fmt::Re
     }
 }
 
-fn write_outstanding<W: fmt::Write>(f: &mut Formatter<W>, views: &BTreeSet<View>) -> fmt::Result {
+fn write_outstanding<W: fmt::Write>(f: &mut Formatter<W>, views: &[View]) -> fmt::Result {
     f.write_str("outstanding")?;
     for view in views {
         write!(f, " {}", view.get())?;

@@ -1,7 +1,8 @@
 //! The lines that ask a resolver.
 
+ghost use Rattle.std.specs.Prelude.{◌≡◌, IfOk};
 ghost use Rattle.viewstate.specs.Decimal.{ReadsDecimal};
-ghost use Rattle.viewstate.specs.Words.{texts_of, ReadsFlag, ReadsKind};
+ghost use Rattle.viewstate.specs.Words.{texts_of, words_in, ReadsFlag, ReadsKind};
 ghost use Rattle.viewstate.specs.ResolverLine.{ReadsLine, ReadsLineOf, IsReport, IsQuestion, IsOther};
 
 use crate::decimal::decimal;
@@ -26,10 +27,19 @@ pub enum ResolverLine {
 
 impl ResolverLine {
     /// What the text asks, or `None` where it is no call. Words are parted by one space.
-    pub fn parse(alloc: Global, text: &str) -> Result<Option<ResolverLine>, AllocError> {
-        let words: Vec<&str> = text.split(' ').collect(alloc)?;
+    pub fn parse(alloc: Global, text: &str) -> Result<Option<ResolverLine>, AllocError>
+        ensures { IfOk result (λ line. ReadsLine (words_in text.now) line) }
+    {
+        let words = words_of(alloc, text)?;
         Ok(line_of(&words))
     }
+}
+
+/// The words of a text, which are parted by one space each.
+fn words_of(alloc: Global, text: &str) -> Result<Vec<&str>, AllocError>
+    ensures { IfOk result (λ words. texts_of words.items ≡ words_in text.now) }
+{
+    text.split(' ').collect(alloc)
 }
 
 /// What the words of a line ask, or `None` where they are no call.

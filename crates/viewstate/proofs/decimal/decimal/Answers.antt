@@ -1,4 +1,4 @@
-use Rattle.std.proofs.Common.{rules, ◌≡◌, ℕ}
+use Rattle.std.proofs.Common.{rules}
 use Rattle.viewstate.proofs.Decimals.{decimal-IsUnpadded, reads}
 use Rattle.viewstate.proofs.decimal.decimal.Goals as goal
 

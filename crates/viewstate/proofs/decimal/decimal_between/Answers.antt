@@ -1,4 +1,4 @@
-use Rattle.std.proofs.Common.{◌≡◌, ◌∙◌, ℕ, arith, sym}
+use Rattle.std.proofs.Common.{◌≡◌, arith}
 use Rattle.std.proofs.lemmas.Fmt.{decimal_injective}
 use Rattle.viewstate.proofs.decimal.decimal_between.Goals as goal
 use Rattle.viewstate.proofs.decimal.decimal_between.Goals.{then-number-least-via-then-number-least, then-number-least-via-else-number-least+then-most-number}
