@@ -5,3 +5,5 @@ pub mod ResolverLine
 pub mod Status
 pub mod Line
 pub mod Answers
+pub mod VoterLine
+pub mod Voter

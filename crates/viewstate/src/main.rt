@@ -1,4 +1,4 @@
-//! `viewstate`: a resolver, asked by lines.
+//! `viewstate`: a voter or a resolver, asked by lines.
 #![tactic(auto)]
 
 pub mod decimal;
@@ -9,6 +9,12 @@ pub mod resolver;
 pub mod resolver_line;
 #[cfg(test)]
 mod tests;
+pub mod texts;
+pub mod voter;
+pub mod voter_call;
+pub mod voter_line;
+pub mod voter_text;
+pub mod words;
 
 use mode::Mode;
 use program::{ServeError, serve};

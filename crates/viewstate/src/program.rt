@@ -1,11 +1,14 @@
 //! Serves lines of calls.
 
 ghost use Rattle.std.specs.Prelude.{◌≡◌};
+ghost use Rattle.viewstate.specs.Mode.{IsServed};
 
 use crate::line_reader::{LONGEST_LINE, line_text, read_line};
 use crate::mode::Mode;
 use crate::resolver::Resolver;
 use crate::resolver_line::ResolverLine;
+use crate::voter::Voter;
+use crate::voter_line::VoterLine;
 use std::alloc::{AllocError, Global};
 use std::fmt::{Display, Write as _};
 use std::io::{BufReader, Read, Write};
@@ -39,14 +42,26 @@ impl ServeError {
     }
 }
 
-/// Answers each line of the reader by a line of the writer, before it reads the next.
+/// Answers each line of the reader by a line of the writer, before it reads the next. It asks for a mode that
+/// `Mode::read` can give.
 pub fn serve<R: Read + Drop, W: Write + Drop>(
     alloc: Global,
     mode: Mode,
     reader: R,
+    writer: W,
+) -> Result<(), ServeError>
+    requires { IsServed mode }
+{
+    let mut session = Session::start(alloc, mode)?;
+    answer_lines(&mut session, alloc, reader, writer)
+}
+
+fn answer_lines<R: Read + Drop, W: Write + Drop>(
+    session: &mut Session,
+    alloc: Global,
+    reader: R,
     mut writer: W,
 ) -> Result<(), ServeError> {
-    let mut session = Session::start(alloc, mode);
     let (Ok(mut reader), Ok(mut line)) = (
         BufReader::new(alloc, reader),
         Vec::with_capacity(alloc, LONGEST_LINE + 1),
@@ -74,13 +89,25 @@ pub fn serve<R: Read + Drop, W: Write + Drop>(
 /// What the lines are asked of.
 #[derive(Drop)]
 enum Session {
+    Voter(Voter),
     Resolver(Resolver),
 }
 
 impl Session {
-    fn start(alloc: Global, mode: Mode) -> Session {
+    fn start(alloc: Global, mode: Mode) -> Result<Session, ServeError>
+        requires { IsServed mode }
+    {
         match mode {
-            Mode::Resolver(term_length) => Session::Resolver(Resolver::new(alloc, term_length)),
+            Mode::Voter {
+                members,
+                me,
+                term_length,
+                optimistic,
+            } => match Voter::start(alloc, members, me, term_length, optimistic) {
+                Ok(voter) => Ok(Session::Voter(voter)),
+                Err(AllocError) => Err(ServeError::OutOfMemory),
+            },
+            Mode::Resolver(term_length) => Ok(Session::Resolver(Resolver::new(alloc, term_length))),
         }
     }
 
@@ -93,17 +120,43 @@ impl Session {
         reply: &mut String,
     ) -> Result<(), ServeError> {
         match self {
-            Session::Resolver(resolver) => {
-                let Ok(line) = ResolverLine::parse(alloc, text) else {
-                    return Err(ServeError::OutOfMemory);
-                };
-                let line = line.ok_or(ServeError::NotACall(number))?;
-                match resolver.answer(alloc, line) {
-                    Ok(answer) => write_line(reply, answer),
-                    Err(AllocError) => Err(ServeError::OutOfMemory),
-                }
-            }
+            Session::Voter(voter) => answer_voter(voter, alloc, number, text, reply),
+            Session::Resolver(resolver) => answer_resolver(resolver, alloc, number, text, reply),
         }
+    }
+}
+
+fn answer_voter(
+    voter: &mut Voter,
+    alloc: Global,
+    number: u64,
+    text: &str,
+    reply: &mut String,
+) -> Result<(), ServeError> {
+    let Ok(line) = VoterLine::parse(alloc, text) else {
+        return Err(ServeError::OutOfMemory);
+    };
+    let line = line.ok_or(ServeError::NotACall(number))?;
+    match voter.answer(line) {
+        Ok(answer) => write_line(reply, answer),
+        Err(AllocError) => Err(ServeError::OutOfMemory),
+    }
+}
+
+fn answer_resolver(
+    resolver: &mut Resolver,
+    alloc: Global,
+    number: u64,
+    text: &str,
+    reply: &mut String,
+) -> Result<(), ServeError> {
+    let Ok(line) = ResolverLine::parse(alloc, text) else {
+        return Err(ServeError::OutOfMemory);
+    };
+    let line = line.ok_or(ServeError::NotACall(number))?;
+    match resolver.answer(alloc, line) {
+        Ok(answer) => write_line(reply, answer),
+        Err(AllocError) => Err(ServeError::OutOfMemory),
     }
 }
 

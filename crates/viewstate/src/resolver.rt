@@ -9,6 +9,7 @@ ghost use Rattle.viewstate.specs.Answers.{Answers, Calls, Reports, IsProposedAt,
 ghost use Rattle.viewstate.specs.declared.resolver.Answer.TheVariants.{Effects as AreEffects, Fault as IsFault};
 
 use crate::resolver_line::ResolverLine;
+use crate::texts::write_fault;
 use bytes::Bytes;
 use simplex_resolver::resolver::{Effect, State, apply};
 use simplex_types::types::plain::{PlainCertificate, PlainDigest, PlainScheme};
@@ -224,19 +225,9 @@ impl Display for Answer {
             Answer::Encoding(None) => f.write_str("none"),
             Answer::Encoding(Some(bytes)) => write_hexadecimal(f, bytes.as_slice()),
             Answer::Outstanding(views) => write_outstanding(f, views),
-            Answer::Fault(fault) => write!(f, "fault {} {fault}", fault_number(*fault)),
+            Answer::Fault(fault) => write_fault(f, *fault),
             Answer::NotAllowed => f.write_str("not-allowed"),
         }
-    }
-}
-
-/// The number by which a fault is told.
-fn fault_number(fault: Fault) -> u8 {
-    match fault {
-        Fault::OutOfMemory => 1,
-        Fault::Failed => 2,
-        Fault::ViewTooLarge => 3,
-        Fault::TimeOverflow => 4,
     }
 }
 

@@ -1,11 +1,10 @@
 //! The lines that ask a resolver.
 
-ghost use Rattle.std.specs.Prelude.{◌≡◌, IfOk};
-ghost use Rattle.viewstate.specs.Decimal.{ReadsDecimal};
-ghost use Rattle.viewstate.specs.Words.{texts_of, words_in, ReadsFlag, ReadsKind};
+ghost use Rattle.std.specs.Prelude.{IfOk};
+ghost use Rattle.viewstate.specs.Words.{texts_of, words_in, ReadsKind};
 ghost use Rattle.viewstate.specs.ResolverLine.{ReadsLine, ReadsLineOf, IsReport, IsQuestion, IsOther};
 
-use crate::decimal::decimal;
+use crate::words::{flag_of, view_of, words_of};
 use simplex_types::reasons::Kind;
 use simplex_types::types::View;
 use std::alloc::{AllocError, Global};
@@ -33,13 +32,6 @@ impl ResolverLine {
         let words = words_of(alloc, text)?;
         Ok(line_of(&words))
     }
-}
-
-/// The words of a text, which are parted by one space each.
-fn words_of(alloc: Global, text: &str) -> Result<Vec<&str>, AllocError>
-    ensures { IfOk result (λ words. texts_of words.items ≡ words_in text.now) }
-{
-    text.split(' ').collect(alloc)
 }
 
 /// What the words of a line ask, or `None` where they are no call.
@@ -91,22 +83,6 @@ fn other_line(words: &[&str]) -> Option<ResolverLine>
     match *words {
         ["replayed"] => Some(ResolverLine::Replayed),
         ["outstanding"] => Some(ResolverLine::Outstanding),
-        _ => None,
-    }
-}
-
-fn view_of(word: &str) -> Option<View>
-    ensures { ReadsDecimal word.now result }
-{
-    Some(View::new(decimal(word)?))
-}
-
-fn flag_of(word: &str) -> Option<bool>
-    ensures { ReadsFlag word.now result }
-{
-    match word {
-        "true" => Some(true),
-        "false" => Some(false),
         _ => None,
     }
 }

@@ -1,5 +1,8 @@
 //! Transcripts, texts and statuses, and readers and writers that fail.
 
+ghost use Rattle.std.specs.Prelude.{IfOk, IfSome};
+ghost use Rattle.viewstate.specs.Mode.{IsServed};
+
 use crate::mode::Mode;
 use crate::program::{ServeError, serve};
 use std::alloc::{AllocError, Global};
@@ -56,7 +59,9 @@ impl Write for FailingWriter {
 }
 
 /// The mode of a command line.
-fn mode_of(alloc: Global, line: &str) -> Result<Option<Mode>, AllocError> {
+fn mode_of(alloc: Global, line: &str) -> Result<Option<Mode>, AllocError>
+    ensures { IfOk result (λ mode. IfSome mode IsServed) }
+{
     let mut words = Vec::new(alloc);
     for word in line.split(' ').skip(1) {
         words.push(String::from_str(alloc, word)?)?;
@@ -69,7 +74,9 @@ fn run(
     alloc: Global,
     mode: Mode,
     input: &str,
-) -> Result<(String, Result<(), ServeError>), AllocError> {
+) -> Result<(String, Result<(), ServeError>), AllocError>
+    requires { IsServed mode }
+{
     let mut output = Vec::new(alloc);
     let ended = serve(alloc, mode, input.as_bytes(), &mut output);
     let text = String::from_utf8(output).map_err(|_| AllocError)?;
@@ -209,11 +216,79 @@ const GENESIS: (&str, &str) = (
     "not-allowed\nnot-allowed\nnot-allowed\ntrue\nnone\n",
 );
 
+/// Verdicts of an untracked view, of a view without a notarization, and certificates of genesis.
+const NOT_ALLOWED: (&str, &str) = (
+    "verdict 9 true 1\nverdict 1 true 1\nnotarization 0 0 7\nnullification 0 1\nfinalization 0 0 7 1\n",
+    "none\nnot-allowed\nnot-allowed\nnot-allowed\nnot-allowed\n",
+);
+
+/// A deadline that passes 64 bits, and then the verdict again, and its opposite.
+const VERDICTS: (&str, &str) = (
+    "notarization 1 0 7\nverdict 1 true 18446744073709551615\nview\nverdict 1 true 10\nverdict 1 true 11\nverdict 1 false 12\nview\nrecord\n",
+    "added true -\nfault 4 TimeOverflow\nview 1 0 0\ncertified 1\ncertified 1\nnot-allowed\nview 2 0 0\nrecord 2\n",
+);
+
+/// A nullify vote bars the finalize vote of its view, and is answered again as a repeat.
+const NULLIFIED: (&str, &str) = (
+    "nullify 1\nnullify 1\nnotarization 1 0 7\nverdict 1 true 10\nfinalize 1\nnullify 1\nrecord\n",
+    "nullify 1 false\nnullify 1 true\nadded true -\ncertified 1\nnone\nnone\nrecord 3\n",
+);
+
+/// A finalize vote comes once, and bars the nullify vote of its view.
+const FINALIZE: (&str, &str) = (
+    "notarization 1 5 7\nverdict 1 true 10\nfinalize 1\nfinalize 1\nbest\nbroadcast notarization 1\nbroadcast notarization 1\n",
+    "added true -\ncertified 1\nfinalize 1 5 7\nnone\nnotarization 1\nnotarization 1\nnone\n",
+);
+
+/// The votes of a term of five views: its gate, its nullification, and what a finalization makes of both.
+const GATE: (&str, &str) = (
+    "nullification 3 10\nbest\nfinalization 2 1 9 12\nview\nnullify 6\nnotarization 6 2 4\nverdict 6 true 13\nfinalize 6\nnotarization 7 6 5\nverdict 7 true 14\nfinalize 7\nfinalization 6 2 4 15\nfinalize 7\nbroadcast finalization 6\nbroadcast finalization 6\nbroadcast notarization 6\nbroadcast nullification 3\n",
+    "added true\nnullification 3\nadded true -\nview 6 2 0\nnullify 6 false\nadded true -\ncertified 6\nnone\nadded true -\ncertified 7\nnone\nadded true -\nfinalize 7 6 5\nfinalization 6\nnone\nnotarization 6\nnullification 3\n",
+);
+
+/// What lies below the retention is dropped, and its certificates are not taken.
+const PRUNED: (&str, &str) = (
+    "finalization 20 19 0 5\nview\nprune\nnullification 9 6\nnullification 10 7\n",
+    "added true -\nview 21 20 10\npruned 1\nnot-allowed\nadded true\n",
+);
+
+/// A view that is too large, and the last one that isn't.
+const LARGEST: (&str, &str) = (
+    "finalization 9223372036854775807 5 9 10\nview\nnotarization 9223372036854775808 1 1\nprune\nnullify 9223372036854775808\n",
+    "added true -\nview 9223372036854775808 9223372036854775807 9223372036854775797\nfault 3 ViewTooLarge\npruned 1\nnullify 9223372036854775808 false\n",
+);
+
+/// A leader that equivocates is named.
+const EQUIVOCATED: (&str, &str) = (
+    "notarization 1 0 7\nfinalization 1 0 8 10\n",
+    "added true -\nadded true 0\n",
+);
+
+/// Without a key a vote is decided and not answered.
+const KEYLESS: (&str, &str) = (
+    "nullify 1\nnotarization 1 0 7\nverdict 1 true 10\nfinalize 1\nrecord",
+    "none\nadded true -\ncertified 1\nnone\nrecord 2\n",
+);
+
 /// Whether serving the row's input writes its output, and ends well.
 fn is_served(alloc: Global, line: &str, row: (&str, &str)) -> Result<bool, Fail> {
     let mode = mode_of(alloc, line)?.ok_or("no mode")?;
     let (output, ended) = run(alloc, mode, row.0)?;
     Ok(ended == Ok(()) && output.as_str() == row.1)
+}
+
+#[test]
+fn transcripts_of_a_voter(rt: HostRuntime) -> Result<(), Fail> {
+    assert!(rt; is_served(rt.alloc(), "viewstate voter 4 0 1 0", NOT_ALLOWED)?);
+    assert!(rt; is_served(rt.alloc(), "viewstate voter 4 0 1 0", VERDICTS)?);
+    assert!(rt; is_served(rt.alloc(), "viewstate voter 4 0 1 0", NULLIFIED)?);
+    assert!(rt; is_served(rt.alloc(), "viewstate voter 4 0 1 0", FINALIZE)?);
+    assert!(rt; is_served(rt.alloc(), "viewstate voter 4 0 5 0", GATE)?);
+    assert!(rt; is_served(rt.alloc(), "viewstate voter 4 0 1 0", PRUNED)?);
+    assert!(rt; is_served(rt.alloc(), "viewstate voter 4 0 1 0", LARGEST)?);
+    assert!(rt; is_served(rt.alloc(), "viewstate voter 4 1 1 0", EQUIVOCATED)?);
+    assert!(rt; is_served(rt.alloc(), "viewstate voter 4 - 1 0", KEYLESS)?);
+    Ok(())
 }
 
 #[test]
@@ -264,6 +339,17 @@ fn modes(rt: HostRuntime) -> Result<(), Fail> {
         ("viewstate resolver", false),
         ("viewstate resolver ", false),
         ("viewstate resolve 1", false),
+        ("viewstate voter 4 0 1 0", true),
+        ("viewstate voter 4 - 5 18446744073709551615", true),
+        ("viewstate voter 1000 999 4294967295 0", true),
+        ("viewstate voter 1001 0 1 0", false),
+        ("viewstate voter 0 - 1 0", false),
+        ("viewstate voter 4 4 1 0", false),
+        ("viewstate voter 4 0 0 0", false),
+        ("viewstate voter 4 0 1 18446744073709551616", false),
+        ("viewstate voter 4 0 1 00", false),
+        ("viewstate voter 4 0 1", false),
+        ("viewstate voter 4 0 1 0 0", false),
         ("viewstate", false),
     ];
     for (line, is_served) in cases {

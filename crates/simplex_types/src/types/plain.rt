@@ -2,7 +2,7 @@
 
 ghost use Rattle.std.specs.Prelude.{◌≡◌, ◌<◌, ◌+◌, ◌^◌, ◌%◌, ℕ, true, List, Option, Some, None, length, IfOk, nat_eq, refl, option_map, map};
 ghost use Rattle.std.specs.Option.{ForSome};
-ghost use Rattle.std.specs.Int.{w64, to_be_bytes};
+ghost use Rattle.std.specs.Int.{w64, to_be_bytes, from_be_bytes};
 
 use crate::types::messages::Subject;
 use crate::types::numbers::{Participant, Round};
@@ -27,6 +27,13 @@ impl PlainDigest {
         PlainDigest {
             bytes: number.to_be_bytes(),
         }
+    }
+
+    /// The number that the bytes are, big-endian.
+    pub fn number(&self) -> u64
+        ensures { result ≡ from_be_bytes w64 (digest_bytes self.now) }
+    {
+        u64::from_be_bytes(self.bytes)
     }
 }
 

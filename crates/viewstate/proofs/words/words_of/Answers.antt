@@ -1,7 +1,7 @@
 use Rattle.std.proofs.Common.{lit<}
 use Rattle.std.proofs.lemmas.Iterator.Consumers.{map_from_collect}
 use Rattle.std.proofs.lemmas.Iterator.Splits.{YieldsList-from_str_split}
-use Rattle.viewstate.proofs.resolver_line.words_of.Goals as goal
+use Rattle.viewstate.proofs.words.words_of.Goals as goal
 
 pub returns : goal.returns
 returns c =

@@ -1,0 +1,92 @@
+-- The lines that ask a voter, by their words.
+use Rattle.std.specs.Prelude.{◌≡◌, ◌≢◌, ℕ, ◌^◌, ◌<◌, List, [], ◌∷◌, decimal, codes, Option, MatchOption, ⊤}
+use Rattle.viewstate.specs.Words.{flag_word, ReadsWord}
+use Rattle.viewstate.specs.declared.voter_line.CertificateKind.{CertificateKind}
+use Rattle.viewstate.specs.declared.voter_line.CertificateKind.TheVariants as kind
+use Rattle.viewstate.specs.declared.voter_line.VoterLine.{VoterLine}
+use Rattle.viewstate.specs.declared.voter_line.VoterLine.TheVariants.{Notarization, Nullification, Finalization, Verdict, Nullify, Finalize, Broadcast, Best, Prune, Record, Views}
+
+-- a certificate's kind, as lines name it
+abbrev pub kind_word : CertificateKind → List ℕ
+kind_word kind.Notarization = codes "notarization"
+kind_word kind.Nullification = codes "nullification"
+kind_word kind.Finalization = codes "finalization"
+
+abbrev pub ReadsCertificateKind : List ℕ → Option CertificateKind → Type 0
+ReadsCertificateKind = ReadsWord kind_word
+
+-- the words that ask for a line
+abbrev pub voter_words : VoterLine → List (List ℕ)
+voter_words (Notarization view parent payload) = codes "notarization" ∷ decimal view ∷ decimal parent ∷ decimal payload ∷ []
+voter_words (Nullification view now) = codes "nullification" ∷ decimal view ∷ decimal now ∷ []
+voter_words (Finalization view parent payload now) = codes "finalization" ∷ decimal view ∷ decimal parent ∷ decimal payload ∷ decimal now ∷ []
+voter_words (Verdict view success now) = codes "verdict" ∷ decimal view ∷ flag_word success ∷ decimal now ∷ []
+voter_words (Nullify view) = codes "nullify" ∷ decimal view ∷ []
+voter_words (Finalize view) = codes "finalize" ∷ decimal view ∷ []
+voter_words (Broadcast kind view) = codes "broadcast" ∷ kind_word kind ∷ decimal view ∷ []
+voter_words Best = codes "best" ∷ []
+voter_words Prune = codes "prune" ∷ []
+voter_words Record = codes "record" ∷ []
+voter_words Views = codes "view" ∷ []
+
+-- its numbers have 64 bits
+abbrev pub HasSmallNumbers : VoterLine → Type 0
+HasSmallNumbers (Notarization view parent payload) = (view < 2 ^ 64) × (parent < 2 ^ 64) × (payload < 2 ^ 64)
+HasSmallNumbers (Nullification view now) = (view < 2 ^ 64) × (now < 2 ^ 64)
+HasSmallNumbers (Finalization view parent payload now) = (view < 2 ^ 64) × (parent < 2 ^ 64) × (payload < 2 ^ 64) × (now < 2 ^ 64)
+HasSmallNumbers (Verdict view success now) = (view < 2 ^ 64) × (now < 2 ^ 64)
+HasSmallNumbers (Nullify view) = view < 2 ^ 64
+HasSmallNumbers (Finalize view) = view < 2 ^ 64
+HasSmallNumbers (Broadcast kind view) = view < 2 ^ 64
+HasSmallNumbers Best = ⊤
+HasSmallNumbers Prune = ⊤
+HasSmallNumbers Record = ⊤
+HasSmallNumbers Views = ⊤
+
+pub data Family : Type 0 where
+  certificates : Family
+  progress : Family
+  votes : Family
+  servings : Family
+  lives : Family
+
+-- the family that reads a line
+abbrev pub family_of : VoterLine → Family
+family_of (Notarization view parent payload) = certificates
+family_of (Nullification view now) = certificates
+family_of (Finalization view parent payload now) = progress
+family_of (Verdict view success now) = progress
+family_of (Nullify view) = votes
+family_of (Finalize view) = votes
+family_of (Broadcast kind view) = servings
+family_of Best = servings
+family_of Prune = servings
+family_of Record = lives
+family_of Views = lives
+
+abbrev pub IsCertificate : VoterLine → Type 0
+IsCertificate line = family_of line ≡ certificates
+
+abbrev pub IsProgress : VoterLine → Type 0
+IsProgress line = family_of line ≡ progress
+
+abbrev pub IsVote : VoterLine → Type 0
+IsVote line = family_of line ≡ votes
+
+abbrev pub IsServing : VoterLine → Type 0
+IsServing line = family_of line ≡ servings
+
+abbrev pub IsOfLives : VoterLine → Type 0
+IsOfLives line = family_of line ≡ lives
+
+-- the line that the words ask for, and none where they ask for none of this family
+abbrev pub ReadsVoterLineOf : (VoterLine → Type 0) → List (List ℕ) → Option VoterLine → Type 0
+ReadsVoterLineOf IsOne words r = MatchOption r
+    ((line : VoterLine) → IsOne line → HasSmallNumbers line → words ≢ voter_words line)
+    (λ line. words ≡ voter_words line)
+
+-- the line that the words ask for, and none where they ask for none
+abbrev pub ReadsVoterLine : List (List ℕ) → Option VoterLine → Type 0
+ReadsVoterLine words r = MatchOption r
+    ((line : VoterLine) → HasSmallNumbers line → words ≢ voter_words line)
+    (λ line. words ≡ voter_words line)

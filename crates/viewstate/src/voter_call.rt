@@ -1,0 +1,108 @@
+//! The calls that lines stand for. Their certificates are good, and of one epoch.
+
+ghost use Rattle.std.specs.Prelude.{◌≡◌, MatchOption, true};
+ghost use Rattle.simplex_member.specs.Calls.{call_facts};
+ghost use Rattle.viewstate.specs.declared.voter_line.VoterLine.TheVariants.{Broadcast};
+ghost use Rattle.viewstate.specs.Voter.{StandsFor, IsProposal, shows, round_in_epoch, plain_bytes};
+
+use crate::voter_line::{CertificateKind, VoterLine};
+use simplex_member::member::Call;
+use simplex_types::reasons::TimeoutReason;
+use simplex_types::types::plain::{PlainCertificate, PlainDigest, PlainScheme};
+use simplex_types::types::{
+    Epoch, Finalization, Notarization, Nullification, Proposal, Round, View,
+};
+
+/// The epoch of every certificate that a line stands for.
+pub const EPOCH: u64 = 1;
+
+/// The call that a line stands for, if it stands for one.
+pub fn call_of(line: &VoterLine) -> Option<Call<PlainScheme, PlainDigest>>
+    ensures { MatchOption result (shows line.now ≡ true) (λ call. StandsFor line.now (call_facts plain_bytes call)) }
+{
+    match *line {
+        VoterLine::Notarization {
+            view,
+            parent,
+            payload,
+        } => Some(Call::AddNotarization(notarization_of(view, parent, payload))),
+        VoterLine::Nullification { view, now } => {
+            Some(Call::AddNullification(nullification_of(view), now))
+        }
+        VoterLine::Finalization {
+            view,
+            parent,
+            payload,
+            now,
+        } => {
+            let finalization = finalization_of(view, parent, payload);
+            Some(Call::AddFinalization(finalization, now))
+        }
+        VoterLine::Verdict { view, success, now } => Some(Call::Certified(view, success, now)),
+        VoterLine::Nullify(view) => Some(Call::ConstructNullify(view, TimeoutReason::Retry)),
+        VoterLine::Finalize(view) => Some(Call::ConstructFinalize(view)),
+        VoterLine::Broadcast { kind, view } => Some(broadcast_of(kind, view)),
+        VoterLine::Best => Some(Call::GetBestCertificate),
+        VoterLine::Prune => Some(Call::Prune),
+        VoterLine::Record | VoterLine::Views => None,
+    }
+}
+
+fn broadcast_of(kind: CertificateKind, view: View) -> Call<PlainScheme, PlainDigest>
+    ensures { StandsFor (Broadcast kind view) (call_facts plain_bytes result) }
+{
+    match kind {
+        CertificateKind::Notarization => Call::BroadcastNotarization(view),
+        CertificateKind::Nullification => Call::BroadcastNullification(view),
+        CertificateKind::Finalization => Call::BroadcastFinalization(view),
+    }
+}
+
+fn round_of(view: View) -> Round
+    ensures { result ≡ round_in_epoch view }
+{
+    Round {
+        epoch: Epoch::new(EPOCH),
+        view,
+    }
+}
+
+fn proposal_of(view: View, parent: View, payload: u64) -> Proposal<PlainDigest>
+    ensures { IsProposal view parent payload result }
+{
+    Proposal {
+        round: round_of(view),
+        parent,
+        payload: PlainDigest::new(payload),
+    }
+}
+
+fn notarization_of(view: View, parent: View, payload: u64) -> Notarization<PlainScheme, PlainDigest>
+    ensures proposal { IsProposal view parent payload result.proposal }
+    ensures good { result.certificate.good ≡ true }
+{
+    Notarization {
+        proposal: proposal_of(view, parent, payload),
+        certificate: PlainCertificate { good: true },
+    }
+}
+
+fn finalization_of(view: View, parent: View, payload: u64) -> Finalization<PlainScheme, PlainDigest>
+    ensures proposal { IsProposal view parent payload result.proposal }
+    ensures good { result.certificate.good ≡ true }
+{
+    Finalization {
+        proposal: proposal_of(view, parent, payload),
+        certificate: PlainCertificate { good: true },
+    }
+}
+
+fn nullification_of(view: View) -> Nullification<PlainScheme>
+    ensures round { result.round ≡ round_in_epoch view }
+    ensures good { result.certificate.good ≡ true }
+{
+    Nullification {
+        round: round_of(view),
+        certificate: PlainCertificate { good: true },
+    }
+}
