@@ -1,15 +1,12 @@
 -- Notarized views of a window.
-use Rattle.std.proofs.Common.{◌≡◌, ℕ, ◌+◌, ◌-◌, ◌<◌, ◌≤◌, Bool, true, false, ◌&&◌, ◌||◌, cond, ltb, leb, IsTrue, List, [], ◌∷◌, Some, None, filter, length, get_or, drop, refl, ap, sym, ◌∙◌, inl, inr, arith}
-use Rattle.std.specs.Prelude.{max, unwrap_or, ◌==◌}
+use Rattle.std.proofs.Common.{◌≡◌, ℕ, ◌+◌, ◌<◌, ◌≤◌, Bool, true, false, ◌&&◌, ◌||◌, ltb, leb, IsTrue, List, [], ◌∷◌, filter, length, get_or, drop, refl, ap, sym, ◌∙◌, inl, inr}
+use Rattle.std.specs.Prelude.{◌==◌}
 use Rattle.std.specs.List.{list_any}
 use Rattle.std.specs.Ordering.{nat_cmp}
 use Rattle.std.specs.FinMap as map
-use Rattle.std.proofs.lemmas.Bool.{false≢true, cases_lt, eqb-true}
+use Rattle.std.proofs.lemmas.Bool.{false≢true, eqb-true}
 use Rattle.std.proofs.lemmas.List.{drop_more, drop_all}
 use Rattle.simplex_types.specs.Tracked.{at_or_above, below}
-use Rattle.simplex_types.specs.Terms.{term_start}
-use Rattle.simplex_types.specs.Window.{issuance_floor}
-use Rattle.simplex_types.proofs.Covers.{start_below}
 use Rattle.simplex_types.proofs.Maps.{entries-retain_keys}
 use Rattle.simplex_voter.proofs.Gaps.{cases_bool}
 
@@ -32,22 +29,6 @@ any_between {V} m from to test =
     ∙ any-filter (λ e. leb from e.0) (λ e. test e.1) (filter (λ e. ltb e.0 to) (map.entries m))
     ∙ any-filter (λ e. ltb e.0 to) (λ e. leb from e.0 && test e.1) (map.entries m)
     ∙ (λ i. list_any (λ (e : ℕ × V). in_turn (leb from e.0) (ltb e.0 to) (test e.1) i) (map.entries m))
-
-floor_by : (b c d : Bool) (floor low : ℕ) → Some floor ≡ cond (b || c || d) None (Some low) → floor ≡ low
-floor_by true c d floor low is = let bad : Some floor ≡ None = is in cc
-floor_by false true d floor low is = let bad : Some floor ≡ None = is in cc
-floor_by false false true floor low is = let bad : Some floor ≡ None = is in cc
-floor_by false false false floor low is = ap (λ o. unwrap_or o floor) is
-
--- a window's floor is not above its view
-pub floor_not_above : (length optimistic view floor : ℕ) → Some floor ≡ issuance_floor length optimistic view → floor ≤ view
-floor_not_above length optimistic view floor is =
-    let low : floor ≡ max (term_start length view - 1) (view - 1 - optimistic) = floor_by (view == 0) (view == term_start length view) (optimistic == 0) floor _ is in
-    elim (cases_lt 0 view) [
-      | inl above ↦ let start = start_below length view (omega arith) in omega (arith, low, start)
-      | inr genesis ↦ let none : view ≡ 0 = omega arith in
-          let bad : Some floor ≡ None = (rw none at is) in cc
-    ]
 
 -- a view that is not genesis
 pub not_zero : (v : ℕ) → (v ≡ 0 → IsTrue false) → (v == 0) ≡ false

@@ -7,8 +7,8 @@ use Rattle.simplex_types.specs.Certificates.{ProposalFacts}
 use Rattle.simplex_types.specs.declared.types.messages.Proposal.{Proposal}
 use Rattle.simplex_round.specs.Round.{RoundFacts, with_recovered, with_notarization, with_finalization}
 use Rattle.simplex_voter.specs.Facts.{Facts, Elect, round_of}
-use Rattle.simplex_voter.specs.Rounds.{round_in, notarized_rounds, finalized_rounds}
-use Rattle.simplex_voter.specs.Acceptance.{added_answer, notarization_added, finalization_added, with_notarization_at, with_finalization_at}
+use Rattle.simplex_voter.specs.Rounds.{notarized_rounds, finalized_rounds}
+use Rattle.simplex_voter.specs.Acceptance.{with_notarization_at, with_finalization_at}
 use Rattle.simplex_voter.proofs.RoundsKept.{IsAlike}
 use Rattle.simplex_voter.proofs.Shown.{origin, round_shown, put_shown}
 
@@ -43,9 +43,3 @@ module _ {K L D : Type 0} (same : D → D → Bool) (elect : Elect L) (x : Facts
       let u = c.proposal.round.view in
       ap (λ (n : map.FinMap nat_cmp (RoundFacts K D)). record x { rounds = map.entries n }) (is ∙ ap (λ w. finalized_rounds same (origin x) m w c) (sym at))
       ∙ rw (← round_shown x m shown u) (put_shown x m shown u (with_finalization (same_proposal same) (round_of x u) c))
-
-  pub notarization_added_shown : (v : ℕ) (c : ProposalFacts D) → c.proposal.round.view ≡ v → added_answer same (round_in (origin x) m v).notarization (round_in (origin x) m v) c.proposal ≡ notarization_added same elect x c
-  notarization_added_shown v c at = rw (← at, ← round_shown x m shown c.proposal.round.view) refl
-
-  pub finalization_added_shown : (v : ℕ) (c : ProposalFacts D) → c.proposal.round.view ≡ v → added_answer same (round_in (origin x) m v).finalization (round_in (origin x) m v) c.proposal ≡ finalization_added same elect x c
-  finalization_added_shown v c at = rw (← at, ← round_shown x m shown c.proposal.round.view) refl

@@ -1,20 +1,16 @@
 -- Leaders that go on from view to view, and rounds that other views leave alone.
-use Rattle.std.proofs.Common.{◌≡◌, ℕ, suc, ◌+◌, ◌-◌, ◌<◌, ◌≤◌, true, cond, length, List, Option, Some, None, is_some, unwrap_or, refl, ap, sym, ◌∙◌, arith}
-use Rattle.std.specs.Prelude.{option_map, option_and_then}
+use Rattle.std.proofs.Common.{◌≡◌, ℕ, suc, ◌+◌, ◌-◌, ◌<◌, ◌≤◌, true, cond, length, List, Some, None, is_some, unwrap_or, refl, ap, sym, ◌∙◌, arith}
 use Rattle.std.specs.List.{fold, range_with_len}
-use Rattle.std.specs.Option.{option_map_or}
 use Rattle.std.specs.Ordering.{nat_cmp, is_lt}
 use Rattle.std.specs.FinMap as map
 use Rattle.std.proofs.lemmas.Bool.{false≢true, ltb-true}
 use Rattle.std.proofs.lemmas.Option.{slice_get_past}
 use Rattle.simplex_types.proofs.Maps.{is_lt-nat_cmp}
-use Rattle.simplex_round.specs.declared.round.Leader.{Leader}
-use Rattle.simplex_round.specs.Round.{RoundFacts, leader_at, new_round}
-use Rattle.simplex_voter.specs.Facts.{Facts, round_at, round_of, round_number}
+use Rattle.simplex_round.specs.Round.{RoundFacts, leader_at}
+use Rattle.simplex_voter.specs.Facts.{Facts}
 use Rattle.simplex_voter.specs.Setup.{HasSameSetup}
-use Rattle.simplex_voter.specs.Leaders.{led, inherited}
+use Rattle.simplex_voter.specs.Leaders.{inherited}
 use Rattle.simplex_voter.specs.Rounds.{Origin, fresh_round, round_in, led_rounds}
-use Rattle.simplex_voter.specs.Serving.{leader_of}
 use Rattle.simplex_voter.proofs.RoundsKept.{stays}
 
 module _ {K D : Type 0} (o : Origin K) (m : map.FinMap nat_cmp (RoundFacts K D)) (v member : ℕ) where
@@ -42,19 +38,6 @@ pub no_member : {K : Type 0} (members read : List K) (index number : ℕ) → re
 no_member members read index number same is past = rw (same, is) at past
 
 module _ {K L D : Type 0} where
-  leader_shown : (x : Facts K L D) (v : ℕ) → leader_of x v ≡ option_map (λ (l : Leader K). l.idx) (round_of x v).leader
-  leader_shown x v = elim (round_at x v) as (λ found. option_and_then (λ (r : RoundFacts K D). option_map (λ l. l.idx) r.leader) found ≡ option_map (λ (l : Leader K). l.idx) (unwrap_or found (new_round x.me x.members (round_number x v))).leader) [
-    | None ↦ refl
-    | Some r ↦ refl
-  ]
-
-  handed_on : (x : Facts K L D) (to : ℕ) (known : Option (Leader K)) (index : Option ℕ) → index ≡ option_map (λ l. l.idx) known → option_map_or (λ (l : Leader K). led x to l.idx) known x ≡ option_map_or (λ i. led x to i) index x
-  handed_on x to None index is = rw is refl
-  handed_on x to (Some l) index is = rw is refl
-
-  pub inherited_shown : (x : Facts K L D) (from to : ℕ) (index : Option ℕ) → index ≡ leader_of x from → inherited x from to ≡ option_map_or (λ i. led x to i) index x
-  inherited_shown x from to index is = handed_on x to (round_of x from).leader index (is ∙ leader_shown x from)
-
   slid_step : (x y : Facts K L D) (from last : ℕ) → from < last → y ≡ inherited x from (from + 1) → fold (λ (z : Facts K L D) w. inherited z (w - 1) w) y (range_with_len (from + 1 + 1) (last - (from + 1))) ≡ fold (λ (z : Facts K L D) w. inherited z (w - 1) w) x (range_with_len (from + 1) (last - from))
   slid_step x y from last below is =
       let left : last - from ≡ suc (last - (from + 1)) = omega arith in

@@ -71,10 +71,6 @@ walked_step o m f n e is done q =
       | inr (inr higher) ↦ rw (ne_eqb q e.0 (omega arith), le-ltb q (e.0 + 1) (omega arith)) (up q ∙ rw (le-ltb q e.0 (omega arith)) refl)
     ]
 
--- nothing is changed yet
-pub walked_none : {V : Type 0} (o : FinMap nat_cmp V) (f : V → V) (n : ℕ) → n ≡ 0 → Walked o o f n
-walked_none o f n start q = rw (le-ltb q n (omega arith)) refl
-
 next_test : (q v : ℕ) → ltb q (v + 1) ≡ leb q v
 next_test q v = grind (arith, nat_tests)
 

@@ -25,8 +25,6 @@ mod rules;
 mod serving;
 mod state;
 mod terms;
-#[cfg(test)]
-mod tests;
 mod timeouts;
 mod views;
 mod votes;
