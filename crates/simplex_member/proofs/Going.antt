@@ -1,12 +1,11 @@
 -- A call that was made leaves a state that goes on: it has not failed, and its current view is no genesis.
-use Rattle.std.proofs.Common.{◌≡◌, refl, ap, ◌∙◌, ℕ, ◌+◌, ◌-◌, Bool, true, false, ◌&&◌, not, if◌then◌else◌, nat_lt, nat_le, List, [], ◌∷◌, Option, Some, None, ◌≤◌, is_some, arith, inl, inr}
+use Rattle.std.proofs.Common.{◌≡◌, refl, ap, ◌∙◌, ℕ, ◌+◌, ◌-◌, Bool, true, false, ◌&&◌, not, if◌then◌else◌, nat_lt, nat_le, List, [], ◌∷◌, Option, Some, None, ◌≤◌, is_some, arith}
 use Rattle.std.proofs.lemmas.Bool.Decides.{nat_tests}
 use Rattle.std.specs.List.{fold}
 use Rattle.std.specs.Option.{option_map_or}
 use Rattle.simplex_types.specs.Terms.{next_term_start}
 use Rattle.simplex_types.specs.Config.{FloorFacts, Genesis, Finalized}
-use Rattle.simplex_types.specs.Certificates.{ProposalFacts, NullificationFacts, ArtifactFacts}
-use Rattle.simplex_types.specs.declared.types.fault.Fault.{Fault}
+use Rattle.simplex_types.specs.Certificates.{ProposalFacts, NullificationFacts}
 use Rattle.simplex_types.specs.declared.types.messages.Subject.{Subject}
 use Rattle.simplex_types.specs.declared.reasons.TimeoutReason.{TimeoutReason}
 use Rattle.simplex_types.specs.declared.reasons.TimeoutReason.TheVariants.{FailedCertification}
@@ -21,9 +20,7 @@ use Rattle.simplex_voter.specs.Certification.{named_also, raised, waits_for, wok
 use Rattle.simplex_voter.specs.Acceptance.{nullified_also, with_notarization_at, with_nullification_at, with_finalization_at, after_add_notarization, after_add_nullification, after_add_finalization, after_set_floor}
 use Rattle.simplex_voter.specs.Rules.{may_nullify, may_finalize}
 use Rattle.simplex_voter.specs.Votes.{nullify_cast, finalize_cast, after_construct_nullify, after_construct_finalize}
-use Rattle.simplex_member.specs.Calls.{CallFacts, AddNotarization, AddNullification, AddFinalization, Certified, ConstructNullify, ConstructFinalize, BroadcastNotarization, BroadcastNullification, BroadcastFinalization, GetBestCertificate, Prune, Refused, is_allowed, fault_of, after_call}
-use Rattle.simplex_member.specs.Made.{IsRefusal}
-use Rattle.simplex_member.specs.Lives.{living, IsCall}
+use Rattle.simplex_member.specs.Calls.{CallFacts, AddNotarization, AddNullification, AddFinalization, Certified, ConstructNullify, ConstructFinalize, BroadcastNotarization, BroadcastNullification, BroadcastFinalization, GetBestCertificate, Prune, after_call}
 
 -- what a call keeps
 pub record Goes {K L D : Type 0} (x y : Facts K L D) : Type 0 where
@@ -64,7 +61,7 @@ module _ {K L D : Type 0} where
   slides [] x = stays x
   slides (w ∷ views) x = joined x (inherited x (w - 1) w) (fold (λ y w. inherited y (w - 1) w) (inherited x (w - 1) w) views) (inherited_goes x (w - 1) w) (slides views (inherited x (w - 1) w))
 
-  entered_goes : (x : Facts K L D) (v now : ℕ) → Goes x (entered x v now)
+  pub entered_goes : (x : Facts K L D) (v now : ℕ) → Goes x (entered x v now)
   entered_goes x v now = enters (nat_lt x.current v) refl
     where
       enters : (b : Bool) → nat_lt x.current v ≡ b → Goes x (entered x v now)
@@ -205,19 +202,3 @@ module _ {K L D G : Type 0} (same : D → D → Bool) (elect : Elect L) (signatu
 
   pub goes_on : (x : Facts K L D) (call : CallFacts D) (y : Facts K L D) → y ≡ after_call same elect signature_of x call → x.failed ≡ false → is_started x ≡ true → (y.failed ≡ false) × (is_started y ≡ true)
   goes_on x call y made failed started = let g = goes x call in (ap (λ z. z.failed) made ∙ g.failed ∙ failed, ap is_started made ∙ g.started started)
-
-  -- a call that was refused
-  pub refused_call : (x : Facts K L D) (entries : List (ArtifactFacts D G)) (call : CallFacts D) (fault : Fault) (y : Facts K L D) (lost : Bool) → is_allowed x call ≡ true
-      → IsRefusal (fault_of x call) fault x y lost
-      → IsCall same elect signature_of (record { life = Some x; entries = entries }) call (Refused fault) (record { life = living lost y; entries = entries })
-  unfolding IsCall
-  refused_call x entries call fault y lost allowed (inl h) = inl (rw (allowed, h.0) refl, rw (allowed, h.0, h.1, h.2) refl)
-  refused_call x entries call fault y lost allowed (inr (memory, inl l)) = inr (allowed, ap Refused memory, inr (rw l refl))
-  refused_call x entries call fault y lost allowed (inr (memory, inr h)) = inr (allowed, ap Refused memory, inl (rw (h.0, h.1) refl))
-
-module _ {K L D : Type 0} where
-  -- a state that was refused goes on where it isn't lost
-  pub stays_on : (due : Option Fault) (fault : Fault) (x y : Facts K L D) (lost : Bool) → IsRefusal due fault x y lost → x.failed ≡ false → is_started x ≡ true → lost ≡ false → (y.failed ≡ false) × (is_started y ≡ true)
-  stays_on due fault x y lost (inl h) failed started found = (rw h.1 failed, rw h.1 started)
-  stays_on due fault x y lost (inr (memory, inl l)) failed started found = absurd cc
-  stays_on due fault x y lost (inr (memory, inr h)) failed started found = (rw h.0 failed, rw h.0 started)

@@ -13,10 +13,10 @@ use Rattle.simplex_member.specs.Check.{first_broken_rule}
 use Rattle.simplex_member.specs.Recovery.{taken, recovered, recover_error, with_floor}
 use Rattle.simplex_member.proofs.Examples.{Entry, notarization, nullification, finalization, verdict, nullify, finalize, floor_at}
 
-abbrev in_turn : Elect ℕ
+abbrev pub in_turn : Elect ℕ
 in_turn length round seed = term_index length round.view % 4
 
-abbrev settings : Settings
+abbrev pub settings : Settings
 settings = record {
   epoch = 1;
   view_retention = 10;

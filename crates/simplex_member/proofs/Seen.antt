@@ -288,7 +288,7 @@ module _ {D G : Type 0} (same : D → D → Bool) (epoch : ℕ) (me : Option ℕ
 in_order_of : (b : Bool) (rest : List (Bool × RecoverError)) → first_error ((b, error.OutOfOrder) ∷ rest) ≡ None → b ≡ false
 in_order_of b rest h = unbroken b error.OutOfOrder rest h
 
-none_left : (a b : Option RecoverError) → option_or a b ≡ None → b ≡ None
+pub none_left : (a b : Option RecoverError) → option_or a b ≡ None → b ≡ None
 none_left None b h = h
 none_left (Some x) b h = absurd cc
 

@@ -8,12 +8,12 @@ use Rattle.simplex_types.specs.declared.types.fault.Fault.{Fault}
 use Rattle.simplex_types.specs.declared.types.fault.Fault.TheVariants as fault
 use Rattle.simplex_voter.specs.Facts.{Facts}
 use Rattle.simplex_voter.specs.Refusals.{is_too_large, has_late_deadline, HasFailed}
-use Rattle.simplex_voter.specs.Acceptance.{takes_floor, floor_refusal, floor_answer}
+use Rattle.simplex_voter.specs.Acceptance.{takes_floor, floor_refusal}
 use Rattle.simplex_member.specs.declared.member.error.RecoverError.{RecoverError}
 use Rattle.simplex_member.specs.declared.member.error.RecoverError.TheVariants as error
 use Rattle.simplex_member.specs.Check.{first_error, floor_rules, first_broken_rule}
-use Rattle.simplex_member.specs.Recovery.{recover_error, with_floor}
-use Rattle.simplex_member.specs.Start.{IsDue, error_of, recorded_floor}
+use Rattle.simplex_member.specs.Recovery.{recover_error}
+use Rattle.simplex_member.specs.Start.{IsDue, error_of}
 use Rattle.simplex_member.proofs.Seen.{unbroken, rest_unbroken, from_not_false, option_or_none}
 
 all_of : (a b c : Bool) → a ≡ true → b ≡ true → c ≡ true → (a && b && c) ≡ true
@@ -68,7 +68,3 @@ due_error T None found x y same memory = ap error_of (memory refl).0
 pub not_refused : {T : Type 0} (due : Option Fault) (a : T) (P : Fault → Type 0) → IfSome due (λ f. (◌≡◌ {A = Result T Fault} (Ok a) (Err f)) × P f) → due ≡ None
 not_refused None a P refused = refl
 not_refused (Some f) a P refused = absurd (let clash = refused.0 in cc)
-
-pub floor_recorded : {D G : Type 0} (floor : FloorFacts D) → recorded_floor {G = G} (floor_answer floor) ≡ with_floor [] floor
-floor_recorded (Genesis payload) = refl
-floor_recorded (Finalized c) = refl

@@ -52,6 +52,7 @@ pub data Told (K D G : Type 0) : Type 0 where
   Finalize : Option (ArtifactFacts D G) → Told K D G
   Handed : Option (CertificateFacts D) → Told K D G
   Dropped : List ℕ → Told K D G
+  Restarted : Told K D G
   Refused : Fault → Told K D G
   NotAllowed : Told K D G
 
@@ -72,6 +73,7 @@ module _ {S D K G C : Type 0} (bytes_of : C → List ℕ) where
   told (reply.Finalize vote) = Finalize (told_finalize vote)
   told (reply.Certificate certificate) = Handed (option_map (certificate_facts bytes_of) certificate)
   told (reply.Views views) = Dropped views.items
+  told reply.Restarted = Restarted
   told (reply.Fault fault) = Refused fault
   told reply.NotAllowed = NotAllowed
 

@@ -8,3 +8,10 @@ pub mod Calls
 pub mod Made
 pub mod Lives
 pub mod Start
+pub mod Restarts
+pub mod Remade
+pub mod Runs
+pub mod Acts
+pub mod Network
+pub mod CallActs
+pub mod RunActs

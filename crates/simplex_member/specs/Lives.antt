@@ -12,6 +12,13 @@ pub record MemberFacts (K L D G : Type 0) : Type 0 where
   pub life : Option (Facts K L D)
   -- its record, oldest entry first
   pub entries : List (ArtifactFacts D G)
+  -- how many of its first entries no later drop takes
+  pub closed : ℕ
+  -- its record was pruned
+  pub is_pruned : Bool
+  -- how many views below the last finalized one its last life kept, and the least of its lives
+  pub retention : ℕ
+  pub least_retention : ℕ
 
 -- of a failed member's state nothing is known
 abbrev pub living : {K L D : Type 0} → Bool → Facts K L D → Option (Facts K L D)

@@ -2,16 +2,17 @@
 -- verdicts given.
 use Rattle.std.specs.Prelude.{◌≡◌, ℕ, Bool, true, false, nat_lt, if◌then◌else◌, List, [], ◌∷◌, ◌++◌, Option, Some, None}
 use Rattle.std.specs.Option.{option_or}
-use Rattle.simplex_types.specs.Certificates.{Notarized, Nullified, Finalized, ArtifactFacts, NotarizeVote, NullifyVote, FinalizeVote, Verdict, Accepted, artifact_facts}
-use Rattle.simplex_types.specs.Config.{FloorFacts, Genesis, Finalized as FinalizedFloor}
+use Rattle.simplex_types.specs.Certificates.{ProposalFacts, Notarized, Nullified, Finalized, ArtifactFacts, NotarizeVote, NullifyVote, FinalizeVote, Verdict, Accepted, artifact_facts}
+use Rattle.simplex_types.specs.Viewed.{artifact_view}
+use Rattle.simplex_types.specs.Config.{FloorFacts}
 use Rattle.simplex_types.specs.declared.types.messages.Artifact.{Artifact}
 use Rattle.simplex_types.specs.declared.types.messages.Artifact.TheVariants as artifact
 use Rattle.simplex_voter.specs.Facts.{Facts, Elect}
 use Rattle.simplex_voter.specs.Windows.{min_active}
 use Rattle.simplex_voter.specs.Refusals.{has_late_deadline, takes_round}
-use Rattle.simplex_voter.specs.Acceptance.{after_add_notarization, after_add_nullification, after_add_finalization, after_set_floor}
+use Rattle.simplex_voter.specs.Acceptance.{after_add_notarization, after_add_nullification, after_add_finalization, floor_answer, after_set_floor}
 use Rattle.simplex_voter.specs.Certification.{takes_verdict, after_certified}
-use Rattle.simplex_voter.specs.Replay.{after_replayed, artifact_round, TakesReplay}
+use Rattle.simplex_voter.specs.Replay.{after_replayed, artifact_round, artifact_too_large, TakesReplay}
 use Rattle.simplex_member.specs.declared.member.error.RecoverError.{RecoverError}
 use Rattle.simplex_member.specs.declared.member.error.RecoverError.TheVariants as error
 use Rattle.simplex_member.specs.Entries.{entry_view}
@@ -76,11 +77,15 @@ module _ {D G : Type 0} where
   is_finalization (Accepted (Finalized _)) = true
   is_finalization _ = false
 
-  -- the floor's finalization is recorded, unless one of its view stands there
-  abbrev pub with_floor : List (ArtifactFacts D G) → FloorFacts D → List (ArtifactFacts D G)
-  with_floor entries (Genesis _) = entries
-  with_floor entries (FinalizedFloor c) =
+  -- a finalization is recorded, unless one of its view stands there
+  abbrev pub with_finalization : List (ArtifactFacts D G) → Option (ProposalFacts D) → List (ArtifactFacts D G)
+  with_finalization entries None = entries
+  with_finalization entries (Some c) =
       if stands c.proposal.round.view is_finalization entries then entries else entries ++ Accepted (Finalized c) ∷ []
+
+  -- the floor's finalization is
+  abbrev pub with_floor : List (ArtifactFacts D G) → FloorFacts D → List (ArtifactFacts D G)
+  with_floor entries floor = with_finalization entries (floor_answer floor)
 
 module _ {K L D : Type 0} where
   -- if it is a verdict, it may be given
@@ -94,3 +99,13 @@ module _ {S K L D G C : Type 0} (bytes_of : C → List ℕ) (same : D → D → 
     pub kept : takes_round x (artifact_round a) ≡ true
     pub replays : TakesReplay (added same elect x now (artifact_facts bytes_of a)) a
     pub gives : GivesVerdict (replayed same elect (added same elect x now (artifact_facts bytes_of a)) (artifact_facts bytes_of a)) (artifact_facts bytes_of a)
+
+  -- its views are small, and a state that keeps its view allows it
+  pub record TakesNext (x : Facts K L D) (now : ℕ) (a : Artifact S D K G C) : Type 0 where
+    pub small : artifact_too_large a ≡ false
+    pub taken : nat_lt (artifact_view a) (min_active x) ≡ false → TakesEntry x now a
+
+  -- so does each entry in its turn
+  abbrev pub TakesEntries : Facts K L D → ℕ → List (Artifact S D K G C) → Type 0
+  TakesEntries x now [] = Unit {0}
+  TakesEntries x now (a ∷ rest) = TakesNext x now a × TakesEntries (taken same elect x now (artifact_facts bytes_of a)) now rest

@@ -1,7 +1,6 @@
 -- How a member starts, with an empty record.
-use Rattle.std.specs.Prelude.{◌≡◌, ℕ, Bool, List, [], ◌∷◌, Option, Some, None, MatchOption}
-use Rattle.simplex_types.specs.Certificates.{ProposalFacts, ArtifactFacts, Accepted, Finalized}
-use Rattle.simplex_types.specs.Config.{FloorFacts}
+use Rattle.std.specs.Prelude.{◌≡◌, ℕ, Bool, false, List, [], Option, Some, MatchOption}
+use Rattle.simplex_types.specs.Config.{FloorFacts, floor_facts}
 use Rattle.simplex_types.specs.declared.types.fault.Fault.{Fault}
 use Rattle.simplex_types.specs.declared.types.fault.Fault.TheVariants as fault
 use Rattle.simplex_types.specs.declared.types.window.Terms.{Terms}
@@ -11,6 +10,7 @@ use Rattle.simplex_voter.specs.StateView.{settings_of}
 use Rattle.simplex_voter.specs.Acceptance.{after_set_floor}
 use Rattle.simplex_member.specs.declared.member.error.RecoverError.{RecoverError}
 use Rattle.simplex_member.specs.declared.member.error.RecoverError.TheVariants as error
+use Rattle.simplex_member.specs.declared.member.start.Start.{Start}
 use Rattle.simplex_member.specs.Recovery.{with_floor}
 use Rattle.simplex_member.specs.Lives.{MemberFacts}
 
@@ -19,9 +19,29 @@ abbrev pub set_up : {S L D K G C : Type 0} → (S → Option ℕ) → (S → Lis
 set_up me members terms elects_early c =
     new_facts (settings_of c) (me c.scheme) (members c.scheme) c.elector (terms c.elector) (elects_early c.elector)
 
+-- how a member starts: what a new state of its settings knows, the floor, and the moment in milliseconds
+pub record StartFacts (K L D : Type 0) : Type 0 where
+  pub fresh : Facts K L D
+  pub floor : FloorFacts D
+  pub now : ℕ
+
+abbrev pub start_facts : {S L D K G C : Type 0} → (S → Option ℕ) → (S → List K) → (L → Terms) → (L → Bool) → (C → List ℕ) → Start S L D K G C → StartFacts K L D
+start_facts me members terms elects_early bytes_of start = record {
+  fresh = set_up me members terms elects_early start.settings;
+  floor = floor_facts bytes_of start.floor;
+  now = start.now;
+}
+
 -- a member whose state sets the floor, and whose record is the floor's finalization
 abbrev pub started : {K L D G : Type 0} → (D → D → Bool) → Elect L → Facts K L D → FloorFacts D → ℕ → MemberFacts K L D G
-started same elect x floor now = record { life = Some (after_set_floor same elect x floor now); entries = with_floor [] floor }
+started same elect x floor now = record {
+  life = Some (after_set_floor same elect x floor now);
+  entries = with_floor [] floor;
+  closed = 0;
+  is_pruned = false;
+  retention = x.settings.view_retention;
+  least_retention = x.settings.view_retention;
+}
 
 -- the error that is due, and where none is, want of memory
 abbrev pub IsDue : Option RecoverError → RecoverError → Type 0
@@ -31,8 +51,3 @@ IsDue due found = MatchOption due (found ≡ error.OutOfMemory) (λ e. found ≡
 abbrev pub error_of : Fault → RecoverError
 error_of fault.TimeOverflow = error.TimeOverflow
 error_of _ = error.OutOfMemory
-
--- the floor's finalization as a record
-abbrev pub recorded_floor : {D G : Type 0} → Option (ProposalFacts D) → List (ArtifactFacts D G)
-recorded_floor None = []
-recorded_floor (Some c) = Accepted (Finalized c) ∷ []

@@ -1,13 +1,17 @@
 //! What a member records, what a restart asks of its record and leaves of it.
 
+mod call_error;
 mod calls;
 mod check;
 mod cuts;
 mod error;
 mod handing;
+mod laws;
 mod life;
 mod parts;
 mod recovery;
+mod restart;
+mod runs;
 mod seen;
 mod serving;
 mod start;
@@ -17,5 +21,9 @@ pub use calls::{Call, Reply};
 pub use check::check_record;
 pub use cuts::{drop_last, prune_record};
 pub use error::RecoverError;
+pub use laws::{agreement, agreement_of_runs, premises_can_be_met, votes_are_lawful};
 pub use life::Member;
+pub use recovery::recover;
+pub use restart::Restart;
+pub use runs::{Step, run};
 pub use start::Start;

@@ -36,6 +36,8 @@ pub enum Reply<S: CertificateScheme, D: Digest> {
     Certificate(Option<Certificate<S, D>>),
     /// The views that were dropped, rising.
     Views(Vec<View>),
+    /// The member was restarted.
+    Restarted,
     Fault(Fault),
     /// The call asks something of its caller that is not so.
     NotAllowed,

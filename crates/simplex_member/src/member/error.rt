@@ -2,6 +2,7 @@
 
 ghost use Rattle.std.specs.Prelude.{◌≡◌, if◌then◌else◌, Ok, Err};
 
+use std::alloc::AllocError;
 use std::error::Error;
 use std::fmt;
 
@@ -65,6 +66,17 @@ impl fmt::Display for RecoverError {
 }
 
 impl Error for RecoverError {}
+
+impl From<AllocError> for RecoverError {
+    ghost use Rattle.std.specs.Prelude.{◌≡◌};
+    ghost use Rattle.simplex_member.specs.declared.member.error.RecoverError.TheVariants.{OutOfMemory};
+
+    ghost from_gives = { λ _ error. error ≡ OutOfMemory };
+
+    fn from(_refused: AllocError) -> RecoverError {
+        RecoverError::OutOfMemory
+    }
+}
 
 /// The error, where its rule is broken.
 pub(super) fn refuse_if(is_broken: bool, error: RecoverError) -> Result<(), RecoverError>

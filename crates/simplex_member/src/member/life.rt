@@ -3,11 +3,15 @@
 ghost use Rattle.std.specs.Prelude.{◌≡◌, [], None, IfOk, IfErr, OnOk, length};
 ghost use Rattle.std.specs.Option.{option_copied};
 
+use super::call_error::CallError;
 use super::calls::{Call, Reply};
 use super::error::RecoverError;
+use super::restart::keep_finalization;
 use super::serving::{is_allowed, serve};
-use super::start::{Start, begin, first_record};
-use simplex_types::types::{Artifact, CertificateScheme, Digest, Elector, Fault, Scheme};
+use super::start::{Start, begin, retention_of};
+use simplex_types::types::{
+    Artifact, CertificateScheme, Digest, Elector, Fault, Scheme, ViewDelta,
+};
 use simplex_voter::voter::State;
 use std::alloc::Global;
 use std::marker::Model;
@@ -18,10 +22,17 @@ use std::marker::Model;
 /// its state without memory, or where a vote that was cast could not be recorded; then its record alone is left.
 #[derive(Drop)]
 pub struct Member<S: CertificateScheme, L: Elector<S>, D: Digest> {
-    alloc: Global,
-    state: State<S, L, D>,
-    artifacts: Vec<Artifact<S, D>>,
-    failed: bool,
+    pub(super) alloc: Global,
+    pub(super) state: State<S, L, D>,
+    pub(super) artifacts: Vec<Artifact<S, D>>,
+    /// No drop takes one of the first so many artifacts.
+    pub(super) closed: usize,
+    pub(super) is_pruned: bool,
+    /// That of the last life; a failed state no longer tells it.
+    pub(super) retention: ViewDelta,
+    /// The least of all lives.
+    pub(super) least_retention: ViewDelta,
+    pub(super) failed: bool,
 }
 
 impl<S: CertificateScheme, L: Elector<S>, D: Digest> Model for Member<S, L, D> {
@@ -32,7 +43,7 @@ impl<S: CertificateScheme, L: Elector<S>, D: Digest> Model for Member<S, L, D> {
 
     ghost Value = { MemberFacts S.PublicKey L D S.Signature };
 
-    ghost view = { λ m. record { life = living m.failed m.state; entries = entries_of S.certificate_bytes m.artifacts.items } };
+    ghost view = { λ m. record { life = living m.failed m.state; entries = entries_of S.certificate_bytes m.artifacts.items; closed = m.closed; is_pruned = m.is_pruned; retention = m.retention; least_retention = m.least_retention } };
 
     ghost invariant = { λ m. m.failed ≡ false → (m.state.failed ≡ false) × (is_started m.state ≡ true) };
 }
@@ -56,12 +67,18 @@ impl<S: CertificateScheme, L: Elector<S>, D: Digest> Member<S, L, D> {
         ensures accepted { OnOk result (recover_error {G = S.Signature} D.eq (set_up S.me S.participants L.terms L.elects_early start.settings) (floor_facts S.certificate_bytes start.floor) start.now [] ≡ None) }
         ensures refused { IfErr result (IsDue (recover_error {G = S.Signature} D.eq (set_up S.me S.participants L.terms L.elects_early start.settings) (floor_facts S.certificate_bytes start.floor) start.now [])) }
     {
+        let retention = retention_of(&start.settings);
         let (state, finalization) = begin(alloc, start.settings, start.floor, start.now)?;
-        let artifacts = first_record(alloc, finalization)?;
+        let mut artifacts = Vec::new(alloc);
+        keep_finalization(&mut artifacts, finalization)?;
         Ok(Member {
             alloc,
             state,
             artifacts,
+            closed: 0,
+            is_pruned: false,
+            retention,
+            least_retention: retention,
             failed: false,
         })
     }
@@ -102,22 +119,16 @@ impl<S: CertificateScheme, L: Elector<S>, D: Digest> Member<S, L, D> {
             return Reply::NotAllowed;
         }
         self.failed = true;
-        let mut lost = false;
-        match serve(
-            self.alloc,
-            &mut self.state,
-            &mut self.artifacts,
-            &mut lost,
-            call,
-        ) {
+        match serve(self.alloc, &mut self.state, &mut self.artifacts, call) {
             Ok(reply) => {
                 self.failed = false;
                 reply
             }
-            Err(fault) => {
-                self.failed = lost;
+            Err(CallError::Refused(fault)) => {
+                self.failed = false;
                 Reply::Fault(fault)
             }
+            Err(CallError::Lost) => Reply::Fault(Fault::OutOfMemory),
         }
     }
 }

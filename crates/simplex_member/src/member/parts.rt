@@ -1,21 +1,20 @@
 //! The calls of a member that the record grows by, each over its state and its record.
 //!
-//! Each makes room in the record before it calls the state, so that nothing has changed where there is none, and says in
-//! `lost` whether the state is lost.
+//! Each makes room in the record before it calls the state, so that nothing has changed where there is none.
 
 ghost use Rattle.std.specs.Prelude.{◌≡◌, ◌<◌, ◌++◌, ◌∷◌, [], Option, Some, None, Bool, true, false, IfOk, IfErr, OnOk, OnErr, vec_len, vec_capacity, option_map};
-ghost use Rattle.simplex_types.specs.declared.types.fault.Fault.TheVariants.{OutOfMemory};
 ghost use Rattle.simplex_types.specs.Certificates.{notarization_facts, nullification_facts, finalization_facts, artifact_facts, Notarized, Nullified, Finalized, Verdict, Accepted};
 ghost use Rattle.simplex_member.specs.Entries.{entries_of};
 ghost use Rattle.simplex_voter.specs.Acceptance.{takes_proposal_certificate, takes_nullification, notarization_refusal, nullification_refusal, finalization_refusal, notarization_added, nullification_added, finalization_added, after_add_notarization, after_add_nullification, after_add_finalization};
 ghost use Rattle.simplex_voter.specs.Certification.{takes_verdict, is_first_verdict, certified_refusal, certified_answer, after_certified};
 ghost use Rattle.simplex_voter.specs.Facts.{round_number};
 ghost use Rattle.simplex_member.specs.Calls.{newly};
-ghost use Rattle.simplex_member.specs.Made.{IsRefusal};
+ghost use Rattle.simplex_member.specs.Made.{EndsBy};
 
+use super::call_error::CallError;
 use simplex_types::types::{
-    Artifact, CertificateScheme, Digest, Elector, Fault, Finalization, Notarization, Nullification,
-    Round, View,
+    Artifact, CertificateScheme, Digest, Elector, Finalization, Notarization, Nullification, Round,
+    View,
 };
 use simplex_voter::voter::State;
 use std::alloc::Global;
@@ -39,34 +38,24 @@ pub(super) fn add_notarization<S: CertificateScheme, L: Elector<S>, D: Digest>(
     alloc: Global,
     state: &mut State<S, L, D>,
     artifacts: &mut Vec<Artifact<S, D>>,
-    lost: &mut bool,
     notarization: Notarization<S, D>,
-) -> Result<(bool, Option<S::PublicKey>), Fault>
+) -> Result<(bool, Option<S::PublicKey>), CallError>
     requires going_on { state.old.failed ≡ false }
     requires allowed { takes_proposal_certificate state.old (notarization_facts S.certificate_bytes notarization) ≡ true }
     ensures due { OnOk result (notarization_refusal state.old (notarization_facts S.certificate_bytes notarization) ≡ None) }
     ensures answer { IfOk result (λ added. added ≡ notarization_added D.eq L.elect state.old (notarization_facts S.certificate_bytes notarization)) }
     ensures after { OnOk result (state.new ≡ after_add_notarization D.eq L.elect state.old (notarization_facts S.certificate_bytes notarization)) }
     ensures recorded { OnOk result (entries_of S.certificate_bytes artifacts.new.items ≡ entries_of S.certificate_bytes artifacts.old.items ++ newly (notarization_added D.eq L.elect state.old (notarization_facts S.certificate_bytes notarization)).0 (Accepted (Notarized (notarization_facts S.certificate_bytes notarization)))) }
-    ensures found { OnOk result (lost.new ≡ false) }
-    ensures refused { IfErr result (λ fault. IsRefusal (notarization_refusal state.old (notarization_facts S.certificate_bytes notarization)) fault state.old state.new lost.new) }
+    ensures refused { IfErr result (EndsBy (notarization_refusal state.old (notarization_facts S.certificate_bytes notarization)) state.old state.new) }
     ensures same_record { OnErr result (entries_of S.certificate_bytes artifacts.new.items ≡ entries_of S.certificate_bytes artifacts.old.items) }
 {
-    *lost = false;
     artifacts.reserve(1)?;
-    let copy = notarization.clone(alloc)?;
-    match state.add_notarization(notarization) {
-        Ok(added) => {
-            if added.0 {
-                keep(artifacts, Artifact::Notarization(copy));
-            }
-            Ok(added)
-        }
-        Err(fault) => {
-            *lost = state.is_failed();
-            Err(fault)
-        }
+    let copy = notarization.clone(alloc).map_err(CallError::Refused)?;
+    let added = state.add_notarization(notarization).map_err(CallError::of)?;
+    if added.0 {
+        keep(artifacts, Artifact::Notarization(copy));
     }
+    Ok(added)
 }
 
 /// Adds a nullification, and records it where it is the first of its view.
@@ -74,35 +63,27 @@ pub(super) fn add_nullification<S: CertificateScheme, L: Elector<S>, D: Digest>(
     alloc: Global,
     state: &mut State<S, L, D>,
     artifacts: &mut Vec<Artifact<S, D>>,
-    lost: &mut bool,
     nullification: Nullification<S>,
     now: u64,
-) -> Result<bool, Fault>
+) -> Result<bool, CallError>
     requires going_on { state.old.failed ≡ false }
     requires allowed { takes_nullification state.old (nullification_facts S.certificate_bytes nullification) ≡ true }
     ensures due { OnOk result (nullification_refusal state.old (nullification_facts S.certificate_bytes nullification) now ≡ None) }
     ensures answer { IfOk result (λ added. added ≡ nullification_added state.old (nullification_facts S.certificate_bytes nullification)) }
     ensures after { OnOk result (state.new ≡ after_add_nullification L.elect state.old (nullification_facts S.certificate_bytes nullification) now) }
     ensures recorded { OnOk result (entries_of S.certificate_bytes artifacts.new.items ≡ entries_of S.certificate_bytes artifacts.old.items ++ newly (nullification_added state.old (nullification_facts S.certificate_bytes nullification)) (Accepted (Nullified (nullification_facts S.certificate_bytes nullification)))) }
-    ensures found { OnOk result (lost.new ≡ false) }
-    ensures refused { IfErr result (λ fault. IsRefusal (nullification_refusal state.old (nullification_facts S.certificate_bytes nullification) now) fault state.old state.new lost.new) }
+    ensures refused { IfErr result (EndsBy (nullification_refusal state.old (nullification_facts S.certificate_bytes nullification) now) state.old state.new) }
     ensures same_record { OnErr result (entries_of S.certificate_bytes artifacts.new.items ≡ entries_of S.certificate_bytes artifacts.old.items) }
 {
-    *lost = false;
     artifacts.reserve(1)?;
-    let copy = nullification.clone(alloc)?;
-    match state.add_nullification(nullification, now) {
-        Ok(added) => {
-            if added {
-                keep(artifacts, Artifact::Nullification(copy));
-            }
-            Ok(added)
-        }
-        Err(fault) => {
-            *lost = state.is_failed();
-            Err(fault)
-        }
+    let copy = nullification.clone(alloc).map_err(CallError::Refused)?;
+    let added = state
+        .add_nullification(nullification, now)
+        .map_err(CallError::of)?;
+    if added {
+        keep(artifacts, Artifact::Nullification(copy));
     }
+    Ok(added)
 }
 
 /// Adds a finalization, and records it where it is the first of its view.
@@ -110,73 +91,55 @@ pub(super) fn add_finalization<S: CertificateScheme, L: Elector<S>, D: Digest>(
     alloc: Global,
     state: &mut State<S, L, D>,
     artifacts: &mut Vec<Artifact<S, D>>,
-    lost: &mut bool,
     finalization: Finalization<S, D>,
     now: u64,
-) -> Result<(bool, Option<S::PublicKey>), Fault>
+) -> Result<(bool, Option<S::PublicKey>), CallError>
     requires going_on { state.old.failed ≡ false }
     requires allowed { takes_proposal_certificate state.old (finalization_facts S.certificate_bytes finalization) ≡ true }
     ensures due { OnOk result (finalization_refusal state.old finalization.proposal now ≡ None) }
     ensures answer { IfOk result (λ added. added ≡ finalization_added D.eq L.elect state.old (finalization_facts S.certificate_bytes finalization)) }
     ensures after { OnOk result (state.new ≡ after_add_finalization D.eq L.elect state.old (finalization_facts S.certificate_bytes finalization) now) }
     ensures recorded { OnOk result (entries_of S.certificate_bytes artifacts.new.items ≡ entries_of S.certificate_bytes artifacts.old.items ++ newly (finalization_added D.eq L.elect state.old (finalization_facts S.certificate_bytes finalization)).0 (Accepted (Finalized (finalization_facts S.certificate_bytes finalization)))) }
-    ensures found { OnOk result (lost.new ≡ false) }
-    ensures refused { IfErr result (λ fault. IsRefusal (finalization_refusal state.old finalization.proposal now) fault state.old state.new lost.new) }
+    ensures refused { IfErr result (EndsBy (finalization_refusal state.old finalization.proposal now) state.old state.new) }
     ensures same_record { OnErr result (entries_of S.certificate_bytes artifacts.new.items ≡ entries_of S.certificate_bytes artifacts.old.items) }
 {
-    *lost = false;
     artifacts.reserve(1)?;
-    let copy = finalization.clone(alloc)?;
-    match state.add_finalization(finalization, now) {
-        Ok(added) => {
-            if added.0 {
-                keep(artifacts, Artifact::Finalization(copy));
-            }
-            Ok(added)
-        }
-        Err(fault) => {
-            *lost = state.is_failed();
-            Err(fault)
-        }
+    let copy = finalization.clone(alloc).map_err(CallError::Refused)?;
+    let added = state
+        .add_finalization(finalization, now)
+        .map_err(CallError::of)?;
+    if added.0 {
+        keep(artifacts, Artifact::Finalization(copy));
     }
+    Ok(added)
 }
 
 /// Gives a verdict, and records it where it is the first of a tracked view.
 pub(super) fn certified<S: CertificateScheme, L: Elector<S>, D: Digest>(
     state: &mut State<S, L, D>,
     artifacts: &mut Vec<Artifact<S, D>>,
-    lost: &mut bool,
     view: View,
     success: bool,
     now: u64,
-) -> Result<Option<Notarization<S, D>>, Fault>
+) -> Result<Option<Notarization<S, D>>, CallError>
     requires going_on { state.old.failed ≡ false }
     requires allowed { takes_verdict state.old view success ≡ true }
     ensures due { OnOk result (certified_refusal state.old view success now ≡ None) }
     ensures answer { IfOk result (λ answer. option_map (notarization_facts S.certificate_bytes) answer ≡ certified_answer state.old view) }
     ensures after { OnOk result (state.new ≡ after_certified L.elect state.old view success now) }
     ensures recorded { OnOk result (entries_of S.certificate_bytes artifacts.new.items ≡ entries_of S.certificate_bytes artifacts.old.items ++ newly (is_first_verdict state.old view) (Verdict (round_number state.old view) success)) }
-    ensures found { OnOk result (lost.new ≡ false) }
-    ensures refused { IfErr result (λ fault. IsRefusal (certified_refusal state.old view success now) fault state.old state.new lost.new) }
+    ensures refused { IfErr result (EndsBy (certified_refusal state.old view success now) state.old state.new) }
     ensures same_record { OnErr result (entries_of S.certificate_bytes artifacts.new.items ≡ entries_of S.certificate_bytes artifacts.old.items) }
 {
-    *lost = false;
     artifacts.reserve(1)?;
     let is_first = state.is_first_verdict(view);
     let round = Round {
         epoch: state.epoch(),
         view,
     };
-    match state.certified(view, success, now) {
-        Ok(answer) => {
-            if is_first {
-                keep(artifacts, Artifact::Certification(round, success));
-            }
-            Ok(answer)
-        }
-        Err(fault) => {
-            *lost = state.is_failed();
-            Err(fault)
-        }
+    let answer = state.certified(view, success, now).map_err(CallError::of)?;
+    if is_first {
+        keep(artifacts, Artifact::Certification(round, success));
     }
+    Ok(answer)
 }

@@ -1,13 +1,22 @@
-//! One entry of a record is taken again by a state.
+//! A state is made from a floor and a whole record, whose entries it takes again one after another.
 
-ghost use Rattle.std.specs.Prelude.{◌≡◌, true, false, IfErr, OnOk};
-ghost use Rattle.simplex_types.specs.Certificates.{artifact_facts};
+ghost use Rattle.std.specs.Prelude.{◌≡◌, true, false, None, IfOk, IfErr, OnOk, length, option_map};
+ghost use Rattle.simplex_types.specs.Certificates.{artifact_facts, finalization_facts};
+ghost use Rattle.simplex_types.specs.Config.{floor_facts};
 ghost use Rattle.simplex_types.specs.declared.types.fault.Fault.TheVariants.{OutOfMemory};
-ghost use Rattle.simplex_voter.specs.Refusals.{takes_round, has_late_deadline};
+ghost use Rattle.simplex_voter.specs.Acceptance.{floor_answer};
+ghost use Rattle.simplex_voter.specs.Refusals.{is_started, takes_round, has_late_deadline};
 ghost use Rattle.simplex_voter.specs.Replay.{TakesReplay, artifact_round, artifact_too_large};
-ghost use Rattle.simplex_member.specs.Recovery.{added, replayed, given, retaken, GivesVerdict, TakesEntry};
+ghost use Rattle.simplex_member.specs.Entries.{entries_of};
+ghost use Rattle.simplex_member.specs.Recovery.{added, replayed, given, retaken, taken, all_taken, recovered, recover_error, GivesVerdict, TakesEntry, TakesNext, TakesEntries};
+ghost use Rattle.simplex_member.specs.Start.{set_up, IsDue};
 
-use simplex_types::types::{Artifact, CertificateScheme, Digest, Elector, Fault};
+use super::check::check_record;
+use super::error::RecoverError;
+use super::start::{Start, begin};
+use simplex_types::types::{
+    Artifact, CertificateScheme, Digest, Elector, Fault, Finalization, Viewable,
+};
 use simplex_voter::voter::State;
 use std::alloc::Global;
 
@@ -81,7 +90,7 @@ fn give<S: CertificateScheme, L: Elector<S>, D: Digest>(
 }
 
 /// Takes an entry of a view that is kept: a certificate is added, each entry is replayed, a verdict is given.
-pub(super) fn take<S: CertificateScheme, L: Elector<S>, D: Digest>(
+fn take<S: CertificateScheme, L: Elector<S>, D: Digest>(
     alloc: Global,
     state: &mut State<S, L, D>,
     artifact: &Artifact<S, D>,
@@ -97,4 +106,92 @@ pub(super) fn take<S: CertificateScheme, L: Elector<S>, D: Digest>(
     add(alloc, state, artifact, now)?;
     replay(state, artifact)?;
     give(state, artifact, now)
+}
+
+/// Takes an entry, or passes it over where its view is below those that are kept.
+#[tactic(auto, unfolding(crate::specs::Recovery::taken))]
+fn take_kept<S: CertificateScheme, L: Elector<S>, D: Digest>(
+    alloc: Global,
+    state: &mut State<S, L, D>,
+    artifact: &Artifact<S, D>,
+    now: u64,
+) -> Result<(), Fault>
+    requires going_on { state.old.failed ≡ false }
+    requires in_time { has_late_deadline state.old now ≡ false }
+    requires next { TakesNext S.certificate_bytes D.eq L.elect state.old now artifact.now }
+    ensures after { OnOk result (state.new ≡ taken D.eq L.elect state.old now (artifact_facts S.certificate_bytes artifact.now)) }
+    ensures refused { IfErr result (λ fault. fault ≡ OutOfMemory) }
+{
+    if artifact.view() < state.min_active() {
+        return Ok(());
+    }
+    take(alloc, state, artifact, now)
+}
+
+/// Takes the entries in order.
+fn take_all<S: CertificateScheme, L: Elector<S>, D: Digest>(
+    alloc: Global,
+    state: &mut State<S, L, D>,
+    entries: &[Artifact<S, D>],
+    now: u64,
+) -> Result<(), Fault>
+    requires going_on { state.old.failed ≡ false }
+    requires in_time { has_late_deadline state.old now ≡ false }
+    requires each { TakesEntries S.certificate_bytes D.eq L.elect state.old now entries.now }
+    ensures after { OnOk result (state.new ≡ all_taken D.eq L.elect state.old now (entries_of S.certificate_bytes entries.now)) }
+    ensures refused { IfErr result (λ fault. fault ≡ OutOfMemory) }
+{
+    for artifact in entries {
+        take_kept(alloc, state, artifact, now)?;
+    }
+    Ok(())
+}
+
+/// A state that is made from a floor and a record, with the floor's finalization.
+pub(super) fn remake<S: CertificateScheme, L: Elector<S>, D: Digest>(
+    alloc: Global,
+    start: Start<S, L, D>,
+    entries: &[Artifact<S, D>],
+) -> Result<(State<S, L, D>, Option<Finalization<S, D>>), RecoverError>
+    requires { L.members start.settings.elector ≡ length (S.participants start.settings.scheme) }
+    ensures recovered { IfOk result (λ made. made.0 ≡ recovered D.eq L.elect (set_up S.me S.participants L.terms L.elects_early start.settings) (floor_facts S.certificate_bytes start.floor) start.now (entries_of S.certificate_bytes entries.now)) }
+    ensures going_on { IfOk result (λ made. (made.0.failed ≡ false) × (is_started made.0 ≡ true)) }
+    ensures floor { IfOk result (λ made. option_map (finalization_facts S.certificate_bytes) made.1 ≡ floor_answer (floor_facts S.certificate_bytes start.floor)) }
+    ensures accepted { OnOk result (recover_error D.eq (set_up S.me S.participants L.terms L.elects_early start.settings) (floor_facts S.certificate_bytes start.floor) start.now (entries_of S.certificate_bytes entries.now) ≡ None) }
+    ensures refused { IfErr result (IsDue (recover_error D.eq (set_up S.me S.participants L.terms L.elects_early start.settings) (floor_facts S.certificate_bytes start.floor) start.now (entries_of S.certificate_bytes entries.now))) }
+{
+    let Start {
+        settings,
+        floor,
+        now,
+    } = start;
+    check_record(&settings.scheme, settings.epoch, &floor, entries)?;
+    let (mut state, finalization) = begin(alloc, settings, floor, now)?;
+    match take_all(alloc, &mut state, entries, now) {
+        Ok(()) => Ok((state, finalization)),
+        Err(_) => Err(RecoverError::OutOfMemory),
+    }
+}
+
+/// Makes a state from a floor and a whole record, oldest entry first: the floor is set, and the entries are taken in
+/// order. A certificate is added again, a vote and a verdict stand again, and a verdict has its effects. An entry of a
+/// view that isn't kept any more when its turn comes is passed over. What the state would hand out counts as handed out,
+/// as far as the record says so.
+///
+/// The elector's members are the scheme's participants. The first error that is due, in the order of `RecoverError`: the
+/// first rule that the floor breaks, or else the record, as `check_record` says; then `TimeOverflow`, where a deadline
+/// passes 2^64 - 1 milliseconds. `OutOfMemory` comes only where none is due. There is no state then, and the record is as
+/// it was.
+pub fn recover<S: CertificateScheme, L: Elector<S>, D: Digest>(
+    alloc: Global,
+    start: Start<S, L, D>,
+    entries: &[Artifact<S, D>],
+) -> Result<State<S, L, D>, RecoverError>
+    requires { L.members start.settings.elector ≡ length (S.participants start.settings.scheme) }
+    ensures recovered { IfOk result (λ state. state ≡ recovered D.eq L.elect (set_up S.me S.participants L.terms L.elects_early start.settings) (floor_facts S.certificate_bytes start.floor) start.now (entries_of S.certificate_bytes entries.now)) }
+    ensures accepted { OnOk result (recover_error D.eq (set_up S.me S.participants L.terms L.elects_early start.settings) (floor_facts S.certificate_bytes start.floor) start.now (entries_of S.certificate_bytes entries.now) ≡ None) }
+    ensures refused { IfErr result (IsDue (recover_error D.eq (set_up S.me S.participants L.terms L.elects_early start.settings) (floor_facts S.certificate_bytes start.floor) start.now (entries_of S.certificate_bytes entries.now))) }
+{
+    let (state, _finalization) = remake(alloc, start, entries)?;
+    Ok(state)
 }

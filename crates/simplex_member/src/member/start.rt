@@ -5,14 +5,12 @@ ghost use Rattle.simplex_types.specs.Certificates.{finalization_facts};
 ghost use Rattle.simplex_types.specs.Config.{floor_facts};
 ghost use Rattle.simplex_voter.specs.Acceptance.{floor_answer, after_set_floor};
 ghost use Rattle.simplex_member.specs.Recovery.{recover_error};
-ghost use Rattle.simplex_member.specs.Start.{set_up, IsDue, error_of, recorded_floor};
-ghost use Rattle.simplex_member.specs.Entries.{entries_of};
-ghost use Rattle.simplex_member.specs.declared.member.error.RecoverError.TheVariants.{OutOfMemory};
+ghost use Rattle.simplex_member.specs.Start.{set_up, IsDue, error_of};
 
 use super::check::check_floor;
 use super::error::RecoverError;
 use simplex_types::config::Floor;
-use simplex_types::types::{Artifact, CertificateScheme, Digest, Elector, Fault, Finalization};
+use simplex_types::types::{CertificateScheme, Digest, Elector, Fault, Finalization, ViewDelta};
 use simplex_voter::voter::{Config, State};
 use std::alloc::Global;
 
@@ -23,6 +21,15 @@ pub struct Start<S: CertificateScheme, L: Elector<S>, D: Digest> {
     pub settings: Config<S, L>,
     pub floor: Floor<S, D>,
     pub now: u64,
+}
+
+/// How many views below the last finalized one are kept.
+pub(super) fn retention_of<S: CertificateScheme, L: Elector<S>>(
+    settings: &Config<S, L>,
+) -> ViewDelta
+    ensures { result ≡ settings.now.view_retention }
+{
+    settings.view_retention
 }
 
 /// A new state at a floor, with the floor's finalization.
@@ -53,23 +60,5 @@ fn error_of(fault: Fault) -> RecoverError
     match fault {
         Fault::TimeOverflow => RecoverError::TimeOverflow,
         Fault::OutOfMemory | Fault::Failed | Fault::ViewTooLarge => RecoverError::OutOfMemory,
-    }
-}
-
-/// A record of the floor's finalization, where there is one.
-pub(super) fn first_record<S: CertificateScheme, D: Digest>(
-    alloc: Global,
-    finalization: Option<Finalization<S, D>>,
-) -> Result<Vec<Artifact<S, D>>, RecoverError>
-    ensures recorded { IfOk result (λ artifacts. entries_of S.certificate_bytes artifacts.items ≡ recorded_floor (option_map (finalization_facts S.certificate_bytes) finalization)) }
-    ensures refused { IfErr result (λ error. error ≡ OutOfMemory) }
-{
-    let mut artifacts = Vec::new(alloc);
-    let Some(finalization) = finalization else {
-        return Ok(artifacts);
-    };
-    match artifacts.push(Artifact::Finalization(finalization)) {
-        Ok(()) => Ok(artifacts),
-        Err(_) => Err(RecoverError::OutOfMemory),
     }
 }

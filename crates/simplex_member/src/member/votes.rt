@@ -8,8 +8,9 @@ ghost use Rattle.simplex_voter.specs.Refusals.{plain_refusal, is_started};
 ghost use Rattle.simplex_voter.specs.Votes.{after_construct_nullify, after_construct_finalize};
 ghost use Rattle.simplex_member.specs.Entries.{entries_of};
 ghost use Rattle.simplex_member.specs.Calls.{told_nullify, told_finalize, nullify_vote, finalize_vote, first_vote, vote_entry};
-ghost use Rattle.simplex_member.specs.Made.{IsRefusal};
+ghost use Rattle.simplex_member.specs.Made.{EndsBy};
 
+use super::call_error::CallError;
 use super::parts::keep;
 use simplex_types::reasons::TimeoutReason;
 use simplex_types::types::{
@@ -65,25 +66,22 @@ pub(super) fn construct_nullify<S: Scheme<D>, L: Elector<S>, D: Digest>(
     alloc: Global,
     state: &mut State<S, L, D>,
     artifacts: &mut Vec<Artifact<S, D>>,
-    lost: &mut bool,
     view: View,
     reason: TimeoutReason,
-) -> Result<Option<(bool, Nullify<S>)>, Fault>
+) -> Result<Option<(bool, Nullify<S>)>, CallError>
     requires going_on { state.old.failed ≡ false }
     requires begun { is_started state.old ≡ true }
     ensures answer { IfOk result (λ vote. told_nullify vote ≡ nullify_vote S.signature_of state.old view) }
     ensures after { OnOk result (state.new ≡ after_construct_nullify state.old view) }
     ensures recorded { OnOk result (entries_of S.certificate_bytes artifacts.new.items ≡ entries_of S.certificate_bytes artifacts.old.items ++ first_vote (nullify_vote S.signature_of state.old view)) }
-    ensures found { OnOk result (lost.new ≡ false) }
-    ensures refused { IfErr result (λ fault. IsRefusal (plain_refusal state.old) fault state.old state.new lost.new) }
+    ensures refused { IfErr result (EndsBy (plain_refusal state.old) state.old state.new) }
     ensures same_record { OnErr result (entries_of S.certificate_bytes artifacts.new.items ≡ entries_of S.certificate_bytes artifacts.old.items) }
 {
-    *lost = false;
     artifacts.reserve(1)?;
-    *lost = true;
-    let vote = state.construct_nullify(view, reason)?;
-    keep_nullify(alloc, artifacts, &vote)?;
-    *lost = false;
+    let vote = state
+        .construct_nullify(view, reason)
+        .map_err(CallError::of)?;
+    keep_nullify(alloc, artifacts, &vote).map_err(CallError::of)?;
     Ok(vote)
 }
 
@@ -92,23 +90,18 @@ pub(super) fn construct_finalize<S: Scheme<D>, L: Elector<S>, D: Digest>(
     alloc: Global,
     state: &mut State<S, L, D>,
     artifacts: &mut Vec<Artifact<S, D>>,
-    lost: &mut bool,
     view: View,
-) -> Result<Option<Finalize<S, D>>, Fault>
+) -> Result<Option<Finalize<S, D>>, CallError>
     requires going_on { state.old.failed ≡ false }
     requires begun { is_started state.old ≡ true }
     ensures answer { IfOk result (λ vote. told_finalize vote ≡ finalize_vote L.elect S.signature_of state.old view) }
     ensures after { OnOk result (state.new ≡ after_construct_finalize L.elect state.old view) }
     ensures recorded { OnOk result (entries_of S.certificate_bytes artifacts.new.items ≡ entries_of S.certificate_bytes artifacts.old.items ++ vote_entry (finalize_vote L.elect S.signature_of state.old view)) }
-    ensures found { OnOk result (lost.new ≡ false) }
-    ensures refused { IfErr result (λ fault. IsRefusal (plain_refusal state.old) fault state.old state.new lost.new) }
+    ensures refused { IfErr result (EndsBy (plain_refusal state.old) state.old state.new) }
     ensures same_record { OnErr result (entries_of S.certificate_bytes artifacts.new.items ≡ entries_of S.certificate_bytes artifacts.old.items) }
 {
-    *lost = false;
     artifacts.reserve(1)?;
-    *lost = true;
-    let vote = state.construct_finalize(view)?;
-    keep_finalize(alloc, artifacts, &vote)?;
-    *lost = false;
+    let vote = state.construct_finalize(view).map_err(CallError::of)?;
+    keep_finalize(alloc, artifacts, &vote).map_err(CallError::of)?;
     Ok(vote)
 }

@@ -1,8 +1,7 @@
-use Rattle.std.proofs.Common.{refl, ap, ◌∙◌}
+use Rattle.std.proofs.Common.{refl}
 use Rattle.simplex_types.specs.Config.{floor_facts}
-use Rattle.simplex_member.specs.Start.{set_up, recorded_floor}
+use Rattle.simplex_member.specs.Start.{set_up}
 use Rattle.simplex_member.proofs.Going.{floor_goes}
-use Rattle.simplex_member.proofs.Start.{floor_recorded}
 use Rattle.simplex_member.proofs.member.life.Member.start.Goals as goal
 
 pub invariant_of-result : goal.invariant_of-result
@@ -12,6 +11,4 @@ invariant_of-result g c =
 
 pub returns-clause-started : goal.returns-clause-started
 returns-clause-started g c =
-    let floor = floor_facts g.S.CertificateScheme.certificate_bytes c.args.start.floor in
-    let entries = c.in_ok-artifacts.ensures.recorded ∙ ap recorded_floor c.in_ok-state.ensures.floor ∙ floor_recorded floor in
-    rw (c.in_ok-state.ensures.begun, entries) refl
+    rw (c.in_ok-state.ensures.begun, c.retention_of-retention.ensures, c.in_ok-keep_finalization.ensures.kept, c.in_ok-state.ensures.floor, c.new-artifacts.ensures.items) refl

@@ -1,0 +1,77 @@
+-- Restarts by the definitions, of member 0 of the recoveries' examples, whose lives keep 10 views unless said.
+use Rattle.std.proofs.Common.{◌≡◌, refl, ℕ, true, false, List, [], ◌∷◌, Some, None, nat_eq, is_some}
+use Rattle.simplex_types.specs.Config.{Genesis}
+use Rattle.simplex_voter.specs.Facts.{Facts, new_facts}
+use Rattle.simplex_voter.specs.Windows.{min_active}
+use Rattle.simplex_voter.specs.Serving.{notarization_of, prune_answer}
+use Rattle.simplex_member.specs.Cuts.{may_drop, pruned}
+use Rattle.simplex_member.specs.Lives.{MemberFacts}
+use Rattle.simplex_member.specs.Recovery.{taken, recovered}
+use Rattle.simplex_member.specs.Restarts.{retention_grows, cut}
+use Rattle.simplex_member.proofs.Examples.{Entry, notarization, nullification, finalization, nullify}
+use Rattle.simplex_member.proofs.RecoveryExamples.{in_turn, settings}
+
+abbrev Member : Type 0
+Member = MemberFacts ℕ ℕ ℕ ℕ
+
+-- a member that failed, whose record was not pruned yet
+abbrev member : List Entry → Member
+member entries = record { life = None; entries = entries; closed = 0; is_pruned = false; retention = 10; least_retention = 10 }
+
+-- what was pruned is gone, and what stays is closed
+behind_the_finalized_view : (cut (member (nullify 1 ∷ finalization 20 ∷ [])) 0 true).entries ≡ finalization 20 ∷ []
+unfolding may_drop pruned
+behind_the_finalized_view = refl
+
+closed_now : (cut (member (nullify 1 ∷ finalization 20 ∷ [])) 0 true).closed ≡ 1
+unfolding may_drop pruned
+closed_now = refl
+
+-- no later drop takes it, but what was recorded since
+not_dropped : (cut (record (member (finalization 20 ∷ [])) { closed = 1; is_pruned = true }) 9 true).entries ≡ finalization 20 ∷ []
+unfolding may_drop pruned
+not_dropped = refl
+
+dropped_since : (cut (record (member (finalization 20 ∷ nullification 10 ∷ [])) { closed = 1; is_pruned = true }) 1 false).entries ≡ finalization 20 ∷ []
+unfolding may_drop
+dropped_since = refl
+
+-- the retention of the life that ended counts, not that of the next one
+kept_by_the_last_life : (cut (member (finalization 20 ∷ notarization 12 ∷ [])) 0 true).entries ≡ finalization 20 ∷ notarization 12 ∷ []
+unfolding may_drop pruned
+kept_by_the_last_life = refl
+
+-- a life that keeps 5 views takes an entry below those again, until it prunes
+abbrev narrow : Facts ℕ ℕ ℕ
+narrow = new_facts (record settings { view_retention = 5 }) (Some 0) (0 ∷ 1 ∷ 2 ∷ 3 ∷ []) 1 (record { term_length = 1; optimistic_views = 0; stall_timeout = None }) true
+
+abbrev narrow_life : Facts ℕ ℕ ℕ
+narrow_life = recovered nat_eq in_turn narrow (Genesis 0) 0 (notarization 12 ∷ finalization 20 ∷ [])
+
+lowest_view : min_active narrow_life ≡ 15
+unfolding recovered taken
+lowest_view = refl
+
+still_there : is_some (notarization_of narrow_life 12) ≡ true
+unfolding recovered taken
+still_there = refl
+
+pruned_then : prune_answer narrow_life ≡ 1 ∷ 12 ∷ 13 ∷ []
+unfolding recovered taken
+pruned_then = refl
+
+-- no life keeps more views than one before, once the record is pruned
+may_keep_as_many : retention_grows (member []) true 10 ≡ false
+may_keep_as_many = refl
+
+more_with_a_pruning : retention_grows (member []) true 11 ≡ true
+more_with_a_pruning = refl
+
+more_after_a_pruning : retention_grows (record (member []) { is_pruned = true }) false 11 ≡ true
+more_after_a_pruning = refl
+
+less_after_a_pruning : retention_grows (record (member []) { is_pruned = true }) false 5 ≡ false
+less_after_a_pruning = refl
+
+more_without_a_pruning : retention_grows (member []) false 11 ≡ false
+more_without_a_pruning = refl

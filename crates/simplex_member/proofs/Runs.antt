@@ -1,0 +1,63 @@
+-- A run goes on by a step, and ends by one that is refused.
+use Rattle.std.proofs.Common.{◌≡◌, refl, sym, ◌∙◌, ℕ, ◌+◌, ◌<◌, Bool, List, [], ◌∷◌, ◌++◌, take, drop, length, get_or, ap, Option, Some, None, inl, inr, ◌⊎◌}
+use Rattle.std.proofs.lemmas.List.{take-append-drop, drop_more}
+use Rattle.simplex_types.specs.declared.types.messages.Subject.{Subject}
+use Rattle.simplex_voter.specs.Facts.{Elect}
+use Rattle.simplex_member.specs.declared.member.error.RecoverError.{RecoverError}
+use Rattle.simplex_member.specs.declared.member.error.RecoverError.TheVariants as error
+use Rattle.simplex_member.specs.declared.member.runs.Step.{Step}
+use Rattle.simplex_member.specs.Calls.{Told}
+use Rattle.simplex_member.specs.Lives.{MemberFacts}
+use Rattle.simplex_member.specs.Recovery.{recover_error}
+use Rattle.simplex_member.specs.Start.{StartFacts, started, IsDue}
+use Rattle.simplex_member.specs.Runs.{IsSetUp, AreSetUp, StepFacts, IsStep, IsRun, IsRefused, EndsRun, IsRunFrom, EndsRunFrom}
+
+module _ {K L D G : Type 0} (same : D → D → Bool) (elect : Elect L) (signature_of : ℕ → Subject D → G) where
+  -- one more step
+  pub run_extends : (m : MemberFacts K L D G) (steps : List (StepFacts K L D)) (replies : List (Told K D G)) (e : MemberFacts K L D G) (step : StepFacts K L D) (told : Told K D G) (next : MemberFacts K L D G)
+      → IsRun same elect signature_of m steps replies e → IsStep same elect signature_of e step told next → IsRun same elect signature_of m (steps ++ step ∷ []) (replies ++ told ∷ []) next
+  run_extends m [] [] e step told next is taken = (next, rw is taken, refl)
+  run_extends m [] (r ∷ replies) e step told next is taken = absurd is
+  run_extends m (s ∷ steps) [] e step told next is taken = absurd is
+  run_extends m (s ∷ steps) (r ∷ replies) e step told next is taken = (is.0, is.1, run_extends is.0 steps replies e step told next is.2 taken)
+
+  -- a step that is refused behind those that were answered, whatever comes after it
+  pub run_ends : (m : MemberFacts K L D G) (steps : List (StepFacts K L D)) (replies : List (Told K D G)) (e : MemberFacts K L D G) (step : StepFacts K L D) (rest : List (StepFacts K L D)) (found : RecoverError)
+      → IsRun same elect signature_of m steps replies e → IsRefused same elect signature_of e step found → EndsRun same elect signature_of m (steps ++ step ∷ rest) found
+  run_ends m [] [] e step rest found is refused = inl (rw is refused)
+  run_ends m [] (r ∷ replies) e step rest found is refused = absurd is
+  run_ends m (s ∷ steps) [] e step rest found is refused = absurd is
+  run_ends m (s ∷ steps) (r ∷ replies) e step rest found is refused = inr (r, is.0, is.1, run_ends is.0 steps replies e step rest found is.2 refused)
+
+  module _ (start : StartFacts K L D) (steps : List (StepFacts K L D)) where
+    -- a member that started, and took all steps
+    pub run_from : (m : MemberFacts K L D G) (replies : List (Told K D G)) (e : MemberFacts K L D G) → m ≡ started same elect start.fresh start.floor start.now → recover_error {G = G} same start.fresh start.floor start.now [] ≡ None
+        → IsRun same elect signature_of m steps replies e → IsRunFrom same elect signature_of start steps replies
+    unfolding IsRunFrom
+    run_from m replies e begun accepted is = (accepted, e, rw begun at is)
+
+    -- one that was refused a later life
+    pub ends_later : (m : MemberFacts K L D G) (found : RecoverError) → m ≡ started same elect start.fresh start.floor start.now → (found ≡ error.OutOfMemory) ⊎ EndsRun same elect signature_of m steps found → EndsRunFrom same elect signature_of start steps found
+    unfolding EndsRunFrom
+    ends_later m found begun (inl memory) = inl memory
+    ends_later m found begun (inr is) = inr (inr (rw begun at is))
+
+    -- one that could not start
+    pub ends_at_once : (due : Option RecoverError) (found : RecoverError) → recover_error {G = G} same start.fresh start.floor start.now [] ≡ due → IsDue due found → EndsRunFrom same elect signature_of start steps found
+    unfolding EndsRunFrom
+    ends_at_once None found is memory = inl memory
+    ends_at_once (Some e) found is refused = inr (inl (is ∙ ap Some (sym refused)))
+
+-- what a loop over a list has met, and the element that it meets next
+pub met_next : {A : Type 0} (items met : List A) (x : A) → met ≡ take (length met) items → length met < length items → x ≡ get_or items (length met) x → items ≡ met ++ x ∷ drop (length met + 1) items
+met_next items met x is within at =
+    sym (take-append-drop (length met) items) ∙ rw (← is, drop_more items (length met) x within, ← at) refl
+
+module _ {S L D K G C : Type 0} (participants : S → List K) (members : L → ℕ) where
+  -- one of the steps
+  pub set_up_at : (steps met : List (Step S L D K G C)) (x : Step S L D K G C) (rest : List (Step S L D K G C)) → steps ≡ met ++ x ∷ rest → AreSetUp participants members steps → IsSetUp participants members x
+  set_up_at steps met x rest is all = behind met (rw is at all)
+    where
+      behind : (ys : List (Step S L D K G C)) → AreSetUp participants members (ys ++ x ∷ rest) → IsSetUp participants members x
+      behind [] all_of = all_of.0
+      behind (y ∷ ys) all_of = behind ys all_of.1

@@ -1,0 +1,9 @@
+use Rattle.std.proofs.Common.{◌≡◌, ◌++◌, drop}
+use Rattle.simplex_member.specs.Entries.{entries_of}
+use Rattle.simplex_member.proofs.member.restart.copy_of.Given as goal
+
+-- what was copied and what is left to be copied
+abbrev pub invariant-loop-artifact : goal.invariant-loop-artifact
+invariant-loop-artifact g l =
+    let bytes_of = g.S.CertificateScheme.certificate_bytes in
+    entries_of bytes_of l.copy.items ++ entries_of bytes_of (drop l.artifact-index l.artifacts) ≡ entries_of bytes_of l.artifacts

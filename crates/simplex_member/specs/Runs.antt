@@ -1,0 +1,75 @@
+-- Runs of a member: calls and restarts, one after another.
+use Rattle.std.specs.Prelude.{◌≡◌, ◌⊎◌, ℕ, Bool, List, [], ◌∷◌, length, map, Option, Some, None, Ok, Err}
+use Rattle.simplex_types.specs.declared.types.window.Terms.{Terms}
+use Rattle.simplex_types.specs.declared.types.messages.Subject.{Subject}
+use Rattle.simplex_voter.specs.Facts.{Elect}
+use Rattle.simplex_member.specs.declared.member.error.RecoverError.{RecoverError}
+use Rattle.simplex_member.specs.declared.member.error.RecoverError.TheVariants as error
+use Rattle.simplex_member.specs.declared.member.runs.Step.{Step}
+use Rattle.simplex_member.specs.declared.member.runs.Step.TheVariants as step
+use Rattle.simplex_member.specs.Calls.{CallFacts, call_facts, Told, Restarted}
+use Rattle.simplex_member.specs.Lives.{MemberFacts, IsCall}
+use Rattle.simplex_member.specs.Recovery.{recover_error}
+use Rattle.simplex_member.specs.Restarts.{RestartFacts, restart_facts, IsRestart}
+use Rattle.simplex_member.specs.Start.{StartFacts, started}
+
+-- a step of a run
+pub data StepFacts (K L D : Type 0) : Type 0 where
+  Calls : CallFacts D → StepFacts K L D
+  Restarts : RestartFacts K L D → StepFacts K L D
+
+abbrev pub step_facts : {S L D K G C : Type 0} → (S → Option ℕ) → (S → List K) → (L → Terms) → (L → Bool) → (C → List ℕ) → Step S L D K G C → StepFacts K L D
+step_facts me members terms elects_early bytes_of (step.Call call) = Calls (call_facts bytes_of call)
+step_facts me members terms elects_early bytes_of (step.Restart restart) = Restarts (restart_facts me members terms elects_early bytes_of restart)
+
+abbrev pub steps_of : {S L D K G C : Type 0} → (S → Option ℕ) → (S → List K) → (L → Terms) → (L → Bool) → (C → List ℕ) → List (Step S L D K G C) → List (StepFacts K L D)
+steps_of me members terms elects_early bytes_of steps = map (step_facts me members terms elects_early bytes_of) steps
+
+-- the elector of each restart elects among the participants of its scheme
+abbrev pub IsSetUp : {S L D K G C : Type 0} → (S → List K) → (L → ℕ) → Step S L D K G C → Type 0
+IsSetUp participants members (step.Call _) = Unit {0}
+IsSetUp participants members (step.Restart restart) = members restart.start.settings.elector ≡ length (participants restart.start.settings.scheme)
+
+abbrev pub AreSetUp : {S L D K G C : Type 0} → (S → List K) → (L → ℕ) → List (Step S L D K G C) → Type 0
+AreSetUp participants members [] = Unit {0}
+AreSetUp participants members (step ∷ steps) = IsSetUp participants members step × AreSetUp participants members steps
+
+module _ {K L D G : Type 0} (same : D → D → Bool) (elect : Elect L) (signature_of : ℕ → Subject D → G) where
+  -- a call is answered, or a restart is not refused
+  abbrev pub IsStep : MemberFacts K L D G → StepFacts K L D → Told K D G → MemberFacts K L D G → Type 0
+  IsStep m (Calls call) told next = IsCall same elect signature_of m call told next
+  IsStep m (Restarts r) told next = IsRestart same elect m r (Ok tt) next × (told ≡ Restarted)
+
+  -- one reply a step, each by what the steps before it left
+  abbrev pub IsRun : MemberFacts K L D G → List (StepFacts K L D) → List (Told K D G) → MemberFacts K L D G → Type 0
+  IsRun m [] [] end = m ≡ end
+  IsRun m [] (told ∷ rest) end = ⊥
+  IsRun m (step ∷ steps) [] end = ⊥
+  IsRun m (step ∷ steps) (told ∷ rest) end =
+      (next : MemberFacts K L D G) × IsStep m step told next × IsRun next steps rest end
+
+  -- a step is a restart that is refused by this error
+  abbrev pub IsRefused : MemberFacts K L D G → StepFacts K L D → RecoverError → Type 0
+  IsRefused m (Calls call) found = ⊥
+  IsRefused m (Restarts r) found = (left : MemberFacts K L D G) × IsRestart same elect m r (Err found) left
+
+  -- some step is, behind those that are answered
+  abbrev pub EndsRun : MemberFacts K L D G → List (StepFacts K L D) → RecoverError → Type 0
+  EndsRun m [] found = ⊥
+  EndsRun m (step ∷ steps) found =
+      IsRefused m step found
+      ⊎ ((told : Told K D G) × (next : MemberFacts K L D G) × IsStep m step told next × EndsRun next steps found)
+
+  -- a member starts, and takes the steps
+  unfoldable pub IsRunFrom : StartFacts K L D → List (StepFacts K L D) → List (Told K D G) → Type 0
+  IsRunFrom start steps replies =
+      (recover_error {G = G} same start.fresh start.floor start.now [] ≡ None)
+      × (end : MemberFacts K L D G)
+      × IsRun (started same elect start.fresh start.floor start.now) steps replies end
+
+  -- the start is refused, or a restart; or there was no memory
+  unfoldable pub EndsRunFrom : StartFacts K L D → List (StepFacts K L D) → RecoverError → Type 0
+  EndsRunFrom start steps found =
+      (found ≡ error.OutOfMemory)
+      ⊎ (recover_error {G = G} same start.fresh start.floor start.now [] ≡ Some found)
+      ⊎ EndsRun (started same elect start.fresh start.floor start.now) steps found

@@ -1,0 +1,39 @@
+//! How a call of a member ends that has no answer.
+
+ghost use Rattle.std.specs.Prelude.{◌≡◌};
+ghost use Rattle.simplex_types.specs.declared.types.fault.Fault.TheVariants.{OutOfMemory};
+ghost use Rattle.simplex_member.specs.Made.{call_error};
+
+use simplex_types::types::Fault;
+use std::alloc::AllocError;
+
+/// Why a part of a call gives no answer.
+#[derive(Clone, Copy, PartialEq, Eq, Debug)]
+pub(super) enum CallError {
+    /// The fault was due, or there was no room in the record; the state is as it was.
+    Refused(Fault),
+    /// The state found no memory in the midst of the call, or its vote could not be recorded.
+    Lost,
+}
+
+impl CallError {
+    /// How a call ends that the state refused.
+    pub(super) fn of(fault: Fault) -> CallError
+        ensures { result ≡ call_error fault }
+    {
+        match fault {
+            Fault::OutOfMemory => CallError::Lost,
+            fault => CallError::Refused(fault),
+        }
+    }
+}
+
+impl From<AllocError> for CallError {
+    ghost use Rattle.simplex_member.specs.declared.member.call_error.CallError.TheVariants.{Refused};
+
+    ghost from_gives = { λ _ error. error ≡ Refused OutOfMemory };
+
+    fn from(_refused: AllocError) -> CallError {
+        CallError::Refused(Fault::OutOfMemory)
+    }
+}

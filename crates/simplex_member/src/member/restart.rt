@@ -1,0 +1,196 @@
+//! How a member is restarted from its record.
+
+ghost use Rattle.std.specs.Prelude.{◌≡◌, ◌⊎◌, ◌&&◌, ◌==◌, true, false, IfOk, IfErr, OnOk, OnErr, length, min, option_map};
+ghost use Rattle.simplex_types.specs.Certificates.{artifact_facts, finalization_facts};
+ghost use Rattle.simplex_types.specs.Config.{floor_facts};
+ghost use Rattle.simplex_voter.specs.Acceptance.{floor_answer};
+ghost use Rattle.simplex_voter.specs.Refusals.{is_started};
+ghost use Rattle.simplex_member.specs.Check.{stands};
+ghost use Rattle.simplex_member.specs.Entries.{entries_of, entry_view};
+ghost use Rattle.simplex_member.specs.Remade.{IsRemadeBy, IsRefusedBy};
+ghost use Rattle.simplex_member.specs.Recovery.{is_finalization, with_finalization};
+ghost use Rattle.simplex_member.specs.Restarts.{IsByView};
+ghost use Rattle.simplex_member.specs.Start.{start_facts};
+ghost use Rattle.simplex_member.specs.declared.member.error.RecoverError.TheVariants.{OutOfMemory};
+
+use super::cuts::{drop_last, prune_record};
+use super::error::RecoverError;
+use super::life::Member;
+use super::parts::keep;
+use super::recovery::remake;
+use super::start::{Start, retention_of};
+use simplex_types::types::{
+    Artifact, CertificateScheme, Digest, Elector, Fault, Finalization, View, ViewDelta, Viewable,
+};
+use simplex_voter::voter::State;
+use std::alloc::Global;
+
+/// How a member is restarted.
+#[derive(Drop)]
+pub struct Restart<S: CertificateScheme, L: Elector<S>, D: Digest> {
+    /// At most so many of the record's last entries are dropped, but never a vote nor anything before one.
+    pub drop: u64,
+    /// Whether the record is pruned then.
+    pub prune: bool,
+    pub start: Start<S, L, D>,
+}
+
+impl<S: CertificateScheme, L: Elector<S>, D: Digest> Member<S, L, D> {
+    ghost use Rattle.simplex_member.specs.Restarts.{restart_facts, retention_grows, cut, GoesOn, IsRestart};
+
+    /// Ends the member's life, also one that has failed, and begins another from its record.
+    ///
+    /// The last entries of the record are dropped and it is pruned, as asked: each entry more than the last life's
+    /// retention below the highest finalized view of the record is taken away, and what stays is closed to later drops. A
+    /// copy, sorted by view, makes the new state. The floor's finalization is recorded unless one of its view stands there.
+    ///
+    /// `RetentionGrown`, with nothing changed, where the record is or was pruned and the settings keep more views than a
+    /// life before. After each other error the record stays cut, and the member has failed until a restart succeeds: those
+    /// of `recover`, and `OutOfMemory`.
+    #[tactic(auto, unfolding(crate::specs::Restarts::IsRestart))]
+    pub fn restart(&mut self, restart: Restart<S, L, D>) -> Result<(), RecoverError>
+        requires { L.members restart.start.settings.elector ≡ length (S.participants restart.start.settings.scheme) }
+        ensures { IsRestart D.eq L.elect self.old (restart_facts S.me S.participants L.terms L.elects_early S.certificate_bytes restart) result self.new }
+    {
+        let retention = retention_of(&restart.start.settings);
+        if self.retention_grows(restart.prune, retention) {
+            return Err(RecoverError::RetentionGrown);
+        }
+        self.cut(restart.drop, restart.prune);
+        self.go_on(restart.start)
+    }
+
+    /// Whether more views are to be kept than in a life before, of a record that is pruned now or was pruned: votes in
+    /// views that are gone from it could be cast again.
+    fn retention_grows(&self, prune: bool, retention: ViewDelta) -> bool
+        ensures { result ≡ retention_grows self.now prune retention }
+    {
+        (prune || self.is_pruned) && self.least_retention < retention
+    }
+
+    /// Drops the last entries, and prunes the record where asked.
+    fn cut(&mut self, drop: u64, prune: bool)
+        ensures { self.new ≡ cut self.old drop prune }
+    {
+        drop_last(&mut self.artifacts, self.closed, drop);
+        if prune {
+            prune_record(&mut self.artifacts, self.retention);
+            self.closed = self.artifacts.len();
+            self.is_pruned = true;
+        }
+    }
+
+    /// Begins a life from the record as it stands.
+    fn go_on(&mut self, start: Start<S, L, D>) -> Result<(), RecoverError>
+        requires { L.members start.settings.elector ≡ length (S.participants start.settings.scheme) }
+        ensures { GoesOn D.eq L.elect self.old (start_facts S.me S.participants L.terms L.elects_early S.certificate_bytes start) result self.new }
+    {
+        self.failed = true;
+        let retention = retention_of(&start.settings);
+        let (state, finalization) = remake_by_view(self.alloc, start, &self.artifacts)?;
+        keep_finalization(&mut self.artifacts, finalization)?;
+        self.state = state;
+        self.retention = retention;
+        self.least_retention = lesser(self.least_retention, retention);
+        self.failed = false;
+        Ok(())
+    }
+}
+
+fn lesser(retention: ViewDelta, other: ViewDelta) -> ViewDelta
+    ensures { result ≡ min retention other }
+{
+    retention.min(other)
+}
+
+/// A state from a copy of a record by view, with the floor's finalization.
+fn remake_by_view<S: CertificateScheme, L: Elector<S>, D: Digest>(
+    alloc: Global,
+    start: Start<S, L, D>,
+    artifacts: &[Artifact<S, D>],
+) -> Result<(State<S, L, D>, Option<Finalization<S, D>>), RecoverError>
+    requires { L.members start.settings.elector ≡ length (S.participants start.settings.scheme) }
+    ensures remade { IfOk result (λ made. IsRemadeBy D.eq L.elect (start_facts S.me S.participants L.terms L.elects_early S.certificate_bytes start) (entries_of S.certificate_bytes artifacts.now) made.0) }
+    ensures floor { IfOk result (λ made. option_map (finalization_facts S.certificate_bytes) made.1 ≡ floor_answer (floor_facts S.certificate_bytes start.floor)) }
+    ensures going_on { IfOk result (λ made. (made.0.failed ≡ false) × (is_started made.0 ≡ true)) }
+    ensures refused { IfErr result (λ error. (error ≡ OutOfMemory) ⊎ IsRefusedBy D.eq (start_facts S.me S.participants L.terms L.elects_early S.certificate_bytes start) (entries_of S.certificate_bytes artifacts.now) error) }
+{
+    let Ok(copy) = by_view(alloc, artifacts) else {
+        return Err(RecoverError::OutOfMemory);
+    };
+    remake(alloc, start, &copy)
+}
+
+/// A copy of a record, sorted by view.
+fn by_view<S: CertificateScheme, D: Digest>(
+    alloc: Global,
+    artifacts: &[Artifact<S, D>],
+) -> Result<Vec<Artifact<S, D>>, Fault>
+    ensures { IfOk result (λ copy. IsByView (entries_of S.certificate_bytes artifacts.now) (entries_of S.certificate_bytes copy.items)) }
+{
+    let mut copy = copy_of(alloc, artifacts)?;
+    copy.sort_by_key(|artifact| artifact.view())?;
+    Ok(copy)
+}
+
+/// A copy of a record.
+fn copy_of<S: CertificateScheme, D: Digest>(
+    alloc: Global,
+    artifacts: &[Artifact<S, D>],
+) -> Result<Vec<Artifact<S, D>>, Fault>
+    ensures { IfOk result (λ copy. entries_of S.certificate_bytes copy.items ≡ entries_of S.certificate_bytes artifacts.now) }
+{
+    let mut copy = Vec::new(alloc);
+    for artifact in artifacts {
+        copy.push(artifact.clone(alloc)?)?;
+    }
+    Ok(copy)
+}
+
+/// Records a finalization, unless one of its view stands in the record.
+pub(super) fn keep_finalization<S: CertificateScheme, D: Digest>(
+    artifacts: &mut Vec<Artifact<S, D>>,
+    finalization: Option<Finalization<S, D>>,
+) -> Result<(), RecoverError>
+    ensures kept { OnOk result (entries_of S.certificate_bytes artifacts.new.items ≡ with_finalization (entries_of S.certificate_bytes artifacts.old.items) (option_map (finalization_facts S.certificate_bytes) finalization)) }
+    ensures same { OnErr result (entries_of S.certificate_bytes artifacts.new.items ≡ entries_of S.certificate_bytes artifacts.old.items) }
+    ensures refused { IfErr result (λ error. error ≡ OutOfMemory) }
+{
+    let Some(finalization) = finalization else {
+        return Ok(());
+    };
+    if is_finalized_in(artifacts, finalization.view()) {
+        return Ok(());
+    }
+    artifacts.reserve(1)?;
+    keep(artifacts, Artifact::Finalization(finalization));
+    Ok(())
+}
+
+/// Whether a finalization of the view stands in the record.
+fn is_finalized_in<S: CertificateScheme, D: Digest>(
+    artifacts: &[Artifact<S, D>],
+    view: View,
+) -> bool
+    ensures { result ≡ stands view is_finalization (entries_of S.certificate_bytes artifacts.now) }
+{
+    for artifact in artifacts {
+        if is_finalization_of(artifact, view) {
+            return true;
+        }
+    }
+    false
+}
+
+/// Whether it is a finalization of the view.
+fn is_finalization_of<S: CertificateScheme, D: Digest>(
+    artifact: &Artifact<S, D>,
+    view: View,
+) -> bool
+    ensures { result ≡ (entry_view (artifact_facts S.certificate_bytes artifact.now) == view && is_finalization (artifact_facts S.certificate_bytes artifact.now)) }
+{
+    match artifact {
+        Artifact::Finalization(finalization) => finalization.view() == view,
+        _ => false,
+    }
+}
