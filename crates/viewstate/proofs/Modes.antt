@@ -1,5 +1,5 @@
 -- Why words ask for no mode, and what a slice of a known length holds.
-use Rattle.std.proofs.Common.{◌≡◌, ◌≢◌, ◌∙◌, ℕ, ◌^◌, ◌<◌, ◌≤◌, List, [], ◌∷◌, length, get_or, map, codes, Option, Some, None, IfSome, arith, rules, sym, ap, refl}
+use Rattle.std.proofs.Common.{◌≡◌, ◌≢◌, ◌∙◌, ℕ, ◌<◌, ◌≤◌, List, [], ◌∷◌, length, get_or, map, codes, Option, IfSome, arith, sym, ap, refl}
 use Rattle.std.specs.Fmt.{decimal}
 use Rattle.std.proofs.lemmas.Fmt.{decimal_injective}
 use Rattle.viewstate.specs.Mode.{member_word, mode_words, IsServed}

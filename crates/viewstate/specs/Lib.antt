@@ -6,4 +6,6 @@ pub mod Status
 pub mod Line
 pub mod Answers
 pub mod VoterLine
+pub mod Plain
+pub mod Setup
 pub mod Voter

@@ -1,48 +1,26 @@
 -- What a voter behind lines does: the call that each line stands for, its reply, and what it leaves of the member.
-use Rattle.std.specs.Prelude.{◌≡◌, ◌⊎◌, ℕ, Bool, true, false, List, [], ◌∷◌, length, Option, Some, None, if◌then◌else◌}
+use Rattle.std.specs.Prelude.{◌≡◌, ◌⊎◌, ℕ, Bool, true, false, [], ◌∷◌, length, Option, Some, None}
 use Rattle.std.specs.Int.{w64, to_be_bytes}
-use Rattle.std.specs.Str.{bytes_eq}
 use Rattle.simplex_types.specs.declared.types.numbers.Round.{Round}
 use Rattle.simplex_types.specs.declared.types.messages.Proposal.{Proposal}
-use Rattle.simplex_types.specs.declared.types.messages.Subject.{Subject}
 use Rattle.simplex_types.specs.declared.types.plain.PlainDigest.{PlainDigest}
-use Rattle.simplex_types.specs.declared.types.plain.PlainKey.{PlainKey}
 use Rattle.simplex_types.specs.declared.types.plain.PlainElector.{PlainElector}
-use Rattle.simplex_types.specs.declared.types.plain.PlainScheme.{PlainScheme}
-use Rattle.simplex_types.specs.declared.types.plain.PlainCertificate.{PlainCertificate}
-use Rattle.simplex_types.specs.Certificates.{ProposalFacts}
-use Rattle.simplex_types.specs.Plain.{digest_bytes, leader_in_turn, members_of, terms_of, keys_below, signer_of, keys_of}
-use Rattle.simplex_types.specs.Config.{Genesis}
-use Rattle.simplex_voter.specs.Facts.{Facts, Settings, new_facts}
+use Rattle.simplex_types.specs.declared.types.plain.PlainKey.{PlainKey}
+use Rattle.simplex_types.specs.Plain.{digest_bytes}
+use Rattle.simplex_voter.specs.Facts.{Facts}
 use Rattle.simplex_voter.specs.Windows.{min_active}
-use Rattle.simplex_voter.specs.StateView.{settings_of}
-use Rattle.simplex_voter.specs.declared.voter.state.Config.{Config}
 use Rattle.simplex_member.specs.Calls.{CallFacts, AddNotarization, AddNullification, AddFinalization, Certified, ConstructNullify, ConstructFinalize, BroadcastNotarization, BroadcastNullification, BroadcastFinalization, GetBestCertificate, Prune as PruneCall, told}
-use Rattle.simplex_member.specs.Lives.{MemberFacts, IsCall}
-use Rattle.simplex_member.specs.Start.{started}
+use Rattle.simplex_member.specs.Lives.{IsCall}
+use Rattle.simplex_member.specs.Restarts.{IsRestart}
+use Rattle.simplex_member.specs.Start.{StartFacts}
+use Rattle.viewstate.specs.declared.network.Network.{Network}
 use Rattle.viewstate.specs.declared.voter_line.CertificateKind.TheVariants as kind
 use Rattle.viewstate.specs.declared.voter_line.VoterLine.{VoterLine}
-use Rattle.viewstate.specs.declared.voter_line.VoterLine.TheVariants.{Notarization, Nullification, Finalization, Verdict, Nullify, Finalize, Broadcast, Best, Prune, Record, Views}
+use Rattle.viewstate.specs.declared.voter_line.VoterLine.TheVariants.{Notarization, Nullification, Finalization, Verdict, Nullify, Finalize, Broadcast, Best, Prune, Restart, RestartPruned, Record, Views}
 use Rattle.viewstate.specs.declared.voter.VoterAnswer.{VoterAnswer}
 use Rattle.viewstate.specs.declared.voter.VoterAnswer.TheVariants as answer
-
--- how the plain parts compare payloads, elect, sign and write certificates
-
-abbrev pub same_payload : PlainDigest → PlainDigest → Bool
-same_payload d e = bytes_eq (digest_bytes d) (digest_bytes e)
-
-abbrev pub plain_leader : PlainElector → Round → Option (List ℕ) → ℕ
-plain_leader e round seed = leader_in_turn e round.view
-
-abbrev pub plain_signature : ℕ → Subject PlainDigest → Unit {0}
-plain_signature signer subject = tt
-
-abbrev pub plain_bytes : PlainCertificate → List ℕ
-plain_bytes c = (if c.good then 1 else 0) ∷ []
-
--- a member of plain parts
-abbrev pub PlainMember : Type 0
-PlainMember = MemberFacts PlainKey PlainElector PlainDigest (Unit {0})
+use Rattle.viewstate.specs.Plain.{PlainMember, same_payload, plain_leader, plain_signature, plain_bytes}
+use Rattle.viewstate.specs.Setup.{IsGenesisStart}
 
 -- the round and the proposal that the numbers of a line stand for
 
@@ -74,54 +52,37 @@ abbrev pub views_of : Option (Facts PlainKey PlainElector PlainDigest) → Voter
 views_of None = answer.Failed
 views_of (Some x) = answer.Views x.current x.finalized (min_active x)
 
--- how a member of a network of so many is set up: epoch 1, retention 10, timeouts 1000 and 2000, retry 500, and a skip
--- budget of as many terms as members
-abbrev pub network_settings : ℕ → Settings
-network_settings members = record {
-  epoch = 1;
-  view_retention = 10;
-  leader_timeout = 1000;
-  certification_timeout = 2000;
-  timeout_retry = 500;
-  skip_budget = members;
-}
-
--- a configuration for one of so many, whose elector has no stall timeout
-pub record IsSetUp {C G : Type 0} (members : ℕ) (me : Option ℕ) (term_length optimistic : ℕ) (c : Config PlainScheme PlainElector PlainKey C G) : Type 0 where
-  pub count : members_of c.elector ≡ members
-  pub terms : terms_of c.elector ≡ record { term_length = term_length; optimistic_views = optimistic; stall_timeout = None }
-  pub signer : signer_of c.scheme ≡ me
-  pub keys : keys_of c.scheme ≡ keys_below members
-  pub settings : settings_of c ≡ network_settings members
-
--- it starts at genesis of payload 0, at moment 0, without a stall timeout
-abbrev pub StartsAtGenesis : ℕ → Option ℕ → ℕ → ℕ → PlainMember → Type 0
-StartsAtGenesis members me term_length optimistic m =
-    (e : PlainElector) × (payload : PlainDigest)
-    × (members_of e ≡ members)
-    × (terms_of e ≡ record { term_length = term_length; optimistic_views = optimistic; stall_timeout = None })
-    × (digest_bytes payload ≡ to_be_bytes w64 0)
-    × (m ≡ started same_payload plain_leader (new_facts (network_settings members) me (keys_below members) e (terms_of e) true) (Genesis payload) 0)
-
 -- the reply to a call, and what it leaves
 abbrev pub IsReplied : PlainMember → VoterLine → CallFacts PlainDigest → VoterAnswer → PlainMember → Type 0
 IsReplied m line call (answer.Reply said reply) left =
     (said ≡ line) × IsCall same_payload plain_leader plain_signature m call (told plain_bytes reply) left
 IsReplied _ _ _ _ _ = ⊥
 
--- what a line shows that stands for no call: the number of entries, or the views
-abbrev pub shown : PlainMember → VoterLine → VoterAnswer
-shown m Record = answer.Entries (length m.entries)
-shown m line = views_of m.life
+-- what a restart of the network's member answers, and what it leaves; the record is cut as asked, and pruned or not
+abbrev pub IsRestarted : Network → PlainMember → ℕ → Bool → ℕ → VoterAnswer → PlainMember → Type 0
+IsRestarted n m drop prune now (answer.Restarted result) left =
+    (start : StartFacts PlainKey PlainElector PlainDigest)
+    × IsGenesisStart n now start
+    × IsRestart same_payload plain_leader m (record { drop = drop; prune = prune; start = start }) result left
+IsRestarted _ _ _ _ _ _ _ = ⊥
 
 -- whether a line stands for no call
-abbrev pub shows : VoterLine → Bool
-shows Record = true
-shows Views = true
-shows _ = false
+abbrev pub is_no_call : VoterLine → Bool
+is_no_call (Restart _ _) = true
+is_no_call (RestartPruned _ _) = true
+is_no_call Record = true
+is_no_call Views = true
+is_no_call _ = false
+
+-- what such a line does: a restart, or it shows the number of entries, or the views
+abbrev pub IsDone : Network → PlainMember → VoterLine → VoterAnswer → PlainMember → Type 0
+IsDone n m (Restart drop now) a left = IsRestarted n m drop false now a left
+IsDone n m (RestartPruned drop now) a left = IsRestarted n m drop true now a left
+IsDone n m Record a left = (a ≡ answer.Entries (length m.entries)) × (left ≡ m)
+IsDone n m _ a left = (a ≡ views_of m.life) × (left ≡ m)
 
 -- the reply to a line, and what it leaves
-abbrev pub VoterAnswers : PlainMember → VoterLine → VoterAnswer → PlainMember → Type 0
-VoterAnswers m line a left =
-    ((shows line ≡ true) × (a ≡ shown m line) × (left ≡ m))
+abbrev pub VoterAnswers : Network → PlainMember → VoterLine → VoterAnswer → PlainMember → Type 0
+VoterAnswers n m line a left =
+    ((is_no_call line ≡ true) × IsDone n m line a left)
     ⊎ ((call : CallFacts PlainDigest) × StandsFor line call × IsReplied m line call a left)

@@ -4,7 +4,7 @@ use Rattle.viewstate.specs.Words.{flag_word, ReadsWord}
 use Rattle.viewstate.specs.declared.voter_line.CertificateKind.{CertificateKind}
 use Rattle.viewstate.specs.declared.voter_line.CertificateKind.TheVariants as kind
 use Rattle.viewstate.specs.declared.voter_line.VoterLine.{VoterLine}
-use Rattle.viewstate.specs.declared.voter_line.VoterLine.TheVariants.{Notarization, Nullification, Finalization, Verdict, Nullify, Finalize, Broadcast, Best, Prune, Record, Views}
+use Rattle.viewstate.specs.declared.voter_line.VoterLine.TheVariants.{Notarization, Nullification, Finalization, Verdict, Nullify, Finalize, Broadcast, Best, Prune, Restart, RestartPruned, Record, Views}
 
 -- a certificate's kind, as lines name it
 abbrev pub kind_word : CertificateKind → List ℕ
@@ -26,6 +26,8 @@ voter_words (Finalize view) = codes "finalize" ∷ decimal view ∷ []
 voter_words (Broadcast kind view) = codes "broadcast" ∷ kind_word kind ∷ decimal view ∷ []
 voter_words Best = codes "best" ∷ []
 voter_words Prune = codes "prune" ∷ []
+voter_words (Restart drop now) = codes "restart" ∷ decimal drop ∷ decimal now ∷ []
+voter_words (RestartPruned drop now) = codes "restart-pruned" ∷ decimal drop ∷ decimal now ∷ []
 voter_words Record = codes "record" ∷ []
 voter_words Views = codes "view" ∷ []
 
@@ -40,6 +42,8 @@ HasSmallNumbers (Finalize view) = view < 2 ^ 64
 HasSmallNumbers (Broadcast kind view) = view < 2 ^ 64
 HasSmallNumbers Best = ⊤
 HasSmallNumbers Prune = ⊤
+HasSmallNumbers (Restart drop now) = (drop < 2 ^ 64) × (now < 2 ^ 64)
+HasSmallNumbers (RestartPruned drop now) = (drop < 2 ^ 64) × (now < 2 ^ 64)
 HasSmallNumbers Record = ⊤
 HasSmallNumbers Views = ⊤
 
@@ -61,6 +65,8 @@ family_of (Finalize view) = votes
 family_of (Broadcast kind view) = servings
 family_of Best = servings
 family_of Prune = servings
+family_of (Restart drop now) = lives
+family_of (RestartPruned drop now) = lives
 family_of Record = lives
 family_of Views = lives
 

@@ -4,6 +4,7 @@
 pub mod decimal;
 pub mod line_reader;
 pub mod mode;
+pub mod network;
 pub mod program;
 pub mod resolver;
 pub mod resolver_line;

@@ -5,6 +5,7 @@ ghost use Rattle.viewstate.specs.Mode.{IsServed};
 
 use crate::line_reader::{LONGEST_LINE, line_text, read_line};
 use crate::mode::Mode;
+use crate::network::Network;
 use crate::resolver::Resolver;
 use crate::resolver_line::ResolverLine;
 use crate::voter::Voter;
@@ -103,10 +104,18 @@ impl Session {
                 me,
                 term_length,
                 optimistic,
-            } => match Voter::start(alloc, members, me, term_length, optimistic) {
-                Ok(voter) => Ok(Session::Voter(voter)),
-                Err(AllocError) => Err(ServeError::OutOfMemory),
-            },
+            } => {
+                let network = Network {
+                    members,
+                    me,
+                    term_length,
+                    optimistic,
+                };
+                match Voter::start(alloc, network) {
+                    Ok(voter) => Ok(Session::Voter(voter)),
+                    Err(AllocError) => Err(ServeError::OutOfMemory),
+                }
+            }
             Mode::Resolver(term_length) => Ok(Session::Resolver(Resolver::new(alloc, term_length))),
         }
     }
@@ -137,7 +146,7 @@ fn answer_voter(
         return Err(ServeError::OutOfMemory);
     };
     let line = line.ok_or(ServeError::NotACall(number))?;
-    match voter.answer(line) {
+    match voter.answer(alloc, line) {
         Ok(answer) => write_line(reply, answer),
         Err(AllocError) => Err(ServeError::OutOfMemory),
     }

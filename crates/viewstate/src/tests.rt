@@ -240,10 +240,11 @@ const FINALIZE: (&str, &str) = (
     "added true -\ncertified 1\nfinalize 1 5 7\nnone\nnotarization 1\nnotarization 1\nnone\n",
 );
 
-/// The votes of a term of five views: its gate, its nullification, and what a finalization makes of both.
+/// The votes of a term of five views: its gate, its nullification, and what a finalization makes of both, also after a
+/// restart.
 const GATE: (&str, &str) = (
-    "nullification 3 10\nbest\nfinalization 2 1 9 12\nview\nnullify 6\nnotarization 6 2 4\nverdict 6 true 13\nfinalize 6\nnotarization 7 6 5\nverdict 7 true 14\nfinalize 7\nfinalization 6 2 4 15\nfinalize 7\nbroadcast finalization 6\nbroadcast finalization 6\nbroadcast notarization 6\nbroadcast nullification 3\n",
-    "added true\nnullification 3\nadded true -\nview 6 2 0\nnullify 6 false\nadded true -\ncertified 6\nnone\nadded true -\ncertified 7\nnone\nadded true -\nfinalize 7 6 5\nfinalization 6\nnone\nnotarization 6\nnullification 3\n",
+    "nullification 3 10\nbest\nfinalization 2 1 9 12\nview\nnullify 6\nnotarization 6 2 4\nverdict 6 true 13\nfinalize 6\nnotarization 7 6 5\nverdict 7 true 14\nfinalize 7\nfinalization 6 2 4 15\nfinalize 7\nbroadcast finalization 6\nbroadcast finalization 6\nbroadcast notarization 6\nbroadcast nullification 3\nrestart 0 20\nview\nnullify 6\n",
+    "added true\nnullification 3\nadded true -\nview 6 2 0\nnullify 6 false\nadded true -\ncertified 6\nnone\nadded true -\ncertified 7\nnone\nadded true -\nfinalize 7 6 5\nfinalization 6\nnone\nnotarization 6\nnullification 3\nok\nview 8 6 0\nnone\n",
 );
 
 /// What lies below the retention is dropped, and its certificates are not taken.
@@ -252,10 +253,34 @@ const PRUNED: (&str, &str) = (
     "added true -\nview 21 20 10\npruned 1\nnot-allowed\nadded true\n",
 );
 
-/// A view that is too large, and the last one that isn't.
+/// A view that is too large, and the last one that isn't. No restart takes a vote in a view that is too large.
 const LARGEST: (&str, &str) = (
-    "finalization 9223372036854775807 5 9 10\nview\nnotarization 9223372036854775808 1 1\nprune\nnullify 9223372036854775808\n",
-    "added true -\nview 9223372036854775808 9223372036854775807 9223372036854775797\nfault 3 ViewTooLarge\npruned 1\nnullify 9223372036854775808 false\n",
+    "finalization 9223372036854775807 5 9 10\nview\nnotarization 9223372036854775808 1 1\nprune\nnullify 9223372036854775808\nrestart 0 20\nview\n",
+    "added true -\nview 9223372036854775808 9223372036854775807 9223372036854775797\nfault 3 ViewTooLarge\npruned 1\nnullify 9223372036854775808 false\nrefused 4 ViewTooLarge\nfault 2 Failed\n",
+);
+
+/// After a restart the votes of before it stand.
+const RESTARTED: (&str, &str) = (
+    "nullify 1\nnullify 1\nnotarization 1 0 7\nverdict 1 true 10\nfinalize 1\nrestart 0 20\nfinalize 1\nnullify 1\n",
+    "nullify 1 false\nnullify 1 true\nadded true -\ncertified 1\nnone\nok\nnone\nnone\n",
+);
+
+/// A restart is refused whose record has a vote for a proposal at or below its parent, and the member has failed.
+const REFUSED: (&str, &str) = (
+    "notarization 1 5 7\nverdict 1 true 10\nfinalize 1\nrestart 5 20\nfinalize 1\nrecord\n",
+    "added true -\ncertified 1\nfinalize 1 5 7\nrefused 6 ParentNotBelow\nfault 2 Failed\nrecord 3\n",
+);
+
+/// A restart that comes too late is refused, and the next one succeeds. The first took the last entry.
+const LATE: (&str, &str) = (
+    "nullify 1\nnotarization 1 0 7\nrestart 1 18446744073709551615\nrecord\nview\nrestart 0 5\nnullify 1\nnotarization 1 0 7\n",
+    "nullify 1 false\nadded true -\nrefused 12 TimeOverflow\nrecord 1\nfault 2 Failed\nok\nnullify 1 true\nadded true -\n",
+);
+
+/// A pruned record is closed to a later drop, and grows again.
+const CUT: (&str, &str) = (
+    "nullify 1\nfinalization 20 19 9 10\nrecord\nrestart-pruned 0 20\nrecord\nview\nnullify 1\nrestart-pruned 9 30\nview\nnullification 9 31\nnullification 10 32\nrecord\nrestart 1 40\nrecord\n",
+    "nullify 1 false\nadded true -\nrecord 2\nok\nrecord 1\nview 21 20 10\nnone\nok\nview 21 20 10\nnot-allowed\nadded true\nrecord 2\nok\nrecord 1\n",
 );
 
 /// A leader that equivocates is named.
@@ -288,6 +313,15 @@ fn transcripts_of_a_voter(rt: HostRuntime) -> Result<(), Fail> {
     assert!(rt; is_served(rt.alloc(), "viewstate voter 4 0 1 0", LARGEST)?);
     assert!(rt; is_served(rt.alloc(), "viewstate voter 4 1 1 0", EQUIVOCATED)?);
     assert!(rt; is_served(rt.alloc(), "viewstate voter 4 - 1 0", KEYLESS)?);
+    Ok(())
+}
+
+#[test]
+fn transcripts_of_restarts(rt: HostRuntime) -> Result<(), Fail> {
+    assert!(rt; is_served(rt.alloc(), "viewstate voter 4 0 1 0", RESTARTED)?);
+    assert!(rt; is_served(rt.alloc(), "viewstate voter 4 0 1 0", REFUSED)?);
+    assert!(rt; is_served(rt.alloc(), "viewstate voter 4 0 1 0", LATE)?);
+    assert!(rt; is_served(rt.alloc(), "viewstate voter 4 0 1 0", CUT)?);
     Ok(())
 }
 

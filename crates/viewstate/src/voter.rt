@@ -1,16 +1,19 @@
 //! A voter behind lines: a member of a network of plain parts.
 
-ghost use Rattle.std.specs.Prelude.{◌≡◌, IfOk};
+ghost use Rattle.std.specs.Prelude.{◌≡◌, false, true, IfOk, length};
+ghost use Rattle.simplex_types.specs.Plain.{members_of, keys_of};
 ghost use Rattle.simplex_member.specs.Calls.{call_facts};
-ghost use Rattle.viewstate.specs.Mode.{IsNetwork};
-ghost use Rattle.viewstate.specs.Voter.{StartsAtGenesis, IsSetUp, VoterAnswers, IsReplied, shown, views_of, plain_bytes};
+ghost use Rattle.viewstate.specs.Voter.{VoterAnswers, IsReplied, IsRestarted, IsDone, is_no_call, views_of};
+ghost use Rattle.viewstate.specs.Plain.{plain_bytes};
+ghost use Rattle.viewstate.specs.Setup.{IsSetUp, IsGenesisStart, StartsAtGenesis, plain_start};
 
+use crate::network::Network;
 use crate::voter_call::{EPOCH, call_of};
 use crate::voter_line::VoterLine;
-use simplex_member::member::{Call, Member, Reply, Start};
+use simplex_member::member::{Call, Member, RecoverError, Reply, Restart, Start};
 use simplex_types::config::Floor;
 use simplex_types::types::plain::{PlainDigest, PlainElector, PlainScheme};
-use simplex_types::types::{Epoch, Fault, Participant, TermLength, Terms, View, ViewDelta};
+use simplex_types::types::{Epoch, Fault, Participant, Terms, View, ViewDelta};
 use simplex_voter::voter::Config;
 use std::alloc::{AllocError, Global};
 
@@ -29,9 +32,10 @@ const CERTIFICATION_TIMEOUT: u64 = 2000;
 /// From the first poll after a nullify vote until it is repeated, in milliseconds.
 const TIMEOUT_RETRY: u64 = 500;
 
-/// A member that lines are asked of.
+/// A member that lines are asked of, and its network.
 #[derive(Drop)]
 pub struct Voter {
+    network: Network,
     member: Member<PlainScheme, PlainElector, PlainDigest>,
 }
 
@@ -43,6 +47,8 @@ pub enum VoterAnswer {
         line: VoterLine,
         reply: Reply<PlainScheme, PlainDigest>,
     },
+    /// Whether the member was restarted.
+    Restarted(Result<(), RecoverError>),
     /// How many entries the record has.
     Entries(usize),
     /// The current view, the last finalized one and the lowest that is kept.
@@ -56,36 +62,26 @@ pub enum VoterAnswer {
 }
 
 impl Voter {
-    /// A member of so many that starts at genesis, at moment 0.
-    pub fn start(
-        alloc: Global,
-        members: u32,
-        me: Option<u32>,
-        term_length: TermLength,
-        optimistic: u64,
-    ) -> Result<Voter, AllocError>
-        requires { IsNetwork members me term_length }
-        ensures { IfOk result (λ voter. StartsAtGenesis members me term_length optimistic voter.member) }
+    /// A member of the network that starts at genesis, at moment 0.
+    pub fn start(alloc: Global, network: Network) -> Result<Voter, AllocError>
+        ensures network { IfOk result (λ voter. voter.network ≡ network) }
+        ensures member { IfOk result (λ voter. StartsAtGenesis network voter.member) }
     {
-        let settings = settings(alloc, members, me, term_length, optimistic)?;
-        let start = Start {
-            settings,
-            floor: Floor::Genesis(PlainDigest::new(GENESIS)),
-            now: 0,
-        };
+        let start = start_at(alloc, &network, 0)?;
         match Member::start(alloc, start) {
-            Ok(member) => Ok(Voter { member }),
+            Ok(member) => Ok(Voter { network, member }),
             Err(_) => Err(AllocError),
         }
     }
 
     /// Does what the line asks. The one error is want of memory.
-    pub fn answer(&mut self, line: VoterLine) -> Result<VoterAnswer, AllocError>
-        ensures { IfOk result (λ answer. VoterAnswers self.old.member line answer self.new.member) }
+    pub fn answer(&mut self, alloc: Global, line: VoterLine) -> Result<VoterAnswer, AllocError>
+        ensures network { self.new.network ≡ self.old.network }
+        ensures answer { IfOk result (λ answer. VoterAnswers self.old.network self.old.member line answer self.new.member) }
     {
         match call_of(&line) {
             Some(call) => self.call(line, call),
-            None => Ok(self.show(&line)),
+            None => self.other(alloc, line),
         }
     }
 
@@ -94,7 +90,8 @@ impl Voter {
         line: VoterLine,
         call: Call<PlainScheme, PlainDigest>,
     ) -> Result<VoterAnswer, AllocError>
-        ensures { IfOk result (λ answer. IsReplied self.old.member line (call_facts plain_bytes call) answer self.new.member) }
+        ensures network { self.new.network ≡ self.old.network }
+        ensures reply { IfOk result (λ answer. IsReplied self.old.member line (call_facts plain_bytes call) answer self.new.member) }
     {
         match self.member.call(call) {
             Reply::Fault(Fault::OutOfMemory) => Err(AllocError),
@@ -102,14 +99,37 @@ impl Voter {
         }
     }
 
-    /// What a line that stands for no call shows.
-    fn show(&self, line: &VoterLine) -> VoterAnswer
-        ensures { result ≡ shown self.now.member line.now }
+    /// Does what a line asks that stands for no call: a restart, or to be shown something.
+    fn other(&mut self, alloc: Global, line: VoterLine) -> Result<VoterAnswer, AllocError>
+        requires { is_no_call line ≡ true }
+        ensures network { self.new.network ≡ self.old.network }
+        ensures done { IfOk result (λ answer. IsDone self.old.network self.old.member line answer self.new.member) }
     {
         match line {
-            VoterLine::Record => VoterAnswer::Entries(self.member.record().len()),
-            _ => self.views(),
+            VoterLine::Restart { drop, now } => self.restart(alloc, drop, false, now),
+            VoterLine::RestartPruned { drop, now } => self.restart(alloc, drop, true, now),
+            VoterLine::Record => Ok(VoterAnswer::Entries(self.member.record().len())),
+            _ => Ok(self.views()),
         }
+    }
+
+    /// Begins another life of the member, at genesis and with the same settings.
+    fn restart(
+        &mut self,
+        alloc: Global,
+        drop: u64,
+        prune: bool,
+        now: u64,
+    ) -> Result<VoterAnswer, AllocError>
+        ensures network { self.new.network ≡ self.old.network }
+        ensures restarted { IfOk result (λ answer. IsRestarted self.old.network self.old.member drop prune now answer self.new.member) }
+    {
+        let start = start_at(alloc, &self.network, now)?;
+        let result = self.member.restart(Restart { drop, prune, start });
+        if result == Err(RecoverError::OutOfMemory) {
+            return Err(AllocError);
+        }
+        Ok(VoterAnswer::Restarted(result))
     }
 
     fn views(&self) -> VoterAnswer
@@ -126,35 +146,48 @@ impl Voter {
     }
 }
 
-/// How a member of a network of so many is set up.
+/// How a member of the network starts at genesis.
+fn start_at(
+    alloc: Global,
+    network: &Network,
+    now: u64,
+) -> Result<Start<PlainScheme, PlainElector, PlainDigest>, AllocError>
+    ensures facts { IfOk result (λ start. IsGenesisStart network.now now (plain_start start)) }
+    ensures members { IfOk result (λ start. members_of start.settings.elector ≡ length (keys_of start.settings.scheme)) }
+{
+    let settings = settings(alloc, network)?;
+    Ok(Start {
+        settings,
+        floor: Floor::Genesis(PlainDigest::new(GENESIS)),
+        now,
+    })
+}
+
+/// How a member of the network is set up.
 fn settings(
     alloc: Global,
-    members: u32,
-    me: Option<u32>,
-    term_length: TermLength,
-    optimistic: u64,
+    network: &Network,
 ) -> Result<Config<PlainScheme, PlainElector>, AllocError>
-    requires { IsNetwork members me term_length }
-    ensures { IfOk result (IsSetUp members me term_length optimistic) }
+    ensures { IfOk result (IsSetUp network.now) }
 {
-    let signer = match me {
+    let signer = match network.me {
         Some(index) => Some(Participant::new(index)),
         None => None,
     };
-    let scheme = PlainScheme::new(alloc, members, signer)?;
+    let scheme = PlainScheme::new(alloc, network.members, signer)?;
     let terms = Terms {
-        term_length,
-        optimistic_views: optimistic,
+        term_length: network.term_length,
+        optimistic_views: network.optimistic,
         stall_timeout: None,
     };
     Ok(Config {
         scheme,
-        elector: PlainElector::new(members, terms),
+        elector: PlainElector::new(network.members, terms),
         epoch: Epoch::new(EPOCH),
         view_retention: ViewDelta::new(RETENTION),
         leader_timeout: LEADER_TIMEOUT,
         certification_timeout: CERTIFICATION_TIMEOUT,
         timeout_retry: TIMEOUT_RETRY,
-        skip_budget: members as u64,
+        skip_budget: network.members as u64,
     })
 }

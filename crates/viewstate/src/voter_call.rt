@@ -3,7 +3,8 @@
 ghost use Rattle.std.specs.Prelude.{◌≡◌, MatchOption, true};
 ghost use Rattle.simplex_member.specs.Calls.{call_facts};
 ghost use Rattle.viewstate.specs.declared.voter_line.VoterLine.TheVariants.{Broadcast};
-ghost use Rattle.viewstate.specs.Voter.{StandsFor, IsProposal, shows, round_in_epoch, plain_bytes};
+ghost use Rattle.viewstate.specs.Plain.{plain_bytes};
+ghost use Rattle.viewstate.specs.Voter.{StandsFor, IsProposal, is_no_call, round_in_epoch};
 
 use crate::voter_line::{CertificateKind, VoterLine};
 use simplex_member::member::Call;
@@ -18,7 +19,7 @@ pub const EPOCH: u64 = 1;
 
 /// The call that a line stands for, if it stands for one.
 pub fn call_of(line: &VoterLine) -> Option<Call<PlainScheme, PlainDigest>>
-    ensures { MatchOption result (shows line.now ≡ true) (λ call. StandsFor line.now (call_facts plain_bytes call)) }
+    ensures { MatchOption result (is_no_call line.now ≡ true) (λ call. StandsFor line.now (call_facts plain_bytes call)) }
 {
     match *line {
         VoterLine::Notarization {
@@ -44,7 +45,10 @@ pub fn call_of(line: &VoterLine) -> Option<Call<PlainScheme, PlainDigest>>
         VoterLine::Broadcast { kind, view } => Some(broadcast_of(kind, view)),
         VoterLine::Best => Some(Call::GetBestCertificate),
         VoterLine::Prune => Some(Call::Prune),
-        VoterLine::Record | VoterLine::Views => None,
+        VoterLine::Restart { .. }
+        | VoterLine::RestartPruned { .. }
+        | VoterLine::Record
+        | VoterLine::Views => None,
     }
 }
 

@@ -48,6 +48,14 @@ pub enum VoterLine {
     },
     Best,
     Prune,
+    Restart {
+        drop: u64,
+        now: u64,
+    },
+    RestartPruned {
+        drop: u64,
+        now: u64,
+    },
     Record,
     Views,
 }
@@ -165,6 +173,14 @@ fn life_line(words: &[&str]) -> Option<VoterLine>
     ensures { ReadsVoterLineOf IsOfLives (texts_of words.now) result }
 {
     match *words {
+        ["restart", drop, now] => Some(VoterLine::Restart {
+            drop: decimal(drop)?,
+            now: decimal(now)?,
+        }),
+        ["restart-pruned", drop, now] => Some(VoterLine::RestartPruned {
+            drop: decimal(drop)?,
+            now: decimal(now)?,
+        }),
         ["record"] => Some(VoterLine::Record),
         ["view"] => Some(VoterLine::Views),
         _ => None,

@@ -1,6 +1,6 @@
 //! The reply lines of a voter.
 
-use crate::texts::write_fault;
+use crate::texts::{write_fault, write_refusal};
 use crate::voter::VoterAnswer;
 use crate::voter_line::VoterLine;
 use simplex_member::member::Reply;
@@ -13,6 +13,8 @@ impl Display for VoterAnswer {
     fn fmt<W: fmt::Write>(&self, f: &mut Formatter<W>) -> fmt::Result {
         match self {
             VoterAnswer::Reply { line, reply } => write_reply(f, line, reply),
+            VoterAnswer::Restarted(Ok(())) => f.write_str("ok"),
+            VoterAnswer::Restarted(Err(error)) => write_refusal(f, *error),
             VoterAnswer::Entries(count) => write!(f, "record {count}"),
             VoterAnswer::Views {
                 current,

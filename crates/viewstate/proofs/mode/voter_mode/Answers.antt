@@ -1,4 +1,4 @@
-use Rattle.std.proofs.Common.{arith, rules}
+use Rattle.std.proofs.Common.{rules}
 use Rattle.viewstate.proofs.Modes.{no_member}
 use Rattle.viewstate.proofs.mode.voter_mode.Goals as goal
 

@@ -1,4 +1,4 @@
-use Rattle.std.proofs.Common.{◌≡◌, arith, rules, string_bytes}
+use Rattle.std.proofs.Common.{rules, string_bytes}
 use Rattle.viewstate.proofs.Modes.{two_words, five_words}
 use Rattle.viewstate.proofs.mode.Mode.read.Goals as goal
 
