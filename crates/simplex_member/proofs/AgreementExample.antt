@@ -56,27 +56,32 @@ only_accepted certificate (suc zero, less, same) = cc
 only_accepted certificate (suc (suc zero), less, same) = absurd (cc)
 only_accepted certificate (suc (suc (suc k)), less, same) = absurd (omega arith)
 
-only_correct : (others : List (Act ℕ)) → Contains network (Correct others) → acts ≡ others
+pub only_correct : (others : List (Act ℕ)) → Contains network (Correct others) → acts ≡ others
 only_correct others (zero, less, same) = absurd (cc)
 only_correct others (suc zero, less, same) = cc
 only_correct others (suc (suc zero), less, same) = cc
 only_correct others (suc (suc (suc zero)), less, same) = cc
 only_correct others (suc (suc (suc (suc k))), less, same) = absurd (omega arith)
 
-notarization_backed : IsBacked network (subject.Notarize proposal)
+pub notarization_backed : IsBacked network (subject.Notarize proposal)
 notarization_backed = inl (tt, inl ((0, omega arith, refl), inl ((0, omega arith, refl), tt)))
 
-finalization_backed : IsBacked network (subject.Finalize proposal)
+pub finalization_backed : IsBacked network (subject.Finalize proposal)
 finalization_backed = inl (tt, inl ((2, omega arith, refl), inl ((2, omega arith, refl), tt)))
+
+-- what the correct members of a network accept is backed, where they all show these acts
+pub accepted_backed : (network : List (Member ℕ)) → ((others : List (Act ℕ)) → Contains network (Correct others) → acts ≡ others) → IsBacked network (subject.Notarize proposal)
+    → (others : List (Act ℕ)) (certificate : Subject ℕ) → Contains network (Correct others) → Contains others (Accept certificate) → IsBacked network certificate
+accepted_backed network alike backed others certificate h k =
+    subst (λ (x : Subject ℕ). IsBacked network x)
+    (only_accepted certificate (subst (λ (xs : List (Act ℕ)). Contains xs (Accept certificate)) (sym (alike others h)) k))
+    backed
 
 is_network : IsNetwork (IsLawful 1) network
 is_network = record {
   few_faulty = inl (omega arith, omega arith);
   members = λ others h. subst (λ (xs : List (Act ℕ)). IsLawful 1 xs) (only_correct others h) lawful;
-  backed = λ others certificate h k.
-      subst (λ (x : Subject ℕ). IsBacked network x)
-      (only_accepted certificate (subst (λ (xs : List (Act ℕ)). Contains xs (Accept certificate)) (sym (only_correct others h)) k))
-      notarization_backed;
+  backed = accepted_backed network only_correct notarization_backed;
 }
 
 pub can_be_met : (network : List (Member ℕ)) × (p : Proposal ℕ) × IsNetwork (IsLawful 1) network × IsBacked network (subject.Finalize p)

@@ -16,6 +16,8 @@ use Rattle.simplex_member.proofs.Filters.{Contains-filter}
 use Rattle.simplex_member.proofs.Recalls.{Remembers}
 use Rattle.simplex_member.proofs.Remembering.{append_split}
 use Rattle.simplex_member.proofs.CutsRemembered.{left_remembers, bounded_remembers}
+use Rattle.simplex_member.proofs.Notes.{RemembersNotes}
+use Rattle.simplex_member.proofs.NotesRemembered.{notes_left, notes_bounded}
 
 -- a closed entry, which no drop takes, is a finalization that is no lower than what is kept
 abbrev pub IsHigh : {D G : Type 0} → ℕ → ℕ → List (ArtifactFacts D G) → Type 0
@@ -27,6 +29,7 @@ IsHigh {D} {G} closed kept entries =
 pub record Between {D G : Type 0} (term_length : ℕ) (acts : List (Act D)) (closed kept : ℕ) (entries : List (ArtifactFacts D G)) : Type 0 where
   pub lawful : IsLawful term_length acts
   pub remembers : Remembers acts kept entries
+  pub notes : RemembersNotes acts kept entries
   pub high : IsHigh closed kept entries
   pub within : closed ≤ length entries
 
@@ -125,6 +128,7 @@ module _ {D G : Type 0} (term_length : ℕ) (acts : List (Act D)) (closed kept :
       record {
         lawful = between.lawful;
         remembers = left_remembers acts kept entries between.remembers left falls.0 falls.1 falls.2;
+        notes = notes_left acts kept entries between.notes left falls.0 falls.1 falls.2;
         high = high_left closed kept entries left falls.0 falls.1 falls.3 between.high;
         within = falls.3;
       }
@@ -139,6 +143,7 @@ module _ {D G : Type 0} (term_length : ℕ) (acts : List (Act D)) (closed kept :
       record {
         lawful = between.lawful;
         remembers = bounded_remembers acts kept entries between.remembers bound;
+        notes = notes_bounded acts kept entries between.notes bound;
         high = elim (has_highest entries) [
           | inl none ↦ inl (omega arith)
           | inr c ↦

@@ -1,11 +1,11 @@
 -- A new life from a record, and each call in it, keep the voting rules and leave a record that remembers them.
-use Rattle.std.proofs.Common.{◌≡◌, refl, ap, sym, ◌∙◌, subst, ℕ, ◌≤◌, ◌⊎◌, inl, inr, Bool, true, false, not, List, [], ◌∷◌, ◌++◌, append_assoc, length, Contains, filter, Option, Some, None, arith}
+use Rattle.std.proofs.Common.{◌≡◌, refl, ap, sym, ◌∙◌, subst, ℕ, ◌+◌, ◌<◌, ◌≤◌, ◌⊎◌, inl, inr, Bool, true, false, not, List, [], ◌∷◌, ◌++◌, append_assoc, length, Contains, filter, Option, Some, None, arith}
 use Rattle.std.specs.Prelude.{◌==◌}
 use Rattle.std.specs.Option.{option_or}
 use Rattle.std.proofs.lemmas.Bool.{false≢true, eqb-true, cases_Bool}
 use Rattle.std.proofs.lemmas.List.{append-nil, length-append}
 use Rattle.std.proofs.lemmas.List.Elements.{Contains-append_left}
-use Rattle.simplex_types.specs.Certificates.{ProposalFacts, Finalized, ArtifactFacts, NotarizeVote, NullifyVote, FinalizeVote, Verdict, Accepted}
+use Rattle.simplex_types.specs.Certificates.{ProposalFacts, Nullified, Finalized, ArtifactFacts, NotarizeVote, NullifyVote, FinalizeVote, Verdict, Accepted}
 use Rattle.simplex_types.specs.Config.{FloorFacts, Genesis, Finalized as FinalizedFloor}
 use Rattle.simplex_types.specs.declared.types.messages.Subject.{Subject}
 use Rattle.simplex_types.specs.declared.types.messages.Subject.TheVariants as subject
@@ -26,18 +26,28 @@ use Rattle.simplex_member.proofs.RecoveredMarks.{recovered_marked}
 use Rattle.simplex_member.proofs.Marks.{Marked}
 use Rattle.simplex_member.proofs.CallsRemembered.{Follows, call_follows}
 use Rattle.simplex_member.proofs.CutsRemembered.{in_copy, in_record, copy_remembers, floor_remembers}
+use Rattle.simplex_member.proofs.InOrder.{InOrder, order_call, order_recovered}
+use Rattle.simplex_member.specs.Openings.{Openings, no_openings}
+use Rattle.simplex_member.specs.Lives.{closed_by}
+use Rattle.simplex_member.proofs.Notes.{NotesStand, RemembersNotes, notes_acted}
+use Rattle.simplex_member.proofs.NotesRemembered.{notes_copied, notes_floored, notes_called, floor_casts_none}
+use Rattle.simplex_member.proofs.NotesRecovered.{recovered_notes}
+use Rattle.simplex_member.proofs.CallNotes.{call_notes}
 use Rattle.simplex_member.proofs.Lifetimes.{IsHigh, Between, high_known}
 
 -- a living member: its state keeps the rules, and its record follows them
-pub record Living {K L D G : Type 0} (term_length : ℕ) (acts : List (Act D)) (closed kept : ℕ) (entries : List (ArtifactFacts D G)) (x : Facts K L D) : Type 0 where
+pub record Living {K L D G : Type 0} (term_length : ℕ) (acts : List (Act D)) (closed kept : ℕ) (entries : List (ArtifactFacts D G)) (o : Openings K D) (x : Facts K L D) : Type 0 where
   pub keeps : KeepsRules term_length acts x
   pub follows : Follows acts kept entries x
+  pub in_order : InOrder x
+  pub notes : RemembersNotes acts kept entries
+  pub noted : (base : ℕ) × (low : ℕ) × NotesStand base low acts o x
   pub high : IsHigh closed kept entries
   pub within : closed ≤ length entries
 
 -- where a life ends the record is left
-pub living_between : {K L D G : Type 0} (term_length : ℕ) (acts : List (Act D)) (closed kept : ℕ) (entries : List (ArtifactFacts D G)) (x : Facts K L D) → Living term_length acts closed kept entries x → Between term_length acts closed kept entries
-living_between term_length acts closed kept entries x living = record { lawful = living.keeps.lawful; remembers = living.follows.remembers; high = living.high; within = living.within }
+pub living_between : {K L D G : Type 0} (term_length : ℕ) (acts : List (Act D)) (closed kept : ℕ) (entries : List (ArtifactFacts D G)) (o : Openings K D) (x : Facts K L D) → Living term_length acts closed kept entries o x → Between term_length acts closed kept entries
+living_between term_length acts closed kept entries o x living = record { lawful = living.keeps.lawful; remembers = living.follows.remembers; notes = living.notes; high = living.high; within = living.within }
 
 abbrev pub second_broken : List (Bool × RecoverError) → Bool
 second_broken [] = false
@@ -88,12 +98,12 @@ module _ {D G : Type 0} where
       by_record true is = rw is ([], sym (append-nil entries))
       by_record false is = rw is (Accepted (Finalized c) ∷ [], refl)
 
-  high_more : (closed kept : ℕ) (entries more : List (ArtifactFacts D G)) → IsHigh closed kept entries → IsHigh closed kept (entries ++ more)
+  pub high_more : (closed kept : ℕ) (entries more : List (ArtifactFacts D G)) → IsHigh closed kept entries → IsHigh closed kept (entries ++ more)
   high_more closed kept entries more (inl none) = inl none
   high_more closed kept entries more (inr (c, front, back, is, early, above)) =
       inr (c, front, back ++ more, ap (λ es. es ++ more) is ∙ append_assoc front (Accepted (Finalized c) ∷ back) more, early, above)
 
-  within_more : (closed : ℕ) (entries more : List (ArtifactFacts D G)) → closed ≤ length entries → closed ≤ length (entries ++ more)
+  pub within_more : (closed : ℕ) (entries more : List (ArtifactFacts D G)) → closed ≤ length entries → closed ≤ length (entries ++ more)
   within_more closed entries more within = omega (arith, length-append entries more)
 
 module _ {K L D G : Type 0} where
@@ -109,7 +119,7 @@ floor_lawful term_length acts (FinalizedFloor c) lawful = lawful_push term_lengt
 
 module _ {K L D G : Type 0} (same : D → D → Bool) (decides : (d e : D) → same d e ≡ true → d ≡ e) (elect : Elect L) (signature_of : ℕ → Subject D → G) (settings : Settings) (me : Option ℕ) (members : List K) (elector : L) (terms : Terms) (early : Bool) where
   -- a new life from a copy of the record by view
-  pub new_life_lives : (acts : List (Act D)) (closed kept : ℕ) (entries copy : List (ArtifactFacts D G)) (floor : FloorFacts D) (now : ℕ) → Between terms.term_length acts closed kept entries → ((v : ℕ) → filter (λ e. entry_view e == v) copy ≡ filter (λ e. entry_view e == v) entries) → ((e : ArtifactFacts D G) → Contains copy e → (entry_round e).epoch ≡ settings.epoch) → Living terms.term_length (acts ++ floor_acts floor) closed kept (with_floor entries floor) (recovered same elect (new_facts settings me members elector terms early) floor now copy)
+  pub new_life_lives : (acts : List (Act D)) (closed kept : ℕ) (entries copy : List (ArtifactFacts D G)) (floor : FloorFacts D) (now : ℕ) → Between terms.term_length acts closed kept entries → ((v : ℕ) → filter (λ e. entry_view e == v) copy ≡ filter (λ e. entry_view e == v) entries) → ((e : ArtifactFacts D G) → Contains copy e → (entry_round e).epoch ≡ settings.epoch) → Living terms.term_length (acts ++ floor_acts floor) closed kept (with_floor entries floor) no_openings (recovered same elect (new_facts settings me members elector terms early) floor now copy)
   new_life_lives acts closed kept entries copy floor now between by_view epochs =
       let t = terms.term_length in
       let x = recovered same elect (new_facts settings me members elector terms early) floor now copy in
@@ -117,28 +127,40 @@ module _ {K L D G : Type 0} (same : D → D → Bool) (decides : (d e : D) → s
       let into_copy = in_copy acts kept entries between.remembers copy by_view in
       let into_record = in_record acts kept entries between.remembers copy by_view in
       let final : (kept ≡ 0) ⊎ ((c : ProposalFacts D) × Contains copy (Accepted (Finalized c)) × (kept ≤ c.proposal.round.view)) = elim (high_known closed kept entries between.high) [ inl none ↦ inl none | inr c ↦ inr (c.0, into_copy (Accepted (Finalized c.0)) c.1, c.2) ] in
+      let stays = recovered_stays same decides elect settings me members elector terms early acts kept copy floor now between.lawful remembers final in
+      let copied = notes_copied acts kept entries between.notes copy by_view in
+      let noted = recovered_notes same elect settings me members elector terms early acts kept copy floor now copied (λ c h. remembers.accepted (Nullified c) h) final stays.ahead in
       let more = floor_split entries floor in
       let there : (e : ArtifactFacts D G) → Contains copy e → Contains (with_floor entries floor) e =
       λ e h. subst (λ es. Contains es e) (sym more.1) (Contains-append_left entries more.0 e (into_record e h)) in
       record {
         keeps = record {
           lawful = floor_lawful t acts floor between.lawful;
-          stays = recovered_stays same decides elect settings me members elector terms early acts kept copy floor now between.lawful remembers final;
+          stays = stays;
         };
         follows = record {
           remembers = floor_remembers acts kept entries between.remembers floor;
           marked = marked_in copy (with_floor entries floor) x there (recovered_marked same elect signature_of settings me members elector terms early copy floor now epochs);
         };
+        in_order = order_recovered same elect settings me members elector terms early floor now copy;
+        notes = notes_floored acts kept entries floor between.notes;
+        noted = (0, x.finalized + 1, notes_acted 0 (x.finalized + 1) acts (floor_acts floor) no_openings x (floor_casts_none floor) noted);
         high = subst (λ es. IsHigh closed kept es) (sym more.1) (high_more closed kept entries more.0 between.high);
         within = subst (λ es. closed ≤ length es) (sym more.1) (within_more closed entries more.0 between.within);
       }
 
 module _ {K L D G : Type 0} (same : D → D → Bool) (decides : (d e : D) → same d e ≡ true → d ≡ e) (elect : Elect L) (signature_of : ℕ → Subject D → G) (term_length : ℕ) (acts : List (Act D)) (closed kept : ℕ) (entries : List (ArtifactFacts D G)) (x : Facts K L D) where
   -- a call that is allowed and not refused
-  pub call_lives : (call : CallFacts D) → is_allowed x call ≡ true → Living term_length acts closed kept entries x → Living term_length (acts ++ acts_of_call call (answer same elect signature_of x call)) closed kept (entries ++ recorded_by same elect signature_of x call) (after_call same elect signature_of x call)
-  call_lives call allowed living = record {
+  pub call_lives : (o : Openings K D) (call : CallFacts D) → 0 < term_length → is_allowed x call ≡ true → Living term_length acts closed kept entries o x → Living term_length (acts ++ acts_of_call call (answer same elect signature_of x call)) closed kept (entries ++ recorded_by same elect signature_of x call) (closed_by o call) (after_call same elect signature_of x call)
+  call_lives o call some allowed living = record {
     keeps = call_keeps same decides elect signature_of term_length acts x living.keeps call;
     follows = call_follows same elect signature_of term_length acts kept entries x living.keeps.stays living.follows call allowed;
+    in_order = order_call same elect signature_of x living.in_order call;
+    notes = notes_called same elect signature_of x acts kept entries call living.notes;
+    noted =
+        (let noted = living.noted in
+        let left = call_notes same elect signature_of noted.0 noted.1 acts o x noted.2 call (omega (arith, some, living.keeps.stays.stands.terms)) living.keeps.stays.ahead allowed in
+        (left.0, noted.1, left.1));
     high = high_more closed kept entries (recorded_by same elect signature_of x call) living.high;
     within = within_more closed entries (recorded_by same elect signature_of x call) living.within;
   }

@@ -28,7 +28,7 @@ pub none_split : {X : Type 0} (before after : List X) (x : X) → [] ≡ before 
 none_split [] after x e = absurd (cc)
 none_split (b ∷ before) after x e = absurd (cc)
 
-single_split : {X : Type 0} (before after : List X) (y x : X) → y ∷ [] ≡ before ++ x ∷ after → y ≡ x
+pub single_split : {X : Type 0} (before after : List X) (y x : X) → y ∷ [] ≡ before ++ x ∷ after → y ≡ x
 single_split [] after y x e = cc
 single_split (b ∷ []) after y x e = absurd (cc)
 single_split (b ∷ (c ∷ before)) after y x e = absurd (cc)

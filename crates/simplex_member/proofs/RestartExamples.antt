@@ -4,6 +4,7 @@ use Rattle.simplex_types.specs.Config.{Genesis}
 use Rattle.simplex_voter.specs.Facts.{Facts, new_facts}
 use Rattle.simplex_voter.specs.Windows.{min_active}
 use Rattle.simplex_voter.specs.Serving.{notarization_of, prune_answer}
+use Rattle.simplex_member.specs.Openings.{no_openings}
 use Rattle.simplex_member.specs.Cuts.{may_drop, pruned}
 use Rattle.simplex_member.specs.Lives.{MemberFacts}
 use Rattle.simplex_member.specs.Recovery.{taken, recovered}
@@ -16,7 +17,7 @@ Member = MemberFacts ℕ ℕ ℕ ℕ
 
 -- a member that failed, whose record was not pruned yet
 abbrev member : List Entry → Member
-member entries = record { life = None; entries = entries; closed = 0; is_pruned = false; retention = 10; least_retention = 10 }
+member entries = record { life = None; openings = no_openings; entries = entries; closed = 0; is_pruned = false; retention = 10; least_retention = 10 }
 
 -- what was pruned is gone, and what stays is closed
 behind_the_finalized_view : (cut (member (nullify 1 ∷ finalization 20 ∷ [])) 0 true).entries ≡ finalization 20 ∷ []

@@ -15,6 +15,7 @@ use Rattle.simplex_member.specs.declared.member.error.RecoverError.TheVariants a
 use Rattle.simplex_member.specs.Check.{stands}
 use Rattle.simplex_member.specs.Entries.{entries_of, entry_view}
 use Rattle.simplex_voter.specs.Facts.{Facts, Elect}
+use Rattle.simplex_member.specs.Openings.{no_openings}
 use Rattle.simplex_member.specs.Lives.{MemberFacts, fallen}
 use Rattle.simplex_member.specs.Remade.{IsRefusedBy, IsRemadeBy}
 use Rattle.simplex_member.specs.Recovery.{recover_error, is_finalization, with_finalization, with_floor}
@@ -79,7 +80,7 @@ module _ {K L D G : Type 0} (same : D → D → Bool) (elect : Elect L) (m : Mem
 
   -- one whose new state is made
   pub gone_on : (x : Facts K L D) (entries : List (ArtifactFacts D G)) → IsRemadeBy same elect start m.entries x → entries ≡ with_floor m.entries start.floor
-      → GoesOn same elect m start (Ok tt) (record m { life = Some x; entries = entries; retention = start.fresh.settings.view_retention; least_retention = min m.least_retention start.fresh.settings.view_retention })
+      → GoesOn same elect m start (Ok tt) (record m { life = Some x; openings = no_openings; entries = entries; retention = start.fresh.settings.view_retention; least_retention = min m.least_retention start.fresh.settings.view_retention })
   gone_on x entries (copy, by_view, accepted, is) kept = inr (copy, by_view, rw (accepted, is, kept) (refl, refl))
 
 -- what is said of a value that is there, besides what holds where one is

@@ -67,7 +67,7 @@ module _ {K D : Type 0} (acts : List (Act D)) (reached finalized v : ℕ) (r : R
 
 module _ {D : Type 0} (same : D → D → Bool) (decides : (d e : D) → same d e ≡ true → d ≡ e) where
   -- a proposal of one's own takes no other one's place
-  holds_own : (s : SlotFacts D) (p q : Proposal D) → Holds s q → Holds (after_own (same_proposal same) s p) q
+  pub holds_own : (s : SlotFacts D) (p q : Proposal D) → Holds s q → Holds (after_own (same_proposal same) s p) q
   holds_own s p q holds = by_test (holds_or_empty (same_proposal same) s p) refl
     where
       taken_over : s.held ≡ Some q → holds_or_empty (same_proposal same) s p ≡ true → Some p ≡ Some q

@@ -1,16 +1,30 @@
 -- A run goes on by a step, and ends by one that is refused.
-use Rattle.std.proofs.Common.{◌≡◌, refl, sym, ◌∙◌, ℕ, ◌+◌, ◌<◌, Bool, List, [], ◌∷◌, ◌++◌, take, drop, length, get_or, ap, Option, Some, None, inl, inr, ◌⊎◌}
+use Rattle.std.proofs.Common.{◌≡◌, refl, sym, ◌∙◌, ℕ, ◌+◌, ◌<◌, Bool, false, List, [], ◌∷◌, ◌++◌, map, take, drop, length, get_or, ap, Option, Some, None, inl, inr, ◌⊎◌}
 use Rattle.std.proofs.lemmas.List.{take-append-drop, drop_more}
 use Rattle.simplex_types.specs.declared.types.messages.Subject.{Subject}
 use Rattle.simplex_voter.specs.Facts.{Elect}
 use Rattle.simplex_member.specs.declared.member.error.RecoverError.{RecoverError}
 use Rattle.simplex_member.specs.declared.member.error.RecoverError.TheVariants as error
 use Rattle.simplex_member.specs.declared.member.runs.Step.{Step}
-use Rattle.simplex_member.specs.Calls.{Told}
+use Rattle.simplex_member.specs.declared.member.calls.Reply.{Reply}
+use Rattle.simplex_member.specs.declared.member.calls.Reply.TheVariants as reply
+use Rattle.simplex_member.specs.Calls.{Told, told}
 use Rattle.simplex_member.specs.Lives.{MemberFacts}
 use Rattle.simplex_member.specs.Recovery.{recover_error}
 use Rattle.simplex_member.specs.Start.{StartFacts, started, IsDue}
-use Rattle.simplex_member.specs.Runs.{IsSetUp, AreSetUp, StepFacts, IsStep, IsRun, IsRefused, EndsRun, IsRunFrom, EndsRunFrom}
+use Rattle.simplex_member.specs.Runs.{IsSetUp, AreSetUp, StepFacts, is_refusal, IsStep, IsRun, IsRefused, EndsRun, IsRunFrom, EndsRunFrom}
+
+-- no reply tells of a restart that was refused
+pub replies_answer : {S D K G C : Type 0} (bytes_of : C → List ℕ) (r : Reply S D K G C) → is_refusal (told bytes_of r) ≡ false
+replies_answer bytes_of (reply.Added newly leader) = refl
+replies_answer bytes_of (reply.Certified notarization) = refl
+replies_answer bytes_of (reply.Nullify vote) = refl
+replies_answer bytes_of (reply.Finalize vote) = refl
+replies_answer bytes_of (reply.Certificate certificate) = refl
+replies_answer bytes_of (reply.Views views) = refl
+replies_answer bytes_of reply.Restarted = refl
+replies_answer bytes_of (reply.Fault fault) = refl
+replies_answer bytes_of reply.NotAllowed = refl
 
 module _ {K L D G : Type 0} (same : D → D → Bool) (elect : Elect L) (signature_of : ℕ → Subject D → G) where
   -- one more step
@@ -22,12 +36,12 @@ module _ {K L D G : Type 0} (same : D → D → Bool) (elect : Elect L) (signatu
   run_extends m (s ∷ steps) (r ∷ replies) e step told next is taken = (is.0, is.1, run_extends is.0 steps replies e step told next is.2 taken)
 
   -- a step that is refused behind those that were answered, whatever comes after it
-  pub run_ends : (m : MemberFacts K L D G) (steps : List (StepFacts K L D)) (replies : List (Told K D G)) (e : MemberFacts K L D G) (step : StepFacts K L D) (rest : List (StepFacts K L D)) (found : RecoverError)
-      → IsRun same elect signature_of m steps replies e → IsRefused same elect signature_of e step found → EndsRun same elect signature_of m (steps ++ step ∷ rest) found
-  run_ends m [] [] e step rest found is refused = inl (rw is refused)
-  run_ends m [] (r ∷ replies) e step rest found is refused = absurd is
-  run_ends m (s ∷ steps) [] e step rest found is refused = absurd is
-  run_ends m (s ∷ steps) (r ∷ replies) e step rest found is refused = inr (r, is.0, is.1, run_ends is.0 steps replies e step rest found is.2 refused)
+  pub run_ends : {R : Type 0} (told_of : R → Told K D G) (m : MemberFacts K L D G) (steps : List (StepFacts K L D)) (replies : List R) (e : MemberFacts K L D G) (step : StepFacts K L D) (rest : List (StepFacts K L D)) (found : RecoverError)
+      → ((r : R) → is_refusal (told_of r) ≡ false) → IsRun same elect signature_of m steps (map told_of replies) e → IsRefused same elect signature_of e step found → EndsRun same elect signature_of m (steps ++ step ∷ rest) found
+  run_ends told_of m [] [] e step rest found answers is refused = inl (rw is refused)
+  run_ends told_of m [] (r ∷ replies) e step rest found answers is refused = absurd is
+  run_ends told_of m (s ∷ steps) [] e step rest found answers is refused = absurd is
+  run_ends told_of m (s ∷ steps) (r ∷ replies) e step rest found answers is refused = inr (told_of r, is.0, is.1, answers r, run_ends told_of is.0 steps replies e step rest found answers is.2 refused)
 
   module _ (start : StartFacts K L D) (steps : List (StepFacts K L D)) where
     -- a member that started, and took all steps

@@ -285,9 +285,6 @@ module _ {D G : Type 0} (same : D → D → Bool) (epoch : ℕ) (me : Option ℕ
   pub stopped : (all rest : List (ArtifactFacts D G)) (s : Seen D) (e : ArtifactFacts D G) (x : RecoverError) → Tested all (e ∷ rest) s → first_error (next_rules same epoch me s e) ≡ Some x → first_broken_after same epoch me [] all ≡ Some x
   stopped all rest s e x tested broken = sym tested.left ∙ rw (rules_seen all rest s e tested, broken) refl
 
-in_order_of : (b : Bool) (rest : List (Bool × RecoverError)) → first_error ((b, error.OutOfOrder) ∷ rest) ≡ None → b ≡ false
-in_order_of b rest h = unbroken b error.OutOfOrder rest h
-
 pub none_left : (a b : Option RecoverError) → option_or a b ≡ None → b ≡ None
 none_left None b h = h
 none_left (Some x) b h = absurd cc

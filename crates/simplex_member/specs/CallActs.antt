@@ -4,7 +4,7 @@ use Rattle.simplex_types.specs.Certificates.{ArtifactFacts, NotarizeVote, Nullif
 use Rattle.simplex_types.specs.Config.{FloorFacts, Genesis, Finalized}
 use Rattle.simplex_types.specs.declared.types.messages.Subject.TheVariants as subject
 use Rattle.simplex_member.specs.Acts.{Act, Accept, Cast}
-use Rattle.simplex_member.specs.Calls.{CallFacts, AddNotarization, AddNullification, AddFinalization, Told, Added, Nullify, Finalize}
+use Rattle.simplex_member.specs.Calls.{CallFacts, AddNotarization, AddNullification, AddFinalization, Told, Added, Nullify, Finalize, Notarize}
 
 module _ {D : Type 0} where
   -- the certificate that a call hands in is accepted
@@ -34,3 +34,9 @@ module _ {K D G : Type 0} where
   acts_of_call call (Nullify (Some (_, vote))) = cast_by vote
   acts_of_call call (Finalize (Some vote)) = cast_by vote
   acts_of_call call _ = []
+
+module _ {K D G : Type 0} where
+  -- of the calls on the work of a view a vote to notarize alone is an act
+  abbrev pub acts_of_work : Told K D G → List (Act D)
+  acts_of_work (Notarize (Some vote)) = cast_by vote
+  acts_of_work _ = []

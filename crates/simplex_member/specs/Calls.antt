@@ -6,12 +6,18 @@ use Rattle.simplex_types.specs.declared.types.messages.Subject.{Subject}
 use Rattle.simplex_types.specs.declared.types.messages.Subject.TheVariants as subject
 use Rattle.simplex_types.specs.declared.types.messages.Nullify as vote
 use Rattle.simplex_types.specs.declared.types.messages.Finalize as final
+use Rattle.simplex_types.specs.declared.types.messages.Proposal.{Proposal}
+use Rattle.simplex_types.specs.declared.reasons.TimeoutReason.{TimeoutReason}
+use Rattle.simplex_types.specs.declared.reasons.HandoffAbandonedReason.{HandoffAbandonedReason}
+use Rattle.simplex_voter.specs.Proposing.{Request}
+use Rattle.simplex_voter.specs.Verifying.{Verification}
 use Rattle.simplex_voter.specs.Facts.{Facts, Elect, round_number}
 use Rattle.simplex_voter.specs.Refusals.{plain_refusal}
 use Rattle.simplex_voter.specs.Acceptance.{takes_proposal_certificate, takes_nullification, notarization_refusal, nullification_refusal, finalization_refusal, notarization_added, nullification_added, finalization_added, after_add_notarization, after_add_nullification, after_add_finalization}
-use Rattle.simplex_voter.specs.Certification.{takes_verdict, is_first_verdict, certified_refusal, certified_answer, after_certified}
+use Rattle.simplex_voter.specs.Certification.{takes_verdict, is_first_verdict, certified_refusal, certified_answer, after_certified, Fetch}
 use Rattle.simplex_voter.specs.Votes.{nullify_answer, after_construct_nullify, finalize_answer, after_construct_finalize}
 use Rattle.simplex_voter.specs.Serving.{broadcast_notarization_answer, after_broadcast_notarization, broadcast_nullification_answer, after_broadcast_nullification, broadcast_finalization_answer, after_broadcast_finalization, best_certificate, prune_answer, after_prune}
+use Rattle.simplex_member.specs.declared.member.error.RecoverError.{RecoverError}
 use Rattle.simplex_member.specs.declared.member.calls.Call.{Call}
 use Rattle.simplex_member.specs.declared.member.calls.Call.TheVariants as call
 use Rattle.simplex_member.specs.declared.member.calls.Reply.{Reply}
@@ -44,15 +50,25 @@ call_facts bytes_of (call.BroadcastFinalization v) = BroadcastFinalization v
 call_facts bytes_of call.GetBestCertificate = GetBestCertificate
 call_facts bytes_of call.Prune = Prune
 
--- what a reply tells, with votes as the entries that they are recorded as
+-- what a reply tells, with votes as the entries that they are recorded as; and what no reply tells yet: what calls on the work
+-- of a view are told, and why a restart was refused
 pub data Told (K D G : Type 0) : Type 0 where
   Added : Bool → Option K → Told K D G
   Judged : Option (ProposalFacts D) → Told K D G
   Nullify : Option (Bool × ArtifactFacts D G) → Told K D G
   Finalize : Option (ArtifactFacts D G) → Told K D G
+  Notarize : Option (ArtifactFacts D G) → Told K D G
   Handed : Option (CertificateFacts D) → Told K D G
   Dropped : List ℕ → Told K D G
+  Requested : Option (Request K D) → Told K D G
+  Standing : Verification K D → Told K D G
+  Answered : Bool → Told K D G
+  Abandoned : Option HandoffAbandonedReason → Told K D G
+  Candidates : List (Proposal D) → List Fetch → Told K D G
+  TimesOut : Option (ℕ × TimeoutReason) → Told K D G
+  Done : Told K D G
   Restarted : Told K D G
+  NotRestarted : RecoverError → Told K D G
   Refused : Fault → Told K D G
   NotAllowed : Told K D G
 

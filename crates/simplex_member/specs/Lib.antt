@@ -6,7 +6,9 @@ pub mod Cuts
 pub mod Recovery
 pub mod Calls
 pub mod Made
+pub mod Openings
 pub mod Lives
+pub mod Work
 pub mod Start
 pub mod Restarts
 pub mod Remade
@@ -15,3 +17,10 @@ pub mod Acts
 pub mod Network
 pub mod CallActs
 pub mod RunActs
+pub mod LifeLaws
+pub mod Outside
+pub mod Events
+pub mod Sums
+pub mod OwnWork
+pub mod Shows
+pub mod Histories

@@ -1,15 +1,18 @@
 -- What is known of a member, and what a call makes of it.
-use Rattle.std.specs.Prelude.{ℕ, Bool, true, ◌≡◌, ◌⊎◌, if◌then◌else◌, List, ◌++◌, Option, Some, None}
+use Rattle.std.specs.Prelude.{ℕ, Bool, true, false, ◌==◌, not, ◌≡◌, ◌⊎◌, if◌then◌else◌, List, ◌++◌, filter, Option, Some, None}
 use Rattle.simplex_types.specs.Certificates.{ArtifactFacts}
 use Rattle.simplex_types.specs.declared.types.fault.Fault.{Fault}
 use Rattle.simplex_types.specs.declared.types.fault.Fault.TheVariants as fault
 use Rattle.simplex_types.specs.declared.types.messages.Subject.{Subject}
 use Rattle.simplex_voter.specs.Facts.{Facts, Elect}
-use Rattle.simplex_member.specs.Calls.{CallFacts, Told, Refused, NotAllowed, is_allowed, fault_of, answer, after_call, recorded_by}
+use Rattle.simplex_member.specs.Openings.{Openings}
+use Rattle.simplex_member.specs.Calls.{CallFacts, Certified, Told, Refused, NotAllowed, is_allowed, fault_of, answer, after_call, recorded_by}
 
 pub record MemberFacts (K L D G : Type 0) : Type 0 where
   -- what its state knows; none while the member has failed
   pub life : Option (Facts K L D)
+  -- what it has open of its state's answers
+  pub openings : Openings K D
   -- its record, oldest entry first
   pub entries : List (ArtifactFacts D G)
   -- how many of its first entries no later drop takes
@@ -23,6 +26,14 @@ pub record MemberFacts (K L D G : Type 0) : Type 0 where
 -- of a failed member's state nothing is known
 abbrev pub living : {K L D : Type 0} → Bool → Facts K L D → Option (Facts K L D)
 living failed x = if failed then None else Some x
+
+-- the verdict of a view's certification closes its offer
+abbrev pub is_verdict_of : {D : Type 0} → CallFacts D → ℕ → Bool
+is_verdict_of (Certified w _ _) v = v == w
+is_verdict_of _ v = false
+
+abbrev pub closed_by : {K D : Type 0} → Openings K D → CallFacts D → Openings K D
+closed_by o call = record o { offered = filter (λ v. not (is_verdict_of call v)) o.offered }
 
 module _ {K D G : Type 0} where
   -- told, unless a fault is due
@@ -46,10 +57,11 @@ module _ {K L D G : Type 0} (same : D → D → Bool) (elect : Elect L) (signatu
   reply_of x call =
       if is_allowed x call then unless_refused (fault_of x call) (answer same elect signature_of x call) else NotAllowed
 
-  -- with what a call makes of the state, and with what the record grows by
+  -- with what a call makes of the state and of what is open, and with what the record grows by
   abbrev pub with_call : Facts K L D → MemberFacts K L D G → CallFacts D → MemberFacts K L D G
   with_call x m call = record m {
     life = Some (after_call same elect signature_of x call);
+    openings = closed_by m.openings call;
     entries = m.entries ++ recorded_by same elect signature_of x call;
   }
 

@@ -9,6 +9,7 @@ use Rattle.simplex_member.specs.declared.member.error.RecoverError.{RecoverError
 use Rattle.simplex_member.specs.declared.member.error.RecoverError.TheVariants as error
 use Rattle.simplex_member.specs.Entries.{entry_view}
 use Rattle.simplex_member.specs.Cuts.{without_last, pruned}
+use Rattle.simplex_member.specs.Openings.{no_openings}
 use Rattle.simplex_member.specs.Lives.{MemberFacts, fallen}
 use Rattle.simplex_member.specs.Recovery.{recovered, recover_error, with_floor}
 use Rattle.simplex_member.specs.Start.{StartFacts, start_facts}
@@ -52,6 +53,7 @@ module _ {K L D G : Type 0} (same : D → D → Bool) (elect : Elect L) where
   abbrev pub new_life : MemberFacts K L D G → StartFacts K L D → List (ArtifactFacts D G) → MemberFacts K L D G
   new_life m start copy = record m {
     life = Some (recovered same elect start.fresh start.floor start.now copy);
+    openings = no_openings;
     entries = with_floor m.entries start.floor;
     retention = start.fresh.settings.view_retention;
     least_retention = min m.least_retention start.fresh.settings.view_retention;

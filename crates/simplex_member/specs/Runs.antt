@@ -1,5 +1,5 @@
 -- Runs of a member: calls and restarts, one after another.
-use Rattle.std.specs.Prelude.{◌≡◌, ◌⊎◌, ℕ, Bool, List, [], ◌∷◌, length, map, Option, Some, None, Ok, Err}
+use Rattle.std.specs.Prelude.{◌≡◌, ◌⊎◌, ℕ, Bool, true, false, List, [], ◌∷◌, length, map, Option, Some, None, Result, Ok, Err}
 use Rattle.simplex_types.specs.declared.types.window.Terms.{Terms}
 use Rattle.simplex_types.specs.declared.types.messages.Subject.{Subject}
 use Rattle.simplex_voter.specs.Facts.{Elect}
@@ -7,15 +7,17 @@ use Rattle.simplex_member.specs.declared.member.error.RecoverError.{RecoverError
 use Rattle.simplex_member.specs.declared.member.error.RecoverError.TheVariants as error
 use Rattle.simplex_member.specs.declared.member.runs.Step.{Step}
 use Rattle.simplex_member.specs.declared.member.runs.Step.TheVariants as step
-use Rattle.simplex_member.specs.Calls.{CallFacts, call_facts, Told, Restarted}
+use Rattle.simplex_member.specs.Calls.{CallFacts, call_facts, Told, Restarted, NotRestarted}
 use Rattle.simplex_member.specs.Lives.{MemberFacts, IsCall}
+use Rattle.simplex_member.specs.Work.{WorkCall, IsWork}
 use Rattle.simplex_member.specs.Recovery.{recover_error}
 use Rattle.simplex_member.specs.Restarts.{RestartFacts, restart_facts, IsRestart}
 use Rattle.simplex_member.specs.Start.{StartFacts, started}
 
--- a step of a run
+-- a step of a run: a call, one on the work of a view, or a restart
 pub data StepFacts (K L D : Type 0) : Type 0 where
   Calls : CallFacts D → StepFacts K L D
+  Works : WorkCall D → StepFacts K L D
   Restarts : RestartFacts K L D → StepFacts K L D
 
 abbrev pub step_facts : {S L D K G C : Type 0} → (S → Option ℕ) → (S → List K) → (L → Terms) → (L → Bool) → (C → List ℕ) → Step S L D K G C → StepFacts K L D
@@ -34,13 +36,26 @@ abbrev pub AreSetUp : {S L D K G C : Type 0} → (S → List K) → (L → ℕ) 
 AreSetUp participants members [] = Unit {0}
 AreSetUp participants members (step ∷ steps) = IsSetUp participants members step × AreSetUp participants members steps
 
+module _ {K D G : Type 0} where
+  -- what a restart is told
+  abbrev pub restart_told : Result (Unit {0}) RecoverError → Told K D G
+  restart_told (Ok _) = Restarted
+  restart_told (Err e) = NotRestarted e
+
+  -- a restart is told that it was refused
+  abbrev pub is_refusal : Told K D G → Bool
+  is_refusal (NotRestarted _) = true
+  is_refusal _ = false
+
 module _ {K L D G : Type 0} (same : D → D → Bool) (elect : Elect L) (signature_of : ℕ → Subject D → G) where
-  -- a call is answered, or a restart is not refused
+  -- a call is answered, and a restart succeeds or is refused
   abbrev pub IsStep : MemberFacts K L D G → StepFacts K L D → Told K D G → MemberFacts K L D G → Type 0
   IsStep m (Calls call) told next = IsCall same elect signature_of m call told next
-  IsStep m (Restarts r) told next = IsRestart same elect m r (Ok tt) next × (told ≡ Restarted)
+  IsStep m (Works call) told next = IsWork same elect signature_of m call told next
+  IsStep m (Restarts r) told next =
+      (result : Result (Unit {0}) RecoverError) × IsRestart same elect m r result next × (told ≡ restart_told result)
 
-  -- one reply a step, each by what the steps before it left
+  -- each step is told something, by what the steps before it left
   abbrev pub IsRun : MemberFacts K L D G → List (StepFacts K L D) → List (Told K D G) → MemberFacts K L D G → Type 0
   IsRun m [] [] end = m ≡ end
   IsRun m [] (told ∷ rest) end = ⊥
@@ -51,14 +66,19 @@ module _ {K L D G : Type 0} (same : D → D → Bool) (elect : Elect L) (signatu
   -- a step is a restart that is refused by this error
   abbrev pub IsRefused : MemberFacts K L D G → StepFacts K L D → RecoverError → Type 0
   IsRefused m (Calls call) found = ⊥
+  IsRefused m (Works call) found = ⊥
   IsRefused m (Restarts r) found = (left : MemberFacts K L D G) × IsRestart same elect m r (Err found) left
 
-  -- some step is, behind those that are answered
+  -- some step is, and none before it
   abbrev pub EndsRun : MemberFacts K L D G → List (StepFacts K L D) → RecoverError → Type 0
   EndsRun m [] found = ⊥
   EndsRun m (step ∷ steps) found =
       IsRefused m step found
-      ⊎ ((told : Told K D G) × (next : MemberFacts K L D G) × IsStep m step told next × EndsRun next steps found)
+      ⊎ ((told : Told K D G)
+      × (next : MemberFacts K L D G)
+      × IsStep m step told next
+      × (is_refusal told ≡ false)
+      × EndsRun next steps found)
 
   -- a member starts, and takes the steps
   unfoldable pub IsRunFrom : StartFacts K L D → List (StepFacts K L D) → List (Told K D G) → Type 0

@@ -12,6 +12,7 @@ use Rattle.simplex_member.specs.declared.member.error.RecoverError.{RecoverError
 use Rattle.simplex_member.specs.declared.member.error.RecoverError.TheVariants as error
 use Rattle.simplex_member.specs.declared.member.start.Start.{Start}
 use Rattle.simplex_member.specs.Recovery.{with_floor}
+use Rattle.simplex_member.specs.Openings.{no_openings}
 use Rattle.simplex_member.specs.Lives.{MemberFacts}
 
 -- what a new state of these settings knows
@@ -36,6 +37,7 @@ start_facts me members terms elects_early bytes_of start = record {
 abbrev pub started : {K L D G : Type 0} → (D → D → Bool) → Elect L → Facts K L D → FloorFacts D → ℕ → MemberFacts K L D G
 started same elect x floor now = record {
   life = Some (after_set_floor same elect x floor now);
+  openings = no_openings;
   entries = with_floor [] floor;
   closed = 0;
   is_pruned = false;

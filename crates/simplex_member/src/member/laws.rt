@@ -46,19 +46,20 @@ pub fn premises_can_be_met()
 
 /// What a member does over all its lives keeps the voting rules, `IsLawful`. It does nothing: its contract is the law.
 ///
-/// A run is a start, and calls and restarts in whatever order, each call answered or refused. A restart may drop the last
-/// entries of the record and prune it, and may have other settings, another scheme and another floor; only the length of
-/// the terms is the same in each life. The acts are those of all lives together: each certificate that was handed in and
-/// told whether it was new, each floor's finalization, and each vote that was answered.
+/// A run is a start, and calls and restarts in whatever order, each answered or refused. Its calls are those of `Call`, and
+/// those on the work of a view: to build, verify, notarize, certify and time out, as the voter's definitions have them,
+/// though `Member` makes none of these yet. A restart may drop the last entries of the record and prune it, and may have
+/// other settings, another scheme and another floor; only the length of the terms, which is not 0, is the same in each life.
+/// Each life begins with a state that knows nothing but how it was set up, `IsFresh`. The acts are those of all lives
+/// together: each certificate that was handed in and told whether it was new, the floor's finalization of each start and of
+/// each restart that was not refused, and each vote that was answered.
 pub fn votes_are_lawful<S: Scheme<D>, L: Elector<S>, D: Digest>()
     ensures { (term_length : ℕ) (start : StartFacts S.PublicKey L D) (steps : List (StepFacts S.PublicKey L D)) (replies : List (Told S.PublicKey D S.Signature)) → IsFresh term_length start.fresh → BeginFresh term_length steps → IsRunFrom D.eq L.elect S.signature_of start steps replies → IsLawful term_length (floor_acts start.floor ++ acts_of_run steps replies) }
 {}
 
-/// Agreement of a network whose correct members are members of this crate: the acts of each are those of a run, with
-/// whatever calls and restarts, in terms of one length. The other premises and the claims are those of `agreement`.
-///
-/// As long as no call casts a vote to notarize, correct members back no notarization, so that such a network finalizes
-/// nothing, and of it the claims say little; `agreement` says them of every network whose members keep the rules.
+/// Agreement of a network whose correct members are members of this crate: the acts of each are those of a run, as
+/// `votes_are_lawful` has them, with whatever calls and restarts, in terms of one length. The other premises and the claims
+/// are those of `agreement`.
 pub fn agreement_of_runs<S: Scheme<D>, L: Elector<S>, D: Digest>()
     ensures one_proposal { (term_length : ℕ) (network : List (Member D)) (p q : Proposal D) → IsNetwork (IsActsOfRun S.PublicKey D.eq L.elect S.signature_of term_length) network → IsCertified network p → IsCertified network q → p.round.view ≡ q.round.view → p ≡ q }
     ensures finalized_uncovered { (term_length : ℕ) (network : List (Member D)) (final : Proposal D) (round : Round) → IsNetwork (IsActsOfRun S.PublicKey D.eq L.elect S.signature_of term_length) network → IsBacked network (Finalize final) → IsBacked network (Nullify round) → covers term_length round.view final.round.view ≡ false }

@@ -40,10 +40,11 @@ impl<S: CertificateScheme, L: Elector<S>, D: Digest> Model for Member<S, L, D> {
     ghost use Rattle.simplex_voter.specs.Refusals.{is_started};
     ghost use Rattle.simplex_member.specs.Entries.{entries_of};
     ghost use Rattle.simplex_member.specs.Lives.{MemberFacts, living};
+    ghost use Rattle.simplex_member.specs.Openings.{no_openings};
 
     ghost Value = { MemberFacts S.PublicKey L D S.Signature };
 
-    ghost view = { λ m. record { life = living m.failed m.state; entries = entries_of S.certificate_bytes m.artifacts.items; closed = m.closed; is_pruned = m.is_pruned; retention = m.retention; least_retention = m.least_retention } };
+    ghost view = { λ m. record { life = living m.failed m.state; openings = no_openings; entries = entries_of S.certificate_bytes m.artifacts.items; closed = m.closed; is_pruned = m.is_pruned; retention = m.retention; least_retention = m.least_retention } };
 
     ghost invariant = { λ m. m.failed ≡ false → (m.state.failed ≡ false) × (is_started m.state ≡ true) };
 }

@@ -5,7 +5,7 @@ use Rattle.std.proofs.lemmas.List.{map-append}
 use Rattle.std.proofs.lemmas.Result.{err_from_is_err_and}
 use Rattle.simplex_member.specs.Calls.{told}
 use Rattle.simplex_member.specs.Runs.{step_facts}
-use Rattle.simplex_member.proofs.Runs.{run_extends, run_ends, met_next, set_up_at}
+use Rattle.simplex_member.proofs.Runs.{run_extends, run_ends, replies_answer, met_next, set_up_at}
 use Rattle.simplex_member.proofs.member.runs.take_steps.Goals as goal
 
 pub take_step-requires : goal.take_step-requires
@@ -37,7 +37,7 @@ returns-in_err-reply-clause-ended g c =
     let p = err_from_is_err_and c.from_residual-in_err-reply.result c.from_residual-in_err-reply.ensures.1 in
     rw (p.1, p.2)
     (inr (rw (ap (map facts_of) is, map-append facts_of c.loop-step.yielded (c.in-Some.step ∷ rest))
-    (run_ends g.D.PartialEq.eq g.L.Elector.elect g.S.Scheme.signature_of c.args.member.now (map facts_of c.loop-step.yielded) (map (told bytes_of) c.loop-step.replies.items) c.loop-step.member (facts_of c.in-Some.step) (map facts_of rest) c.in_err-reply.field-0.0 c.loop-step.invariant c.in_err-reply.ensures.refused)))
+    (run_ends g.D.PartialEq.eq g.L.Elector.elect g.S.Scheme.signature_of (told bytes_of) c.args.member.now (map facts_of c.loop-step.yielded) c.loop-step.replies.items c.loop-step.member (facts_of c.in-Some.step) (map facts_of rest) c.in_err-reply.field-0.0 (replies_answer bytes_of) c.loop-step.invariant c.in_err-reply.ensures.refused)))
 
 pub returns-clause-whole : goal.returns-clause-whole
 returns-clause-whole g c =

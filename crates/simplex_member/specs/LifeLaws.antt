@@ -1,0 +1,119 @@
+-- What each life of a member keeps. A life lies between a start or a restart and the next one.
+use Rattle.std.specs.Prelude.{◌≡◌, ◌⊎◌, ℕ, ◌<◌, ◌≤◌, Bool, true, false, List, [], ◌∷◌, ◌++◌, map, nat_eq, Contains, Option, Some, None}
+use Rattle.std.specs.List.{IsDistinct}
+use Rattle.simplex_types.specs.Certificates.{CertificateFacts, Notarized, Nullified, Finalized}
+use Rattle.simplex_types.specs.declared.types.messages.Subject.{Subject}
+use Rattle.simplex_voter.specs.Facts.{Facts, Elect, round_of, is_tracked}
+use Rattle.simplex_voter.specs.Windows.{min_active}
+use Rattle.simplex_member.specs.Calls.{CallFacts, BroadcastNotarization, BroadcastNullification, BroadcastFinalization, Told, Handed, Dropped}
+use Rattle.simplex_member.specs.Entries.{certificate_round}
+use Rattle.simplex_member.specs.Lives.{MemberFacts}
+use Rattle.simplex_member.specs.Recovery.{recover_error}
+use Rattle.simplex_member.specs.Runs.{StepFacts, Calls, Works, IsRun}
+use Rattle.simplex_member.specs.Start.{StartFacts, started}
+use Rattle.simplex_member.specs.Work.{WorkCall}
+
+-- a call of a life: any but a restart
+pub data LifeCall (D : Type 0) : Type 0 where
+  Calling : CallFacts D → LifeCall D
+  Working : WorkCall D → LifeCall D
+
+module _ {K L D : Type 0} where
+  -- as the step of a run
+  abbrev pub as_step : LifeCall D → StepFacts K L D
+  as_step (Calling call) = Calls call
+  as_step (Working call) = Works call
+
+  abbrev pub as_steps : List (LifeCall D) → List (StepFacts K L D)
+  as_steps calls = map (λ call. as_step call) calls
+
+module _ {K L D G : Type 0} (same : D → D → Bool) (elect : Elect L) (signature_of : ℕ → Subject D → G) where
+  -- calls within one life, one reply a call: a run without a restart
+  abbrev pub IsLife : MemberFacts K L D G → List (LifeCall D) → List (Told K D G) → MemberFacts K L D G → Type 0
+  IsLife m calls replies end = IsRun same elect signature_of m (as_steps calls) replies end
+
+  -- a run from a start leads to a member, and these calls go on from there within its life
+  pub record IsLifeOfRun (start : StartFacts K L D) (steps : List (StepFacts K L D)) (told : List (Told K D G)) (m : MemberFacts K L D G) (calls : List (LifeCall D)) (replies : List (Told K D G)) (end : MemberFacts K L D G) : Type 0 where
+    pub accepted : recover_error {G = G} same start.fresh start.floor start.now [] ≡ None
+    pub reached : IsRun same elect signature_of (started same elect start.fresh start.floor start.now) steps told m
+    pub life : IsLife m calls replies end
+
+-- this holds of the first state and the last one, unless the member has failed by then; no state comes after a failure
+abbrev pub WhileAlive : {K L D : Type 0} → (Facts K L D → Facts K L D → Type 0) → Option (Facts K L D) → Option (Facts K L D) → Type 0
+WhileAlive Holds first None = Unit {0}
+WhileAlive Holds None (Some last) = ⊥
+WhileAlive Holds (Some first) (Some last) = Holds first last
+
+-- neither the current view nor the last finalized one falls
+pub record NeverFalls {K L D : Type 0} (first last : Facts K L D) : Type 0 where
+  pub current : first.current ≤ last.current
+  pub finalized : first.finalized ≤ last.finalized
+
+-- a proposal of the view was seen that contradicts another
+abbrev pub is_conflicted : {K L D : Type 0} → Facts K L D → ℕ → Bool
+is_conflicted x v = (round_of x v).slot.conflict
+
+-- a call was told that it dropped the view
+abbrev pub IsDropped : {K D G : Type 0} → List (Told K D G) → ℕ → Type 0
+IsDropped replies v = (views : List ℕ) × Contains replies (Dropped views) × Contains views v
+
+-- the view was dropped, and lies below what is kept
+pub record IsPruned {K L D G : Type 0} (replies : List (Told K D G)) (last : Facts K L D) (v : ℕ) : Type 0 where
+  pub dropped : IsDropped replies v
+  pub below : v < min_active last
+
+-- a conflict of a view stays until the view is pruned
+abbrev pub ConflictsStay : {K L D G : Type 0} → List (Told K D G) → Facts K L D → Facts K L D → Type 0
+ConflictsStay replies first last = (v : ℕ) → is_conflicted first v ≡ true → (is_conflicted last v ≡ true) ⊎ IsPruned replies last v
+
+-- what was dropped isn't tracked again
+abbrev pub DroppedForGood : {K L D G : Type 0} → List (Told K D G) → Facts K L D → Facts K L D → Type 0
+DroppedForGood replies first last = (v : ℕ) → IsDropped replies v → is_tracked last v ≡ false
+
+-- the kinds of certificates
+pub data Kind : Type 0 where
+  Notarization : Kind
+  Nullification : Kind
+  Finalization : Kind
+
+module _ {D : Type 0} where
+  -- the view whose certificate of this kind a call asks for, to broadcast it
+  abbrev pub asked_by : Kind → CallFacts D → List ℕ
+  asked_by Notarization (BroadcastNotarization v) = v ∷ []
+  asked_by Nullification (BroadcastNullification v) = v ∷ []
+  asked_by Finalization (BroadcastFinalization v) = v ∷ []
+  asked_by kind _ = []
+
+module _ {K D G : Type 0} where
+  -- that view, where the call is told a certificate
+  abbrev pub handed_by : Kind → LifeCall D → Told K D G → List ℕ
+  handed_by kind (Calling call) (Handed (Some _)) = asked_by kind call
+  handed_by kind (Calling call) _ = []
+  handed_by kind (Working call) _ = []
+
+  -- the views whose certificates of this kind are handed out to broadcast, in turn
+  abbrev pub handed_in : Kind → List (LifeCall D) → List (Told K D G) → List ℕ
+  handed_in kind (call ∷ calls) (told ∷ replies) = handed_by kind call told ++ handed_in kind calls replies
+  handed_in kind _ _ = []
+
+  -- none is handed out twice
+  abbrev pub HandedOnce : List (LifeCall D) → List (Told K D G) → Type 0
+  HandedOnce calls replies = (kind : Kind) → IsDistinct nat_eq (handed_in kind calls replies)
+
+module _ {D : Type 0} where
+  abbrev pub kind_of : CertificateFacts D → Kind
+  kind_of (Notarized _) = Notarization
+  kind_of (Nullified _) = Nullification
+  kind_of (Finalized _) = Finalization
+
+module _ {K D G : Type 0} where
+  -- the certificate that a call is told is of the kind and the view that it asks for
+  abbrev pub IsAsAsked : CallFacts D → Told K D G → Type 0
+  IsAsAsked call told =
+      (kind : Kind) (v : ℕ) (c : CertificateFacts D) → asked_by kind call ≡ v ∷ [] → told ≡ Handed (Some c) → (kind_of c ≡ kind) × ((certificate_round c).view ≡ v)
+
+  -- so it is of each call
+  abbrev pub HandedAsAsked : List (LifeCall D) → List (Told K D G) → Type 0
+  HandedAsAsked (Calling call ∷ calls) (told ∷ replies) = IsAsAsked call told × HandedAsAsked calls replies
+  HandedAsAsked (Working call ∷ calls) (told ∷ replies) = HandedAsAsked calls replies
+  HandedAsAsked _ _ = Unit {0}

@@ -1,0 +1,64 @@
+-- What a member has open of its state's answers: it is kept beside the state, and each life begins with nothing open.
+use Rattle.std.specs.Prelude.{ℕ, Bool, ◌==◌, not, List, [], ◌∷◌, ◌++◌, map, filter, slice_get, Option, Some, None}
+use Rattle.std.specs.List.{list_any}
+use Rattle.simplex_types.specs.declared.types.messages.Context.{Context}
+use Rattle.simplex_types.specs.declared.types.messages.Proposal.{Proposal}
+use Rattle.simplex_voter.specs.Proposing.{Request, request_context}
+use Rattle.simplex_voter.specs.Verifying.{Verification, Verify, Resolve, Wait}
+
+pub record Openings (K D : Type 0) : Type 0 where
+  -- what this member was last asked to build on, one context a view
+  pub contexts : List (Context D K)
+  -- the views whose proposal is being verified
+  pub verifying : List ℕ
+  -- the views whose proposal was offered for certification, and that have no verdict yet
+  pub offered : List ℕ
+
+abbrev pub no_openings : {K D : Type 0} → Openings K D
+no_openings = record { contexts = []; verifying = []; offered = [] }
+
+abbrev pub all_but : ℕ → List ℕ → List ℕ
+all_but v views = filter (λ u. not (u == v)) views
+
+abbrev pub is_among : ℕ → List ℕ → Bool
+is_among v views = list_any (λ u. u == v) views
+
+module _ {K D : Type 0} where
+  -- contexts
+
+  abbrev pub context_at : Openings K D → ℕ → Option (Context D K)
+  context_at o v = slice_get (filter (λ (context : Context D K). context.round.view == v) o.contexts) 0
+
+  abbrev pub without_context : Openings K D → ℕ → Openings K D
+  without_context o v = record o { contexts = filter (λ (context : Context D K). not (context.round.view == v)) o.contexts }
+
+  abbrev pub with_context : Openings K D → Context D K → Openings K D
+  with_context o context = record o { contexts = context ∷ (without_context o context.round.view).contexts }
+
+  abbrev pub with_request : Openings K D → Option (Request K D) → Openings K D
+  with_request o None = o
+  with_request o (Some request) = with_context o (request_context request)
+
+  -- proposals to verify
+
+  abbrev pub is_verifying : Openings K D → ℕ → Bool
+  is_verifying o v = is_among v o.verifying
+
+  abbrev pub without_verification : Openings K D → ℕ → Openings K D
+  without_verification o v = record o { verifying = all_but v o.verifying }
+
+  abbrev pub with_verification : Openings K D → Verification K D → Openings K D
+  with_verification o (Verify context p) = record o { verifying = p.round.view ∷ all_but p.round.view o.verifying }
+  with_verification o (Resolve proposal view kind target) = o
+  with_verification o Wait = o
+
+  -- offers
+
+  abbrev pub is_offered : Openings K D → ℕ → Bool
+  is_offered o v = is_among v o.offered
+
+  abbrev pub without_offer : Openings K D → ℕ → Openings K D
+  without_offer o v = record o { offered = all_but v o.offered }
+
+  abbrev pub with_offers : Openings K D → List (Proposal D) → Openings K D
+  with_offers o proposals = record o { offered = map (λ (p : Proposal D). p.round.view) proposals ++ o.offered }
