@@ -14,9 +14,8 @@ use Rattle.simplex_voter.proofs.Gaps.{and_parts}
 use Rattle.simplex_voter.proofs.Rules.{nullify_parts}
 use Rattle.simplex_member.specs.Recovery.{as_artifact}
 use Rattle.simplex_member.specs.Events.{Event, IsEvent, after_event, AddNullification, ConstructNullify, Prune, Replay}
-use Rattle.simplex_member.specs.Sums.{covers_from, is_prune}
+use Rattle.simplex_member.specs.Sums.{covers_from, is_prune, is_among}
 use Rattle.simplex_member.specs.OwnWork.{casts_nullify}
-use Rattle.simplex_member.specs.Shows.{is_among}
 use Rattle.simplex_member.proofs.FollowingHanded.{and_false}
 
 module _ {K L D : Type 0} (low : ℕ) (x : Facts K L D) (active : low ≤ min_active x) where

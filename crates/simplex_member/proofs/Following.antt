@@ -11,9 +11,8 @@ use Rattle.simplex_round.specs.Round.{RoundFacts}
 use Rattle.simplex_voter.specs.Facts.{Facts, Elect, round_of, is_tracked, with_round}
 use Rattle.simplex_voter.specs.Windows.{min_active}
 use Rattle.simplex_member.specs.Events.{Event}
-use Rattle.simplex_member.specs.Sums.{notarizes, nullifies, finalizes, judges, covers_from, sets_genesis, finalized_by, entered_by, moment_by, is_prune, or_new}
+use Rattle.simplex_member.specs.Sums.{notarizes, nullifies, finalizes, judges, covers_from, sets_genesis, finalized_by, entered_by, moment_by, is_prune, or_new, is_among}
 use Rattle.simplex_member.specs.OwnWork.{contradicts, hands_out_notarization, hands_out_nullification, hands_out_finalization, decides_nullify, casts_nullify, settles, hears, decides_finalize, decides_notarize, owns}
-use Rattle.simplex_member.specs.Shows.{is_among}
 use Rattle.simplex_member.proofs.Growing.{round_of-put, round_of-same}
 use Rattle.simplex_member.proofs.NotedVotes.{tied}
 use Rattle.simplex_member.proofs.Leaving.{Known, known_of, Alike, Leaves}

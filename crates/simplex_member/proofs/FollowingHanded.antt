@@ -23,9 +23,9 @@ use Rattle.simplex_voter.specs.Acceptance.{with_notarization_at, with_nullificat
 use Rattle.simplex_voter.proofs.Elsewhere.{round_of-with_round}
 use Rattle.simplex_voter.proofs.Gaps.{and_parts}
 use Rattle.simplex_member.specs.Events.{SetFloor, AddNotarization, AddNullification, AddFinalization, Certified}
-use Rattle.simplex_member.specs.Sums.{entered_by}
+use Rattle.simplex_member.specs.Sums.{entered_by, is_among}
 use Rattle.simplex_member.specs.OwnWork.{contradicts}
-use Rattle.simplex_member.specs.Shows.{verdict_of, is_among}
+use Rattle.simplex_member.specs.Shows.{verdict_of}
 use Rattle.simplex_member.proofs.Growing.{round_of-same}
 use Rattle.simplex_member.proofs.Leaving.{Known, known_of, Alike, Leaves, Quiet, quiet, then_quiet, both_quiet, leaves_joined, quiet_where, moment_leaves, entered_leaves, raised_leaves, named_quiet, slid_quiet, triggered_quiet, elected_quiet, woken_quiet}
 use Rattle.simplex_member.proofs.Leaving.{put_ordered}

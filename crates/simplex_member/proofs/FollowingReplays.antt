@@ -15,8 +15,7 @@ use Rattle.simplex_voter.specs.Leaders.{prepared}
 use Rattle.simplex_voter.specs.Replay.{TakesReplay, bound_again, restored_binding}
 use Rattle.simplex_member.specs.Recovery.{as_artifact, replayed}
 use Rattle.simplex_member.specs.Events.{Event, IsEvent, after_event, SetFloor, AddNotarization, AddNullification, AddFinalization, Certified, ConstructNotarize, ConstructNullify, ConstructFinalize, SetProposal, TryPropose, Proposed, Supersede, Release, TryVerify, Verified, VerificationFailed, CertifyCandidates, SetCertifyHandle, TriggerTimeout, NextTimeout, BroadcastNotarization, BroadcastNullification, BroadcastFinalization, Prune, Replay}
-use Rattle.simplex_member.specs.Sums.{moment_by}
-use Rattle.simplex_member.specs.Shows.{is_among}
+use Rattle.simplex_member.specs.Sums.{moment_by, is_among}
 use Rattle.simplex_member.proofs.Leaving.{put_ordered, known_of, Leaves, Quiet, prepared_quiet}
 use Rattle.simplex_member.proofs.Following.{adds, Follows, IsSilent, among_noted, put_between, put_alone, silent_follows}
 use Rattle.simplex_member.proofs.FollowingHanded.{verdict_first, notarization_follows, finalization_follows, floor_finalization_follows, nullification_follows, genesis_follows, verdict_follows}

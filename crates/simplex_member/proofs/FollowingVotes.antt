@@ -26,9 +26,8 @@ use Rattle.simplex_voter.specs.Verifying.{with_proposal, after_set_proposal}
 use Rattle.simplex_voter.specs.Serving.{after_broadcast_notarization, after_broadcast_nullification, after_broadcast_finalization, after_prune}
 use Rattle.simplex_voter.proofs.Rules.{nullify_parts, finalize_parts}
 use Rattle.simplex_member.specs.Events.{ConstructNotarize, ConstructNullify, ConstructFinalize, SetProposal, Proposed, BroadcastNotarization, BroadcastNullification, BroadcastFinalization, Prune}
-use Rattle.simplex_member.specs.Sums.{or_new}
+use Rattle.simplex_member.specs.Sums.{or_new, is_among}
 use Rattle.simplex_member.specs.OwnWork.{contradicts}
-use Rattle.simplex_member.specs.Shows.{is_among}
 use Rattle.simplex_member.proofs.NotedVotes.{tied}
 use Rattle.simplex_member.proofs.Leaving.{from_T, put_ordered, known_of, Quiet, prepared_quiet}
 use Rattle.simplex_member.proofs.Following.{adds, Follows, among_noted, nothing_added, put_between, put_alone}

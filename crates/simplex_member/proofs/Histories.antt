@@ -4,16 +4,23 @@ use Rattle.std.specs.Option.{option_or, option_map_or}
 use Rattle.std.proofs.lemmas.Bool.{cases_eq, cases_lt, ne_eqb, true≢false}
 use Rattle.simplex_types.specs.Config.{Finalized}
 use Rattle.simplex_types.specs.Certificates.{ArtifactFacts, Verdict}
-use Rattle.simplex_round.specs.Round.{RoundFacts, is_judged, is_nullify, is_finalize}
+use Rattle.simplex_round.specs.Round.{RoundFacts, is_judged}
 use Rattle.simplex_voter.specs.Facts.{Facts, Elect, round_at, round_of, is_tracked}
 use Rattle.simplex_voter.specs.Certification.{takes_verdict}
 use Rattle.simplex_voter.proofs.Gaps.{and_parts}
 use Rattle.simplex_member.specs.Events.{Event, History, with_event, IsEvent, after_event, SetFloor, AddFinalization, Certified, Replay}
-use Rattle.simplex_member.specs.Sums.{or_new, judges, entered_by, finalized_by, moment_by, latest, is_prune, notarizes, nullifies, finalizes, covers_from, sets_genesis, verdict_in, is_notarized_in, finalized_in, current_in, kept_in}
-use Rattle.simplex_member.specs.OwnWork.{contradicts, was_done, held_in, conflict_in, hands_out_notarization, hands_out_nullification, hands_out_finalization, decides_nullify, casts_nullify, settles, hears, decides_finalize, decides_notarize, owns}
-use Rattle.simplex_member.specs.Shows.{Shows, is_among, kept_of}
+use Rattle.simplex_member.specs.Sums.{or_new, judges, entered_by, finalized_by, moment_by, latest, is_prune, covers_from, sets_genesis, verdict_in, is_notarized_in, finalized_in, current_in, kept_in, is_among}
+use Rattle.simplex_member.specs.OwnWork.{was_done, casts_nullify}
+use Rattle.simplex_member.specs.Leading.{tracks}
+use Rattle.simplex_member.specs.Requested.{names}
+use Rattle.simplex_member.specs.Timing.{enters}
+use Rattle.simplex_member.specs.Shows.{Shows, kept_of, comes_up}
 use Rattle.simplex_member.proofs.Following.{Follows, left_from}
 use Rattle.simplex_member.proofs.FollowingReplays.{event_follows}
+use Rattle.simplex_member.proofs.EventsWorked.{event_works}
+use Rattle.simplex_member.proofs.ShownRounds.{round_further}
+use Rattle.simplex_member.proofs.ShownWork.{done_further, known_further}
+use Rattle.simplex_member.proofs.Worked.{WorkFollows}
 use Rattle.simplex_member.proofs.Dropped.{event_unseen, event_dropped}
 use Rattle.simplex_member.proofs.DroppedNotes.{covers_above, casts_above, nullified_dropped, votes_dropped}
 use Rattle.simplex_voter.specs.Windows.{min_active}
@@ -71,7 +78,7 @@ module _ {K D G : Type 0} where
 module _ {K L D G : Type 0} (same : D → D → Bool) (elect : Elect L) (history : History K L D G) (x : Facts K L D) (shows : Shows same elect history x) where
   -- a view for which a verdict may be given is tracked where a notarization was handed in
   tracked_notarized : (v : ℕ) (success : Bool) → takes_verdict x v success ≡ true → kept_of history ≤ v → is_tracked x v ≡ is_notarized_in history.events v
-  tracked_notarized v success takes kept = notarized (round_at x v) refl ∙ ap is_some (shows.notarization v kept)
+  tracked_notarized v success takes kept = notarized (round_at x v) refl ∙ ap (λ (r : RoundFacts K D). is_some r.notarization) (shows.rounds v kept)
     where
       notarized : (o : Option (RoundFacts K D)) → round_at x v ≡ o → is_tracked x v ≡ is_some (round_of x v).notarization
       notarized None none = rw none refl
@@ -132,28 +139,18 @@ module _ {K L D G : Type 0} (same : D → D → Bool) (elect : Elect L) (history
     moment = follows.moment ∙ ap (unwrap_or (moment_by e)) shows.moment ∙ moment_follows (moment_by e) events;
     nullified = λ v kept. follows.nullified v (left v kept) ∙ ap (λ b. covers_from v e || b) (shows.nullified v (earlier v kept));
     nullify_votes = λ v kept. follows.nullify_votes v (left v kept) ∙ done (casts_nullify v) (is_among x.nullify_votes v) (shows.nullify_votes v (earlier v kept));
-    notarization = λ v kept. ap (λ k. k.notarization) (follows.rounds v (left v kept)) ∙ ap (λ o. or_new o (notarizes v e)) (shows.notarization v (earlier v kept));
-    nullification = λ v kept. ap (λ k. k.nullification) (follows.rounds v (left v kept)) ∙ ap (λ o. or_new o (nullifies v e)) (shows.nullification v (earlier v kept));
-    finalization = λ v kept. ap (λ k. k.finalization) (follows.rounds v (left v kept)) ∙ ap (λ o. or_new o (finalizes v e)) (shows.finalization v (earlier v kept));
     verdict = λ v kept.
         ap (λ k. k.verdict) (follows.rounds v (left v kept))
         ∙ ap (λ o. or_new o (judges (is_tracked x) v e)) (shows.verdict v (earlier v kept))
         ∙ ap (or_new (verdict_in v events)) (judged_alike e allowed v (earlier v kept));
-    notarization_broadcast = λ v kept. ap (λ k. k.notarization_broadcast) (follows.rounds v (left v kept)) ∙ done (hands_out_notarization v) (round_of x v).notarization_broadcast (shows.notarization_broadcast v (earlier v kept));
-    nullification_broadcast = λ v kept. ap (λ k. k.nullification_broadcast) (follows.rounds v (left v kept)) ∙ done (hands_out_nullification v) (round_of x v).nullification_broadcast (shows.nullification_broadcast v (earlier v kept));
-    finalization_broadcast = λ v kept. ap (λ k. k.finalization_broadcast) (follows.rounds v (left v kept)) ∙ done (hands_out_finalization v) (round_of x v).finalization_broadcast (shows.finalization_broadcast v (earlier v kept));
-    notarize_decided = λ v kept. ap (λ k. k.notarize_decided) (follows.rounds v (left v kept)) ∙ done (decides_notarize same elect v) (round_of x v).notarize_decided (shows.notarize_decided v (earlier v kept));
-    nullify_decided = λ v kept. ap (λ k. k.nullify_decided) (follows.rounds v (left v kept)) ∙ done (decides_nullify v) (is_nullify (round_of x v).decision) (shows.nullify_decided v (earlier v kept));
-    finalize_decided = λ v kept. ap (λ k. k.finalize_decided) (follows.rounds v (left v kept)) ∙ done (decides_finalize same elect v) (is_finalize (round_of x v).decision) (shows.finalize_decided v (earlier v kept));
-    held = λ v kept.
-        ap (λ k. k.held) (follows.rounds v (left v kept))
-        ∙ ap (λ h. option_or (settles v x e) (or_new h (option_or (hears v x e) (owns same elect v x e)))) (shows.held v (earlier v kept))
-        ∙ ap (λ z. option_or (settles v z e) (or_new (held_in same elect v fresh events) (option_or (hears v z e) (owns same elect v z e)))) shows.facts;
-    conflict = λ v kept.
-        ap (λ k. k.conflict) (follows.rounds v (left v kept))
-        ∙ ap (λ h. contradicts same h (option_or (settles v x e) (hears v x e)) || (round_of x v).slot.conflict) (shows.held v (earlier v kept))
-        ∙ ap (λ b. contradicts same (held_in same elect v fresh events) (option_or (settles v x e) (hears v x e)) || b) (shows.conflict v (earlier v kept))
-        ∙ ap (λ z. contradicts same (held_in same elect v fresh events) (option_or (settles v z e) (hears v z e)) || conflict_in same elect v fresh events) shows.facts;
+    me = works.me ∙ shows.me;
+    members = works.members ∙ shows.members;
+    elector = works.elector ∙ shows.elector;
+    elects_early = works.elects_early ∙ shows.elects_early;
+    failed = works.failed ∙ shows.failed;
+    named = λ v. works.named v ∙ known_further same elect history x shows.facts e (names elect v) false (is_among x.named v) (shows.named v);
+    tracked = λ v kept. ap (λ k. k.tracked) (works.work v (left v kept)) ∙ tracked_further (is_some (enters v x e)) (tracks same elect v x e) (is_tracked x v) ∙ done (comes_up same elect v) (is_tracked x v) (shows.tracked v (earlier v kept));
+    rounds = λ v kept. round_further same elect history x shows.facts shows.settings shows.terms e (after_event same elect x e) v (shows.rounds v (earlier v kept)) (follows.rounds v (left v kept)) (works.work v (left v kept));
   }
     where
       fresh : Facts K L D
@@ -164,6 +161,9 @@ module _ {K L D G : Type 0} (same : D → D → Bool) (elect : Elect L) (history
 
       follows : Follows same elect e x (after_event same elect x e)
       follows = event_follows same decides elect x e allowed shows.in_order
+
+      works : WorkFollows same elect e x (after_event same elect x e)
+      works = event_works same elect x e shows.in_order
 
       earlier : (v : ℕ) → kept_in fresh.settings.view_retention (e ∷ events) ≤ v → kept_in fresh.settings.view_retention events ≤ v
       earlier v kept = omega (arith, kept)
@@ -210,6 +210,9 @@ module _ {K L D G : Type 0} (same : D → D → Bool) (elect : Elect L) (history
           let gone_before = earlier_gone v below from in
           follows.nullify_votes v from ∙ ap (λ b. b || is_among x.nullify_votes v) (casts_above G (kept_in fresh.settings.view_retention events) x active reached e allowed v gone_before) ∙ shows.votes_dropped v gone_before
 
-      -- what was done, with what this event does
       done : (does : Facts K L D → Event K D G → Bool) (b : Bool) → b ≡ was_done same elect does fresh events → (does x e || b) ≡ was_done same elect does fresh (e ∷ events)
-      done does b is = ap (λ c. does x e || c) is ∙ ap (λ z. does z e || was_done same elect does fresh events) shows.facts
+      done does b is = done_further same elect history x shows.facts e does b is
+
+      tracked_further : (a b c : Bool) → (a || (b || c)) ≡ ((a || b) || c)
+      tracked_further true b c = refl
+      tracked_further false b c = refl

@@ -69,18 +69,15 @@ module _ {K L D G : Type 0} (same : D → D → Bool) (elect : Elect L) where
     moment = refl;
     nullified = λ v kept. refl;
     nullify_votes = λ v kept. refl;
-    notarization = λ v kept. refl;
-    nullification = λ v kept. refl;
-    finalization = λ v kept. refl;
     verdict = λ v kept. refl;
-    notarization_broadcast = λ v kept. refl;
-    nullification_broadcast = λ v kept. refl;
-    finalization_broadcast = λ v kept. refl;
-    notarize_decided = λ v kept. refl;
-    nullify_decided = λ v kept. refl;
-    finalize_decided = λ v kept. refl;
-    held = λ v kept. refl;
-    conflict = λ v kept. refl;
+    me = refl;
+    members = refl;
+    elector = refl;
+    elects_early = refl;
+    failed = refl;
+    named = λ v. refl;
+    tracked = λ v kept. refl;
+    rounds = λ v kept. refl;
   })
 
   -- what is answered is not refused

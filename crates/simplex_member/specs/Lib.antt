@@ -24,3 +24,7 @@ pub mod Sums
 pub mod OwnWork
 pub mod Shows
 pub mod Histories
+pub mod Leading
+pub mod Requested
+pub mod ShownRounds
+pub mod Timing

@@ -93,6 +93,16 @@ module _ {K L D G : Type 0} (same : D → D → Bool) (elect : Elect L) where
   was_done does fresh [] = false
   was_done does fresh (e ∷ before) = does (facts_after fresh before) e || was_done does fresh before
 
+  -- the first and the last that an event has said, by what was known before it
+
+  abbrev pub first_said : {A : Type 0} → (Facts K L D → Event K D G → Option A) → Facts K L D → List (Event K D G) → Option A
+  first_said says fresh [] = None
+  first_said says fresh (e ∷ before) = or_new (first_said says fresh before) (says (facts_after fresh before) e)
+
+  abbrev pub last_said : {A : Type 0} → (Facts K L D → Event K D G → Option A) → Facts K L D → List (Event K D G) → Option A
+  last_said says fresh [] = None
+  last_said says fresh (e ∷ before) = option_or (says (facts_after fresh before) e) (last_said says fresh before)
+
   -- the proposal of the last certificate that settled the view, or else the first that was heard of or one's own
   abbrev pub held_in : ℕ → Facts K L D → List (Event K D G) → Option (Proposal D)
   held_in v fresh [] = None

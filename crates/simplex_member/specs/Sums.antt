@@ -29,6 +29,10 @@ greatest f (e ∷ before) = max (greatest f before) (f e)
 abbrev pub at : {A : Type 0} → ℕ → ℕ → A → Option A
 at v w a = if v == w then Some a else None
 
+-- a view is among these
+abbrev pub is_among : List ℕ → ℕ → Bool
+is_among views v = list_any (λ u. v == u) views
+
 -- what one event says
 
 module _ {K D G : Type 0} where
