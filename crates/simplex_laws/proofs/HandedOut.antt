@@ -1,0 +1,257 @@
+-- Within a life each certificate is handed out to broadcast once.
+use Rattle.std.proofs.Common.{◌≡◌, refl, ap, sym, ◌∙◌, subst, ℕ, ◌<◌, ◌||◌, ◌⊎◌, inl, inr, Bool, true, false, if◌then◌else◌, List, [], ◌∷◌, Option, Some, None, is_some, unwrap_or, arith}
+use Rattle.std.specs.Prelude.{option_map, option_and_then, nat_eq}
+use Rattle.std.specs.List.{IsDistinct, AllByRecursion}
+use Rattle.std.proofs.lemmas.Bool.{false≢true, cases_eq, ne_eqb}
+use Rattle.simplex_types.specs.Certificates.{ProposalFacts, NullificationFacts, CertificateFacts, Notarized, Nullified, Finalized}
+use Rattle.simplex_types.specs.declared.types.fault.Fault.{Fault}
+use Rattle.simplex_types.specs.declared.types.messages.Subject.{Subject}
+use Rattle.simplex_round.specs.Round.{RoundFacts, new_round}
+use Rattle.simplex_voter.specs.Facts.{Facts, Elect, round_at, round_of, round_number, is_tracked, with_round}
+use Rattle.simplex_voter.specs.Windows.{min_active}
+use Rattle.simplex_voter.specs.Serving.{once, broadcast_notarization_answer, after_broadcast_notarization, broadcast_nullification_answer, after_broadcast_nullification, broadcast_finalization_answer, after_broadcast_finalization, best_certificate}
+use Rattle.simplex_member.specs.Calls.{CallFacts, AddNotarization, AddNullification, AddFinalization, Certified, ConstructNullify, ConstructFinalize, BroadcastNotarization, BroadcastNullification, BroadcastFinalization, GetBestCertificate, Prune, Told, Handed, Refused, NotAllowed, is_allowed, answer, after_call}
+use Rattle.simplex_laws.specs.LifeLaws.{LifeCall, Calling, Working, as_step, IsLife, Kind, Notarization, Nullification, Finalization, asked_by, handed_by, handed_in, HandedOnce}
+use Rattle.simplex_member.specs.Lives.{MemberFacts}
+use Rattle.simplex_member.specs.Openings.{Openings}
+use Rattle.simplex_member.specs.Runs.{IsStep}
+use Rattle.simplex_member.specs.Work.{WorkCall, after_work}
+use Rattle.simplex_laws.proofs.InOrder.{InOrder, order_call}
+use Rattle.simplex_laws.proofs.Conflicts.{floor_rises, work_floor}
+use Rattle.simplex_laws.proofs.Lasting.{is_handed, standing_view, none_comes}
+use Rattle.simplex_laws.proofs.LastingCalls.{call_lasts}
+use Rattle.simplex_laws.proofs.LastingWorks.{work_lasts}
+use Rattle.simplex_laws.proofs.Works.{order_work}
+use Rattle.simplex_laws.proofs.LeavesVotes.{round_put}
+use Rattle.simplex_laws.proofs.Placed.{none_at_first}
+use Rattle.simplex_laws.proofs.WithinLives.{InOrderly, call_outcome}
+
+-- the view's certificate is not to be handed out any more: it was, or none stands there and none comes
+abbrev pub IsSpent : {K L D : Type 0} → Kind → ℕ → Facts K L D → Type 0
+IsSpent kind v x =
+    (is_handed kind (round_of x v) ≡ true) ⊎ ((v < min_active x) × (standing_view kind (round_of x v) ≡ None))
+
+-- no view's certificate is handed out, or one that was not spent, and is then
+abbrev pub Hands : {K L D : Type 0} → Kind → List ℕ → Facts K L D → Facts K L D → Type 0
+Hands kind views x y = (views ≡ []) ⊎ ((v : ℕ) × (views ≡ v ∷ []) × (IsSpent kind v x → ⊥) × IsSpent kind v y)
+
+pub record HandsOut {K L D G : Type 0} (call : LifeCall D) (told : Told K D G) (x y : Facts K L D) : Type 0 where
+  pub spent : (kind : Kind) (v : ℕ) → IsSpent kind v x → IsSpent kind v y
+  pub hands : (kind : Kind) → Hands kind (handed_by kind call told) x y
+
+module _ {K L D C : Type 0} (flag : RoundFacts K D → Bool) (certificate : RoundFacts K D → Option C) (x : Facts K L D) (v : ℕ) where
+  -- what is answered stands there, and was not handed out
+  pub record IsFirst (c : C) : Type 0 where
+    pub fresh : flag (round_of x v) ≡ false
+    pub stands : certificate (round_of x v) ≡ Some c
+    pub tracked : is_tracked x v ≡ true
+
+  pub asked : (option_and_then (λ r. once (flag r) (certificate r)) (round_at x v) ≡ None) ⊎ ((c : C) × (option_and_then (λ r. once (flag r) (certificate r)) (round_at x v) ≡ Some c) × IsFirst c)
+  asked = by_found (round_at x v) refl
+    where
+      d : RoundFacts K D
+      d = new_round x.me x.members (round_number x v)
+
+      by_certificate : (r : RoundFacts K D) (o : Option C) → round_at x v ≡ Some r → flag r ≡ false → certificate r ≡ o → (option_and_then (λ s. once (flag s) (certificate s)) (round_at x v) ≡ None) ⊎ ((c : C) × (option_and_then (λ s. once (flag s) (certificate s)) (round_at x v) ≡ Some c) × IsFirst c)
+      by_certificate r None found unsent none = inl (rw (found, unsent) none)
+      by_certificate r (Some c) found unsent stands = inr (
+        c,
+        rw (found, unsent) stands,
+        record {
+          fresh = ap (λ o. flag (unwrap_or o d)) found ∙ unsent;
+          stands = ap (λ o. certificate (unwrap_or o d)) found ∙ stands;
+          tracked = ap is_some found;
+        },
+      )
+
+      by_flag : (r : RoundFacts K D) (b : Bool) → round_at x v ≡ Some r → flag r ≡ b → (option_and_then (λ s. once (flag s) (certificate s)) (round_at x v) ≡ None) ⊎ ((c : C) × (option_and_then (λ s. once (flag s) (certificate s)) (round_at x v) ≡ Some c) × IsFirst c)
+      by_flag r true found sent = inl (rw (found, sent) refl)
+      by_flag r false found unsent = by_certificate r (certificate r) found unsent refl
+
+      by_found : (o : Option (RoundFacts K D)) → round_at x v ≡ o → (option_and_then (λ s. once (flag s) (certificate s)) (round_at x v) ≡ None) ⊎ ((c : C) × (option_and_then (λ s. once (flag s) (certificate s)) (round_at x v) ≡ Some c) × IsFirst c)
+      by_found None found = inl (ap (λ o. option_and_then (λ s. once (flag s) (certificate s)) o) found)
+      by_found (Some r) found = by_flag r (flag r) found refl
+
+or_some : {C : Type 0} (b : Bool) (o : Option C) (c : C) → o ≡ Some c → (b || is_some o) ≡ true
+or_some true o c is = refl
+or_some false o c is = ap is_some is
+
+module _ {K L D : Type 0} where
+  -- a view whose certificate stands there and was not handed out is not spent
+  unspent : (kind : Kind) (x : Facts K L D) (v : ℕ) → is_handed kind (round_of x v) ≡ false → is_some (standing_view kind (round_of x v)) ≡ true → IsSpent kind v x → ⊥
+  unspent kind x v unsent stands (inl sent) = false≢true (sym unsent ∙ sent)
+  unspent kind x v unsent stands (inr (below, none)) = false≢true (sym (ap is_some none) ∙ stands)
+
+  -- a round that is put at a tracked view and was handed out
+  now_spent : (kind : Kind) (x : Facts K L D) (v : ℕ) (r : RoundFacts K D) → is_tracked x v ≡ true → is_handed kind r ≡ true → IsSpent kind v (if is_tracked x v then with_round x v r else x)
+  now_spent kind x v r tracked sent =
+      subst (λ b. IsSpent kind v (if b then with_round x v r else x)) (sym tracked)
+      (inl (ap (is_handed kind) (round_put x v r) ∙ sent))
+
+module _ {K L D : Type 0} (G : Type 0) where
+  hands_notarization : (x : Facts K L D) (v : ℕ) (kind : Kind) → Hands kind (handed_by {K = K} {D = D} {G = G} kind (Calling (BroadcastNotarization v)) (Handed (option_map Notarized (broadcast_notarization_answer x v)))) x (after_broadcast_notarization x v)
+  hands_notarization x v kind = elim (asked (λ r. r.notarization_broadcast) (λ r. r.notarization) x v) [
+    | inl none ↦ inl (ap (λ o. handed_by {K = K} {D = D} {G = G} kind (Calling (BroadcastNotarization v)) (Handed (option_map Notarized o))) none)
+    | inr (c, some, first) ↦ rw some (by_kind kind c first)
+  ]
+    where
+      by_kind : (k : Kind) (c : ProposalFacts D) → IsFirst (λ r. r.notarization_broadcast) (λ r. r.notarization) x v c → Hands k (asked_by {D = D} k (BroadcastNotarization v)) x (after_broadcast_notarization x v)
+      by_kind Notarization c first = inr (
+        v,
+        refl,
+        unspent Notarization x v first.fresh (ap (λ o. is_some (option_map (λ d. d.proposal.round.view) o)) first.stands),
+        now_spent Notarization x v _ first.tracked (or_some (round_of x v).notarization_broadcast (round_of x v).notarization c first.stands),
+      )
+      by_kind Nullification c first = inl refl
+      by_kind Finalization c first = inl refl
+
+  hands_nullification : (x : Facts K L D) (v : ℕ) (kind : Kind) → Hands kind (handed_by {K = K} {D = D} {G = G} kind (Calling (BroadcastNullification v)) (Handed (option_map Nullified (broadcast_nullification_answer x v)))) x (after_broadcast_nullification x v)
+  hands_nullification x v kind = elim (asked (λ r. r.nullification_broadcast) (λ r. r.nullification) x v) [
+    | inl none ↦ inl (ap (λ o. handed_by {K = K} {D = D} {G = G} kind (Calling (BroadcastNullification v)) (Handed (option_map Nullified o))) none)
+    | inr (c, some, first) ↦ rw some (by_kind kind c first)
+  ]
+    where
+      by_kind : (k : Kind) (c : NullificationFacts) → IsFirst (λ r. r.nullification_broadcast) (λ r. r.nullification) x v c → Hands k (asked_by {D = D} k (BroadcastNullification v)) x (after_broadcast_nullification x v)
+      by_kind Notarization c first = inl refl
+      by_kind Nullification c first = inr (
+        v,
+        refl,
+        unspent Nullification x v first.fresh (ap (λ o. is_some (option_map (λ d. d.round.view) o)) first.stands),
+        now_spent Nullification x v _ first.tracked (or_some (round_of x v).nullification_broadcast (round_of x v).nullification c first.stands),
+      )
+      by_kind Finalization c first = inl refl
+
+  hands_finalization : (x : Facts K L D) (v : ℕ) (kind : Kind) → Hands kind (handed_by {K = K} {D = D} {G = G} kind (Calling (BroadcastFinalization v)) (Handed (option_map Finalized (broadcast_finalization_answer x v)))) x (after_broadcast_finalization x v)
+  hands_finalization x v kind = elim (asked (λ r. r.finalization_broadcast) (λ r. r.finalization) x v) [
+    | inl none ↦ inl (ap (λ o. handed_by {K = K} {D = D} {G = G} kind (Calling (BroadcastFinalization v)) (Handed (option_map Finalized o))) none)
+    | inr (c, some, first) ↦ rw some (by_kind kind c first)
+  ]
+    where
+      by_kind : (k : Kind) (c : ProposalFacts D) → IsFirst (λ r. r.finalization_broadcast) (λ r. r.finalization) x v c → Hands k (asked_by {D = D} k (BroadcastFinalization v)) x (after_broadcast_finalization x v)
+      by_kind Notarization c first = inl refl
+      by_kind Nullification c first = inl refl
+      by_kind Finalization c first = inr (
+        v,
+        refl,
+        unspent Finalization x v first.fresh (ap (λ o. is_some (option_map (λ d. d.proposal.round.view) o)) first.stands),
+        now_spent Finalization x v _ first.tracked (or_some (round_of x v).finalization_broadcast (round_of x v).finalization c first.stands),
+      )
+
+best_unasked : (K : Type 0) {D : Type 0} (G : Type 0) (kind : Kind) (best : Option (CertificateFacts D)) → handed_by {K = K} {D = D} {G = G} kind (Calling GetBestCertificate) (Handed best) ≡ []
+best_unasked K G Notarization None = refl
+best_unasked K G Nullification None = refl
+best_unasked K G Finalization None = refl
+best_unasked K G Notarization (Some c) = refl
+best_unasked K G Nullification (Some c) = refl
+best_unasked K G Finalization (Some c) = refl
+
+module _ (K : Type 0) {D : Type 0} (G : Type 0) (kind : Kind) where
+  -- a call that is refused is handed nothing
+  refused_none : (call : LifeCall D) (fault : Fault) → handed_by {K = K} {G = G} kind call (Refused fault) ≡ []
+  refused_none (Calling call) fault = refl
+  refused_none (Working call) fault = refl
+
+  not_allowed_none : (call : LifeCall D) → handed_by {K = K} {G = G} kind call NotAllowed ≡ []
+  not_allowed_none (Calling call) = refl
+  not_allowed_none (Working call) = refl
+
+module _ {K L D G : Type 0} (same : D → D → Bool) (elect : Elect L) (signature_of : ℕ → Subject D → G) where
+  call_spends : (x : Facts K L D) (call : CallFacts D) → is_allowed x call ≡ true → (kind : Kind) (v : ℕ) → IsSpent kind v x → IsSpent kind v (after_call same elect signature_of x call)
+  call_spends x call allowed kind v spent =
+      let y = after_call same elect signature_of x call in
+      let floor = floor_rises same elect signature_of x call in
+      elim (call_lasts same elect signature_of x call allowed v) [
+        | inr drops ↦ inr (
+          omega (arith, drops.below, floor),
+          ap (λ o. standing_view kind (unwrap_or o (new_round y.me y.members (round_number y v)))) drops.untracked ∙ none_at_first D kind y.me y.members (round_number y v),
+        )
+        | inl lasts ↦ elim spent [
+          | inl sent ↦ inl (lasts.handed kind sent)
+          | inr (below, none) ↦ inr (omega (arith, below, floor), none_comes (min_active x) v (round_of x v) (round_of y v) lasts kind below none)
+        ]
+      ]
+
+  call_hands : (x : Facts K L D) (call : CallFacts D) (kind : Kind) → Hands kind (handed_by kind (Calling call) (answer same elect signature_of x call)) x (after_call same elect signature_of x call)
+  call_hands x (AddNotarization c) kind = inl refl
+  call_hands x (AddNullification c now) kind = inl refl
+  call_hands x (AddFinalization c now) kind = inl refl
+  call_hands x (Certified v success now) kind = inl refl
+  call_hands x (ConstructNullify v) kind = inl refl
+  call_hands x (ConstructFinalize v) kind = inl refl
+  call_hands x (BroadcastNotarization v) kind = hands_notarization G x v kind
+  call_hands x (BroadcastNullification v) kind = hands_nullification G x v kind
+  call_hands x (BroadcastFinalization v) kind = hands_finalization G x v kind
+  call_hands x GetBestCertificate kind = inl (best_unasked K G kind (best_certificate x))
+  call_hands x Prune kind = inl refl
+
+  -- a call on the work of a view is handed none, and no certificate comes
+  work_spends : (x : Facts K L D) (o : Openings K D) (call : WorkCall D) → InOrder x → (kind : Kind) (v : ℕ) → IsSpent kind v x → IsSpent kind v (after_work same elect x o call)
+  work_spends x o call ordered kind v spent =
+      let low = min_active x in
+      let y = after_work same elect x o call in
+      let floor = work_floor same elect signature_of x o call in
+      let left = (work_lasts same elect low x o call ordered).rounds v in
+      elim spent [
+        | inl sent ↦ inl (left.handed kind sent)
+        | inr (below, none) ↦ inr (omega (arith, below, floor), none_comes low v (round_of x v) (round_of y v) left kind below none)
+      ]
+
+  outcome : (m : MemberFacts K L D G) (call : LifeCall D) (told : Told K D G) (left : MemberFacts K L D G) → IsStep same elect signature_of m (as_step call) told left → ((fault : Fault) × (told ≡ Refused fault) × (left.life ≡ None)) ⊎ ((x y : Facts K L D) × (m.life ≡ Some x) × (left.life ≡ Some y) × InOrderly (HandsOut call told) x y)
+  outcome =
+      call_outcome same elect signature_of (λ call told. InOrderly (HandsOut call told))
+      (λ call fault x ordered. (ordered, record { spent = λ kind v s. s; hands = λ kind. inl (refused_none K G kind call fault) }))
+      (λ call x ordered. (ordered, record { spent = λ kind v s. s; hands = λ kind. inl (not_allowed_none K G kind call) }))
+      (λ call x allowed ordered. (order_call same elect signature_of x ordered call, record { spent = call_spends x call allowed; hands = call_hands x call }))
+      (λ call x o allowed ordered. (order_work same elect x o ordered call, record { spent = work_spends x o call ordered; hands = λ kind. inl refl }))
+
+-- a member without a state hands nothing out
+abbrev pub IsSpentIn : {K L D : Type 0} → Kind → ℕ → Option (Facts K L D) → Type 0
+IsSpentIn kind v None = Unit {0}
+IsSpentIn kind v (Some x) = InOrder x × IsSpent kind v x
+
+abbrev pub IsOrdered : {K L D : Type 0} → Option (Facts K L D) → Type 0
+IsOrdered None = Unit {0}
+IsOrdered (Some x) = InOrder x
+
+module _ {K L D G : Type 0} (same : D → D → Bool) (elect : Elect L) (signature_of : ℕ → Subject D → G) (kind : Kind) where
+  -- what is spent is not handed out any more
+  never_again : (v : ℕ) (m end : MemberFacts K L D G) (calls : List (LifeCall D)) (replies : List (Told K D G)) → IsSpentIn kind v m.life → IsLife same elect signature_of m calls replies end → AllByRecursion (λ w. nat_eq v w ≡ false) (handed_in kind calls replies)
+  never_again v m end [] [] spent life = tt
+  never_again v m end [] (told ∷ replies) spent life = absurd life
+  never_again v m end (call ∷ calls) [] spent life = absurd life
+  never_again v m end (call ∷ calls) (told ∷ replies) spent (next, is_call, rest) = elim (outcome same elect signature_of m call told next is_call) [
+    | inl (fault, tells, dies) ↦ rw (tells, refused_none K G kind call fault) (never_again v next end calls replies (subst (IsSpentIn kind v) (sym dies) tt) rest)
+    | inr (x, y, alive, lives, leads) ↦ (
+        let here : InOrder x × IsSpent kind v x = subst (IsSpentIn kind v) alive spent in
+        let out = leads here.0 in
+        let later = never_again v next end calls replies (subst (IsSpentIn kind v) (sym lives) (out.0, out.1.spent kind v here.1)) rest in
+        elim (out.1.hands kind) [
+          | inl none ↦ rw none later
+          | inr (w, is, fresh, spends) ↦ rw is (
+            elim (cases_eq v w) [ inl at ↦ absurd (fresh (subst (λ u. IsSpent kind u x) at here.1)) | inr apart ↦ ne_eqb v w apart ],
+            later,
+          )
+        ]
+        )
+  ]
+
+  handed_once : (m end : MemberFacts K L D G) (calls : List (LifeCall D)) (replies : List (Told K D G)) → IsOrdered m.life → IsLife same elect signature_of m calls replies end → IsDistinct nat_eq (handed_in kind calls replies)
+  unfolding IsDistinct
+  handed_once m end [] [] ordered life = tt
+  handed_once m end [] (told ∷ replies) ordered life = absurd life
+  handed_once m end (call ∷ calls) [] ordered life = absurd life
+  handed_once m end (call ∷ calls) (told ∷ replies) ordered (next, is_call, rest) = elim (outcome same elect signature_of m call told next is_call) [
+    | inl (fault, tells, dies) ↦ rw (tells, refused_none K G kind call fault) (handed_once next end calls replies (subst IsOrdered (sym dies) tt) rest)
+    | inr (x, y, alive, lives, leads) ↦ (
+        let out = leads (subst IsOrdered alive ordered) in
+        let later = handed_once next end calls replies (subst IsOrdered (sym lives) out.0) rest in
+        elim (out.1.hands kind) [
+          | inl none ↦ rw none later
+          | inr (v, is, fresh, spends) ↦ rw is (never_again v next end calls replies (subst (IsSpentIn kind v) (sym lives) (out.0, spends)) rest, later)
+        ]
+        )
+  ]
+
+module _ {K L D G : Type 0} (same : D → D → Bool) (elect : Elect L) (signature_of : ℕ → Subject D → G) where
+  pub life_hands_once : (m end : MemberFacts K L D G) (calls : List (LifeCall D)) (replies : List (Told K D G)) → IsOrdered m.life → IsLife same elect signature_of m calls replies end → HandedOnce calls replies
+  life_hands_once m end calls replies ordered life kind = handed_once same elect signature_of kind m end calls replies ordered life

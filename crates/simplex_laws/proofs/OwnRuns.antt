@@ -1,0 +1,283 @@
+-- What a member records in a run, over all its lives, is taken again but for what comes from outside.
+use Rattle.std.proofs.Common.{◌≡◌, refl, ap, sym, ◌∙◌, subst, ℕ, zero, suc, ◌-◌, ◌<◌, inl, inr, Bool, true, false, List, [], ◌∷◌, ◌++◌, append_assoc, length, take, drop, filter, Option, Some, None, Result, Ok, Err, arith}
+use Rattle.std.specs.Prelude.{◌==◌, MatchOption}
+use Rattle.std.proofs.lemmas.Bool.{cases_Bool}
+use Rattle.std.proofs.lemmas.List.{append-nil, take-append-drop}
+use Rattle.simplex_types.specs.Certificates.{Notarized, Finalized, ArtifactFacts, Verdict, Accepted}
+use Rattle.simplex_types.specs.Config.{FloorFacts, Genesis, Finalized as FinalizedFloor}
+use Rattle.simplex_types.specs.declared.types.fault.Fault.{Fault}
+use Rattle.simplex_types.specs.declared.types.messages.Subject.{Subject}
+use Rattle.simplex_voter.specs.Facts.{Facts, Elect}
+use Rattle.simplex_member.specs.declared.member.error.RecoverError.{RecoverError}
+use Rattle.simplex_member.specs.declared.member.error.RecoverError.TheVariants as error
+use Rattle.simplex_laws.specs.Acts.{Act}
+use Rattle.simplex_member.specs.Calls.{CallFacts, Told, is_allowed, fault_of}
+use Rattle.simplex_laws.specs.CallActs.{acts_of_call, acts_of_work, floor_acts}
+use Rattle.simplex_member.specs.Check.{stands}
+use Rattle.simplex_member.specs.Cuts.{may_drop, without_last, finalized_in, pruned}
+use Rattle.simplex_member.specs.Entries.{entry_view}
+use Rattle.simplex_member.specs.Lives.{MemberFacts, IsCall, AnswersAlive, reply_of, left_of, fallen}
+use Rattle.simplex_laws.specs.Outside.{IsFromOutside, IsExcused}
+use Rattle.simplex_member.specs.Recovery.{recover_error, recovered, is_finalization, with_floor}
+use Rattle.simplex_member.specs.Restarts.{RestartFacts, IsByView, cut, new_life, retention_grows, GoesOn, IsRestart, IsRestartWhere}
+use Rattle.simplex_laws.specs.RunActs.{acts_of_step, IsFresh, BeginFresh}
+use Rattle.simplex_member.specs.Work.{WorkCall, work_allowed, work_fault, work_reply, left_of_work, IsWorkOf, IsWork}
+use Rattle.simplex_member.specs.Runs.{StepFacts, Calls, Works, Restarts, restart_told, IsRun, EndsRun, EndsRunFrom}
+use Rattle.simplex_member.specs.Start.{StartFacts, started}
+use Rattle.simplex_member.proofs.Cuts.{none_dropped}
+use Rattle.simplex_laws.proofs.CutsRemembered.{copy_remembers}
+use Rattle.simplex_laws.proofs.Outside.{Fit, error_outside}
+use Rattle.simplex_laws.proofs.OwnRecords.{OwnRecord, own_together, own_nothing, HasNoVerdict, own_floor, own_left, own_bounded, own_copy, same_entries}
+use Rattle.simplex_laws.proofs.Recalls.{only_one}
+use Rattle.simplex_laws.proofs.RecoveredVerdicts.{recovered_shows}
+use Rattle.simplex_laws.proofs.RunsLawful.{LivesOn, MemberLives, between_of, cut_between, call_lives_on, work_lives_on, restart_lives_on, start_lives}
+use Rattle.simplex_laws.proofs.InOrder.{InOrder}
+use Rattle.simplex_laws.proofs.WorkVerdicts.{work_told}
+use Rattle.simplex_laws.proofs.ShownVerdicts.{Shows, Tells, shows_more, call_told}
+use Rattle.simplex_laws.proofs.Together.{record_fits}
+
+-- a member's record keeps its verdicts in order, and while it lives its state shows them
+abbrev pub TellsOn : {K L D G : Type 0} → List (Act D) → List (ArtifactFacts D G) → Option (Facts K L D) → Type 0
+TellsOn acts entries None = OwnRecord acts entries
+TellsOn acts entries (Some x) = Tells acts entries x
+
+abbrev pub MemberTells : {K L D G : Type 0} → List (Act D) → MemberFacts K L D G → Type 0
+MemberTells acts m = TellsOn acts m.entries m.life
+
+module _ {D G : Type 0} where
+  -- a drop leaves the first entries
+  left_first : (closed n : ℕ) (entries : List (ArtifactFacts D G)) → (tail : List (ArtifactFacts D G)) × (entries ≡ without_last closed n entries ++ tail)
+  left_first closed zero entries = ([], sym (append-nil entries))
+  left_first closed (suc n) entries = elim (cases_Bool (may_drop closed entries)) [
+    | inr stays ↦ rw (none_dropped closed (suc n) entries stays) ([], sym (append-nil entries))
+    | inl falls ↦
+        (let shorter = take (length entries - 1) entries in
+        let last = drop (length entries - 1) entries in
+        let rest = left_first closed n shorter in
+        let joined : entries ≡ without_last closed n shorter ++ (rest.0 ++ last) = sym (take-append-drop (length entries - 1) entries) ∙ (ap (λ es. es ++ last) rest.1 ∙ append_assoc (without_last closed n shorter) rest.0 last) in
+        let fewer : without_last closed n shorter ≡ without_last closed (suc n) entries = rw falls refl in
+        subst (λ left. (tail : List (ArtifactFacts D G)) × (entries ≡ left ++ tail)) fewer (rest.0 ++ last, joined))
+  ]
+
+  pruned_own : (acts : List (Act D)) (entries : List (ArtifactFacts D G)) (retention : ℕ) → OwnRecord acts entries → OwnRecord acts (pruned retention entries)
+  unfolding pruned
+  pruned_own acts entries retention own = own_bounded acts entries own (finalized_in entries - retention)
+
+  -- the floor adds no verdict
+  floor_adds : (entries : List (ArtifactFacts D G)) (floor : FloorFacts D) → (more : List (ArtifactFacts D G)) × (with_floor entries floor ≡ entries ++ more) × HasNoVerdict more
+  floor_adds entries (Genesis payload) = ([], sym (append-nil entries), λ round success h. absurd (omega (arith, h.1)))
+  floor_adds entries (FinalizedFloor c) = by_record (stands c.proposal.round.view is_finalization entries) refl
+    where
+      by_record : (b : Bool) → stands c.proposal.round.view is_finalization entries ≡ b → (more : List (ArtifactFacts D G)) × (with_floor entries (FinalizedFloor c) ≡ entries ++ more) × HasNoVerdict more
+      by_record true is = rw is ([], sym (append-nil entries), λ round success h. absurd (omega (arith, h.1)))
+      by_record false is = rw is (Accepted (Finalized c) ∷ [], refl, λ round success h. (let e = only_one (Accepted (Finalized c)) (Verdict round success) h in cc))
+
+module _ {K L D G : Type 0} where
+  own_of : (acts : List (Act D)) (entries : List (ArtifactFacts D G)) (life : Option (Facts K L D)) → TellsOn acts entries life → OwnRecord acts entries
+  own_of acts entries None own = own
+  own_of acts entries (Some x) tells = tells.own
+
+  untold : (acts : List (Act D)) (m : MemberFacts K L D G) → MemberTells acts m → MemberTells (acts ++ []) m
+  untold acts m tells = subst (λ a. MemberTells a m) (sym (append-nil acts)) tells
+
+  cut_own : (acts : List (Act D)) (m : MemberFacts K L D G) (n : ℕ) (prune : Bool) → OwnRecord acts m.entries → OwnRecord acts (cut m n prune).entries
+  cut_own acts m n false own = let left = left_first m.closed n m.entries in own_left acts m.entries own (without_last m.closed n m.entries) left.0 left.1
+  cut_own acts m n true own =
+      let left = left_first m.closed n m.entries in
+      pruned_own acts (without_last m.closed n m.entries) m.retention (own_left acts m.entries own (without_last m.closed n m.entries) left.0 left.1)
+
+  -- the same entries, and the floor's finalization besides
+  shows_whole : (entries copy : List (ArtifactFacts D G)) (floor : FloorFacts D) (x : Facts K L D) → ((v : ℕ) → filter (λ e. entry_view e == v) copy ≡ filter (λ e. entry_view e == v) entries) → Shows copy x → Shows (with_floor entries floor) x
+  shows_whole entries copy floor x by_view shows =
+      let into = same_entries copy entries by_view in
+      let back = same_entries entries copy (λ v. sym (by_view v)) in
+      let more = floor_adds entries floor in
+      let here : Shows entries x = record {
+        notarized = λ v is. (let c = shows.notarized v is in (c.0, into (Accepted (Notarized c.0)) c.1, c.2));
+        judged = λ round success h known. shows.judged round success (back (Verdict round success) h) known;
+      } in
+      subst (λ es. Shows es x) (sym more.1) (shows_more entries more.0 x more.2 here)
+
+module _ {K L D G : Type 0} (same : D → D → Bool) (elect : Elect L) (signature_of : ℕ → Subject D → G) (term_length : ℕ) (acts : List (Act D)) (m : MemberFacts K L D G) where
+  -- a call
+
+  answered : (call : CallFacts D) (x : Facts K L D) → m.life ≡ Some x → MemberTells acts m → MemberTells (acts ++ acts_of_call call (reply_of same elect signature_of x call)) (left_of same elect signature_of x m call)
+  answered call x alive tells = by_allowed (is_allowed x call) refl
+    where
+      by_fault : (o : Option Fault) → fault_of x call ≡ o → is_allowed x call ≡ true → MemberTells (acts ++ acts_of_call call (reply_of same elect signature_of x call)) (left_of same elect signature_of x m call)
+      by_fault None no_fault allowed = rw (allowed, no_fault) (call_told same elect signature_of acts m.entries x (subst (λ life. TellsOn acts m.entries life) alive tells) call allowed)
+      by_fault (Some f) refused allowed = rw (allowed, refused) (untold acts m tells)
+
+      by_allowed : (b : Bool) → is_allowed x call ≡ b → MemberTells (acts ++ acts_of_call call (reply_of same elect signature_of x call)) (left_of same elect signature_of x m call)
+      by_allowed true allowed = by_fault (fault_of x call) refl allowed
+      by_allowed false not_allowed = rw not_allowed (untold acts m tells)
+
+  call_tells_on : (call : CallFacts D) (told : Told K D G) (left : MemberFacts K L D G) → MemberTells acts m → IsCall same elect signature_of m call told left → MemberTells (acts ++ acts_of_call call told) left
+  unfolding IsCall
+  call_tells_on call told left tells is_call = by_life m.life refl is_call
+    where
+      by_life : (o : Option (Facts K L D)) → m.life ≡ o → AnswersAlive same elect signature_of o m call told left → MemberTells (acts ++ acts_of_call call told) left
+      by_life None dead (tell, leaves) = rw (tell, leaves) (untold acts m tells)
+      by_life (Some x) alive (inl (tell, leaves)) = rw (tell, leaves) (answered call x alive tells)
+      by_life (Some x) alive (inr (_, tell, inl leaves)) = rw (tell, leaves) (untold acts m tells)
+      by_life (Some x) alive (inr (_, tell, inr leaves)) = rw (tell, leaves) (untold acts (fallen m) (own_of acts m.entries m.life tells))
+
+  -- a call on the work of a view
+
+  worked : (call : WorkCall D) (x : Facts K L D) → InOrder x → m.life ≡ Some x → MemberTells acts m → MemberTells (acts ++ acts_of_work (work_reply same elect signature_of x m.openings call)) (left_of_work same elect signature_of x m call)
+  worked call x ordered alive tells = by_allowed (work_allowed x m.openings call) refl
+    where
+      by_fault : (f : Option Fault) → work_fault x call ≡ f → work_allowed x m.openings call ≡ true → MemberTells (acts ++ acts_of_work (work_reply same elect signature_of x m.openings call)) (left_of_work same elect signature_of x m call)
+      by_fault None no_fault allowed = rw (allowed, no_fault) (work_told same elect signature_of acts m.entries x m.openings (subst (λ life. TellsOn acts m.entries life) alive tells) call ordered allowed)
+      by_fault (Some f) refused allowed = rw (allowed, refused) (untold acts m tells)
+
+      by_allowed : (b : Bool) → work_allowed x m.openings call ≡ b → MemberTells (acts ++ acts_of_work (work_reply same elect signature_of x m.openings call)) (left_of_work same elect signature_of x m call)
+      by_allowed true allowed = by_fault (work_fault x call) refl allowed
+      by_allowed false not_allowed = rw not_allowed (untold acts m tells)
+
+  work_tells_on : (call : WorkCall D) (told : Told K D G) (left : MemberFacts K L D G) → ((x : Facts K L D) → m.life ≡ Some x → InOrder x) → MemberTells acts m → IsWork same elect signature_of m call told left → MemberTells (acts ++ acts_of_work told) left
+  unfolding IsWork
+  work_tells_on call told left ordered tells is_work = by_life m.life refl is_work
+    where
+      by_life : (o : Option (Facts K L D)) → m.life ≡ o → IsWorkOf same elect signature_of o m call told left → MemberTells (acts ++ acts_of_work told) left
+      by_life None dead (tell, leaves) = rw (tell, leaves) (untold acts m tells)
+      by_life (Some x) alive (inl (tell, leaves)) = rw (tell, leaves) (worked call x (ordered x alive) alive tells)
+      by_life (Some x) alive (inr (_, tell, inl leaves)) = rw (tell, leaves) (untold acts m tells)
+      by_life (Some x) alive (inr (_, tell, inr leaves)) = rw (tell, leaves) (untold acts (fallen m) (own_of acts m.entries m.life tells))
+
+  -- a restart
+
+  from_copy : (n : MemberFacts K L D G) (start : StartFacts K L D) (copy : List (ArtifactFacts D G)) → IsFresh term_length start.fresh → OwnRecord acts n.entries → IsByView n.entries copy → MemberTells (acts ++ floor_acts start.floor) (new_life same elect n start copy)
+  from_copy n start copy fresh own by_view =
+      let x = start.fresh in
+      let in_copy = own_copy acts n.entries own copy by_view.of_each_view in
+      let shows = recovered_shows same elect x.settings x.me x.members x.elector x.terms x.elects_early copy start.floor start.now by_view.rising in_copy.one_verdict in
+      let made = ap (λ y. recovered same elect y start.floor start.now copy) fresh.fresh in
+      record {
+        own = own_floor acts n.entries own (floor_acts start.floor) start.floor;
+        shows = shows_whole n.entries copy start.floor (recovered same elect x start.floor start.now copy) by_view.of_each_view (subst (λ y. Shows copy y) (sym made) shows);
+      }
+
+  goes_on : (n : MemberFacts K L D G) (r : RestartFacts K L D) (result : Result (Unit {0}) RecoverError) (left : MemberFacts K L D G) → IsFresh term_length r.start.fresh → OwnRecord acts n.entries → GoesOn same elect n r.start result left → MemberTells (acts ++ acts_of_step (Restarts r) (restart_told {K = K} {D = D} {G = G} result)) left
+  goes_on n r result left fresh own (inl (is, leaves)) = rw (is, leaves) (untold acts (fallen n) own)
+  goes_on n r result left fresh own (inr (copy, by_view, goes)) = by_error (recover_error same r.start.fresh r.start.floor r.start.now copy) goes
+    where
+      by_error : (o : Option RecoverError) → MatchOption o ((result ≡ Ok tt) × (left ≡ new_life same elect n r.start copy)) (λ e. (result ≡ Err e) × (left ≡ fallen n)) → MemberTells (acts ++ acts_of_step (Restarts r) (restart_told {K = K} {D = D} {G = G} result)) left
+      by_error None (is, leaves) = rw (is, leaves) (from_copy n r.start copy fresh own by_view)
+      by_error (Some e) (is, leaves) = rw (is, leaves) (untold acts (fallen n) own)
+
+  restart_tells_on : (r : RestartFacts K L D) (result : Result (Unit {0}) RecoverError) (left : MemberFacts K L D G) → IsFresh term_length r.start.fresh → MemberTells acts m → IsRestart same elect m r result left → MemberTells (acts ++ acts_of_step (Restarts r) (restart_told {K = K} {D = D} {G = G} result)) left
+  unfolding IsRestart
+  restart_tells_on r result left fresh tells restarts = by_test (retention_grows m r.prune r.start.fresh.settings.view_retention) restarts
+    where
+      by_test : (b : Bool) → IsRestartWhere same elect b m r result left → MemberTells (acts ++ acts_of_step (Restarts r) (restart_told {K = K} {D = D} {G = G} result)) left
+      by_test true (is, leaves) = rw (is, leaves) (untold acts m tells)
+      by_test false goes = goes_on (cut m r.drop r.prune) r result left fresh (cut_own acts m r.drop r.prune (own_of acts m.entries m.life tells)) goes
+
+-- the error of a refusal
+abbrev error_in : Result (Unit {0}) RecoverError → RecoverError
+error_in (Ok _) = error.OutOfMemory
+error_in (Err found) = found
+
+-- what holds of a member at each moment of a run
+pub record KeepsRecord {K L D G : Type 0} (term_length : ℕ) (acts : List (Act D)) (m : MemberFacts K L D G) : Type 0 where
+  pub lives : MemberLives term_length acts m
+  pub tells : MemberTells acts m
+
+module _ {K L D G : Type 0} (same : D → D → Bool) (decides : (d e : D) → same d e ≡ true → d ≡ e) (itself : (d : D) → same d d ≡ true) (elect : Elect L) (signature_of : ℕ → Subject D → G) (term_length : ℕ) (some : 0 < term_length) where
+  called : (acts : List (Act D)) (m next : MemberFacts K L D G) (call : CallFacts D) (told : Told K D G) → KeepsRecord term_length acts m → IsCall same elect signature_of m call told next → KeepsRecord term_length (acts ++ acts_of_call call told) next
+  called acts m next call told own is = record {
+    lives = call_lives_on same decides elect signature_of term_length some acts m call told next own.lives is;
+    tells = call_tells_on same elect signature_of term_length acts m call told next own.tells is;
+  }
+
+  worked_on : (acts : List (Act D)) (m next : MemberFacts K L D G) (call : WorkCall D) (told : Told K D G) → KeepsRecord term_length acts m → IsWork same elect signature_of m call told next → KeepsRecord term_length (acts ++ acts_of_work told) next
+  worked_on acts m next call told own is = record {
+    lives = work_lives_on same decides elect signature_of term_length some acts m call told next own.lives is;
+    tells = work_tells_on same elect signature_of term_length acts m call told next (λ x alive. (let living = subst (λ life. LivesOn term_length acts m.closed own.lives.0 m.entries m.openings life) alive own.lives.1 in living.in_order)) own.tells is;
+  }
+
+  restarted : (acts : List (Act D)) (m next : MemberFacts K L D G) (r : RestartFacts K L D) (told : Told K D G) → IsFresh term_length r.start.fresh → KeepsRecord term_length acts m → (result : Result (Unit {0}) RecoverError) × IsRestart same elect m r result next × (told ≡ restart_told result) → KeepsRecord term_length (acts ++ acts_of_step (Restarts r) told) next
+  restarted acts m next r told fresh own (result, is, tell) = rw tell (record {
+    lives = restart_lives_on same decides elect signature_of term_length some acts m r result next fresh own.lives is;
+    tells = restart_tells_on same elect signature_of term_length acts m r result next fresh own.tells is;
+  })
+
+  -- so it does where the run ends
+  run_own : (steps : List (StepFacts K L D)) (replies : List (Told K D G)) (acts : List (Act D)) (m end : MemberFacts K L D G) → BeginFresh term_length steps → KeepsRecord term_length acts m → IsRun same elect signature_of m steps replies end → (all : List (Act D)) × KeepsRecord term_length all end
+  run_own [] [] acts m end fresh own run = (acts, subst (λ n. KeepsRecord term_length acts n) run own)
+  run_own [] (told ∷ replies) acts m end fresh own run = absurd run
+  run_own (step ∷ steps) [] acts m end fresh own run = absurd run
+  run_own (Calls call ∷ steps) (told ∷ replies) acts m end fresh own (next, is_step, rest) = run_own steps replies (acts ++ acts_of_call call told) next end fresh (called acts m next call told own is_step) rest
+  run_own (Works call ∷ steps) (told ∷ replies) acts m end fresh own (next, is_step, rest) = run_own steps replies (acts ++ acts_of_work told) next end fresh (worked_on acts m next call told own is_step) rest
+  run_own (Restarts r ∷ steps) (told ∷ replies) acts m end fresh own (next, is_step, rest) = run_own steps replies (acts ++ acts_of_step (Restarts r) told) next end fresh.1 (restarted acts m next r told fresh.0 own is_step) rest
+
+  -- a copy of what any cut leaves breaks no rule on how entries stand beside one another
+  copy_fits : (acts : List (Act D)) (m : MemberFacts K L D G) (n : ℕ) (prune : Bool) (copy : List (ArtifactFacts D G)) → KeepsRecord term_length acts m → IsByView (cut m n prune).entries copy → Fit same [] copy
+  copy_fits acts m n prune copy own by_view =
+      let left = (cut m n prune).entries in
+      let between = cut_between term_length acts m n own.lives.0 prune (between_of term_length acts m.closed own.lives.0 m.entries m.openings m.life own.lives.1) in
+      let remembers = copy_remembers acts between.0 left between.1.remembers copy by_view.of_each_view in
+      let in_copy = own_copy acts left (cut_own acts m n prune (own_of acts m.entries m.life own.tells)) copy by_view.of_each_view in
+      record_fits same itself copy (own_together term_length acts between.0 copy between.1.lawful remembers in_copy) by_view.rising
+
+  copy_outside : (acts : List (Act D)) (m : MemberFacts K L D G) (r : RestartFacts K L D) (copy : List (ArtifactFacts D G)) (found : RecoverError) → KeepsRecord term_length acts m → IsByView (cut m r.drop r.prune).entries copy → recover_error same r.start.fresh r.start.floor r.start.now copy ≡ Some found → IsFromOutside found
+  copy_outside acts m r copy found own by_view is = error_outside same r.start.fresh r.start.floor r.start.now copy found (copy_fits acts m r.drop r.prune copy own by_view) is
+
+  restart_excused : (acts : List (Act D)) (m left : MemberFacts K L D G) (r : RestartFacts K L D) (result : Result (Unit {0}) RecoverError) (found : RecoverError) → result ≡ Err found → KeepsRecord term_length acts m → IsRestart same elect m r result left → IsExcused found
+  unfolding IsRestart
+  restart_excused acts m left r result found refused own restarts = by_test (retention_grows m r.prune r.start.fresh.settings.view_retention) restarts
+    where
+      by_error : (copy : List (ArtifactFacts D G)) → IsByView (cut m r.drop r.prune).entries copy → (o : Option RecoverError) → recover_error same r.start.fresh r.start.floor r.start.now copy ≡ o → MatchOption o ((result ≡ Ok tt) × (left ≡ new_life same elect (cut m r.drop r.prune) r.start copy)) (λ e. (result ≡ Err e) × (left ≡ fallen (cut m r.drop r.prune))) → IsExcused found
+      by_error copy by_view None none (is, leaves) = absurd (cc)
+      by_error copy by_view (Some e) due (is, leaves) = inl (copy_outside acts m r copy found own by_view (due ∙ ap Some (sym (ap error_in is) ∙ ap error_in refused)))
+
+      by_test : (b : Bool) → IsRestartWhere same elect b m r result left → IsExcused found
+      by_test true (is, leaves) = inr (inl (sym (ap error_in refused) ∙ ap error_in is))
+      by_test false (inl (is, leaves)) = inr (inr (sym (ap error_in refused) ∙ ap error_in is))
+      by_test false (inr (copy, by_view, goes)) = by_error copy by_view (recover_error same r.start.fresh r.start.floor r.start.now copy) refl goes
+
+  run_excused : (steps : List (StepFacts K L D)) (acts : List (Act D)) (m : MemberFacts K L D G) (found : RecoverError) → BeginFresh term_length steps → KeepsRecord term_length acts m → EndsRun same elect signature_of m steps found → IsExcused found
+  run_excused [] acts m found fresh own ends = absurd ends
+  run_excused (Calls call ∷ steps) acts m found fresh own (inl refused) = absurd refused
+  run_excused (Calls call ∷ steps) acts m found fresh own (inr (told, next, is_step, served, later)) = run_excused steps (acts ++ acts_of_call call told) next found fresh (called acts m next call told own is_step) later
+  run_excused (Works call ∷ steps) acts m found fresh own (inl refused) = absurd refused
+  run_excused (Works call ∷ steps) acts m found fresh own (inr (told, next, is_step, served, later)) = run_excused steps (acts ++ acts_of_work told) next found fresh (worked_on acts m next call told own is_step) later
+  run_excused (Restarts r ∷ steps) acts m found fresh own (inl (left, refused)) = restart_excused acts m left r (Err found) found refl own refused
+  run_excused (Restarts r ∷ steps) acts m found fresh own (inr (told, next, is_step, served, later)) = run_excused steps (acts ++ acts_of_step (Restarts r) told) next found fresh.1 (restarted acts m next r told fresh.0 own is_step) later
+
+module _ {K L D G : Type 0} (same : D → D → Bool) (decides : (d e : D) → same d e ≡ true → d ≡ e) (itself : (d : D) → same d d ≡ true) (elect : Elect L) (signature_of : ℕ → Subject D → G) (term_length : ℕ) (start : StartFacts K L D) (begins : IsFresh term_length start.fresh) where
+  start_tells : MemberTells {G = G} (floor_acts start.floor) (started same elect start.fresh start.floor start.now)
+  unfolding recovered
+  start_tells =
+      let x = start.fresh in
+      let none : List (ArtifactFacts D G) = [] in
+      let shows = recovered_shows same elect x.settings x.me x.members x.elector x.terms x.elects_early none start.floor start.now (λ i j d low within. absurd (omega arith)) (λ round other success given h. absurd (omega (arith, h.1))) in
+      let made = ap (λ y. recovered same elect y start.floor start.now none) begins.fresh in
+      record {
+        own = own_floor [] [] own_nothing (floor_acts start.floor) start.floor;
+        shows = shows_whole none none start.floor (recovered same elect x start.floor start.now none) (λ v. refl) (subst (λ y. Shows none y) (sym made) shows);
+      }
+
+  start_own : KeepsRecord {G = G} term_length (floor_acts start.floor) (started same elect start.fresh start.floor start.now)
+  start_own = record { lives = start_lives same decides elect signature_of term_length start begins; tells = start_tells }
+
+  module _ (steps : List (StepFacts K L D)) (fresh : BeginFresh term_length steps) where
+    -- a copy of a member's own record is refused only for what comes from outside
+    pub own_record_outside : (replies : List (Told K D G)) (end : MemberFacts K L D G) (next : RestartFacts K L D) (copy : List (ArtifactFacts D G)) (found : RecoverError) → IsRun same elect signature_of (started same elect start.fresh start.floor start.now) steps replies end → IsByView (cut end next.drop next.prune).entries copy → recover_error same next.start.fresh next.start.floor next.start.now copy ≡ Some found → IsFromOutside found
+    own_record_outside replies end next copy found run by_view is =
+        let own = run_own same decides itself elect signature_of term_length begins.some steps replies (floor_acts start.floor) (started same elect start.fresh start.floor start.now) end fresh start_own run in
+        copy_outside same decides itself elect signature_of term_length begins.some own.0 end next copy found own.1 by_view is
+
+    -- so is a restart, but for its retention and want of memory
+    pub own_restart_excused : (replies : List (Told K D G)) (end left : MemberFacts K L D G) (next : RestartFacts K L D) (found : RecoverError) → IsRun same elect signature_of (started same elect start.fresh start.floor start.now) steps replies end → IsRestart same elect end next (Err found) left → IsExcused found
+    own_restart_excused replies end left next found run restarts =
+        let own = run_own same decides itself elect signature_of term_length begins.some steps replies (floor_acts start.floor) (started same elect start.fresh start.floor start.now) end fresh start_own run in
+        restart_excused same decides itself elect signature_of term_length begins.some own.0 end left next (Err found) found refl own.1 restarts
+
+    -- and a run
+    pub own_run_excused : (found : RecoverError) → EndsRunFrom {G = G} same elect signature_of start steps found → IsExcused found
+    unfolding EndsRunFrom
+    own_run_excused found (inl memory) = inr (inr memory)
+    own_run_excused found (inr (inl refused)) = inl (error_outside {G = G} same start.fresh start.floor start.now [] found tt refused)
+    own_run_excused found (inr (inr ends)) = run_excused same decides itself elect signature_of term_length begins.some steps (floor_acts start.floor) (started same elect start.fresh start.floor start.now) found fresh start_own ends

@@ -1,0 +1,28 @@
+-- event by event, and life by life
+use Rattle.std.proofs.Common.{refl, Ok}
+use Rattle.simplex_laws.proofs.Histories.{event_shown}
+use Rattle.simplex_laws.proofs.HistoriesOfLives.{begun_shown, called_shown, recovered_shown, restarted_shown, ran_shown}
+use Rattle.simplex_laws.proofs.laws.histories.histories_are_shown.Goals as goal
+
+pub returns-clause-begun : goal.returns-clause-begun
+returns-clause-begun g c = begun_shown g.D.PartialEq.eq g.L.Elector.elect
+
+pub returns-clause-kept : goal.returns-clause-kept
+returns-clause-kept g c history x e shows allowed =
+    event_shown g.D.PartialEq.eq g.L.Elector.elect history x shows g.met.D.Digest.equal_is_same e allowed
+
+pub returns-clause-called : goal.returns-clause-called
+returns-clause-called g c history m left call told shown is_call =
+    called_shown g.D.PartialEq.eq g.met.D.Digest.equal_is_same g.L.Elector.elect g.S.Scheme.signature_of m history left call told shown is_call
+
+pub returns-clause-recovered : goal.returns-clause-recovered
+returns-clause-recovered g c term_length start entries fresh none =
+    recovered_shown g.D.PartialEq.eq g.met.D.Digest.equal_is_same g.L.Elector.elect start term_length fresh entries none
+
+pub returns-clause-restarted : goal.returns-clause-restarted
+returns-clause-restarted g c term_length m left r fresh restarts =
+    restarted_shown g.D.PartialEq.eq g.met.D.Digest.equal_is_same g.L.Elector.elect g.S.Scheme.signature_of m term_length left r (Ok tt) refl fresh restarts
+
+pub returns-clause-ran : goal.returns-clause-ran
+returns-clause-ran g c term_length start steps replies end begins fresh good run =
+    ran_shown g.D.PartialEq.eq g.met.D.Digest.equal_is_same g.L.Elector.elect g.S.Scheme.signature_of term_length start steps replies end begins fresh good run

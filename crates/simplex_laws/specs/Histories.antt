@@ -1,0 +1,96 @@
+-- How the history of a member's life grows: by its calls, and anew by each recovery.
+use Rattle.std.specs.Prelude.{◌≡◌, ℕ, Bool, ◌-◌, nat_lt, if◌then◌else◌, List, [], ◌∷◌, ◌++◌, Option, Some, None, MatchOption}
+use Rattle.simplex_types.specs.Certificates.{ArtifactFacts, Verdict, Accepted, Notarized, Nullified, Finalized}
+use Rattle.simplex_voter.specs.Facts.{Elect}
+use Rattle.simplex_types.specs.declared.types.messages.Context.{Context}
+use Rattle.simplex_member.specs.Calls.{CallFacts, Told, Refused, NotAllowed, NotRestarted}
+use Rattle.simplex_member.specs.Openings.{Openings, context_at}
+use Rattle.simplex_member.specs.Work as work
+use Rattle.simplex_member.specs.Work.{WorkCall}
+use Rattle.simplex_member.specs.Entries.{entry_view}
+use Rattle.simplex_laws.specs.Events.{Event, History, SetFloor, AddNotarization, AddNullification, AddFinalization, Certified, ConstructNotarize, SetProposal, TryPropose, Proposed, Supersede, Release, TryVerify, Verified, VerificationFailed, CertifyCandidates, SetCertifyHandle, TriggerTimeout, NextTimeout, Replay, events_of}
+use Rattle.simplex_member.specs.Lives.{MemberFacts}
+use Rattle.simplex_member.specs.Runs.{StepFacts, Calls, Works, Restarts}
+use Rattle.simplex_laws.specs.Shows.{Shows}
+use Rattle.simplex_member.specs.Start.{StartFacts}
+use Rattle.simplex_laws.specs.Sums.{finalized_in}
+
+-- an entry is taken again: a certificate is added before it is replayed, and a verdict is given after that
+abbrev pub retaken_events : {K D G : Type 0} → ℕ → ArtifactFacts D G → List (Event K D G)
+retaken_events now (Accepted (Notarized c)) = Replay (Accepted (Notarized c)) ∷ AddNotarization c ∷ []
+retaken_events now (Accepted (Nullified c)) = Replay (Accepted (Nullified c)) ∷ AddNullification c now ∷ []
+retaken_events now (Accepted (Finalized c)) = Replay (Accepted (Finalized c)) ∷ AddFinalization c now ∷ []
+retaken_events now (Verdict round success) = Certified round.view success now ∷ Replay (Verdict round success) ∷ []
+retaken_events now vote = Replay vote ∷ []
+
+-- the event of what a call does in a context, where one is open
+abbrev pub in_context : {K D G : Type 0} → (Context D K → Event K D G) → Option (Context D K) → List (Event K D G)
+in_context event None = []
+in_context event (Some context) = event context ∷ []
+
+-- the event of a call on the work of a view, with what is open then
+abbrev pub work_events : {K D G : Type 0} → Openings K D → WorkCall D → List (Event K D G)
+work_events o (work.SetProposal v p) = SetProposal v p ∷ []
+work_events o work.TryPropose = TryPropose ∷ []
+work_events o (work.Proposed v payload now) = in_context (λ context. Proposed context payload now) (context_at o v)
+work_events o (work.SupersedeProposalRequest v) = in_context Supersede (context_at o v)
+work_events o (work.PendingHandoffAbandonment _) = []
+work_events o (work.ReleaseProposalRequest v) = Release v ∷ []
+work_events o work.TryVerify = TryVerify ∷ []
+work_events o (work.Verified v) = Verified v ∷ []
+work_events o (work.VerificationFailed v reason now) = VerificationFailed v reason now ∷ []
+work_events o (work.ConstructNotarize v) = ConstructNotarize v ∷ []
+work_events o work.CertifyCandidates = CertifyCandidates ∷ []
+work_events o (work.SetCertifyHandle v token) = SetCertifyHandle v token ∷ []
+work_events o (work.TriggerTimeout v reason now) = TriggerTimeout v reason now ∷ []
+work_events o (work.NextTimeout now) = NextTimeout now ∷ []
+
+module _ {K L D G : Type 0} where
+  -- with these events more, the latest first
+  abbrev pub with_events : History K L D G → List (Event K D G) → History K L D G
+  with_events history new = record history { events = new ++ history.events }
+
+  -- with the call, unless it is refused
+  abbrev pub with_call : History K L D G → CallFacts D → Told K D G → History K L D G
+  with_call history call (Refused _) = history
+  with_call history call NotAllowed = history
+  with_call history call _ = with_events history (events_of call)
+
+  -- with the call on the work of a view, unless it is refused
+  abbrev pub with_work : History K L D G → Openings K D → WorkCall D → Told K D G → History K L D G
+  with_work history o call (Refused _) = history
+  with_work history o call NotAllowed = history
+  with_work history o call _ = with_events history (work_events o call)
+
+  -- with an entry that is taken again; one below the views that are kept is passed over
+  abbrev pub with_entry : History K L D G → ℕ → ArtifactFacts D G → History K L D G
+  with_entry history now e =
+      if nat_lt (entry_view e) (finalized_in history.events - history.fresh.settings.view_retention)
+      then history
+      else with_events history (retaken_events now e)
+
+  abbrev pub with_entries : History K L D G → ℕ → List (ArtifactFacts D G) → History K L D G
+  with_entries history now [] = history
+  with_entries history now (e ∷ rest) = with_entries (with_entry history now e) now rest
+
+  -- the history of a life that begins with a floor and a record
+  abbrev pub recovery : StartFacts K L D → List (ArtifactFacts D G) → History K L D G
+  recovery start entries =
+      with_entries (record { fresh = start.fresh; events = SetFloor start.floor start.now ∷ [] }) start.now entries
+
+  -- how steps and what they are told lead from one history to another: a call with what was open then; a restart that is
+  -- not refused takes again some order of what is left of the record
+  abbrev pub LeadsTo : History K L D G → List (StepFacts K L D) → List (Told K D G) → History K L D G → Type 0
+  LeadsTo history [] [] last = last ≡ history
+  LeadsTo history [] (told ∷ rest) last = ⊥
+  LeadsTo history (step ∷ steps) [] last = ⊥
+  LeadsTo history (Calls call ∷ steps) (told ∷ rest) last = LeadsTo (with_call history call told) steps rest last
+  LeadsTo history (Works call ∷ steps) (told ∷ rest) last = (o : Openings K D) × LeadsTo (with_work history o call told) steps rest last
+  LeadsTo history (Restarts r ∷ steps) (NotRestarted _ ∷ rest) last = LeadsTo history steps rest last
+  LeadsTo history (Restarts r ∷ steps) (told ∷ rest) last =
+      (copy : List (ArtifactFacts D G)) × LeadsTo (recovery r.start copy) steps rest last
+
+module _ {K L D G : Type 0} (same : D → D → Bool) (elect : Elect L) where
+  -- while the member lives, its state knows what the history says
+  abbrev pub IsShown : History K L D G → MemberFacts K L D G → Type 0
+  IsShown history m = MatchOption m.life (Unit {0}) (Shows same elect history)

@@ -1,0 +1,15 @@
+pub mod Acts
+pub mod Network
+pub mod CallActs
+pub mod RunActs
+pub mod LifeLaws
+pub mod Outside
+pub mod Events
+pub mod Sums
+pub mod OwnWork
+pub mod Shows
+pub mod Histories
+pub mod Leading
+pub mod Requested
+pub mod ShownRounds
+pub mod Timing

@@ -1,0 +1,140 @@
+-- What a list of events says: numbers, and what was handed in for each view. The latest event stands first.
+use Rattle.std.specs.Prelude.{ℕ, ◌+◌, ◌-◌, max, Bool, true, false, ◌&&◌, ◌==◌, List, [], ◌∷◌, Option, Some, None, is_some, unwrap_or, if◌then◌else◌}
+use Rattle.std.specs.List.{list_any}
+use Rattle.std.specs.Option.{option_or}
+use Rattle.simplex_types.specs.Terms.{next_term_start}
+use Rattle.simplex_types.specs.Certificates.{ProposalFacts, NullificationFacts, Verdict, Accepted, Nullified}
+use Rattle.simplex_types.specs.Config.{Genesis, Finalized}
+use Rattle.simplex_laws.specs.Events.{Event, SetFloor, AddNotarization, AddNullification, AddFinalization, Certified, Proposed, VerificationFailed, TriggerTimeout, NextTimeout, Prune, Replay}
+
+-- the first thing that a list says, the last and the greatest
+
+-- what was there, or else what is new
+abbrev pub or_new : {A : Type 0} → Option A → Option A → Option A
+or_new old None = old
+or_new old (Some a) = option_or old (Some a)
+
+abbrev pub earliest : {A B : Type 0} → (A → Option B) → List A → Option B
+earliest f [] = None
+earliest f (e ∷ before) = or_new (earliest f before) (f e)
+
+abbrev pub latest : {A B : Type 0} → (A → Option B) → List A → Option B
+latest f [] = None
+latest f (e ∷ before) = option_or (f e) (latest f before)
+
+abbrev pub greatest : {A : Type 0} → (A → ℕ) → List A → ℕ
+greatest f [] = 0
+greatest f (e ∷ before) = max (greatest f before) (f e)
+
+abbrev pub at : {A : Type 0} → ℕ → ℕ → A → Option A
+at v w a = if v == w then Some a else None
+
+-- a view is among these
+abbrev pub is_among : List ℕ → ℕ → Bool
+is_among views v = list_any (λ u. v == u) views
+
+-- what one event says
+
+module _ {K D G : Type 0} where
+  -- of a view
+
+  abbrev pub notarizes : ℕ → Event K D G → Option (ProposalFacts D)
+  notarizes v (AddNotarization c) = at v c.proposal.round.view c
+  notarizes v _ = None
+
+  abbrev pub nullifies : ℕ → Event K D G → Option NullificationFacts
+  nullifies v (AddNullification c _) = at v c.round.view c
+  nullifies v _ = None
+
+  abbrev pub finalizes : ℕ → Event K D G → Option (ProposalFacts D)
+  finalizes v (AddFinalization c _) = at v c.proposal.round.view c
+  finalizes v (SetFloor (Finalized c) _) = at v c.proposal.round.view c
+  finalizes v _ = None
+
+  -- a verdict, unless it is given for a view without a notarization
+  abbrev pub judges : (ℕ → Bool) → ℕ → Event K D G → Option Bool
+  judges is_notarized v (Certified w success _) = if v == w && is_notarized w then Some success else None
+  judges is_notarized v (Replay (Verdict round success)) = at v round.view success
+  judges is_notarized v _ = None
+
+  -- a nullification of the view is handed in or replayed
+  abbrev pub covers_from : ℕ → Event K D G → Bool
+  covers_from v (AddNullification c _) = v == c.round.view
+  covers_from v (Replay (Accepted (Nullified c))) = v == c.round.view
+  covers_from v _ = false
+
+  -- of the state
+
+  abbrev pub sets_genesis : Event K D G → Option D
+  sets_genesis (SetFloor (Genesis payload) _) = Some payload
+  sets_genesis _ = None
+
+  abbrev pub finalized_by : Event K D G → ℕ
+  finalized_by (AddFinalization c _) = c.proposal.round.view
+  finalized_by (SetFloor (Finalized c) _) = c.proposal.round.view
+  finalized_by _ = 0
+
+  -- a true verdict enters the next view, unless it is given for a view without a notarization
+  abbrev pub entered_by : ℕ → (ℕ → Bool) → Event K D G → ℕ
+  entered_by term_length is_notarized (SetFloor (Genesis _) _) = 1
+  entered_by term_length is_notarized (SetFloor (Finalized c) _) = c.proposal.round.view + 1
+  entered_by term_length is_notarized (AddFinalization c _) = c.proposal.round.view + 1
+  entered_by term_length is_notarized (AddNullification c _) = next_term_start term_length c.round.view
+  entered_by term_length is_notarized (Certified v true _) = if is_notarized v then v + 1 else 0
+  entered_by term_length is_notarized _ = 0
+
+  abbrev pub moment_by : Event K D G → Option ℕ
+  moment_by (SetFloor _ now) = Some now
+  moment_by (AddNullification _ now) = Some now
+  moment_by (AddFinalization _ now) = Some now
+  moment_by (Certified _ _ now) = Some now
+  moment_by (Proposed _ _ now) = Some now
+  moment_by (VerificationFailed _ _ now) = Some now
+  moment_by (TriggerTimeout _ _ now) = Some now
+  moment_by (NextTimeout now) = Some now
+  moment_by _ = None
+
+  abbrev pub is_prune : Event K D G → Bool
+  is_prune Prune = true
+  is_prune _ = false
+
+-- what the list says
+
+module _ {K D G : Type 0} where
+  abbrev pub notarization_in : ℕ → List (Event K D G) → Option (ProposalFacts D)
+  notarization_in v history = earliest (notarizes v) history
+
+  abbrev pub nullification_in : ℕ → List (Event K D G) → Option NullificationFacts
+  nullification_in v history = earliest (nullifies v) history
+
+  abbrev pub finalization_in : ℕ → List (Event K D G) → Option (ProposalFacts D)
+  finalization_in v history = earliest (finalizes v) history
+
+  abbrev pub is_notarized_in : List (Event K D G) → ℕ → Bool
+  is_notarized_in history v = is_some (notarization_in v history)
+
+  abbrev pub verdict_in : ℕ → List (Event K D G) → Option Bool
+  verdict_in v [] = None
+  verdict_in v (e ∷ before) = or_new (verdict_in v before) (judges (is_notarized_in before) v e)
+
+  abbrev pub is_nullified_in : ℕ → List (Event K D G) → Bool
+  is_nullified_in v history = list_any (covers_from v) history
+
+  abbrev pub genesis_in : List (Event K D G) → Option D
+  genesis_in history = latest sets_genesis history
+
+  abbrev pub moment_in : List (Event K D G) → ℕ
+  moment_in history = unwrap_or (latest moment_by history) 0
+
+  -- the greatest finalized view, and the greatest view that was entered, in terms of this length
+  abbrev pub finalized_in : List (Event K D G) → ℕ
+  finalized_in history = greatest finalized_by history
+
+  abbrev pub current_in : ℕ → List (Event K D G) → ℕ
+  current_in term_length [] = 0
+  current_in term_length (e ∷ before) = max (current_in term_length before) (entered_by term_length (is_notarized_in before) e)
+
+  -- the lowest view that the prunes left, where so many views below the last finalized one are kept
+  abbrev pub kept_in : ℕ → List (Event K D G) → ℕ
+  kept_in retention [] = 0
+  kept_in retention (e ∷ before) = max (kept_in retention before) (if is_prune e then finalized_in before - retention else 0)

@@ -1,7 +1,0 @@
--- from the start on, step by step
-use Rattle.simplex_member.proofs.RunsLawful.{run_from_lawful}
-use Rattle.simplex_member.proofs.member.laws.votes_are_lawful.Goals as goal
-
-pub returns : goal.returns
-returns g c term_length start steps replies begins fresh run =
-    run_from_lawful g.D.PartialEq.eq g.met.D.Digest.equal_is_same g.L.Elector.elect g.S.Scheme.signature_of term_length start begins steps replies fresh run
