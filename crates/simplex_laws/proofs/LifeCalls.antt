@@ -28,7 +28,7 @@ pub record KeepsRules {K L D : Type 0} (term_length : ℕ) (acts : List (Act D))
   pub lawful : IsLawful term_length acts
   pub stays : Stays term_length acts x
 
-none_follows : {A B : Type 0} (f : A → Option B) (o : Option A) → ((a : A) → f a ≡ None) → option_and_then f o ≡ None
+pub none_follows : {A B : Type 0} (f : A → Option B) (o : Option A) → ((a : A) → f a ≡ None) → option_and_then f o ≡ None
 none_follows f None no_value = refl
 none_follows f (Some a) no_value = no_value a
 

@@ -21,6 +21,7 @@ use Rattle.simplex_voter.proofs.Rules.{notarize_parts}
 use Rattle.simplex_laws.specs.Acts.{Act, Accept, Cast}
 use Rattle.simplex_member.specs.Openings.{Openings}
 use Rattle.simplex_member.specs.Work.{notarize_vote}
+use Rattle.simplex_laws.proofs.LifeCalls.{none_follows}
 use Rattle.simplex_laws.proofs.Lawful.{AllowsNotarize}
 use Rattle.simplex_laws.proofs.CalmOn.{on_prepared}
 use Rattle.simplex_laws.proofs.Tidy.{opposite}
@@ -28,10 +29,6 @@ use Rattle.simplex_laws.proofs.Notes.{NotesStand}
 use Rattle.simplex_laws.proofs.VotedParents.{any_of, bound_reaches}
 use Rattle.simplex_laws.proofs.LeavesVotes.{round_put}
 use Rattle.simplex_laws.proofs.WorkNotes.{decided_notes}
-
-none_follows : {A B : Type 0} (f : A → Option B) (o : Option A) → ((a : A) → f a ≡ None) → option_and_then f o ≡ None
-none_follows f None no_value = refl
-none_follows f (Some a) no_value = no_value a
 
 -- what is told of a vote
 module _ {K L D G : Type 0} (same : D → D → Bool) (elect : Elect L) (signature_of : ℕ → Subject D → G) (x : Facts K L D) (v : ℕ) where

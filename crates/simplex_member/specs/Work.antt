@@ -1,5 +1,5 @@
--- The calls by which a member builds, verifies, votes to notarize, certifies and times out: what each asks, is told and leaves. `Member` takes
--- none of them yet; runs have them, so that the laws of runs are laws of runs with them.
+-- The calls by which a member builds, verifies, votes to notarize, certifies and times out: what each asks, is told and
+-- leaves. `Member` takes none of them yet; runs have them, so that the laws of runs are laws of runs with them.
 use Rattle.std.specs.Prelude.{◌≡◌, ◌⊎◌, ℕ, Bool, true, false, ◌&&◌, if◌then◌else◌, List, [], ◌++◌, Option, Some, None, is_some, option_map, option_and_then}
 use Rattle.std.specs.Option.{option_map_or}
 use Rattle.simplex_types.specs.Certificates.{ArtifactFacts, NotarizeVote}
@@ -119,6 +119,16 @@ module _ {K L D : Type 0} (same : D → D → Bool) (elect : Elect L) where
   openings_after x o CertifyCandidates = with_offers o (candidates_answer same elect x).0
   openings_after x o _ = o
 
+-- a call for which a growth may be refused: of the state's rounds and lists, of the record, or of what is open
+abbrev pub takes_memory : {D : Type 0} → WorkCall D → Bool
+takes_memory (SetProposal _ _) = true
+takes_memory TryPropose = true
+takes_memory TryVerify = true
+takes_memory (ConstructNotarize _) = true
+takes_memory CertifyCandidates = true
+takes_memory (SetCertifyHandle _ _) = true
+takes_memory _ = false
+
 module _ {K L D G : Type 0} (same : D → D → Bool) (elect : Elect L) (signature_of : ℕ → Subject D → G) where
   -- what a living member tells
   abbrev pub work_reply : Facts K L D → Openings K D → WorkCall D → Told K D G
@@ -141,7 +151,7 @@ module _ {K L D G : Type 0} (same : D → D → Bool) (elect : Elect L) (signatu
   IsWorkOf None m call told left = (told ≡ Refused fault.Failed) × (left ≡ m)
   IsWorkOf (Some x) m call told left =
       ((told ≡ work_reply x m.openings call) × (left ≡ left_of_work x m call))
-      ⊎ ((work_allowed x m.openings call ≡ true) × (told ≡ Refused fault.OutOfMemory) × ((left ≡ m) ⊎ (left ≡ fallen m)))
+      ⊎ ((takes_memory call && work_allowed x m.openings call ≡ true) × (told ≡ Refused fault.OutOfMemory) × ((left ≡ m) ⊎ (left ≡ fallen m)))
 
   -- a call on the work of a view, what it tells and what is left of the member
   unfoldable pub IsWork : MemberFacts K L D G → WorkCall D → Told K D G → MemberFacts K L D G → Type 0
