@@ -14,7 +14,8 @@ use Rattle.simplex_voter.specs.Verifying.{Verification}
 use Rattle.simplex_voter.specs.Facts.{Facts, Elect, round_number}
 use Rattle.simplex_voter.specs.Refusals.{plain_refusal}
 use Rattle.simplex_voter.specs.Acceptance.{takes_proposal_certificate, takes_nullification, notarization_refusal, nullification_refusal, finalization_refusal, notarization_added, nullification_added, finalization_added, after_add_notarization, after_add_nullification, after_add_finalization}
-use Rattle.simplex_voter.specs.Certification.{takes_verdict, is_first_verdict, certified_refusal, certified_answer, after_certified, Fetch}
+use Rattle.simplex_voter.specs.declared.voter.offers.CertificateFetch.{CertificateFetch}
+use Rattle.simplex_voter.specs.Certification.{takes_verdict, is_first_verdict, certified_refusal, certified_answer, after_certified}
 use Rattle.simplex_voter.specs.Votes.{nullify_answer, after_construct_nullify, finalize_answer, after_construct_finalize}
 use Rattle.simplex_voter.specs.Serving.{broadcast_notarization_answer, after_broadcast_notarization, broadcast_nullification_answer, after_broadcast_nullification, broadcast_finalization_answer, after_broadcast_finalization, best_certificate, prune_answer, after_prune}
 use Rattle.simplex_member.specs.declared.member.error.RecoverError.{RecoverError}
@@ -50,8 +51,8 @@ call_facts bytes_of (call.BroadcastFinalization v) = BroadcastFinalization v
 call_facts bytes_of call.GetBestCertificate = GetBestCertificate
 call_facts bytes_of call.Prune = Prune
 
--- what a reply tells, with votes as the entries that they are recorded as; and what no reply tells yet: what calls on the work
--- of a view are told, and why a restart was refused
+-- what a reply tells, with votes as the entries that they are recorded as; and what no reply tells yet: what those calls on the
+-- work of a view are told that no member makes, and why a restart was refused
 pub data Told (K D G : Type 0) : Type 0 where
   Added : Bool → Option K → Told K D G
   Judged : Option (ProposalFacts D) → Told K D G
@@ -64,7 +65,7 @@ pub data Told (K D G : Type 0) : Type 0 where
   Standing : Verification K D → Told K D G
   Answered : Bool → Told K D G
   Abandoned : Option HandoffAbandonedReason → Told K D G
-  Candidates : List (Proposal D) → List Fetch → Told K D G
+  Candidates : List (Proposal D) → List CertificateFetch → Told K D G
   TimesOut : Option (ℕ × TimeoutReason) → Told K D G
   Done : Told K D G
   Restarted : Told K D G
@@ -89,6 +90,9 @@ module _ {S D K G C : Type 0} (bytes_of : C → List ℕ) where
   told (reply.Finalize vote) = Finalize (told_finalize vote)
   told (reply.Certificate certificate) = Handed (option_map (certificate_facts bytes_of) certificate)
   told (reply.Views views) = Dropped views.items
+  told (reply.Answered taken) = Answered taken
+  told (reply.TimesOut at reason) = TimesOut (Some (at, reason))
+  told reply.Done = Done
   told reply.Restarted = Restarted
   told (reply.Fault fault) = Refused fault
   told reply.NotAllowed = NotAllowed

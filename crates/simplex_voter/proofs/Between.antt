@@ -10,7 +10,7 @@ use Rattle.simplex_types.specs.Tracked.{at_or_above, below}
 use Rattle.simplex_types.proofs.Maps.{entries-retain_keys}
 use Rattle.simplex_voter.proofs.Gaps.{cases_bool}
 
-any-filter : {A : Type 0} (p q : A → Bool) (xs : List A) → list_any q (filter p xs) ≡ list_any (λ x. p x && q x) xs
+pub any-filter : {A : Type 0} (p q : A → Bool) (xs : List A) → list_any q (filter p xs) ≡ list_any (λ x. p x && q x) xs
 any-filter p q [] = refl
 any-filter p q (x ∷ xs) = elim (cases_bool (p x)) [
   | inl passes ↦ rw passes (ap (λ b. q x || b) (any-filter p q xs))

@@ -21,3 +21,12 @@ pub mod Elsewhere
 pub mod Raising
 pub mod Accepting
 pub mod Recalled
+pub mod Proposals
+pub mod Requests
+pub mod Stalls
+pub mod Polling
+pub mod Handles
+pub mod Offers
+pub mod Covered
+pub mod Offered
+pub mod Explicit

@@ -31,7 +31,7 @@ guarded_some true o a e = (refl, e)
 guarded_some false o a e = absurd (false≢true (ap is_some e))
 
 module _ {K L D : Type 0} (x : Facts K L D) where
-  spans_parts : (v p : ℕ) → spans x v p ≡ true → (p < v) × (x.finalized ≤ p) × ((p + 1 == v || is_start x v) ≡ true)
+  pub spans_parts : (v p : ℕ) → spans x v p ≡ true → (p < v) × (x.finalized ≤ p) × ((p + 1 == v || is_start x v) ≡ true)
   unfolding spans
   spans_parts v p h =
       let last = and_parts (ltb p v && leb x.finalized p) _ h in

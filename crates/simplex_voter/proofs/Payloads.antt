@@ -75,7 +75,7 @@ each_same f g None h = refl
 each_same f g (Some a) h = h a refl
 
 module _ {K L D : Type 0} (same : D → D → Bool) (elect : Elect L) (x : Facts K L D) where
-  follows-below : (v p : ℕ) → follows x v p ≡ true → p < v
+  pub follows-below : (v p : ℕ) → follows x v p ≡ true → p < v
   unfolding follows
   follows-below v p h =
       let parts = and_parts (leb x.finalized p && ltb p v) _ h in

@@ -11,6 +11,7 @@ use Rattle.simplex_types.specs.declared.types.messages.Proposal.{Proposal}
 use Rattle.simplex_types.specs.declared.reasons.TimeoutReason.TheVariants.{FailedCertification}
 use Rattle.simplex_round.specs.declared.round.Certification.TheVariants.{Outstanding}
 use Rattle.simplex_round.specs.Round.{RoundFacts, certifiable_proposal, certified_round, token_of, after_abort, is_judged}
+use Rattle.simplex_voter.specs.declared.voter.offers.CertificateFetch.{CertificateFetch}
 use Rattle.simplex_voter.specs.Facts.{Facts, Elect, round_at, round_of, is_tracked, with_round, with_tracked}
 use Rattle.simplex_voter.specs.Refusals.{first_fault, enters_late, is_started}
 use Rattle.simplex_voter.specs.Payloads.{explicit_payload}
@@ -18,11 +19,6 @@ use Rattle.simplex_voter.specs.Parents.{spans}
 use Rattle.simplex_voter.specs.Rules.{required_parent}
 use Rattle.simplex_voter.specs.Entering.{entered, at_moment}
 use Rattle.simplex_voter.specs.Timeouts.{triggered}
-
--- a notarization that a proposal's certification waits for: the proposal's view, and the view to fetch
-pub record Fetch : Type 0 where
-  pub proposal : ℕ
-  pub view : ℕ
 
 -- a certification that is under way ends without a verdict
 abbrev pub without_token : {K D : Type 0} → RoundFacts K D → RoundFacts K D
@@ -61,7 +57,7 @@ module _ {K L D : Type 0} (elect : Elect L) where
       option_map_or (λ q. spans x v p.parent && is_some (explicit_payload x q)) (required_parent elect x v p) true
 
   -- what the proposal requires is neither certified nor even notarized, and the proposal is not invalid for good
-  abbrev pub fetch_for : Facts K L D → ℕ → Proposal D → Option Fetch
+  abbrev pub fetch_for : Facts K L D → ℕ → Proposal D → Option CertificateFetch
   fetch_for x v p =
       option_and_then
       (λ q. if spans x v p.parent && is_none (explicit_payload x q) && is_none (round_of x q).notarization
@@ -69,7 +65,7 @@ module _ {K L D : Type 0} (elect : Elect L) where
       else None)
       (required_parent elect x v p)
 
-  abbrev pub fetched_of : Facts K L D → ℕ → Option Fetch
+  abbrev pub fetched_of : Facts K L D → ℕ → Option CertificateFetch
   fetched_of x v = option_and_then (fetch_for x v) (round_of x v).slot.held
 
 module _ {K L D : Type 0} (same : D → D → Bool) (elect : Elect L) where
@@ -81,7 +77,7 @@ module _ {K L D : Type 0} (same : D → D → Bool) (elect : Elect L) where
       (certifiable_proposal (same_proposal same) (round_of x v))
 
   -- `certify_candidates`: what is offered of the views that wait, and what they have to fetch, by rising view; none waits then
-  abbrev pub candidates_answer : Facts K L D → List (Proposal D) × List Fetch
+  abbrev pub candidates_answer : Facts K L D → List (Proposal D) × List CertificateFetch
   candidates_answer x = (filter_map (offered_of x) x.named, filter_map (fetched_of elect x) x.named)
 
 module _ {K L D : Type 0} where

@@ -19,8 +19,12 @@ module _ {K L D : Type 0} where
   unfoldable pub spans : Facts K L D → ℕ → ℕ → Bool
   spans x v p = nat_lt p v && nat_le x.finalized p && (p + 1 == v || is_start x v)
 
+  -- a tracked view with its explicit payload, where it has one
+  abbrev pub explicit_at : Facts K L D → ℕ × RoundFacts K D → Option (ℕ × D)
+  explicit_at x e = at_view e.0 (explicit_payload x e.0)
+
   abbrev pub explicit_below : Facts K L D → ℕ → ℕ × RoundFacts K D → Option (ℕ × D)
-  explicit_below x v e = if nat_lt e.0 v then at_view e.0 (explicit_payload x e.0) else None
+  explicit_below x v e = if nat_lt e.0 v then explicit_at x e else None
 
   -- the highest tracked view below with an explicit payload, else genesis
   abbrev pub highest_explicit : Facts K L D → ℕ → Option (ℕ × D)

@@ -1,11 +1,11 @@
 -- What a state hands out and shows, and what it drops.
-use Rattle.std.specs.Prelude.{ℕ, ◌-◌, Bool, ◌||◌, ◌==◌, nat_lt, nat_le, List, Option, None, is_some, option_map, option_and_then, if◌then◌else◌, map, filter}
+use Rattle.std.specs.Prelude.{ℕ, ◌-◌, Bool, false, ◌||◌, ◌==◌, nat_lt, nat_le, List, Option, None, is_some, option_map, option_and_then, if◌then◌else◌, map, filter}
 use Rattle.std.specs.List.{last_or}
-use Rattle.std.specs.Option.{option_or}
+use Rattle.std.specs.Option.{option_or, option_map_or}
 use Rattle.simplex_types.specs.Terms.{covers}
 use Rattle.simplex_types.specs.Certificates.{ProposalFacts, NullificationFacts, CertificateFacts, Notarized, Nullified, Finalized}
 use Rattle.simplex_types.specs.declared.types.messages.Proposal.{Proposal}
-use Rattle.simplex_round.specs.Round.{forwardable, start_of, elapsed}
+use Rattle.simplex_round.specs.Round.{forwardable, start_of, elapsed, token_of, is_aborted}
 use Rattle.simplex_voter.specs.Facts.{Facts, round_at, round_of, with_tracked}
 use Rattle.simplex_voter.specs.Windows.{is_start, min_active}
 
@@ -30,6 +30,13 @@ module _ {K L D : Type 0} where
 
   abbrev pub forwardable_of : Facts K L D → ℕ → Option (Proposal D)
   forwardable_of x v = option_and_then forwardable (round_at x v)
+
+  -- the token of a certification that is under way, and whether it was given up
+  abbrev pub certify_token_of : Facts K L D → ℕ → Option ℕ
+  certify_token_of x v = option_and_then (λ r. token_of r.certification) (round_at x v)
+
+  abbrev pub is_certify_aborted : Facts K L D → ℕ → Bool
+  is_certify_aborted x v = option_map_or (λ r. is_aborted r.certification) (round_at x v) false
 
   -- in milliseconds, 0 where the moment lies before
   abbrev pub elapsed_since_start : Facts K L D → ℕ → ℕ → Option ℕ

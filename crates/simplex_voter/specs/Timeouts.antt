@@ -1,5 +1,5 @@
 -- When the current view times out, and why.
-use Rattle.std.specs.Prelude.{ℕ, ◌+◌, ◌-◌, Bool, true, false, ◌&&◌, ◌||◌, not, nat_lt, nat_le, Option, is_some, option_map, option_and_then, if◌then◌else◌, filter, slice_get}
+use Rattle.std.specs.Prelude.{ℕ, ◌+◌, ◌-◌, Bool, true, false, ◌&&◌, ◌||◌, not, nat_lt, nat_le, Option, None, is_some, option_map, option_and_then, if◌then◌else◌, filter, slice_get}
 use Rattle.std.specs.Option.{option_map_or}
 use Rattle.simplex_types.specs.Terms.{term_index, term_start}
 use Rattle.simplex_types.specs.declared.types.fault.Fault.{Fault}
@@ -33,6 +33,14 @@ or_stalled stall now timeout =
     stall
     timeout
 
+-- the stall deadline of a view, until it is finalized
+abbrev pub standing_deadline : {K D : Type 0} → RoundFacts K D → Option ℕ
+standing_deadline r = if is_some r.finalization then None else r.stall_deadline
+
+-- an entered view above one view and not above another
+abbrev pub is_entered_between : {K D : Type 0} → ℕ → ℕ → ℕ × RoundFacts K D → Bool
+is_entered_between low high e = nat_lt low e.0 && nat_le e.0 high && is_some e.1.entered_at
+
 module _ {K L D : Type 0} where
   -- the view times out at its next poll, unless it is passed, or not tracked, or the reason is contradicted
   abbrev pub triggered : Facts K L D → ℕ → TimeoutReason → ℕ → Facts K L D
@@ -57,7 +65,7 @@ module _ {K L D : Type 0} where
 
   -- the stall deadline of the least of them
   abbrev pub stall_deadline : Facts K L D → Option ℕ
-  stall_deadline x = option_and_then (λ e. e.1.stall_deadline) (slice_get (filter (is_stalling x) x.rounds) 0)
+  stall_deadline x = option_and_then (λ e. standing_deadline e.1) (slice_get (filter (is_stalling x) x.rounds) 0)
 
   -- the current round, with the moment of its retry where nullify was decided
   abbrev pub polled : Facts K L D → ℕ → RoundFacts K D

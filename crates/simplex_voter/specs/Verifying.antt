@@ -2,6 +2,8 @@
 use Rattle.std.specs.Prelude.{ℕ, Bool, true, false, ◌&&◌, ◌==◌, not, List, [], ◌∷◌, Option, Some, None, is_none, option_map, option_and_then, if◌then◌else◌, slice_get, fold}
 use Rattle.std.specs.List.{filter_map}
 use Rattle.std.specs.Option.{option_map_or}
+use Rattle.std.specs.Ordering.{nat_cmp}
+use Rattle.std.specs.FinMap.{FinMap, insert}
 use Rattle.simplex_types.specs.Proposal.{same_proposal}
 use Rattle.simplex_types.specs.declared.types.messages.Context.{Context}
 use Rattle.simplex_types.specs.declared.types.messages.Proposal.{Proposal}
@@ -13,6 +15,7 @@ use Rattle.simplex_round.specs.declared.round.Leader.{Leader}
 use Rattle.simplex_round.specs.Slot.{after_vote, after_mark, is_unverified}
 use Rattle.simplex_round.specs.Round.{RoundFacts, is_nullify, pending_proposal, with_latch, is_last_request}
 use Rattle.simplex_voter.specs.Facts.{Facts, Elect, round_at, round_of, with_round, with_tracked}
+use Rattle.simplex_voter.specs.Rounds.{Origin, round_in}
 use Rattle.simplex_voter.specs.Gaps.{first_gap}
 use Rattle.simplex_voter.specs.Windows.{in_window, is_admitted}
 use Rattle.simplex_voter.specs.Parents.{spans, payload_for, binding_matches}
@@ -66,6 +69,10 @@ answer_at v Invalid found = None
 answer_at v (Lacks w kind) found = Some (Resolve v w kind found.0.key)
 answer_at v (Ready d) found = Some (Verify (verify_context found d) found.1)
 
+-- the first proposal of a view, where nullify was not decided
+abbrev pub is_new_proposal : {K D : Type 0} → RoundFacts K D → Bool
+is_new_proposal r = not (is_nullify r.decision) && is_none r.slot.held
+
 module _ {K L D : Type 0} where
   -- what the scan leaves where it comes to a view of this standing
   abbrev pub left_at : Facts K L D → ℕ × RoundFacts K D → Standing D → Facts K L D
@@ -83,11 +90,15 @@ module _ {K L D : Type 0} where
 
   -- `set_proposal`: whether to verify it
   abbrev pub set_proposal_answer : Facts K L D → ℕ → Bool
-  set_proposal_answer x v = not (is_nullify (round_of x v).decision) && is_none (round_of x v).slot.held
+  set_proposal_answer x v = is_new_proposal (round_of x v)
 
 abbrev pub with_proposal : {K D : Type 0} → (D → D → Bool) → RoundFacts K D → Proposal D → RoundFacts K D
 with_proposal same r p =
     if is_nullify r.decision then r else record r { slot = after_vote (same_proposal same) r.slot p }
+
+-- the rounds with a proposal that a view's round takes
+abbrev pub proposed_rounds : {K D : Type 0} → (D → D → Bool) → Origin K → FinMap nat_cmp (RoundFacts K D) → ℕ → Proposal D → FinMap nat_cmp (RoundFacts K D)
+proposed_rounds same o rounds v p = insert rounds v (with_proposal same (round_in o rounds v) p)
 
 abbrev pub with_mark : {K D : Type 0} → RoundFacts K D → RoundFacts K D
 with_mark r = if is_nullify r.decision then r else record r { slot = after_mark r.slot }

@@ -11,6 +11,7 @@ use Rattle.simplex_types.specs.declared.types.messages.Artifact.{Artifact}
 use Rattle.simplex_types.specs.declared.types.messages.Artifact.TheVariants as artifact
 use Rattle.simplex_types.specs.declared.reasons.TimeoutReason.{TimeoutReason}
 use Rattle.simplex_types.specs.declared.reasons.HandoffAbandonedReason.{HandoffAbandonedReason}
+use Rattle.simplex_voter.specs.declared.voter.offers.CertificateFetch.{CertificateFetch}
 use Rattle.simplex_voter.specs.Facts.{Settings, Facts, Elect, new_facts}
 use Rattle.simplex_voter.specs.Gaps.{first_gap}
 use Rattle.simplex_voter.specs.Windows.{admits_vote, min_active, is_admitted, in_window}
@@ -19,7 +20,7 @@ use Rattle.simplex_voter.specs.Parents.{spans, payload_for, parent_payload, pref
 use Rattle.simplex_voter.specs.Rules.{may_nullify, is_gated, required_parent, may_finalize, may_notarize}
 use Rattle.simplex_voter.specs.Refusals.{plain_refusal, proposal_refusal, takes_round}
 use Rattle.simplex_voter.specs.Timeouts.{after_trigger_timeout, next_timeout_answer, after_next_timeout, next_timeout_refusal, has_timeout}
-use Rattle.simplex_voter.specs.Certification.{Fetch, candidates_answer, after_candidates, after_set_certify_handle, takes_certify_handle, certified_answer, after_certified, certified_refusal, takes_verdict}
+use Rattle.simplex_voter.specs.Certification.{candidates_answer, after_candidates, after_set_certify_handle, takes_certify_handle, certified_answer, after_certified, certified_refusal, takes_verdict}
 use Rattle.simplex_types.specs.Config.{Finalized as FinalizedFloor}
 use Rattle.simplex_voter.specs.Acceptance as accept
 use Rattle.simplex_voter.specs.Votes.{nullify_answer, after_construct_nullify, finalize_answer, after_construct_finalize, notarize_answer, after_construct_notarize}
@@ -89,7 +90,7 @@ pub data Reply : Type 0 where
   Asked : Option (Request ℕ ℕ) → Reply
   Abandoned : Option HandoffAbandonedReason → Reply
   Work : Verification ℕ ℕ → Reply
-  Offered : List (Proposal ℕ) → List Fetch → Reply
+  Offered : List (Proposal ℕ) → List CertificateFetch → Reply
   Judged : Option (Proposal ℕ) → Reply
   Vote : Option (Proposal ℕ) → Reply
   NullifyVote : Option Bool → Reply
@@ -253,7 +254,7 @@ voter me length optimistic =
 abbrev pub keyless : ℕ → ℕ → State
 keyless length optimistic = member None (record { term_length = length; optimistic_views = optimistic; stall_timeout = None }) usual 0
 
-abbrev pub fetch : ℕ → ℕ → Fetch
+abbrev pub fetch : ℕ → ℕ → CertificateFetch
 fetch p v = record { proposal = p; view = v }
 
 -- a member that begins above a finalization

@@ -1,16 +1,18 @@
 //! Changes of the round of a view that is tracked. None takes memory.
 
-ghost use Rattle.std.specs.Prelude.{◌≡◌, None, false, not, option_and_then, if◌then◌else◌};
+ghost use Rattle.std.specs.Prelude.{◌≡◌, ◌&&◌, ◌+◌, IfErr, IfOk, OnOk, None, false, is_err, not, option_and_then, if◌then◌else◌};
 ghost use Rattle.std.specs.Option.{option_map_or};
 ghost use Rattle.std.specs.FinMap as map;
-ghost use Rattle.simplex_round.specs.Round.{can_finalize, is_judged};
+ghost use Rattle.simplex_round.specs.Round.{awaits_retry, can_finalize, is_judged, round_timeout, with_retry};
+ghost use Rattle.simplex_types.specs.declared.types.fault.Fault.TheVariants.{TimeOverflow};
+ghost use Rattle.simplex_voter.specs.Refusals.{is_past_u64};
 ghost use Rattle.simplex_voter.specs.Rounds.{AreMadeBy, Origin};
-ghost use Rattle.simplex_voter.specs.InPlace.{finalize_decided_rounds, judged_rounds, latched_rounds};
+ghost use Rattle.simplex_voter.specs.InPlace.{finalize_decided_rounds, judged_rounds, latched_rounds, polled_rounds};
 
 use simplex_round::round::Round;
 use simplex_types::reasons::TimeoutReason;
 use simplex_types::sorted::Tracked;
-use simplex_types::types::{CertificateScheme, Digest, Proposal, View};
+use simplex_types::types::{CertificateScheme, Digest, Fault, Proposal, View};
 
 /// Decides the vote to finalize a tracked view where its round allows that, and answers what is voted for.
 pub fn decide_finalize<S: CertificateScheme, D: Digest>(
@@ -54,5 +56,26 @@ pub fn latch<S: CertificateScheme, D: Digest>(
 {
     if let Some(round) = rounds.get_mut(view) {
         round.latch_timeout(now, reason);
+    }
+}
+
+/// Answers the next timeout of a tracked view, if it has one. The first poll after a vote to nullify sets the moment of
+/// its repeat; where that is past 2^64 - 1, nothing changes and `TimeOverflow` is answered.
+pub fn poll<S: CertificateScheme, D: Digest>(
+    rounds: &mut Tracked<Round<S, D>>,
+    view: View,
+    now: u64,
+    retry: u64,
+    allow_latched: bool,
+) -> Result<Option<(u64, TimeoutReason)>, Fault>
+    ensures made { (o : Origin S.PublicKey) → AreMadeBy o rounds.old → AreMadeBy o rounds.new }
+    ensures late { is_err result ≡ option_map_or (λ r. awaits_retry r && is_past_u64 (now + retry)) (map.get rounds.old view) false }
+    ensures refused { IfErr result (λ fault. (fault ≡ TimeOverflow) × (rounds.new ≡ rounds.old)) }
+    ensures polled { OnOk result (rounds.new ≡ polled_rounds rounds.old view now retry) }
+    ensures answer { IfOk result (λ timeout. timeout ≡ option_and_then (λ r. round_timeout (with_retry r now retry) allow_latched) (map.get rounds.old view)) }
+{
+    match rounds.get_mut(view) {
+        Some(round) => round.next_timeout(now, retry, allow_latched),
+        None => Ok(None),
     }
 }

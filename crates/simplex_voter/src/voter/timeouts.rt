@@ -1,16 +1,41 @@
 //! Timeouts of views.
 
-ghost use Rattle.std.specs.Prelude.{◌≡◌};
+ghost use Rattle.std.specs.Prelude.{◌≡◌, IfSome, IsOk, OnOk, Err, None, true};
 
 use super::in_place::latch;
 use super::state::State;
 use simplex_types::reasons::TimeoutReason;
-use simplex_types::types::{CertificateScheme, Digest, Elector, View};
+use simplex_types::types::{CertificateScheme, Digest, Elector, Fault, View};
 
 impl<S: CertificateScheme, L: Elector<S>, D: Digest> State<S, L, D> {
     ghost use Rattle.simplex_voter.specs.Facts.{round_of, with_tracked};
     ghost use Rattle.simplex_round.specs.Round.{with_latch};
-    ghost use Rattle.simplex_voter.specs.Timeouts.{is_contradicted, triggered};
+    ghost use Rattle.simplex_voter.specs.Refusals.{is_started, plain_refusal};
+    ghost use Rattle.simplex_voter.specs.Timeouts.{after_trigger_timeout, is_contradicted, triggered};
+
+    /// Times a view out at its next poll, for a reason and at a moment in milliseconds: the first such timeout of a view
+    /// stays, and none comes once either vote was decided. A view that is passed or isn't tracked stays as it is, and so
+    /// does one that times out for `Inactivity` while a proposal without conflict is held. The moment is noted always.
+    ///
+    /// The state has a floor.
+    pub fn trigger_timeout(
+        &mut self,
+        view: View,
+        reason: TimeoutReason,
+        now: u64,
+    ) -> Result<(), Fault>
+        requires { is_started self.old ≡ true }
+        ensures refused { IfSome (plain_refusal self.old) (λ fault. (result ≡ Err fault) × (self.new ≡ self.old)) }
+        ensures after { OnOk result (self.new ≡ after_trigger_timeout self.old view reason now) }
+        ensures taken { plain_refusal self.old ≡ None → IsOk result }
+    {
+        if self.is_failed() {
+            return Err(Fault::Failed);
+        }
+        self.note_moment(now);
+        self.trigger(view, reason, now);
+        Ok(())
+    }
 
     /// The view times out at its next poll, unless it is passed, or not tracked, or the reason is contradicted.
     pub(super) fn trigger(&mut self, view: View, reason: TimeoutReason, now: u64)

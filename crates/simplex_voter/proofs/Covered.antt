@@ -1,0 +1,76 @@
+-- What the searches of the containers say of nullified views and of views that were certified false.
+use Rattle.std.proofs.Common.{◌≡◌, ℕ, ◌+◌, ◌<◌, Bool, true, false, ◌&&◌, ltb, leb, Option, Some, None, is_some, option_map, inl, inr, arith, refl, ap, sym, ◌∙◌}
+use Rattle.std.specs.Prelude.{MatchOption}
+use Rattle.std.specs.List.{list_any}
+use Rattle.std.specs.Ordering.{nat_cmp}
+use Rattle.std.specs.FinMap as fin
+use Rattle.std.proofs.lemmas.Bool.{cases_lt, false≢true}
+use Rattle.std.proofs.lemmas.Bool.Decides.{nat_tests}
+use Rattle.simplex_types.specs.Terms.{term_start, covers}
+use Rattle.simplex_types.specs.Tracked.{at_or_above, below}
+use Rattle.simplex_types.specs.ByTerm as by
+use Rattle.simplex_types.proofs.Gaps.{any_last}
+use Rattle.simplex_types.proofs.Maps.{entries-retain_keys}
+use Rattle.simplex_round.specs.Round.{RoundFacts, is_judged}
+use Rattle.simplex_voter.specs.Facts.{Facts}
+use Rattle.simplex_voter.specs.Gaps.{is_covered, IsGapless, IsFirstGap, first_gap}
+use Rattle.simplex_voter.specs.Payloads.{has_failed}
+use Rattle.simplex_voter.proofs.Gaps.{first_gap-is}
+use Rattle.simplex_voter.proofs.Between.{any-filter}
+
+mapped_some : {A B : Type 0} (f : A → B) (o : Option A) → is_some (option_map f o) ≡ is_some o
+mapped_some f None = refl
+mapped_some f (Some a) = refl
+
+module _ {K L D : Type 0} (x : Facts K L D) (m : by.TermMap (Unit {0})) (shown : x.nullified ≡ fin.keys m.by_view) (same : m.term_length ≡ x.terms.term_length) where
+  covered_alike : (w : ℕ) → by.is_covered m w ≡ is_covered x w
+  covered_alike w = rw (shown, ← same) refl
+
+  pub covered_by : {A : Type 0} (f : A → ℕ × Unit {0}) (found : Option A) (v : ℕ) → option_map f found ≡ by.covering m v → is_some found ≡ is_covered x v
+  covered_by f found v is =
+      sym (mapped_some f found) ∙ ap is_some is ∙ any_last m.by_view (λ u. covers m.term_length u v) ∙ covered_alike v
+
+  same_gap : (p v : ℕ) (a b : Option ℕ) → MatchOption a (by.Gapless m p v) (by.IsFirstGap m p v) → MatchOption b (IsGapless x p v) (IsFirstGap x p v) → a ≡ b
+  same_gap p v None None left right = refl
+  same_gap p v None (Some w) left right = absurd (false≢true (sym right.uncovered ∙ sym (covered_alike w) ∙ left w right.above right.below))
+  same_gap p v (Some w) None left right = absurd (false≢true (sym left.2 ∙ covered_alike w ∙ right w left.0 left.1))
+  same_gap p v (Some w) (Some u) left right = elim (cases_lt w u) [
+    | inl under ↦ absurd (false≢true (sym left.2 ∙ covered_alike w ∙ right.covered_before w left.0 under))
+    | inr over ↦ elim (cases_lt u w) [
+      | inl under ↦ absurd (false≢true (sym right.uncovered ∙ sym (covered_alike u) ∙ left.3 u right.above under))
+      | inr level ↦ let alike : w ≡ u = omega arith in ap Some alike
+    ]
+  ]
+
+  -- the gap that the search finds is the first one
+  pub first_found : (p v : ℕ) (found : Option ℕ) → 0 < x.terms.term_length → MatchOption found (by.Gapless m p v) (by.IsFirstGap m p v) → found ≡ first_gap x p v
+  first_found p v found some is = same_gap p v found (first_gap x p v) is (first_gap-is x p v some)
+
+-- a round of a view above another was certified false
+abbrev pub failed_above : {K D : Type 0} → ℕ → ℕ × RoundFacts K D → Bool
+failed_above finalized e = ltb finalized e.0 && is_judged false e.1.certification
+
+moved : (a b c d : Bool) → (c && (b && (a && d))) ≡ (a && b && c && d)
+moved true true c d = refl
+moved true false true d = refl
+moved true false false d = refl
+moved false true true d = refl
+moved false true false d = refl
+moved false false true d = refl
+moved false false false d = refl
+
+up_to : (u v : ℕ) → ltb u (v + 1) ≡ leb u v
+up_to u v = grind (arith, nat_tests)
+
+module _ {K L D : Type 0} (x : Facts K L D) (m : fin.FinMap nat_cmp (RoundFacts K D)) (shown : x.rounds ≡ fin.entries m) where
+  -- a round that was certified false, of a view in the term and above the last finalized one
+  pub failed_shown : (start v next : ℕ) → start ≡ term_start x.terms.term_length v → next ≡ v + 1 → list_any (failed_above x.finalized) (fin.entries (at_or_above (below m next) start)) ≡ has_failed x v
+  failed_shown start v next starts after =
+      let test : ℕ × RoundFacts K D → Bool = failed_above x.finalized in
+      ap (list_any test) (entries-retain_keys (below m next) (λ u. leb start u))
+      ∙ any-filter (λ e. leb start e.0) test (fin.entries (below m next))
+      ∙ ap (list_any (λ e. leb start e.0 && test e)) (entries-retain_keys m (λ u. ltb u next))
+      ∙ any-filter (λ e. ltb e.0 next) (λ e. leb start e.0 && test e) (fin.entries m)
+      ∙ rw (starts, after, shown) (
+      (λ i. list_any (λ (e : ℕ × RoundFacts K D). up_to e.0 v i && (leb (term_start x.terms.term_length v) e.0 && test e)) (fin.entries m))
+      ∙ (λ i. list_any (λ (e : ℕ × RoundFacts K D). moved (ltb x.finalized e.0) (leb (term_start x.terms.term_length v) e.0) (leb e.0 v) (is_judged false e.1.certification) i) (fin.entries m)))

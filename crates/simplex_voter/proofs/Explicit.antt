@@ -1,0 +1,66 @@
+-- The search for the highest view with an explicit payload.
+use Rattle.std.proofs.Common.{◌≡◌, ℕ, true, false, List, [], ◌∷◌, ◌++◌, ltb, filter, length, arith, Option, Some, None, is_some, refl, ap, sym, ◌∙◌, inl, inr}
+use Rattle.std.specs.List.{filter_map, cons_option, last_or}
+use Rattle.std.specs.Ordering.{nat_cmp}
+use Rattle.std.specs.FinMap as map
+use Rattle.std.proofs.lemmas.Bool.{false≢true}
+use Rattle.std.proofs.lemmas.List.Elements.{filter_map-append}
+use Rattle.simplex_types.specs.Tracked.{below}
+use Rattle.simplex_types.proofs.Maps.{entries-retain_keys}
+use Rattle.simplex_round.specs.Round.{RoundFacts}
+use Rattle.simplex_voter.specs.Facts.{Facts}
+use Rattle.simplex_voter.specs.Parents.{at_view, explicit_at, explicit_below, highest_explicit}
+use Rattle.simplex_voter.proofs.Gaps.{cases_bool}
+
+module _ {A : Type 0} where
+  last-append : (o : Option A) (xs : List A) (y : A) → last_or o (xs ++ y ∷ []) ≡ Some y
+  last-append o [] y = refl
+  last-append o (x ∷ xs) y = last-append (Some x) xs y
+
+  last-nothing : (o : Option A) (xs : List A) → last_or o (xs ++ []) ≡ last_or o xs
+  last-nothing o [] = refl
+  last-nothing o (x ∷ xs) = last-nothing (Some x) xs
+
+  last-some : (x : A) (xs : List A) → is_some (last_or (Some x) xs) ≡ true
+  last-some x [] = refl
+  last-some x (y ∷ xs) = last-some y xs
+
+  -- where there is a last one, the other is not asked for
+  last-there : (o : Option A) (xs : List A) (a : A) → Some a ≡ last_or None xs → Some a ≡ last_or o xs
+  last-there o [] a is = let bad : Some a ≡ None = is in cc
+  last-there o (x ∷ xs) a is = is
+
+  last-absent : (o : Option A) (xs : List A) → None ≡ last_or None xs → o ≡ last_or o xs
+  last-absent o [] is = refl
+  last-absent o (x ∷ xs) is = absurd (false≢true (ap is_some is ∙ last-some x xs))
+
+module _ {A B : Type 0} (h : A → Option B) (xs : List A) (y : A) where
+  pub passed_by : (found : Option B) → found ≡ h y → false ≡ is_some found → last_or None (filter_map h (xs ++ y ∷ [])) ≡ last_or None (filter_map h xs)
+  passed_by None is none = ap (last_or None) (filter_map-append h xs (y ∷ []) ∙ ap (λ o. filter_map h xs ++ cons_option o []) (sym is)) ∙ last-nothing None (filter_map h xs)
+  passed_by (Some b) is none = absurd (false≢true none)
+
+  pub stopped_at : (found : Option B) → found ≡ h y → true ≡ is_some found → found ≡ last_or None (filter_map h (xs ++ y ∷ []))
+  stopped_at None is some = absurd (false≢true (sym some))
+  stopped_at (Some b) is some = sym (ap (last_or None) (filter_map-append h xs (y ∷ []) ∙ ap (λ o. filter_map h xs ++ cons_option o []) (sym is)) ∙ last-append None (filter_map h xs) b)
+
+pub none_left : {A B : Type 0} (h : A → Option B) (xs : List A) → length xs ≡ 0 → None ≡ last_or None (filter_map h xs)
+none_left h [] is = refl
+none_left h (x ∷ xs) is = absurd (omega (arith, is))
+
+module _ {K L D : Type 0} (x : Facts K L D) (v : ℕ) where
+  explicit_kept : (es : List (ℕ × RoundFacts K D)) → filter_map (explicit_at x) (filter (λ e. ltb e.0 v) es) ≡ filter_map (explicit_below x v) es
+  explicit_kept [] = refl
+  explicit_kept (e ∷ es) = elim (cases_bool (ltb e.0 v)) [
+    | inl under ↦ rw (under, explicit_kept es) refl
+    | inr over ↦ rw over (explicit_kept es)
+  ]
+
+  module _ (m : map.FinMap nat_cmp (RoundFacts K D)) (shown : x.rounds ≡ map.entries m) where
+    searched : filter_map (explicit_at x) (map.entries (below m v)) ≡ filter_map (explicit_below x v) x.rounds
+    searched = ap (filter_map (explicit_at x)) (entries-retain_keys m (λ u. ltb u v)) ∙ explicit_kept (map.entries m) ∙ ap (filter_map (explicit_below x v)) (sym shown)
+
+    pub highest_found : (found : ℕ × D) → Some found ≡ last_or None (filter_map (explicit_at x) (map.entries (below m v))) → Some found ≡ highest_explicit x v
+    highest_found found is = last-there (at_view 0 x.genesis) (filter_map (explicit_at x) (map.entries (below m v))) found is ∙ ap (last_or (at_view 0 x.genesis)) searched
+
+    pub none_explicit : (genesis : Option (ℕ × D)) → None ≡ last_or None (filter_map (explicit_at x) (map.entries (below m v))) → genesis ≡ at_view 0 x.genesis → genesis ≡ highest_explicit x v
+    none_explicit genesis is other = other ∙ last-absent (at_view 0 x.genesis) (filter_map (explicit_at x) (map.entries (below m v))) is ∙ ap (last_or (at_view 0 x.genesis)) searched

@@ -1,0 +1,62 @@
+-- The first entry that passes a test, and when the current term counts as stalled.
+use Rattle.std.proofs.Common.{◌≡◌, ℕ, ◌+◌, ◌<◌, ◌≤◌, Bool, true, false, ◌&&◌, ltb, leb, List, [], ◌∷◌, filter, length, get_or, drop, Option, Some, None, slice_get, is_some, refl, ap, sym, ◌∙◌, inl, inr, arith}
+use Rattle.std.specs.Prelude.{option_and_then}
+use Rattle.std.specs.Ordering.{nat_cmp, ord_max}
+use Rattle.std.specs.FinMap as map
+use Rattle.std.proofs.lemmas.Bool.Decides.{nat_tests}
+use Rattle.std.proofs.lemmas.List.{drop_more, drop_all}
+use Rattle.simplex_types.specs.Tracked.{at_or_above}
+use Rattle.simplex_types.specs.Terms.{term_start}
+use Rattle.simplex_types.specs.declared.types.window.Terms.{Terms}
+use Rattle.simplex_round.specs.Round.{RoundFacts}
+use Rattle.simplex_voter.specs.Facts.{Facts}
+use Rattle.simplex_voter.specs.Timeouts.{is_entered_between, is_stalling, standing_deadline, stall_deadline}
+use Rattle.simplex_voter.proofs.Containers.{entries-kept}
+use Rattle.simplex_voter.proofs.Gaps.{cases_bool}
+
+-- a walk over a list for the first element that passes
+module _ {A : Type 0} (test : A → Bool) (xs : List A) (i : ℕ) (rest : slice_get (filter test xs) 0 ≡ slice_get (filter test (drop i xs)) 0) where
+  pub first_found : (x : A) → i < length xs → x ≡ get_or xs i x → true ≡ test x → slice_get (filter test xs) 0 ≡ Some x
+  first_found x within read passes = rest ∙ ap (λ ys. slice_get (filter test ys) 0) (drop_more xs i x within) ∙ rw (← read, ← passes) refl
+
+  pub first_next : (x : A) → i < length xs → x ≡ get_or xs i x → false ≡ test x → slice_get (filter test xs) 0 ≡ slice_get (filter test (drop (i + 1) xs)) 0
+  first_next x within read fails = rest ∙ ap (λ ys. slice_get (filter test ys) 0) (drop_more xs i x within) ∙ rw (← read, ← fails) refl
+
+  pub first_end : length xs ≤ i → slice_get (filter test xs) 0 ≡ None
+  first_end past = rest ∙ ap (λ ys. slice_get (filter test ys) 0) (drop_all i xs past)
+
+-- a filter of what another left
+filter-filter : {A : Type 0} (p q r : A → Bool) → ((x : A) → (p x && q x) ≡ r x) → (xs : List A) → filter q (filter p xs) ≡ filter r xs
+filter-filter p q r same [] = refl
+filter-filter p q r same (x ∷ xs) = elim (cases_bool (p x)) [
+  | inl passes ↦
+      let alike : q x ≡ r x = sym (rw passes refl) ∙ same x in
+      rw (passes, alike, filter-filter p q r same xs) refl
+  | inr fails ↦
+      let alike : false ≡ r x = sym (rw fails refl) ∙ same x in
+      rw (fails, ← alike) (filter-filter p q r same xs)
+]
+
+from_higher : (start low high view : ℕ) (b : Bool) → (leb (ord_max nat_cmp start low) view && (ltb low view && leb view high && b)) ≡ (ltb low view && leb start view && leb view high && b)
+from_higher start low high view true = grind (arith, nat_tests)
+from_higher start low high view false = grind (arith, nat_tests)
+
+module _ {K L D : Type 0} (x : Facts K L D) (m : map.FinMap nat_cmp (RoundFacts K D)) (shown : x.rounds ≡ map.entries m) where
+  abbrev Entries : Type 0
+  Entries = List (ℕ × RoundFacts K D)
+
+  -- the deadline of the first entered view of some entries
+  abbrev first_deadline : Entries → Option ℕ
+  first_deadline es = option_and_then (λ e. standing_deadline e.1) (slice_get (filter (is_entered_between x.finalized x.current) es) 0)
+
+  from_later : (start low : ℕ) → start ≡ term_start x.terms.term_length x.current → low ≡ ord_max nat_cmp start x.finalized → first_deadline (map.entries (at_or_above m low)) ≡ stall_deadline x
+  from_later start low begins is =
+      let late : Entries → Entries = filter (λ e. leb low e.0) in
+      let left : map.entries (at_or_above m low) ≡ late x.rounds = entries-kept m low ∙ ap late (sym shown) in
+      let same = filter-filter (λ (e : ℕ × RoundFacts K D). leb low e.0) (is_entered_between x.finalized x.current) (is_stalling x) (λ e. rw (is, begins) (from_higher (term_start x.terms.term_length x.current) x.finalized x.current e.0 (is_some e.1.entered_at))) x.rounds in
+      ap first_deadline left ∙ ap (λ (es : Entries). option_and_then (λ (e : ℕ × RoundFacts K D). standing_deadline e.1) (slice_get es 0)) same
+
+  -- the deadline is looked up from the term's start and the last finalized view on
+  pub stall_shown : (finalized current start low : ℕ) (terms : Terms) (es : Entries) (answer : Option ℕ) → finalized ≡ x.finalized → current ≡ x.current → terms ≡ x.terms → start ≡ term_start terms.term_length current → low ≡ ord_max nat_cmp start finalized → es ≡ map.entries (at_or_above m low) → answer ≡ option_and_then (λ e. standing_deadline e.1) (slice_get (filter (is_entered_between finalized current) es) 0) → answer ≡ stall_deadline x
+  stall_shown finalized current start low terms es answer last now same begins is read found =
+      found ∙ rw (last, now, read) (from_later start low (begins ∙ rw (same, now) refl) (is ∙ ap (λ v. ord_max nat_cmp start v) last))

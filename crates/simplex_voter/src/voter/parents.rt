@@ -1,0 +1,184 @@
+//! On which views a view may build.
+
+ghost use Rattle.std.specs.Prelude.{◌≡◌, ◌≤◌, ◌-◌, ◌+◌, ◌^◌, None};
+ghost use Rattle.std.specs.List.{filter_map, last_or};
+ghost use Rattle.simplex_voter.specs.Parents.{is_payload, is_parent, at_view};
+
+use super::state::State;
+use super::terms::before;
+use simplex_round::round::Round;
+use simplex_types::types::{CertificateScheme, Digest, Elector, Proposal, View};
+
+/// A view with its payload, where it has one.
+fn at_view<D: Digest>(view: View, payload: Option<D>) -> Option<(View, D)>
+    ensures { result ≡ at_view view payload }
+{
+    Some((view, payload?))
+}
+
+/// Whether this payload was found.
+fn is_payload<D: Digest>(found: Option<D>, payload: D) -> bool
+    ensures { result ≡ is_payload D.eq found payload }
+{
+    match found {
+        Some(other) => other == payload,
+        None => false,
+    }
+}
+
+/// Whether this view was found, with this payload.
+fn is_parent<D: Digest>(found: Option<(View, D)>, parent: View, payload: D) -> bool
+    ensures { result ≡ is_parent D.eq found parent payload }
+{
+    match found {
+        Some(other) => other.0 == parent && other.1 == payload,
+        None => false,
+    }
+}
+
+impl<S: CertificateScheme, L: Elector<S>, D: Digest> State<S, L, D> {
+    ghost use Rattle.simplex_voter.specs.Payloads.{explicit_payload};
+    ghost use Rattle.simplex_voter.specs.Parents.{spans, leads, parent_payload, explicit_at, highest_explicit, handoff, preferred_at_start, preferred_parent, may_stand, holds_binding, binding_matches};
+
+    /// Whether the parent is below the view, not under the last finalized one, and inside a term just below. Where not,
+    /// that can't change for the better.
+    #[tactic(auto, unfolding(crate::specs::Parents::spans))]
+    pub(super) fn spans(&self, view: View, parent: View) -> bool
+        ensures { result ≡ spans self.now view parent }
+    {
+        parent < view && parent >= self.finalized && (parent == before(view) || self.is_start(view))
+    }
+
+    /// The payload with which the parent is allowed.
+    #[tactic(auto, unfolding(crate::specs::Parents::parent_payload))]
+    pub(super) fn parent_payload(&self, view: View, parent: View) -> Option<D>
+        requires { view ≤ 2 ^ 64 - 2 ^ 33 }
+        ensures { result ≡ parent_payload D.eq L.elect self.now view parent }
+    {
+        if !self.spans(view, parent) {
+            return None;
+        }
+        if !self.is_gapless(parent, view) {
+            return None;
+        }
+        self.payload_for(view, parent)
+    }
+
+    /// The view before a term's start, with what it offers, where its term may be handed over to this member.
+    fn handoff(&self, view: View) -> Option<(View, D)>
+        requires { view + 1 ≤ 2 ^ 64 - 2 ^ 33 }
+        ensures { result ≡ handoff D.eq L.elect self.now view }
+    {
+        if !self.is_handoff_parent(view) {
+            return None;
+        }
+        at_view(view, self.optimistic_payload(view))
+    }
+
+    /// At a term's start the highest explicit view below; where a gap lies above that, the view before.
+    fn preferred_at_start(&self, view: View) -> Option<(View, D)>
+        requires { view ≤ 2 ^ 64 - 2 ^ 33 }
+        ensures { result ≡ preferred_at_start D.eq L.elect self.now view }
+    {
+        let found = self.highest_explicit(view)?;
+        if self.is_gapless(found.0, view) {
+            return Some(found);
+        }
+        self.handoff(before(view))
+    }
+
+    /// The parent, with its payload, on which this member builds.
+    #[tactic(auto, unfolding(crate::specs::Parents::preferred_parent))]
+    pub(super) fn preferred_parent(&self, view: View) -> Option<(View, D)>
+        requires { view ≤ 2 ^ 64 - 2 ^ 33 }
+        ensures { result ≡ preferred_parent D.eq L.elect self.now view }
+    {
+        if self.is_start(view) {
+            return self.preferred_at_start(view);
+        }
+        let parent = before(view);
+        at_view(parent, self.payload_for(view, parent))
+    }
+
+    /// Whether the parent is allowed, or preferred, with this payload.
+    #[tactic(auto, unfolding(crate::specs::Parents::may_stand))]
+    pub(super) fn may_stand(&self, view: View, parent: View, payload: D) -> bool
+        requires { view ≤ 2 ^ 64 - 2 ^ 33 }
+        ensures { result ≡ may_stand D.eq L.elect self.now view parent payload }
+    {
+        is_parent(self.preferred_parent(view), parent, payload)
+            || is_payload(self.parent_payload(view, parent), payload)
+    }
+
+    /// The highest tracked view below with an explicit payload, else genesis.
+    fn highest_explicit(&self, view: View) -> Option<(View, D)>
+        ensures { result ≡ highest_explicit self.now view }
+    {
+        match self.last_explicit(self.rounds.below(view)) {
+            Some(found) => Some(found),
+            None => at_view(View::zero(), self.genesis),
+        }
+    }
+
+    /// The last of the views that has an explicit payload.
+    fn last_explicit(&self, entries: &[(View, Round<S, D>)]) -> Option<(View, D)>
+        ensures { result ≡ last_or None (filter_map (explicit_at self.now) entries.now) }
+    {
+        for entry in entries.iter().rev() {
+            let found = self.explicit_at(entry.0);
+            if found.is_some() {
+                return found;
+            }
+        }
+        None
+    }
+
+    /// The view with its explicit payload, where it has one.
+    fn explicit_at(&self, view: View) -> Option<(View, D)>
+        ensures { result ≡ at_view view (explicit_payload self.now view) }
+    {
+        Some((view, *self.explicit_payload(view)?))
+    }
+
+    /// Whether this member leads the round's view.
+    fn leads(&self, round: &Round<S, D>) -> bool
+        ensures { result ≡ leads self.now round.now }
+    {
+        match round.leader() {
+            Some(leader) => self.is_me(leader.idx),
+            None => false,
+        }
+    }
+
+    /// Whether the bound proposal is held, and its parent is allowed with the bound payload, or preferred where this
+    /// member leads.
+    fn holds_binding(&self, view: View, round: &Round<S, D>, bound: &(Proposal<D>, D)) -> bool
+        requires { view ≤ 2 ^ 64 - 2 ^ 33 }
+        ensures { result ≡ holds_binding D.eq L.elect self.now view round.now bound.now }
+    {
+        let Some(proposal) = round.proposal() else {
+            return false;
+        };
+        if *proposal != bound.0 {
+            return false;
+        }
+        let parent = proposal.parent;
+        is_payload(self.parent_payload(view, parent), bound.1)
+            || (self.leads(round) && is_parent(self.preferred_parent(view), parent, bound.1))
+    }
+
+    /// Whether nothing is bound at the view, or what is still holds.
+    #[tactic(auto, unfolding(crate::specs::Parents::binding_matches))]
+    pub(super) fn binding_matches(&self, view: View) -> bool
+        requires { view ≤ 2 ^ 64 - 2 ^ 33 }
+        ensures { result ≡ binding_matches D.eq L.elect self.now view }
+    {
+        let Some(round) = self.round_at(view) else {
+            return true;
+        };
+        match round.verifying() {
+            Some(bound) => self.holds_binding(view, round, bound),
+            None => true,
+        }
+    }
+}
