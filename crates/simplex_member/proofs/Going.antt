@@ -43,7 +43,7 @@ module _ {K L D : Type 0} where
   pub with_round_goes : (x : Facts K L D) (v : ℕ) (r : RoundFacts K D) → Goes x (with_round x v r)
   with_round_goes x v r = record { failed = refl; settings = refl; terms = refl; started = λ h. h }
 
-  tracked_goes : (x : Facts K L D) (v : ℕ) (r : RoundFacts K D) → Goes x (with_tracked x v r)
+  pub tracked_goes : (x : Facts K L D) (v : ℕ) (r : RoundFacts K D) → Goes x (with_tracked x v r)
   tracked_goes x v r = where_so x (is_tracked x v) (with_round x v r) x (with_round_goes x v r) (stays x)
 
   led_goes : (x : Facts K L D) (v member : ℕ) → Goes x (led x v member)
@@ -74,7 +74,7 @@ module _ {K L D : Type 0} where
   raised_goes : (x : Facts K L D) (v : ℕ) → Goes x (raised x v)
   raised_goes x v = where_so x (nat_lt x.finalized v) _ x (record { failed = refl; settings = refl; terms = refl; started = λ h. h }) (stays x)
 
-  triggered_goes : (x : Facts K L D) (v : ℕ) (reason : TimeoutReason) (now : ℕ) → Goes x (triggered x v reason now)
+  pub triggered_goes : (x : Facts K L D) (v : ℕ) (reason : TimeoutReason) (now : ℕ) → Goes x (triggered x v reason now)
   triggered_goes x v reason now =
       where_so x (nat_le x.current v && is_tracked x v && not (is_contradicted reason (round_of x v))) (with_round x v (with_latch (round_of x v) now reason)) x
       (with_round_goes x v _) (stays x)
@@ -92,7 +92,7 @@ module _ {K L D : Type 0} (elect : Elect L) where
   woken_goes x p = where_so x (option_map_or (waits_for elect x p) (round_at x (p + 1)) false) (named_also x (p + 1)) x (named_goes x (p + 1)) (stays x)
 
 module _ {K L D : Type 0} where
-  moment_goes : (x : Facts K L D) (now : ℕ) → Goes x (at_moment x now)
+  pub moment_goes : (x : Facts K L D) (now : ℕ) → Goes x (at_moment x now)
   moment_goes x now = record { failed = refl; settings = refl; terms = refl; started = λ h. h }
 
   cast_goes : (x : Facts K L D) (v : ℕ) → Goes x (nullify_cast x v)

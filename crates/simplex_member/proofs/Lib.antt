@@ -15,3 +15,4 @@ pub mod EntryRules
 pub mod Bearing
 pub mod Allowing
 pub mod Remaking
+pub mod Working

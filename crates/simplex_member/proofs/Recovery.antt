@@ -21,7 +21,7 @@ replayed_entry bytes_of same elect x (artifact.Finalize _) = refl
 replayed_entry bytes_of same elect x (artifact.Finalization _) = refl
 
 module _ {K L D : Type 0} (elect : Elect L) where
-  prepared_goes : (x : Facts K L D) (v : ℕ) → Goes x (prepared elect x v)
+  pub prepared_goes : (x : Facts K L D) (v : ℕ) → Goes x (prepared elect x v)
   prepared_goes x v =
       let later = elected elect x (v + 1) None in
       let own = (round_of x v).notarize_decided && is_elected_early elect x (v + 1) in

@@ -3,6 +3,7 @@ use Rattle.std.specs.Prelude.{◌≡◌, ◌⊎◌, Bool, true, false, Option, S
 use Rattle.simplex_types.specs.declared.types.fault.Fault.{Fault}
 use Rattle.simplex_types.specs.declared.types.fault.Fault.TheVariants.{OutOfMemory}
 use Rattle.simplex_voter.specs.Facts.{Facts}
+use Rattle.simplex_member.specs.Work.{WorkCall, work_fault, takes_memory}
 use Rattle.simplex_member.specs.Calls.{CallFacts, AddNotarization, AddNullification, AddFinalization, Certified, BroadcastNotarization, BroadcastNullification, BroadcastFinalization, GetBestCertificate, Prune}
 use Rattle.simplex_member.specs.declared.member.call_error.CallError.{CallError}
 use Rattle.simplex_member.specs.declared.member.call_error.CallError.TheVariants.{Refused, Lost}
@@ -17,6 +18,12 @@ module _ {K L D : Type 0} where
   abbrev pub EndsBy : Option Fault → Facts K L D → Facts K L D → CallError → Type 0
   EndsBy due x y (Refused fault) = ((due ≡ Some fault) ⊎ (fault ≡ OutOfMemory)) × (y ≡ x)
   EndsBy due x y Lost = due ≡ None
+
+module _ {K L D : Type 0} where
+  -- a call on the work of a view is refused for the fault that was due, with all as it was; or lost, where it may want memory
+  abbrev pub WorkEndsBy : WorkCall D → Facts K L D → Facts K L D → CallError → Type 0
+  WorkEndsBy call x y (Refused fault) = (work_fault x call ≡ Some fault) × (y ≡ x)
+  WorkEndsBy call x y Lost = takes_memory call ≡ true
 
 module _ {D : Type 0} where
   -- the call takes in a certificate or a verdict

@@ -9,7 +9,7 @@ use Rattle.simplex_member.specs.declared.member.runs.Step.{Step}
 use Rattle.simplex_member.specs.declared.member.runs.Step.TheVariants as step
 use Rattle.simplex_member.specs.Calls.{CallFacts, call_facts, Told, Restarted, NotRestarted}
 use Rattle.simplex_member.specs.Lives.{MemberFacts, IsCall}
-use Rattle.simplex_member.specs.Work.{WorkCall, IsWork}
+use Rattle.simplex_member.specs.Work.{WorkCall, work_facts, IsWork}
 use Rattle.simplex_member.specs.Recovery.{recover_error}
 use Rattle.simplex_member.specs.Restarts.{RestartFacts, restart_facts, IsRestart}
 use Rattle.simplex_member.specs.Start.{StartFacts, started}
@@ -22,6 +22,7 @@ pub data StepFacts (K L D : Type 0) : Type 0 where
 
 abbrev pub step_facts : {S L D K G C : Type 0} → (S → Option ℕ) → (S → List K) → (L → Terms) → (L → Bool) → (C → List ℕ) → Step S L D K G C → StepFacts K L D
 step_facts me members terms elects_early bytes_of (step.Call call) = Calls (call_facts bytes_of call)
+step_facts me members terms elects_early bytes_of (step.Work work) = Works (work_facts work)
 step_facts me members terms elects_early bytes_of (step.Restart restart) = Restarts (restart_facts me members terms elects_early bytes_of restart)
 
 abbrev pub steps_of : {S L D K G C : Type 0} → (S → Option ℕ) → (S → List K) → (L → Terms) → (L → Bool) → (C → List ℕ) → List (Step S L D K G C) → List (StepFacts K L D)
@@ -30,6 +31,7 @@ steps_of me members terms elects_early bytes_of steps = map (step_facts me membe
 -- the elector of each restart elects among the participants of its scheme
 abbrev pub IsSetUp : {S L D K G C : Type 0} → (S → List K) → (L → ℕ) → Step S L D K G C → Type 0
 IsSetUp participants members (step.Call _) = Unit {0}
+IsSetUp participants members (step.Work _) = Unit {0}
 IsSetUp participants members (step.Restart restart) = members restart.start.settings.elector ≡ length (participants restart.start.settings.scheme)
 
 abbrev pub AreSetUp : {S L D K G C : Type 0} → (S → List K) → (L → ℕ) → List (Step S L D K G C) → Type 0

@@ -15,6 +15,7 @@ mod seen;
 mod serving;
 mod start;
 mod votes;
+mod work;
 
 pub use calls::{Call, Reply};
 pub use check::check_record;
@@ -25,3 +26,4 @@ pub use recovery::recover;
 pub use restart::Restart;
 pub use runs::{Step, run};
 pub use start::Start;
+pub use work::Work;

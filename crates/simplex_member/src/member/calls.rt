@@ -36,6 +36,12 @@ pub enum Reply<S: CertificateScheme, D: Digest> {
     Certificate(Option<Certificate<S, D>>),
     /// The views that were dropped, rising.
     Views(Vec<View>),
+    /// Whether what was handed in is taken.
+    Answered(bool),
+    /// The moment of the next timeout, in milliseconds, and its reason.
+    TimesOut(u64, TimeoutReason),
+    /// The call is made.
+    Done,
     /// The member was restarted.
     Restarted,
     Fault(Fault),

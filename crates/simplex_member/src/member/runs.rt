@@ -1,4 +1,4 @@
-//! Runs of a member: calls and restarts, one after another.
+//! Runs of a member: calls, those on the work of a view among them, and restarts, one after another.
 
 ghost use Rattle.std.specs.Prelude.{◌≡◌, ◌⊎◌, ◌<◌, ◌++◌, ◌∷◌, [], IfOk, IfErr, length, map, vec_len, vec_capacity};
 ghost use Rattle.simplex_member.specs.Calls.{told};
@@ -11,6 +11,7 @@ use super::error::RecoverError;
 use super::life::Member;
 use super::restart::Restart;
 use super::start::Start;
+use super::work::Work;
 use simplex_types::types::{CertificateScheme, Digest, Elector, Scheme};
 use std::alloc::Global;
 
@@ -18,6 +19,7 @@ use std::alloc::Global;
 #[derive(Drop)]
 pub enum Step<S: CertificateScheme, L: Elector<S>, D: Digest> {
     Call(Call<S, D>),
+    Work(Work<D>),
     Restart(Restart<S, L, D>),
 }
 
@@ -81,6 +83,7 @@ fn take_step<S: Scheme<D>, L: Elector<S>, D: Digest>(
 {
     match step {
         Step::Call(call) => Ok(member.call(call)),
+        Step::Work(work) => Ok(member.work(work)),
         Step::Restart(restart) => {
             member.restart(restart)?;
             Ok(Reply::Restarted)
