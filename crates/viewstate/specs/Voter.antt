@@ -13,10 +13,11 @@ use Rattle.simplex_member.specs.Calls.{CallFacts, AddNotarization, AddNullificat
 use Rattle.simplex_member.specs.Lives.{IsCall}
 use Rattle.simplex_member.specs.Restarts.{IsRestart}
 use Rattle.simplex_member.specs.Start.{StartFacts}
+use Rattle.simplex_member.specs.Work.{WorkCall, SetProposal, ReleaseProposalRequest, TriggerTimeout, NextTimeout, IsWork}
 use Rattle.viewstate.specs.declared.network.Network.{Network}
 use Rattle.viewstate.specs.declared.voter_line.CertificateKind.TheVariants as kind
 use Rattle.viewstate.specs.declared.voter_line.VoterLine.{VoterLine}
-use Rattle.viewstate.specs.declared.voter_line.VoterLine.TheVariants.{Notarization, Nullification, Finalization, Verdict, Nullify, Finalize, Broadcast, Best, Prune, Restart, RestartPruned, Record, Views}
+use Rattle.viewstate.specs.declared.voter_line.VoterLine.TheVariants.{Notarization, Nullification, Finalization, Verdict, Nullify, Finalize, Broadcast, Best, Prune, Proposal as ProposalOf, Release, Trigger, Timeout, Restart, RestartPruned, Record, Views}
 use Rattle.viewstate.specs.declared.voter.VoterAnswer.{VoterAnswer}
 use Rattle.viewstate.specs.declared.voter.VoterAnswer.TheVariants as answer
 use Rattle.viewstate.specs.Plain.{PlainMember, same_payload, plain_leader, plain_signature, plain_bytes}
@@ -47,6 +48,22 @@ StandsFor Best call = call ≡ GetBestCertificate
 StandsFor Prune call = call ≡ PruneCall
 StandsFor _ _ = ⊥
 
+-- the call on the work of a view that a line stands for; a proposal is of the view that it is handed in for
+abbrev pub StandsForWork : VoterLine → WorkCall PlainDigest → Type 0
+StandsForWork (ProposalOf v p d) (SetProposal w q) = (w ≡ v) × IsProposal v p d q
+StandsForWork (Release v) work = work ≡ ReleaseProposalRequest v
+StandsForWork (Trigger v reason now) work = work ≡ TriggerTimeout v reason now
+StandsForWork (Timeout now) work = work ≡ NextTimeout now
+StandsForWork _ _ = ⊥
+
+-- whether a line stands for a call on the work of a view
+abbrev pub is_on_work : VoterLine → Bool
+is_on_work (ProposalOf _ _ _) = true
+is_on_work (Release _) = true
+is_on_work (Trigger _ _ _) = true
+is_on_work (Timeout _) = true
+is_on_work _ = false
+
 -- what a member shows of its state
 abbrev pub views_of : Option (Facts PlainKey PlainElector PlainDigest) → VoterAnswer
 views_of None = answer.Failed
@@ -57,6 +74,12 @@ abbrev pub IsReplied : PlainMember → VoterLine → CallFacts PlainDigest → V
 IsReplied m line call (answer.Reply said reply) left =
     (said ≡ line) × IsCall same_payload plain_leader plain_signature m call (told plain_bytes reply) left
 IsReplied _ _ _ _ _ = ⊥
+
+-- the reply to a call on the work of a view, and what it leaves
+abbrev pub IsWorkReplied : PlainMember → VoterLine → WorkCall PlainDigest → VoterAnswer → PlainMember → Type 0
+IsWorkReplied m line work (answer.Reply said reply) left =
+    (said ≡ line) × IsWork same_payload plain_leader plain_signature m work (told plain_bytes reply) left
+IsWorkReplied _ _ _ _ _ = ⊥
 
 -- what a restart of the network's member answers, and what it leaves; the record is cut as asked, and pruned or not
 abbrev pub IsRestarted : Network → PlainMember → ℕ → Bool → ℕ → VoterAnswer → PlainMember → Type 0
@@ -86,3 +109,4 @@ abbrev pub VoterAnswers : Network → PlainMember → VoterLine → VoterAnswer 
 VoterAnswers n m line a left =
     ((is_no_call line ≡ true) × IsDone n m line a left)
     ⊎ ((call : CallFacts PlainDigest) × StandsFor line call × IsReplied m line call a left)
+    ⊎ ((work : WorkCall PlainDigest) × StandsForWork line work × IsWorkReplied m line work a left)

@@ -1,10 +1,11 @@
 -- The lines that ask a voter, by their words.
 use Rattle.std.specs.Prelude.{◌≡◌, ◌≢◌, ℕ, ◌^◌, ◌<◌, List, [], ◌∷◌, decimal, codes, Option, MatchOption, ⊤}
+use Rattle.simplex_types.specs.Reasons.{timeout_reason_text}
 use Rattle.viewstate.specs.Words.{flag_word, ReadsWord}
 use Rattle.viewstate.specs.declared.voter_line.CertificateKind.{CertificateKind}
 use Rattle.viewstate.specs.declared.voter_line.CertificateKind.TheVariants as kind
 use Rattle.viewstate.specs.declared.voter_line.VoterLine.{VoterLine}
-use Rattle.viewstate.specs.declared.voter_line.VoterLine.TheVariants.{Notarization, Nullification, Finalization, Verdict, Nullify, Finalize, Broadcast, Best, Prune, Restart, RestartPruned, Record, Views}
+use Rattle.viewstate.specs.declared.voter_line.VoterLine.TheVariants.{Notarization, Nullification, Finalization, Verdict, Nullify, Finalize, Broadcast, Best, Prune, Proposal, Release, Trigger, Timeout, Restart, RestartPruned, Record, Views}
 
 -- a certificate's kind, as lines name it
 abbrev pub kind_word : CertificateKind → List ℕ
@@ -26,6 +27,10 @@ voter_words (Finalize view) = codes "finalize" ∷ decimal view ∷ []
 voter_words (Broadcast kind view) = codes "broadcast" ∷ kind_word kind ∷ decimal view ∷ []
 voter_words Best = codes "best" ∷ []
 voter_words Prune = codes "prune" ∷ []
+voter_words (Proposal view parent payload) = codes "proposal" ∷ decimal view ∷ decimal parent ∷ decimal payload ∷ []
+voter_words (Release view) = codes "release" ∷ decimal view ∷ []
+voter_words (Trigger view reason now) = codes "trigger" ∷ decimal view ∷ timeout_reason_text reason ∷ decimal now ∷ []
+voter_words (Timeout now) = codes "timeout" ∷ decimal now ∷ []
 voter_words (Restart drop now) = codes "restart" ∷ decimal drop ∷ decimal now ∷ []
 voter_words (RestartPruned drop now) = codes "restart-pruned" ∷ decimal drop ∷ decimal now ∷ []
 voter_words Record = codes "record" ∷ []
@@ -42,6 +47,10 @@ HasSmallNumbers (Finalize view) = view < 2 ^ 64
 HasSmallNumbers (Broadcast kind view) = view < 2 ^ 64
 HasSmallNumbers Best = ⊤
 HasSmallNumbers Prune = ⊤
+HasSmallNumbers (Proposal view parent payload) = (view < 2 ^ 64) × (parent < 2 ^ 64) × (payload < 2 ^ 64)
+HasSmallNumbers (Release view) = view < 2 ^ 64
+HasSmallNumbers (Trigger view reason now) = (view < 2 ^ 64) × (now < 2 ^ 64)
+HasSmallNumbers (Timeout now) = now < 2 ^ 64
 HasSmallNumbers (Restart drop now) = (drop < 2 ^ 64) × (now < 2 ^ 64)
 HasSmallNumbers (RestartPruned drop now) = (drop < 2 ^ 64) × (now < 2 ^ 64)
 HasSmallNumbers Record = ⊤
@@ -52,6 +61,8 @@ pub data Family : Type 0 where
   progress : Family
   votes : Family
   servings : Family
+  proposals : Family
+  timeouts : Family
   lives : Family
 
 -- the family that reads a line
@@ -65,6 +76,10 @@ family_of (Finalize view) = votes
 family_of (Broadcast kind view) = servings
 family_of Best = servings
 family_of Prune = servings
+family_of (Proposal view parent payload) = proposals
+family_of (Release view) = proposals
+family_of (Trigger view reason now) = timeouts
+family_of (Timeout now) = timeouts
 family_of (Restart drop now) = lives
 family_of (RestartPruned drop now) = lives
 family_of Record = lives
@@ -81,6 +96,12 @@ IsVote line = family_of line ≡ votes
 
 abbrev pub IsServing : VoterLine → Type 0
 IsServing line = family_of line ≡ servings
+
+abbrev pub IsOnProposals : VoterLine → Type 0
+IsOnProposals line = family_of line ≡ proposals
+
+abbrev pub IsOnTimeouts : VoterLine → Type 0
+IsOnTimeouts line = family_of line ≡ timeouts
 
 abbrev pub IsOfLives : VoterLine → Type 0
 IsOfLives line = family_of line ≡ lives

@@ -3,7 +3,8 @@ use Rattle.std.specs.Prelude.{◌≡◌, ◌≢◌, ◌==◌, Bool, true, false,
 use Rattle.std.specs.List.{slice_split}
 use Rattle.std.specs.Borrow.{Bor}
 use Rattle.simplex_types.specs.declared.reasons.Kind.{Kind}
-use Rattle.simplex_types.specs.Reasons.{kind_text}
+use Rattle.simplex_types.specs.declared.reasons.TimeoutReason.{TimeoutReason}
+use Rattle.simplex_types.specs.Reasons.{kind_text, timeout_reason_text}
 
 -- the bytes behind each `&str`
 abbrev pub texts_of : List (Bor (List ℕ)) → List (List ℕ)
@@ -27,3 +28,6 @@ ReadsFlag = ReadsWord flag_word
 
 abbrev pub ReadsKind : List ℕ → Option Kind → Type 0
 ReadsKind = ReadsWord kind_text
+
+abbrev pub ReadsTimeoutReason : List ℕ → Option TimeoutReason → Type 0
+ReadsTimeoutReason = ReadsWord timeout_reason_text

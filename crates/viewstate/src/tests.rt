@@ -295,6 +295,40 @@ const KEYLESS: (&str, &str) = (
     "none\nadded true -\ncertified 1\nnone\nrecord 2\n",
 );
 
+/// The first reason that is given stands, and a vote to nullify is repeated half a second after the first poll that
+/// follows it, also in a new life.
+const TIMEOUTS: (&str, &str) = (
+    "timeout 0\ntrigger 1 Inactivity 5\ntrigger 1 LeaderNullify 7\ntimeout 8\nnullify 1\ntimeout 100\ntimeout 300\nnullify 1\ntimeout 700\nrestart 0 20\ntimeout 30\n",
+    "timeout 1000 LeaderTimeout\nok\nok\ntimeout 5 Inactivity\nnullify 1 false\ntimeout 600 Retry\ntimeout 600 Retry\nnullify 1 true\ntimeout 1200 Retry\nok\ntimeout 530 Retry\n",
+);
+
+/// With a proposal the view waits for its certification, unless a reason is given.
+const DEADLINES: (&str, &str) = (
+    "timeout 0\nproposal 1 0 7\ntimeout 0\ntrigger 1 LeaderNullify 5\ntimeout 0\n",
+    "timeout 1000 LeaderTimeout\ntrue\ntimeout 2000 CertificationTimeout\nok\ntimeout 5 LeaderNullify\n",
+);
+
+/// The moment of a repeat that passes 64 bits, and then an earlier poll.
+const LATE_POLL: (&str, &str) = (
+    "nullify 1\ntimeout 18446744073709551615\ntimeout 100\n",
+    "nullify 1 false\nfault 4 TimeOverflow\ntimeout 600 Retry\n",
+);
+
+/// Without a key a vote to nullify is repeated all the same.
+const KEYLESS_POLL: (&str, &str) = ("nullify 1\ntimeout 100\n", "none\ntimeout 600 Retry\n");
+
+/// A proposal that comes after a vote to nullify is not kept, and still the next view of the term takes its view's leader.
+const NAMED: (&str, &str) = (
+    "nullify 1\nproposal 1 0 7\nproposal 2 1 9\nnotarization 2 1 8\n",
+    "nullify 1 false\nfalse\ntrue\nadded true 0\n",
+);
+
+/// Proposals, requests and timeouts of genesis and of a view that is too large.
+const OUTSIDE: (&str, &str) = (
+    "proposal 0 0 7\nrelease 0\ntrigger 0 Retry 1\nproposal 9223372036854775808 1 1\nview\n",
+    "not-allowed\nok\nok\nfault 3 ViewTooLarge\nview 1 0 0\n",
+);
+
 /// Whether serving the row's input writes its output, and ends well.
 fn is_served(alloc: Global, line: &str, row: (&str, &str)) -> Result<bool, Fail> {
     let mode = mode_of(alloc, line)?.ok_or("no mode")?;
@@ -322,6 +356,17 @@ fn transcripts_of_restarts(rt: HostRuntime) -> Result<(), Fail> {
     assert!(rt; is_served(rt.alloc(), "viewstate voter 4 0 1 0", REFUSED)?);
     assert!(rt; is_served(rt.alloc(), "viewstate voter 4 0 1 0", LATE)?);
     assert!(rt; is_served(rt.alloc(), "viewstate voter 4 0 1 0", CUT)?);
+    Ok(())
+}
+
+#[test]
+fn transcripts_of_proposals_and_timeouts(rt: HostRuntime) -> Result<(), Fail> {
+    assert!(rt; is_served(rt.alloc(), "viewstate voter 4 0 1 0", TIMEOUTS)?);
+    assert!(rt; is_served(rt.alloc(), "viewstate voter 4 0 1 0", DEADLINES)?);
+    assert!(rt; is_served(rt.alloc(), "viewstate voter 4 0 1 0", LATE_POLL)?);
+    assert!(rt; is_served(rt.alloc(), "viewstate voter 4 - 1 0", KEYLESS_POLL)?);
+    assert!(rt; is_served(rt.alloc(), "viewstate voter 4 1 5 1", NAMED)?);
+    assert!(rt; is_served(rt.alloc(), "viewstate voter 4 0 1 0", OUTSIDE)?);
     Ok(())
 }
 
@@ -422,6 +467,54 @@ fn refused_lines(rt: HostRuntime) -> Result<(), Fail> {
     let (output, ended) = run(rt.alloc(), mode, "outstanding\n\noutstanding\n")?;
     assert_eq!(rt; output.as_str(), "outstanding\n");
     assert_eq!(rt; ended, Err(ServeError::NotACall(2)));
+    Ok(())
+}
+
+#[test]
+fn reasons_of_timeouts(rt: HostRuntime) -> Result<(), Fail> {
+    let mode = mode_of(rt.alloc(), "viewstate voter 4 0 1 0")?.ok_or("no mode")?;
+    let reasons = [
+        "Retry",
+        "Inactivity",
+        "LeaderNullify",
+        "LeaderTimeout",
+        "CertificationTimeout",
+        "StallTimeout",
+        "MissingProposal",
+        "IgnoredProposal",
+        "InvalidProposal",
+        "FailedCertification",
+    ];
+    for reason in reasons {
+        let input = format!(in rt.alloc(); "trigger 1 {reason} 5\ntimeout 8\n")?;
+        let wanted = format!(in rt.alloc(); "ok\ntimeout 5 {reason}\n")?;
+        let (output, ended) = run(rt.alloc(), mode, input.as_str())?;
+        assert_eq!(rt; output.as_str(), wanted.as_str());
+        assert_eq!(rt; ended, Ok(()));
+    }
+    Ok(())
+}
+
+#[test]
+fn refused_lines_of_a_voter(rt: HostRuntime) -> Result<(), Fail> {
+    let mode = mode_of(rt.alloc(), "viewstate voter 4 0 1 0")?.ok_or("no mode")?;
+    let refused = [
+        "trigger 1 Timeout 5\n",
+        "trigger 1 retry 5\n",
+        "trigger 1 Retry\n",
+        "trigger Retry 1 5\n",
+        "timeout\n",
+        "timeout 1 2\n",
+        "timeout 01\n",
+        "proposal 1 0\n",
+        "proposal 1 0 7 8\n",
+        "release\n",
+    ];
+    for line in refused {
+        let (output, ended) = run(rt.alloc(), mode, line)?;
+        assert_eq!(rt; output.as_str(), "", "{line}");
+        assert_eq!(rt; ended, Err(ServeError::NotACall(1)), "{line}");
+    }
     Ok(())
 }
 

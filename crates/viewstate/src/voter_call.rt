@@ -1,25 +1,26 @@
-//! The calls that lines stand for. Their certificates are good, and of one epoch.
+//! The calls that lines stand for. Their certificates and proposals are of one epoch, and the certificates good.
 
-ghost use Rattle.std.specs.Prelude.{◌≡◌, MatchOption, true};
+ghost use Rattle.std.specs.Prelude.{◌≡◌, MatchOption, true, false, ◌||◌};
 ghost use Rattle.simplex_member.specs.Calls.{call_facts};
+ghost use Rattle.simplex_member.specs.Work.{work_facts};
 ghost use Rattle.viewstate.specs.declared.voter_line.VoterLine.TheVariants.{Broadcast};
 ghost use Rattle.viewstate.specs.Plain.{plain_bytes};
-ghost use Rattle.viewstate.specs.Voter.{StandsFor, IsProposal, is_no_call, round_in_epoch};
+ghost use Rattle.viewstate.specs.Voter.{StandsFor, StandsForWork, IsProposal, is_no_call, is_on_work, round_in_epoch};
 
 use crate::voter_line::{CertificateKind, VoterLine};
-use simplex_member::member::Call;
+use simplex_member::member::{Call, Work};
 use simplex_types::reasons::TimeoutReason;
 use simplex_types::types::plain::{PlainCertificate, PlainDigest, PlainScheme};
 use simplex_types::types::{
     Epoch, Finalization, Notarization, Nullification, Proposal, Round, View,
 };
 
-/// The epoch of every certificate that a line stands for.
+/// The epoch of every certificate and proposal that a line stands for.
 pub const EPOCH: u64 = 1;
 
-/// The call that a line stands for, if it stands for one.
+/// The call that a line stands for, if it stands for one that is not on the work of a view.
 pub fn call_of(line: &VoterLine) -> Option<Call<PlainScheme, PlainDigest>>
-    ensures { MatchOption result (is_no_call line.now ≡ true) (λ call. StandsFor line.now (call_facts plain_bytes call)) }
+    ensures { MatchOption result ((is_no_call line.now || is_on_work line.now) ≡ true) (λ call. StandsFor line.now (call_facts plain_bytes call)) }
 {
     match *line {
         VoterLine::Notarization {
@@ -45,10 +46,31 @@ pub fn call_of(line: &VoterLine) -> Option<Call<PlainScheme, PlainDigest>>
         VoterLine::Broadcast { kind, view } => Some(broadcast_of(kind, view)),
         VoterLine::Best => Some(Call::GetBestCertificate),
         VoterLine::Prune => Some(Call::Prune),
-        VoterLine::Restart { .. }
+        VoterLine::Proposal { .. }
+        | VoterLine::Release(_)
+        | VoterLine::Trigger { .. }
+        | VoterLine::Timeout { .. }
+        | VoterLine::Restart { .. }
         | VoterLine::RestartPruned { .. }
         | VoterLine::Record
         | VoterLine::Views => None,
+    }
+}
+
+/// The call on the work of a view that a line stands for, if it stands for one.
+pub fn work_of(line: &VoterLine) -> Option<Work<PlainDigest>>
+    ensures { MatchOption result (is_on_work line.now ≡ false) (λ work. StandsForWork line.now (work_facts work)) }
+{
+    match *line {
+        VoterLine::Proposal {
+            view,
+            parent,
+            payload,
+        } => Some(Work::SetProposal(view, proposal_of(view, parent, payload))),
+        VoterLine::Release(view) => Some(Work::ReleaseProposalRequest(view)),
+        VoterLine::Trigger { view, reason, now } => Some(Work::TriggerTimeout(view, reason, now)),
+        VoterLine::Timeout { now } => Some(Work::NextTimeout(now)),
+        _ => None,
     }
 }
 

@@ -2,10 +2,11 @@
 
 ghost use Rattle.std.specs.Prelude.{◌≡◌, ◌∷◌, [], IfOk, codes};
 ghost use Rattle.viewstate.specs.Words.{texts_of, words_in};
-ghost use Rattle.viewstate.specs.VoterLine.{ReadsVoterLine, ReadsVoterLineOf, ReadsCertificateKind, IsCertificate, IsProgress, IsVote, IsServing, IsOfLives};
+ghost use Rattle.viewstate.specs.VoterLine.{ReadsVoterLine, ReadsVoterLineOf, ReadsCertificateKind, IsCertificate, IsProgress, IsVote, IsServing, IsOnProposals, IsOnTimeouts, IsOfLives};
 
 use crate::decimal::decimal;
-use crate::words::{flag_of, view_of, words_of};
+use crate::words::{flag_of, timeout_reason_of, view_of, words_of};
+use simplex_types::reasons::TimeoutReason;
 use simplex_types::types::View;
 use std::alloc::{AllocError, Global};
 
@@ -48,6 +49,20 @@ pub enum VoterLine {
     },
     Best,
     Prune,
+    Proposal {
+        view: View,
+        parent: View,
+        payload: u64,
+    },
+    Release(View),
+    Trigger {
+        view: View,
+        reason: TimeoutReason,
+        now: u64,
+    },
+    Timeout {
+        now: u64,
+    },
     Restart {
         drop: u64,
         now: u64,
@@ -84,6 +99,12 @@ pub fn voter_line_of(words: &[&str]) -> Option<VoterLine>
         return Some(line);
     }
     if let Some(line) = serving_line(words) {
+        return Some(line);
+    }
+    if let Some(line) = proposal_line(words) {
+        return Some(line);
+    }
+    if let Some(line) = timeout_line(words) {
         return Some(line);
     }
     life_line(words)
@@ -167,6 +188,46 @@ fn serving_line(words: &[&str]) -> Option<VoterLine>
         ["prune"] => Some(VoterLine::Prune),
         _ => None,
     }
+}
+
+fn proposal_line(words: &[&str]) -> Option<VoterLine>
+    ensures { ReadsVoterLineOf IsOnProposals (texts_of words.now) result }
+{
+    match *words {
+        ["proposal", view, parent, payload] => handed_line(view, parent, payload),
+        ["release", view] => Some(VoterLine::Release(view_of(view)?)),
+        _ => None,
+    }
+}
+
+fn handed_line(view: &str, parent: &str, payload: &str) -> Option<VoterLine>
+    ensures { ReadsVoterLineOf IsOnProposals (codes "proposal" ∷ view.now ∷ parent.now ∷ payload.now ∷ []) result }
+{
+    Some(VoterLine::Proposal {
+        view: view_of(view)?,
+        parent: view_of(parent)?,
+        payload: decimal(payload)?,
+    })
+}
+
+fn timeout_line(words: &[&str]) -> Option<VoterLine>
+    ensures { ReadsVoterLineOf IsOnTimeouts (texts_of words.now) result }
+{
+    match *words {
+        ["trigger", view, reason, now] => trigger_line(view, reason, now),
+        ["timeout", now] => Some(VoterLine::Timeout { now: decimal(now)? }),
+        _ => None,
+    }
+}
+
+fn trigger_line(view: &str, reason: &str, now: &str) -> Option<VoterLine>
+    ensures { ReadsVoterLineOf IsOnTimeouts (codes "trigger" ∷ view.now ∷ reason.now ∷ now.now ∷ []) result }
+{
+    Some(VoterLine::Trigger {
+        view: view_of(view)?,
+        reason: timeout_reason_of(reason)?,
+        now: decimal(now)?,
+    })
 }
 
 fn life_line(words: &[&str]) -> Option<VoterLine>

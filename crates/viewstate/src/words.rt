@@ -2,9 +2,10 @@
 
 ghost use Rattle.std.specs.Prelude.{◌≡◌, IfOk};
 ghost use Rattle.viewstate.specs.Decimal.{ReadsDecimal};
-ghost use Rattle.viewstate.specs.Words.{texts_of, words_in, ReadsFlag};
+ghost use Rattle.viewstate.specs.Words.{texts_of, words_in, ReadsFlag, ReadsTimeoutReason};
 
 use crate::decimal::decimal;
+use simplex_types::reasons::TimeoutReason;
 use simplex_types::types::View;
 use std::alloc::{AllocError, Global};
 
@@ -29,6 +30,25 @@ pub fn flag_of(word: &str) -> Option<bool>
     match word {
         "true" => Some(true),
         "false" => Some(false),
+        _ => None,
+    }
+}
+
+/// The reason of a timeout that a word names.
+pub fn timeout_reason_of(word: &str) -> Option<TimeoutReason>
+    ensures { ReadsTimeoutReason word.now result }
+{
+    match word {
+        "Retry" => Some(TimeoutReason::Retry),
+        "Inactivity" => Some(TimeoutReason::Inactivity),
+        "LeaderNullify" => Some(TimeoutReason::LeaderNullify),
+        "LeaderTimeout" => Some(TimeoutReason::LeaderTimeout),
+        "CertificationTimeout" => Some(TimeoutReason::CertificationTimeout),
+        "StallTimeout" => Some(TimeoutReason::StallTimeout),
+        "MissingProposal" => Some(TimeoutReason::MissingProposal),
+        "IgnoredProposal" => Some(TimeoutReason::IgnoredProposal),
+        "InvalidProposal" => Some(TimeoutReason::InvalidProposal),
+        "FailedCertification" => Some(TimeoutReason::FailedCertification),
         _ => None,
     }
 }
