@@ -8,7 +8,7 @@ use Rattle.simplex_voter.specs.Serving.{broadcast_notarization_answer, broadcast
 use Rattle.simplex_member.specs.Calls.{CallFacts, AddNotarization, AddNullification, AddFinalization, Certified, ConstructNullify, ConstructFinalize, BroadcastNotarization, BroadcastNullification, BroadcastFinalization, GetBestCertificate, Prune, Told, Handed, answer}
 use Rattle.simplex_member.specs.Entries.{certificate_round}
 use Rattle.simplex_laws.specs.LifeLaws.{Kind, Notarization, Nullification, Finalization, kind_of, IsAsAsked}
-use Rattle.simplex_laws.proofs.Placed.{IsPlaced}
+use Rattle.simplex_laws.proofs.Sound.{IsPlaced}
 use Rattle.simplex_laws.proofs.HandedOut.{asked}
 
 abbrev AskedRight : {D : Type 0} → Kind → ℕ → CertificateFacts D → Type 0

@@ -15,15 +15,14 @@ use Rattle.simplex_laws.specs.LifeLaws.{LifeCall, Calling, Working, as_step, IsL
 use Rattle.simplex_member.specs.Lives.{MemberFacts}
 use Rattle.simplex_member.specs.Openings.{Openings}
 use Rattle.simplex_member.specs.Runs.{IsStep}
-use Rattle.simplex_member.specs.Work.{WorkCall, after_work}
-use Rattle.simplex_laws.proofs.InOrder.{InOrder, order_call}
-use Rattle.simplex_laws.proofs.Conflicts.{floor_rises, work_floor}
-use Rattle.simplex_laws.proofs.Lasting.{is_handed, standing_view, none_comes}
-use Rattle.simplex_laws.proofs.LastingCalls.{call_lasts}
-use Rattle.simplex_laws.proofs.LastingWorks.{work_lasts}
-use Rattle.simplex_laws.proofs.Works.{order_work}
+use Rattle.simplex_member.specs.Work.{WorkCall, work_allowed, after_work}
+use Rattle.simplex_laws.proofs.InOrder.{InOrder, order_call, order_work}
+use Rattle.simplex_laws.proofs.Lasting.{is_handed, standing_view, handed, none_comes, brings_kept, event_lasts}
+use Rattle.simplex_laws.proofs.CallsMake.{is_floor, call_by_event, work_by_event}
+use Rattle.simplex_laws.proofs.Rising.{floor_goes, event_goes}
+use Rattle.simplex_laws.proofs.Sound.{nothing_stands}
+use Rattle.simplex_laws.specs.Events.{Event, IsEvent, after_event}
 use Rattle.simplex_laws.proofs.LeavesVotes.{round_put}
-use Rattle.simplex_laws.proofs.Placed.{none_at_first}
 use Rattle.simplex_laws.proofs.WithinLives.{InOrderly, call_outcome}
 
 -- the view's certificate is not to be handed out any more: it was, or none stands there and none comes
@@ -156,20 +155,20 @@ module _ (K : Type 0) {D : Type 0} (G : Type 0) (kind : Kind) where
   not_allowed_none (Working call) = refl
 
 module _ {K L D G : Type 0} (same : D → D → Bool) (elect : Elect L) (signature_of : ℕ → Subject D → G) where
-  call_spends : (x : Facts K L D) (call : CallFacts D) → is_allowed x call ≡ true → (kind : Kind) (v : ℕ) → IsSpent kind v x → IsSpent kind v (after_call same elect signature_of x call)
-  call_spends x call allowed kind v spent =
-      let y = after_call same elect signature_of x call in
-      let floor = floor_rises same elect signature_of x call in
-      elim (call_lasts same elect signature_of x call allowed v) [
-        | inr drops ↦ inr (
-          omega (arith, drops.below, floor),
-          ap (λ o. standing_view kind (unwrap_or o (new_round y.me y.members (round_number y v)))) drops.untracked ∙ none_at_first D kind y.me y.members (round_number y v),
-        )
+  event_spends : (x : Facts K L D) → InOrder x → (e : Event K D G) → IsEvent x e → is_floor e ≡ false → (kind : Kind) (v : ℕ) → IsSpent kind v x → IsSpent kind v (after_event same elect x e)
+  event_spends x ordered e takes none kind v spent =
+      let y = after_event same elect x e in
+      let floor = floor_goes x y (event_goes same elect x e) in
+      elim (event_lasts same elect x e (min_active x) (brings_kept x e takes none) ordered v) [
+        | inr (prunes, gone) ↦ inr (omega (arith, gone.below, floor), nothing_stands y v gone.untracked kind)
         | inl lasts ↦ elim spent [
-          | inl sent ↦ inl (lasts.handed kind sent)
-          | inr (below, none) ↦ inr (omega (arith, below, floor), none_comes (min_active x) v (round_of x v) (round_of y v) lasts kind below none)
+          | inl sent ↦ inl (handed (min_active x) v (round_of x v) (round_of y v) lasts kind sent)
+          | inr (below, nothing) ↦ inr (omega (arith, below, floor), none_comes (min_active x) v (round_of x v) (round_of y v) lasts kind below nothing)
         ]
       ]
+
+  call_spends : (x : Facts K L D) → InOrder x → (call : CallFacts D) → is_allowed x call ≡ true → (kind : Kind) (v : ℕ) → IsSpent kind v x → IsSpent kind v (after_call same elect signature_of x call)
+  call_spends x ordered call allowed = call_by_event G same elect x signature_of (λ es y. (kind : Kind) (v : ℕ) → IsSpent kind v x → IsSpent kind v y) (λ kind v spent. spent) (λ e rest. event_spends x ordered e) call allowed
 
   call_hands : (x : Facts K L D) (call : CallFacts D) (kind : Kind) → Hands kind (handed_by kind (Calling call) (answer same elect signature_of x call)) x (after_call same elect signature_of x call)
   call_hands x (AddNotarization c) kind = inl refl
@@ -184,25 +183,16 @@ module _ {K L D G : Type 0} (same : D → D → Bool) (elect : Elect L) (signatu
   call_hands x GetBestCertificate kind = inl (best_unasked K G kind (best_certificate x))
   call_hands x Prune kind = inl refl
 
-  -- a call on the work of a view is handed none, and no certificate comes
-  work_spends : (x : Facts K L D) (o : Openings K D) (call : WorkCall D) → InOrder x → (kind : Kind) (v : ℕ) → IsSpent kind v x → IsSpent kind v (after_work same elect x o call)
-  work_spends x o call ordered kind v spent =
-      let low = min_active x in
-      let y = after_work same elect x o call in
-      let floor = work_floor same elect signature_of x o call in
-      let left = (work_lasts same elect low x o call ordered).rounds v in
-      elim spent [
-        | inl sent ↦ inl (left.handed kind sent)
-        | inr (below, none) ↦ inr (omega (arith, below, floor), none_comes low v (round_of x v) (round_of y v) left kind below none)
-      ]
+  work_spends : (x : Facts K L D) → InOrder x → (o : Openings K D) (call : WorkCall D) → work_allowed x o call ≡ true → (kind : Kind) (v : ℕ) → IsSpent kind v x → IsSpent kind v (after_work same elect x o call)
+  work_spends x ordered o call allowed = work_by_event G same elect x o (λ es y. (kind : Kind) (v : ℕ) → IsSpent kind v x → IsSpent kind v y) (λ kind v spent. spent) (λ e rest. event_spends x ordered e) call allowed
 
   outcome : (m : MemberFacts K L D G) (call : LifeCall D) (told : Told K D G) (left : MemberFacts K L D G) → IsStep same elect signature_of m (as_step call) told left → ((fault : Fault) × (told ≡ Refused fault) × (left.life ≡ None)) ⊎ ((x y : Facts K L D) × (m.life ≡ Some x) × (left.life ≡ Some y) × InOrderly (HandsOut call told) x y)
   outcome =
       call_outcome same elect signature_of (λ call told. InOrderly (HandsOut call told))
       (λ call fault x ordered. (ordered, record { spent = λ kind v s. s; hands = λ kind. inl (refused_none K G kind call fault) }))
       (λ call x ordered. (ordered, record { spent = λ kind v s. s; hands = λ kind. inl (not_allowed_none K G kind call) }))
-      (λ call x allowed ordered. (order_call same elect signature_of x ordered call, record { spent = call_spends x call allowed; hands = call_hands x call }))
-      (λ call x o allowed ordered. (order_work same elect x o ordered call, record { spent = work_spends x o call ordered; hands = λ kind. inl refl }))
+      (λ call x allowed ordered. (order_call same elect signature_of x ordered call, record { spent = call_spends x ordered call allowed; hands = call_hands x call }))
+      (λ call x o allowed ordered. (order_work same elect x o ordered call, record { spent = work_spends x ordered o call allowed; hands = λ kind. inl refl }))
 
 -- a member without a state hands nothing out
 abbrev pub IsSpentIn : {K L D : Type 0} → Kind → ℕ → Option (Facts K L D) → Type 0

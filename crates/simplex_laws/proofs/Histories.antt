@@ -1,7 +1,7 @@
 -- Each event keeps that a history shows what a state knows.
 use Rattle.std.proofs.Common.{◌≡◌, ◌⊎◌, inl, inr, refl, ap, sym, ◌∙◌, subst, ℕ, ◌+◌, ◌-◌, ◌<◌, ◌≤◌, max, Bool, true, false, ◌&&◌, ◌||◌, not, eqb, if◌then◌else◌, List, [], ◌∷◌, Option, Some, None, is_some, unwrap_or, arith}
 use Rattle.std.specs.Option.{option_or, option_map_or}
-use Rattle.std.proofs.lemmas.Bool.{cases_eq, cases_lt, ne_eqb, true≢false}
+use Rattle.std.proofs.lemmas.Bool.{cases_eq, cases_lt, ne_eqb}
 use Rattle.simplex_types.specs.Config.{Finalized}
 use Rattle.simplex_types.specs.Certificates.{ArtifactFacts, Verdict}
 use Rattle.simplex_round.specs.Round.{RoundFacts, is_judged}
@@ -21,7 +21,7 @@ use Rattle.simplex_laws.proofs.EventsWorked.{event_works}
 use Rattle.simplex_laws.proofs.ShownRounds.{round_further}
 use Rattle.simplex_laws.proofs.ShownWork.{done_further, known_further}
 use Rattle.simplex_laws.proofs.Worked.{WorkFollows}
-use Rattle.simplex_laws.proofs.Dropped.{event_unseen, event_dropped}
+use Rattle.simplex_laws.proofs.Untracked.{event_clear, event_dropped}
 use Rattle.simplex_laws.proofs.DroppedNotes.{covers_above, casts_above, nullified_dropped, votes_dropped}
 use Rattle.simplex_voter.specs.Windows.{min_active}
 
@@ -185,9 +185,8 @@ module _ {K L D G : Type 0} (same : D → D → Bool) (elect : Elect L) (history
       gone : 0 < fresh.terms.term_length → (v : ℕ) → v < kept_in fresh.settings.view_retention (e ∷ events) → ((v < kept_in fresh.settings.view_retention events) ⊎ (kept_in fresh.settings.view_retention events ≤ v)) → is_tracked (after_event same elect x e) v ≡ false
       gone some v below (inl earlier_below) =
           let low = kept_in fresh.settings.view_retention events in
-          let known : (w : ℕ) → is_tracked x w ≡ true → low ≤ w = λ w here. (elim (cases_lt w low) [ inl under ↦ absurd (true≢false (sym here ∙ shows.dropped some w under)) | inr from ↦ from ]) in
           let terms : 0 < x.terms.term_length = subst (λ t. 0 < t.term_length) (sym shows.terms) some in
-          event_unseen G same elect low x known active reached (λ zero_current. omega (arith, reached, zero_current)) terms e allowed shows.in_order v earlier_below (shows.dropped some v earlier_below)
+          (event_clear same elect low x active reached terms (record { views = λ w under. shows.dropped some w under }) e allowed).views v earlier_below
       gone some v below (inr from) =
           let part : v < (if is_prune e then finalized_in events - fresh.settings.view_retention else 0) = omega (arith, below, from) in
           event_dropped same elect x e v (subst (λ n. v < (if is_prune e then n else 0)) (lowest (finalized_in events - fresh.settings.view_retention) refl) part)

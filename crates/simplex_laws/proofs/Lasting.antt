@@ -1,31 +1,37 @@
--- What lasts of each round while a state changes: a conflict, its certificates, and which of them were handed out. And one
--- that comes is of the round's own view, and not below the views that were kept before the call.
-use Rattle.std.proofs.Common.{◌≡◌, refl, ap, sym, ◌∙◌, subst, ℕ, ◌+◌, ◌-◌, ◌<◌, ◌≤◌, Bool, true, false, ◌&&◌, not, if◌then◌else◌, nat_lt, nat_le, List, [], ◌∷◌, ◌⊎◌, Option, Some, None, is_some, unwrap_or, arith, inl, inr}
-use Rattle.std.specs.Prelude.{map, option_map}
-use Rattle.std.specs.List.{fold}
+-- What lasts of each round within a life: a conflict, its certificates, and which of them were handed out.
+use Rattle.std.proofs.Common.{◌≡◌, refl, ap, sym, ◌∙◌, subst, ℕ, ◌<◌, ◌≤◌, ◌⊎◌, inl, inr, Bool, true, false, ◌||◌, not, if◌then◌else◌, nat_lt, cond, List, [], ◌∷◌, Contains, Option, Some, None, is_some, arith}
+use Rattle.std.specs.Prelude.{option_map, ◌&&◌, map, filter}
 use Rattle.std.specs.Option.{option_map_or}
-use Rattle.std.specs.Ordering.{nat_cmp}
-use Rattle.std.specs.FinMap.Entries.{find}
-use Rattle.std.proofs.lemmas.Bool.{cases_eq}
+use Rattle.std.proofs.lemmas.Bool.{true≢false, cases_eq, ne_eqb}
+use Rattle.simplex_types.specs.Proposal.{same_proposal}
 use Rattle.simplex_types.specs.Certificates.{ProposalFacts, NullificationFacts}
 use Rattle.simplex_types.specs.declared.types.messages.Proposal.{Proposal}
-use Rattle.simplex_types.specs.declared.reasons.TimeoutReason.{TimeoutReason}
-use Rattle.simplex_round.specs.declared.round.Leader.{Leader}
-use Rattle.simplex_round.specs.Slot.{SlotFacts, after_certificate}
-use Rattle.simplex_round.specs.Round.{RoundFacts, new_round, leader_at, with_latch, after_abort, after_nullify, is_finalize, token_of, certified_round, with_recovered, with_notarization, with_nullification, with_finalization}
-use Rattle.simplex_voter.specs.Facts.{Facts, Elect, round_at, round_of, round_number, is_tracked, with_round, with_tracked}
-use Rattle.simplex_voter.specs.Windows.{in_window}
-use Rattle.simplex_voter.specs.Payloads.{is_elected_early}
-use Rattle.simplex_voter.specs.Entering.{at_moment, entered, entered_round}
-use Rattle.simplex_voter.specs.Leaders.{has_leader, led, inherited, opened_views, slid, elected, prepared}
-use Rattle.simplex_voter.specs.Timeouts.{triggered, is_contradicted}
-use Rattle.simplex_voter.specs.Certification.{named_also, raised, waits_for, woken, without_token, judged}
-use Rattle.simplex_voter.specs.Acceptance.{nullified_also}
-use Rattle.simplex_voter.specs.Votes.{nullify_cast}
-use Rattle.simplex_voter.proofs.Elsewhere.{round_of-with_round}
-use Rattle.simplex_voter.proofs.Walked.{find-changed}
-use Rattle.simplex_laws.specs.LifeLaws.{Kind, Notarization, Nullification, Finalization}
-use Rattle.simplex_laws.proofs.LeavesVotes.{round_put}
+use Rattle.simplex_round.specs.Slot.{SlotFacts, holds_or_empty, after_own, after_vote, after_certificate}
+use Rattle.simplex_round.specs.Round.{RoundFacts}
+use Rattle.simplex_voter.specs.Facts.{Facts, Elect, round_of, is_tracked}
+use Rattle.simplex_voter.specs.Windows.{min_active}
+use Rattle.simplex_laws.specs.Events as event
+use Rattle.simplex_laws.specs.Events.{Event, IsEvent, after_event, events_of}
+use Rattle.simplex_member.specs.Calls.{CallFacts, Prune, Told, is_allowed, answer, after_call}
+use Rattle.simplex_member.specs.Openings.{Openings}
+use Rattle.simplex_member.specs.Work.{WorkCall, work_allowed, after_work}
+use Rattle.simplex_types.specs.declared.types.messages.Subject.{Subject}
+use Rattle.simplex_voter.specs.Serving.{prune_answer}
+use Rattle.simplex_types.proofs.Maps.{is_eq-nat_cmp}
+use Rattle.std.specs.FinMap.Entries.{find}
+use Rattle.std.specs.Ordering.{nat_cmp}
+use Rattle.std.specs.List.{list_any}
+use Rattle.std.proofs.lemmas.Bool.Decides.{nat_tests}
+use Rattle.simplex_laws.specs.LifeLaws.{Kind, Notarization, Nullification, Finalization, IsDropped}
+use Rattle.simplex_laws.specs.Sums.{is_prune}
+use Rattle.simplex_laws.proofs.CallsMake.{is_floor, call_by_event, work_by_event, AreSilent, work_silent}
+use Rattle.simplex_laws.proofs.Splits.{Contains-cons_rest}
+use Rattle.simplex_laws.proofs.EachRound.{IsGone, rounds_or_gone}
+use Rattle.simplex_laws.proofs.Paths.{event_path, asked_of_all}
+use Rattle.simplex_laws.proofs.Steps as step
+use Rattle.simplex_laws.proofs.Steps.{RoundStep, notarization_by, nullification_by, finalization_by}
+use Rattle.simplex_laws.proofs.InOrder.{InOrder}
+use Rattle.simplex_laws.proofs.Untracked.{kept_view}
 
 module _ {K D : Type 0} where
   -- the certificate of this kind was handed out, and stands there
@@ -49,234 +55,181 @@ stands_on low v a b c (inl p) (inl q) = inl (q ∙ p)
 stands_on low v a b c (inr (kept, p)) (inl q) = inr (kept, q ∙ p)
 stands_on low v a b c p (inr q) = inr q
 
-module _ {K D : Type 0} where
-  -- a round of the view v becomes another, in a call before which the views from `low` on are kept
-  pub record RoundLasts (low v : ℕ) (r s : RoundFacts K D) : Type 0 where
-    pub conflict : r.slot.conflict ≡ true → s.slot.conflict ≡ true
-    pub handed : (kind : Kind) → is_handed kind r ≡ true → is_handed kind s ≡ true
-    pub certificates : (kind : Kind) → StandsOrComes low v (standing_view kind r) (standing_view kind s)
+-- a round of the view v becomes another, by an event before which the views from `low` on are kept
+pub record RoundLasts {K D : Type 0} (low v : ℕ) (r s : RoundFacts K D) : Type 0 where
+  pub conflict : r.slot.conflict ≡ true → s.slot.conflict ≡ true
+  pub notarization_handed : r.notarization_broadcast ≡ true → s.notarization_broadcast ≡ true
+  pub nullification_handed : r.nullification_broadcast ≡ true → s.nullification_broadcast ≡ true
+  pub finalization_handed : r.finalization_broadcast ≡ true → s.finalization_broadcast ≡ true
+  pub notarization : StandsOrComes low v (standing_view Notarization r) (standing_view Notarization s)
+  pub nullification : StandsOrComes low v (standing_view Nullification r) (standing_view Nullification s)
+  pub finalization : StandsOrComes low v (standing_view Finalization r) (standing_view Finalization s)
+
+module _ {K D : Type 0} (low v : ℕ) where
+  pub handed : (r s : RoundFacts K D) → RoundLasts low v r s → (kind : Kind) → is_handed kind r ≡ true → is_handed kind s ≡ true
+  handed r s lasts Notarization h = lasts.notarization_handed h
+  handed r s lasts Nullification h = lasts.nullification_handed h
+  handed r s lasts Finalization h = lasts.finalization_handed h
+
+  pub certificates : (r s : RoundFacts K D) → RoundLasts low v r s → (kind : Kind) → StandsOrComes low v (standing_view kind r) (standing_view kind s)
+  certificates r s lasts Notarization = lasts.notarization
+  certificates r s lasts Nullification = lasts.nullification
+  certificates r s lasts Finalization = lasts.finalization
 
   -- none comes below the views that are kept
-  pub none_comes : (low v : ℕ) (r s : RoundFacts K D) → RoundLasts low v r s → (kind : Kind) → v < low → standing_view kind r ≡ None → standing_view kind s ≡ None
-  none_comes low v r s lasts kind below none = elim (lasts.certificates kind) [ inl same ↦ same ∙ none | inr (kept, comes) ↦ absurd (omega arith) ]
+  pub none_comes : (r s : RoundFacts K D) → RoundLasts low v r s → (kind : Kind) → v < low → standing_view kind r ≡ None → standing_view kind s ≡ None
+  none_comes r s lasts kind below none = elim (certificates r s lasts kind) [ inl same ↦ same ∙ none | inr (kept, comes) ↦ absurd (omega arith) ]
 
-  pub round_still : (low v : ℕ) (r : RoundFacts K D) → RoundLasts low v r r
-  round_still low v r = record { conflict = λ h. h; handed = λ kind h. h; certificates = λ kind. inl refl }
+  still : (r : RoundFacts K D) → RoundLasts low v r r
+  still r = record { conflict = λ h. h; notarization_handed = λ h. h; nullification_handed = λ h. h; finalization_handed = λ h. h; notarization = inl refl; nullification = inl refl; finalization = inl refl }
 
-  pub round_joined : (low v : ℕ) (r s t : RoundFacts K D) → RoundLasts low v r s → RoundLasts low v s t → RoundLasts low v r t
-  round_joined low v r s t p q = record {
+  round_joined : (r s t : RoundFacts K D) → RoundLasts low v r s → RoundLasts low v s t → RoundLasts low v r t
+  round_joined r s t p q = record {
     conflict = λ h. q.conflict (p.conflict h);
-    handed = λ kind h. q.handed kind (p.handed kind h);
-    certificates = λ kind. stands_on low v (standing_view kind r) (standing_view kind s) (standing_view kind t) (p.certificates kind) (q.certificates kind);
+    notarization_handed = λ h. q.notarization_handed (p.notarization_handed h);
+    nullification_handed = λ h. q.nullification_handed (p.nullification_handed h);
+    finalization_handed = λ h. q.finalization_handed (p.finalization_handed h);
+    notarization = stands_on low v _ _ _ p.notarization q.notarization;
+    nullification = stands_on low v _ _ _ p.nullification q.nullification;
+    finalization = stands_on low v _ _ _ p.finalization q.finalization;
   }
 
-  pub round_if : (low v : ℕ) (r : RoundFacts K D) (b : Bool) (s t : RoundFacts K D) → RoundLasts low v r s → RoundLasts low v r t → RoundLasts low v r (if b then s else t)
-  round_if low v r true s t p q = p
-  round_if low v r false s t p q = q
+-- no proposal settles a conflict
 
-  -- the flags and the certificates as three each
-
-  pub record Flags (r s : RoundFacts K D) : Type 0 where
-    pub notarization : r.notarization_broadcast ≡ true → s.notarization_broadcast ≡ true
-    pub nullification : r.nullification_broadcast ≡ true → s.nullification_broadcast ≡ true
-    pub finalization : r.finalization_broadcast ≡ true → s.finalization_broadcast ≡ true
-
-  pub flags_handed : (r s : RoundFacts K D) → Flags r s → (kind : Kind) → is_handed kind r ≡ true → is_handed kind s ≡ true
-  flags_handed r s flags Notarization h = flags.notarization h
-  flags_handed r s flags Nullification h = flags.nullification h
-  flags_handed r s flags Finalization h = flags.finalization h
-
-  pub same_certificates : (r s : RoundFacts K D) → s.notarization ≡ r.notarization → s.nullification ≡ r.nullification → s.finalization ≡ r.finalization → (kind : Kind) → standing_view kind s ≡ standing_view kind r
-  same_certificates r s n u f Notarization = ap (option_map (λ c. c.proposal.round.view)) n
-  same_certificates r s n u f Nullification = ap (option_map (λ c. c.round.view)) u
-  same_certificates r s n u f Finalization = ap (option_map (λ c. c.proposal.round.view)) f
-
-  -- certificates are the same, and a conflict and what was handed out stays so
-  pub slot_lasts : (low v : ℕ) (r s : RoundFacts K D) → (r.slot.conflict ≡ true → s.slot.conflict ≡ true) → Flags r s → s.notarization ≡ r.notarization → s.nullification ≡ r.nullification → s.finalization ≡ r.finalization → RoundLasts low v r s
-  slot_lasts low v r s conflict flags n u f = record {
-    conflict = conflict;
-    handed = flags_handed r s flags;
-    certificates = λ kind. inl (same_certificates r s n u f kind);
-  }
-
-  pub alike_lasts : (low v : ℕ) (r s : RoundFacts K D) → s.slot ≡ r.slot → Flags r s → s.notarization ≡ r.notarization → s.nullification ≡ r.nullification → s.finalization ≡ r.finalization → RoundLasts low v r s
-  alike_lasts low v r s slot flags n u f = slot_lasts low v r s (λ h. ap (λ (t : SlotFacts D). t.conflict) slot ∙ h) flags n u f
-
-  pub same_flags : (r s : RoundFacts K D) → s.notarization_broadcast ≡ r.notarization_broadcast → s.nullification_broadcast ≡ r.nullification_broadcast → s.finalization_broadcast ≡ r.finalization_broadcast → Flags r s
-  same_flags r s n u f = record { notarization = λ h. n ∙ h; nullification = λ h. u ∙ h; finalization = λ h. f ∙ h }
-
-  -- a change of anything else
-  pub else_lasts : (low v : ℕ) (r s : RoundFacts K D) → s.slot ≡ r.slot → s.notarization_broadcast ≡ r.notarization_broadcast → s.nullification_broadcast ≡ r.nullification_broadcast → s.finalization_broadcast ≡ r.finalization_broadcast → s.notarization ≡ r.notarization → s.nullification ≡ r.nullification → s.finalization ≡ r.finalization → RoundLasts low v r s
-  else_lasts low v r s slot a b c n u f = alike_lasts low v r s slot (same_flags r s a b c) n u f
-
-  token_lasts : (low v : ℕ) (r : RoundFacts K D) → RoundLasts low v r (without_token r)
-  token_lasts low v r =
-      round_if low v r (is_some (token_of r.certification)) (record r { certification = after_abort r.certification }) r
-      (else_lasts low v r _ refl refl refl refl refl refl refl) (round_still low v r)
-
-  pub nullify_decided_lasts : (low v : ℕ) (r : RoundFacts K D) → RoundLasts low v r (after_nullify r)
-  nullify_decided_lasts low v r =
-      round_if low v r (is_finalize r.decision) r _ (round_still low v r) (else_lasts low v r _ refl refl refl refl refl refl refl)
-
-module _ {D : Type 0} where
-  -- a certificate settles no conflict
-  conflict_stands : (same : Proposal D → Proposal D → Bool) (s : SlotFacts D) (p : Proposal D) → s.conflict ≡ true → (after_certificate same s p).conflict ≡ true
-  conflict_stands same s p h = by_held s.held refl
+module _ {D : Type 0} (same : Proposal D → Proposal D → Bool) (s : SlotFacts D) (p : Proposal D) (h : s.conflict ≡ true) where
+  certified_conflict : (after_certificate same s p).conflict ≡ true
+  certified_conflict = by_held s.held
     where
-      by_same : (q : Proposal D) (b : Bool) → same q p ≡ b → s.held ≡ Some q → (after_certificate same s p).conflict ≡ true
-      by_same q true alike is = rw (is, alike) h
-      by_same q false other is = rw (is, other) refl
+      by_same : (b : Bool) → (if b then s else record { held = Some p; conflict = true; verified = false; build_requested = true; verify_requested = true }).conflict ≡ true
+      by_same true = h
+      by_same false = refl
 
-      by_held : (o : Option (Proposal D)) → s.held ≡ o → (after_certificate same s p).conflict ≡ true
-      by_held None is = rw is h
-      by_held (Some q) is = by_same q (same q p) refl is
+      by_held : (o : Option (Proposal D)) → (option_map_or (λ q. if same q p then s else record { held = Some p; conflict = true; verified = false; build_requested = true; verify_requested = true }) o (record s { held = Some p })).conflict ≡ true
+      by_held None = h
+      by_held (Some q) = by_same (same q p)
 
-module _ {K D : Type 0} (same : Proposal D → Proposal D → Bool) where
-  -- certificates come to views that are kept
-
-  pub notarization_lasts : (low v : ℕ) (r : RoundFacts K D) (c : ProposalFacts D) → low ≤ v → c.proposal.round.view ≡ v → RoundLasts low v r (with_notarization same r c)
-  notarization_lasts low v r c kept at =
-      round_if low v r (is_some r.notarization) r (record (with_recovered same r c.proposal) { notarization = Some c }) (round_still low v r)
-      (record {
-        conflict = λ h. conflict_stands same r.slot c.proposal h;
-        handed = flags_handed r _ (record { notarization = λ h. h; nullification = λ h. h; finalization = λ h. h });
-        certificates = certificates;
-      })
+  voted_conflict : (after_vote same s p).conflict ≡ true
+  voted_conflict = by_held s.held
     where
-      certificates : (kind : Kind) → StandsOrComes low v (standing_view kind r) (standing_view kind (record (with_recovered same r c.proposal) { notarization = Some c }))
-      certificates Notarization = inr (kept, ap Some at)
-      certificates Nullification = inl refl
-      certificates Finalization = inl refl
+      by_held : (o : Option (Proposal D)) → (option_map_or (λ (q : Proposal D). record s { conflict = s.conflict || not (same q p); verified = s.verified && same q p }) o (record s { held = Some p })).conflict ≡ true
+      by_held None = h
+      by_held (Some q) = rw h refl
 
-  pub finalization_lasts : (low v : ℕ) (r : RoundFacts K D) (c : ProposalFacts D) → low ≤ v → c.proposal.round.view ≡ v → RoundLasts low v r (with_finalization same r c)
-  finalization_lasts low v r c kept at =
-      round_if low v r (is_some r.finalization) r (record (with_recovered same r c.proposal) { finalization = Some c }) (round_still low v r)
-      (record {
-        conflict = λ h. conflict_stands same r.slot c.proposal h;
-        handed = flags_handed r _ (record { notarization = λ h. h; nullification = λ h. h; finalization = λ h. h });
-        certificates = certificates;
-      })
+  own_conflict : (after_own same s p).conflict ≡ true
+  own_conflict = by_test (holds_or_empty same s p)
     where
-      certificates : (kind : Kind) → StandsOrComes low v (standing_view kind r) (standing_view kind (record (with_recovered same r c.proposal) { finalization = Some c }))
-      certificates Notarization = inl refl
-      certificates Nullification = inl refl
-      certificates Finalization = inr (kept, ap Some at)
+      by_test : (b : Bool) → (if b then record { held = Some p; conflict = s.conflict; verified = not s.conflict; build_requested = true; verify_requested = true } else s).conflict ≡ true
+      by_test true = h
+      by_test false = h
 
-module _ {K D : Type 0} where
-  pub nullification_lasts : (low v : ℕ) (r : RoundFacts K D) (c : NullificationFacts) → low ≤ v → c.round.view ≡ v → RoundLasts low v r (with_nullification r c)
-  nullification_lasts low v r c kept at =
-      round_if low v r (is_some r.nullification) r (record r { nullification = Some c }) (round_still low v r)
-      (record {
-        conflict = λ h. h;
-        handed = flags_handed r _ (record { notarization = λ h. h; nullification = λ h. h; finalization = λ h. h });
-        certificates = certificates;
-      })
+-- the certificates that an event brings are of views that are kept
+pub record BringsFrom {K D G : Type 0} (low : ℕ) (e : Event K D G) : Type 0 where
+  pub notarization : (c : ProposalFacts D) → notarization_by e ≡ Some c → low ≤ c.proposal.round.view
+  pub nullification : (c : NullificationFacts) → nullification_by e ≡ Some c → low ≤ c.round.view
+  pub finalization : (c : ProposalFacts D) → finalization_by e ≡ Some c → low ≤ c.proposal.round.view
+
+module _ {K L D G : Type 0} (same : D → D → Bool) (elect : Elect L) (x : Facts K L D) (e : Event K D G) (low : ℕ) (brings : BringsFrom low e) where
+  change_lasts : (y : Facts K L D) (v : ℕ) (r s : RoundFacts K D) → RoundStep same elect x e y v r s → RoundLasts low v r s
+  change_lasts y v r s (step.Notarized c says at none) = (let kept = brings.notarization c says in record {
+    conflict = λ h. certified_conflict (same_proposal same) r.slot c.proposal h;
+    notarization_handed = λ h. h;
+    nullification_handed = λ h. h;
+    finalization_handed = λ h. h;
+    notarization = inr (omega (arith, kept, at), ap Some at);
+    nullification = inl refl;
+    finalization = inl refl;
+  })
+  change_lasts y v r s (step.Nullified c says at none) = (let kept = brings.nullification c says in record {
+    conflict = λ h. h;
+    notarization_handed = λ h. h;
+    nullification_handed = λ h. h;
+    finalization_handed = λ h. h;
+    notarization = inl refl;
+    nullification = inr (omega (arith, kept, at), ap Some at);
+    finalization = inl refl;
+  })
+  change_lasts y v r s (step.Finalized c says at none) = (let kept = brings.finalization c says in record {
+    conflict = λ h. certified_conflict (same_proposal same) r.slot c.proposal h;
+    notarization_handed = λ h. h;
+    nullification_handed = λ h. h;
+    finalization_handed = λ h. h;
+    notarization = inl refl;
+    nullification = inl refl;
+    finalization = inr (omega (arith, kept, at), ap Some at);
+  })
+  change_lasts y v r s step.HandedNotarization = record { conflict = λ h. h; notarization_handed = λ h. rw h refl; nullification_handed = λ h. h; finalization_handed = λ h. h; notarization = inl refl; nullification = inl refl; finalization = inl refl }
+  change_lasts y v r s step.HandedNullification = record { conflict = λ h. h; notarization_handed = λ h. h; nullification_handed = λ h. rw h refl; finalization_handed = λ h. h; notarization = inl refl; nullification = inl refl; finalization = inl refl }
+  change_lasts y v r s step.HandedFinalization = record { conflict = λ h. h; notarization_handed = λ h. h; nullification_handed = λ h. h; finalization_handed = λ h. rw h refl; notarization = inl refl; nullification = inl refl; finalization = inl refl }
+  change_lasts y v r s step.SentNotarization = record { conflict = λ h. h; notarization_handed = λ h. refl; nullification_handed = λ h. h; finalization_handed = λ h. h; notarization = inl refl; nullification = inl refl; finalization = inl refl }
+  change_lasts y v r s step.SentNullification = record { conflict = λ h. h; notarization_handed = λ h. h; nullification_handed = λ h. refl; finalization_handed = λ h. h; notarization = inl refl; nullification = inl refl; finalization = inl refl }
+  change_lasts y v r s step.SentFinalization = record { conflict = λ h. h; notarization_handed = λ h. h; nullification_handed = λ h. h; finalization_handed = λ h. refl; notarization = inl refl; nullification = inl refl; finalization = inl refl }
+  change_lasts y v r s (step.VotedAgain p binding says at is) = record { conflict = λ h. own_conflict (same_proposal same) r.slot p h; notarization_handed = λ h. h; nullification_handed = λ h. h; finalization_handed = λ h. h; notarization = inl refl; nullification = inl refl; finalization = inl refl }
+  change_lasts y v r s (step.Heard p says free) = record { conflict = λ h. voted_conflict (same_proposal same) r.slot p h; notarization_handed = λ h. h; nullification_handed = λ h. h; finalization_handed = λ h. h; notarization = inl refl; nullification = inl refl; finalization = inl refl }
+  change_lasts y v r s (step.Built context payload now says is at) = record { conflict = λ h. own_conflict (same_proposal same) r.slot _ h; notarization_handed = λ h. h; nullification_handed = λ h. h; finalization_handed = λ h. h; notarization = inl refl; nullification = inl refl; finalization = inl refl }
+  change_lasts y v r s _ = record { conflict = λ h. h; notarization_handed = λ h. h; nullification_handed = λ h. h; finalization_handed = λ h. h; notarization = inl refl; nullification = inl refl; finalization = inl refl }
+
+  pub event_lasts : InOrder x → (v : ℕ) → RoundLasts low v (round_of x v) (round_of (after_event same elect x e) v) ⊎ ((is_prune e ≡ true) × IsGone x (after_event same elect x e) v)
+  event_lasts ordered = rounds_or_gone same elect x e ordered 0 (RoundLasts low) (round_joined low) change_lasts (event_path same elect 0 x e (omega arith) (asked_of_all x e))
+
+module _ {K L D G : Type 0} (x : Facts K L D) where
+  -- within a life
+  pub brings_kept : (e : Event K D G) → IsEvent x e → is_floor e ≡ false → BringsFrom (min_active x) e
+  brings_kept (event.SetFloor floor now) takes none = absurd (true≢false none)
+  brings_kept (event.AddNotarization c) takes none = record { notarization = λ d is. (let e : c ≡ d = cc in subst (λ (h : ProposalFacts D). min_active x ≤ h.proposal.round.view) e (kept_view x c.proposal.round takes).1); nullification = λ d is. absurd (cc); finalization = λ d is. absurd (cc) }
+  brings_kept (event.AddNullification c now) takes none = record { notarization = λ d is. absurd (cc); nullification = λ d is. (let e : c ≡ d = cc in subst (λ (h : NullificationFacts). min_active x ≤ h.round.view) e (kept_view x c.round takes).1); finalization = λ d is. absurd (cc) }
+  brings_kept (event.AddFinalization c now) takes none = record { notarization = λ d is. absurd (cc); nullification = λ d is. absurd (cc); finalization = λ d is. (let e : c ≡ d = cc in subst (λ (h : ProposalFacts D). min_active x ≤ h.proposal.round.view) e (kept_view x c.proposal.round takes).1) }
+  brings_kept _ takes none = record { notarization = λ d is. absurd (cc); nullification = λ d is. absurd (cc); finalization = λ d is. absurd (cc) }
+
+-- each certificate is of some view
+pub brings_any : {K D G : Type 0} (e : Event K D G) → BringsFrom 0 e
+brings_any e = record { notarization = λ c is. omega arith; nullification = λ c is. omega arith; finalization = λ c is. omega arith }
+
+-- calls
+
+-- what is found under a key that passes a test is among the keys that do
+found_key : {V : Type 0} (test : ℕ → Bool) (v : ℕ) (es : List (ℕ × V)) → is_some (find nat_cmp v es) ≡ true → test v ≡ true → Contains (map (λ e. e.0) (filter (λ e. test e.0) es)) v
+found_key test v [] there passes = absurd (cc)
+found_key test v (e ∷ es) there passes = elim (cases_eq v e.0) [
+  | inl here ↦ rw (sym (ap test here) ∙ passes) (0, omega arith, sym here)
+  | inr apart ↦ (
+      let later : is_some (find nat_cmp v es) ≡ true = ap (λ b. is_some (cond b (Some e.1) (find nat_cmp v es))) (sym (is_eq-nat_cmp v e.0 ∙ ne_eqb v e.0 apart)) ∙ there in
+      let rest = found_key test v es later passes in
+      elim (test e.0) as (λ b. Contains (map (λ f. f.0) (if b then e ∷ filter (λ f. test f.0) es else filter (λ f. test f.0) es)) v) [
+        | true ↦ Contains-cons_rest e.0 (map (λ f. f.0) (filter (λ f. test f.0) es)) v rest
+        | false ↦ rest
+      ])
+]
+
+-- a view below those that were kept isn't tracked from a call on, which is told that it was dropped
+pub record Drops {K L D G : Type 0} (x y : Facts K L D) (told : Told K D G) (v : ℕ) : Type 0 where
+  pub gone : IsGone x y v
+  pub dropped : is_tracked x v ≡ true → IsDropped (told ∷ []) v
+
+-- of the events of a call
+abbrev pub AllLast : {K L D G : Type 0} → Facts K L D → List (Event K D G) → Facts K L D → Type 0
+AllLast x es y = (v : ℕ) → RoundLasts (min_active x) v (round_of x v) (round_of y v) ⊎ ((list_any is_prune es ≡ true) × IsGone x y v)
+
+none_lasts : {K L D : Type 0} (G : Type 0) (x : Facts K L D) → AllLast {G = G} x [] x
+none_lasts G x v = inl (still (min_active x) v (round_of x v))
+
+module _ {K L D G : Type 0} (same : D → D → Bool) (elect : Elect L) (x : Facts K L D) (ordered : InOrder x) where
+  taken_lasts : (e : Event K D G) (rest : List (Event K D G)) → IsEvent x e → is_floor e ≡ false → AllLast x (e ∷ rest) (after_event same elect x e)
+  taken_lasts e rest takes none v = elim (event_lasts same elect x e (min_active x) (brings_kept x e takes none) ordered v) [ inl lasts ↦ inl lasts | inr (prunes, gone) ↦ inr (rw prunes refl, gone) ]
+
+  pub call_lasts : (signature_of : ℕ → Subject D → G) (call : CallFacts D) → is_allowed x call ≡ true → (v : ℕ) → RoundLasts (min_active x) v (round_of x v) (round_of (after_call same elect signature_of x call) v) ⊎ Drops x (after_call same elect signature_of x call) (answer same elect signature_of x call) v
+  call_lasts signature_of call allowed v = elim (call_by_event G same elect x signature_of (AllLast x) (none_lasts G x) taken_lasts call allowed v) [
+    | inl lasts ↦ inl lasts
+    | inr (prunes, gone) ↦ inr (record { gone = gone; dropped = λ tracked. told call prunes gone.below tracked })
+  ]
     where
-      certificates : (kind : Kind) → StandsOrComes low v (standing_view kind r) (standing_view kind (record r { nullification = Some c }))
-      certificates Notarization = inl refl
-      certificates Nullification = inr (kept, ap Some at)
-      certificates Finalization = inl refl
+      told : (call : CallFacts D) → list_any is_prune (events_of {K = K} {G = G} call) ≡ true → v < min_active x → is_tracked x v ≡ true → IsDropped (answer same elect signature_of x call ∷ []) v
+      told Prune prunes below tracked = (let under : nat_lt v (min_active x) ≡ true = grind (arith, nat_tests) in (prune_answer x, (0, omega arith, refl), found_key (λ u. nat_lt u (min_active x)) v x.rounds tracked under))
+      told _ prunes below tracked = absurd (true≢false (sym prunes))
 
-module _ {K D : Type 0} where
-  -- a certification that ends
-  ended_lasts : (low u v : ℕ) (d : RoundFacts K D) (found : Option (RoundFacts K D)) → RoundLasts low v (unwrap_or found d) (unwrap_or (option_map (λ r. if nat_le v u then without_token r else r) found) d)
-  ended_lasts low u v d None = round_still low v d
-  ended_lasts low u v d (Some r) = round_if low v r (nat_le v u) (without_token r) r (token_lasts low v r) (round_still low v r)
-
--- so it is of each view
-pub record Lasts {K L D : Type 0} (low : ℕ) (x y : Facts K L D) : Type 0 where
-  pub rounds : (v : ℕ) → RoundLasts low v (round_of x v) (round_of y v)
-
-module _ {K L D : Type 0} (low : ℕ) where
-  pub lasts : (x : Facts K L D) → Lasts low x x
-  lasts x = record { rounds = λ v. round_still low v (round_of x v) }
-
-  pub lasts_joined : (x y z : Facts K L D) → Lasts low x y → Lasts low y z → Lasts low x z
-  lasts_joined x y z p q = record { rounds = λ v. round_joined low v (round_of x v) (round_of y v) (round_of z v) (p.rounds v) (q.rounds v) }
-
-  pub lasts_if : (x : Facts K L D) (b : Bool) (y z : Facts K L D) → Lasts low x y → Lasts low x z → Lasts low x (if b then y else z)
-  lasts_if x true y z p q = p
-  lasts_if x false y z p q = q
-
-  pub put_lasts : (x : Facts K L D) (v : ℕ) (r : RoundFacts K D) → RoundLasts low v (round_of x v) r → Lasts low x (with_round x v r)
-  put_lasts x v r here = record { rounds = rounds }
-    where
-      rounds : (w : ℕ) → RoundLasts low w (round_of x w) (round_of (with_round x v r) w)
-      rounds w = elim (cases_eq w v) [
-        | inl at ↦ subst (λ u. RoundLasts low u (round_of x u) (round_of (with_round x v r) u)) (sym at) (subst (λ s. RoundLasts low v (round_of x v) s) (sym (round_put x v r)) here)
-        | inr apart ↦ subst (λ s. RoundLasts low w (round_of x w) s) (sym (round_of-with_round x w v apart r)) (round_still low w (round_of x w))
-      ]
-
-  pub tracked_lasts : (x : Facts K L D) (v : ℕ) (r : RoundFacts K D) → RoundLasts low v (round_of x v) r → Lasts low x (with_tracked x v r)
-  tracked_lasts x v r here = lasts_if x (is_tracked x v) (with_round x v r) x (put_lasts x v r here) (lasts x)
-
-  -- anything but the rounds
-
-  pub moment_lasts : (x : Facts K L D) (now : ℕ) → Lasts low x (at_moment x now)
-  moment_lasts x now = record { rounds = λ v. round_still low v (round_of x v) }
-
-  pub named_lasts : (x : Facts K L D) (v : ℕ) → Lasts low x (named_also x v)
-  named_lasts x v = lasts_if x (nat_lt x.finalized v) _ x (record { rounds = λ w. round_still low w (round_of x w) }) (lasts x)
-
-  pub nullified_lasts : (x : Facts K L D) (u : ℕ) → Lasts low x (nullified_also x u)
-  nullified_lasts x u = record { rounds = λ v. round_still low v (round_of x v) }
-
-  pub cast_lasts : (x : Facts K L D) (v : ℕ) → Lasts low x (nullify_cast x v)
-  cast_lasts x v = lasts_if x (is_some x.me) _ x (record { rounds = λ w. round_still low w (round_of x w) }) (lasts x)
-
-  pub woken_lasts : (elect : Elect L) (x : Facts K L D) (p : ℕ) → Lasts low x (woken elect x p)
-  woken_lasts elect x p = lasts_if x (option_map_or (waits_for elect x p) (round_at x (p + 1)) false) (named_also x (p + 1)) x (named_lasts x (p + 1)) (lasts x)
-
-  -- leaders
-
-  led_lasts : (x : Facts K L D) (v member : ℕ) → Lasts low x (led x v member)
-  led_lasts x v member =
-      lasts_if x (has_leader x v) x _ (lasts x)
-      (put_lasts x v (record (round_of x v) { leader = leader_at x.members member }) (else_lasts low v (round_of x v) _ refl refl refl refl refl refl refl))
-
-  inherited_lasts : (x : Facts K L D) (from to : ℕ) → Lasts low x (inherited x from to)
-  inherited_lasts x from to = inherits (round_of x from).leader
-    where
-      inherits : (leader : Option (Leader K)) → Lasts low x (option_map_or (λ l. led x to l.idx) leader x)
-      inherits None = lasts x
-      inherits (Some l) = led_lasts x to l.idx
-
-  slides : (views : List ℕ) (x : Facts K L D) → Lasts low x (fold (λ y w. inherited y (w - 1) w) x views)
-  slides [] x = lasts x
-  slides (w ∷ views) x = lasts_joined x (inherited x (w - 1) w) (fold (λ y w. inherited y (w - 1) w) (inherited x (w - 1) w) views) (inherited_lasts x (w - 1) w) (slides views (inherited x (w - 1) w))
-
-  pub slid_lasts : (x : Facts K L D) (v : ℕ) → Lasts low x (slid x v)
-  slid_lasts x v = slides (opened_views x v) x
-
-  pub elected_lasts : (elect : Elect L) (x : Facts K L D) (v : ℕ) (seed : Option (List ℕ)) → Lasts low x (elected elect x v seed)
-  elected_lasts elect x v seed = led_lasts x v _
-
-  pub prepared_lasts : (elect : Elect L) (x : Facts K L D) (v : ℕ) → Lasts low x (prepared elect x v)
-  prepared_lasts elect x v =
-      let later = elected elect x (v + 1) None in
-      let own = (round_of x v).notarize_decided && is_elected_early elect x (v + 1) in
-      lasts_if x (in_window x (v + 1)) (inherited x v (v + 1)) (if own then later else x) (inherited_lasts x v (v + 1)) (lasts_if x own later x (elected_lasts elect x (v + 1) None) (lasts x))
-
-  -- entries, timeouts and verdicts
-
-  pub entered_lasts : (x : Facts K L D) (v now : ℕ) → Lasts low x (entered x v now)
-  entered_lasts x v now =
-      let put = put_lasts x v (entered_round x (round_of x v) now) (else_lasts low v (round_of x v) _ refl refl refl refl refl refl refl) in
-      lasts_if x (nat_lt x.current v) _ x (record { rounds = put.rounds }) (lasts x)
-
-  pub triggered_lasts : (x : Facts K L D) (v : ℕ) (reason : TimeoutReason) (now : ℕ) → Lasts low x (triggered x v reason now)
-  triggered_lasts x v reason now =
-      lasts_if x (nat_le x.current v && is_tracked x v && not (is_contradicted reason (round_of x v))) (with_round x v (with_latch (round_of x v) now reason)) x
-      (put_lasts x v (with_latch (round_of x v) now reason) (else_lasts low v (round_of x v) _ refl refl refl refl refl refl refl)) (lasts x)
-
-  pub judged_lasts : (x : Facts K L D) (v : ℕ) (success : Bool) → Lasts low x (judged x v success)
-  judged_lasts x v success = put_lasts x v (certified_round (round_of x v) success) (else_lasts low v (round_of x v) _ refl refl refl refl refl refl refl)
-
-  pub raised_lasts : (x : Facts K L D) (u : ℕ) → Lasts low x (raised x u)
-  raised_lasts x u = lasts_if x (nat_lt x.finalized u) _ x (record { rounds = rounds }) (lasts x)
-    where
-      changed : List (ℕ × RoundFacts K D)
-      changed = map (λ e. (e.0, if nat_le e.0 u then without_token e.1 else e.1)) x.rounds
-
-      rounds : (v : ℕ) → RoundLasts low v (round_of x v) (unwrap_or (find nat_cmp v changed) (new_round x.me x.members (round_number x v)))
-      rounds v = rw (find-changed (λ w r. if nat_le w u then without_token r else r) v x.rounds) (ended_lasts low u v (new_round x.me x.members (round_number x v)) (find nat_cmp v x.rounds))
+module _ {K L D : Type 0} (same : D → D → Bool) (elect : Elect L) (x : Facts K L D) (ordered : InOrder x) where
+  pub work_lasts : (o : Openings K D) (call : WorkCall D) → work_allowed x o call ≡ true → (v : ℕ) → RoundLasts (min_active x) v (round_of x v) (round_of (after_work same elect x o call) v)
+  work_lasts o call allowed =
+      work_by_event (Unit {0}) same elect x o (λ es y. AreSilent (Unit {0}) es → (v : ℕ) → RoundLasts (min_active x) v (round_of x v) (round_of y v))
+      (λ silent v. still (min_active x) v (round_of x v))
+      (λ e rest takes none silent v. elim (event_lasts same elect x e (min_active x) (brings_kept x e takes none) ordered v) [ inl lasts ↦ lasts | inr (prunes, gone) ↦ absurd (true≢false (sym prunes ∙ silent.0.prune)) ])
+      call allowed (work_silent (Unit {0}) o call)

@@ -61,29 +61,29 @@ module _ {K D : Type 0} where
   decided_alike r d same_nullify same_finalize =
       record { slot = refl; notarization = refl; certified = refl; nullify = same_nullify; finalize = same_finalize }
 
-armed_nullify : (d : Decision) (a b : ℕ) → is_nullify (armed d a b) ≡ is_nullify d
+pub armed_nullify : (d : Decision) (a b : ℕ) → is_nullify (armed d a b) ≡ is_nullify d
 armed_nullify (decision.Pending _ _ _) a b = refl
 armed_nullify (decision.Nullify _) a b = refl
 armed_nullify decision.Finalize a b = refl
 
-armed_finalize : (d : Decision) (a b : ℕ) → is_finalize (armed d a b) ≡ is_finalize d
+pub armed_finalize : (d : Decision) (a b : ℕ) → is_finalize (armed d a b) ≡ is_finalize d
 armed_finalize (decision.Pending _ _ _) a b = refl
 armed_finalize (decision.Nullify _) a b = refl
 armed_finalize decision.Finalize a b = refl
 
-latched_nullify : (d : Decision) (t : ℕ × TimeoutReason) → is_nullify (latched d t) ≡ is_nullify d
+pub latched_nullify : (d : Decision) (t : ℕ × TimeoutReason) → is_nullify (latched d t) ≡ is_nullify d
 latched_nullify (decision.Pending _ _ None) t = refl
 latched_nullify (decision.Pending _ _ (Some _)) t = refl
 latched_nullify (decision.Nullify _) t = refl
 latched_nullify decision.Finalize t = refl
 
-latched_finalize : (d : Decision) (t : ℕ × TimeoutReason) → is_finalize (latched d t) ≡ is_finalize d
+pub latched_finalize : (d : Decision) (t : ℕ × TimeoutReason) → is_finalize (latched d t) ≡ is_finalize d
 latched_finalize (decision.Pending _ _ None) t = refl
 latched_finalize (decision.Pending _ _ (Some _)) t = refl
 latched_finalize (decision.Nullify _) t = refl
 latched_finalize decision.Finalize t = refl
 
-aborted_certified : (c : Certification) → is_certified (after_abort c) ≡ is_certified c
+pub aborted_certified : (c : Certification) → is_certified (after_abort c) ≡ is_certified c
 aborted_certified certification.Ready = refl
 aborted_certified (certification.Outstanding _) = refl
 aborted_certified (certification.Judged _) = refl

@@ -33,7 +33,8 @@ use Rattle.simplex_laws.proofs.RecoveredVerdicts.{recovered_shows}
 use Rattle.simplex_laws.proofs.RunsLawful.{LivesOn, MemberLives, between_of, cut_between, call_lives_on, work_lives_on, restart_lives_on, start_lives}
 use Rattle.simplex_laws.proofs.InOrder.{InOrder}
 use Rattle.simplex_laws.proofs.WorkVerdicts.{work_told}
-use Rattle.simplex_laws.proofs.ShownVerdicts.{Shows, Tells, shows_more, call_told}
+use Rattle.simplex_laws.proofs.ShownVerdicts.{Tells, shows_more, call_told}
+use Rattle.simplex_laws.proofs.Verdicts.{Shows}
 use Rattle.simplex_laws.proofs.Together.{record_fits}
 
 -- a member's record keeps its verdicts in order, and while it lives its state shows them
@@ -101,24 +102,24 @@ module _ {K L D G : Type 0} where
 module _ {K L D G : Type 0} (same : D → D → Bool) (elect : Elect L) (signature_of : ℕ → Subject D → G) (term_length : ℕ) (acts : List (Act D)) (m : MemberFacts K L D G) where
   -- a call
 
-  answered : (call : CallFacts D) (x : Facts K L D) → m.life ≡ Some x → MemberTells acts m → MemberTells (acts ++ acts_of_call call (reply_of same elect signature_of x call)) (left_of same elect signature_of x m call)
-  answered call x alive tells = by_allowed (is_allowed x call) refl
+  answered : (call : CallFacts D) (x : Facts K L D) → InOrder x → m.life ≡ Some x → MemberTells acts m → MemberTells (acts ++ acts_of_call call (reply_of same elect signature_of x call)) (left_of same elect signature_of x m call)
+  answered call x ordered alive tells = by_allowed (is_allowed x call) refl
     where
       by_fault : (o : Option Fault) → fault_of x call ≡ o → is_allowed x call ≡ true → MemberTells (acts ++ acts_of_call call (reply_of same elect signature_of x call)) (left_of same elect signature_of x m call)
-      by_fault None no_fault allowed = rw (allowed, no_fault) (call_told same elect signature_of acts m.entries x (subst (λ life. TellsOn acts m.entries life) alive tells) call allowed)
+      by_fault None no_fault allowed = rw (allowed, no_fault) (call_told same elect signature_of acts m.entries x ordered (subst (λ life. TellsOn acts m.entries life) alive tells) call allowed)
       by_fault (Some f) refused allowed = rw (allowed, refused) (untold acts m tells)
 
       by_allowed : (b : Bool) → is_allowed x call ≡ b → MemberTells (acts ++ acts_of_call call (reply_of same elect signature_of x call)) (left_of same elect signature_of x m call)
       by_allowed true allowed = by_fault (fault_of x call) refl allowed
       by_allowed false not_allowed = rw not_allowed (untold acts m tells)
 
-  call_tells_on : (call : CallFacts D) (told : Told K D G) (left : MemberFacts K L D G) → MemberTells acts m → IsCall same elect signature_of m call told left → MemberTells (acts ++ acts_of_call call told) left
+  call_tells_on : (call : CallFacts D) (told : Told K D G) (left : MemberFacts K L D G) → ((x : Facts K L D) → m.life ≡ Some x → InOrder x) → MemberTells acts m → IsCall same elect signature_of m call told left → MemberTells (acts ++ acts_of_call call told) left
   unfolding IsCall
-  call_tells_on call told left tells is_call = by_life m.life refl is_call
+  call_tells_on call told left ordered tells is_call = by_life m.life refl is_call
     where
       by_life : (o : Option (Facts K L D)) → m.life ≡ o → AnswersAlive same elect signature_of o m call told left → MemberTells (acts ++ acts_of_call call told) left
       by_life None dead (tell, leaves) = rw (tell, leaves) (untold acts m tells)
-      by_life (Some x) alive (inl (tell, leaves)) = rw (tell, leaves) (answered call x alive tells)
+      by_life (Some x) alive (inl (tell, leaves)) = rw (tell, leaves) (answered call x (ordered x alive) alive tells)
       by_life (Some x) alive (inr (_, tell, inl leaves)) = rw (tell, leaves) (untold acts m tells)
       by_life (Some x) alive (inr (_, tell, inr leaves)) = rw (tell, leaves) (untold acts (fallen m) (own_of acts m.entries m.life tells))
 
@@ -128,7 +129,7 @@ module _ {K L D G : Type 0} (same : D → D → Bool) (elect : Elect L) (signatu
   worked call x ordered alive tells = by_allowed (work_allowed x m.openings call) refl
     where
       by_fault : (f : Option Fault) → work_fault x call ≡ f → work_allowed x m.openings call ≡ true → MemberTells (acts ++ acts_of_work (work_reply same elect signature_of x m.openings call)) (left_of_work same elect signature_of x m call)
-      by_fault None no_fault allowed = rw (allowed, no_fault) (work_told same elect signature_of acts m.entries x m.openings (subst (λ life. TellsOn acts m.entries life) alive tells) call ordered allowed)
+      by_fault None no_fault allowed = rw (allowed, no_fault) (work_told same elect signature_of acts m.entries x m.openings ordered (subst (λ life. TellsOn acts m.entries life) alive tells) call allowed)
       by_fault (Some f) refused allowed = rw (allowed, refused) (untold acts m tells)
 
       by_allowed : (b : Bool) → work_allowed x m.openings call ≡ b → MemberTells (acts ++ acts_of_work (work_reply same elect signature_of x m.openings call)) (left_of_work same elect signature_of x m call)
@@ -188,7 +189,7 @@ module _ {K L D G : Type 0} (same : D → D → Bool) (decides : (d e : D) → s
   called : (acts : List (Act D)) (m next : MemberFacts K L D G) (call : CallFacts D) (told : Told K D G) → KeepsRecord term_length acts m → IsCall same elect signature_of m call told next → KeepsRecord term_length (acts ++ acts_of_call call told) next
   called acts m next call told own is = record {
     lives = call_lives_on same decides elect signature_of term_length some acts m call told next own.lives is;
-    tells = call_tells_on same elect signature_of term_length acts m call told next own.tells is;
+    tells = call_tells_on same elect signature_of term_length acts m call told next (λ x alive. (let living = subst (λ life. LivesOn term_length acts m.closed own.lives.0 m.entries m.openings life) alive own.lives.1 in living.in_order)) own.tells is;
   }
 
   worked_on : (acts : List (Act D)) (m next : MemberFacts K L D G) (call : WorkCall D) (told : Told K D G) → KeepsRecord term_length acts m → IsWork same elect signature_of m call told next → KeepsRecord term_length (acts ++ acts_of_work told) next

@@ -18,7 +18,7 @@ Holds s p = (s.conflict ≡ true) ⊎ (s.held ≡ Some p)
 
 module _ {D : Type 0} (same : D → D → Bool) (decides : (d e : D) → same d e ≡ true → d ≡ e) where
   -- a certificate's proposal is held, unless another was seen
-  holds_new : (s : SlotFacts D) (p : Proposal D) → Holds (after_certificate (same_proposal same) s p) p
+  pub holds_new : (s : SlotFacts D) (p : Proposal D) → Holds (after_certificate (same_proposal same) s p) p
   holds_new s p = by_held s.held refl
     where
       by_held : (o : Option (Proposal D)) → s.held ≡ o → Holds (after_certificate (same_proposal same) s p) p
@@ -29,7 +29,7 @@ module _ {D : Type 0} (same : D → D → Bool) (decides : (d e : D) → same d 
       ]
 
   -- what is held stays held, unless another is seen
-  holds_old : (s : SlotFacts D) (p q : Proposal D) → Holds s q → Holds (after_certificate (same_proposal same) s p) q
+  pub holds_old : (s : SlotFacts D) (p q : Proposal D) → Holds s q → Holds (after_certificate (same_proposal same) s p) q
   holds_old s p q holds = by_held s.held refl
     where
       by_held : (o : Option (Proposal D)) → s.held ≡ o → Holds (after_certificate (same_proposal same) s p) q

@@ -1,137 +1,143 @@
--- Which changes of a state leave a view untracked that lies below those that are kept.
-use Rattle.std.proofs.Common.{◌≡◌, refl, ap, sym, ◌∙◌, ℕ, zero, suc, ◌+◌, ◌-◌, ◌<◌, ◌≤◌, ◌⊎◌, inl, inr, Bool, true, false, ◌&&◌, not, cond, if◌then◌else◌, nat_lt, nat_le, List, [], Option, Some, None, is_some, min, arith}
-use Rattle.std.specs.Prelude.{map, option_map, ◌==◌}
-use Rattle.std.specs.List.{fold, range_with_len}
-use Rattle.std.specs.Option.{option_map_or}
+-- Where no view below some other is tracked, none comes to be: with each event, call and call on the work of a view.
+use Rattle.std.proofs.Common.{◌≡◌, ◌≢◌, refl, ap, sym, ◌∙◌, subst, ℕ, ◌<◌, ◌≤◌, inl, inr, Bool, true, false, ◌&&◌, cond, if◌then◌else◌, nat_lt, nat_le, List, [], ◌∷◌, Contains, Option, Some, None, is_some, arith}
+use Rattle.std.specs.Prelude.{map, filter, option_map, ◌==◌}
 use Rattle.std.specs.Ordering.{nat_cmp}
 use Rattle.std.specs.Cmp.{nat_cmp_total}
 use Rattle.std.specs.FinMap.Entries.{find, find-put}
-use Rattle.std.proofs.lemmas.Bool.{false≢true, cases_eq, ne_eqb}
+use Rattle.std.proofs.lemmas.Bool.{cases_eq, cases_lt, ne_eqb, false≢true, true≢false, eqb-true}
+use Rattle.std.proofs.lemmas.Bool.Decides.{nat_tests}
+use Rattle.simplex_types.proofs.Gaps.{next_above}
 use Rattle.simplex_types.proofs.Maps.{is_eq-nat_cmp}
-use Rattle.simplex_types.specs.Terms.{term_end}
-use Rattle.simplex_types.specs.declared.reasons.TimeoutReason.{TimeoutReason}
-use Rattle.simplex_round.specs.declared.round.Leader.{Leader}
-use Rattle.simplex_round.specs.Round.{RoundFacts, leader_at, with_latch}
-use Rattle.simplex_voter.specs.Facts.{Facts, Elect, round_at, round_of, is_tracked, with_round, with_tracked}
-use Rattle.simplex_voter.specs.Entering.{at_moment, entered, entered_round}
-use Rattle.simplex_voter.specs.Leaders.{has_leader, led, inherited, slid, elected}
-use Rattle.simplex_voter.specs.Timeouts.{triggered, is_contradicted}
-use Rattle.simplex_voter.specs.Certification.{named_also, raised, waits_for, woken, without_token}
-use Rattle.simplex_voter.specs.Acceptance.{nullified_also}
-use Rattle.simplex_voter.specs.Votes.{nullify_cast}
+use Rattle.simplex_types.specs.Certificates.{ArtifactFacts, NotarizeVote, Accepted, Notarized}
+use Rattle.simplex_types.specs.Config.{Genesis, Finalized as FinalizedFloor}
+use Rattle.simplex_types.specs.declared.types.messages.Subject.{Subject}
+use Rattle.simplex_types.specs.declared.types.numbers.Round.{Round}
+use Rattle.simplex_round.specs.Round.{RoundFacts}
+use Rattle.simplex_voter.specs.Facts.{Facts, Elect, round_at, is_tracked, with_round}
+use Rattle.simplex_voter.specs.Windows.{min_active, admits_certificate}
+use Rattle.simplex_voter.specs.Certification.{without_token}
+use Rattle.simplex_voter.specs.Refusals.{takes_round, is_started}
+use Rattle.simplex_voter.specs.Replay.{artifact_round}
+use Rattle.simplex_voter.specs.Serving.{prune_answer}
 use Rattle.simplex_voter.proofs.Gaps.{and_parts}
 use Rattle.simplex_voter.proofs.Walked.{find-changed}
+use Rattle.simplex_member.specs.Calls.{CallFacts, Prune, Dropped, is_allowed, answer, after_call}
+use Rattle.simplex_member.specs.Entries.{entry_view}
+use Rattle.simplex_member.specs.Openings.{Openings}
+use Rattle.simplex_member.specs.Recovery.{as_artifact}
+use Rattle.simplex_member.specs.Work.{WorkCall, work_allowed, after_work}
+use Rattle.simplex_laws.specs.Events as event
+use Rattle.simplex_laws.specs.Events.{Event, IsEvent, after_event}
+use Rattle.simplex_laws.specs.Sums.{is_prune}
+use Rattle.simplex_laws.proofs.CallsMake.{call_by_event, work_by_event}
+use Rattle.simplex_laws.proofs.EachRound.{pruned_view}
+use Rattle.simplex_laws.proofs.Paths.{AskedFrom, event_path}
+use Rattle.simplex_laws.proofs.Splits.{Contains-cases}
+use Rattle.simplex_laws.proofs.Steps.{Step, Puts, Raises, Strays, Prunes, along}
 
--- a view below `low` that isn't tracked stays so
-pub record StaysOut {K L D : Type 0} (low : ℕ) (x y : Facts K L D) : Type 0 where
-  pub views : (v : ℕ) → v < low → is_tracked x v ≡ false → is_tracked y v ≡ false
+-- no view below this one is tracked
+pub record IsClear {K L D : Type 0} (low : ℕ) (x : Facts K L D) : Type 0 where
+  pub views : (v : ℕ) → v < low → is_tracked x v ≡ false
 
-module _ {K L D : Type 0} (low : ℕ) where
-  pub out : (x : Facts K L D) → StaysOut low x x
-  out x = record { views = λ v below not_there. not_there }
+module _ {K L D G : Type 0} (same : D → D → Bool) (elect : Elect L) (low : ℕ) (x : Facts K L D) (e : Event K D G) where
+  put_out : (y : Facts K L D) (u : ℕ) (r : RoundFacts K D) (v : ℕ) → v ≢ u → is_tracked y v ≡ false → is_tracked (with_round y u r) v ≡ false
+  put_out y u r v apart gone = ap is_some (find-put nat_cmp nat_cmp_total v u r y.rounds ∙ ap (λ b. cond b (Some r) (find nat_cmp v y.rounds)) (is_eq-nat_cmp v u ∙ ne_eqb v u apart)) ∙ gone
 
-  pub out_joined : (x y z : Facts K L D) → StaysOut low x y → StaysOut low y z → StaysOut low x z
-  out_joined x y z p q = record { views = λ v below not_there. q.views v below (p.views v below not_there) }
-
-  pub out_if : (x : Facts K L D) (b : Bool) (y z : Facts K L D) → StaysOut low x y → StaysOut low x z → StaysOut low x (if b then y else z)
-  out_if x true y z p q = p
-  out_if x false y z p q = q
-
-  -- another round of a view that is kept, or tracked already
-  pub put_out : (x : Facts K L D) (u : ℕ) (r : RoundFacts K D) → (low ≤ u) ⊎ (is_tracked x u ≡ true) → StaysOut low x (with_round x u r)
-  put_out x u r may = record { views = views }
+  -- a view below `low` that isn't tracked stays so
+  step_out : (y z : Facts K L D) → Step same elect x e low y z → (v : ℕ) → v < low → is_tracked y v ≡ false → is_tracked z v ≡ false
+  step_out y z (Puts u r may s) v below gone = elim (cases_eq v u) [
+    | inl at ↦ elim may [ inl over ↦ absurd (omega arith) | inr there ↦ absurd (false≢true (sym gone ∙ ap (is_tracked y) at ∙ there)) ]
+    | inr apart ↦ put_out y u r v apart gone
+  ]
+  step_out y z (Strays u r over astray) v below gone = put_out y u r v (omega (arith, over, below)) gone
+  step_out y z (Raises u says above) v below gone = ap is_some (find-changed (λ w r. if nat_le w u then without_token r else r) v y.rounds) ∙ none (find nat_cmp v y.rounds) gone
     where
-      views : (v : ℕ) → v < low → is_tracked x v ≡ false → is_tracked (with_round x u r) v ≡ false
-      views v below not_there = elim (cases_eq v u) [
-        | inl at ↦ elim may [
-          | inl kept ↦ absurd (omega arith)
-          | inr there ↦ absurd (false≢true (sym not_there ∙ ap (is_tracked x) at ∙ there))
-        ]
-        | inr apart ↦
-            ap is_some (find-put nat_cmp nat_cmp_total v u r x.rounds ∙ ap (λ b. cond b (Some r) (find nat_cmp v x.rounds)) (is_eq-nat_cmp v u ∙ ne_eqb v u apart)) ∙ not_there
-      ]
-
-  pub tracked_out : (x : Facts K L D) (u : ℕ) (r : RoundFacts K D) → StaysOut low x (with_tracked x u r)
-  tracked_out x u r = by_tracked (is_tracked x u) refl
+      none : (o : Option (RoundFacts K D)) → is_some o ≡ false → is_some (option_map (λ r. if nat_le v u then without_token r else r) o) ≡ false
+      none None is = refl
+      none (Some r) is = is
+  step_out y z (Prunes is) v below gone = ap is_some (pruned_view y v) ∙ left (nat_le (min_active y) v)
     where
-      by_tracked : (b : Bool) → is_tracked x u ≡ b → StaysOut low x (if b then with_round x u r else x)
-      by_tracked true there = put_out x u r (inr there)
-      by_tracked false not_there = out x
+      left : (b : Bool) → is_some (cond b (round_at y v) None) ≡ false
+      left true = gone
+      left false = refl
+  step_out y z _ v below gone = gone
 
-  -- anything but the rounds
+  pub clear_along : low ≤ x.current → AskedFrom low x e → IsClear low x → IsClear low (after_event same elect x e)
+  clear_along reached asked clear =
+      along same elect x e low (IsClear low) (λ y z s clear. record { views = λ v below. step_out y z s v below (clear.views v below) }) x (after_event same elect x e)
+      (event_path same elect low x e reached asked) clear
 
-  pub moment_out : (x : Facts K L D) (now : ℕ) → StaysOut low x (at_moment x now)
-  moment_out x now = record { views = λ v below not_there. not_there }
+-- what is asked in a life is kept
 
-  pub named_out : (x : Facts K L D) (v : ℕ) → StaysOut low x (named_also x v)
-  named_out x v = out_if x (nat_lt x.finalized v) _ x (record { views = λ w below not_there. not_there }) (out x)
+module _ {K L D : Type 0} (x : Facts K L D) where
+  pub kept_view : (round : Round) → takes_round x round ≡ true → (1 ≤ round.view) × (min_active x ≤ round.view)
+  kept_view round takes =
+      let admitted = (and_parts (is_started x && round.epoch == x.settings.epoch) (admits_certificate x round.view) takes).1 in
+      let parts = and_parts (nat_le 1 round.view) (nat_le (min_active x) round.view) admitted in
+      let one : nat_le 1 round.view ≡ true = parts.0 in
+      let kept : nat_le (min_active x) round.view ≡ true = parts.1 in
+      (grind (arith, nat_tests, one), grind (arith, nat_tests, kept))
 
-  pub nullified_out : (x : Facts K L D) (u : ℕ) → StaysOut low x (nullified_also x u)
-  nullified_out x u = record { views = λ v below not_there. not_there }
+module _ {K L D G : Type 0} (x : Facts K L D) where
+  kept_entry : (e : ArtifactFacts D G) → takes_round x (artifact_round (as_artifact {K = K} e)) ≡ true → min_active x ≤ entry_view e
+  kept_entry (NotarizeVote p m signature) takes = (kept_view x p.round takes).1
+  kept_entry (Accepted (Notarized c)) takes = (kept_view x c.proposal.round takes).1
+  kept_entry _ takes = (kept_view x _ takes).1
 
-  pub cast_out : (x : Facts K L D) (v : ℕ) → StaysOut low x (nullify_cast x v)
-  cast_out x v = out_if x (is_some x.me) _ x (record { views = λ w below not_there. not_there }) (out x)
+  pub asked_in_life : (low : ℕ) (e : Event K D G) → low ≤ min_active x → low ≤ x.current → 0 < x.terms.term_length → IsClear low x → IsEvent x e → AskedFrom low x e
+  asked_in_life low (event.SetFloor (Genesis payload) now) under reached some clear takes = (let new = eqb-true x.current 0 takes in omega (arith, new, reached))
+  asked_in_life low (event.SetFloor (FinalizedFloor c) now) under reached some clear takes = (let new = eqb-true x.current 0 (and_parts _ _ (and_parts _ _ takes).0).0 in omega (arith, new, reached))
+  asked_in_life low (event.AddNotarization c) under reached some clear takes = (let kept = kept_view x c.proposal.round takes in omega (arith, kept.1, under))
+  asked_in_life low (event.AddNullification c now) under reached some clear takes =
+      let kept = kept_view x c.round takes in
+      let above = next_above x.terms.term_length c.round.view some kept.0 in
+      (omega (arith, kept.1, under), omega (arith, kept.1, under, above))
+  asked_in_life low (event.AddFinalization c now) under reached some clear takes = (let kept = kept_view x c.proposal.round takes in omega (arith, kept.1, under))
+  asked_in_life low (event.ConstructNotarize v) under reached some clear takes = λ there. (elim (cases_lt v low) [ inl below ↦ absurd (true≢false (sym there ∙ clear.views v below)) | inr over ↦ over ])
+  asked_in_life low (event.SetProposal v p) under reached some clear takes =
+      let parts = and_parts (takes_round x p.round) _ takes in
+      let kept = kept_view x p.round parts.0 in
+      let at : p.round.view ≡ v = eqb-true p.round.view v parts.1 in
+      omega (arith, kept.1, under, at)
+  asked_in_life low (event.Replay e) under reached some clear takes = (let kept = kept_entry e takes.kept in omega (arith, kept, under))
+  asked_in_life low _ under reached some clear takes = tt
 
-  pub woken_out : (elect : Elect L) (x : Facts K L D) (p : ℕ) → StaysOut low x (woken elect x p)
-  woken_out elect x p = out_if x (option_map_or (waits_for elect x p) (round_at x (p + 1)) false) (named_also x (p + 1)) x (named_out x (p + 1)) (out x)
+module _ {K L D G : Type 0} (same : D → D → Bool) (elect : Elect L) (low : ℕ) (x : Facts K L D) (under : low ≤ min_active x) (reached : low ≤ x.current) (some : 0 < x.terms.term_length) (clear : IsClear low x) where
+  pub event_clear : (e : Event K D G) → IsEvent x e → IsClear low (after_event same elect x e)
+  event_clear e takes = clear_along same elect low x e reached (asked_in_life x low e under reached some clear takes) clear
 
-  -- leaders of views that are kept
+  pub call_clear : (signature_of : ℕ → Subject D → G) (call : CallFacts D) → is_allowed x call ≡ true → IsClear low (after_call same elect signature_of x call)
+  call_clear signature_of call allowed = call_by_event G same elect x signature_of (λ es y. IsClear low y) clear (λ e rest takes none. event_clear e takes) call allowed
 
-  led_out : (x : Facts K L D) (v member : ℕ) → low ≤ v → StaysOut low x (led x v member)
-  led_out x v member kept = out_if x (has_leader x v) x _ (out x) (put_out x v (record (round_of x v) { leader = leader_at x.members member }) (inl kept))
+module _ {K L D : Type 0} (same : D → D → Bool) (elect : Elect L) (low : ℕ) (x : Facts K L D) (under : low ≤ min_active x) (reached : low ≤ x.current) (some : 0 < x.terms.term_length) (clear : IsClear low x) where
+  pub work_clear : (o : Openings K D) (call : WorkCall D) → work_allowed x o call ≡ true → IsClear low (after_work same elect x o call)
+  work_clear o call allowed = work_by_event (Unit {0}) same elect x o (λ es y. IsClear low y) clear (λ e rest takes none. event_clear same elect low x under reached some clear e takes) call allowed
 
-  pub inherited_out : (x : Facts K L D) (from to : ℕ) → low ≤ to → StaysOut low x (inherited x from to)
-  inherited_out x from to kept = inherits (round_of x from).leader
-    where
-      inherits : (leader : Option (Leader K)) → StaysOut low x (option_map_or (λ l. led x to l.idx) leader x)
-      inherits None = out x
-      inherits (Some l) = led_out x to l.idx kept
+-- prunes
 
-  slides : (count from : ℕ) (x : Facts K L D) → low ≤ from → StaysOut low x (fold (λ y w. inherited y (w - 1) w) x (range_with_len from count))
-  slides zero from x kept = out x
-  slides (suc count) from x kept =
-      let y = inherited x (from - 1) from in
-      out_joined x y (fold (λ z w. inherited z (w - 1) w) y (range_with_len (from + 1) count)) (inherited_out x (from - 1) from kept) (slides count (from + 1) y (omega arith))
+-- a key among those that pass a test passes it
+key_passes : {V : Type 0} (test : ℕ → Bool) (v : ℕ) (es : List (ℕ × V)) → Contains (map (λ e. e.0) (filter (λ e. test e.0) es)) v → test v ≡ true
+key_passes test v [] h = absurd (omega (arith, h.1))
+key_passes test v (e ∷ es) h =
+    (elim (test e.0) as (λ (b : Bool). test e.0 ≡ b → Contains (map (λ f. f.0) (if b then e ∷ filter (λ f. test f.0) es else filter (λ f. test f.0) es)) v → test v ≡ true) [
+      | true ↦ λ passes g. (elim (Contains-cases e.0 (map (λ f. f.0) (filter (λ f. test f.0) es)) v g) [
+        | inl here ↦ sym (ap test here) ∙ passes
+        | inr later ↦ key_passes test v es later
+      ])
+      | false ↦ λ fails g. key_passes test v es g
+    ]) refl h
 
-  pub slid_out : (x : Facts K L D) (v : ℕ) → low ≤ v → StaysOut low x (slid x v)
-  slid_out x v kept = opens (x.terms.optimistic_views == 0)
-    where
-      opens : (b : Bool) → StaysOut low x (fold (λ y w. inherited y (w - 1) w) x (if b then [] else range_with_len (v + 1) (min (term_end x.terms.term_length v) (v + x.terms.optimistic_views + 1) - v)))
-      opens true = out x
-      opens false = slides (min (term_end x.terms.term_length v) (v + x.terms.optimistic_views + 1) - v) (v + 1) x (omega arith)
+module _ {K L D G : Type 0} (same : D → D → Bool) (elect : Elect L) (x : Facts K L D) where
+  -- what an event drops
+  pub event_dropped : (e : Event K D G) (v : ℕ) → v < (if is_prune e then min_active x else 0) → is_tracked (after_event same elect x e) v ≡ false
+  event_dropped event.Prune v below = (let test : nat_le (min_active x) v ≡ false = grind (arith, nat_tests) in ap is_some (pruned_view x v ∙ ap (λ b. cond b (round_at x v) None) test))
+  event_dropped _ v below = absurd (omega (arith, below))
 
-  pub elected_out : (elect : Elect L) (x : Facts K L D) (v : ℕ) (seed : Option (List ℕ)) → low ≤ v → StaysOut low x (elected elect x v seed)
-  elected_out elect x v seed kept = led_out x v _ kept
-
-  -- entries and timeouts
-
-  pub entered_out : (x : Facts K L D) (v now : ℕ) → (nat_lt x.current v ≡ true → low ≤ v) → StaysOut low x (entered x v now)
-  entered_out x v now kept = enters (nat_lt x.current v) refl
-    where
-      enters : (b : Bool) → nat_lt x.current v ≡ b → StaysOut low x (if b then record (with_round x v (entered_round x (round_of x v) now)) { current = v } else x)
-      enters true is = record { views = (put_out x v (entered_round x (round_of x v) now) (inl (kept is))).views }
-      enters false is = out x
-
-  pub triggered_out : (x : Facts K L D) (v : ℕ) (reason : TimeoutReason) (now : ℕ) → StaysOut low x (triggered x v reason now)
-  triggered_out x v reason now = by_test (nat_le x.current v && is_tracked x v && not (is_contradicted reason (round_of x v))) refl
-    where
-      by_test : (b : Bool) → (nat_le x.current v && is_tracked x v && not (is_contradicted reason (round_of x v))) ≡ b → StaysOut low x (if b then with_round x v (with_latch (round_of x v) now reason) else x)
-      by_test true is =
-          let tracked = (and_parts (nat_le x.current v) (is_tracked x v) (and_parts (nat_le x.current v && is_tracked x v) (not (is_contradicted reason (round_of x v))) is).0).1 in
-          put_out x v (with_latch (round_of x v) now reason) (inr tracked)
-      by_test false is = out x
-
-  -- certifications that end
-  pub raised_out : (x : Facts K L D) (u : ℕ) → StaysOut low x (raised x u)
-  raised_out x u = out_if x (nat_lt x.finalized u) _ x (record { views = views }) (out x)
-    where
-      changed : List (ℕ × RoundFacts K D)
-      changed = map (λ e. (e.0, if nat_le e.0 u then without_token e.1 else e.1)) x.rounds
-
-      kept_out : (found : Option (RoundFacts K D)) (change : RoundFacts K D → RoundFacts K D) → is_some found ≡ false → is_some (option_map change found) ≡ false
-      kept_out None change not_there = refl
-      kept_out (Some r) change not_there = not_there
-
-      views : (v : ℕ) → v < low → is_tracked x v ≡ false → is_some (find nat_cmp v changed) ≡ false
-      views v below not_there =
-          ap is_some (find-changed (λ w r. if nat_le w u then without_token r else r) v x.rounds) ∙ kept_out (find nat_cmp v x.rounds) _ not_there
+  -- only a prune is told what was dropped
+  pub call_drops : (signature_of : ℕ → Subject D → G) (call : CallFacts D) (views : List ℕ) (v : ℕ) → answer same elect signature_of x call ≡ Dropped views → Contains views v → (v < min_active x) × IsClear (min_active x) (after_call same elect signature_of x call)
+  call_drops signature_of Prune views v tells among =
+      let same_views : prune_answer x ≡ views = cc in
+      let under = key_passes (λ u. nat_lt u (min_active x)) v x.rounds (subst (λ vs. Contains vs v) (sym same_views) among) in
+      let below : v < min_active x = grind (arith, nat_tests) in
+      (below, record { views = λ u under. event_dropped event.Prune u under })
+  call_drops signature_of _ views v tells among = absurd (cc)

@@ -10,8 +10,7 @@ use Rattle.simplex_member.specs.Openings.{Openings}
 use Rattle.simplex_member.specs.Runs.{IsStep}
 use Rattle.simplex_member.specs.Work.{WorkCall, IsWork, IsWorkOf, work_allowed, work_fault, work_answer, after_work, work_reply, left_of_work}
 use Rattle.simplex_laws.proofs.InOrder.{InOrder}
-use Rattle.simplex_laws.proofs.Rising.{never_fell, falls_never, call_rises}
-use Rattle.simplex_laws.proofs.Steadily.{work_rises}
+use Rattle.simplex_laws.proofs.Rising.{never_fell, falls_never, never_falls, call_goes, work_goes}
 
 module _ {K L D : Type 0} where
   -- of one state with itself
@@ -104,8 +103,8 @@ module _ {K L D G : Type 0} (same : D → D → Bool) (elect : Elect L) (signatu
   call_never_falls =
       each_call same elect signature_of (λ call told. NeverFalls)
       (λ call fault x. never_fell x) (λ call x. never_fell x)
-      (λ call x allowed. call_rises same elect signature_of x call)
-      (λ call x o allowed. work_rises same elect x o call)
+      (λ call x allowed. never_falls x _ (call_goes same elect x signature_of call))
+      (λ call x o allowed. never_falls x _ (work_goes same elect x o call))
 
   pub life_never_falls : (m end : MemberFacts K L D G) (calls : List (LifeCall D)) (replies : List (Told K D G)) → IsLife same elect signature_of m calls replies end → WhileAlive NeverFalls m.life end.life
   life_never_falls m end [] [] life = subst (λ n. WhileAlive NeverFalls m.life n.life) life (alive_still NeverFalls m.life (λ x. never_fell x))

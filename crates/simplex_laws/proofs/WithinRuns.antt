@@ -1,48 +1,34 @@
 -- The lives of a run from a start, and what each of them keeps.
-use Rattle.std.proofs.Common.{◌≡◌, refl, ap, sym, ◌∙◌, subst, ℕ, ◌<◌, ◌≤◌, inl, inr, Bool, true, false, List, [], ◌∷◌, ◌++◌, length, Option, Some, None, Result, Ok, Err, arith}
+use Rattle.std.proofs.Common.{◌≡◌, refl, sym, ◌∙◌, subst, ℕ, ◌<◌, ◌≤◌, inl, inr, Bool, true, false, List, [], ◌∷◌, ◌++◌, length, Option, Some, None, Result, Ok, Err, arith}
 use Rattle.std.specs.Prelude.{MatchOption}
 use Rattle.std.proofs.lemmas.List.{length-map}
-use Rattle.simplex_types.specs.Certificates.{ArtifactFacts}
 use Rattle.simplex_types.specs.declared.types.fault.Fault.{Fault}
 use Rattle.simplex_types.specs.declared.types.messages.Subject.{Subject}
 use Rattle.simplex_voter.specs.Facts.{Facts, Elect}
 use Rattle.simplex_voter.specs.Windows.{min_active}
-use Rattle.simplex_voter.specs.Acceptance.{after_set_floor}
 use Rattle.simplex_member.specs.declared.member.error.RecoverError.{RecoverError}
 use Rattle.simplex_member.specs.Calls.{CallFacts, Told, Dropped, Refused, NotAllowed, is_allowed, answer, after_call}
 use Rattle.simplex_laws.specs.LifeLaws.{LifeCall, Calling, Working, as_step, as_steps, IsLife, IsLifeOfRun, WhileAlive, IsDropped, ConflictsStay, DroppedForGood, HandedOnce, IsAsAsked, HandedAsAsked}
 use Rattle.simplex_member.specs.Lives.{MemberFacts, fallen}
 use Rattle.simplex_member.specs.Openings.{Openings}
-use Rattle.simplex_member.specs.Work.{WorkCall, SetProposal, TryPropose, Proposed, SupersedeProposalRequest, PendingHandoffAbandonment, ReleaseProposalRequest, TryVerify, Verified, VerificationFailed, ConstructNotarize, CertifyCandidates, SetCertifyHandle, TriggerTimeout, NextTimeout, work_allowed, work_answer, after_work}
-use Rattle.simplex_member.specs.Recovery.{recover_error, recovered}
+use Rattle.simplex_member.specs.Work.{WorkCall, TryPropose, work_allowed, work_answer, after_work}
+use Rattle.simplex_member.specs.Recovery.{recover_error}
 use Rattle.simplex_member.specs.Restarts.{RestartFacts, cut, new_life, retention_grows, GoesOn, IsRestart, IsRestartWhere}
 use Rattle.simplex_laws.specs.RunActs.{IsFresh, BeginFresh}
 use Rattle.simplex_member.specs.Runs.{StepFacts, Calls, Works, Restarts, IsStep, IsRun, IsRunFrom}
 use Rattle.simplex_member.specs.Start.{StartFacts, started}
-use Rattle.simplex_laws.proofs.Ahead.{IsAhead, floor_ahead, call_ahead, recovered_ahead}
-use Rattle.simplex_laws.proofs.Conflicts.{Keeps, floor_rises, work_floor, life_keeps}
+use Rattle.simplex_laws.proofs.Conflicts.{Keeps, life_keeps}
 use Rattle.simplex_laws.proofs.HandedOut.{IsOrdered, life_hands_once}
-use Rattle.simplex_laws.proofs.InOrder.{InOrder, order_call, order_recovered}
-use Rattle.simplex_laws.proofs.LastingWorks.{work_lasts}
-use Rattle.simplex_laws.proofs.Steadily.{work_steady}
-use Rattle.simplex_laws.proofs.UntrackedWorks.{IsClear, clear_on, work_out}
-use Rattle.simplex_laws.proofs.Works.{order_work}
 use Rattle.simplex_member.proofs.Going.{goes}
 use Rattle.simplex_laws.proofs.AsAsked.{call_as_asked}
-use Rattle.simplex_laws.proofs.Placed.{IsPlaced, lasts_placed, call_placed, floor_placed, recovered_placed}
 use Rattle.simplex_laws.proofs.Recalls.{only_one}
 use Rattle.simplex_laws.proofs.Splits.{Contains-cases}
-use Rattle.simplex_member.proofs.Taking.{all_taken_goes, floor_set_goes}
-use Rattle.simplex_laws.proofs.UntrackedCalls.{call_out, call_drops}
+use Rattle.simplex_laws.proofs.Untracked.{IsClear, call_clear, work_clear, call_drops}
+use Rattle.simplex_laws.proofs.CallsMake.{call_by_any, work_by_any}
+use Rattle.simplex_laws.proofs.Rising.{floor_goes, call_goes, work_goes}
+use Rattle.simplex_laws.proofs.Sound.{IsSound, event_sound, floor_sound}
+use Rattle.simplex_laws.proofs.RunsKeep.{HoldsIn, run_induction}
 use Rattle.simplex_laws.proofs.WithinLives.{InOrderly, alive_still, alive_joined, each_call, call_outcome}
-
--- the terms have this length, the current view lies above the last finalized one, each certificate stands at its view, and the
--- tracked views rise
-pub record IsSound {K L D : Type 0} (term_length : ℕ) (x : Facts K L D) : Type 0 where
-  pub terms : x.terms.term_length ≡ term_length
-  pub ahead : IsAhead x
-  pub placed : IsPlaced x
-  pub in_order : InOrder x
 
 -- where no view below one that is kept is tracked none comes to be, also where views are dropped on the way
 pub record Away {K L D G : Type 0} (replies : List (Told K D G)) (x y : Facts K L D) : Type 0 where
@@ -79,64 +65,38 @@ module _ {K L D G : Type 0} where
       ]
 
 module _ {K L D G : Type 0} (same : D → D → Bool) (elect : Elect L) (signature_of : ℕ → Subject D → G) (term_length : ℕ) where
-  call_sound : (call : CallFacts D) (x : Facts K L D) → is_allowed x call ≡ true → IsSound term_length x → IsSound term_length (after_call same elect signature_of x call)
-  call_sound call x allowed sound = record {
-    terms = ap (λ t. t.term_length) (goes same elect signature_of x call).terms ∙ sound.terms;
-    ahead = call_ahead same elect signature_of x call sound.ahead;
-    placed = call_placed same elect signature_of x call allowed sound.placed;
-    in_order = order_call same elect signature_of x sound.in_order call;
-  }
+  call_sound : (call : CallFacts D) (x : Facts K L D) → IsSound term_length x → IsSound term_length (after_call same elect signature_of x call)
+  call_sound call x sound = call_by_any G same elect x signature_of (IsSound term_length) sound (λ e. event_sound same elect term_length x e sound) call
 
   work_sound : (call : WorkCall D) (x : Facts K L D) (o : Openings K D) → IsSound term_length x → IsSound term_length (after_work same elect x o call)
-  work_sound call x o sound =
-      let y = after_work same elect x o call in
-      let s = work_steady same elect x o call in
-      record {
-        terms = ap (λ t. t.term_length) s.terms ∙ sound.terms;
-        ahead = omega (arith, s.finalized, s.current, sound.ahead);
-        placed = lasts_placed 0 x y (work_lasts same elect 0 x o call sound.in_order) sound.placed;
-        in_order = order_work same elect x o sound.in_order call;
-      }
+  work_sound call x o sound = work_by_any G same elect x o (IsSound term_length) sound (λ e. event_sound same elect term_length x e sound) call
 
   -- a call on the work of a view is told of no drop
   work_drops : (x : Facts K L D) (o : Openings K D) (call : WorkCall D) (views : List ℕ) → work_answer same elect signature_of x o call ≡ Dropped views → ⊥
-  work_drops x o (SetProposal v p) views is = cc
   work_drops x o TryPropose views is = cc
-  work_drops x o (Proposed v payload now) views is = cc
-  work_drops x o (SupersedeProposalRequest v) views is = cc
-  work_drops x o (PendingHandoffAbandonment v) views is = cc
-  work_drops x o (ReleaseProposalRequest v) views is = cc
-  work_drops x o TryVerify views is = cc
-  work_drops x o (Verified v) views is = cc
-  work_drops x o (VerificationFailed v reason now) views is = cc
-  work_drops x o (ConstructNotarize v) views is = cc
-  work_drops x o CertifyCandidates views is = cc
-  work_drops x o (SetCertifyHandle v token) views is = cc
-  work_drops x o (TriggerTimeout v reason now) views is = cc
-  work_drops x o (NextTimeout now) views is = cc
+  work_drops x o _ views is = cc
 
   call_away : 0 < term_length → (call : CallFacts D) (x : Facts K L D) → is_allowed x call ≡ true → SoundlyAway term_length (answer same elect signature_of x call ∷ []) x (after_call same elect signature_of x call)
   call_away some call x allowed sound =
-      let y = after_call same elect signature_of x call in
-      let stays = call_out same elect signature_of x call (omega (arith, some, sound.terms)) sound.ahead allowed in (
-        call_sound call x allowed sound,
+      let floor = floor_goes x _ (call_goes same elect x signature_of call) in (
+        call_sound call x sound,
         record {
-          floor = floor_rises same elect signature_of x call;
-          clear = λ low under clear. record { views = λ v below. stays.views v (omega (arith, below, under)) (clear.views v below) };
+          floor = floor;
+          clear = λ low under clear. call_clear same elect low x under (omega (arith, under, sound.ahead)) (omega (arith, some, sound.terms)) clear signature_of call allowed;
           dropped = λ v is. (
-              let gone = call_drops same elect signature_of x call is.0 v (only_one (answer same elect signature_of x call) (Dropped is.0) is.1) is.2 in
-              (min_active x, gone.0, floor_rises same elect signature_of x call, gone.1)
+              let gone = call_drops same elect x signature_of call is.0 v (only_one (answer same elect signature_of x call) (Dropped is.0) is.1) is.2 in
+              (min_active x, gone.0, floor, gone.1)
               );
         },
       )
 
-  work_away : (call : WorkCall D) (x : Facts K L D) (o : Openings K D) → work_allowed x o call ≡ true → SoundlyAway term_length (work_answer same elect signature_of x o call ∷ []) x (after_work same elect x o call)
-  work_away call x o allowed sound =
+  work_away : 0 < term_length → (call : WorkCall D) (x : Facts K L D) (o : Openings K D) → work_allowed x o call ≡ true → SoundlyAway term_length (work_answer same elect signature_of x o call ∷ []) x (after_work same elect x o call)
+  work_away some call x o allowed sound =
       let told = work_answer same elect signature_of x o call in (
         work_sound call x o sound,
         record {
-          floor = work_floor same elect signature_of x o call;
-          clear = λ low under clear. clear_on low x (after_work same elect x o call) (work_out same elect low x o call under sound.ahead clear allowed) clear;
+          floor = floor_goes x _ (work_goes same elect x o call);
+          clear = λ low under clear. work_clear same elect low x under (omega (arith, under, sound.ahead)) (omega (arith, some, sound.terms)) clear o call allowed;
           dropped = λ v is. absurd (work_drops x o call is.0 (only_one told (Dropped is.0) is.1));
         },
       )
@@ -147,7 +107,7 @@ module _ {K L D G : Type 0} (same : D → D → Bool) (elect : Elect L) (signatu
       (λ call fault x sound. (sound, nothing_away (Refused fault) x (λ views is. absurd (cc))))
       (λ call x sound. (sound, nothing_away NotAllowed x (λ views is. absurd (cc))))
       (λ call x allowed. call_away some call x allowed)
-      (λ call x o allowed. work_away call x o allowed)
+      (λ call x o allowed. work_away some call x o allowed)
 
   life_away : 0 < term_length → (m end : MemberFacts K L D G) (calls : List (LifeCall D)) (replies : List (Told K D G)) → IsLife same elect signature_of m calls replies end → WhileAlive (SoundlyAway term_length replies) m.life end.life
   life_away some m end [] [] life = subst (λ n. WhileAlive (SoundlyAway {G = G} term_length []) m.life n.life) life (alive_still (SoundlyAway {G = G} term_length []) m.life (λ x sound. (sound, away_still x)))
@@ -161,81 +121,13 @@ module _ {K L D G : Type 0} (same : D → D → Bool) (elect : Elect L) (signatu
 
 -- while it lives
 abbrev pub IsSoundIn : {K L D : Type 0} → ℕ → Option (Facts K L D) → Type 0
-IsSoundIn term_length None = Unit {0}
-IsSoundIn term_length (Some x) = IsSound term_length x
+IsSoundIn term_length life = HoldsIn (IsSound term_length) life
 
 module _ {K L D G : Type 0} (same : D → D → Bool) (elect : Elect L) (signature_of : ℕ → Subject D → G) (term_length : ℕ) where
-  -- each state of a run is sound
-
-  nothing_final : (x : Facts K L D) → IsFresh term_length x → x.finalized ≡ 0
-  nothing_final x fresh = ap (λ y. y.finalized) fresh.fresh
-
-  made_in_order : (start : StartFacts K L D) (entries : List (ArtifactFacts D G)) → IsFresh term_length start.fresh → InOrder (recovered same elect start.fresh start.floor start.now entries)
-  made_in_order start entries fresh =
-      let x = start.fresh in
-      subst (λ y. InOrder (recovered same elect y start.floor start.now entries)) (sym fresh.fresh) (order_recovered same elect x.settings x.me x.members x.elector x.terms x.elects_early start.floor start.now entries)
-
-  start_in_order : (start : StartFacts K L D) → IsFresh term_length start.fresh → InOrder (after_set_floor same elect start.fresh start.floor start.now)
-  unfolding recovered
-  start_in_order start fresh = made_in_order start [] fresh
-
-  start_sound : (start : StartFacts K L D) → IsFresh term_length start.fresh → IsSoundIn term_length (started {G = G} same elect start.fresh start.floor start.now).life
-  start_sound start fresh = record {
-    terms = ap (λ t. t.term_length) (floor_set_goes same elect start.fresh start.floor start.now).terms ∙ fresh.terms;
-    ahead = floor_ahead same elect start.fresh start.floor start.now (nothing_final start.fresh fresh);
-    placed = floor_placed same elect start.fresh start.floor start.now fresh.fresh;
-    in_order = start_in_order start fresh;
-  }
-
-  remade_sound : (start : StartFacts K L D) (entries : List (ArtifactFacts D G)) → IsFresh term_length start.fresh → IsSound term_length (recovered same elect start.fresh start.floor start.now entries)
-  unfolding recovered
-  remade_sound start entries fresh = record {
-    terms =
-        ap (λ t. t.term_length) ((all_taken_goes same elect _ start.now entries).terms ∙ (floor_set_goes same elect start.fresh start.floor start.now).terms) ∙ fresh.terms;
-    ahead = recovered_ahead same elect start.now start.fresh start.floor entries (nothing_final start.fresh fresh);
-    placed = recovered_placed same elect start.fresh start.floor start.now entries fresh.fresh;
-    in_order = made_in_order start entries fresh;
-  }
-
-  -- one that goes on is made again, and another one has no state
-  from_copy : (n : MemberFacts K L D G) (start : StartFacts K L D) (result : Result (Unit {0}) RecoverError) (left : MemberFacts K L D G) → IsFresh term_length start.fresh → GoesOn same elect n start result left → IsSoundIn term_length left.life
-  from_copy n start result left fresh (inl (is, leaves)) = rw leaves tt
-  from_copy n start result left fresh (inr (copy, by_view, goes)) = by_error (recover_error same start.fresh start.floor start.now copy) goes
-    where
-      by_error : (o : Option RecoverError) → MatchOption o ((result ≡ Ok tt) × (left ≡ new_life same elect n start copy)) (λ e. (result ≡ Err e) × (left ≡ fallen n)) → IsSoundIn term_length left.life
-      by_error None (_, leaves) = rw leaves (remade_sound start copy fresh)
-      by_error (Some e) (_, leaves) = rw leaves tt
-
-  restart_sound : (m : MemberFacts K L D G) (r : RestartFacts K L D) (result : Result (Unit {0}) RecoverError) (left : MemberFacts K L D G) → IsFresh term_length r.start.fresh → IsSoundIn term_length m.life → IsRestart same elect m r result left → IsSoundIn term_length left.life
-  unfolding IsRestart
-  restart_sound m r result left fresh sound restarts = by_test (retention_grows m r.prune r.start.fresh.settings.view_retention) restarts
-    where
-      by_test : (b : Bool) → IsRestartWhere same elect b m r result left → IsSoundIn term_length left.life
-      by_test true (_, leaves) = rw leaves sound
-      by_test false goes = from_copy (cut m r.drop r.prune) r.start result left fresh goes
-
-  told_sound : (m : MemberFacts K L D G) (call : LifeCall D) (told : Told K D G) (left : MemberFacts K L D G) → IsStep same elect signature_of m (as_step call) told left → IsSoundIn term_length m.life → IsSoundIn term_length left.life
-  told_sound m call told left is_step sound =
-      elim (call_outcome same elect signature_of (λ c t x y. IsSound term_length x → IsSound term_length y) (λ c f x s. s) (λ c x s. s)
-      (λ c x allowed s. call_sound same elect signature_of term_length c x allowed s) (λ c x o allowed s. work_sound same elect signature_of term_length c x o s) m call told left is_step) [
-        | inl (fault, tells, dies) ↦ subst (IsSoundIn term_length) (sym dies) tt
-        | inr (x, y, alive, lives, keeps) ↦ subst (IsSoundIn term_length) (sym lives) (keeps (subst (IsSoundIn term_length) alive sound))
-      ]
-
-  run_sound : (steps : List (StepFacts K L D)) (replies : List (Told K D G)) (m end : MemberFacts K L D G) → BeginFresh term_length steps → IsSoundIn term_length m.life → IsRun same elect signature_of m steps replies end → IsSoundIn term_length end.life
-  run_sound [] [] m end fresh sound run = subst (λ n. IsSoundIn term_length n.life) run sound
-  run_sound [] (told ∷ replies) m end fresh sound run = absurd run
-  run_sound (step ∷ steps) [] m end fresh sound run = absurd run
-  run_sound (Calls call ∷ steps) (told ∷ replies) m end fresh sound (next, is_step, rest) =
-      run_sound steps replies next end fresh (told_sound m (Calling call) told next is_step sound) rest
-  run_sound (Works call ∷ steps) (told ∷ replies) m end fresh sound (next, is_step, rest) =
-      run_sound steps replies next end fresh (told_sound m (Working call) told next is_step sound) rest
-  run_sound (Restarts r ∷ steps) (told ∷ replies) m end fresh sound (next, is_step, rest) =
-      run_sound steps replies next end fresh.1 (restart_sound m r is_step.0 next fresh.0 sound is_step.1) rest
-
   -- a life of a run begins with a sound state
   pub life_sound : (start : StartFacts K L D) (steps : List (StepFacts K L D)) (told : List (Told K D G)) (m end : MemberFacts K L D G) (calls : List (LifeCall D)) (replies : List (Told K D G)) → IsFresh term_length start.fresh → BeginFresh term_length steps → IsLifeOfRun same elect signature_of start steps told m calls replies end → IsSoundIn term_length m.life
-  life_sound start steps told m end calls replies begins fresh of_run = run_sound steps told (started same elect start.fresh start.floor start.now) m fresh (start_sound start begins) of_run.reached
+  life_sound start steps told m end calls replies begins fresh of_run =
+      run_induction same elect signature_of term_length (IsSound term_length) (λ x floor now new. floor_sound G same elect term_length x floor now new) (λ x e sound. event_sound same elect term_length x e sound) start steps told m begins fresh of_run.reached
 
   for_good : (replies : List (Told K D G)) (first last : Option (Facts K L D)) → IsSoundIn term_length first → WhileAlive (SoundlyAway term_length replies) first last → WhileAlive (DroppedForGood replies) first last
   for_good replies first None sound away = tt
@@ -283,7 +175,7 @@ module _ {K L D G : Type 0} (same : D → D → Bool) (elect : Elect L) (signatu
   told_as_asked m call told left is_step sound =
       elim (call_outcome same elect signature_of (λ c t x y. IsSound term_length x → RightlyTold c t × IsSound term_length y)
       (λ c f x s. (refused_rightly K G c f, s)) (λ c x s. (not_allowed_rightly K G c, s))
-      (λ c x allowed s. (call_as_asked same elect signature_of x c s.placed, call_sound same elect signature_of term_length c x allowed s))
+      (λ c x allowed s. (call_as_asked same elect signature_of x c s.placed, call_sound same elect signature_of term_length c x s))
       (λ c x o allowed s. (tt, work_sound same elect signature_of term_length c x o s)) m call told left is_step) [
         | inl (fault, refuses, dies) ↦ (subst (RightlyTold call) (sym refuses) (refused_rightly K G call fault), subst (IsSoundIn term_length) (sym dies) tt)
         | inr (x, y, alive, lives, keeps) ↦ (let kept = keeps (subst (IsSoundIn term_length) alive sound) in (kept.0, subst (IsSoundIn term_length) (sym lives) kept.1))

@@ -23,7 +23,8 @@ use Rattle.simplex_laws.proofs.Marks.{marked_few, marked_more}
 use Rattle.simplex_laws.proofs.Recalls.{only_one}
 use Rattle.simplex_laws.proofs.Remembering.{Grows, remembers_more, single_split}
 use Rattle.simplex_laws.proofs.Retaken.{notarize_cast_stays}
-use Rattle.simplex_laws.proofs.Works.{call_works, stays_worked, few_worked, order_work}
+use Rattle.simplex_laws.proofs.Works.{call_works, stays_worked, few_worked}
+use Rattle.simplex_laws.proofs.InOrder.{order_work}
 use Rattle.simplex_laws.proofs.Notes.{NotesStand}
 use Rattle.simplex_laws.proofs.NotesRemembered.{notes_cast}
 use Rattle.simplex_laws.proofs.WorkNotes.{is_silent, work_notes, decided_notes}

@@ -13,3 +13,10 @@ pub mod Leading
 pub mod Requested
 pub mod ShownRounds
 pub mod Timing
+pub mod Stories
+pub mod Exactly
+pub mod Places
+pub mod Agreement
+pub mod Living
+pub mod Shown
+pub mod Scripts

@@ -1,0 +1,138 @@
+-- Each call of a member is one event or none, and an entry that is taken again one or two; so what each event keeps holds
+-- after each call and in each new life.
+use Rattle.std.proofs.Common.{◌≡◌, refl, sym, subst, ℕ, Bool, true, false, if◌then◌else◌, nat_lt, List, [], ◌∷◌, Option, Some, None}
+use Rattle.std.specs.Option.{option_map_or}
+use Rattle.simplex_types.specs.Certificates.{Notarized, Nullified, Finalized, ArtifactFacts, NotarizeVote, NullifyVote, FinalizeVote, Verdict, Accepted}
+use Rattle.simplex_types.specs.Config.{FloorFacts}
+use Rattle.simplex_types.specs.declared.types.messages.Context.{Context}
+use Rattle.simplex_types.specs.declared.types.messages.Subject.{Subject}
+use Rattle.simplex_voter.specs.Facts.{Facts, Elect}
+use Rattle.simplex_voter.specs.Windows.{min_active}
+use Rattle.simplex_voter.specs.Certification.{takes_certify_handle}
+use Rattle.simplex_voter.specs.Acceptance.{after_set_floor}
+use Rattle.simplex_voter.proofs.Gaps.{and_parts}
+use Rattle.simplex_member.specs.Calls as calls
+use Rattle.simplex_member.specs.Calls.{CallFacts, is_allowed, after_call}
+use Rattle.simplex_member.specs.Entries.{entry_view}
+use Rattle.simplex_member.specs.Openings.{Openings, context_at, is_offered}
+use Rattle.simplex_member.specs.Recovery.{replayed, retaken, taken, all_taken, recovered}
+use Rattle.simplex_member.specs.Work as work
+use Rattle.simplex_member.specs.Work.{WorkCall, work_allowed, after_work}
+use Rattle.simplex_laws.specs.Events.{Event, IsEvent, after_event, SetFloor, AddNotarization, AddNullification, AddFinalization, Certified, Proposed, Supersede, Replay, events_of}
+use Rattle.simplex_laws.specs.Histories.{in_context, work_events}
+use Rattle.simplex_laws.proofs.Steps.{IsSilent}
+
+-- how a life begins
+abbrev pub is_floor : {K D G : Type 0} → Event K D G → Bool
+is_floor (SetFloor _ _) = true
+is_floor _ = false
+
+module _ (G : Type 0) {K L D : Type 0} (same : D → D → Bool) (elect : Elect L) (x : Facts K L D) where
+  -- a call is at most one event
+  abbrev pub after_one : List (Event K D G) → Facts K L D
+  after_one [] = x
+  after_one (e ∷ _) = after_event same elect x e
+
+  abbrev pub IsOneTaken : List (Event K D G) → Type 0
+  IsOneTaken [] = Unit {0}
+  IsOneTaken (e ∷ _) = IsEvent x e × (is_floor e ≡ false)
+
+  by_one : (P : List (Event K D G) → Facts K L D → Type 0) → P [] x → ((e : Event K D G) (rest : List (Event K D G)) → IsEvent x e → is_floor e ≡ false → P (e ∷ rest) (after_event same elect x e)) → (es : List (Event K D G)) → IsOneTaken es → P es (after_one es)
+  by_one P still each [] taken = still
+  by_one P still each (e ∷ rest) taken = each e rest taken.0 taken.1
+
+  by_any : (P : Facts K L D → Type 0) → P x → ((e : Event K D G) → P (after_event same elect x e)) → (es : List (Event K D G)) → P (after_one es)
+  by_any P still each [] = still
+  by_any P still each (e ∷ rest) = each e
+
+  -- calls
+
+  call_is : (signature_of : ℕ → Subject D → G) (call : CallFacts D) → after_call same elect signature_of x call ≡ after_one (events_of call)
+  call_is signature_of calls.GetBestCertificate = refl
+  call_is signature_of _ = refl
+
+  call_taken : (call : CallFacts D) → is_allowed x call ≡ true → IsOneTaken (events_of call)
+  call_taken (calls.AddNotarization c) is = (is, refl)
+  call_taken (calls.AddNullification c now) is = (is, refl)
+  call_taken (calls.AddFinalization c now) is = (is, refl)
+  call_taken (calls.Certified v success now) is = (is, refl)
+  call_taken calls.GetBestCertificate is = tt
+  call_taken _ is = (tt, refl)
+
+  -- what holds of no change and of each event that is taken holds of a call that is allowed
+  pub call_by_event : (signature_of : ℕ → Subject D → G) (P : List (Event K D G) → Facts K L D → Type 0) → P [] x → ((e : Event K D G) (rest : List (Event K D G)) → IsEvent x e → is_floor e ≡ false → P (e ∷ rest) (after_event same elect x e)) → (call : CallFacts D) → is_allowed x call ≡ true → P (events_of call) (after_call same elect signature_of x call)
+  call_by_event signature_of P still each call allowed = subst (P (events_of call)) (sym (call_is signature_of call)) (by_one P still each (events_of call) (call_taken call allowed))
+
+  -- and what holds of each event in any case, of each call
+  pub call_by_any : (signature_of : ℕ → Subject D → G) (P : Facts K L D → Type 0) → P x → ((e : Event K D G) → P (after_event same elect x e)) → (call : CallFacts D) → P (after_call same elect signature_of x call)
+  call_by_any signature_of P still each call = subst P (sym (call_is signature_of call)) (by_any P still each (events_of call))
+
+  -- calls on the work of a view
+
+  in_context_is : (f : Context D K → Facts K L D) (event : Context D K → Event K D G) → ((c : Context D K) → f c ≡ after_event same elect x (event c)) → (context : Option (Context D K)) → option_map_or f context x ≡ after_one (in_context event context)
+  in_context_is f event is None = refl
+  in_context_is f event is (Some c) = is c
+
+  work_is : (o : Openings K D) (call : WorkCall D) → after_work same elect x o call ≡ after_one (work_events o call)
+  work_is o (work.Proposed v payload now) = in_context_is _ (λ c. Proposed c payload now) (λ c. refl) (context_at o v)
+  work_is o (work.SupersedeProposalRequest v) = in_context_is _ Supersede (λ c. refl) (context_at o v)
+  work_is o _ = refl
+
+  in_context_taken : (event : Context D K → Event K D G) → ((c : Context D K) → IsEvent x (event c) × (is_floor (event c) ≡ false)) → (context : Option (Context D K)) → IsOneTaken (in_context event context)
+  in_context_taken event taken None = tt
+  in_context_taken event taken (Some c) = taken c
+
+  work_taken : (o : Openings K D) (call : WorkCall D) → work_allowed x o call ≡ true → IsOneTaken (work_events o call)
+  work_taken o (work.SetProposal v p) is = (is, refl)
+  work_taken o (work.Proposed v payload now) is = in_context_taken (λ c. Proposed c payload now) (λ c. (tt, refl)) (context_at o v)
+  work_taken o (work.SupersedeProposalRequest v) is = in_context_taken Supersede (λ c. (tt, refl)) (context_at o v)
+  work_taken o (work.PendingHandoffAbandonment v) is = tt
+  work_taken o (work.SetCertifyHandle v token) is = ((and_parts (is_offered o v) (takes_certify_handle x v) is).1, refl)
+  work_taken o _ is = (tt, refl)
+
+  pub work_by_event : (o : Openings K D) (P : List (Event K D G) → Facts K L D → Type 0) → P [] x → ((e : Event K D G) (rest : List (Event K D G)) → IsEvent x e → is_floor e ≡ false → P (e ∷ rest) (after_event same elect x e)) → (call : WorkCall D) → work_allowed x o call ≡ true → P (work_events o call) (after_work same elect x o call)
+  work_by_event o P still each call allowed = subst (P (work_events o call)) (sym (work_is o call)) (by_one P still each (work_events o call) (work_taken o call allowed))
+
+  pub work_by_any : (o : Openings K D) (P : Facts K L D → Type 0) → P x → ((e : Event K D G) → P (after_event same elect x e)) → (call : WorkCall D) → P (after_work same elect x o call)
+  work_by_any o P still each call = subst P (sym (work_is o call)) (by_any P still each (work_events o call))
+
+-- calls on the work of a view are silent
+
+module _ {K D : Type 0} (G : Type 0) where
+  abbrev pub AreSilent : List (Event K D G) → Type 0
+  AreSilent [] = Unit {0}
+  AreSilent (e ∷ rest) = IsSilent e × AreSilent rest
+
+  in_context_silent : (event : Context D K → Event K D G) → ((c : Context D K) → IsSilent (event c)) → (context : Option (Context D K)) → AreSilent (in_context event context)
+  in_context_silent event silent None = tt
+  in_context_silent event silent (Some c) = (silent c, tt)
+
+  pub work_silent : (o : Openings K D) (call : WorkCall D) → AreSilent (work_events o call)
+  work_silent o (work.Proposed v payload now) = in_context_silent (λ c. Proposed c payload now) (λ c. record { notarization = refl; nullification = refl; finalization = refl; verdict = refl; note = refl; nullify = refl; finalize = refl; final = refl; prune = refl }) (context_at o v)
+  work_silent o (work.SupersedeProposalRequest v) = in_context_silent Supersede (λ c. record { notarization = refl; nullification = refl; finalization = refl; verdict = refl; note = refl; nullify = refl; finalize = refl; final = refl; prune = refl }) (context_at o v)
+  work_silent o (work.PendingHandoffAbandonment v) = tt
+  work_silent o _ = (record { notarization = refl; nullification = refl; finalization = refl; verdict = refl; note = refl; nullify = refl; finalize = refl; final = refl; prune = refl }, tt)
+
+-- what each event keeps, whether it is taken or not, holds of each new life
+
+module _ {K L D G : Type 0} (same : D → D → Bool) (elect : Elect L) (P : Facts K L D → Type 0) (keeps : (x : Facts K L D) (e : Event K D G) → P x → P (after_event same elect x e)) (now : ℕ) where
+  retaken_keeps : (x : Facts K L D) (e : ArtifactFacts D G) → P x → P (retaken same elect x now e)
+  retaken_keeps x (NotarizeVote p m signature) holds = keeps x (Replay (NotarizeVote p m signature)) holds
+  retaken_keeps x (NullifyVote round m signature) holds = keeps x (Replay (NullifyVote round m signature)) holds
+  retaken_keeps x (FinalizeVote p m signature) holds = keeps x (Replay (FinalizeVote p m signature)) holds
+  retaken_keeps x (Verdict round success) holds = keeps (replayed {G = G} same elect x (Verdict round success)) (Certified round.view success now) (keeps x (Replay (Verdict round success)) holds)
+  retaken_keeps x (Accepted (Notarized c)) holds = keeps _ (Replay (Accepted (Notarized c))) (keeps x (AddNotarization c) holds)
+  retaken_keeps x (Accepted (Nullified c)) holds = keeps _ (Replay (Accepted (Nullified c))) (keeps x (AddNullification c now) holds)
+  retaken_keeps x (Accepted (Finalized c)) holds = keeps _ (Replay (Accepted (Finalized c))) (keeps x (AddFinalization c now) holds)
+
+  all_keep : (x : Facts K L D) (entries : List (ArtifactFacts D G)) → P x → P (all_taken same elect x now entries)
+  unfolding taken
+  all_keep x [] holds = holds
+  all_keep x (e ∷ rest) holds = all_keep (taken same elect x now e) rest (elim (nat_lt (entry_view e) (min_active x)) as (λ b. P (if b then x else retaken same elect x now e)) [ true ↦ holds | false ↦ retaken_keeps x e holds ])
+
+  pub floor_then_all_keep : (x : Facts K L D) (floor : FloorFacts D) (entries : List (ArtifactFacts D G)) → P (after_set_floor same elect x floor now) → P (recovered same elect x floor now entries)
+  unfolding recovered
+  floor_then_all_keep x floor entries holds = all_keep _ entries holds
+
+  pub recovered_keeps : (x : Facts K L D) (floor : FloorFacts D) (entries : List (ArtifactFacts D G)) → P x → P (recovered same elect x floor now entries)
+  recovered_keeps x floor entries holds = floor_then_all_keep x floor entries (keeps x (SetFloor floor now) holds)

@@ -1,0 +1,213 @@
+-- Each vote is told exactly where its rule holds.
+use Rattle.std.proofs.Common.{◌≡◌, refl, sym, subst, ℕ, zero, suc, inl, inr, Bool, true, false, ◌&&◌, List, [], ◌∷◌, ◌++◌, length, Contains, Option, Some, None, Result, Ok, Err, arith}
+use Rattle.std.specs.Prelude.{is_some, if◌then◌else◌, option_map, option_and_then}
+use Rattle.std.proofs.lemmas.Bool.{false≢true}
+use Rattle.simplex_types.specs.Certificates.{NotarizeVote, NullifyVote, FinalizeVote}
+use Rattle.simplex_types.specs.declared.types.fault.Fault.{Fault}
+use Rattle.simplex_types.specs.declared.types.fault.Fault.TheVariants as fault
+use Rattle.simplex_types.specs.declared.types.messages.Proposal.{Proposal}
+use Rattle.simplex_types.specs.declared.types.messages.Subject.{Subject}
+use Rattle.simplex_types.specs.declared.types.messages.Subject.TheVariants as subject
+use Rattle.simplex_types.specs.declared.types.numbers.Round.{Round}
+use Rattle.simplex_voter.specs.Facts.{Facts, Elect, round_of, round_number}
+use Rattle.simplex_voter.specs.Refusals.{plain_refusal}
+use Rattle.simplex_round.specs.Round.{is_nullify}
+use Rattle.simplex_voter.specs.Rules.{may_notarize, may_nullify, may_finalize, NotarizeRule, NullifyRule, FinalizeRule}
+use Rattle.simplex_voter.proofs.Rules.{nullify_parts, nullify_whole, finalize_parts, finalize_whole, notarize_parts, notarize_whole}
+use Rattle.simplex_member.specs.declared.member.error.RecoverError.{RecoverError}
+use Rattle.simplex_member.specs.Calls.{CallFacts, AddNotarization, AddNullification, AddFinalization, Certified, ConstructNullify, ConstructFinalize, BroadcastNotarization, BroadcastNullification, BroadcastFinalization, GetBestCertificate, Prune, Told, Nullify, Finalize, Notarize, Refused, NotAllowed, is_allowed, fault_of, answer}
+use Rattle.simplex_member.specs.Lives.{MemberFacts, IsCall, AnswersAlive, reply_of, unless_refused}
+use Rattle.simplex_member.specs.Openings.{Openings}
+use Rattle.simplex_member.specs.Runs.{StepFacts, Calls, Works, Restarts, restart_told, IsStep, IsRun, IsRunFrom}
+use Rattle.simplex_member.specs.Restarts.{RestartFacts}
+use Rattle.simplex_member.specs.Start.{started}
+use Rattle.simplex_member.specs.Work.{WorkCall, SetProposal, TryPropose, Proposed, SupersedeProposalRequest, PendingHandoffAbandonment, ReleaseProposalRequest, TryVerify, Verified, VerificationFailed, ConstructNotarize, CertifyCandidates, SetCertifyHandle, TriggerTimeout, NextTimeout, work_allowed, work_fault, work_answer, work_reply, IsWorkOf, IsWork}
+use Rattle.simplex_laws.specs.Stories.{Story, Deed, Signs, signed_in}
+use Rattle.simplex_laws.specs.Exactly.{is_refused, IsSignedFor, IsExact, held, ExactAt, SignsExactly}
+
+is_only : {X : Type 0} (y x : X) → Contains (y ∷ []) x → y ≡ x
+is_only y x (zero, less, same) = same
+is_only y x (suc k, less, same) = absurd (omega arith)
+
+no_key : (i : ℕ) → None ≡ Some i → ⊥
+no_key i e = absurd (cc)
+
+no_subject : {D : Type 0} (vote : Subject D) → None ≡ Some vote → ⊥
+no_subject vote e = absurd (cc)
+
+module _ {K D G : Type 0} (signature_of : ℕ → Subject D → G) where
+  -- no vote is told, since there is no key, the rule doesn't hold, or the call is refused
+  untold : (Rule : Type 0) (me : Option ℕ) (about : Option (Subject D)) (told : Told K D G) → signed_in told ≡ [] → ((d : Deed D G) → is_refused told ≡ false → Rule → IsSignedFor signature_of me about d → ⊥) → IsExact signature_of Rule me about told
+  untold Rule me about told none never = record {
+    only = λ d h. absurd (let g : Contains [] d = subst (λ (ds : List (Deed D G)). Contains ds d) none h in omega (arith, g.1));
+    due = λ d kept rule signed. absurd (never d kept rule signed);
+  }
+
+  refused : (Rule : Type 0) (me : Option ℕ) (about : Option (Subject D)) (f : Fault) → IsExact {K = K} signature_of Rule me about (Refused f)
+  refused Rule me about f = untold Rule me about (Refused f) refl (λ d kept rule signed. false≢true (sym kept))
+
+  -- one is
+  told_so : (Rule : Type 0) (m : ℕ) (about : Subject D) (told : Told K D G) → Rule → signed_in told ≡ Signs m about (signature_of m about) ∷ [] → IsExact signature_of Rule (Some m) (Some about) told
+  told_so Rule m about told holds is = record {
+    only = λ d h. (let e : Signs m about (signature_of m about) ≡ d = is_only _ d (subst (λ (ds : List (Deed D G)). Contains ds d) is h) in (holds, (m, about, refl, refl, sym e)));
+    due = λ d kept rule signed. (
+        let key : Some m ≡ Some signed.0 = signed.2 in
+        let on : Some about ≡ Some signed.1 = signed.3 in
+        let so : d ≡ Signs signed.0 signed.1 (signature_of signed.0 signed.1) = signed.4 in
+        let i = signed.0 in
+        let vote = signed.1 in
+        let whole : Signs m about (signature_of m about) ∷ [] ≡ d ∷ [] = cc in
+        let out : signed_in told ≡ d ∷ [] = cc in out);
+  }
+
+  module _ (Rule : Type 0) (may : Bool) (whole : Rule → may ≡ true) (parts : may ≡ true → Rule) where
+    exact_nullify : (may_be : Bool) → may ≡ may_be → (me : Option ℕ) (retry : Bool) (r : Round)
+        → IsExact {K = K} signature_of Rule me (Some (subject.Nullify r)) (Nullify (option_and_then (λ m. option_map (λ again. (again, NullifyVote r m (signature_of m (subject.Nullify r)))) (if is_some me && may_be then Some retry else None)) me))
+    exact_nullify may_be is None retry r = untold Rule None (Some (subject.Nullify r)) _ refl (λ d kept rule signed. no_key signed.0 signed.2)
+    exact_nullify true is (Some m) retry r = told_so Rule m (subject.Nullify r) _ (parts is) refl
+    exact_nullify false is (Some m) retry r = untold Rule (Some m) (Some (subject.Nullify r)) _ refl (λ d kept rule signed. false≢true (let h = whole rule in cc))
+
+    exact_finalize : (may_be : Bool) → may ≡ may_be → (me : Option ℕ) (p : Option (Proposal D))
+        → IsExact {K = K} signature_of Rule me (option_map subject.Finalize p) (Finalize (option_and_then (λ m. option_map (λ q. FinalizeVote q m (signature_of m (subject.Finalize q))) (if is_some me && may_be then p else None)) me))
+    exact_finalize may_be is None p = untold Rule None (option_map subject.Finalize p) _ refl (λ d kept rule signed. no_key signed.0 signed.2)
+    exact_finalize true is (Some m) (Some p) = told_so Rule m (subject.Finalize p) _ (parts is) refl
+    exact_finalize true is (Some m) None = untold Rule (Some m) None _ refl (λ d kept rule signed. no_subject signed.1 signed.3)
+    exact_finalize false is (Some m) p = untold Rule (Some m) (option_map subject.Finalize p) _ refl (λ d kept rule signed. false≢true (let h = whole rule in cc))
+
+    exact_notarize : (may_be : Bool) → may ≡ may_be → (me : Option ℕ) (p : Option (Proposal D))
+        → IsExact {K = K} signature_of Rule me (option_map subject.Notarize p) (Notarize (option_and_then (λ m. option_map (λ q. NotarizeVote q m (signature_of m (subject.Notarize q))) (if is_some me && may_be then p else None)) me))
+    exact_notarize may_be is None p = untold Rule None (option_map subject.Notarize p) _ refl (λ d kept rule signed. no_key signed.0 signed.2)
+    exact_notarize true is (Some m) (Some p) = told_so Rule m (subject.Notarize p) _ (parts is) refl
+    exact_notarize true is (Some m) None = untold Rule (Some m) None _ refl (λ d kept rule signed. no_subject signed.1 signed.3)
+    exact_notarize false is (Some m) p = untold Rule (Some m) (option_map subject.Notarize p) _ refl (λ d kept rule signed. false≢true (let h = whole rule in cc))
+
+module _ {K D G : Type 0} where
+  -- a reply with no vote stays one where the call isn't allowed or is refused
+  still_none : (allowed : Bool) (f : Option Fault) (told : Told K D G) → signed_in told ≡ [] → signed_in (if allowed then unless_refused f told else NotAllowed) ≡ []
+  still_none false f told none = refl
+  still_none true (Some f) told none = refl
+  still_none true None told none = none
+
+module _ (K D G : Type 0) where
+  restart_signs_none : (result : Result (Unit {0}) RecoverError) → signed_in {K = K} {D = D} {G = G} (restart_told result) ≡ []
+  restart_signs_none (Ok done) = refl
+  restart_signs_none (Err e) = refl
+
+module _ {K L D G : Type 0} (same : D → D → Bool) (elect : Elect L) (signature_of : ℕ → Subject D → G) where
+  call_refused : (x : Facts K L D) (call : CallFacts D) (f : Fault) → ExactAt same elect signature_of (Some x) (Calls call) (Refused f)
+  call_refused x (ConstructNullify v) f = refused signature_of (NullifyRule x v) x.me (Some (subject.Nullify (round_number x v))) f
+  call_refused x (ConstructFinalize v) f = refused signature_of (FinalizeRule elect x v) x.me (option_map subject.Finalize (held x v)) f
+  call_refused x (AddNotarization c) f = refl
+  call_refused x (AddNullification c now) f = refl
+  call_refused x (AddFinalization c now) f = refl
+  call_refused x (Certified v success now) f = refl
+  call_refused x (BroadcastNotarization v) f = refl
+  call_refused x (BroadcastNullification v) f = refl
+  call_refused x (BroadcastFinalization v) f = refl
+  call_refused x GetBestCertificate f = refl
+  call_refused x Prune f = refl
+
+  call_told : (x : Facts K L D) (call : CallFacts D) → ExactAt same elect signature_of (Some x) (Calls call) (reply_of same elect signature_of x call)
+  call_told x (ConstructNullify v) = by_fault (plain_refusal x)
+    where
+      by_fault : (f : Option Fault) → IsExact signature_of (NullifyRule x v) x.me (Some (subject.Nullify (round_number x v))) (unless_refused f (answer same elect signature_of x (ConstructNullify v)))
+      by_fault (Some f) = call_refused x (ConstructNullify v) f
+      by_fault None = exact_nullify signature_of (NullifyRule x v) (may_nullify x v) (nullify_whole x v) (nullify_parts x v) (may_nullify x v) refl x.me (is_nullify (round_of x v).decision) (round_number x v)
+  call_told x (ConstructFinalize v) = by_fault (plain_refusal x)
+    where
+      by_fault : (f : Option Fault) → IsExact signature_of (FinalizeRule elect x v) x.me (option_map subject.Finalize (held x v)) (unless_refused f (answer same elect signature_of x (ConstructFinalize v)))
+      by_fault (Some f) = call_refused x (ConstructFinalize v) f
+      by_fault None = exact_finalize signature_of (FinalizeRule elect x v) (may_finalize elect x v) (finalize_whole elect x v) (finalize_parts elect x v) (may_finalize elect x v) refl x.me (held x v)
+  call_told x (AddNotarization c) = still_none (is_allowed x (AddNotarization c)) (fault_of x (AddNotarization c)) (answer same elect signature_of x (AddNotarization c)) refl
+  call_told x (AddNullification c now) = still_none (is_allowed x (AddNullification c now)) (fault_of x (AddNullification c now)) (answer same elect signature_of x (AddNullification c now)) refl
+  call_told x (AddFinalization c now) = still_none (is_allowed x (AddFinalization c now)) (fault_of x (AddFinalization c now)) (answer same elect signature_of x (AddFinalization c now)) refl
+  call_told x (Certified v success now) = still_none (is_allowed x (Certified v success now)) (fault_of x (Certified v success now)) (answer same elect signature_of x (Certified v success now)) refl
+  call_told x (BroadcastNotarization v) = still_none true (plain_refusal x) (answer same elect signature_of x (BroadcastNotarization v)) refl
+  call_told x (BroadcastNullification v) = still_none true (plain_refusal x) (answer same elect signature_of x (BroadcastNullification v)) refl
+  call_told x (BroadcastFinalization v) = still_none true (plain_refusal x) (answer same elect signature_of x (BroadcastFinalization v)) refl
+  call_told x GetBestCertificate = still_none true (plain_refusal x) (answer same elect signature_of x GetBestCertificate) refl
+  call_told x Prune = still_none true (plain_refusal x) (answer same elect signature_of x Prune) refl
+
+  pub call_exact : (m next : MemberFacts K L D G) (call : CallFacts D) (told : Told K D G) → IsCall same elect signature_of m call told next → ExactAt same elect signature_of m.life (Calls call) told
+  unfolding IsCall
+  call_exact m next call told is_call = by_life m.life is_call
+    where
+      by_life : (o : Option (Facts K L D)) → AnswersAlive same elect signature_of o m call told next → ExactAt same elect signature_of o (Calls call) told
+      by_life None (tells, leaves) = rw tells refl
+      by_life (Some x) (inl (tells, leaves)) = rw tells (call_told x call)
+      by_life (Some x) (inr (allowed, tells, leaves)) = rw tells (call_refused x call fault.OutOfMemory)
+
+  work_refused : (x : Facts K L D) (call : WorkCall D) (f : Fault) → ExactAt same elect signature_of (Some x) (Works call) (Refused f)
+  work_refused x (ConstructNotarize v) f = refused signature_of (NotarizeRule same elect x v) x.me (option_map subject.Notarize (held x v)) f
+  work_refused x (SetProposal v p) f = refl
+  work_refused x TryPropose f = refl
+  work_refused x (Proposed v payload now) f = refl
+  work_refused x (SupersedeProposalRequest v) f = refl
+  work_refused x (PendingHandoffAbandonment v) f = refl
+  work_refused x (ReleaseProposalRequest v) f = refl
+  work_refused x TryVerify f = refl
+  work_refused x (Verified v) f = refl
+  work_refused x (VerificationFailed v reason now) f = refl
+  work_refused x CertifyCandidates f = refl
+  work_refused x (SetCertifyHandle v token) f = refl
+  work_refused x (TriggerTimeout v reason now) f = refl
+  work_refused x (NextTimeout now) f = refl
+
+  silent : (x : Facts K L D) (o : Openings K D) (call : WorkCall D) → signed_in (work_answer same elect signature_of x o call) ≡ [] → signed_in (work_reply same elect signature_of x o call) ≡ []
+  silent x o call none = still_none (work_allowed x o call) (work_fault x call) (work_answer same elect signature_of x o call) none
+
+  work_told : (x : Facts K L D) (o : Openings K D) (call : WorkCall D) → ExactAt same elect signature_of (Some x) (Works call) (work_reply same elect signature_of x o call)
+  work_told x o (ConstructNotarize v) = by_fault (plain_refusal x)
+    where
+      by_fault : (f : Option Fault) → IsExact signature_of (NotarizeRule same elect x v) x.me (option_map subject.Notarize (held x v)) (unless_refused f (work_answer same elect signature_of x o (ConstructNotarize v)))
+      by_fault (Some f) = work_refused x (ConstructNotarize v) f
+      by_fault None = exact_notarize signature_of (NotarizeRule same elect x v) (may_notarize same elect x v) (notarize_whole same elect x v) (notarize_parts same elect x v) (may_notarize same elect x v) refl x.me (held x v)
+  work_told x o (SetProposal v p) = silent x o (SetProposal v p) refl
+  work_told x o TryPropose = silent x o TryPropose refl
+  work_told x o (Proposed v payload now) = silent x o (Proposed v payload now) refl
+  work_told x o (SupersedeProposalRequest v) = silent x o (SupersedeProposalRequest v) refl
+  work_told x o (PendingHandoffAbandonment v) = silent x o (PendingHandoffAbandonment v) refl
+  work_told x o (ReleaseProposalRequest v) = silent x o (ReleaseProposalRequest v) refl
+  work_told x o TryVerify = silent x o TryVerify refl
+  work_told x o (Verified v) = silent x o (Verified v) refl
+  work_told x o (VerificationFailed v reason now) = silent x o (VerificationFailed v reason now) refl
+  work_told x o CertifyCandidates = silent x o CertifyCandidates refl
+  work_told x o (SetCertifyHandle v token) = silent x o (SetCertifyHandle v token) refl
+  work_told x o (TriggerTimeout v reason now) = silent x o (TriggerTimeout v reason now) refl
+  work_told x o (NextTimeout now) = silent x o (NextTimeout now) refl
+
+  pub work_exact : (m next : MemberFacts K L D G) (call : WorkCall D) (told : Told K D G) → IsWork same elect signature_of m call told next → ExactAt same elect signature_of m.life (Works call) told
+  unfolding IsWork
+  work_exact m next call told is_work = by_life m.life is_work
+    where
+      by_life : (o : Option (Facts K L D)) → IsWorkOf same elect signature_of o m call told next → ExactAt same elect signature_of o (Works call) told
+      by_life None (tells, leaves) = rw tells refl
+      by_life (Some x) (inl (tells, leaves)) = rw tells (work_told x m.openings call)
+      by_life (Some x) (inr (allowed, tells, leaves)) = rw tells (work_refused x call fault.OutOfMemory)
+
+  pub restart_exact : (life : Option (Facts K L D)) (r : RestartFacts K L D) (result : Result (Unit {0}) RecoverError) → ExactAt same elect signature_of life (Restarts r) (restart_told result)
+  restart_exact None r result = restart_signs_none K D G result
+  restart_exact (Some x) r result = restart_signs_none K D G result
+
+  step_exact : (m next : MemberFacts K L D G) (step : StepFacts K L D) (told : Told K D G) → IsStep same elect signature_of m step told next → ExactAt same elect signature_of m.life step told
+  step_exact m next (Calls call) told is_step = call_exact m next call told is_step
+  step_exact m next (Works call) told is_step = work_exact m next call told is_step
+  step_exact m next (Restarts r) told (result, restarts, is) = rw is (restart_exact m.life r result)
+
+  -- a run comes apart at each of its steps
+  parted : (m end : MemberFacts K L D G) (before after : List (StepFacts K L D)) (step : StepFacts K L D) (heard rest : List (Told K D G)) (told : Told K D G) → length before ≡ length heard → IsRun same elect signature_of m (before ++ step ∷ after) (heard ++ told ∷ rest) end
+      → (k : MemberFacts K L D G) × IsRun same elect signature_of m before heard k × ExactAt same elect signature_of k.life step told
+  parted m end [] after step [] rest told long (next, is_step, run) = (m, refl, step_exact m next step told is_step)
+  parted m end [] after step (h ∷ heard) rest told long run = absurd (omega arith)
+  parted m end (s ∷ before) after step [] rest told long run = absurd (omega arith)
+  parted m end (s ∷ before) after step (h ∷ heard) rest told long (next, is_step, run) =
+      let found = parted next end before after step heard rest told (omega arith) run in
+      (found.0, (next, is_step, found.1), found.2)
+
+  pub run_exact : (s : Story K L D G) → IsRunFrom same elect signature_of s.start s.steps s.replies → SignsExactly same elect signature_of s
+  unfolding IsRunFrom
+  run_exact s (accepted, end, run) before after step heard rest told steps_are replies_are long =
+      let m = started same elect s.start.fresh s.start.floor s.start.now in
+      let split : IsRun same elect signature_of m (before ++ step ∷ after) s.replies end = subst (λ (xs : List (StepFacts K L D)). IsRun same elect signature_of m xs s.replies end) steps_are run in
+      let whole : IsRun same elect signature_of m (before ++ step ∷ after) (heard ++ told ∷ rest) end = subst (λ (xs : List (Told K D G)). IsRun same elect signature_of m (before ++ step ∷ after) xs end) replies_are split in
+      parted m end before after step heard rest told long whole

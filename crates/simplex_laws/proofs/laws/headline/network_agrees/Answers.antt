@@ -1,0 +1,25 @@
+-- from the laws of votes, and from what the acts of a network agree on
+use Rattle.simplex_laws.proofs.Exactly.{run_exact}
+use Rattle.simplex_laws.proofs.Placing.{story_lawful, places_one_proposal, places_uncovered, places_parent, places_notarized, places_chain}
+use Rattle.simplex_laws.proofs.laws.headline.network_agrees.Goals as goal
+
+pub returns-clause-exact : goal.returns-clause-exact
+returns-clause-exact g c term_length i s ran = run_exact g.D.PartialEq.eq g.L.Elector.elect g.S.Scheme.signature_of s ran.run
+
+pub returns-clause-lawful : goal.returns-clause-lawful
+returns-clause-lawful g c term_length = story_lawful g.D.PartialEq.eq g.met.D.Digest.equal_is_same g.L.Elector.elect g.S.Scheme.signature_of term_length
+
+pub returns-clause-one_proposal : goal.returns-clause-one_proposal
+returns-clause-one_proposal g c term_length network = places_one_proposal g.D.PartialEq.eq g.met.D.Digest.equal_is_same g.L.Elector.elect g.S.Scheme.signature_of term_length network
+
+pub returns-clause-finalized_uncovered : goal.returns-clause-finalized_uncovered
+returns-clause-finalized_uncovered g c term_length network = places_uncovered g.D.PartialEq.eq g.met.D.Digest.equal_is_same g.L.Elector.elect g.S.Scheme.signature_of term_length network
+
+pub returns-clause-parent_not_below : goal.returns-clause-parent_not_below
+returns-clause-parent_not_below g c term_length network = places_parent g.D.PartialEq.eq g.met.D.Digest.equal_is_same g.L.Elector.elect g.S.Scheme.signature_of term_length network
+
+pub returns-clause-finalized_notarized : goal.returns-clause-finalized_notarized
+returns-clause-finalized_notarized g c term_length network = places_notarized g.D.PartialEq.eq g.met.D.Digest.equal_is_same g.L.Elector.elect g.S.Scheme.signature_of term_length network
+
+pub returns-clause-chain_holds_finalized : goal.returns-clause-chain_holds_finalized
+returns-clause-chain_holds_finalized g c term_length network = places_chain g.D.PartialEq.eq g.met.D.Digest.equal_is_same g.L.Elector.elect g.S.Scheme.signature_of term_length network

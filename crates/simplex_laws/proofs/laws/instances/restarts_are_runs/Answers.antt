@@ -1,0 +1,9 @@
+use Rattle.std.proofs.Common.{refl}
+use Rattle.simplex_laws.proofs.Scripts.{restarting_ran}
+use Rattle.simplex_laws.proofs.laws.instances.restarts_are_runs.Goals as goal
+
+pub returns-clause-ran : goal.returns-clause-ran
+returns-clause-ran c = restarting_ran
+
+pub returns-clause-does : goal.returns-clause-does
+returns-clause-does c signature_of = refl

@@ -1,0 +1,15 @@
+use Rattle.std.proofs.Common.{refl}
+use Rattle.simplex_laws.proofs.Scripts.{five_network, five_notarize_one, five_nullify_two, five_finalize_three}
+use Rattle.simplex_laws.proofs.laws.instances.skipped_views_are_agreed_on.Goals as goal
+
+pub returns-clause-network : goal.returns-clause-network
+returns-clause-network c = five_network
+
+pub returns-clause-few : goal.returns-clause-few
+returns-clause-few c signature_of = (refl, refl)
+
+pub returns-clause-does : goal.returns-clause-does
+returns-clause-does c signature_of me = refl
+
+pub returns-clause-backs : goal.returns-clause-backs
+returns-clause-backs c signature_of = (five_notarize_one signature_of, five_nullify_two signature_of, five_finalize_three signature_of)

@@ -1,0 +1,18 @@
+use Rattle.std.proofs.Common.{refl}
+use Rattle.simplex_laws.proofs.Scripts.{four_network, finalized_one, finalized_two}
+use Rattle.simplex_laws.proofs.laws.instances.terms_are_agreed_on.Goals as goal
+
+pub returns-clause-network : goal.returns-clause-network
+returns-clause-network c = four_network
+
+pub returns-clause-few : goal.returns-clause-few
+returns-clause-few c signature_of = (refl, refl)
+
+pub returns-clause-covered : goal.returns-clause-covered
+returns-clause-covered c = refl
+
+pub returns-clause-does : goal.returns-clause-does
+returns-clause-does c signature_of = refl
+
+pub returns-clause-finalizes : goal.returns-clause-finalizes
+returns-clause-finalizes c signature_of = (finalized_one signature_of, finalized_two signature_of)

@@ -1,0 +1,48 @@
+-- What has come to a member so far and what it answered, of the code's own values.
+use Rattle.std.specs.Prelude.{◌≡◌, ℕ, Bool, List, [], ◌∷◌, ◌++◌, map, Option, None}
+use Rattle.simplex_types.specs.declared.types.window.Terms.{Terms}
+use Rattle.simplex_types.specs.declared.types.messages.Subject.{Subject}
+use Rattle.simplex_voter.specs.Facts.{Elect}
+use Rattle.simplex_member.specs.declared.member.calls.Reply.{Reply}
+use Rattle.simplex_member.specs.declared.member.runs.Step.{Step}
+use Rattle.simplex_member.specs.declared.member.start.Start.{Start}
+use Rattle.simplex_member.specs.Calls.{Told, told}
+use Rattle.simplex_member.specs.Lives.{MemberFacts}
+use Rattle.simplex_member.specs.Recovery.{recover_error}
+use Rattle.simplex_member.specs.Runs.{StepFacts, steps_of, IsRun}
+use Rattle.simplex_member.specs.Start.{StartFacts, start_facts, started}
+use Rattle.simplex_laws.specs.Acts.{IsLawful}
+use Rattle.simplex_laws.specs.Stories.{Story, Deed, LivesAs, act_of, deeds}
+
+abbrev pub story_of : {S L D K G C : Type 0} → (S → Option ℕ) → (S → List K) → (L → Terms) → (L → Bool) → (C → List ℕ) → Start S L D K G C → List (Step S L D K G C) → List (Reply S D K G C) → Story K L D G
+story_of me members terms elects_early bytes_of start steps replies = record {
+  start = start_facts me members terms elects_early bytes_of start;
+  steps = steps_of me members terms elects_early bytes_of steps;
+  replies = map (told bytes_of) replies;
+}
+
+module _ {K L D G : Type 0} where
+  -- nothing came yet
+  abbrev pub new_story : StartFacts K L D → Story K L D G
+  new_story start = record { start = start; steps = []; replies = [] }
+
+  -- one step more
+  abbrev pub with_step : Story K L D G → StepFacts K L D → Told K D G → Story K L D G
+  with_step s step told = record s { steps = s.steps ++ step ∷ []; replies = s.replies ++ told ∷ [] }
+
+  -- its votes keep the rules
+  abbrev pub Lawful : ℕ → Story K L D G → Type 0
+  Lawful term_length s = IsLawful term_length (map act_of (deeds s))
+
+module _ {K L D G : Type 0} (same : D → D → Bool) (elect : Elect L) (signature_of : ℕ → Subject D → G) where
+  -- this is the story of the member so far, as member `i` of a network
+  pub record HasStory (term_length i : ℕ) (s : Story K L D G) (m : MemberFacts K L D G) : Type 0 where
+    pub lives : LivesAs term_length i s.start s.steps
+    pub accepted : recover_error {G = G} same s.start.fresh s.start.floor s.start.now [] ≡ None
+    pub run : IsRun same elect signature_of (started same elect s.start.fresh s.start.floor s.start.now) s.steps s.replies m
+
+  -- this is all that the member accepted and signed so far, as member `i` of a network
+  pub record HasDone (term_length i : ℕ) (all : List (Deed D G)) (m : MemberFacts K L D G) : Type 0 where
+    pub story : Story K L D G
+    pub told : HasStory term_length i story m
+    pub same_deeds : deeds story ≡ all

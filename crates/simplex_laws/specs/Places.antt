@@ -1,0 +1,49 @@
+-- A network: who is faulty, what the others did, and the certificates that the votes of both make.
+use Rattle.std.specs.Prelude.{◌≡◌, ℕ, zero, suc, ◌-◌, ◌*◌, ◌≤◌, ◌<◌, ◌⊎◌, ⊤, Bool, true, false, List, [], ◌∷◌, length, slice_get, Contains, Some}
+use Rattle.std.specs.List.{count_by}
+use Rattle.simplex_types.specs.declared.types.messages.Subject.{Subject}
+use Rattle.simplex_voter.specs.Facts.{Elect}
+use Rattle.simplex_laws.specs.Network.{max_faults, quorum}
+use Rattle.simplex_laws.specs.Stories.{Story, Accepts, Signs, deeds, Ran}
+
+-- a faulty member may send anything; of an honest one all is given that came to it and that it answered
+pub data Place (K L D G : Type 0) : Type 0 where
+  Faulty : Place K L D G
+  Honest : Story K L D G → Place K L D G
+
+module _ {K L D G : Type 0} where
+  abbrev pub is_faulty : Place K L D G → Bool
+  is_faulty Faulty = true
+  is_faulty (Honest s) = false
+
+  abbrev pub faults : List (Place K L D G) → ℕ
+  faults network = count_by is_faulty network
+
+  -- at most f are faulty, or else fewer than n - 2f, so that two quorums share an honest one
+  abbrev pub FewFaulty : List (Place K L D G) → Type 0
+  FewFaulty network =
+      ((1 ≤ length network) × (faults network ≤ max_faults (length network)))
+      ⊎ (faults network < length network - 2 * max_faults (length network))
+
+-- at least `count` of the items, the first of which stands at place `i`, have P there
+abbrev pub AtLeastFrom : {X : Type 0} → ℕ → ℕ → (ℕ → X → Type 0) → List X → Type 0
+AtLeastFrom i zero P xs = ⊤
+AtLeastFrom i (suc count) P [] = ⊥
+AtLeastFrom i (suc count) P (x ∷ xs) = (P i x × AtLeastFrom (suc i) count P xs) ⊎ AtLeastFrom (suc i) (suc count) P xs
+
+module _ {K L D G : Type 0} (signature_of : ℕ → Subject D → G) where
+  -- the member at place `i` is faulty or signed this vote, as `i`
+  abbrev pub MayHaveSigned : Subject D → ℕ → Place K L D G → Type 0
+  MayHaveSigned vote i Faulty = ⊤
+  MayHaveSigned vote i (Honest s) = Contains (deeds s) (Signs i vote (signature_of i vote))
+
+  -- n - f members may have signed it: a certificate of it may exist
+  abbrev pub Backed : List (Place K L D G) → Subject D → Type 0
+  Backed network vote = AtLeastFrom 0 (quorum (length network)) (MayHaveSigned vote) network
+
+module _ {K L D G : Type 0} (same : D → D → Bool) (elect : Elect L) (signature_of : ℕ → Subject D → G) where
+  -- few are faulty, each other runs as its place says, and each certificate that one of these accepted is backed
+  pub record IsNetworkOf (term_length : ℕ) (network : List (Place K L D G)) : Type 0 where
+    pub few_faulty : FewFaulty network
+    pub honest : (i : ℕ) (s : Story K L D G) → slice_get network i ≡ Some (Honest s) → Ran same elect signature_of term_length i s
+    pub backed : (i : ℕ) (s : Story K L D G) (certificate : Subject D) → slice_get network i ≡ Some (Honest s) → Contains (deeds s) (Accepts certificate) → Backed signature_of network certificate

@@ -1,0 +1,68 @@
+-- What a member accepts and signs, read off the code's own steps and replies.
+use Rattle.std.specs.Prelude.{◌≡◌, ◌⊎◌, ◌<◌, ℕ, List, [], ◌∷◌, ◌++◌, Contains, Option, Some, None, Result, Ok, Err}
+use Rattle.simplex_types.specs.declared.config.Floor.{Floor}
+use Rattle.simplex_types.specs.declared.config.Floor.TheVariants as floor
+use Rattle.simplex_types.specs.declared.types.messages.Subject.TheVariants as subject
+use Rattle.simplex_types.specs.declared.types.window.Terms.{Terms}
+use Rattle.simplex_member.specs.declared.member.calls.Call.{Call}
+use Rattle.simplex_member.specs.declared.member.calls.Call.TheVariants as call
+use Rattle.simplex_member.specs.declared.member.calls.Reply.{Reply}
+use Rattle.simplex_member.specs.declared.member.calls.Reply.TheVariants as reply
+use Rattle.simplex_member.specs.declared.member.runs.Step.{Step}
+use Rattle.simplex_member.specs.declared.member.runs.Step.TheVariants as step
+use Rattle.simplex_member.specs.declared.member.start.Start.{Start}
+use Rattle.simplex_laws.specs.Stories.{Deed, Accepts, Signs}
+
+module _ {S D K G C : Type 0} where
+  -- the vote of a reply
+  abbrev pub votes_in : Reply S D K G C → List (Deed D G)
+  votes_in (reply.Nullify (Some (_, vote))) = Signs vote.signer (subject.Nullify vote.round) vote.signature ∷ []
+  votes_in (reply.Finalize (Some vote)) = Signs vote.signer (subject.Finalize vote.proposal) vote.signature ∷ []
+  votes_in _ = []
+
+  -- the certificate of a call
+  abbrev pub certificates_in : Call S D K G C → List (Deed D G)
+  certificates_in (call.AddNotarization c) = Accepts (subject.Notarize c.proposal) ∷ []
+  certificates_in (call.AddNullification c _) = Accepts (subject.Nullify c.round) ∷ []
+  certificates_in (call.AddFinalization c _) = Accepts (subject.Finalize c.proposal) ∷ []
+  certificates_in _ = []
+
+  -- it is accepted where the call is told whether it is new
+  abbrev pub taken_by : Call S D K G C → Reply S D K G C → List (Deed D G)
+  taken_by call (reply.Added _ _) = certificates_in call
+  taken_by call _ = []
+
+  abbrev pub floor_in : Floor S D K G C → List (Deed D G)
+  floor_in (floor.Genesis _) = []
+  floor_in (floor.Finalized c) = Accepts (subject.Finalize c.proposal) ∷ []
+
+module _ {S L D K G C : Type 0} where
+  -- a restart that succeeds accepts its floor's finalization
+  abbrev pub taken_in : Step S L D K G C → Reply S D K G C → List (Deed D G)
+  taken_in (step.Call call) reply = taken_by call reply
+  taken_in (step.Restart restart) reply.Restarted = floor_in restart.start.floor
+  taken_in _ _ = []
+
+  abbrev pub begun_by : {E : Type 0} → Start S L D K G C → Result (Unit {0}) E → List (Deed D G)
+  begun_by start (Ok _) = floor_in start.floor
+  begun_by start (Err _) = []
+
+  abbrev pub shown_by : List (Step S L D K G C) → List (Reply S D K G C) → List (Deed D G)
+  shown_by (step ∷ steps) (reply ∷ replies) = (taken_in step reply ++ votes_in reply) ++ shown_by steps replies
+  shown_by _ _ = []
+
+  -- all, from the start on
+  abbrev pub shown : Start S L D K G C → List (Step S L D K G C) → List (Reply S D K G C) → List (Deed D G)
+  shown start steps replies = floor_in start.floor ++ shown_by steps replies
+
+module _ {S L D K G C : Type 0} (me : S → Option ℕ) (terms : L → Terms) where
+  -- a start is set up for terms of this many views, not 0, and signs as this member or not at all
+  pub record IsSetUpAs (term_length i : ℕ) (start : Start S L D K G C) : Type 0 where
+    pub terms_of : (terms start.settings.elector).term_length ≡ term_length
+    pub some : 0 < term_length
+    pub signs_as : (me start.settings.scheme ≡ Some i) ⊎ (me start.settings.scheme ≡ None)
+
+  -- so is a start, and that of each restart
+  pub record AreSetUpAs (term_length i : ℕ) (start : Start S L D K G C) (steps : List (Step S L D K G C)) : Type 0 where
+    pub first : IsSetUpAs term_length i start
+    pub later : (r : _) → Contains steps (step.Restart r) → IsSetUpAs term_length i r.start
