@@ -21,11 +21,11 @@ use Rattle.simplex_voter.specs.Windows.{min_active}
 use Rattle.simplex_voter.specs.Refusals.{is_started, takes_round}
 use Rattle.simplex_voter.specs.Serving.{after_prune}
 use Rattle.simplex_voter.proofs.Gaps.{and_parts}
-use Rattle.simplex_laws.specs.Acts.{Act, Accept}
 use Rattle.simplex_member.specs.Calls.{CallFacts, AddNotarization, AddNullification, AddFinalization, Certified, ConstructNullify, ConstructFinalize, BroadcastNotarization, BroadcastNullification, BroadcastFinalization, GetBestCertificate, Prune, is_allowed, answer, after_call}
-use Rattle.simplex_laws.specs.CallActs.{acts_of_call}
 use Rattle.simplex_member.specs.Lives.{closed_by}
 use Rattle.simplex_member.specs.Openings.{Openings, is_verifying, context_at}
+use Rattle.simplex_laws.specs.Deeds.{Deed, Accepts, deeds_of_call}
+use Rattle.simplex_laws.proofs.Signed.{signed_none}
 use Rattle.simplex_laws.proofs.Splits.{Contains-cases, Contains-cons_rest}
 use Rattle.simplex_laws.proofs.Filters.{Contains-filtered}
 use Rattle.simplex_laws.proofs.NotedVotes.{tied}
@@ -50,8 +50,8 @@ among_more k u (x ∷ xs) h = by_order (nat_cmp k x) (among_more k u xs) h
     ]
 
 -- offers say nothing of votes to notarize
-closed_offer : {K L D : Type 0} (base low : ℕ) (acts : List (Act D)) (o : Openings K D) (call : CallFacts D) (y : Facts K L D) → NotesStand base low acts o y → NotesStand base low acts (closed_by o call) y
-closed_offer base low acts o call y notes = record {
+closed_offer : {K L D G : Type 0} (base low : ℕ) (deeds : List (Deed D G)) (o : Openings K D) (call : CallFacts D) (y : Facts K L D) → NotesStand base low deeds o y → NotesStand base low deeds (closed_by o call) y
+closed_offer base low deeds o call y notes = record {
   above = notes.above;
   active = notes.active;
   reached = notes.reached;
@@ -64,13 +64,13 @@ closed_offer base low acts o call y notes = record {
   covered = notes.covered;
 }
 
-module _ {K L D G : Type 0} (same : D → D → Bool) (elect : Elect L) (signature_of : ℕ → Subject D → G) (base low : ℕ) (acts : List (Act D)) (o : Openings K D) (x : Facts K L D) (notes : NotesStand base low acts o x) where
-  -- the acts of the call, and a change that leaves the work on each view
-  acted : (call : CallFacts D) → CalmOn base x (after_call same elect signature_of x call) → NotesStand base low (acts ++ acts_of_call {K = K} {G = G} call (answer same elect signature_of x call)) o (after_call same elect signature_of x call)
+module _ {K L D G : Type 0} (same : D → D → Bool) (elect : Elect L) (signature_of : ℕ → Subject D → G) (base low : ℕ) (deeds : List (Deed D G)) (o : Openings K D) (x : Facts K L D) (notes : NotesStand base low deeds o x) where
+  -- the deeds of the call, and a change that leaves the work on each view
+  acted : (call : CallFacts D) → CalmOn base x (after_call same elect signature_of x call) → NotesStand base low (deeds ++ deeds_of_call {K = K} {G = G} call (answer same elect signature_of x call)) o (after_call same elect signature_of x call)
   acted call left =
       let y = after_call same elect signature_of x call in
-      let more = acts_of_call {K = K} {G = G} call (answer same elect signature_of x call) in
-      notes_calm base low (acts ++ more) o o x y left (λ v is. is) (λ v is. is) (notes_acted base low acts more o x (calls_cast_none same elect signature_of x call) notes)
+      let more = deeds_of_call {K = K} {G = G} call (answer same elect signature_of x call) in
+      notes_calm base low (deeds ++ more) o o x y left (λ v is. is) (λ v is. is) (notes_acted base low deeds more o x (calls_cast_none same elect signature_of x call) notes)
 
   active_view : (round : Round) → takes_round x round ≡ true → (1 ≤ round.view) × (base ≤ round.view)
   active_view round takes =
@@ -78,14 +78,14 @@ module _ {K L D G : Type 0} (same : D → D → Bool) (elect : Elect L) (signatu
       let parts = and_parts (nat_le 1 round.view) (nat_le (min_active x) round.view) admitted in
       (grind (arith, nat_tests, parts.0), (let over : min_active x ≤ round.view = grind (arith, nat_tests, parts.1) in omega (arith, over, notes.active)))
 
-  nullification_notes : (c : NullificationFacts) (now : ℕ) → 0 < x.terms.term_length → takes_round x c.round ≡ true → NotesStand base low (acts ++ Accept (subject.Nullify c.round) ∷ []) o (after_call same elect signature_of x (AddNullification c now))
+  nullification_notes : (c : NullificationFacts) (now : ℕ) → 0 < x.terms.term_length → takes_round x c.round ≡ true → NotesStand base low (deeds ++ Accepts (subject.Nullify c.round) ∷ []) o (after_call same elect signature_of x (AddNullification c now))
   nullification_notes c now some takes =
       let view = active_view c.round takes in
-      let more = Accept (subject.Nullify c.round) ∷ [] in
+      let more = Accepts (subject.Nullify c.round) ∷ [] in
       let next : c.round.view < next_term_start x.terms.term_length c.round.view = next_above x.terms.term_length c.round.view some view.0 in
       let left = on_nullification_kept base same elect x c now view.1 (omega (arith, next, view.1)) in
-      let acted_notes = notes_acted base low acts more o x (calls_cast_none same elect signature_of x (AddNullification c now)) notes in
-      let kept = notes_calm base low (acts ++ more) o o x _ left (λ v is. is) (λ v is. is) acted_notes in
+      let acted_notes = notes_acted base low deeds more o x (calls_cast_none same elect signature_of x (AddNullification c now)) notes in
+      let kept = notes_calm base low (deeds ++ more) o o x _ left (λ v is. is) (λ v is. is) acted_notes in
       record {
         above = kept.above;
         active = kept.active;
@@ -97,13 +97,13 @@ module _ {K L D G : Type 0} (same : D → D → Bool) (elect : Elect L) (signatu
         context_low = kept.context_low;
         voted = kept.voted;
         covered = λ u h. elim (among_more c.round.view u _ h) [
-          | inl at ↦ (c.round, Contains-append_right acts more (Accept (subject.Nullify c.round)) (0, omega arith, refl), at)
+          | inl at ↦ (c.round, Contains-append_right deeds more (Accepts (subject.Nullify c.round)) (0, omega arith, refl), at)
           | inr old ↦ kept.covered u old
         ];
       }
 
   -- a prune: what is left begins with the lowest view that is kept
-  pruned_notes : NotesStand (min_active x) low acts o (after_prune x)
+  pruned_notes : NotesStand (min_active x) low deeds o (after_prune x)
   pruned_notes = record {
     above = λ v tracked. kept_above v (nat_le (min_active x) v) refl tracked;
     active = omega arith;
@@ -139,7 +139,7 @@ module _ {K L D G : Type 0} (same : D → D → Bool) (elect : Elect L) (signatu
       worked_still v false is verified un = absurd (false≢true (sym (ap (λ (r : RoundFacts K D). r.slot.verified) (round_by v false is)) ∙ verified))
 
   -- a call that is allowed, whatever is open
-  open_notes : (call : CallFacts D) → 0 < x.terms.term_length → x.finalized < x.current → is_allowed x call ≡ true → (b : ℕ) × NotesStand b low (acts ++ acts_of_call {K = K} {G = G} call (answer same elect signature_of x call)) o (after_call same elect signature_of x call)
+  open_notes : (call : CallFacts D) → 0 < x.terms.term_length → x.finalized < x.current → is_allowed x call ≡ true → (b : ℕ) × NotesStand b low (deeds ++ deeds_of_call {K = K} {G = G} call (answer same elect signature_of x call)) o (after_call same elect signature_of x call)
   open_notes (AddNotarization c) some ahead allowed = (base, acted (AddNotarization c) (on_add_notarization base same elect x c (active_view c.proposal.round allowed).1))
   open_notes (AddNullification c now) some ahead allowed = (base, nullification_notes c now some allowed)
   open_notes (AddFinalization c now) some ahead allowed = (base, acted (AddFinalization c now) (on_add_finalization base same elect x c now (active_view c.proposal.round allowed).1))
@@ -152,11 +152,11 @@ module _ {K L D G : Type 0} (same : D → D → Bool) (elect : Elect L) (signatu
   open_notes GetBestCertificate some ahead allowed = (base, acted GetBestCertificate (on_same base x))
   open_notes Prune some ahead allowed = (min_active x, notes_nothing)
     where
-      notes_nothing : NotesStand (min_active x) low (acts ++ []) o (after_prune x)
-      notes_nothing = notes_acted (min_active x) low acts [] o (after_prune x) (λ p h. absurd (omega (arith, h.1))) pruned_notes
+      notes_nothing : NotesStand (min_active x) low (deeds ++ []) o (after_prune x)
+      notes_nothing = notes_acted (min_active x) low deeds [] o (after_prune x) (λ p h. absurd (signed_none (subject.Notarize p) h)) pruned_notes
 
   -- with the offer closed that a verdict closes
-  pub call_notes : (call : CallFacts D) → 0 < x.terms.term_length → x.finalized < x.current → is_allowed x call ≡ true → (b : ℕ) × NotesStand b low (acts ++ acts_of_call {K = K} {G = G} call (answer same elect signature_of x call)) (closed_by o call) (after_call same elect signature_of x call)
+  pub call_notes : (call : CallFacts D) → 0 < x.terms.term_length → x.finalized < x.current → is_allowed x call ≡ true → (b : ℕ) × NotesStand b low (deeds ++ deeds_of_call {K = K} {G = G} call (answer same elect signature_of x call)) (closed_by o call) (after_call same elect signature_of x call)
   call_notes call some ahead allowed =
       let left = open_notes call some ahead allowed in
-      (left.0, closed_offer left.0 low (acts ++ acts_of_call {K = K} {G = G} call (answer same elect signature_of x call)) o call (after_call same elect signature_of x call) left.1)
+      (left.0, closed_offer left.0 low (deeds ++ deeds_of_call {K = K} {G = G} call (answer same elect signature_of x call)) o call (after_call same elect signature_of x call) left.1)

@@ -25,10 +25,10 @@ use Rattle.simplex_voter.specs.Serving.{after_prune, after_broadcast_notarizatio
 use Rattle.simplex_voter.proofs.Gaps.{and_parts}
 use Rattle.simplex_voter.proofs.Rules.{nullify_parts, finalize_parts}
 use Rattle.simplex_voter.proofs.Elsewhere.{round_of-with_round}
-use Rattle.simplex_laws.specs.Acts.{Act, Accept, Cast}
 use Rattle.simplex_member.specs.Calls.{CallFacts, AddNotarization, AddNullification, AddFinalization, Certified, ConstructNullify, ConstructFinalize, BroadcastNotarization, BroadcastNullification, BroadcastFinalization, GetBestCertificate, Prune, Nullify, Finalize, nullify_vote, finalize_vote, newly, first_vote, vote_entry, is_allowed, answer, after_call, recorded_by}
-use Rattle.simplex_laws.specs.CallActs.{acts_of_call}
-use Rattle.simplex_laws.proofs.LeavesVotes.{round_put, moment_leaves, entered_leaves, triggered_leaves, woken_leaves, broadcast_notarization_leaves, broadcast_nullification_leaves, broadcast_finalization_leaves}
+use Rattle.simplex_laws.specs.Deeds.{Deed, Accepts, Signs, deeds_of_call}
+use Rattle.simplex_laws.proofs.LeavesVotes.{moment_leaves, entered_leaves, triggered_leaves, woken_leaves, broadcast_notarization_leaves, broadcast_nullification_leaves, broadcast_finalization_leaves}
+use Rattle.simplex_laws.proofs.Rounds.{round_put}
 use Rattle.simplex_laws.proofs.Standing.{Stays}
 use Rattle.simplex_laws.proofs.StandingVotes.{held_notarized}
 use Rattle.simplex_laws.proofs.LifeCalls.{nullify_silent, nullify_told, finalize_silent, finalize_told, no_key, no_rule}
@@ -36,9 +36,9 @@ use Rattle.simplex_laws.proofs.Recalls.{Remembers}
 use Rattle.simplex_laws.proofs.Marks.{FewerMarks, Marked, few_joined, few_left, few_put, few_add_notarization, few_add_nullification, few_add_finalization, few_pruned, marked_more, marked_few}
 use Rattle.simplex_laws.proofs.Remembering.{remembers_more, grows_nothing, grows_verdict, grows_certificate, grows_again, grows_nullify, grows_finalize}
 
--- the record remembers the acts, and what the state's facts show
-pub record Follows {K L D G : Type 0} (acts : List (Act D)) (kept : ℕ) (entries : List (ArtifactFacts D G)) (x : Facts K L D) : Type 0 where
-  pub remembers : Remembers acts kept entries
+-- the record remembers the deeds, and what the state's facts show
+pub record Follows {K L D G : Type 0} (deeds : List (Deed D G)) (kept : ℕ) (entries : List (ArtifactFacts D G)) (x : Facts K L D) : Type 0 where
+  pub remembers : Remembers deeds kept entries
   pub marked : Marked entries x
 
 -- a view that was judged, and not to be false, was judged to be true
@@ -116,16 +116,16 @@ module _ {K L D G : Type 0} (elect : Elect L) (signature_of : ℕ → Subject D 
       let r : RoundFacts K D = record (round_of x v) { decision = decision.Finalize } in
       marked_few (entries ++ more) x (with_round x v r) (few_put x v r (λ is. is) (λ is. absurd (false≢true is))) (marked_more entries more x marked)
 
-module _ {K L D G : Type 0} (same : D → D → Bool) (elect : Elect L) (signature_of : ℕ → Subject D → G) (term_length : ℕ) (acts : List (Act D)) (kept : ℕ) (entries : List (ArtifactFacts D G)) (x : Facts K L D) (stays : Stays term_length acts x) (follows : Follows acts kept entries x) where
-  nothing_follows : (y : Facts K L D) → Marked (entries ++ []) y → Follows (acts ++ []) kept (entries ++ []) y
-  nothing_follows y marked = record { remembers = remembers_more acts entries kept [] [] (grows_nothing acts entries) follows.remembers; marked = marked }
+module _ {K L D G : Type 0} (same : D → D → Bool) (elect : Elect L) (signature_of : ℕ → Subject D → G) (term_length : ℕ) (deeds : List (Deed D G)) (kept : ℕ) (entries : List (ArtifactFacts D G)) (x : Facts K L D) (stays : Stays term_length deeds x) (follows : Follows deeds kept entries x) where
+  nothing_follows : (y : Facts K L D) → Marked (entries ++ []) y → Follows (deeds ++ []) kept (entries ++ []) y
+  nothing_follows y marked = record { remembers = remembers_more deeds entries kept [] [] (grows_nothing deeds entries) follows.remembers; marked = marked }
 
-  left_follows : (y : Facts K L D) → FewerMarks x y → Follows (acts ++ []) kept (entries ++ []) y
+  left_follows : (y : Facts K L D) → FewerMarks x y → Follows (deeds ++ []) kept (entries ++ []) y
   left_follows y fewer = nothing_follows y (marked_more entries [] y (marked_few entries x y fewer follows.marked))
 
-  certified_follows : (v : ℕ) (success : Bool) (now : ℕ) → takes_verdict x v success ≡ true → Follows (acts ++ []) kept (entries ++ newly (is_first_verdict x v) (Verdict (round_number x v) success)) (after_certified elect x v success now)
+  certified_follows : (v : ℕ) (success : Bool) (now : ℕ) → takes_verdict x v success ≡ true → Follows (deeds ++ []) kept (entries ++ newly (is_first_verdict x v) (Verdict (round_number x v) success)) (after_certified elect x v success now)
   certified_follows v success now takes = record {
-    remembers = remembers_more acts entries kept [] new (grows_verdict acts entries (is_first_verdict x v) (round_number x v) success) follows.remembers;
+    remembers = remembers_more deeds entries kept [] new (grows_verdict deeds entries (is_first_verdict x v) (round_number x v) success) follows.remembers;
     marked = by_tracked (is_tracked x v) refl;
   }
     where
@@ -144,14 +144,14 @@ module _ {K L D G : Type 0} (same : D → D → Bool) (elect : Elect L) (signatu
 
   -- a vote to nullify: there is none, or it was recorded before, or is recorded now
 
-  nullify_follows : (v : ℕ) → Follows (acts ++ acts_of_call {K = K} (ConstructNullify v) (Nullify (nullify_vote signature_of x v))) kept (entries ++ first_vote (nullify_vote signature_of x v)) (after_construct_nullify x v)
+  nullify_follows : (v : ℕ) → Follows (deeds ++ deeds_of_call {K = K} (ConstructNullify v) (Nullify (nullify_vote signature_of x v))) kept (entries ++ first_vote (nullify_vote signature_of x v)) (after_construct_nullify x v)
   nullify_follows v = by_rule (may_nullify x v) refl
     where
-      by_retry : (m : ℕ) (b : Bool) → is_nullify (round_of x v).decision ≡ b → x.me ≡ Some m → may_nullify x v ≡ true → Follows (acts ++ Cast (subject.Nullify (round_number x v)) ∷ []) kept (entries ++ first_vote (Some (b, NullifyVote (round_number x v) m (signature_of m (subject.Nullify (round_number x v)))))) (record (with_round x v (after_nullify (round_of x v))) { nullify_votes = insert_key nat_cmp x.nullify_votes v })
+      by_retry : (m : ℕ) (b : Bool) → is_nullify (round_of x v).decision ≡ b → x.me ≡ Some m → may_nullify x v ≡ true → Follows (deeds ++ Signs m (subject.Nullify (round_number x v)) (signature_of m (subject.Nullify (round_number x v))) ∷ []) kept (entries ++ first_vote (Some (b, NullifyVote (round_number x v) m (signature_of m (subject.Nullify (round_number x v)))))) (record (with_round x v (after_nullify (round_of x v))) { nullify_votes = insert_key nat_cmp x.nullify_votes v })
       by_retry m true decided me may =
           let e = follows.marked.nullified v decided (ap is_some me) in
           record {
-            remembers = remembers_more acts entries kept (Cast (subject.Nullify (round_number x v)) ∷ []) [] (grows_again acts entries (round_number x v) e.0 e.1 (omega (arith, (nullify_parts x v may).current, stays.ahead)) e.2) follows.remembers;
+            remembers = remembers_more deeds entries kept (Signs m (subject.Nullify (round_number x v)) (signature_of m (subject.Nullify (round_number x v))) ∷ []) [] (grows_again deeds entries (round_number x v) m e.0 (signature_of m (subject.Nullify (round_number x v))) e.1 (omega (arith, (nullify_parts x v may).current, stays.ahead)) e.2) follows.remembers;
             marked = nullify_marked elect signature_of entries x follows.marked [] v (insert_key nat_cmp x.nullify_votes v) (λ key. (e.0, e.1, Contains-append_left entries [] (NullifyVote (round_number x v) e.0 e.1) e.2));
           }
       by_retry m false undecided me may =
@@ -159,87 +159,87 @@ module _ {K L D G : Type 0} (same : D → D → Bool) (elect : Elect L) (signatu
           let signature = signature_of m (subject.Nullify round) in
           let new : List (ArtifactFacts D G) = NullifyVote round m signature ∷ [] in
           record {
-            remembers = remembers_more acts entries kept (Cast (subject.Nullify round) ∷ []) new (grows_nullify acts entries round m signature (omega (arith, (nullify_parts x v may).current, stays.ahead))) follows.remembers;
+            remembers = remembers_more deeds entries kept (Signs m (subject.Nullify round) signature ∷ []) new (grows_nullify deeds entries round m signature (omega (arith, (nullify_parts x v may).current, stays.ahead))) follows.remembers;
             marked = nullify_marked elect signature_of entries x follows.marked new v (insert_key nat_cmp x.nullify_votes v) (λ key. (m, signature, Contains-append_right entries new (NullifyVote round m signature) (0, omega arith, refl)));
           }
 
-      by_key : (o : Option ℕ) → x.me ≡ o → may_nullify x v ≡ true → Follows (acts ++ acts_of_call {K = K} (ConstructNullify v) (Nullify (nullify_vote signature_of x v))) kept (entries ++ first_vote (nullify_vote signature_of x v)) (after_construct_nullify x v)
+      by_key : (o : Option ℕ) → x.me ≡ o → may_nullify x v ≡ true → Follows (deeds ++ deeds_of_call {K = K} (ConstructNullify v) (Nullify (nullify_vote signature_of x v))) kept (entries ++ first_vote (nullify_vote signature_of x v)) (after_construct_nullify x v)
       by_key None me may =
           let silent = nullify_silent elect signature_of x v (no_key (may_nullify x v) x.me me) in
           let keyless : is_some x.me ≡ false = ap is_some me in
           let keeps = nullify_marked elect signature_of entries x follows.marked [] v x.nullify_votes (λ key. absurd (false≢true (sym keyless ∙ key))) in
-          subst (λ o. Follows (acts ++ acts_of_call {K = K} (ConstructNullify v) (Nullify o)) kept (entries ++ first_vote o) (after_construct_nullify x v)) (sym silent)
+          subst (λ o. Follows (deeds ++ deeds_of_call {K = K} (ConstructNullify v) (Nullify o)) kept (entries ++ first_vote o) (after_construct_nullify x v)) (sym silent)
           (rw (may, keyless) (nothing_follows (with_round x v (after_nullify (round_of x v))) keeps))
       by_key (Some m) me may =
           let told = nullify_told elect signature_of x v m me may in
           let keyed : is_some x.me ≡ true = ap is_some me in
-          subst (λ o. Follows (acts ++ acts_of_call {K = K} (ConstructNullify v) (Nullify o)) kept (entries ++ first_vote o) (after_construct_nullify x v)) (sym told)
+          subst (λ o. Follows (deeds ++ deeds_of_call {K = K} (ConstructNullify v) (Nullify o)) kept (entries ++ first_vote o) (after_construct_nullify x v)) (sym told)
           (rw (may, keyed) (by_retry m (is_nullify (round_of x v).decision) refl me may))
 
-      by_rule : (b : Bool) → may_nullify x v ≡ b → Follows (acts ++ acts_of_call {K = K} (ConstructNullify v) (Nullify (nullify_vote signature_of x v))) kept (entries ++ first_vote (nullify_vote signature_of x v)) (after_construct_nullify x v)
+      by_rule : (b : Bool) → may_nullify x v ≡ b → Follows (deeds ++ deeds_of_call {K = K} (ConstructNullify v) (Nullify (nullify_vote signature_of x v))) kept (entries ++ first_vote (nullify_vote signature_of x v)) (after_construct_nullify x v)
       by_rule true may = by_key x.me refl may
       by_rule false may =
           let silent = nullify_silent elect signature_of x v (no_rule (may_nullify x v) x.me may) in
-          subst (λ o. Follows (acts ++ acts_of_call {K = K} (ConstructNullify v) (Nullify o)) kept (entries ++ first_vote o) (after_construct_nullify x v)) (sym silent)
+          subst (λ o. Follows (deeds ++ deeds_of_call {K = K} (ConstructNullify v) (Nullify o)) kept (entries ++ first_vote o) (after_construct_nullify x v)) (sym silent)
           (rw may (nothing_follows x (marked_more entries [] x follows.marked)))
 
   -- a vote to finalize is recorded
 
-  finalize_follows : (v : ℕ) → Follows (acts ++ acts_of_call {K = K} (ConstructFinalize v) (Finalize (finalize_vote elect signature_of x v))) kept (entries ++ vote_entry (finalize_vote elect signature_of x v)) (after_construct_finalize elect x v)
+  finalize_follows : (v : ℕ) → Follows (deeds ++ deeds_of_call {K = K} (ConstructFinalize v) (Finalize (finalize_vote elect signature_of x v))) kept (entries ++ vote_entry (finalize_vote elect signature_of x v)) (after_construct_finalize elect x v)
   finalize_follows v = by_rule (may_finalize elect x v) refl
     where
-      by_held : (m : ℕ) (o : Option (Proposal D)) → (round_of x v).slot.held ≡ o → x.me ≡ Some m → may_finalize elect x v ≡ true → Follows (acts ++ acts_of_call {K = K} (ConstructFinalize v) (Finalize (finalize_vote elect signature_of x v))) kept (entries ++ vote_entry (finalize_vote elect signature_of x v)) (after_construct_finalize elect x v)
+      by_held : (m : ℕ) (o : Option (Proposal D)) → (round_of x v).slot.held ≡ o → x.me ≡ Some m → may_finalize elect x v ≡ true → Follows (deeds ++ deeds_of_call {K = K} (ConstructFinalize v) (Finalize (finalize_vote elect signature_of x v))) kept (entries ++ vote_entry (finalize_vote elect signature_of x v)) (after_construct_finalize elect x v)
       by_held m None holds me may =
           let alone = (and_parts (is_some (round_of x v).slot.held) _ (finalize_parts elect x v may).unequivocated).0 in
           absurd (false≢true (sym (ap is_some holds) ∙ alone))
       by_held m (Some h) holds me may =
           let rule = finalize_parts elect x v may in
           let told = finalize_told elect signature_of x v m h me may holds in
-          let named = held_notarized acts x.current x.finalized v (round_of x v) (stays.stands.rounds v) h rule.unequivocated rule.notarized holds in
+          let named = held_notarized deeds x.current x.finalized v (round_of x v) (stays.stands.rounds v) h rule.unequivocated rule.notarized holds in
           let verdict = follows.marked.certified v rule.certified in
           let signature = signature_of m (subject.Finalize h) in
           let new : List (ArtifactFacts D G) = FinalizeVote h m signature ∷ [] in
-          let next : Follows (acts ++ Cast (subject.Finalize h) ∷ []) kept (entries ++ new) (with_round x v (record (round_of x v) { decision = decision.Finalize })) = record {
-            remembers = remembers_more acts entries kept (Cast (subject.Finalize h) ∷ []) new (grows_finalize acts entries h m signature verdict.0 verdict.1 (verdict.2 ∙ sym named.0)) follows.remembers;
+          let next : Follows (deeds ++ Signs m (subject.Finalize h) signature ∷ []) kept (entries ++ new) (with_round x v (record (round_of x v) { decision = decision.Finalize })) = record {
+            remembers = remembers_more deeds entries kept (Signs m (subject.Finalize h) signature ∷ []) new (grows_finalize deeds entries h m signature verdict.0 verdict.1 (verdict.2 ∙ sym named.0)) follows.remembers;
             marked = finalize_marked elect signature_of entries x follows.marked new v;
           } in
-          subst (λ o. Follows (acts ++ acts_of_call {K = K} (ConstructFinalize v) (Finalize o)) kept (entries ++ vote_entry o) (after_construct_finalize elect x v)) (sym told) (rw may next)
+          subst (λ o. Follows (deeds ++ deeds_of_call {K = K} (ConstructFinalize v) (Finalize o)) kept (entries ++ vote_entry o) (after_construct_finalize elect x v)) (sym told) (rw may next)
 
-      by_key : (o : Option ℕ) → x.me ≡ o → may_finalize elect x v ≡ true → Follows (acts ++ acts_of_call {K = K} (ConstructFinalize v) (Finalize (finalize_vote elect signature_of x v))) kept (entries ++ vote_entry (finalize_vote elect signature_of x v)) (after_construct_finalize elect x v)
+      by_key : (o : Option ℕ) → x.me ≡ o → may_finalize elect x v ≡ true → Follows (deeds ++ deeds_of_call {K = K} (ConstructFinalize v) (Finalize (finalize_vote elect signature_of x v))) kept (entries ++ vote_entry (finalize_vote elect signature_of x v)) (after_construct_finalize elect x v)
       by_key None me may =
           let silent = finalize_silent elect signature_of x v (no_key (may_finalize elect x v) x.me me) in
-          subst (λ o. Follows (acts ++ acts_of_call {K = K} (ConstructFinalize v) (Finalize o)) kept (entries ++ vote_entry o) (after_construct_finalize elect x v)) (sym silent)
+          subst (λ o. Follows (deeds ++ deeds_of_call {K = K} (ConstructFinalize v) (Finalize o)) kept (entries ++ vote_entry o) (after_construct_finalize elect x v)) (sym silent)
           (rw may (nothing_follows _ (finalize_marked elect signature_of entries x follows.marked [] v)))
       by_key (Some m) me may = by_held m (round_of x v).slot.held refl me may
 
-      by_rule : (b : Bool) → may_finalize elect x v ≡ b → Follows (acts ++ acts_of_call {K = K} (ConstructFinalize v) (Finalize (finalize_vote elect signature_of x v))) kept (entries ++ vote_entry (finalize_vote elect signature_of x v)) (after_construct_finalize elect x v)
+      by_rule : (b : Bool) → may_finalize elect x v ≡ b → Follows (deeds ++ deeds_of_call {K = K} (ConstructFinalize v) (Finalize (finalize_vote elect signature_of x v))) kept (entries ++ vote_entry (finalize_vote elect signature_of x v)) (after_construct_finalize elect x v)
       by_rule true may = by_key x.me refl may
       by_rule false may =
           let silent = finalize_silent elect signature_of x v (no_rule (may_finalize elect x v) x.me may) in
-          subst (λ o. Follows (acts ++ acts_of_call {K = K} (ConstructFinalize v) (Finalize o)) kept (entries ++ vote_entry o) (after_construct_finalize elect x v)) (sym silent)
+          subst (λ o. Follows (deeds ++ deeds_of_call {K = K} (ConstructFinalize v) (Finalize o)) kept (entries ++ vote_entry o) (after_construct_finalize elect x v)) (sym silent)
           (rw may (nothing_follows x (marked_more entries [] x follows.marked)))
 
   -- each call that is allowed and not refused
-  pub call_follows : (call : CallFacts D) → is_allowed x call ≡ true → Follows (acts ++ acts_of_call call (answer same elect signature_of x call)) kept (entries ++ recorded_by same elect signature_of x call) (after_call same elect signature_of x call)
+  pub call_follows : (call : CallFacts D) → is_allowed x call ≡ true → Follows (deeds ++ deeds_of_call call (answer same elect signature_of x call)) kept (entries ++ recorded_by same elect signature_of x call) (after_call same elect signature_of x call)
   call_follows (AddNotarization c) allowed =
       let is_new = (notarization_added same elect x c).0 in
       let y = after_add_notarization same elect x c in
       record {
-        remembers = remembers_more acts entries kept (Accept (subject.Notarize c.proposal) ∷ []) (newly is_new (Accepted (Notarized c))) (grows_certificate acts entries is_new (Notarized c)) follows.remembers;
+        remembers = remembers_more deeds entries kept (Accepts (subject.Notarize c.proposal) ∷ []) (newly is_new (Accepted (Notarized c))) (grows_certificate deeds entries is_new (Notarized c)) follows.remembers;
         marked = marked_more entries (newly is_new (Accepted (Notarized c))) y (marked_few entries x y (few_add_notarization same elect x c) follows.marked);
       }
   call_follows (AddNullification c now) allowed =
       let is_new = nullification_added x c in
       let y = after_add_nullification elect x c now in
       record {
-        remembers = remembers_more acts entries kept (Accept (subject.Nullify c.round) ∷ []) (newly is_new (Accepted (Nullified c))) (grows_certificate acts entries is_new (Nullified c)) follows.remembers;
+        remembers = remembers_more deeds entries kept (Accepts (subject.Nullify c.round) ∷ []) (newly is_new (Accepted (Nullified c))) (grows_certificate deeds entries is_new (Nullified c)) follows.remembers;
         marked = marked_more entries (newly is_new (Accepted (Nullified c))) y (marked_few entries x y (few_add_nullification elect x c now) follows.marked);
       }
   call_follows (AddFinalization c now) allowed =
       let is_new = (finalization_added same elect x c).0 in
       let y = after_add_finalization same elect x c now in
       record {
-        remembers = remembers_more acts entries kept (Accept (subject.Finalize c.proposal) ∷ []) (newly is_new (Accepted (Finalized c))) (grows_certificate acts entries is_new (Finalized c)) follows.remembers;
+        remembers = remembers_more deeds entries kept (Accepts (subject.Finalize c.proposal) ∷ []) (newly is_new (Accepted (Finalized c))) (grows_certificate deeds entries is_new (Finalized c)) follows.remembers;
         marked = marked_more entries (newly is_new (Accepted (Finalized c))) y (marked_few entries x y (few_add_finalization same elect x c now) follows.marked);
       }
   call_follows (Certified v success now) allowed = certified_follows v success now allowed

@@ -24,7 +24,7 @@ use Rattle.simplex_voter.specs.Acceptance.{with_notarization_at, with_nullificat
 use Rattle.simplex_voter.proofs.Elsewhere.{round_of-with_round}
 use Rattle.simplex_types.proofs.Maps.{is_eq-nat_cmp}
 use Rattle.simplex_voter.proofs.Gaps.{and_parts}
-use Rattle.simplex_laws.proofs.LeavesVotes.{round_put}
+use Rattle.simplex_laws.proofs.Rounds.{round_put}
 use Rattle.simplex_laws.proofs.Calm.{Calm, calm, calm_joined, calm_alike, calm_led, calm_token, calm_nullification, calm_notarization, calm_finalization}
 
 -- no view below `base` is tracked

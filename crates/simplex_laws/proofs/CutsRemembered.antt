@@ -1,4 +1,4 @@
--- A copy of a record by view, a record without its last entries, and a pruned one remember the acts.
+-- A copy of a record by view, a record without its last entries, and a pruned one remember the deeds.
 use Rattle.std.proofs.Common.{◌≡◌, refl, ap, sym, ◌∙◌, subst, ℕ, inl, inr, Bool, true, false, nat_le, max, List, [], ◌∷◌, ◌++◌, append_assoc, Contains, filter, arith}
 use Rattle.std.specs.Prelude.{◌==◌}
 use Rattle.std.proofs.lemmas.Bool.{cases_Bool, false≢true, eq-eqb, leb-false}
@@ -9,18 +9,17 @@ use Rattle.simplex_types.specs.Config.{FloorFacts, Genesis, Finalized as Finaliz
 use Rattle.simplex_types.specs.declared.types.messages.Proposal.{Proposal}
 use Rattle.simplex_types.specs.declared.types.messages.Subject.TheVariants as subject
 use Rattle.simplex_types.specs.declared.types.numbers.Round.{Round}
-use Rattle.simplex_laws.specs.Acts.{Act, Accept}
 use Rattle.simplex_member.specs.Check.{stands}
 use Rattle.simplex_member.specs.Cuts.{is_vote}
 use Rattle.simplex_member.specs.Entries.{entry_view}
-use Rattle.simplex_laws.specs.CallActs.{floor_acts}
 use Rattle.simplex_member.specs.Recovery.{is_finalization, with_floor}
+use Rattle.simplex_laws.specs.Deeds.{Deed, Accepts, of_floor}
 use Rattle.simplex_laws.proofs.VoteOrder.{Contains-middle}
 use Rattle.simplex_laws.proofs.Filters.{filter_split, filter_middle, Contains-filter, Contains-filtered, filtered_passes}
 use Rattle.simplex_laws.proofs.Recalls.{Remembers}
 use Rattle.simplex_laws.proofs.Remembering.{remembers_more, grows_certificate}
 
-module _ {D G : Type 0} (acts : List (Act D)) (kept : ℕ) (entries : List (ArtifactFacts D G)) (remembers : Remembers acts kept entries) where
+module _ {D G : Type 0} (deeds : List (Deed D G)) (kept : ℕ) (entries : List (ArtifactFacts D G)) (remembers : Remembers deeds kept entries) where
   -- entries of each view in the same order
 
   module _ (copy : List (ArtifactFacts D G)) (of_each_view : (v : ℕ) → filter (λ e. entry_view e == v) copy ≡ filter (λ e. entry_view e == v) entries) where
@@ -45,7 +44,7 @@ module _ {D G : Type 0} (acts : List (Act D)) (kept : ℕ) (entries : List (Arti
         let kept_there : Contains (filter test whole.0) (Verdict verdict.0 true) = Contains-filter test whole.0 (Verdict verdict.0 true) verdict.1 (eq-eqb verdict.0.view v verdict.2) in
         (verdict.0, Contains-filtered test before (Verdict verdict.0 true) (subst (λ es. Contains es (Verdict verdict.0 true)) (sym whole.3) kept_there), verdict.2)
 
-    pub copy_remembers : Remembers acts kept copy
+    pub copy_remembers : Remembers deeds kept copy
     copy_remembers = record {
       accepted = λ c h. remembers.accepted c (in_record (Accepted c) h);
       nullify_cast = λ round m signature h. remembers.nullify_cast round m signature (in_record (NullifyVote round m signature) h);
@@ -58,7 +57,7 @@ module _ {D G : Type 0} (acts : List (Act D)) (kept : ℕ) (entries : List (Arti
 
   -- without last entries that are no votes
 
-  pub left_remembers : (left tail : List (ArtifactFacts D G)) → entries ≡ left ++ tail → ((e : ArtifactFacts D G) → Contains tail e → is_vote e ≡ false) → Remembers acts kept left
+  pub left_remembers : (left tail : List (ArtifactFacts D G)) → entries ≡ left ++ tail → ((e : ArtifactFacts D G) → Contains tail e → is_vote e ≡ false) → Remembers deeds kept left
   left_remembers left tail split no_votes = record {
     accepted = λ c h. remembers.accepted c (there (Accepted c) h);
     nullify_cast = λ round m signature h. remembers.nullify_cast round m signature (there (NullifyVote round m signature) h);
@@ -80,7 +79,7 @@ module _ {D G : Type 0} (acts : List (Act D)) (kept : ℕ) (entries : List (Arti
 
   -- without what stands below a view
 
-  pub bounded_remembers : (bound : ℕ) → Remembers acts (max kept bound) (filter (λ e. nat_le bound (entry_view e)) entries)
+  pub bounded_remembers : (bound : ℕ) → Remembers deeds (max kept bound) (filter (λ e. nat_le bound (entry_view e)) entries)
   bounded_remembers bound = record {
     accepted = λ c h. remembers.accepted c (Contains-filtered test entries (Accepted c) h);
     nullify_cast = λ round m signature h. remembers.nullify_cast round m signature (Contains-filtered test entries (NullifyVote round m signature) h);
@@ -114,10 +113,10 @@ module _ {D G : Type 0} (acts : List (Act D)) (kept : ℕ) (entries : List (Arti
 
   -- with the floor's finalization
 
-  pub floor_remembers : (floor : FloorFacts D) → Remembers (acts ++ floor_acts floor) kept (with_floor entries floor)
-  floor_remembers (Genesis _) = subst (λ a. Remembers a kept entries) (sym (append-nil acts)) remembers
+  pub floor_remembers : (floor : FloorFacts D) → Remembers (deeds ++ of_floor floor) kept (with_floor entries floor)
+  floor_remembers (Genesis _) = subst (λ a. Remembers a kept entries) (sym (append-nil deeds)) remembers
   floor_remembers (FinalizedFloor c) = by_record (stands c.proposal.round.view is_finalization entries) refl
     where
-      by_record : (b : Bool) → stands c.proposal.round.view is_finalization entries ≡ b → Remembers (acts ++ Accept (subject.Finalize c.proposal) ∷ []) kept (with_floor entries (FinalizedFloor c))
-      by_record true is = rw is (subst (λ es. Remembers (acts ++ Accept (subject.Finalize c.proposal) ∷ []) kept es) (append-nil entries) (remembers_more acts entries kept (Accept (subject.Finalize c.proposal) ∷ []) [] (grows_certificate acts entries false (Finalized c)) remembers))
-      by_record false is = rw is (remembers_more acts entries kept (Accept (subject.Finalize c.proposal) ∷ []) (Accepted (Finalized c) ∷ []) (grows_certificate acts entries true (Finalized c)) remembers)
+      by_record : (b : Bool) → stands c.proposal.round.view is_finalization entries ≡ b → Remembers (deeds ++ Accepts (subject.Finalize c.proposal) ∷ []) kept (with_floor entries (FinalizedFloor c))
+      by_record true is = rw is (subst (λ es. Remembers (deeds ++ Accepts (subject.Finalize c.proposal) ∷ []) kept es) (append-nil entries) (remembers_more deeds entries kept (Accepts (subject.Finalize c.proposal) ∷ []) [] (grows_certificate deeds entries false (Finalized c)) remembers))
+      by_record false is = rw is (remembers_more deeds entries kept (Accepts (subject.Finalize c.proposal) ∷ []) (Accepted (Finalized c) ∷ []) (grows_certificate deeds entries true (Finalized c)) remembers)

@@ -13,7 +13,7 @@ use Rattle.simplex_voter.proofs.Elsewhere.{round_of-with_round}
 use Rattle.simplex_voter.proofs.Walked.{find-changed}
 use Rattle.simplex_laws.specs.Events.{Event, after_event, Prune}
 use Rattle.simplex_laws.specs.Sums.{is_prune}
-use Rattle.simplex_laws.proofs.LeavesVotes.{round_put}
+use Rattle.simplex_laws.proofs.Rounds.{round_put}
 use Rattle.simplex_laws.proofs.NotedVotes.{tied}
 use Rattle.simplex_laws.proofs.Steps as step
 use Rattle.simplex_laws.proofs.Steps.{RoundStep, Step, Path, Puts, Raises, Strays, Prunes, Still, Then}

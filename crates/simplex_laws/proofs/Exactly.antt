@@ -22,8 +22,9 @@ use Rattle.simplex_member.specs.Runs.{StepFacts, Calls, Works, Restarts, restart
 use Rattle.simplex_member.specs.Restarts.{RestartFacts}
 use Rattle.simplex_member.specs.Start.{started}
 use Rattle.simplex_member.specs.Work.{WorkCall, SetProposal, TryPropose, Proposed, SupersedeProposalRequest, PendingHandoffAbandonment, ReleaseProposalRequest, TryVerify, Verified, VerificationFailed, ConstructNotarize, CertifyCandidates, SetCertifyHandle, TriggerTimeout, NextTimeout, work_allowed, work_fault, work_answer, work_reply, IsWorkOf, IsWork}
-use Rattle.simplex_laws.specs.Stories.{Story, Deed, Signs, signed_in}
 use Rattle.simplex_laws.specs.Exactly.{is_refused, IsSignedFor, IsExact, held, ExactAt, SignsExactly}
+use Rattle.simplex_laws.specs.Deeds.{Deed, Signs, signed_in}
+use Rattle.simplex_laws.specs.Stories.{Story}
 
 is_only : {X : Type 0} (y x : X) → Contains (y ∷ []) x → y ≡ x
 is_only y x (zero, less, same) = same

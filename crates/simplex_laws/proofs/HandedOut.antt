@@ -22,7 +22,7 @@ use Rattle.simplex_laws.proofs.CallsMake.{is_floor, call_by_event, work_by_event
 use Rattle.simplex_laws.proofs.Rising.{floor_goes, event_goes}
 use Rattle.simplex_laws.proofs.Sound.{nothing_stands}
 use Rattle.simplex_laws.specs.Events.{Event, IsEvent, after_event}
-use Rattle.simplex_laws.proofs.LeavesVotes.{round_put}
+use Rattle.simplex_laws.proofs.Rounds.{round_put}
 use Rattle.simplex_laws.proofs.WithinLives.{InOrderly, call_outcome}
 
 -- the view's certificate is not to be handed out any more: it was, or none stands there and none comes

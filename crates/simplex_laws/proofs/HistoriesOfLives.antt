@@ -26,13 +26,13 @@ use Rattle.simplex_laws.specs.Histories.{in_context, work_events, with_work, ret
 use Rattle.simplex_member.specs.Lives.{MemberFacts, fallen, reply_of, left_of, AnswersAlive, IsCall}
 use Rattle.simplex_member.specs.Recovery.{as_artifact, replayed, retaken, taken, all_taken, recovered, recover_error, TakesEntry, TakesEntries}
 use Rattle.simplex_member.specs.Restarts.{RestartFacts, IsByView, IsRestart, IsRestartWhere, GoesOn, new_life, cut, retention_grows}
-use Rattle.simplex_laws.specs.RunActs.{IsFresh, BeginFresh}
 use Rattle.simplex_member.specs.Runs.{StepFacts, Calls, Works, Restarts, restart_told, IsRun}
 use Rattle.simplex_laws.specs.Shows.{Shows}
 use Rattle.simplex_member.specs.Start.{StartFacts, started}
 use Rattle.simplex_laws.specs.Sums.{finalized_in}
 use Rattle.simplex_member.proofs.Allowing.{new_bears}
 use Rattle.simplex_member.proofs.Bearing.{BearsAll}
+use Rattle.simplex_laws.specs.Fresh.{IsFresh, BeginFresh}
 use Rattle.simplex_laws.proofs.Histories.{event_shown}
 use Rattle.simplex_laws.proofs.NewLives.{first_none}
 use Rattle.simplex_member.proofs.Remaking.{set_takes}

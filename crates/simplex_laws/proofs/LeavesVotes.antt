@@ -1,22 +1,15 @@
 -- Changes of a state's facts that leave what the voting rules rest on: proposals, notarizations, verdicts and votes.
-use Rattle.std.proofs.Common.{◌≡◌, refl, ap, sym, ◌∙◌, subst, ℕ, ◌+◌, ◌-◌, ◌≤◌, Bool, true, false, ◌&&◌, ◌||◌, not, cond, if◌then◌else◌, nat_lt, nat_le, List, [], ◌∷◌, Option, Some, None, is_some, unwrap_or, arith, inl, inr}
+use Rattle.std.proofs.Common.{◌≡◌, refl, sym, ◌∙◌, subst, ℕ, ◌+◌, ◌-◌, ◌≤◌, Bool, true, false, ◌&&◌, ◌||◌, not, cond, if◌then◌else◌, nat_lt, nat_le, List, [], ◌∷◌, Option, Some, None, is_some, arith, inl, inr}
 use Rattle.std.specs.List.{fold}
 use Rattle.std.specs.Option.{option_map_or}
-use Rattle.std.specs.Ordering.{nat_cmp}
-use Rattle.std.specs.Cmp.{nat_cmp_total}
-use Rattle.std.specs.FinMap.Entries.{find, find-put}
-use Rattle.std.proofs.lemmas.Bool.{cases_eq, eq-eqb}
+use Rattle.std.proofs.lemmas.Bool.{cases_eq}
 use Rattle.std.proofs.lemmas.Bool.Decides.{nat_tests}
-use Rattle.simplex_types.proofs.Maps.{is_eq-nat_cmp}
 use Rattle.simplex_types.specs.Certificates.{NullificationFacts}
 use Rattle.simplex_types.specs.declared.reasons.TimeoutReason.{TimeoutReason}
 use Rattle.simplex_round.specs.declared.round.Leader.{Leader}
 use Rattle.simplex_round.specs.declared.round.Decision.{Decision}
-use Rattle.simplex_round.specs.declared.round.Decision.TheVariants as decision
-use Rattle.simplex_round.specs.declared.round.Certification.{Certification}
-use Rattle.simplex_round.specs.declared.round.Certification.TheVariants as certification
-use Rattle.simplex_round.specs.Round.{RoundFacts, leader_at, new_round, armed, latched, with_latch, is_nullify, is_finalize, is_certified, token_of, after_abort}
-use Rattle.simplex_voter.specs.Facts.{Facts, Elect, round_at, round_of, round_number, is_tracked, with_round, with_tracked}
+use Rattle.simplex_round.specs.Round.{RoundFacts, leader_at, with_latch, is_nullify, is_finalize, is_certified, token_of, after_abort}
+use Rattle.simplex_voter.specs.Facts.{Facts, Elect, round_at, round_of, is_tracked, with_round, with_tracked}
 use Rattle.simplex_voter.specs.Entering.{at_moment, entered, entered_round}
 use Rattle.simplex_voter.specs.Leaders.{has_leader, led, inherited, opened_views, slid, elected}
 use Rattle.simplex_voter.specs.Timeouts.{triggered, is_contradicted}
@@ -24,6 +17,7 @@ use Rattle.simplex_voter.specs.Certification.{named_also, waits_for, woken, with
 use Rattle.simplex_voter.specs.Acceptance.{nullified_also, with_nullification_at, with_finalization_broadcast}
 use Rattle.simplex_voter.specs.Serving.{after_broadcast_notarization, after_broadcast_nullification, after_broadcast_finalization}
 use Rattle.simplex_voter.proofs.Elsewhere.{round_of-with_round}
+use Rattle.simplex_laws.proofs.Rounds.{round_put, armed_nullify, armed_finalize, latched_nullify, latched_finalize, aborted_certified}
 
 -- a round with the same proposal, notarization, verdict and votes
 pub record VotesAlike {K D : Type 0} (r s : RoundFacts K D) : Type 0 where
@@ -61,34 +55,6 @@ module _ {K D : Type 0} where
   decided_alike r d same_nullify same_finalize =
       record { slot = refl; notarization = refl; certified = refl; nullify = same_nullify; finalize = same_finalize }
 
-pub armed_nullify : (d : Decision) (a b : ℕ) → is_nullify (armed d a b) ≡ is_nullify d
-armed_nullify (decision.Pending _ _ _) a b = refl
-armed_nullify (decision.Nullify _) a b = refl
-armed_nullify decision.Finalize a b = refl
-
-pub armed_finalize : (d : Decision) (a b : ℕ) → is_finalize (armed d a b) ≡ is_finalize d
-armed_finalize (decision.Pending _ _ _) a b = refl
-armed_finalize (decision.Nullify _) a b = refl
-armed_finalize decision.Finalize a b = refl
-
-pub latched_nullify : (d : Decision) (t : ℕ × TimeoutReason) → is_nullify (latched d t) ≡ is_nullify d
-latched_nullify (decision.Pending _ _ None) t = refl
-latched_nullify (decision.Pending _ _ (Some _)) t = refl
-latched_nullify (decision.Nullify _) t = refl
-latched_nullify decision.Finalize t = refl
-
-pub latched_finalize : (d : Decision) (t : ℕ × TimeoutReason) → is_finalize (latched d t) ≡ is_finalize d
-latched_finalize (decision.Pending _ _ None) t = refl
-latched_finalize (decision.Pending _ _ (Some _)) t = refl
-latched_finalize (decision.Nullify _) t = refl
-latched_finalize decision.Finalize t = refl
-
-pub aborted_certified : (c : Certification) → is_certified (after_abort c) ≡ is_certified c
-aborted_certified certification.Ready = refl
-aborted_certified (certification.Outstanding _) = refl
-aborted_certified (certification.Judged _) = refl
-aborted_certified certification.Aborted = refl
-
 module _ {K D : Type 0} where
   pub latch_alike : (r : RoundFacts K D) (now : ℕ) (reason : TimeoutReason) → VotesAlike r (with_latch r now reason)
   latch_alike r now reason = decided_alike r _ (latched_nullify r.decision (now, reason)) (latched_finalize r.decision (now, reason))
@@ -118,12 +84,6 @@ module _ {K L D : Type 0} where
   pub leaves_if : (x : Facts K L D) (b : Bool) (y z : Facts K L D) → LeavesVotes x y → LeavesVotes x z → LeavesVotes x (if b then y else z)
   leaves_if x true y z p q = p
   leaves_if x false y z p q = q
-
-  -- the round that was put at a view stands there
-  pub round_put : (x : Facts K L D) (v : ℕ) (r : RoundFacts K D) → round_of (with_round x v r) v ≡ r
-  round_put x v r =
-      ap (λ found. unwrap_or found (new_round x.me x.members (round_number x v)))
-      (find-put nat_cmp nat_cmp_total v v r x.rounds ∙ ap (λ b. cond b (Some r) (find nat_cmp v x.rounds)) (is_eq-nat_cmp v v ∙ eq-eqb v v refl))
 
   pub put_leaves : (x : Facts K L D) (v : ℕ) (r : RoundFacts K D) → VotesAlike (round_of x v) r → LeavesVotes x (with_round x v r)
   put_leaves x v r same = record { me = refl; settings = refl; terms = refl; current = omega arith; finalized = refl; nullify_votes = refl; rounds = rounds }

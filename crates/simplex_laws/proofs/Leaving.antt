@@ -13,10 +13,9 @@ use Rattle.simplex_types.specs.declared.types.messages.Proposal.{Proposal}
 use Rattle.simplex_types.specs.declared.reasons.TimeoutReason.{TimeoutReason}
 use Rattle.simplex_round.specs.declared.round.Leader.{Leader}
 use Rattle.simplex_round.specs.declared.round.Decision.{Decision}
-use Rattle.simplex_round.specs.declared.round.Decision.TheVariants as decision
 use Rattle.simplex_round.specs.declared.round.Certification.{Certification}
 use Rattle.simplex_round.specs.declared.round.Certification.TheVariants as certification
-use Rattle.simplex_round.specs.Round.{RoundFacts, leader_at, new_round, armed, latched, with_latch, is_nullify, is_finalize, token_of, after_abort}
+use Rattle.simplex_round.specs.Round.{RoundFacts, leader_at, new_round, with_latch, is_nullify, is_finalize, token_of, after_abort}
 use Rattle.simplex_voter.specs.Facts.{Facts, Elect, round_at, round_of, round_number, is_tracked, with_round, with_tracked}
 use Rattle.simplex_voter.specs.Windows.{in_window}
 use Rattle.simplex_voter.specs.Payloads.{is_elected_early}
@@ -26,6 +25,7 @@ use Rattle.simplex_voter.specs.Timeouts.{triggered, is_contradicted}
 use Rattle.simplex_voter.specs.Certification.{named_also, waits_for, woken, without_token, raised}
 use Rattle.simplex_laws.specs.Shows.{verdict_of}
 use Rattle.simplex_member.proofs.Growing.{round_of-put, round_of-same}
+use Rattle.simplex_laws.proofs.Rounds.{armed_nullify, armed_finalize, latched_nullify, latched_finalize}
 
 -- what histories say of a view
 pub record Known (D : Type 0) : Type 0 where
@@ -88,28 +88,6 @@ aborted_verdict certification.Aborted = refl
 pub from_T : (b : Bool) → T b → b ≡ true
 from_T true is = refl
 from_T false is = absurd is
-
-armed_nullify : (d : Decision) (a b : ℕ) → is_nullify (armed d a b) ≡ is_nullify d
-armed_nullify (decision.Pending _ _ _) a b = refl
-armed_nullify (decision.Nullify _) a b = refl
-armed_nullify decision.Finalize a b = refl
-
-armed_finalize : (d : Decision) (a b : ℕ) → is_finalize (armed d a b) ≡ is_finalize d
-armed_finalize (decision.Pending _ _ _) a b = refl
-armed_finalize (decision.Nullify _) a b = refl
-armed_finalize decision.Finalize a b = refl
-
-latched_nullify : (d : Decision) (t : ℕ × TimeoutReason) → is_nullify (latched d t) ≡ is_nullify d
-latched_nullify (decision.Pending _ _ None) t = refl
-latched_nullify (decision.Pending _ _ (Some _)) t = refl
-latched_nullify (decision.Nullify _) t = refl
-latched_nullify decision.Finalize t = refl
-
-latched_finalize : (d : Decision) (t : ℕ × TimeoutReason) → is_finalize (latched d t) ≡ is_finalize d
-latched_finalize (decision.Pending _ _ None) t = refl
-latched_finalize (decision.Pending _ _ (Some _)) t = refl
-latched_finalize (decision.Nullify _) t = refl
-latched_finalize decision.Finalize t = refl
 
 module _ {K D : Type 0} where
   pub alike : (r : RoundFacts K D) → Alike r r

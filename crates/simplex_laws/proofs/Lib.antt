@@ -1,9 +1,8 @@
-pub mod Quorums
-pub mod VoteOrder
-pub mod Claims
 pub mod Splits
+pub mod Signed
+pub mod VoteOrder
 pub mod Lawful
-pub mod AgreementExample
+pub mod Rounds
 pub mod LeavesVotes
 pub mod Standing
 pub mod StandingRounds
@@ -41,6 +40,8 @@ pub mod NotesRecovered
 pub mod NewLives
 pub mod WorkLives
 pub mod RunsLawful
+pub mod Quorums
+pub mod Claims
 pub mod Rising
 pub mod WithinLives
 pub mod Lasting
@@ -57,8 +58,6 @@ pub mod ShownVerdicts
 pub mod RecoveredVerdicts
 pub mod WorkVerdicts
 pub mod OwnRuns
-pub mod Plays
-pub mod RunExample
 pub mod Leaving
 pub mod Following
 pub mod FollowingHanded
@@ -99,7 +98,6 @@ pub mod Verdicts
 pub mod StandingSteps
 pub mod RunsKeep
 pub mod Exactly
-pub mod Placing
 pub mod Scripts
 pub mod Living
 pub mod Shown

@@ -1,4 +1,4 @@
--- Each call of a life keeps the voting rules, with the acts that it shows.
+-- Each call of a life keeps the voting rules, with the deeds that it shows.
 use Rattle.std.proofs.Common.{◌≡◌, refl, ap, sym, ◌∙◌, subst, ℕ, Bool, true, false, ◌&&◌, List, [], ◌∷◌, ◌++◌, Option, Some, None, is_some}
 use Rattle.std.specs.Prelude.{option_map, option_and_then}
 use Rattle.std.proofs.lemmas.Bool.{false≢true}
@@ -14,19 +14,19 @@ use Rattle.simplex_voter.specs.Votes.{nullify_answer, after_construct_nullify, f
 use Rattle.simplex_voter.specs.Serving.{after_broadcast_notarization, after_broadcast_nullification, after_broadcast_finalization}
 use Rattle.simplex_voter.proofs.Gaps.{and_parts}
 use Rattle.simplex_voter.proofs.Rules.{nullify_parts, finalize_parts}
-use Rattle.simplex_laws.specs.Acts.{Act, Accept, Cast, IsLawful}
 use Rattle.simplex_member.specs.Calls.{CallFacts, AddNotarization, AddNullification, AddFinalization, Certified, ConstructNullify, ConstructFinalize, BroadcastNotarization, BroadcastNullification, BroadcastFinalization, GetBestCertificate, Prune, Nullify, Finalize, nullify_vote, finalize_vote, answer, after_call}
-use Rattle.simplex_laws.specs.CallActs.{acts_of_call}
+use Rattle.simplex_laws.specs.Deeds.{Deed, Accepts, Signs, deeds_of_call}
+use Rattle.simplex_laws.specs.Lawful.{IsLawful}
 use Rattle.simplex_laws.proofs.LeavesVotes.{broadcast_notarization_leaves, broadcast_nullification_leaves, broadcast_finalization_leaves}
 use Rattle.simplex_laws.proofs.Standing.{Stays, stays_left}
 use Rattle.simplex_laws.proofs.Lawful.{lawful_push}
 use Rattle.simplex_laws.proofs.StandingCalls.{certified_stays, prune_stays, notarization_stays, nullification_stays, finalization_stays}
 use Rattle.simplex_laws.proofs.StandingVotes.{nullify_allowed, nullify_decided, nullify_voted, finalize_allowed, finalize_decided, finalize_voted}
 
--- what each call of a life keeps: its acts are lawful, and its facts show them
-pub record KeepsRules {K L D : Type 0} (term_length : ℕ) (acts : List (Act D)) (x : Facts K L D) : Type 0 where
-  pub lawful : IsLawful term_length acts
-  pub stays : Stays term_length acts x
+-- what each call of a life keeps: its deeds are lawful, and its facts show them
+pub record KeepsRules {K L D G : Type 0} (term_length : ℕ) (deeds : List (Deed D G)) (x : Facts K L D) : Type 0 where
+  pub lawful : IsLawful term_length deeds
+  pub stays : Stays term_length deeds x
 
 pub none_follows : {A B : Type 0} (f : A → Option B) (o : Option A) → ((a : A) → f a ≡ None) → option_and_then f o ≡ None
 none_follows f None no_value = refl
@@ -61,82 +61,82 @@ pub no_rule : (b : Bool) (o : Option ℕ) → b ≡ false → (is_some o && b) �
 no_rule b None no_vote = refl
 no_rule b (Some m) no_vote = no_vote
 
-module _ {K L D G : Type 0} (elect : Elect L) (signature_of : ℕ → Subject D → G) (term_length : ℕ) (acts : List (Act D)) where
-  -- the rules are kept with one more call that shows no act
-  nothing_shown : (y : Facts K L D) → IsLawful term_length acts → Stays term_length acts y → KeepsRules term_length (acts ++ []) y
-  nothing_shown y lawful stays = subst (λ a. KeepsRules term_length a y) (sym (append-nil acts)) (record { lawful = lawful; stays = stays })
+module _ {K L D G : Type 0} (elect : Elect L) (signature_of : ℕ → Subject D → G) (term_length : ℕ) (deeds : List (Deed D G)) where
+  -- the rules are kept with one more call that shows no deed
+  nothing_shown : (y : Facts K L D) → IsLawful term_length deeds → Stays term_length deeds y → KeepsRules term_length (deeds ++ []) y
+  nothing_shown y lawful stays = subst (λ a. KeepsRules term_length a y) (sym (append-nil deeds)) (record { lawful = lawful; stays = stays })
 
-  nullify_keeps : (x : Facts K L D) (v : ℕ) → KeepsRules term_length acts x → KeepsRules term_length (acts ++ acts_of_call {K = K} (ConstructNullify v) (Nullify (nullify_vote signature_of x v))) (after_construct_nullify x v)
+  nullify_keeps : (x : Facts K L D) (v : ℕ) → KeepsRules term_length deeds x → KeepsRules term_length (deeds ++ deeds_of_call {K = K} (ConstructNullify v) (Nullify (nullify_vote signature_of x v))) (after_construct_nullify x v)
   nullify_keeps x v keeps = by_rule (may_nullify x v) refl
     where
-      by_key : (o : Option ℕ) → x.me ≡ o → may_nullify x v ≡ true → KeepsRules term_length (acts ++ acts_of_call {K = K} (ConstructNullify v) (Nullify (nullify_vote signature_of x v))) (after_construct_nullify x v)
+      by_key : (o : Option ℕ) → x.me ≡ o → may_nullify x v ≡ true → KeepsRules term_length (deeds ++ deeds_of_call {K = K} (ConstructNullify v) (Nullify (nullify_vote signature_of x v))) (after_construct_nullify x v)
       by_key None me may =
           let silent = nullify_silent elect signature_of x v (no_key (may_nullify x v) x.me me) in
           let keyless : is_some x.me ≡ false = ap is_some me in
-          subst (λ o. KeepsRules term_length (acts ++ acts_of_call {K = K} (ConstructNullify v) (Nullify o)) (after_construct_nullify x v)) (sym silent)
-          (rw (may, keyless) (nothing_shown _ keeps.lawful (nullify_decided term_length acts x v keeps.stays (nullify_parts x v may))))
+          subst (λ o. KeepsRules term_length (deeds ++ deeds_of_call {K = K} (ConstructNullify v) (Nullify o)) (after_construct_nullify x v)) (sym silent)
+          (rw (may, keyless) (nothing_shown _ keeps.lawful (nullify_decided term_length deeds x v keeps.stays (nullify_parts x v may))))
       by_key (Some m) me may =
           let told = nullify_told elect signature_of x v m me may in
           let keyed : is_some x.me ≡ true = ap is_some me in
-          subst (λ o. KeepsRules term_length (acts ++ acts_of_call {K = K} (ConstructNullify v) (Nullify o)) (after_construct_nullify x v)) (sym told)
+          subst (λ o. KeepsRules term_length (deeds ++ deeds_of_call {K = K} (ConstructNullify v) (Nullify o)) (after_construct_nullify x v)) (sym told)
           (rw (may, keyed) (record {
-            lawful = lawful_push term_length acts (Cast (subject.Nullify (round_number x v))) keeps.lawful (nullify_allowed term_length acts x v keeps.stays (nullify_parts x v may));
-            stays = nullify_voted term_length acts x v keeps.stays (nullify_parts x v may);
+            lawful = lawful_push term_length deeds (Signs m (subject.Nullify (round_number x v)) (signature_of m (subject.Nullify (round_number x v)))) keeps.lawful (nullify_allowed term_length deeds x v keeps.stays (nullify_parts x v may));
+            stays = nullify_voted term_length deeds x v keeps.stays m (signature_of m (subject.Nullify (round_number x v))) (nullify_parts x v may);
           }))
 
-      by_rule : (b : Bool) → may_nullify x v ≡ b → KeepsRules term_length (acts ++ acts_of_call {K = K} (ConstructNullify v) (Nullify (nullify_vote signature_of x v))) (after_construct_nullify x v)
+      by_rule : (b : Bool) → may_nullify x v ≡ b → KeepsRules term_length (deeds ++ deeds_of_call {K = K} (ConstructNullify v) (Nullify (nullify_vote signature_of x v))) (after_construct_nullify x v)
       by_rule true may = by_key x.me refl may
       by_rule false may =
           let silent = nullify_silent elect signature_of x v (no_rule (may_nullify x v) x.me may) in
-          subst (λ o. KeepsRules term_length (acts ++ acts_of_call {K = K} (ConstructNullify v) (Nullify o)) (after_construct_nullify x v)) (sym silent)
+          subst (λ o. KeepsRules term_length (deeds ++ deeds_of_call {K = K} (ConstructNullify v) (Nullify o)) (after_construct_nullify x v)) (sym silent)
           (rw may (nothing_shown x keeps.lawful keeps.stays))
 
-  finalize_keeps : (x : Facts K L D) (v : ℕ) → KeepsRules term_length acts x → KeepsRules term_length (acts ++ acts_of_call {K = K} (ConstructFinalize v) (Finalize (finalize_vote elect signature_of x v))) (after_construct_finalize elect x v)
+  finalize_keeps : (x : Facts K L D) (v : ℕ) → KeepsRules term_length deeds x → KeepsRules term_length (deeds ++ deeds_of_call {K = K} (ConstructFinalize v) (Finalize (finalize_vote elect signature_of x v))) (after_construct_finalize elect x v)
   finalize_keeps x v keeps = by_rule (may_finalize elect x v) refl
     where
-      by_held : (m : ℕ) (o : Option (Proposal D)) → (round_of x v).slot.held ≡ o → x.me ≡ Some m → may_finalize elect x v ≡ true → KeepsRules term_length (acts ++ acts_of_call {K = K} (ConstructFinalize v) (Finalize (finalize_vote elect signature_of x v))) (after_construct_finalize elect x v)
+      by_held : (m : ℕ) (o : Option (Proposal D)) → (round_of x v).slot.held ≡ o → x.me ≡ Some m → may_finalize elect x v ≡ true → KeepsRules term_length (deeds ++ deeds_of_call {K = K} (ConstructFinalize v) (Finalize (finalize_vote elect signature_of x v))) (after_construct_finalize elect x v)
       by_held m None holds me may =
           let alone = (and_parts (is_some (round_of x v).slot.held) _ (finalize_parts elect x v may).unequivocated).0 in
           absurd (false≢true (sym (ap is_some holds) ∙ alone))
       by_held m (Some h) holds me may =
           let told = finalize_told elect signature_of x v m h me may holds in
-          subst (λ o. KeepsRules term_length (acts ++ acts_of_call {K = K} (ConstructFinalize v) (Finalize o)) (after_construct_finalize elect x v)) (sym told)
+          subst (λ o. KeepsRules term_length (deeds ++ deeds_of_call {K = K} (ConstructFinalize v) (Finalize o)) (after_construct_finalize elect x v)) (sym told)
           (rw may (record {
-            lawful = lawful_push term_length acts (Cast (subject.Finalize h)) keeps.lawful (finalize_allowed term_length acts x v keeps.stays elect h (finalize_parts elect x v may) holds);
-            stays = finalize_voted term_length acts x v keeps.stays elect h (finalize_parts elect x v may) holds;
+            lawful = lawful_push term_length deeds (Signs m (subject.Finalize h) (signature_of m (subject.Finalize h))) keeps.lawful (finalize_allowed term_length deeds x v keeps.stays elect h (finalize_parts elect x v may) holds);
+            stays = finalize_voted term_length deeds x v keeps.stays elect h m (signature_of m (subject.Finalize h)) (finalize_parts elect x v may) holds;
           }))
 
-      by_key : (o : Option ℕ) → x.me ≡ o → may_finalize elect x v ≡ true → KeepsRules term_length (acts ++ acts_of_call {K = K} (ConstructFinalize v) (Finalize (finalize_vote elect signature_of x v))) (after_construct_finalize elect x v)
+      by_key : (o : Option ℕ) → x.me ≡ o → may_finalize elect x v ≡ true → KeepsRules term_length (deeds ++ deeds_of_call {K = K} (ConstructFinalize v) (Finalize (finalize_vote elect signature_of x v))) (after_construct_finalize elect x v)
       by_key None me may =
           let silent = finalize_silent elect signature_of x v (no_key (may_finalize elect x v) x.me me) in
-          subst (λ o. KeepsRules term_length (acts ++ acts_of_call {K = K} (ConstructFinalize v) (Finalize o)) (after_construct_finalize elect x v)) (sym silent)
-          (rw may (nothing_shown _ keeps.lawful (finalize_decided term_length acts x v keeps.stays elect (finalize_parts elect x v may))))
+          subst (λ o. KeepsRules term_length (deeds ++ deeds_of_call {K = K} (ConstructFinalize v) (Finalize o)) (after_construct_finalize elect x v)) (sym silent)
+          (rw may (nothing_shown _ keeps.lawful (finalize_decided term_length deeds x v keeps.stays elect (finalize_parts elect x v may))))
       by_key (Some m) me may = by_held m (round_of x v).slot.held refl me may
 
-      by_rule : (b : Bool) → may_finalize elect x v ≡ b → KeepsRules term_length (acts ++ acts_of_call {K = K} (ConstructFinalize v) (Finalize (finalize_vote elect signature_of x v))) (after_construct_finalize elect x v)
+      by_rule : (b : Bool) → may_finalize elect x v ≡ b → KeepsRules term_length (deeds ++ deeds_of_call {K = K} (ConstructFinalize v) (Finalize (finalize_vote elect signature_of x v))) (after_construct_finalize elect x v)
       by_rule true may = by_key x.me refl may
       by_rule false may =
           let silent = finalize_silent elect signature_of x v (no_rule (may_finalize elect x v) x.me may) in
-          subst (λ o. KeepsRules term_length (acts ++ acts_of_call {K = K} (ConstructFinalize v) (Finalize o)) (after_construct_finalize elect x v)) (sym silent)
+          subst (λ o. KeepsRules term_length (deeds ++ deeds_of_call {K = K} (ConstructFinalize v) (Finalize o)) (after_construct_finalize elect x v)) (sym silent)
           (rw may (nothing_shown x keeps.lawful keeps.stays))
 
-module _ {K L D G : Type 0} (same : D → D → Bool) (decides : (d e : D) → same d e ≡ true → d ≡ e) (elect : Elect L) (signature_of : ℕ → Subject D → G) (term_length : ℕ) (acts : List (Act D)) (x : Facts K L D) (keeps : KeepsRules term_length acts x) where
-  accepts : (certificate : Subject D) → IsLawful term_length (acts ++ Accept certificate ∷ [])
-  accepts certificate = lawful_push term_length acts (Accept certificate) keeps.lawful tt
+module _ {K L D G : Type 0} (same : D → D → Bool) (decides : (d e : D) → same d e ≡ true → d ≡ e) (elect : Elect L) (signature_of : ℕ → Subject D → G) (term_length : ℕ) (deeds : List (Deed D G)) (x : Facts K L D) (keeps : KeepsRules term_length deeds x) where
+  accepts : (certificate : Subject D) → IsLawful term_length (deeds ++ Accepts certificate ∷ [])
+  accepts certificate = lawful_push term_length deeds (Accepts certificate) keeps.lawful tt
 
-  shows_nothing : (y : Facts K L D) → Stays term_length acts y → KeepsRules term_length (acts ++ []) y
-  shows_nothing y stays = nothing_shown elect signature_of term_length acts y keeps.lawful stays
+  shows_nothing : (y : Facts K L D) → Stays term_length deeds y → KeepsRules term_length (deeds ++ []) y
+  shows_nothing y stays = nothing_shown elect signature_of term_length deeds y keeps.lawful stays
 
   -- a call that is allowed and not refused
-  pub call_keeps : (call : CallFacts D) → KeepsRules term_length (acts ++ acts_of_call call (answer same elect signature_of x call)) (after_call same elect signature_of x call)
-  call_keeps (AddNotarization c) = record { lawful = accepts (subject.Notarize c.proposal); stays = notarization_stays same decides elect term_length acts x c keeps.stays }
-  call_keeps (AddNullification c now) = record { lawful = accepts (subject.Nullify c.round); stays = nullification_stays same decides elect term_length acts x c now keeps.stays }
-  call_keeps (AddFinalization c now) = record { lawful = accepts (subject.Finalize c.proposal); stays = finalization_stays same decides elect term_length acts x c now keeps.stays }
-  call_keeps (Certified v success now) = shows_nothing _ (certified_stays term_length acts elect x v success now keeps.stays)
-  call_keeps (ConstructNullify v) = nullify_keeps elect signature_of term_length acts x v keeps
-  call_keeps (ConstructFinalize v) = finalize_keeps elect signature_of term_length acts x v keeps
-  call_keeps (BroadcastNotarization v) = shows_nothing _ (stays_left term_length acts x (after_broadcast_notarization x v) (broadcast_notarization_leaves x v) keeps.stays)
-  call_keeps (BroadcastNullification v) = shows_nothing _ (stays_left term_length acts x (after_broadcast_nullification x v) (broadcast_nullification_leaves x v) keeps.stays)
-  call_keeps (BroadcastFinalization v) = shows_nothing _ (stays_left term_length acts x (after_broadcast_finalization x v) (broadcast_finalization_leaves x v) keeps.stays)
+  pub call_keeps : (call : CallFacts D) → KeepsRules term_length (deeds ++ deeds_of_call call (answer same elect signature_of x call)) (after_call same elect signature_of x call)
+  call_keeps (AddNotarization c) = record { lawful = accepts (subject.Notarize c.proposal); stays = notarization_stays same decides elect term_length deeds x c keeps.stays }
+  call_keeps (AddNullification c now) = record { lawful = accepts (subject.Nullify c.round); stays = nullification_stays same decides elect term_length deeds x c now keeps.stays }
+  call_keeps (AddFinalization c now) = record { lawful = accepts (subject.Finalize c.proposal); stays = finalization_stays same decides elect term_length deeds x c now keeps.stays }
+  call_keeps (Certified v success now) = shows_nothing _ (certified_stays term_length deeds elect x v success now keeps.stays)
+  call_keeps (ConstructNullify v) = nullify_keeps elect signature_of term_length deeds x v keeps
+  call_keeps (ConstructFinalize v) = finalize_keeps elect signature_of term_length deeds x v keeps
+  call_keeps (BroadcastNotarization v) = shows_nothing _ (stays_left term_length deeds x (after_broadcast_notarization x v) (broadcast_notarization_leaves x v) keeps.stays)
+  call_keeps (BroadcastNullification v) = shows_nothing _ (stays_left term_length deeds x (after_broadcast_nullification x v) (broadcast_nullification_leaves x v) keeps.stays)
+  call_keeps (BroadcastFinalization v) = shows_nothing _ (stays_left term_length deeds x (after_broadcast_finalization x v) (broadcast_finalization_leaves x v) keeps.stays)
   call_keeps GetBestCertificate = shows_nothing x keeps.stays
-  call_keeps Prune = shows_nothing _ (prune_stays term_length acts x keeps.stays)
+  call_keeps Prune = shows_nothing _ (prune_stays term_length deeds x keeps.stays)

@@ -6,10 +6,11 @@ use Rattle.std.proofs.lemmas.List.{append-nil, length-append}
 use Rattle.std.proofs.lemmas.List.Elements.{Contains-push_cases}
 use Rattle.simplex_types.specs.Certificates.{ProposalFacts, Notarized, Nullified, Finalized, ArtifactFacts, NotarizeVote, NullifyVote, FinalizeVote, Verdict, Accepted}
 use Rattle.simplex_voter.proofs.Gaps.{and_parts, not_true}
-use Rattle.simplex_laws.specs.Acts.{Act, IsLawful}
 use Rattle.simplex_member.specs.Cuts.{is_vote, may_drop, without_last, finalized_by, finalized_in, pruned}
 use Rattle.simplex_member.specs.Entries.{entry_view}
 use Rattle.simplex_member.proofs.Cuts.{none_dropped}
+use Rattle.simplex_laws.specs.Deeds.{Deed}
+use Rattle.simplex_laws.specs.Lawful.{IsLawful}
 use Rattle.simplex_laws.proofs.Splits.{Contains-cases, Contains-cons_rest}
 use Rattle.simplex_laws.proofs.VoteOrder.{Contains-split, Contains-middle}
 use Rattle.simplex_laws.proofs.Filters.{Contains-filter}
@@ -25,11 +26,11 @@ IsHigh {D} {G} closed kept entries =
     (kept ≡ 0)
     ⊎ ((c : ProposalFacts D) × (front back : List (ArtifactFacts D G)) × (entries ≡ front ++ Accepted (Finalized c) ∷ back) × (length front < closed) × (kept ≤ c.proposal.round.view))
 
--- between lives: the acts are lawful, and the record remembers them but for views below `kept`
-pub record Between {D G : Type 0} (term_length : ℕ) (acts : List (Act D)) (closed kept : ℕ) (entries : List (ArtifactFacts D G)) : Type 0 where
-  pub lawful : IsLawful term_length acts
-  pub remembers : Remembers acts kept entries
-  pub notes : RemembersNotes acts kept entries
+-- between lives: the deeds are lawful, and the record remembers them but for views below `kept`
+pub record Between {D G : Type 0} (term_length : ℕ) (deeds : List (Deed D G)) (closed kept : ℕ) (entries : List (ArtifactFacts D G)) : Type 0 where
+  pub lawful : IsLawful term_length deeds
+  pub remembers : Remembers deeds kept entries
+  pub notes : RemembersNotes deeds kept entries
   pub high : IsHigh closed kept entries
   pub within : closed ≤ length entries
 
@@ -119,22 +120,22 @@ module _ {D G : Type 0} where
   high_known closed kept entries (inl none) = inl none
   high_known closed kept entries (inr (c, front, back, is, early, above)) = inr (c, subst (λ es. Contains es (Accepted (Finalized c))) (sym is) (Contains-middle front back (Accepted (Finalized c))), above)
 
-module _ {D G : Type 0} (term_length : ℕ) (acts : List (Act D)) (closed kept : ℕ) (entries : List (ArtifactFacts D G)) (between : Between term_length acts closed kept entries) where
+module _ {D G : Type 0} (term_length : ℕ) (deeds : List (Deed D G)) (closed kept : ℕ) (entries : List (ArtifactFacts D G)) (between : Between term_length deeds closed kept entries) where
   -- a drop
-  pub dropped_between : (n : ℕ) → Between term_length acts closed kept (without_last closed n entries)
+  pub dropped_between : (n : ℕ) → Between term_length deeds closed kept (without_last closed n entries)
   dropped_between n =
       let left = without_last closed n entries in
       let falls = drops closed n entries between.within in
       record {
         lawful = between.lawful;
-        remembers = left_remembers acts kept entries between.remembers left falls.0 falls.1 falls.2;
-        notes = notes_left acts kept entries between.notes left falls.0 falls.1 falls.2;
+        remembers = left_remembers deeds kept entries between.remembers left falls.0 falls.1 falls.2;
+        notes = notes_left deeds kept entries between.notes left falls.0 falls.1 falls.2;
         high = high_left closed kept entries left falls.0 falls.1 falls.3 between.high;
         within = falls.3;
       }
 
   -- a prune, which closes what it leaves
-  pub pruned_between : (retention : ℕ) → Between term_length acts (length (pruned retention entries)) (max kept (finalized_in entries - retention)) (pruned retention entries)
+  pub pruned_between : (retention : ℕ) → Between term_length deeds (length (pruned retention entries)) (max kept (finalized_in entries - retention)) (pruned retention entries)
   unfolding pruned
   pruned_between retention =
       let bound = finalized_in entries - retention in
@@ -142,8 +143,8 @@ module _ {D G : Type 0} (term_length : ℕ) (acts : List (Act D)) (closed kept :
       let most : kept ≤ finalized_in entries = high_below closed kept entries between.high in
       record {
         lawful = between.lawful;
-        remembers = bounded_remembers acts kept entries between.remembers bound;
-        notes = notes_bounded acts kept entries between.notes bound;
+        remembers = bounded_remembers deeds kept entries between.remembers bound;
+        notes = notes_bounded deeds kept entries between.notes bound;
         high = elim (has_highest entries) [
           | inl none ↦ inl (omega arith)
           | inr c ↦

@@ -1,5 +1,5 @@
 -- A member's story goes on step by step.
-use Rattle.std.proofs.Common.{◌≡◌, refl, ap, sym, subst, ℕ, zero, suc, inl, inr, Bool, true, List, [], ◌∷◌, ◌++◌, map, append_assoc, ◌∙◌, Contains, None, Result, Ok, Err, arith}
+use Rattle.std.proofs.Common.{◌≡◌, refl, ap, sym, subst, ℕ, zero, suc, inl, inr, Bool, true, List, [], ◌∷◌, ◌++◌, append_assoc, ◌∙◌, Contains, None, Result, Ok, Err, arith}
 use Rattle.std.specs.Prelude.{IfOk}
 use Rattle.std.proofs.lemmas.List.Elements.{Contains-append_cases}
 use Rattle.simplex_types.specs.declared.types.messages.Subject.{Subject}
@@ -12,11 +12,12 @@ use Rattle.simplex_member.specs.Restarts.{RestartFacts, IsRestart}
 use Rattle.simplex_member.specs.Runs.{StepFacts, Calls, Works, Restarts, restart_told, IsStep, IsRun, IsRunFrom}
 use Rattle.simplex_member.specs.Start.{StartFacts, started}
 use Rattle.simplex_member.specs.Work.{WorkCall, IsWork}
-use Rattle.simplex_laws.specs.Stories.{Story, Deed, of_floor, deeds_at, deeds_of_steps, deeds, act_of, BeginsAs, LivesAs, Ran}
-use Rattle.simplex_laws.specs.Acts.{IsLawful}
 use Rattle.std.proofs.lemmas.List.{append-nil}
-use Rattle.simplex_laws.specs.Living.{new_story, with_step, Lawful, HasStory, HasDone}
-use Rattle.simplex_laws.proofs.Placing.{story_lawful}
+use Rattle.simplex_laws.specs.Living.{new_story, with_step, HasStory, HasDone}
+use Rattle.simplex_laws.specs.Deeds.{Deed, of_floor, deeds_at, deeds_of_steps}
+use Rattle.simplex_laws.specs.Lawful.{IsLawful}
+use Rattle.simplex_laws.specs.Stories.{Story, deeds_of, BeginsAs, LivesAs, Ran}
+use Rattle.simplex_laws.proofs.RunsLawful.{story_lawful}
 
 module _ {K L D : Type 0} where
   call_no_restart : (call : CallFacts D) (r : RestartFacts K L D) → Restarts r ≡ Calls call → ⊥
@@ -83,7 +84,7 @@ module _ {K L D G : Type 0} (same : D → D → Bool) (elect : Elect L) (signatu
         ap (λ ds. deeds_at s t ++ ds) (steps_pushed next end steps replies step told run)
         ∙ sym (append_assoc (deeds_at s t) (deeds_of_steps steps replies) (deeds_at step told))
 
-    done_on : (s : Story K L D G) (m next : MemberFacts K L D G) (step : StepFacts K L D) (told : Told K D G) (all more : List (Deed D G)) → HasStory same elect signature_of term_length i s m → deeds s ≡ all → deeds_at step told ≡ more → HasStory same elect signature_of term_length i (with_step s step told) next → HasDone same elect signature_of term_length i (all ++ more) next
+    done_on : (s : Story K L D G) (m next : MemberFacts K L D G) (step : StepFacts K L D) (told : Told K D G) (all more : List (Deed D G)) → HasStory same elect signature_of term_length i s m → deeds_of s ≡ all → deeds_at step told ≡ more → HasStory same elect signature_of term_length i (with_step s step told) next → HasDone same elect signature_of term_length i (all ++ more) next
     done_on s m next step told all more has is shows now = record {
       story = with_step s step told;
       told = now;
@@ -109,12 +110,12 @@ module _ {K L D G : Type 0} (same : D → D → Bool) (elect : Elect L) (signatu
     unfolding IsRunFrom
     story_ran s m has = record { lives = has.lives; run = (has.accepted, m, has.run) }
 
-    pub done_ran : (all : List (Deed D G)) (m : MemberFacts K L D G) → HasDone same elect signature_of term_length i all m → (s : Story K L D G) × Ran same elect signature_of term_length i s × (deeds s ≡ all)
+    pub done_ran : (all : List (Deed D G)) (m : MemberFacts K L D G) → HasDone same elect signature_of term_length i all m → (s : Story K L D G) × Ran same elect signature_of term_length i s × (deeds_of s ≡ all)
     done_ran all m done = (done.story, story_ran done.story m done.told, done.same_deeds)
 
     module _ (decides : (d e : D) → same d e ≡ true → d ≡ e) where
-      pub so_far_lawful : (s : Story K L D G) (m : MemberFacts K L D G) → HasStory same elect signature_of term_length i s m → Lawful term_length s
+      pub so_far_lawful : (s : Story K L D G) (m : MemberFacts K L D G) → HasStory same elect signature_of term_length i s m → IsLawful term_length (deeds_of s)
       so_far_lawful s m has = story_lawful same decides elect signature_of term_length i s (story_ran s m has)
 
-      pub done_lawful : (all : List (Deed D G)) (m : MemberFacts K L D G) → HasDone same elect signature_of term_length i all m → IsLawful term_length (map act_of all)
-      done_lawful all m done = subst (λ (ds : List (Deed D G)). IsLawful term_length (map act_of ds)) done.same_deeds (so_far_lawful done.story m done.told)
+      pub done_lawful : (all : List (Deed D G)) (m : MemberFacts K L D G) → HasDone same elect signature_of term_length i all m → IsLawful term_length all
+      done_lawful all m done = subst (IsLawful term_length) done.same_deeds (so_far_lawful done.story m done.told)

@@ -17,7 +17,8 @@ use Rattle.simplex_voter.specs.Certification.{named_also, raised, woken}
 use Rattle.simplex_voter.specs.Acceptance.{nullified_also, with_notarization_at, with_nullification_at, with_finalization_at, after_add_notarization, after_add_nullification, after_add_finalization}
 use Rattle.simplex_voter.specs.Serving.{after_prune}
 use Rattle.simplex_voter.proofs.Elsewhere.{round_of-with_round}
-use Rattle.simplex_laws.proofs.LeavesVotes.{LeavesVotes, round_put, moment_leaves, named_leaves, slid_leaves, elected_leaves, entered_leaves, woken_leaves, nullification_leaves, nullified_leaves}
+use Rattle.simplex_laws.proofs.LeavesVotes.{LeavesVotes, moment_leaves, named_leaves, slid_leaves, elected_leaves, entered_leaves, woken_leaves, nullification_leaves, nullified_leaves}
+use Rattle.simplex_laws.proofs.Rounds.{round_put}
 use Rattle.simplex_laws.proofs.StandingCalls.{found_alike}
 use Rattle.simplex_laws.proofs.NotedVotes.{tied}
 

@@ -12,12 +12,12 @@ use Rattle.simplex_types.specs.declared.types.messages.Subject.TheVariants as su
 use Rattle.simplex_types.specs.declared.types.window.Terms.{Terms}
 use Rattle.simplex_voter.specs.Facts.{Settings, Facts, Elect, new_facts, round_number}
 use Rattle.simplex_member.specs.declared.member.error.RecoverError.{RecoverError}
-use Rattle.simplex_laws.specs.Acts.{Act, Accept, IsLawful}
 use Rattle.simplex_member.specs.Calls.{CallFacts, is_allowed, answer, after_call, recorded_by}
 use Rattle.simplex_member.specs.Check.{first_error, entry_rules, first_broken_after, stands}
 use Rattle.simplex_member.specs.Entries.{entry_round, entry_view}
-use Rattle.simplex_laws.specs.CallActs.{floor_acts, acts_of_call}
 use Rattle.simplex_member.specs.Recovery.{recovered, with_floor, is_finalization}
+use Rattle.simplex_laws.specs.Deeds.{Deed, Accepts, of_floor, deeds_of_call}
+use Rattle.simplex_laws.specs.Lawful.{IsLawful}
 use Rattle.simplex_laws.proofs.Lawful.{lawful_push}
 use Rattle.simplex_laws.proofs.Splits.{Contains-cases}
 use Rattle.simplex_laws.proofs.LifeCalls.{KeepsRules, call_keeps}
@@ -36,18 +36,18 @@ use Rattle.simplex_laws.proofs.CallNotes.{call_notes}
 use Rattle.simplex_laws.proofs.Lifetimes.{IsHigh, Between, high_known}
 
 -- a living member: its state keeps the rules, and its record follows them
-pub record Living {K L D G : Type 0} (term_length : ℕ) (acts : List (Act D)) (closed kept : ℕ) (entries : List (ArtifactFacts D G)) (o : Openings K D) (x : Facts K L D) : Type 0 where
-  pub keeps : KeepsRules term_length acts x
-  pub follows : Follows acts kept entries x
+pub record Living {K L D G : Type 0} (term_length : ℕ) (deeds : List (Deed D G)) (closed kept : ℕ) (entries : List (ArtifactFacts D G)) (o : Openings K D) (x : Facts K L D) : Type 0 where
+  pub keeps : KeepsRules term_length deeds x
+  pub follows : Follows deeds kept entries x
   pub in_order : InOrder x
-  pub notes : RemembersNotes acts kept entries
-  pub noted : (base : ℕ) × (low : ℕ) × NotesStand base low acts o x
+  pub notes : RemembersNotes deeds kept entries
+  pub noted : (base : ℕ) × (low : ℕ) × NotesStand base low deeds o x
   pub high : IsHigh closed kept entries
   pub within : closed ≤ length entries
 
 -- where a life ends the record is left
-pub living_between : {K L D G : Type 0} (term_length : ℕ) (acts : List (Act D)) (closed kept : ℕ) (entries : List (ArtifactFacts D G)) (o : Openings K D) (x : Facts K L D) → Living term_length acts closed kept entries o x → Between term_length acts closed kept entries
-living_between term_length acts closed kept entries o x living = record { lawful = living.keeps.lawful; remembers = living.follows.remembers; notes = living.notes; high = living.high; within = living.within }
+pub living_between : {K L D G : Type 0} (term_length : ℕ) (deeds : List (Deed D G)) (closed kept : ℕ) (entries : List (ArtifactFacts D G)) (o : Openings K D) (x : Facts K L D) → Living term_length deeds closed kept entries o x → Between term_length deeds closed kept entries
+living_between term_length deeds closed kept entries o x living = record { lawful = living.keeps.lawful; remembers = living.follows.remembers; notes = living.notes; high = living.high; within = living.within }
 
 abbrev pub second_broken : List (Bool × RecoverError) → Bool
 second_broken [] = false
@@ -113,53 +113,53 @@ module _ {K L D G : Type 0} where
     nullified = λ v is key. (let e = marked.nullified v is key in (e.0, e.1, there (NullifyVote (round_number x v) e.0 e.1) e.2));
   }
 
-floor_lawful : {D : Type 0} (term_length : ℕ) (acts : List (Act D)) (floor : FloorFacts D) → IsLawful term_length acts → IsLawful term_length (acts ++ floor_acts floor)
-floor_lawful term_length acts (Genesis payload) lawful = subst (IsLawful term_length) (sym (append-nil acts)) lawful
-floor_lawful term_length acts (FinalizedFloor c) lawful = lawful_push term_length acts (Accept (subject.Finalize c.proposal)) lawful tt
+floor_lawful : {D G : Type 0} (term_length : ℕ) (deeds : List (Deed D G)) (floor : FloorFacts D) → IsLawful term_length deeds → IsLawful term_length (deeds ++ of_floor floor)
+floor_lawful term_length deeds (Genesis payload) lawful = subst (IsLawful term_length) (sym (append-nil deeds)) lawful
+floor_lawful term_length deeds (FinalizedFloor c) lawful = lawful_push term_length deeds (Accepts (subject.Finalize c.proposal)) lawful tt
 
 module _ {K L D G : Type 0} (same : D → D → Bool) (decides : (d e : D) → same d e ≡ true → d ≡ e) (elect : Elect L) (signature_of : ℕ → Subject D → G) (settings : Settings) (me : Option ℕ) (members : List K) (elector : L) (terms : Terms) (early : Bool) where
   -- a new life from a copy of the record by view
-  pub new_life_lives : (acts : List (Act D)) (closed kept : ℕ) (entries copy : List (ArtifactFacts D G)) (floor : FloorFacts D) (now : ℕ) → Between terms.term_length acts closed kept entries → ((v : ℕ) → filter (λ e. entry_view e == v) copy ≡ filter (λ e. entry_view e == v) entries) → ((e : ArtifactFacts D G) → Contains copy e → (entry_round e).epoch ≡ settings.epoch) → Living terms.term_length (acts ++ floor_acts floor) closed kept (with_floor entries floor) no_openings (recovered same elect (new_facts settings me members elector terms early) floor now copy)
-  new_life_lives acts closed kept entries copy floor now between by_view epochs =
+  pub new_life_lives : (deeds : List (Deed D G)) (closed kept : ℕ) (entries copy : List (ArtifactFacts D G)) (floor : FloorFacts D) (now : ℕ) → Between terms.term_length deeds closed kept entries → ((v : ℕ) → filter (λ e. entry_view e == v) copy ≡ filter (λ e. entry_view e == v) entries) → ((e : ArtifactFacts D G) → Contains copy e → (entry_round e).epoch ≡ settings.epoch) → Living terms.term_length (deeds ++ of_floor floor) closed kept (with_floor entries floor) no_openings (recovered same elect (new_facts settings me members elector terms early) floor now copy)
+  new_life_lives deeds closed kept entries copy floor now between by_view epochs =
       let t = terms.term_length in
       let x = recovered same elect (new_facts settings me members elector terms early) floor now copy in
-      let remembers = copy_remembers acts kept entries between.remembers copy by_view in
-      let into_copy = in_copy acts kept entries between.remembers copy by_view in
-      let into_record = in_record acts kept entries between.remembers copy by_view in
+      let remembers = copy_remembers deeds kept entries between.remembers copy by_view in
+      let into_copy = in_copy deeds kept entries between.remembers copy by_view in
+      let into_record = in_record deeds kept entries between.remembers copy by_view in
       let final : (kept ≡ 0) ⊎ ((c : ProposalFacts D) × Contains copy (Accepted (Finalized c)) × (kept ≤ c.proposal.round.view)) = elim (high_known closed kept entries between.high) [ inl none ↦ inl none | inr c ↦ inr (c.0, into_copy (Accepted (Finalized c.0)) c.1, c.2) ] in
-      let stays = recovered_stays same decides elect settings me members elector terms early acts kept copy floor now between.lawful remembers final in
-      let copied = notes_copied acts kept entries between.notes copy by_view in
-      let noted = recovered_notes same elect settings me members elector terms early acts kept copy floor now copied (λ c h. remembers.accepted (Nullified c) h) final stays.ahead in
+      let stays = recovered_stays same decides elect settings me members elector terms early deeds kept copy floor now between.lawful remembers final in
+      let copied = notes_copied deeds kept entries between.notes copy by_view in
+      let noted = recovered_notes same elect settings me members elector terms early deeds kept copy floor now copied (λ c h. remembers.accepted (Nullified c) h) final stays.ahead in
       let more = floor_split entries floor in
       let there : (e : ArtifactFacts D G) → Contains copy e → Contains (with_floor entries floor) e =
       λ e h. subst (λ es. Contains es e) (sym more.1) (Contains-append_left entries more.0 e (into_record e h)) in
       record {
         keeps = record {
-          lawful = floor_lawful t acts floor between.lawful;
+          lawful = floor_lawful t deeds floor between.lawful;
           stays = stays;
         };
         follows = record {
-          remembers = floor_remembers acts kept entries between.remembers floor;
+          remembers = floor_remembers deeds kept entries between.remembers floor;
           marked = marked_in copy (with_floor entries floor) x there (recovered_marked same elect signature_of settings me members elector terms early copy floor now epochs);
         };
         in_order = order_recovered same elect settings me members elector terms early floor now copy;
-        notes = notes_floored acts kept entries floor between.notes;
-        noted = (0, x.finalized + 1, notes_acted 0 (x.finalized + 1) acts (floor_acts floor) no_openings x (floor_casts_none floor) noted);
+        notes = notes_floored deeds kept entries floor between.notes;
+        noted = (0, x.finalized + 1, notes_acted 0 (x.finalized + 1) deeds (of_floor floor) no_openings x (floor_casts_none floor) noted);
         high = subst (λ es. IsHigh closed kept es) (sym more.1) (high_more closed kept entries more.0 between.high);
         within = subst (λ es. closed ≤ length es) (sym more.1) (within_more closed entries more.0 between.within);
       }
 
-module _ {K L D G : Type 0} (same : D → D → Bool) (decides : (d e : D) → same d e ≡ true → d ≡ e) (elect : Elect L) (signature_of : ℕ → Subject D → G) (term_length : ℕ) (acts : List (Act D)) (closed kept : ℕ) (entries : List (ArtifactFacts D G)) (x : Facts K L D) where
+module _ {K L D G : Type 0} (same : D → D → Bool) (decides : (d e : D) → same d e ≡ true → d ≡ e) (elect : Elect L) (signature_of : ℕ → Subject D → G) (term_length : ℕ) (deeds : List (Deed D G)) (closed kept : ℕ) (entries : List (ArtifactFacts D G)) (x : Facts K L D) where
   -- a call that is allowed and not refused
-  pub call_lives : (o : Openings K D) (call : CallFacts D) → 0 < term_length → is_allowed x call ≡ true → Living term_length acts closed kept entries o x → Living term_length (acts ++ acts_of_call call (answer same elect signature_of x call)) closed kept (entries ++ recorded_by same elect signature_of x call) (closed_by o call) (after_call same elect signature_of x call)
+  pub call_lives : (o : Openings K D) (call : CallFacts D) → 0 < term_length → is_allowed x call ≡ true → Living term_length deeds closed kept entries o x → Living term_length (deeds ++ deeds_of_call call (answer same elect signature_of x call)) closed kept (entries ++ recorded_by same elect signature_of x call) (closed_by o call) (after_call same elect signature_of x call)
   call_lives o call some allowed living = record {
-    keeps = call_keeps same decides elect signature_of term_length acts x living.keeps call;
-    follows = call_follows same elect signature_of term_length acts kept entries x living.keeps.stays living.follows call allowed;
+    keeps = call_keeps same decides elect signature_of term_length deeds x living.keeps call;
+    follows = call_follows same elect signature_of term_length deeds kept entries x living.keeps.stays living.follows call allowed;
     in_order = order_call same elect signature_of x living.in_order call;
-    notes = notes_called same elect signature_of x acts kept entries call living.notes;
+    notes = notes_called same elect signature_of x deeds kept entries call living.notes;
     noted =
         (let noted = living.noted in
-        let left = call_notes same elect signature_of noted.0 noted.1 acts o x noted.2 call (omega (arith, some, living.keeps.stays.stands.terms)) living.keeps.stays.ahead allowed in
+        let left = call_notes same elect signature_of noted.0 noted.1 deeds o x noted.2 call (omega (arith, some, living.keeps.stays.stands.terms)) living.keeps.stays.ahead allowed in
         (left.0, noted.1, left.1));
     high = high_more closed kept entries (recorded_by same elect signature_of x call) living.high;
     within = within_more closed entries (recorded_by same elect signature_of x call) living.within;

@@ -3,7 +3,7 @@ use Rattle.std.proofs.Common.{◌≡◌, refl, ap, sym, ◌∙◌, subst, ℕ, �
 use Rattle.std.specs.Prelude.{option_map, option_and_then}
 use Rattle.std.proofs.lemmas.Bool.{false≢true}
 use Rattle.std.proofs.lemmas.Bool.Decides.{nat_tests}
-use Rattle.std.proofs.lemmas.List.Elements.{Contains-append_left, Contains-push_cases}
+use Rattle.std.proofs.lemmas.List.Elements.{Contains-append_left}
 use Rattle.simplex_types.specs.Terms.{covers}
 use Rattle.simplex_types.specs.Certificates.{NotarizeVote}
 use Rattle.simplex_types.specs.declared.types.messages.Proposal.{Proposal}
@@ -18,16 +18,17 @@ use Rattle.simplex_voter.specs.Rules.{may_notarize, NotarizeRule}
 use Rattle.simplex_voter.specs.Votes.{notarize_answer}
 use Rattle.simplex_voter.proofs.Gaps.{and_parts, not_true}
 use Rattle.simplex_voter.proofs.Rules.{notarize_parts}
-use Rattle.simplex_laws.specs.Acts.{Act, Accept, Cast}
 use Rattle.simplex_member.specs.Openings.{Openings}
 use Rattle.simplex_member.specs.Work.{notarize_vote}
+use Rattle.simplex_laws.specs.Deeds.{Deed, Accepts, Signs}
+use Rattle.simplex_laws.proofs.Signed.{signed_push}
 use Rattle.simplex_laws.proofs.LifeCalls.{none_follows}
 use Rattle.simplex_laws.proofs.Lawful.{AllowsNotarize}
 use Rattle.simplex_laws.proofs.CalmOn.{on_prepared}
 use Rattle.simplex_laws.proofs.Tidy.{opposite}
 use Rattle.simplex_laws.proofs.Notes.{NotesStand}
 use Rattle.simplex_laws.proofs.VotedParents.{any_of, bound_reaches}
-use Rattle.simplex_laws.proofs.LeavesVotes.{round_put}
+use Rattle.simplex_laws.proofs.Rounds.{round_put}
 use Rattle.simplex_laws.proofs.WorkNotes.{decided_notes}
 
 -- what is told of a vote
@@ -54,7 +55,7 @@ admitted_above : {K L D : Type 0} (x : Facts K L D) (v : ℕ) → is_admitted x 
 unfolding is_admitted
 admitted_above x v is = grind (arith, nat_tests)
 
-module _ {K L D : Type 0} (same : D → D → Bool) (decides : (d e : D) → same d e ≡ true → d ≡ e) (elect : Elect L) (term_length base low : ℕ) (acts : List (Act D)) (o : Openings K D) (x : Facts K L D) (some : 0 < x.terms.term_length) (terms : x.terms.term_length ≡ term_length) (notes : NotesStand base low acts o x) (v : ℕ) (may : may_notarize same elect x v ≡ true) where
+module _ {K L D G : Type 0} (same : D → D → Bool) (decides : (d e : D) → same d e ≡ true → d ≡ e) (elect : Elect L) (term_length base low : ℕ) (deeds : List (Deed D G)) (o : Openings K D) (x : Facts K L D) (some : 0 < x.terms.term_length) (terms : x.terms.term_length ≡ term_length) (notes : NotesStand base low deeds o x) (v : ℕ) (may : may_notarize same elect x v ≡ true) where
   rule : NotarizeRule same elect x v
   rule = notarize_parts same elect x v may
 
@@ -70,7 +71,7 @@ module _ {K L D : Type 0} (same : D → D → Bool) (decides : (d e : D) → sam
   voted_tracked = tracked_held x v held_parts.0
 
   -- the rules allow it
-  pub notarize_allowed : (p : Proposal D) → (round_of x v).slot.held ≡ Some p → AllowsNotarize term_length acts p
+  pub notarize_allowed : (p : Proposal D) → (round_of x v).slot.held ≡ Some p → AllowsNotarize term_length deeds p
   notarize_allowed p holds =
       let over = notes.above v voted_tracked in
       let at : p.round.view ≡ v = notes.placed v p holds in
@@ -92,11 +93,11 @@ module _ {K L D : Type 0} (same : D → D → Bool) (decides : (d e : D) → sam
       }
 
   -- and it is decided then
-  pub notarize_noted : (p : Proposal D) → (round_of x v).slot.held ≡ Some p → NotesStand base low (acts ++ Cast (subject.Notarize p) ∷ []) o (prepared elect (with_round x v (record (round_of x v) { notarize_decided = true })) v)
-  notarize_noted p holds =
+  pub notarize_noted : (p : Proposal D) (m : ℕ) (signature : G) → (round_of x v).slot.held ≡ Some p → NotesStand base low (deeds ++ Signs m (subject.Notarize p) signature ∷ []) o (prepared elect (with_round x v (record (round_of x v) { notarize_decided = true })) v)
+  notarize_noted p m signature holds =
       let y = with_round x v (record (round_of x v) { notarize_decided = true }) in
       let z = prepared elect y v in
-      let kept = decided_notes same decides elect base low acts o x notes v may voted_tracked in
+      let kept = decided_notes same decides elect base low deeds o x notes v may voted_tracked in
       let at : p.round.view ≡ v = notes.placed v p holds in
       let decided : (round_of z v).notarize_decided ≡ true = ((on_prepared base elect y v (notes.above v voted_tracked)).rounds v).grown.decided (ap (λ (r : RoundFacts K D). r.notarize_decided) (round_put x v (record (round_of x v) { notarize_decided = true }))) in
       record {
@@ -108,9 +109,9 @@ module _ {K L D : Type 0} (same : D → D → Bool) (decides : (d e : D) → sam
         worked = kept.worked;
         verifying_low = kept.verifying_low;
         context_low = kept.context_low;
-        voted = λ q h above over. elim (Contains-push_cases acts (Cast (subject.Notarize p)) (Cast (subject.Notarize q)) h) [
+        voted = λ q h above over. elim (signed_push deeds (Signs m (subject.Notarize p) signature) (subject.Notarize q) h) [
           | inl old ↦ kept.voted q old above over
           | inr new ↦ (let one : p ≡ q = cc in subst (λ u. (round_of z u).notarize_decided ≡ true) (sym at ∙ ap (λ (k : Proposal D). k.round.view) one) decided)
         ];
-        covered = λ u h. (let c = kept.covered u h in (c.0, Contains-append_left acts (Cast (subject.Notarize p) ∷ []) (Accept (subject.Nullify c.0)) c.1, c.2));
+        covered = λ u h. (let c = kept.covered u h in (c.0, Contains-append_left deeds (Signs m (subject.Notarize p) signature ∷ []) (Accepts (subject.Nullify c.0)) c.1, c.2));
       }

@@ -1,19 +1,21 @@
 -- What a state's facts show of the votes to notarize that led to it, and what a record remembers of them.
 use Rattle.std.proofs.Common.{◌≡◌, ap, subst, ℕ, ◌≤◌, ◌<◌, ◌⊎◌, inl, inr, true, false, List, ◌++◌, Contains, Some, is_some, arith}
-use Rattle.std.proofs.lemmas.List.Elements.{Contains-append_left, Contains-append_cases}
+use Rattle.std.proofs.lemmas.List.Elements.{Contains-append_left}
 use Rattle.simplex_types.specs.Certificates.{ArtifactFacts, NotarizeVote}
 use Rattle.simplex_types.specs.declared.types.messages.Proposal.{Proposal}
 use Rattle.simplex_types.specs.declared.types.messages.Subject.TheVariants as subject
 use Rattle.simplex_types.specs.declared.types.numbers.Round.{Round}
 use Rattle.simplex_voter.specs.Facts.{Settings, Facts, round_of}
 use Rattle.simplex_voter.specs.Windows.{min_active}
-use Rattle.simplex_laws.specs.Acts.{Act, Accept, Cast}
 use Rattle.simplex_member.specs.Openings.{Openings, is_verifying, context_at}
+use Rattle.simplex_laws.specs.Deeds.{Deed, Accepts}
+use Rattle.simplex_laws.specs.Lawful.{HasSigned}
+use Rattle.simplex_laws.proofs.Signed.{signed_cases}
 use Rattle.simplex_laws.proofs.CalmOn.{Above, CalmOn}
 use Rattle.simplex_laws.proofs.Tidy.{Tidy, contrary, tidy_calm}
 
 -- views below `base` were pruned; work on views below `low` ended with the lives before
-pub record NotesStand {K L D : Type 0} (base low : ℕ) (acts : List (Act D)) (o : Openings K D) (x : Facts K L D) : Type 0 where
+pub record NotesStand {K L D G : Type 0} (base low : ℕ) (deeds : List (Deed D G)) (o : Openings K D) (x : Facts K L D) : Type 0 where
   pub above : Above base x
   pub active : base ≤ min_active x
   pub reached : low ≤ x.current
@@ -25,22 +27,22 @@ pub record NotesStand {K L D : Type 0} (base low : ℕ) (acts : List (Act D)) (o
   pub verifying_low : (v : ℕ) → is_verifying o v ≡ true → low ≤ v
   pub context_low : (v : ℕ) → is_some (context_at o v) ≡ true → low ≤ v
   -- each vote that was cast is decided
-  pub voted : (p : Proposal D) → Contains acts (Cast (subject.Notarize p)) → low ≤ p.round.view → base ≤ p.round.view → (round_of x p.round.view).notarize_decided ≡ true
+  pub voted : (p : Proposal D) → HasSigned deeds (subject.Notarize p) → low ≤ p.round.view → base ≤ p.round.view → (round_of x p.round.view).notarize_decided ≡ true
   -- each nullified view's nullification was accepted
-  pub covered : (u : ℕ) → Contains x.nullified u → (round : Round) × Contains acts (Accept (subject.Nullify round)) × (round.view ≡ u)
+  pub covered : (u : ℕ) → Contains x.nullified u → (round : Round) × Contains deeds (Accepts (subject.Nullify round)) × (round.view ≡ u)
 
 -- what a record holds of the votes to notarize; it may lack those of views below `kept`
-pub record RemembersNotes {D G : Type 0} (acts : List (Act D)) (kept : ℕ) (entries : List (ArtifactFacts D G)) : Type 0 where
-  pub cast : (p : Proposal D) (m : ℕ) (signature : G) → Contains entries (NotarizeVote p m signature) → Contains acts (Cast (subject.Notarize p))
-  pub noted : (p : Proposal D) → Contains acts (Cast (subject.Notarize p)) → ((m : ℕ) × (signature : G) × Contains entries (NotarizeVote p m signature)) ⊎ (p.round.view < kept)
+pub record RemembersNotes {D G : Type 0} (deeds : List (Deed D G)) (kept : ℕ) (entries : List (ArtifactFacts D G)) : Type 0 where
+  pub cast : (p : Proposal D) (m : ℕ) (signature : G) → Contains entries (NotarizeVote p m signature) → HasSigned deeds (subject.Notarize p)
+  pub noted : (p : Proposal D) → HasSigned deeds (subject.Notarize p) → ((m : ℕ) × (signature : G) × Contains entries (NotarizeVote p m signature)) ⊎ (p.round.view < kept)
 
--- no act of them is a vote to notarize
-abbrev pub CastsNone : {D : Type 0} → List (Act D) → Type 0
-CastsNone {D} acts = (p : Proposal D) → Contains acts (Cast (subject.Notarize p)) → ⊥
+-- no deed of them is a vote to notarize
+abbrev pub CastsNone : {D G : Type 0} → List (Deed D G) → Type 0
+CastsNone {D} deeds = (p : Proposal D) → HasSigned deeds (subject.Notarize p) → ⊥
 
-module _ {K L D : Type 0} (base low : ℕ) (acts : List (Act D)) where
-  -- acts that are no votes to notarize
-  pub notes_acted : (more : List (Act D)) (o : Openings K D) (x : Facts K L D) → CastsNone more → NotesStand base low acts o x → NotesStand base low (acts ++ more) o x
+module _ {K L D G : Type 0} (base low : ℕ) (deeds : List (Deed D G)) where
+  -- deeds that are no votes to notarize
+  pub notes_acted : (more : List (Deed D G)) (o : Openings K D) (x : Facts K L D) → CastsNone more → NotesStand base low deeds o x → NotesStand base low (deeds ++ more) o x
   notes_acted more o x none notes = record {
     above = notes.above;
     active = notes.active;
@@ -50,12 +52,12 @@ module _ {K L D : Type 0} (base low : ℕ) (acts : List (Act D)) where
     worked = notes.worked;
     verifying_low = notes.verifying_low;
     context_low = notes.context_low;
-    voted = λ p h. elim (Contains-append_cases acts more (Cast (subject.Notarize p)) h) [ inl old ↦ notes.voted p old | inr new ↦ absurd (none p new) ];
-    covered = λ u h. (let c = notes.covered u h in (c.0, Contains-append_left acts more (Accept (subject.Nullify c.0)) c.1, c.2));
+    voted = λ p h. elim (signed_cases deeds more (subject.Notarize p) h) [ inl old ↦ notes.voted p old | inr new ↦ absurd (none p new) ];
+    covered = λ u h. (let c = notes.covered u h in (c.0, Contains-append_left deeds more (Accepts (subject.Nullify c.0)) c.1, c.2));
   }
 
   -- a change that leaves the work on each view, with nothing more open
-  pub notes_calm : (o o' : Openings K D) (x y : Facts K L D) → CalmOn base x y → ((v : ℕ) → is_verifying o' v ≡ true → is_verifying o v ≡ true) → ((v : ℕ) → is_some (context_at o' v) ≡ true → is_some (context_at o v) ≡ true) → NotesStand base low acts o x → NotesStand base low acts o' y
+  pub notes_calm : (o o' : Openings K D) (x y : Facts K L D) → CalmOn base x y → ((v : ℕ) → is_verifying o' v ≡ true → is_verifying o v ≡ true) → ((v : ℕ) → is_some (context_at o' v) ≡ true → is_some (context_at o v) ≡ true) → NotesStand base low deeds o x → NotesStand base low deeds o' y
   notes_calm o o' x y left verifying opened notes = record {
     above = left.above notes.above;
     active = omega (arith, notes.active, left.finalized, ap (λ (s : Settings). s.view_retention) left.settings);

@@ -24,12 +24,12 @@ use Rattle.simplex_voter.specs.Certification.{raised, woken}
 use Rattle.simplex_voter.specs.Replay.{bound_again, restored_binding}
 use Rattle.simplex_voter.specs.Acceptance.{nullified_also, with_nullification_at, with_finalization_at, after_add_notarization, after_add_finalization, after_set_floor}
 use Rattle.simplex_voter.proofs.Elsewhere.{round_of-with_round}
-use Rattle.simplex_laws.specs.Acts.{Act, Accept}
 use Rattle.simplex_member.specs.Entries.{entry_view}
 use Rattle.simplex_member.specs.Openings.{no_openings}
 use Rattle.simplex_member.specs.Recovery.{retaken, taken, all_taken, recovered}
+use Rattle.simplex_laws.specs.Deeds.{Deed, Accepts}
 use Rattle.simplex_laws.proofs.Splits.{Contains-cases, Contains-cons_rest}
-use Rattle.simplex_laws.proofs.LeavesVotes.{round_put}
+use Rattle.simplex_laws.proofs.Rounds.{round_put}
 use Rattle.simplex_laws.proofs.Calm.{calm, calm_alike}
 use Rattle.simplex_laws.proofs.CalmOn.{CalmOn, on_joined, on_if, on_put, on_slid, on_elected, on_prepared, on_entered, on_woken, on_finalized, on_floor}
 use Rattle.simplex_laws.proofs.CalmCalls.{on_add_notarization, on_nullification_kept, on_add_finalization, on_certified}
@@ -355,9 +355,9 @@ module _ {K L D G : Type 0} (same : D → D → Bool) (elect : Elect L) (setting
   }
 
   -- the votes to notarize that were cast above the finalized view are decided
-  pub recovered_notes : (acts : List (Act D)) (kept : ℕ) (copy : List (ArtifactFacts D G)) (floor : FloorFacts D) (now : ℕ) → RemembersNotes acts kept copy → ((c : NullificationFacts) → Contains copy (Accepted (Nullified c)) → Contains acts (Accept (subject.Nullify c.round))) → (kept ≡ 0) ⊎ ((c : ProposalFacts D) × Contains copy (Accepted (Finalized c)) × (kept ≤ c.proposal.round.view)) → (made_again floor now copy).finalized < (made_again floor now copy).current → NotesStand 0 ((made_again floor now copy).finalized + 1) acts no_openings (made_again floor now copy)
+  pub recovered_notes : (deeds : List (Deed D G)) (kept : ℕ) (copy : List (ArtifactFacts D G)) (floor : FloorFacts D) (now : ℕ) → RemembersNotes deeds kept copy → ((c : NullificationFacts) → Contains copy (Accepted (Nullified c)) → Contains deeds (Accepts (subject.Nullify c.round))) → (kept ≡ 0) ⊎ ((c : ProposalFacts D) × Contains copy (Accepted (Finalized c)) × (kept ≤ c.proposal.round.view)) → (made_again floor now copy).finalized < (made_again floor now copy).current → NotesStand 0 ((made_again floor now copy).finalized + 1) deeds no_openings (made_again floor now copy)
   unfolding recovered
-  recovered_notes acts kept copy floor now remembers accepted high ahead = record {
+  recovered_notes deeds kept copy floor now remembers accepted high ahead = record {
     above = λ v tracked. omega arith;
     active = omega arith;
     reached = omega (arith, ahead);

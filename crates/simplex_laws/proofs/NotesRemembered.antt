@@ -1,4 +1,4 @@
--- What a record remembers of the votes to notarize is kept: by each act, by a copy of the record, and where it is cut.
+-- What a record remembers of the votes to notarize is kept: by each deed, by a copy of the record, and where it is cut.
 use Rattle.std.proofs.Common.{◌≡◌, refl, sym, subst, ℕ, inl, inr, Bool, true, false, nat_le, max, if◌then◌else◌, List, [], ◌∷◌, ◌++◌, Contains, filter, Option, Some, None, arith}
 use Rattle.std.specs.Prelude.{◌==◌, option_map, option_and_then}
 use Rattle.std.proofs.lemmas.Bool.{cases_Bool, false≢true, eq-eqb, leb-false}
@@ -14,13 +14,14 @@ use Rattle.simplex_voter.specs.Facts.{Facts, Elect, round_number}
 use Rattle.simplex_voter.specs.Votes.{nullify_answer, finalize_answer}
 use Rattle.simplex_voter.specs.Acceptance.{notarization_added, nullification_added, finalization_added}
 use Rattle.simplex_voter.specs.Certification.{is_first_verdict}
-use Rattle.simplex_laws.specs.Acts.{Act, Accept, Cast}
 use Rattle.simplex_member.specs.Calls.{CallFacts, AddNotarization, AddNullification, AddFinalization, Certified, ConstructNullify, ConstructFinalize, BroadcastNotarization, BroadcastNullification, BroadcastFinalization, GetBestCertificate, Prune, Nullify, Finalize, newly, first_vote, vote_entry, answer, recorded_by}
-use Rattle.simplex_laws.specs.CallActs.{acts_of_call, floor_acts}
 use Rattle.simplex_member.specs.Check.{stands}
 use Rattle.simplex_member.specs.Cuts.{is_vote}
 use Rattle.simplex_member.specs.Entries.{entry_view}
 use Rattle.simplex_member.specs.Recovery.{is_finalization, with_floor}
+use Rattle.simplex_laws.specs.Deeds.{Deed, Accepts, Signs, of_floor, deeds_of_call}
+use Rattle.simplex_laws.specs.Lawful.{HasSigned}
+use Rattle.simplex_laws.proofs.Signed.{signed_none, signed_left, signed_cases, signed_last, only_signed}
 use Rattle.simplex_laws.proofs.Filters.{Contains-filter, Contains-filtered}
 use Rattle.simplex_laws.proofs.Recalls.{only_one}
 use Rattle.simplex_laws.proofs.Notes.{RemembersNotes, CastsNone}
@@ -30,17 +31,17 @@ abbrev pub NotesNone : {D G : Type 0} → List (ArtifactFacts D G) → Type 0
 NotesNone {D} {G} entries = (p : Proposal D) (m : ℕ) (signature : G) → Contains entries (NotarizeVote p m signature) → ⊥
 
 pub nothing_noted : {D G : Type 0} → RemembersNotes {D = D} {G = G} [] 0 []
-nothing_noted = record { cast = λ p m signature h. absurd (omega (arith, h.1)); noted = λ p h. absurd (omega (arith, h.1)) }
+nothing_noted = record { cast = λ p m signature h. absurd (omega (arith, h.1)); noted = λ p h. absurd (signed_none (subject.Notarize p) h) }
 
 module _ {D G : Type 0} where
-  -- acts and entries that are no votes to notarize
-  pub notes_grow : (acts more : List (Act D)) (kept : ℕ) (entries new : List (ArtifactFacts D G)) → CastsNone more → NotesNone new → RemembersNotes acts kept entries → RemembersNotes (acts ++ more) kept (entries ++ new)
-  notes_grow acts more kept entries new casts notes remembers = record {
+  -- deeds and entries that are no votes to notarize
+  pub notes_grow : (deeds more : List (Deed D G)) (kept : ℕ) (entries new : List (ArtifactFacts D G)) → CastsNone more → NotesNone new → RemembersNotes deeds kept entries → RemembersNotes (deeds ++ more) kept (entries ++ new)
+  notes_grow deeds more kept entries new casts notes remembers = record {
     cast = λ p m signature h. elim (Contains-append_cases entries new (NotarizeVote p m signature) h) [
-      | inl old ↦ Contains-append_left acts more (Cast (subject.Notarize p)) (remembers.cast p m signature old)
+      | inl old ↦ signed_left deeds more (subject.Notarize p) (remembers.cast p m signature old)
       | inr there ↦ absurd (notes p m signature there)
     ];
-    noted = λ p h. elim (Contains-append_cases acts more (Cast (subject.Notarize p)) h) [
+    noted = λ p h. elim (signed_cases deeds more (subject.Notarize p) h) [
       | inl old ↦ elim (remembers.noted p old) [
         | inl e ↦ inl (e.0, e.1, Contains-append_left entries new (NotarizeVote p e.0 e.1) e.2)
         | inr below ↦ inr below
@@ -50,30 +51,30 @@ module _ {D G : Type 0} where
   }
 
   -- a vote to notarize that is recorded
-  pub notes_cast : (acts : List (Act D)) (kept : ℕ) (entries : List (ArtifactFacts D G)) (p : Proposal D) (m : ℕ) (signature : G) → RemembersNotes acts kept entries → RemembersNotes (acts ++ Cast (subject.Notarize p) ∷ []) kept (entries ++ NotarizeVote p m signature ∷ [])
-  notes_cast acts kept entries p m signature remembers = record {
+  pub notes_cast : (deeds : List (Deed D G)) (kept : ℕ) (entries : List (ArtifactFacts D G)) (p : Proposal D) (m : ℕ) (signature : G) → RemembersNotes deeds kept entries → RemembersNotes (deeds ++ Signs m (subject.Notarize p) signature ∷ []) kept (entries ++ NotarizeVote p m signature ∷ [])
+  notes_cast deeds kept entries p m signature remembers = record {
     cast = λ q n s h. elim (Contains-append_cases entries (NotarizeVote p m signature ∷ []) (NotarizeVote q n s) h) [
-      | inl old ↦ Contains-append_left acts (Cast (subject.Notarize p) ∷ []) (Cast (subject.Notarize q)) (remembers.cast q n s old)
+      | inl old ↦ signed_left deeds (Signs m (subject.Notarize p) signature ∷ []) (subject.Notarize q) (remembers.cast q n s old)
       | inr there ↦
           (let e = only_one (NotarizeVote p m signature) (NotarizeVote q n s) there in
           let same : p ≡ q = cc in
-          subst (λ (t : Proposal D). Contains (acts ++ Cast (subject.Notarize p) ∷ []) (Cast (subject.Notarize t))) same (Contains-append_right acts (Cast (subject.Notarize p) ∷ []) (Cast (subject.Notarize p)) (0, omega arith, refl)))
+          subst (λ (t : Proposal D). HasSigned (deeds ++ Signs m (subject.Notarize p) signature ∷ []) (subject.Notarize t)) same (signed_last deeds m (subject.Notarize p) signature))
     ];
-    noted = λ q h. elim (Contains-append_cases acts (Cast (subject.Notarize p) ∷ []) (Cast (subject.Notarize q)) h) [
+    noted = λ q h. elim (signed_cases deeds (Signs m (subject.Notarize p) signature ∷ []) (subject.Notarize q) h) [
       | inl old ↦ elim (remembers.noted q old) [
         | inl e ↦ inl (e.0, e.1, Contains-append_left entries (NotarizeVote p m signature ∷ []) (NotarizeVote q e.0 e.1) e.2)
         | inr below ↦ inr below
       ]
       | inr there ↦
-          (let e = only_one (Cast (subject.Notarize p)) (Cast (subject.Notarize q)) there in
+          (let e = only_signed (Signs m (subject.Notarize p) signature) (subject.Notarize q) there in
           let same : p ≡ q = cc in
           inl (m, signature, subst (λ (t : Proposal D). Contains (entries ++ NotarizeVote p m signature ∷ []) (NotarizeVote t m signature)) same (Contains-append_right entries (NotarizeVote p m signature ∷ []) (NotarizeVote p m signature) (0, omega arith, refl))))
     ];
   }
 
-module _ {D G : Type 0} (acts : List (Act D)) (kept : ℕ) (entries : List (ArtifactFacts D G)) (remembers : RemembersNotes acts kept entries) where
+module _ {D G : Type 0} (deeds : List (Deed D G)) (kept : ℕ) (entries : List (ArtifactFacts D G)) (remembers : RemembersNotes deeds kept entries) where
   -- entries of each view in the same order
-  pub notes_copied : (copy : List (ArtifactFacts D G)) → ((v : ℕ) → filter (λ e. entry_view e == v) copy ≡ filter (λ e. entry_view e == v) entries) → RemembersNotes acts kept copy
+  pub notes_copied : (copy : List (ArtifactFacts D G)) → ((v : ℕ) → filter (λ e. entry_view e == v) copy ≡ filter (λ e. entry_view e == v) entries) → RemembersNotes deeds kept copy
   notes_copied copy of_each_view = record {
     cast = λ p m signature h. remembers.cast p m signature (in_record (NotarizeVote p m signature) h);
     noted = λ p h. elim (remembers.noted p h) [ inl e ↦ inl (e.0, e.1, in_copy (NotarizeVote p e.0 e.1) e.2) | inr below ↦ inr below ];
@@ -90,7 +91,7 @@ module _ {D G : Type 0} (acts : List (Act D)) (kept : ℕ) (entries : List (Arti
           Contains-filtered test copy e (subst (λ es. Contains es e) (sym (of_each_view (entry_view e))) (Contains-filter test entries e h (eq-eqb (entry_view e) (entry_view e) refl)))
 
   -- without last entries that are no votes
-  pub notes_left : (left tail : List (ArtifactFacts D G)) → entries ≡ left ++ tail → ((e : ArtifactFacts D G) → Contains tail e → is_vote e ≡ false) → RemembersNotes acts kept left
+  pub notes_left : (left tail : List (ArtifactFacts D G)) → entries ≡ left ++ tail → ((e : ArtifactFacts D G) → Contains tail e → is_vote e ≡ false) → RemembersNotes deeds kept left
   notes_left left tail split no_votes = record {
     cast = λ p m signature h. remembers.cast p m signature (subst (λ es. Contains es (NotarizeVote p m signature)) (sym split) (Contains-append_left left tail (NotarizeVote p m signature) h));
     noted = λ p h. elim (remembers.noted p h) [ inl e ↦ inl (e.0, e.1, voted p e.0 e.1 e.2) | inr below ↦ inr below ];
@@ -103,7 +104,7 @@ module _ {D G : Type 0} (acts : List (Act D)) (kept : ℕ) (entries : List (Arti
       ]
 
   -- without what stands below a view
-  pub notes_bounded : (bound : ℕ) → RemembersNotes acts (max kept bound) (filter (λ e. nat_le bound (entry_view e)) entries)
+  pub notes_bounded : (bound : ℕ) → RemembersNotes deeds (max kept bound) (filter (λ e. nat_le bound (entry_view e)) entries)
   notes_bounded bound = record {
     cast = λ p m signature h. remembers.cast p m signature (Contains-filtered test entries (NotarizeVote p m signature) h);
     noted = λ p h. elim (remembers.noted p h) [
@@ -120,14 +121,14 @@ module _ {D G : Type 0} (acts : List (Act D)) (kept : ℕ) (entries : List (Arti
 
 -- certificates, verdicts and votes to nullify and to finalize
 
-module _ {D : Type 0} where
-  casts_nothing : CastsNone {D = D} []
-  casts_nothing p h = absurd (omega (arith, h.1))
+module _ {D G : Type 0} where
+  casts_nothing : CastsNone {D = D} {G = G} []
+  casts_nothing p h = absurd (signed_none (subject.Notarize p) h)
 
-  casts_accepted : (s : Subject D) → CastsNone (Accept s ∷ [])
-  casts_accepted s p h = absurd (let e = only_one (Accept s) (Cast (subject.Notarize p)) h in cc)
+  casts_accepted : (s : Subject D) → CastsNone {G = G} (Accepts s ∷ [])
+  casts_accepted s p h = absurd (let e = only_signed (Accepts s) (subject.Notarize p) h in cc)
 
-  pub floor_casts_none : (floor : FloorFacts D) → CastsNone (floor_acts floor)
+  pub floor_casts_none : (floor : FloorFacts D) → CastsNone {G = G} (of_floor floor)
   floor_casts_none (Genesis _) = casts_nothing
   floor_casts_none (FinalizedFloor c) = casts_accepted (subject.Finalize c.proposal)
 
@@ -146,24 +147,24 @@ module _ {D G : Type 0} where
   notes_newly b e other = notes_if b (e ∷ []) [] (notes_accepted e other) notes_nothing
 
   -- with the floor's finalization
-  pub notes_floored : (acts : List (Act D)) (kept : ℕ) (entries : List (ArtifactFacts D G)) (floor : FloorFacts D) → RemembersNotes acts kept entries → RemembersNotes (acts ++ floor_acts floor) kept (with_floor entries floor)
-  notes_floored acts kept entries (Genesis _) remembers = subst (λ a. RemembersNotes a kept entries) (sym (append-nil acts)) remembers
-  notes_floored acts kept entries (FinalizedFloor c) remembers = by_record (stands c.proposal.round.view is_finalization entries) refl
+  pub notes_floored : (deeds : List (Deed D G)) (kept : ℕ) (entries : List (ArtifactFacts D G)) (floor : FloorFacts D) → RemembersNotes deeds kept entries → RemembersNotes (deeds ++ of_floor floor) kept (with_floor entries floor)
+  notes_floored deeds kept entries (Genesis _) remembers = subst (λ a. RemembersNotes a kept entries) (sym (append-nil deeds)) remembers
+  notes_floored deeds kept entries (FinalizedFloor c) remembers = by_record (stands c.proposal.round.view is_finalization entries) refl
     where
-      casts : CastsNone (Accept (subject.Finalize c.proposal) ∷ [])
+      casts : CastsNone {G = G} (Accepts (subject.Finalize c.proposal) ∷ [])
       casts = casts_accepted (subject.Finalize c.proposal)
 
-      by_record : (b : Bool) → stands c.proposal.round.view is_finalization entries ≡ b → RemembersNotes (acts ++ Accept (subject.Finalize c.proposal) ∷ []) kept (with_floor entries (FinalizedFloor c))
-      by_record true is = rw is (subst (λ es. RemembersNotes (acts ++ Accept (subject.Finalize c.proposal) ∷ []) kept es) (append-nil entries) (notes_grow acts (Accept (subject.Finalize c.proposal) ∷ []) kept entries [] casts notes_nothing remembers))
-      by_record false is = rw is (notes_grow acts (Accept (subject.Finalize c.proposal) ∷ []) kept entries (Accepted (Finalized c) ∷ []) casts (notes_accepted (Accepted (Finalized c)) (λ p m signature e. absurd (cc))) remembers)
+      by_record : (b : Bool) → stands c.proposal.round.view is_finalization entries ≡ b → RemembersNotes (deeds ++ Accepts (subject.Finalize c.proposal) ∷ []) kept (with_floor entries (FinalizedFloor c))
+      by_record true is = rw is (subst (λ es. RemembersNotes (deeds ++ Accepts (subject.Finalize c.proposal) ∷ []) kept es) (append-nil entries) (notes_grow deeds (Accepts (subject.Finalize c.proposal) ∷ []) kept entries [] casts notes_nothing remembers))
+      by_record false is = rw is (notes_grow deeds (Accepts (subject.Finalize c.proposal) ∷ []) kept entries (Accepted (Finalized c) ∷ []) casts (notes_accepted (Accepted (Finalized c)) (λ p m signature e. absurd (cc))) remembers)
 
 module _ {D G : Type 0} (signature_of : ℕ → Subject D → G) (round : Round) where
   -- a vote to nullify, where one is told
 
-  nullify_casts_none : (K : Type 0) (v : ℕ) (me : Option ℕ) (a : Option Bool) → CastsNone (acts_of_call {K = K} {D = D} {G = G} (ConstructNullify v) (Nullify (option_and_then (λ m. option_map (λ retry. (retry, NullifyVote round m (signature_of m (subject.Nullify round)))) a) me)))
+  nullify_casts_none : (K : Type 0) (v : ℕ) (me : Option ℕ) (a : Option Bool) → CastsNone (deeds_of_call {K = K} {D = D} {G = G} (ConstructNullify v) (Nullify (option_and_then (λ m. option_map (λ retry. (retry, NullifyVote round m (signature_of m (subject.Nullify round)))) a) me)))
   nullify_casts_none K v None a = casts_nothing
   nullify_casts_none K v (Some m) None = casts_nothing
-  nullify_casts_none K v (Some m) (Some retry) = λ p h. absurd (let e = only_one (Cast (subject.Nullify round)) (Cast (subject.Notarize p)) h in cc)
+  nullify_casts_none K v (Some m) (Some retry) = λ p h. absurd (let e = only_signed (Signs m (subject.Nullify round) (signature_of m (subject.Nullify round))) (subject.Notarize p) h in cc)
 
   nullify_notes_none : (me : Option ℕ) (a : Option Bool) → NotesNone {D = D} {G = G} (first_vote (option_and_then (λ m. option_map (λ retry. (retry, NullifyVote round m (signature_of m (subject.Nullify round)))) a) me))
   nullify_notes_none None a = notes_nothing
@@ -174,10 +175,10 @@ module _ {D G : Type 0} (signature_of : ℕ → Subject D → G) (round : Round)
 module _ {D G : Type 0} (signature_of : ℕ → Subject D → G) where
   -- a vote to finalize
 
-  finalize_casts_none : (K : Type 0) (v : ℕ) (me : Option ℕ) (a : Option (Proposal D)) → CastsNone (acts_of_call {K = K} {D = D} {G = G} (ConstructFinalize v) (Finalize (option_and_then (λ m. option_map (λ p. FinalizeVote p m (signature_of m (subject.Finalize p))) a) me)))
+  finalize_casts_none : (K : Type 0) (v : ℕ) (me : Option ℕ) (a : Option (Proposal D)) → CastsNone (deeds_of_call {K = K} {D = D} {G = G} (ConstructFinalize v) (Finalize (option_and_then (λ m. option_map (λ p. FinalizeVote p m (signature_of m (subject.Finalize p))) a) me)))
   finalize_casts_none K v None a = casts_nothing
   finalize_casts_none K v (Some m) None = casts_nothing
-  finalize_casts_none K v (Some m) (Some q) = λ p h. absurd (let e = only_one (Cast (subject.Finalize q)) (Cast (subject.Notarize p)) h in cc)
+  finalize_casts_none K v (Some m) (Some q) = λ p h. absurd (let e = only_signed (Signs m (subject.Finalize q) (signature_of m (subject.Finalize q))) (subject.Notarize p) h in cc)
 
   finalize_notes_none : (me : Option ℕ) (a : Option (Proposal D)) → NotesNone {D = D} {G = G} (vote_entry (option_and_then (λ m. option_map (λ p. FinalizeVote p m (signature_of m (subject.Finalize p))) a) me))
   finalize_notes_none None a = notes_nothing
@@ -187,7 +188,7 @@ module _ {D G : Type 0} (signature_of : ℕ → Subject D → G) where
 module _ {K L D G : Type 0} (same : D → D → Bool) (elect : Elect L) (signature_of : ℕ → Subject D → G) (x : Facts K L D) where
   -- no call of these casts a vote to notarize, nor records one
 
-  pub calls_cast_none : (call : CallFacts D) → CastsNone (acts_of_call call (answer same elect signature_of x call))
+  pub calls_cast_none : (call : CallFacts D) → CastsNone (deeds_of_call call (answer same elect signature_of x call))
   calls_cast_none (AddNotarization c) = casts_accepted (subject.Notarize c.proposal)
   calls_cast_none (AddNullification c now) = casts_accepted (subject.Nullify c.round)
   calls_cast_none (AddFinalization c now) = casts_accepted (subject.Finalize c.proposal)
@@ -213,5 +214,5 @@ module _ {K L D G : Type 0} (same : D → D → Bool) (elect : Elect L) (signatu
   calls_record_none GetBestCertificate = notes_nothing
   calls_record_none Prune = notes_nothing
 
-  pub notes_called : (acts : List (Act D)) (kept : ℕ) (entries : List (ArtifactFacts D G)) (call : CallFacts D) → RemembersNotes acts kept entries → RemembersNotes (acts ++ acts_of_call call (answer same elect signature_of x call)) kept (entries ++ recorded_by same elect signature_of x call)
-  notes_called acts kept entries call = notes_grow acts (acts_of_call call (answer same elect signature_of x call)) kept entries (recorded_by same elect signature_of x call) (calls_cast_none call) (calls_record_none call)
+  pub notes_called : (deeds : List (Deed D G)) (kept : ℕ) (entries : List (ArtifactFacts D G)) (call : CallFacts D) → RemembersNotes deeds kept entries → RemembersNotes (deeds ++ deeds_of_call call (answer same elect signature_of x call)) kept (entries ++ recorded_by same elect signature_of x call)
+  notes_called deeds kept entries call = notes_grow deeds (deeds_of_call call (answer same elect signature_of x call)) kept entries (recorded_by same elect signature_of x call) (calls_cast_none call) (calls_record_none call)

@@ -9,11 +9,13 @@ use Rattle.simplex_types.specs.declared.types.messages.Proposal.{Proposal}
 use Rattle.simplex_types.specs.declared.types.messages.Subject.{Subject}
 use Rattle.simplex_types.specs.declared.types.messages.Subject.TheVariants as subject
 use Rattle.simplex_types.specs.declared.types.numbers.Round.{Round}
-use Rattle.simplex_laws.specs.Acts.{Act, Cast, IsLawful}
 use Rattle.simplex_member.specs.Calls.{newly}
 use Rattle.simplex_member.specs.Check.{stands}
 use Rattle.simplex_member.specs.Entries.{entry_view}
 use Rattle.simplex_member.specs.Recovery.{is_finalization, with_floor}
+use Rattle.simplex_laws.specs.Deeds.{Deed}
+use Rattle.simplex_laws.specs.Lawful.{HasSigned, SignsAfter, IsLawful}
+use Rattle.simplex_laws.proofs.Signed.{signed_left}
 use Rattle.simplex_laws.proofs.Filters.{filter_split, filter_middle, Contains-filter, Contains-filtered, filtered_passes}
 use Rattle.simplex_laws.proofs.Recalls.{Remembers, only_one}
 use Rattle.simplex_laws.proofs.Remembering.{append_split, none_split}
@@ -21,25 +23,25 @@ use Rattle.simplex_laws.proofs.Together.{HoldTogether}
 use Rattle.simplex_laws.proofs.VoteOrder.{Order, Same, First, Second, in_order, Contains-middle}
 
 -- each verdict stands behind a notarization of its view, a view's verdicts agree, and each vote to notarize was cast
-pub record OwnRecord {D G : Type 0} (acts : List (Act D)) (entries : List (ArtifactFacts D G)) : Type 0 where
+pub record OwnRecord {D G : Type 0} (deeds : List (Deed D G)) (entries : List (ArtifactFacts D G)) : Type 0 where
   pub notarized : (before after : List (ArtifactFacts D G)) (round : Round) (success : Bool) → entries ≡ before ++ Verdict round success ∷ after → (c : ProposalFacts D) × Contains before (Accepted (Notarized c)) × (c.proposal.round.view ≡ round.view)
   pub one_verdict : (round other : Round) (success given : Bool) → Contains entries (Verdict round success) → Contains entries (Verdict other given) → round.view ≡ other.view → success ≡ given
-  pub notarize_cast : (p : Proposal D) (m : ℕ) (g : G) → Contains entries (NotarizeVote p m g) → Contains acts (Cast (subject.Notarize p))
+  pub notarize_cast : (p : Proposal D) (m : ℕ) (g : G) → Contains entries (NotarizeVote p m g) → HasSigned deeds (subject.Notarize p)
 
 -- two votes of one kind are one, or the later one is for another view
-one_of : {D : Type 0} (acts : List (Act D)) (vote : Proposal D → Subject D) (p q : Proposal D) → ((before : List (Act D)) (r s : Proposal D) → (after : List (Act D)) × (acts ≡ before ++ Cast (vote r) ∷ after) → Contains before (Cast (vote s)) → s.round.view ≡ r.round.view → ⊥) → (vote p ≡ vote q → p ≡ q) → Order acts (vote p) (vote q) → p.round.view ≡ q.round.view → p ≡ q
-one_of acts vote p q apart one (Same is) at = one is
-one_of acts vote p q apart one (First before cast old) at = absurd (apart before q p cast old at)
-one_of acts vote p q apart one (Second before cast old) at = absurd (apart before p q cast old (sym at))
+one_of : {D G : Type 0} (deeds : List (Deed D G)) (vote : Proposal D → Subject D) (p q : Proposal D) → ((before : List (Deed D G)) (r s : Proposal D) → SignsAfter deeds before (vote r) → HasSigned before (vote s) → s.round.view ≡ r.round.view → ⊥) → (vote p ≡ vote q → p ≡ q) → Order deeds (vote p) (vote q) → p.round.view ≡ q.round.view → p ≡ q
+one_of deeds vote p q apart one (Same is) at = one is
+one_of deeds vote p q apart one (First before cast old) at = absurd (apart before q p cast old at)
+one_of deeds vote p q apart one (Second before cast old) at = absurd (apart before p q cast old (sym at))
 
-module _ {D G : Type 0} (term_length : ℕ) (acts : List (Act D)) (kept : ℕ) (entries : List (ArtifactFacts D G)) where
-  -- such a record of lawful acts holds together
-  pub own_together : IsLawful term_length acts → Remembers acts kept entries → OwnRecord acts entries → HoldTogether entries
+module _ {D G : Type 0} (term_length : ℕ) (deeds : List (Deed D G)) (kept : ℕ) (entries : List (ArtifactFacts D G)) where
+  -- such a record of lawful deeds holds together
+  pub own_together : IsLawful term_length deeds → Remembers deeds kept entries → OwnRecord deeds entries → HoldTogether entries
   own_together lawful remembers own = record {
     notarized = own.notarized;
     one_verdict = own.one_verdict;
-    one_notarize = λ p q m n g h there here. one_of acts subject.Notarize p q lawful.one_notarize (λ is. cc) (in_order acts (subject.Notarize p) (subject.Notarize q) (own.notarize_cast p m g there) (own.notarize_cast q n h here));
-    one_finalize = λ p q m n g h there here. one_of acts subject.Finalize p q lawful.one_finalize (λ is. cc) (in_order acts (subject.Finalize p) (subject.Finalize q) (remembers.finalize_cast p m g there) (remembers.finalize_cast q n h here));
+    one_notarize = λ p q m n g h there here. one_of deeds subject.Notarize p q lawful.one_notarize (λ is. cc) (in_order deeds (subject.Notarize p) (subject.Notarize q) (own.notarize_cast p m g there) (own.notarize_cast q n h here));
+    one_finalize = λ p q m n g h there here. one_of deeds subject.Finalize p q lawful.one_finalize (λ is. cc) (in_order deeds (subject.Finalize p) (subject.Finalize q) (remembers.finalize_cast p m g there) (remembers.finalize_cast q n h here));
     not_both = λ round p m n g h there here. lawful.not_both round p (remembers.nullify_cast round m g there) (remembers.finalize_cast p n h here);
     judged = remembers.judged;
   }
@@ -91,11 +93,11 @@ own_nothing = record {
   notarize_cast = λ p m g h. absurd (omega (arith, h.1));
 }
 
-module _ {D G : Type 0} (acts : List (Act D)) (entries : List (ArtifactFacts D G)) (own : OwnRecord acts entries) where
+module _ {D G : Type 0} (deeds : List (Deed D G)) (entries : List (ArtifactFacts D G)) (own : OwnRecord deeds entries) where
   -- growth
 
   -- no verdict, and votes to notarize that were cast
-  pub own_silent : (more : List (Act D)) (new : List (ArtifactFacts D G)) → HasNoVerdict new → ((p : Proposal D) (m : ℕ) (g : G) → Contains new (NotarizeVote p m g) → Contains (acts ++ more) (Cast (subject.Notarize p))) → OwnRecord (acts ++ more) (entries ++ new)
+  pub own_silent : (more : List (Deed D G)) (new : List (ArtifactFacts D G)) → HasNoVerdict new → ((p : Proposal D) (m : ℕ) (g : G) → Contains new (NotarizeVote p m g) → HasSigned (deeds ++ more) (subject.Notarize p)) → OwnRecord (deeds ++ more) (entries ++ new)
   own_silent more new silent cast = record {
     notarized = λ before after round success split. elim (append_split entries new before after (Verdict round success) split) [
       | inl old ↦ own.notarized before old.0 round success old.1
@@ -103,7 +105,7 @@ module _ {D G : Type 0} (acts : List (Act D)) (entries : List (ArtifactFacts D G
     ];
     one_verdict = λ round other success given h k. own.one_verdict round other success given (old_verdict round success h) (old_verdict other given k);
     notarize_cast = λ p m g h. elim (Contains-append_cases entries new (NotarizeVote p m g) h) [
-      | inl old ↦ Contains-append_left acts more (Cast (subject.Notarize p)) (own.notarize_cast p m g old)
+      | inl old ↦ signed_left deeds more (subject.Notarize p) (own.notarize_cast p m g old)
       | inr late ↦ cast p m g late
     ];
   }
@@ -114,11 +116,11 @@ module _ {D G : Type 0} (acts : List (Act D)) (entries : List (ArtifactFacts D G
         | inr late ↦ absurd (silent round success late)
       ]
 
-  pub own_quiet : (more : List (Act D)) (new : List (ArtifactFacts D G)) → AreQuiet new → OwnRecord (acts ++ more) (entries ++ new)
+  pub own_quiet : (more : List (Deed D G)) (new : List (ArtifactFacts D G)) → AreQuiet new → OwnRecord (deeds ++ more) (entries ++ new)
   own_quiet more new quiet = own_silent more new (no_verdict new quiet) (λ p m g h. absurd (none_weighed new (NotarizeVote p m g) quiet refl h))
 
   -- a verdict of a view that has its notarization, and no other verdict
-  pub own_verdict : (more : List (Act D)) (round : Round) (success : Bool) → (c : ProposalFacts D) × Contains entries (Accepted (Notarized c)) × (c.proposal.round.view ≡ round.view) → ((other : Round) (given : Bool) → Contains entries (Verdict other given) → other.view ≡ round.view → given ≡ success) → OwnRecord (acts ++ more) (entries ++ Verdict round success ∷ [])
+  pub own_verdict : (more : List (Deed D G)) (round : Round) (success : Bool) → (c : ProposalFacts D) × Contains entries (Accepted (Notarized c)) × (c.proposal.round.view ≡ round.view) → ((other : Round) (given : Bool) → Contains entries (Verdict other given) → other.view ≡ round.view → given ≡ success) → OwnRecord (deeds ++ more) (entries ++ Verdict round success ∷ [])
   own_verdict more round success notarization agree = record {
     notarized = λ before after other given split. elim (append_split entries new before after (Verdict other given) split) [
       | inl old ↦ own.notarized before old.0 other given old.1
@@ -138,7 +140,7 @@ module _ {D G : Type 0} (acts : List (Act D)) (entries : List (ArtifactFacts D G
       ]
     ];
     notarize_cast = λ p m g h. elim (Contains-append_cases entries new (NotarizeVote p m g) h) [
-      | inl old ↦ Contains-append_left acts more (Cast (subject.Notarize p)) (own.notarize_cast p m g old)
+      | inl old ↦ signed_left deeds more (subject.Notarize p) (own.notarize_cast p m g old)
       | inr late ↦ absurd (let e = only_one (Verdict round success) (NotarizeVote p m g) late in cc)
     ];
   }
@@ -153,19 +155,19 @@ module _ {D G : Type 0} (acts : List (Act D)) (entries : List (ArtifactFacts D G
       one other given h = let e : Verdict round success ≡ verdict other given = only_one (verdict round success) (verdict other given) h in (cc, cc)
 
   -- with the floor's finalization
-  pub own_floor : (more : List (Act D)) (floor : FloorFacts D) → OwnRecord (acts ++ more) (with_floor entries floor)
+  pub own_floor : (more : List (Deed D G)) (floor : FloorFacts D) → OwnRecord (deeds ++ more) (with_floor entries floor)
   own_floor more (Genesis payload) = wider
     where
-      wider : OwnRecord (acts ++ more) entries
-      wider = record { notarized = own.notarized; one_verdict = own.one_verdict; notarize_cast = λ p m g h. Contains-append_left acts more (Cast (subject.Notarize p)) (own.notarize_cast p m g h) }
+      wider : OwnRecord (deeds ++ more) entries
+      wider = record { notarized = own.notarized; one_verdict = own.one_verdict; notarize_cast = λ p m g h. signed_left deeds more (subject.Notarize p) (own.notarize_cast p m g h) }
   own_floor more (FinalizedFloor c) = by_record (stands c.proposal.round.view is_finalization entries) refl
     where
-      by_record : (b : Bool) → stands c.proposal.round.view is_finalization entries ≡ b → OwnRecord (acts ++ more) (with_floor entries (FinalizedFloor c))
-      by_record true is = rw is (record { notarized = own.notarized; one_verdict = own.one_verdict; notarize_cast = λ p m g h. Contains-append_left acts more (Cast (subject.Notarize p)) (own.notarize_cast p m g h) })
+      by_record : (b : Bool) → stands c.proposal.round.view is_finalization entries ≡ b → OwnRecord (deeds ++ more) (with_floor entries (FinalizedFloor c))
+      by_record true is = rw is (record { notarized = own.notarized; one_verdict = own.one_verdict; notarize_cast = λ p m g h. signed_left deeds more (subject.Notarize p) (own.notarize_cast p m g h) })
       by_record false is = rw is (own_quiet more (Accepted (Finalized c) ∷ []) (quiet_one (Accepted (Finalized c)) refl))
 
   -- without last entries
-  pub own_left : (left tail : List (ArtifactFacts D G)) → entries ≡ left ++ tail → OwnRecord acts left
+  pub own_left : (left tail : List (ArtifactFacts D G)) → entries ≡ left ++ tail → OwnRecord deeds left
   own_left left tail split = record {
     notarized = λ before after round success is. own.notarized before (after ++ tail) round success (split ∙ (ap (λ es. es ++ tail) is ∙ append_assoc before (Verdict round success ∷ after) tail));
     one_verdict = λ round other success given h k. own.one_verdict round other success given (there (Verdict round success) h) (there (Verdict other given) k);
@@ -176,7 +178,7 @@ module _ {D G : Type 0} (acts : List (Act D)) (entries : List (ArtifactFacts D G
       there e h = subst (λ es. Contains es e) (sym split) (Contains-append_left left tail e h)
 
   -- without what stands below a view
-  pub own_bounded : (bound : ℕ) → OwnRecord acts (filter (λ e. nat_le bound (entry_view e)) entries)
+  pub own_bounded : (bound : ℕ) → OwnRecord deeds (filter (λ e. nat_le bound (entry_view e)) entries)
   own_bounded bound = record {
     notarized = λ before after round success split.
         (let whole = filter_split test entries before after (Verdict round success) split in
@@ -193,7 +195,7 @@ module _ {D G : Type 0} (acts : List (Act D)) (entries : List (ArtifactFacts D G
       test e = nat_le bound (entry_view e)
 
   -- a copy with the entries of each view in their order
-  pub own_copy : (copy : List (ArtifactFacts D G)) → ((v : ℕ) → filter (λ e. entry_view e == v) copy ≡ filter (λ e. entry_view e == v) entries) → OwnRecord acts copy
+  pub own_copy : (copy : List (ArtifactFacts D G)) → ((v : ℕ) → filter (λ e. entry_view e == v) copy ≡ filter (λ e. entry_view e == v) entries) → OwnRecord deeds copy
   own_copy copy of_each_view = record {
     notarized = λ before after round success split.
         (let v = round.view in

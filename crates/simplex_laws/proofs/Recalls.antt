@@ -1,4 +1,4 @@
--- A state that is made again from a member's record shows the acts of all lives before.
+-- A state that is made again from a member's record shows the deeds of all lives before.
 use Rattle.std.proofs.Common.{◌≡◌, refl, ap, sym, ◌∙◌, subst, ℕ, zero, suc, ◌<◌, ◌≤◌, ◌⊎◌, inl, inr, Bool, true, List, [], ◌∷◌, ◌++◌, append_assoc, Contains, arith}
 use Rattle.std.proofs.lemmas.List.{append-nil}
 use Rattle.std.proofs.lemmas.List.Elements.{Contains-append_left, Contains-append_right, Contains-append_cases, Contains-push_cases}
@@ -8,85 +8,87 @@ use Rattle.simplex_types.specs.declared.types.messages.Subject.{Subject}
 use Rattle.simplex_types.specs.declared.types.messages.Subject.TheVariants as subject
 use Rattle.simplex_types.specs.declared.types.numbers.Round.{Round}
 use Rattle.simplex_voter.specs.Facts.{Facts, Elect}
-use Rattle.simplex_laws.specs.Acts.{Act, Accept, Cast, IsLawful}
 use Rattle.simplex_member.specs.Recovery.{taken, all_taken}
+use Rattle.simplex_laws.specs.Deeds.{Deed, Accepts, Signs}
+use Rattle.simplex_laws.specs.Lawful.{HasSigned, IsLawful}
+use Rattle.simplex_laws.proofs.Signed.{signed_none, signed_cases, only_signed}
 use Rattle.simplex_laws.proofs.Splits.{Contains-cases, Contains-cons_rest}
 use Rattle.simplex_laws.proofs.Standing.{Stays}
-use Rattle.simplex_laws.proofs.Retaken.{subject_of, entry_acts, MayRetake}
+use Rattle.simplex_laws.proofs.Retaken.{subject_of, entry_deeds, MayRetake}
 use Rattle.simplex_laws.proofs.RetakenEntries.{taken_stays, taken_rises, taken_passes}
 
--- what a record holds of a member's acts; it may lack votes of views below `kept`
-pub record Remembers {D G : Type 0} (acts : List (Act D)) (kept : ℕ) (entries : List (ArtifactFacts D G)) : Type 0 where
+-- what a record holds of a member's deeds; it may lack votes of views below `kept`
+pub record Remembers {D G : Type 0} (deeds : List (Deed D G)) (kept : ℕ) (entries : List (ArtifactFacts D G)) : Type 0 where
   -- each certificate was accepted, and each vote was cast
-  pub accepted : (c : CertificateFacts D) → Contains entries (Accepted c) → Contains acts (Accept (subject_of c))
-  pub nullify_cast : (round : Round) (m : ℕ) (signature : G) → Contains entries (NullifyVote round m signature) → Contains acts (Cast (subject.Nullify round))
-  pub finalize_cast : (p : Proposal D) (m : ℕ) (signature : G) → Contains entries (FinalizeVote p m signature) → Contains acts (Cast (subject.Finalize p))
+  pub accepted : (c : CertificateFacts D) → Contains entries (Accepted c) → Contains deeds (Accepts (subject_of c))
+  pub nullify_cast : (round : Round) (m : ℕ) (signature : G) → Contains entries (NullifyVote round m signature) → HasSigned deeds (subject.Nullify round)
+  pub finalize_cast : (p : Proposal D) (m : ℕ) (signature : G) → Contains entries (FinalizeVote p m signature) → HasSigned deeds (subject.Finalize p)
   -- each vote that was cast is recorded, or stands below what is kept
-  pub nullify_kept : (round : Round) → Contains acts (Cast (subject.Nullify round)) → ((m : ℕ) × (signature : G) × Contains entries (NullifyVote round m signature)) ⊎ (round.view < kept)
-  pub finalize_kept : (p : Proposal D) → Contains acts (Cast (subject.Finalize p)) → ((m : ℕ) × (signature : G) × Contains entries (FinalizeVote p m signature)) ⊎ (p.round.view < kept)
+  pub nullify_kept : (round : Round) → HasSigned deeds (subject.Nullify round) → ((m : ℕ) × (signature : G) × Contains entries (NullifyVote round m signature)) ⊎ (round.view < kept)
+  pub finalize_kept : (p : Proposal D) → HasSigned deeds (subject.Finalize p) → ((m : ℕ) × (signature : G) × Contains entries (FinalizeVote p m signature)) ⊎ (p.round.view < kept)
   -- no vote to nullify is of genesis
-  pub above_genesis : (round : Round) → Contains acts (Cast (subject.Nullify round)) → 1 ≤ round.view
+  pub above_genesis : (round : Round) → HasSigned deeds (subject.Nullify round) → 1 ≤ round.view
   -- behind each vote to finalize stands a true verdict of its view
   pub judged : (before after : List (ArtifactFacts D G)) (p : Proposal D) (m : ℕ) (signature : G) → entries ≡ before ++ FinalizeVote p m signature ∷ after → (round : Round) × Contains before (Verdict round true) × (round.view ≡ p.round.view)
 
--- the acts that entries record, in turn
-abbrev pub entries_acts : {D G : Type 0} → List (ArtifactFacts D G) → List (Act D)
-entries_acts [] = []
-entries_acts (e ∷ rest) = entry_acts e ++ entries_acts rest
+-- the deeds that entries record, in turn
+abbrev pub entries_deeds : {D G : Type 0} → List (ArtifactFacts D G) → List (Deed D G)
+entries_deeds [] = []
+entries_deeds (e ∷ rest) = entry_deeds e ++ entries_deeds rest
 
 pub only_one : {X : Type 0} (y x : X) → Contains (y ∷ []) x → y ≡ x
 only_one y x (zero, less, same) = same
 only_one y x (suc k, less, same) = absurd (omega arith)
 
 module _ {D G : Type 0} where
-  -- an entry's act shows the entry
+  -- an entry's deed shows the entry
 
-  of_nullify : (e : ArtifactFacts D G) (round : Round) → Contains (entry_acts e) (Cast (subject.Nullify round)) → (m : ℕ) × (signature : G) × (e ≡ NullifyVote round m signature)
-  of_nullify (NotarizeVote p _ _) round h = absurd (let e = only_one _ _ h in cc)
+  of_nullify : (e : ArtifactFacts D G) (round : Round) → HasSigned (entry_deeds e) (subject.Nullify round) → (m : ℕ) × (signature : G) × (e ≡ NullifyVote round m signature)
+  of_nullify (NotarizeVote p m signature) round h = absurd (let e = only_signed (Signs m (subject.Notarize p) signature) (subject.Nullify round) h in cc)
   of_nullify (NullifyVote r m signature) round h =
-      let e = only_one (Cast (subject.Nullify r)) (Cast (subject.Nullify round)) h in
+      let e = only_signed (Signs m (subject.Nullify r) signature) (subject.Nullify round) h in
       let same : r ≡ round = cc in
       (m, signature, ap (λ (s : Round). NullifyVote s m signature) same)
-  of_nullify (FinalizeVote p _ _) round h = absurd (let e = only_one _ _ h in cc)
-  of_nullify (Verdict _ _) round h = absurd (omega (arith, h.1))
-  of_nullify (Accepted c) round h = absurd (let e = only_one _ _ h in cc)
+  of_nullify (FinalizeVote p m signature) round h = absurd (let e = only_signed (Signs m (subject.Finalize p) signature) (subject.Nullify round) h in cc)
+  of_nullify (Verdict _ _) round h = absurd (signed_none (subject.Nullify round) h)
+  of_nullify (Accepted c) round h = absurd (let e = only_signed (Accepts (subject_of c)) (subject.Nullify round) h in cc)
 
-  of_finalize : (e : ArtifactFacts D G) (p : Proposal D) → Contains (entry_acts e) (Cast (subject.Finalize p)) → (m : ℕ) × (signature : G) × (e ≡ FinalizeVote p m signature)
-  of_finalize (NotarizeVote q _ _) p h = absurd (let e = only_one _ _ h in cc)
-  of_finalize (NullifyVote _ _ _) p h = absurd (let e = only_one _ _ h in cc)
+  of_finalize : (e : ArtifactFacts D G) (p : Proposal D) → HasSigned (entry_deeds e) (subject.Finalize p) → (m : ℕ) × (signature : G) × (e ≡ FinalizeVote p m signature)
+  of_finalize (NotarizeVote q m signature) p h = absurd (let e = only_signed (Signs m (subject.Notarize q) signature) (subject.Finalize p) h in cc)
+  of_finalize (NullifyVote r m signature) p h = absurd (let e = only_signed (Signs m (subject.Nullify r) signature) (subject.Finalize p) h in cc)
   of_finalize (FinalizeVote q m signature) p h =
-      let e = only_one (Cast (subject.Finalize q)) (Cast (subject.Finalize p)) h in
+      let e = only_signed (Signs m (subject.Finalize q) signature) (subject.Finalize p) h in
       let same : q ≡ p = cc in
       (m, signature, ap (λ (s : Proposal D). FinalizeVote s m signature) same)
-  of_finalize (Verdict _ _) p h = absurd (omega (arith, h.1))
-  of_finalize (Accepted c) p h = absurd (let e = only_one _ _ h in cc)
+  of_finalize (Verdict _ _) p h = absurd (signed_none (subject.Finalize p) h)
+  of_finalize (Accepted c) p h = absurd (let e = only_signed (Accepts (subject_of c)) (subject.Finalize p) h in cc)
 
-  pub of_accept : (e : ArtifactFacts D G) (s : Subject D) → Contains (entry_acts e) (Accept s) → (c : CertificateFacts D) × (e ≡ Accepted c) × (subject_of c ≡ s)
+  pub of_accept : (e : ArtifactFacts D G) (s : Subject D) → Contains (entry_deeds e) (Accepts s) → (c : CertificateFacts D) × (e ≡ Accepted c) × (subject_of c ≡ s)
   of_accept (NotarizeVote p _ _) s h = absurd (let e = only_one _ _ h in cc)
   of_accept (NullifyVote _ _ _) s h = absurd (let e = only_one _ _ h in cc)
   of_accept (FinalizeVote p _ _) s h = absurd (let e = only_one _ _ h in cc)
   of_accept (Verdict _ _) s h = absurd (omega (arith, h.1))
-  of_accept (Accepted c) s h = (c, refl, (let e = only_one (Accept (subject_of c)) (Accept s) h in cc))
+  of_accept (Accepted c) s h = (c, refl, (let e = only_one (Accepts (subject_of c)) (Accepts s) h in cc))
 
-  -- the acts of a list's entries are those of the entries in it
+  -- the deeds of a list's entries are those of the entries in it
 
-  pub entry_of : (entries : List (ArtifactFacts D G)) (act : Act D) → Contains (entries_acts entries) act → (e : ArtifactFacts D G) × Contains entries e × Contains (entry_acts e) act
-  entry_of [] act h = absurd (omega (arith, h.1))
-  entry_of (e ∷ rest) act h = elim (Contains-append_cases (entry_acts e) (entries_acts rest) act h) [
+  pub entry_of : (entries : List (ArtifactFacts D G)) (deed : Deed D G) → Contains (entries_deeds entries) deed → (e : ArtifactFacts D G) × Contains entries e × Contains (entry_deeds e) deed
+  entry_of [] deed h = absurd (omega (arith, h.1))
+  entry_of (e ∷ rest) deed h = elim (Contains-append_cases (entry_deeds e) (entries_deeds rest) deed h) [
     | inl here ↦ (e, (0, omega arith, refl), here)
-    | inr later ↦ (let found = entry_of rest act later in (found.0, Contains-cons_rest e rest found.0 found.1, found.2))
+    | inr later ↦ (let found = entry_of rest deed later in (found.0, Contains-cons_rest e rest found.0 found.1, found.2))
   ]
 
-  pub act_of : (entries : List (ArtifactFacts D G)) (e : ArtifactFacts D G) (act : Act D) → Contains entries e → Contains (entry_acts e) act → Contains (entries_acts entries) act
-  act_of [] e act h shows = absurd (omega (arith, h.1))
-  act_of (f ∷ rest) e act h shows = elim (Contains-cases f rest e h) [
-    | inl here ↦ Contains-append_left (entry_acts f) (entries_acts rest) act (subst (λ g. Contains (entry_acts g) act) (sym here) shows)
-    | inr later ↦ Contains-append_right (entry_acts f) (entries_acts rest) act (act_of rest e act later shows)
+  pub deed_of : (entries : List (ArtifactFacts D G)) (e : ArtifactFacts D G) (deed : Deed D G) → Contains entries e → Contains (entry_deeds e) deed → Contains (entries_deeds entries) deed
+  deed_of [] e deed h shows = absurd (omega (arith, h.1))
+  deed_of (f ∷ rest) e deed h shows = elim (Contains-cases f rest e h) [
+    | inl here ↦ Contains-append_left (entry_deeds f) (entries_deeds rest) deed (subst (λ g. Contains (entry_deeds g) deed) (sym here) shows)
+    | inr later ↦ Contains-append_right (entry_deeds f) (entries_deeds rest) deed (deed_of rest e deed later shows)
   ]
 
-module _ {K L D : Type 0} (term_length : ℕ) (a b : List (Act D)) (x : Facts K L D) where
-  -- the same facts show other acts, with no more votes above the finalized view and no fewer certificates
-  pub stays_over : ((s : Subject D) → Contains a (Accept s) → Contains b (Accept s)) → ((round : Round) → Contains b (Cast (subject.Nullify round)) → (1 ≤ round.view) × (Contains a (Cast (subject.Nullify round)) ⊎ (round.view ≤ x.finalized))) → ((p : Proposal D) → Contains b (Cast (subject.Finalize p)) → Contains a (Cast (subject.Finalize p)) ⊎ (p.round.view ≤ x.finalized)) → Stays term_length a x → Stays term_length b x
+module _ {K L D G : Type 0} (term_length : ℕ) (a b : List (Deed D G)) (x : Facts K L D) where
+  -- the same facts show other deeds, with no more votes above the finalized view and no fewer certificates
+  pub stays_over : ((s : Subject D) → Contains a (Accepts s) → Contains b (Accepts s)) → ((round : Round) → HasSigned b (subject.Nullify round) → (1 ≤ round.view) × (HasSigned a (subject.Nullify round) ⊎ (round.view ≤ x.finalized))) → ((p : Proposal D) → HasSigned b (subject.Finalize p) → HasSigned a (subject.Finalize p) ⊎ (p.round.view ≤ x.finalized)) → Stays term_length a x → Stays term_length b x
   stays_over accepts nullifies finalizes stays = record {
     stands = record {
       terms = stays.stands.terms;
@@ -105,14 +107,14 @@ module _ {K L D : Type 0} (term_length : ℕ) (a b : List (Act D)) (x : Facts K 
     final = elim stays.final [ inl genesis ↦ inl genesis | inr final ↦ inr (final.0, accepts (subject.Finalize final.0) final.1, final.2) ];
   }
 
--- the votes among some acts are among these
-abbrev pub AreRecorded : {D : Type 0} → List (Act D) → List (Act D) → Type 0
-AreRecorded {D} acts a =
-    ((round : Round) → Contains a (Cast (subject.Nullify round)) → Contains acts (Cast (subject.Nullify round)))
-    × ((p : Proposal D) → Contains a (Cast (subject.Finalize p)) → Contains acts (Cast (subject.Finalize p)))
+-- the votes among some deeds are among these
+abbrev pub AreRecorded : {D G : Type 0} → List (Deed D G) → List (Deed D G) → Type 0
+AreRecorded {D} deeds a =
+    ((round : Round) → HasSigned a (subject.Nullify round) → HasSigned deeds (subject.Nullify round))
+    × ((p : Proposal D) → HasSigned a (subject.Finalize p) → HasSigned deeds (subject.Finalize p))
 
-module _ {D G : Type 0} (term_length : ℕ) (acts : List (Act D)) (lawful : IsLawful term_length acts) (kept : ℕ) (copy : List (ArtifactFacts D G)) (remembers : Remembers acts kept copy) where
-  may_retake : (a : List (Act D)) (before rest : List (ArtifactFacts D G)) (e : ArtifactFacts D G) (current : ℕ) → copy ≡ before ++ e ∷ rest → AreRecorded acts a → ((round : Round) → Contains before (Verdict round true) → round.view < current) → MayRetake a current e
+module _ {D G : Type 0} (term_length : ℕ) (deeds : List (Deed D G)) (lawful : IsLawful term_length deeds) (kept : ℕ) (copy : List (ArtifactFacts D G)) (remembers : Remembers deeds kept copy) where
+  may_retake : (a : List (Deed D G)) (before rest : List (ArtifactFacts D G)) (e : ArtifactFacts D G) (current : ℕ) → copy ≡ before ++ e ∷ rest → AreRecorded deeds a → ((round : Round) → Contains before (Verdict round true) → round.view < current) → MayRetake a current e
   may_retake a before rest (NotarizeVote _ _ _) current split recorded passed = tt
   may_retake a before rest (NullifyVote round m signature) current split recorded passed =
       let entry : Contains copy (NullifyVote round m signature) = subst (λ es. Contains es (NullifyVote round m signature)) (sym split) (Contains-append_right before (NullifyVote round m signature ∷ rest) (NullifyVote round m signature) (0, omega arith, refl)) in
@@ -127,31 +129,31 @@ module _ {D G : Type 0} (term_length : ℕ) (acts : List (Act D)) (lawful : IsLa
   may_retake a before rest (Accepted _) current split recorded passed = tt
 
   -- the votes of one more entry are recorded too
-  recorded_also : (a : List (Act D)) (e : ArtifactFacts D G) → Contains copy e → AreRecorded acts a → AreRecorded acts (a ++ entry_acts e)
+  recorded_also : (a : List (Deed D G)) (e : ArtifactFacts D G) → Contains copy e → AreRecorded deeds a → AreRecorded deeds (a ++ entry_deeds e)
   recorded_also a e here recorded = (
-    λ round h. elim (Contains-append_cases a (entry_acts e) (Cast (subject.Nullify round)) h) [
+    λ round h. elim (signed_cases a (entry_deeds e) (subject.Nullify round) h) [
       | inl old ↦ recorded.0 round old
       | inr new ↦ (let is = of_nullify e round new in remembers.nullify_cast round is.0 is.1 (subst (λ f. Contains copy f) is.2 here))
     ],
-    λ p h. elim (Contains-append_cases a (entry_acts e) (Cast (subject.Finalize p)) h) [
+    λ p h. elim (signed_cases a (entry_deeds e) (subject.Finalize p) h) [
       | inl old ↦ recorded.1 p old
       | inr new ↦ (let is = of_finalize e p new in remembers.finalize_cast p is.0 is.1 (subst (λ f. Contains copy f) is.2 here))
     ],
   )
 
-module _ {K L D G : Type 0} (same : D → D → Bool) (decides : (d e : D) → same d e ≡ true → d ≡ e) (elect : Elect L) (term_length : ℕ) (acts : List (Act D)) (lawful : IsLawful term_length acts) (kept : ℕ) (copy : List (ArtifactFacts D G)) (remembers : Remembers acts kept copy) (now : ℕ) where
-  pub all_stay : (rest before : List (ArtifactFacts D G)) (a : List (Act D)) (x : Facts K L D) → copy ≡ before ++ rest → AreRecorded acts a → ((round : Round) → Contains before (Verdict round true) → round.view < x.current) → Stays term_length a x → Stays term_length (a ++ entries_acts rest) (all_taken same elect x now rest)
+module _ {K L D G : Type 0} (same : D → D → Bool) (decides : (d e : D) → same d e ≡ true → d ≡ e) (elect : Elect L) (term_length : ℕ) (deeds : List (Deed D G)) (lawful : IsLawful term_length deeds) (kept : ℕ) (copy : List (ArtifactFacts D G)) (remembers : Remembers deeds kept copy) (now : ℕ) where
+  pub all_stay : (rest before : List (ArtifactFacts D G)) (a : List (Deed D G)) (x : Facts K L D) → copy ≡ before ++ rest → AreRecorded deeds a → ((round : Round) → Contains before (Verdict round true) → round.view < x.current) → Stays term_length a x → Stays term_length (a ++ entries_deeds rest) (all_taken same elect x now rest)
   all_stay [] before a x split recorded passed stays = subst (λ b. Stays term_length b x) (sym (append-nil a)) stays
   all_stay (e ∷ rest) before a x split recorded passed stays =
       let y = taken same elect x now e in
       let further : List (ArtifactFacts D G) = before ++ e ∷ [] in
       let here : Contains copy e = subst (λ es. Contains es e) (sym split) (Contains-append_right before (e ∷ rest) e (0, omega arith, refl)) in
       let next : copy ≡ further ++ rest = split ∙ sym (append_assoc before (e ∷ []) rest) in
-      let took = taken_stays same decides elect term_length a x now e stays (may_retake term_length acts lawful kept copy remembers a before rest e x.current split recorded passed) in
+      let took = taken_stays same decides elect term_length a x now e stays (may_retake term_length deeds lawful kept copy remembers a before rest e x.current split recorded passed) in
       let up : x.current ≤ y.current = taken_rises same decides elect term_length a x now e in
       let passes : (round : Round) → Contains further (Verdict round true) → round.view < y.current =
       λ round h. elim (Contains-push_cases before e (Verdict round true) h) [
         | inl old ↦ omega (arith, passed round old)
         | inr new ↦ taken_passes same decides elect term_length a x now e round new stays.ahead
       ] in
-      subst (λ b. Stays term_length b (all_taken same elect y now rest)) (append_assoc a (entry_acts e) (entries_acts rest)) (all_stay rest further (a ++ entry_acts e) y next (recorded_also term_length acts lawful kept copy remembers a e here recorded) passes took)
+      subst (λ b. Stays term_length b (all_taken same elect y now rest)) (append_assoc a (entry_deeds e) (entries_deeds rest)) (all_stay rest further (a ++ entry_deeds e) y next (recorded_also term_length deeds lawful kept copy remembers a e here recorded) passes took)

@@ -27,9 +27,9 @@ use Rattle.simplex_voter.proofs.Elsewhere.{round_of-with_round}
 use Rattle.simplex_member.specs.Entries.{entry_round, entry_view}
 use Rattle.simplex_member.specs.Recovery.{retaken, taken, all_taken, recovered}
 use Rattle.simplex_laws.proofs.Splits.{Contains-cons_rest}
-use Rattle.simplex_laws.proofs.LeavesVotes.{round_put, moment_leaves, entered_leaves, elected_leaves, triggered_leaves, woken_leaves, nullified_leaves, floor_leaves}
+use Rattle.simplex_laws.proofs.Rounds.{round_put, tracked_put}
+use Rattle.simplex_laws.proofs.LeavesVotes.{moment_leaves, entered_leaves, elected_leaves, triggered_leaves, woken_leaves, nullified_leaves, floor_leaves}
 use Rattle.simplex_laws.proofs.Retaken.{bound_alike, prepared_leaves}
-use Rattle.simplex_laws.proofs.RetakenEntries.{tracked_put}
 use Rattle.simplex_laws.proofs.Marks.{FewerMarks, Marked, few_joined, few_left, few_put, few_add_notarization, few_add_nullification, few_add_finalization, marked_few}
 use Rattle.simplex_laws.proofs.CallsRemembered.{judged_marked, verdict_marked}
 

@@ -24,7 +24,7 @@ use Rattle.simplex_laws.specs.Events as event
 use Rattle.simplex_laws.specs.Events.{Event, IsEvent, after_event}
 use Rattle.simplex_laws.specs.Sums.{finalized_by}
 use Rattle.simplex_laws.proofs.InOrder.{InOrder, event_in_order}
-use Rattle.simplex_laws.proofs.LeavesVotes.{round_put}
+use Rattle.simplex_laws.proofs.Rounds.{round_put}
 use Rattle.simplex_laws.proofs.Rising.{event_goes, event_finalizes}
 use Rattle.simplex_laws.proofs.Steps.{notarization_by, verdict_by}
 use Rattle.simplex_laws.proofs.Verdicts.{Shows, judged_so, event_shows}

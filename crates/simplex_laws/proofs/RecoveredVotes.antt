@@ -1,5 +1,5 @@
 -- A new life from a member's record starts with what all lives before did.
-use Rattle.std.proofs.Common.{◌≡◌, refl, subst, ℕ, zero, suc, ◌+◌, ◌≤◌, ◌⊎◌, inl, inr, Bool, true, false, if◌then◌else◌, nat_lt, List, [], ◌∷◌, ◌++◌, Contains, Option, Some, is_some, arith}
+use Rattle.std.proofs.Common.{◌≡◌, refl, subst, ℕ, ◌+◌, ◌≤◌, ◌⊎◌, inl, inr, Bool, true, false, if◌then◌else◌, nat_lt, List, [], ◌∷◌, ◌++◌, Contains, Option, Some, is_some, arith}
 use Rattle.std.specs.Prelude.{option_and_then}
 use Rattle.std.proofs.lemmas.Bool.{ltb-true}
 use Rattle.std.proofs.lemmas.Bool.Decides.{nat_tests}
@@ -22,16 +22,17 @@ use Rattle.simplex_voter.specs.Timeouts.{triggered}
 use Rattle.simplex_voter.specs.Certification.{named_also, raised, woken, judged, verdict_taken}
 use Rattle.simplex_voter.specs.Replay.{bound_again, restored_binding}
 use Rattle.simplex_voter.specs.Acceptance.{with_notarization_at, with_finalization_at, after_add_notarization, after_add_nullification, after_add_finalization, after_set_floor}
-use Rattle.simplex_laws.specs.Acts.{Act, Accept, Cast, IsLawful}
 use Rattle.simplex_member.specs.Entries.{entry_view}
-use Rattle.simplex_laws.specs.CallActs.{floor_acts}
 use Rattle.simplex_member.specs.Recovery.{retaken, taken, all_taken, recovered}
+use Rattle.simplex_laws.specs.Deeds.{Deed, Accepts, Signs, of_floor}
+use Rattle.simplex_laws.specs.Lawful.{HasSigned, IsLawful}
+use Rattle.simplex_laws.proofs.Signed.{signed_none, signed_right, signed_cases, only_signed}
 use Rattle.simplex_laws.proofs.Splits.{Contains-cases}
 use Rattle.simplex_laws.proofs.LeavesVotes.{named_leaves, slid_leaves, elected_leaves, entered_leaves, triggered_leaves, woken_leaves}
 use Rattle.simplex_laws.proofs.Standing.{Stays}
 use Rattle.simplex_laws.proofs.StartStands.{start_stays}
 use Rattle.simplex_laws.proofs.Retaken.{prepared_leaves}
-use Rattle.simplex_laws.proofs.Recalls.{Remembers, AreRecorded, entries_acts, entry_of, act_of, of_accept, all_stay, stays_over}
+use Rattle.simplex_laws.proofs.Recalls.{Remembers, AreRecorded, entries_deeds, entry_of, deed_of, of_accept, all_stay, stays_over}
 
 module _ {K L D : Type 0} where
   -- the finalized view does not fall
@@ -135,48 +136,47 @@ module _ {K L D G : Type 0} (same : D → D → Bool) (elect : Elect L) (now : �
     | inr later ↦ all_finalizes (taken same elect x now e) rest c later
   ]
 
-no_cast : {D : Type 0} (floor : FloorFacts D) (vote : Subject D) → Contains (floor_acts floor) (Cast vote) → ⊥
-no_cast (Genesis _) vote h = absurd (omega (arith, h.1))
-no_cast (FinalizedFloor c) vote (zero, less, is) = absurd (cc)
-no_cast (FinalizedFloor c) vote (suc k, less, is) = absurd (omega arith)
+no_cast : {D G : Type 0} (floor : FloorFacts D) (vote : Subject D) → HasSigned {G = G} (of_floor floor) vote → ⊥
+no_cast (Genesis _) vote h = absurd (signed_none vote h)
+no_cast (FinalizedFloor c) vote h = absurd (let e = only_signed (Accepts (subject.Finalize c.proposal)) vote h in cc)
 
 module _ {K L D G : Type 0} (same : D → D → Bool) (decides : (d e : D) → same d e ≡ true → d ≡ e) (elect : Elect L) (settings : Settings) (me : Option ℕ) (members : List K) (elector : L) (terms : Terms) (early : Bool) where
-  -- a state made from a record of all acts before shows them, and the floor's finalization besides; of the views that the
+  -- a state made from a record of all deeds before shows them, and the floor's finalization besides; of the views that the
   -- record may lack votes of, one that is no lower is finalized in it
-  pub recovered_stays : (acts : List (Act D)) (kept : ℕ) (copy : List (ArtifactFacts D G)) (floor : FloorFacts D) (now : ℕ) → IsLawful terms.term_length acts → Remembers acts kept copy → (kept ≡ 0) ⊎ ((c : ProposalFacts D) × Contains copy (Accepted (Finalized c)) × (kept ≤ c.proposal.round.view)) → Stays terms.term_length (acts ++ floor_acts floor) (recovered same elect (new_facts settings me members elector terms early) floor now copy)
+  pub recovered_stays : (deeds : List (Deed D G)) (kept : ℕ) (copy : List (ArtifactFacts D G)) (floor : FloorFacts D) (now : ℕ) → IsLawful terms.term_length deeds → Remembers deeds kept copy → (kept ≡ 0) ⊎ ((c : ProposalFacts D) × Contains copy (Accepted (Finalized c)) × (kept ≤ c.proposal.round.view)) → Stays terms.term_length (deeds ++ of_floor floor) (recovered same elect (new_facts settings me members elector terms early) floor now copy)
   unfolding recovered
-  recovered_stays acts kept copy floor now lawful remembers final =
+  recovered_stays deeds kept copy floor now lawful remembers final =
       let x = after_set_floor same elect (new_facts settings me members elector terms early) floor now in
       let z = all_taken same elect x now copy in
       let t = terms.term_length in
-      let a = floor_acts floor ++ entries_acts copy in
-      let b = acts ++ floor_acts floor in
-      let none : AreRecorded acts (floor_acts floor) = (λ round h. absurd (no_cast floor (subject.Nullify round) h), λ p h. absurd (no_cast floor (subject.Finalize p) h)) in
-      let stays : Stays t a z = all_stay same decides elect t acts lawful kept copy remembers now copy [] (floor_acts floor) x refl none (λ round h. absurd (omega (arith, h.1))) (start_stays same decides elect settings me members elector terms early floor now) in
+      let a = of_floor floor ++ entries_deeds copy in
+      let b = deeds ++ of_floor floor in
+      let none : AreRecorded deeds (of_floor floor) = (λ round h. absurd (no_cast floor (subject.Nullify round) h), λ p h. absurd (no_cast floor (subject.Finalize p) h)) in
+      let stays : Stays t a z = all_stay same decides elect t deeds lawful kept copy remembers now copy [] (of_floor floor) x refl none (λ round h. absurd (omega (arith, h.1))) (start_stays G same decides elect settings me members elector terms early floor now) in
       let high : kept ≤ z.finalized = elim final [ inl nothing ↦ omega arith | inr c ↦ omega (arith, all_finalizes same elect now x copy c.0 c.1, c.2) ] in
       stays_over t a b z
-      (λ s h. elim (Contains-append_cases (floor_acts floor) (entries_acts copy) (Accept s) h) [
-        | inl of_floor ↦ Contains-append_right acts (floor_acts floor) (Accept s) of_floor
-        | inr of_copy ↦
-            (let e = entry_of copy (Accept s) of_copy in
+      (λ s h. elim (Contains-append_cases (of_floor floor) (entries_deeds copy) (Accepts s) h) [
+        | inl from_floor ↦ Contains-append_right deeds (of_floor floor) (Accepts s) from_floor
+        | inr from_copy ↦
+            (let e = entry_of copy (Accepts s) from_copy in
             let c = of_accept e.0 s e.2 in
             let entry : Contains copy (Accepted c.0) = subst (λ f. Contains copy f) c.1 e.1 in
-            Contains-append_left acts (floor_acts floor) (Accept s) (subst (λ (q : Subject D). Contains acts (Accept q)) c.2 (remembers.accepted c.0 entry)))
+            Contains-append_left deeds (of_floor floor) (Accepts s) (subst (λ (q : Subject D). Contains deeds (Accepts q)) c.2 (remembers.accepted c.0 entry)))
       ])
-      (λ round h. elim (Contains-append_cases acts (floor_acts floor) (Cast (subject.Nullify round)) h) [
-        | inr of_floor ↦ absurd (no_cast floor (subject.Nullify round) of_floor)
+      (λ round h. elim (signed_cases deeds (of_floor floor) (subject.Nullify round) h) [
+        | inr from_floor ↦ absurd (no_cast floor (subject.Nullify round) from_floor)
         | inl old ↦ (
           remembers.above_genesis round old,
           elim (remembers.nullify_kept round old) [
-            | inl e ↦ inl (Contains-append_right (floor_acts floor) (entries_acts copy) (Cast (subject.Nullify round)) (act_of copy (NullifyVote round e.0 e.1) (Cast (subject.Nullify round)) e.2 (0, omega arith, refl)))
+            | inl e ↦ inl (signed_right (of_floor floor) (entries_deeds copy) (subject.Nullify round) (e.0, e.1, deed_of copy (NullifyVote round e.0 e.1) (Signs e.0 (subject.Nullify round) e.1) e.2 (0, omega arith, refl)))
             | inr below ↦ inr (omega arith)
           ],
         )
       ])
-      (λ p h. elim (Contains-append_cases acts (floor_acts floor) (Cast (subject.Finalize p)) h) [
-        | inr of_floor ↦ absurd (no_cast floor (subject.Finalize p) of_floor)
+      (λ p h. elim (signed_cases deeds (of_floor floor) (subject.Finalize p) h) [
+        | inr from_floor ↦ absurd (no_cast floor (subject.Finalize p) from_floor)
         | inl old ↦ elim (remembers.finalize_kept p old) [
-          | inl e ↦ inl (Contains-append_right (floor_acts floor) (entries_acts copy) (Cast (subject.Finalize p)) (act_of copy (FinalizeVote p e.0 e.1) (Cast (subject.Finalize p)) e.2 (0, omega arith, refl)))
+          | inl e ↦ inl (signed_right (of_floor floor) (entries_deeds copy) (subject.Finalize p) (e.0, e.1, deed_of copy (FinalizeVote p e.0 e.1) (Signs e.0 (subject.Finalize p) e.1) e.2 (0, omega arith, refl)))
           | inr below ↦ inr (omega arith)
         ]
       ])

@@ -1,12 +1,14 @@
--- A record that grows with each act remembers it.
+-- A record that grows with each deed remembers it.
 use Rattle.std.proofs.Common.{◌≡◌, refl, ap, sym, ◌∙◌, subst, ℕ, ◌≤◌, ◌⊎◌, inl, inr, Bool, true, false, List, [], ◌∷◌, ◌++◌, Contains, arith}
 use Rattle.std.proofs.lemmas.List.Elements.{Contains-append_left, Contains-append_right, Contains-append_cases}
 use Rattle.simplex_types.specs.Certificates.{CertificateFacts, ArtifactFacts, NullifyVote, FinalizeVote, Verdict, Accepted}
 use Rattle.simplex_types.specs.declared.types.messages.Proposal.{Proposal}
 use Rattle.simplex_types.specs.declared.types.messages.Subject.TheVariants as subject
 use Rattle.simplex_types.specs.declared.types.numbers.Round.{Round}
-use Rattle.simplex_laws.specs.Acts.{Act, Accept, Cast}
 use Rattle.simplex_member.specs.Calls.{newly}
+use Rattle.simplex_laws.specs.Deeds.{Deed, Accepts, Signs}
+use Rattle.simplex_laws.specs.Lawful.{HasSigned}
+use Rattle.simplex_laws.proofs.Signed.{signed_none, signed_left, signed_cases, signed_last, only_signed}
 use Rattle.simplex_laws.proofs.Retaken.{subject_of}
 use Rattle.simplex_laws.proofs.Recalls.{Remembers, only_one}
 
@@ -33,45 +35,45 @@ single_split [] after y x e = cc
 single_split (b ∷ []) after y x e = absurd (cc)
 single_split (b ∷ (c ∷ before)) after y x e = absurd (cc)
 
--- what has to be known of new entries and acts
-pub record Grows {D G : Type 0} (acts more : List (Act D)) (entries new : List (ArtifactFacts D G)) : Type 0 where
-  pub accepted : (c : CertificateFacts D) → Contains new (Accepted c) → Contains (acts ++ more) (Accept (subject_of c))
-  pub nullify_cast : (round : Round) (m : ℕ) (signature : G) → Contains new (NullifyVote round m signature) → Contains (acts ++ more) (Cast (subject.Nullify round))
-  pub finalize_cast : (p : Proposal D) (m : ℕ) (signature : G) → Contains new (FinalizeVote p m signature) → Contains (acts ++ more) (Cast (subject.Finalize p))
-  pub nullify_kept : (round : Round) → Contains more (Cast (subject.Nullify round)) → (1 ≤ round.view) × ((m : ℕ) × (signature : G) × Contains (entries ++ new) (NullifyVote round m signature))
-  pub finalize_kept : (p : Proposal D) → Contains more (Cast (subject.Finalize p)) → (m : ℕ) × (signature : G) × Contains (entries ++ new) (FinalizeVote p m signature)
+-- what has to be known of new entries and deeds
+pub record Grows {D G : Type 0} (deeds more : List (Deed D G)) (entries new : List (ArtifactFacts D G)) : Type 0 where
+  pub accepted : (c : CertificateFacts D) → Contains new (Accepted c) → Contains (deeds ++ more) (Accepts (subject_of c))
+  pub nullify_cast : (round : Round) (m : ℕ) (signature : G) → Contains new (NullifyVote round m signature) → HasSigned (deeds ++ more) (subject.Nullify round)
+  pub finalize_cast : (p : Proposal D) (m : ℕ) (signature : G) → Contains new (FinalizeVote p m signature) → HasSigned (deeds ++ more) (subject.Finalize p)
+  pub nullify_kept : (round : Round) → HasSigned more (subject.Nullify round) → (1 ≤ round.view) × ((m : ℕ) × (signature : G) × Contains (entries ++ new) (NullifyVote round m signature))
+  pub finalize_kept : (p : Proposal D) → HasSigned more (subject.Finalize p) → (m : ℕ) × (signature : G) × Contains (entries ++ new) (FinalizeVote p m signature)
   pub judged : (before after : List (ArtifactFacts D G)) (p : Proposal D) (m : ℕ) (signature : G) → new ≡ before ++ FinalizeVote p m signature ∷ after → (round : Round) × Contains entries (Verdict round true) × (round.view ≡ p.round.view)
 
-module _ {D G : Type 0} (acts : List (Act D)) (entries : List (ArtifactFacts D G)) where
-  pub remembers_more : (kept : ℕ) (more : List (Act D)) (new : List (ArtifactFacts D G)) → Grows acts more entries new → Remembers acts kept entries → Remembers (acts ++ more) kept (entries ++ new)
+module _ {D G : Type 0} (deeds : List (Deed D G)) (entries : List (ArtifactFacts D G)) where
+  pub remembers_more : (kept : ℕ) (more : List (Deed D G)) (new : List (ArtifactFacts D G)) → Grows deeds more entries new → Remembers deeds kept entries → Remembers (deeds ++ more) kept (entries ++ new)
   remembers_more kept more new grows remembers = record {
     accepted = λ c h. elim (Contains-append_cases entries new (Accepted c) h) [
-      | inl old ↦ Contains-append_left acts more (Accept (subject_of c)) (remembers.accepted c old)
+      | inl old ↦ Contains-append_left deeds more (Accepts (subject_of c)) (remembers.accepted c old)
       | inr late ↦ grows.accepted c late
     ];
     nullify_cast = λ round m signature h. elim (Contains-append_cases entries new (NullifyVote round m signature) h) [
-      | inl old ↦ Contains-append_left acts more (Cast (subject.Nullify round)) (remembers.nullify_cast round m signature old)
+      | inl old ↦ signed_left deeds more (subject.Nullify round) (remembers.nullify_cast round m signature old)
       | inr late ↦ grows.nullify_cast round m signature late
     ];
     finalize_cast = λ p m signature h. elim (Contains-append_cases entries new (FinalizeVote p m signature) h) [
-      | inl old ↦ Contains-append_left acts more (Cast (subject.Finalize p)) (remembers.finalize_cast p m signature old)
+      | inl old ↦ signed_left deeds more (subject.Finalize p) (remembers.finalize_cast p m signature old)
       | inr late ↦ grows.finalize_cast p m signature late
     ];
-    nullify_kept = λ round h. elim (Contains-append_cases acts more (Cast (subject.Nullify round)) h) [
+    nullify_kept = λ round h. elim (signed_cases deeds more (subject.Nullify round) h) [
       | inl old ↦ elim (remembers.nullify_kept round old) [
         | inl e ↦ inl (e.0, e.1, Contains-append_left entries new (NullifyVote round e.0 e.1) e.2)
         | inr below ↦ inr below
       ]
       | inr late ↦ inl (grows.nullify_kept round late).1
     ];
-    finalize_kept = λ p h. elim (Contains-append_cases acts more (Cast (subject.Finalize p)) h) [
+    finalize_kept = λ p h. elim (signed_cases deeds more (subject.Finalize p) h) [
       | inl old ↦ elim (remembers.finalize_kept p old) [
         | inl e ↦ inl (e.0, e.1, Contains-append_left entries new (FinalizeVote p e.0 e.1) e.2)
         | inr below ↦ inr below
       ]
       | inr late ↦ inl (grows.finalize_kept p late)
     ];
-    above_genesis = λ round h. elim (Contains-append_cases acts more (Cast (subject.Nullify round)) h) [
+    above_genesis = λ round h. elim (signed_cases deeds more (subject.Nullify round) h) [
       | inl old ↦ remembers.above_genesis round old
       | inr late ↦ (grows.nullify_kept round late).0
     ];
@@ -83,94 +85,94 @@ module _ {D G : Type 0} (acts : List (Act D)) (entries : List (ArtifactFacts D G
     ];
   }
 
-  -- no act and no entry
-  pub grows_nothing : Grows acts [] entries []
+  -- no deed and no entry
+  pub grows_nothing : Grows deeds [] entries []
   grows_nothing = record {
     accepted = λ c h. absurd (omega (arith, h.1));
     nullify_cast = λ round m signature h. absurd (omega (arith, h.1));
     finalize_cast = λ p m signature h. absurd (omega (arith, h.1));
-    nullify_kept = λ round h. absurd (omega (arith, h.1));
-    finalize_kept = λ p h. absurd (omega (arith, h.1));
+    nullify_kept = λ round h. absurd (signed_none (subject.Nullify round) h);
+    finalize_kept = λ p h. absurd (signed_none (subject.Finalize p) h);
     judged = λ before after p m signature split. absurd (none_split before after (FinalizeVote p m signature) split);
   }
 
-  -- a verdict is no act
-  pub grows_verdict : (is_new : Bool) (round : Round) (success : Bool) → Grows acts [] entries (newly is_new (Verdict round success))
+  -- a verdict is no deed
+  pub grows_verdict : (is_new : Bool) (round : Round) (success : Bool) → Grows deeds [] entries (newly is_new (Verdict round success))
   grows_verdict false round success = grows_nothing
   grows_verdict true round success = record {
     accepted = λ c h. absurd (let e = only_one (Verdict round success) (Accepted c) h in cc);
     nullify_cast = λ r m signature h. absurd (let e = only_one (Verdict round success) (NullifyVote r m signature) h in cc);
     finalize_cast = λ p m signature h. absurd (let e = only_one (Verdict round success) (FinalizeVote p m signature) h in cc);
-    nullify_kept = λ r h. absurd (omega (arith, h.1));
-    finalize_kept = λ p h. absurd (omega (arith, h.1));
+    nullify_kept = λ r h. absurd (signed_none (subject.Nullify r) h);
+    finalize_kept = λ p h. absurd (signed_none (subject.Finalize p) h);
     judged = λ before after p m signature split. absurd (let e = single_split before after (Verdict round success) (FinalizeVote p m signature) split in cc);
   }
 
   -- a certificate is accepted, whether it is recorded or not
-  pub grows_certificate : (is_new : Bool) (c : CertificateFacts D) → Grows acts (Accept (subject_of c) ∷ []) entries (newly is_new (Accepted c))
+  pub grows_certificate : (is_new : Bool) (c : CertificateFacts D) → Grows deeds (Accepts (subject_of c) ∷ []) entries (newly is_new (Accepted c))
   grows_certificate false c = record {
     accepted = λ d h. absurd (omega (arith, h.1));
     nullify_cast = λ round m signature h. absurd (omega (arith, h.1));
     finalize_cast = λ p m signature h. absurd (omega (arith, h.1));
-    nullify_kept = λ round h. absurd (let e = only_one (Accept (subject_of c)) (Cast (subject.Nullify round)) h in cc);
-    finalize_kept = λ p h. absurd (let e = only_one (Accept (subject_of c)) (Cast (subject.Finalize p)) h in cc);
+    nullify_kept = λ round h. absurd (let e = only_signed (Accepts (subject_of c)) (subject.Nullify round) h in cc);
+    finalize_kept = λ p h. absurd (let e = only_signed (Accepts (subject_of c)) (subject.Finalize p) h in cc);
     judged = λ before after p m signature split. absurd (none_split before after (FinalizeVote p m signature) split);
   }
   grows_certificate true c = record {
     accepted = λ d h.
         (let e = only_one (Accepted c) (Accepted d) h in
         let same : c ≡ d = cc in
-        subst (λ (b : CertificateFacts D). Contains (acts ++ Accept (subject_of c) ∷ []) (Accept (subject_of b))) same (Contains-append_right acts (Accept (subject_of c) ∷ []) (Accept (subject_of c)) (0, omega arith, refl)));
+        subst (λ (b : CertificateFacts D). Contains (deeds ++ Accepts (subject_of c) ∷ []) (Accepts (subject_of b))) same (Contains-append_right deeds (Accepts (subject_of c) ∷ []) (Accepts (subject_of c)) (0, omega arith, refl)));
     nullify_cast = λ round m signature h. absurd (let e = only_one (Accepted c) (NullifyVote round m signature) h in cc);
     finalize_cast = λ p m signature h. absurd (let e = only_one (Accepted c) (FinalizeVote p m signature) h in cc);
-    nullify_kept = λ round h. absurd (let e = only_one (Accept (subject_of c)) (Cast (subject.Nullify round)) h in cc);
-    finalize_kept = λ p h. absurd (let e = only_one (Accept (subject_of c)) (Cast (subject.Finalize p)) h in cc);
+    nullify_kept = λ round h. absurd (let e = only_signed (Accepts (subject_of c)) (subject.Nullify round) h in cc);
+    finalize_kept = λ p h. absurd (let e = only_signed (Accepts (subject_of c)) (subject.Finalize p) h in cc);
     judged = λ before after p m signature split. absurd (let e = single_split before after (Accepted c) (FinalizeVote p m signature) split in cc);
   }
 
   -- a vote to nullify that was recorded before
-  pub grows_again : (round : Round) (m : ℕ) (signature : G) → 1 ≤ round.view → Contains entries (NullifyVote round m signature) → Grows acts (Cast (subject.Nullify round) ∷ []) entries []
-  grows_again round m signature one there = record {
+  pub grows_again : (round : Round) (m n : ℕ) (signature old : G) → 1 ≤ round.view → Contains entries (NullifyVote round n old) → Grows deeds (Signs m (subject.Nullify round) signature ∷ []) entries []
+  grows_again round m n signature old one there = record {
     accepted = λ d h. absurd (omega (arith, h.1));
-    nullify_cast = λ r n s h. absurd (omega (arith, h.1));
-    finalize_cast = λ p n s h. absurd (omega (arith, h.1));
+    nullify_cast = λ r k s h. absurd (omega (arith, h.1));
+    finalize_cast = λ p k s h. absurd (omega (arith, h.1));
     nullify_kept = λ r h.
-        (let e = only_one (Cast (subject.Nullify round)) (Cast (subject.Nullify r)) h in
+        (let e = only_signed (Signs m (subject.Nullify round) signature) (subject.Nullify r) h in
         let same : round ≡ r = cc in
-        subst (λ (s : Round). (1 ≤ s.view) × ((m : ℕ) × (signature : G) × Contains (entries ++ []) (NullifyVote s m signature))) same (one, (m, signature, Contains-append_left entries [] (NullifyVote round m signature) there)));
-    finalize_kept = λ p h. absurd (let e = only_one (Cast (subject.Nullify round)) (Cast (subject.Finalize p)) h in cc);
-    judged = λ before after p n s split. absurd (none_split before after (FinalizeVote p n s) split);
+        subst (λ (s : Round). (1 ≤ s.view) × ((m : ℕ) × (signature : G) × Contains (entries ++ []) (NullifyVote s m signature))) same (one, (n, old, Contains-append_left entries [] (NullifyVote round n old) there)));
+    finalize_kept = λ p h. absurd (let e = only_signed (Signs m (subject.Nullify round) signature) (subject.Finalize p) h in cc);
+    judged = λ before after p k s split. absurd (none_split before after (FinalizeVote p k s) split);
   }
 
   -- a vote to nullify that is recorded now
-  pub grows_nullify : (round : Round) (m : ℕ) (signature : G) → 1 ≤ round.view → Grows acts (Cast (subject.Nullify round) ∷ []) entries (NullifyVote round m signature ∷ [])
+  pub grows_nullify : (round : Round) (m : ℕ) (signature : G) → 1 ≤ round.view → Grows deeds (Signs m (subject.Nullify round) signature ∷ []) entries (NullifyVote round m signature ∷ [])
   grows_nullify round m signature one = record {
     accepted = λ c h. absurd (let e = only_one (NullifyVote round m signature) (Accepted c) h in cc);
     nullify_cast = λ r n s h.
         (let e = only_one (NullifyVote round m signature) (NullifyVote r n s) h in
         let same : round ≡ r = cc in
-        subst (λ (q : Round). Contains (acts ++ Cast (subject.Nullify round) ∷ []) (Cast (subject.Nullify q))) same (Contains-append_right acts (Cast (subject.Nullify round) ∷ []) (Cast (subject.Nullify round)) (0, omega arith, refl)));
+        subst (λ (q : Round). HasSigned (deeds ++ Signs m (subject.Nullify round) signature ∷ []) (subject.Nullify q)) same (signed_last deeds m (subject.Nullify round) signature));
     finalize_cast = λ p n s h. absurd (let e = only_one (NullifyVote round m signature) (FinalizeVote p n s) h in cc);
     nullify_kept = λ r h.
-        (let e = only_one (Cast (subject.Nullify round)) (Cast (subject.Nullify r)) h in
+        (let e = only_signed (Signs m (subject.Nullify round) signature) (subject.Nullify r) h in
         let same : round ≡ r = cc in
         subst (λ (s : Round). (1 ≤ s.view) × ((n : ℕ) × (t : G) × Contains (entries ++ NullifyVote round m signature ∷ []) (NullifyVote s n t))) same (one, (m, signature, Contains-append_right entries (NullifyVote round m signature ∷ []) (NullifyVote round m signature) (0, omega arith, refl))));
-    finalize_kept = λ p h. absurd (let e = only_one (Cast (subject.Nullify round)) (Cast (subject.Finalize p)) h in cc);
+    finalize_kept = λ p h. absurd (let e = only_signed (Signs m (subject.Nullify round) signature) (subject.Finalize p) h in cc);
     judged = λ before after p n s split. absurd (let e = single_split before after (NullifyVote round m signature) (FinalizeVote p n s) split in cc);
   }
 
   -- a vote to finalize, of a view with a true verdict
-  pub grows_finalize : (p : Proposal D) (m : ℕ) (signature : G) (round : Round) → Contains entries (Verdict round true) → round.view ≡ p.round.view → Grows acts (Cast (subject.Finalize p) ∷ []) entries (FinalizeVote p m signature ∷ [])
+  pub grows_finalize : (p : Proposal D) (m : ℕ) (signature : G) (round : Round) → Contains entries (Verdict round true) → round.view ≡ p.round.view → Grows deeds (Signs m (subject.Finalize p) signature ∷ []) entries (FinalizeVote p m signature ∷ [])
   grows_finalize p m signature round verdict at = record {
     accepted = λ c h. absurd (let e = only_one (FinalizeVote p m signature) (Accepted c) h in cc);
     nullify_cast = λ r n s h. absurd (let e = only_one (FinalizeVote p m signature) (NullifyVote r n s) h in cc);
     finalize_cast = λ q n s h.
         (let e = only_one (FinalizeVote p m signature) (FinalizeVote q n s) h in
         let same : p ≡ q = cc in
-        subst (λ (t : Proposal D). Contains (acts ++ Cast (subject.Finalize p) ∷ []) (Cast (subject.Finalize t))) same (Contains-append_right acts (Cast (subject.Finalize p) ∷ []) (Cast (subject.Finalize p)) (0, omega arith, refl)));
-    nullify_kept = λ r h. absurd (let e = only_one (Cast (subject.Finalize p)) (Cast (subject.Nullify r)) h in cc);
+        subst (λ (t : Proposal D). HasSigned (deeds ++ Signs m (subject.Finalize p) signature ∷ []) (subject.Finalize t)) same (signed_last deeds m (subject.Finalize p) signature));
+    nullify_kept = λ r h. absurd (let e = only_signed (Signs m (subject.Finalize p) signature) (subject.Nullify r) h in cc);
     finalize_kept = λ q h.
-        (let e = only_one (Cast (subject.Finalize p)) (Cast (subject.Finalize q)) h in
+        (let e = only_signed (Signs m (subject.Finalize p) signature) (subject.Finalize q) h in
         let same : p ≡ q = cc in
         subst (λ (t : Proposal D). (n : ℕ) × (s : G) × Contains (entries ++ FinalizeVote p m signature ∷ []) (FinalizeVote t n s)) same (m, signature, Contains-append_right entries (FinalizeVote p m signature ∷ []) (FinalizeVote p m signature) (0, omega arith, refl)));
     judged = λ before after q n s split.

@@ -1,9 +1,8 @@
--- An entry of a record that is taken again does to the facts what its act did.
+-- An entry of a record that is taken again does to the facts what its deed did.
 use Rattle.std.proofs.Common.{◌≡◌, ◌≢◌, refl, ap, sym, ◌∙◌, subst, ℕ, ◌+◌, ◌<◌, ◌≤◌, ◌⊎◌, inl, inr, Bool, true, false, ◌&&◌, if◌then◌else◌, List, [], ◌∷◌, ◌++◌, Contains, Option, Some, None, arith}
 use Rattle.std.specs.Prelude.{⊤}
 use Rattle.std.specs.Option.{option_map_or}
 use Rattle.std.proofs.lemmas.List.{append-nil}
-use Rattle.std.proofs.lemmas.List.Elements.{Contains-push_cases}
 use Rattle.simplex_types.proofs.Proposal.{same_proposal-true}
 use Rattle.simplex_types.specs.Proposal.{same_proposal}
 use Rattle.simplex_types.specs.Certificates.{CertificateFacts, Notarized, Nullified, Finalized, ArtifactFacts, NotarizeVote, NullifyVote, FinalizeVote, Verdict, Accepted}
@@ -19,8 +18,10 @@ use Rattle.simplex_voter.specs.Windows.{in_window}
 use Rattle.simplex_voter.specs.Payloads.{is_elected_early}
 use Rattle.simplex_voter.specs.Leaders.{inherited, elected, prepared}
 use Rattle.simplex_voter.specs.Replay.{bound_again}
-use Rattle.simplex_laws.specs.Acts.{Act, Accept, Cast}
 use Rattle.simplex_member.specs.Entries.{entry_view}
+use Rattle.simplex_laws.specs.Deeds.{Deed, Accepts, Signs}
+use Rattle.simplex_laws.specs.Lawful.{HasSigned}
+use Rattle.simplex_laws.proofs.Signed.{signed_push}
 use Rattle.simplex_laws.proofs.LeavesVotes.{VotesAlike, LeavesVotes, alike, leaves, leaves_if, inherited_leaves, elected_leaves}
 use Rattle.simplex_laws.proofs.Standing.{RoundStands, Stays, still, final_still, stays_accepted}
 use Rattle.simplex_laws.proofs.StandingRounds.{Holds}
@@ -32,22 +33,22 @@ subject_of (Notarized c) = subject.Notarize c.proposal
 subject_of (Nullified c) = subject.Nullify c.round
 subject_of (Finalized c) = subject.Finalize c.proposal
 
--- the act that an entry records
-abbrev pub entry_acts : {D G : Type 0} → ArtifactFacts D G → List (Act D)
-entry_acts (NotarizeVote p _ _) = Cast (subject.Notarize p) ∷ []
-entry_acts (NullifyVote round _ _) = Cast (subject.Nullify round) ∷ []
-entry_acts (FinalizeVote p _ _) = Cast (subject.Finalize p) ∷ []
-entry_acts (Verdict _ _) = []
-entry_acts (Accepted c) = Accept (subject_of c) ∷ []
+-- the deed that an entry records
+abbrev pub entry_deeds : {D G : Type 0} → ArtifactFacts D G → List (Deed D G)
+entry_deeds (NotarizeVote p m signature) = Signs m (subject.Notarize p) signature ∷ []
+entry_deeds (NullifyVote round m signature) = Signs m (subject.Nullify round) signature ∷ []
+entry_deeds (FinalizeVote p m signature) = Signs m (subject.Finalize p) signature ∷ []
+entry_deeds (Verdict _ _) = []
+entry_deeds (Accepted c) = Accepts (subject_of c) ∷ []
 
 -- a vote may be taken again: no other vote of its view was, and a finalize vote's view is passed
-abbrev pub MayRetake : {D G : Type 0} → List (Act D) → ℕ → ArtifactFacts D G → Type 0
-MayRetake {D} acts current (NullifyVote round _ _) = (1 ≤ round.view) × ((p : Proposal D) → Contains acts (Cast (subject.Finalize p)) → round.view ≢ p.round.view)
-MayRetake acts current (FinalizeVote p _ _) = (p.round.view < current) × ((round : Round) → Contains acts (Cast (subject.Nullify round)) → round.view ≢ p.round.view)
-MayRetake acts current _ = ⊤
+abbrev pub MayRetake : {D G : Type 0} → List (Deed D G) → ℕ → ArtifactFacts D G → Type 0
+MayRetake {D} deeds current (NullifyVote round _ _) = (1 ≤ round.view) × ((p : Proposal D) → HasSigned deeds (subject.Finalize p) → round.view ≢ p.round.view)
+MayRetake deeds current (FinalizeVote p _ _) = (p.round.view < current) × ((round : Round) → HasSigned deeds (subject.Nullify round) → round.view ≢ p.round.view)
+MayRetake deeds current _ = ⊤
 
-module _ {K D : Type 0} (acts : List (Act D)) (reached finalized v : ℕ) (r : RoundFacts K D) (stands : RoundStands acts reached finalized v r) where
-  pub nullified_round : ((p : Proposal D) → Contains acts (Cast (subject.Finalize p)) → v ≢ p.round.view) → RoundStands acts reached finalized v (record r { decision = decision.Nullify None })
+module _ {K D G : Type 0} (deeds : List (Deed D G)) (reached finalized v : ℕ) (r : RoundFacts K D) (stands : RoundStands deeds reached finalized v r) where
+  pub nullified_round : ((p : Proposal D) → HasSigned deeds (subject.Finalize p) → v ≢ p.round.view) → RoundStands deeds reached finalized v (record r { decision = decision.Nullify None })
   nullified_round apart = record {
     notarized = stands.notarized;
     held = stands.held;
@@ -56,7 +57,7 @@ module _ {K D : Type 0} (acts : List (Act D)) (reached finalized v : ℕ) (r : R
     finalize_decided = λ p h at. absurd (apart p h (sym at));
   }
 
-  pub finalized_round : ((round : Round) → Contains acts (Cast (subject.Nullify round)) → round.view ≢ v) → RoundStands acts reached finalized v (record r { decision = decision.Finalize })
+  pub finalized_round : ((round : Round) → HasSigned deeds (subject.Nullify round) → round.view ≢ v) → RoundStands deeds reached finalized v (record r { decision = decision.Finalize })
   finalized_round apart = record {
     notarized = stands.notarized;
     held = stands.held;
@@ -80,8 +81,8 @@ module _ {D : Type 0} (same : D → D → Bool) (decides : (d e : D) → same d 
         | inr here ↦ (let over = taken_over here is in rw is (inr over))
       ]
 
-  pub own_round : {K : Type 0} (acts : List (Act D)) (reached finalized v : ℕ) (r : RoundFacts K D) (p : Proposal D) → RoundStands acts reached finalized v r → RoundStands acts reached finalized v (record r { slot = after_own (same_proposal same) r.slot p; notarize_decided = true })
-  own_round acts reached finalized v r p stands = record {
+  pub own_round : {K G : Type 0} (deeds : List (Deed D G)) (reached finalized v : ℕ) (r : RoundFacts K D) (p : Proposal D) → RoundStands deeds reached finalized v r → RoundStands deeds reached finalized v (record r { slot = after_own (same_proposal same) r.slot p; notarize_decided = true })
+  own_round deeds reached finalized v r p stands = record {
     notarized = stands.notarized;
     held = λ c is. holds_own r.slot p c.proposal (stands.held c is);
     entered = stands.entered;
@@ -100,52 +101,52 @@ module _ {K L D : Type 0} where
       (inherited_leaves x v (v + 1))
       (leaves_if x ((round_of x v).notarize_decided && is_elected_early elect x (v + 1)) (elected elect x (v + 1) None) x (elected_leaves elect x (v + 1) None) (leaves x))
 
-module _ {K L D : Type 0} (term_length : ℕ) (acts : List (Act D)) (x : Facts K L D) (stays : Stays term_length acts x) where
+module _ {K L D G : Type 0} (term_length : ℕ) (deeds : List (Deed D G)) (x : Facts K L D) (stays : Stays term_length deeds x) where
   -- a vote to notarize is cast
-  pub notarize_cast_stays : (p : Proposal D) → Stays term_length (acts ++ Cast (subject.Notarize p) ∷ []) x
-  notarize_cast_stays p =
-      let new = Cast (subject.Notarize p) in
+  pub notarize_cast_stays : (p : Proposal D) (m : ℕ) (signature : G) → Stays term_length (deeds ++ Signs m (subject.Notarize p) signature ∷ []) x
+  notarize_cast_stays p m signature =
+      let new = Signs m (subject.Notarize p) signature in
       record {
         stands = record {
           terms = stays.stands.terms;
           rounds = λ v. (let old = stays.stands.rounds v in
               record {
-                notarized = λ c is. ((old.notarized c is).0, still acts new (Accept (subject.Notarize c.proposal)) (old.notarized c is).1);
+                notarized = λ c is. ((old.notarized c is).0, still deeds new (Accepts (subject.Notarize c.proposal)) (old.notarized c is).1);
                 held = old.held;
                 entered = old.entered;
-                nullify_decided = λ round h at. elim (Contains-push_cases acts new (Cast (subject.Nullify round)) h) [ inl before ↦ old.nullify_decided round before at | inr now ↦ absurd (cc) ];
-                finalize_decided = λ q h at. elim (Contains-push_cases acts new (Cast (subject.Finalize q)) h) [ inl before ↦ old.finalize_decided q before at | inr now ↦ absurd (cc) ];
+                nullify_decided = λ round h at. elim (signed_push deeds new (subject.Nullify round) h) [ inl before ↦ old.nullify_decided round before at | inr now ↦ absurd (cc) ];
+                finalize_decided = λ q h at. elim (signed_push deeds new (subject.Finalize q) h) [ inl before ↦ old.finalize_decided q before at | inr now ↦ absurd (cc) ];
               });
-          passed = λ q h. elim (Contains-push_cases acts new (Cast (subject.Finalize q)) h) [ inl before ↦ stays.stands.passed q before | inr now ↦ absurd (cc) ];
-          noted = λ round h. elim (Contains-push_cases acts new (Cast (subject.Nullify round)) h) [ inl before ↦ stays.stands.noted round before | inr now ↦ absurd (cc) ];
+          passed = λ q h. elim (signed_push deeds new (subject.Finalize q) h) [ inl before ↦ stays.stands.passed q before | inr now ↦ absurd (cc) ];
+          noted = λ round h. elim (signed_push deeds new (subject.Nullify round) h) [ inl before ↦ stays.stands.noted round before | inr now ↦ absurd (cc) ];
         };
         ahead = stays.ahead;
-        final = final_still acts new x.finalized stays.final;
+        final = final_still deeds new x.finalized stays.final;
       }
 
-  pub nullify_cast_stays : (round : Round) → 1 ≤ round.view → Contains x.nullify_votes round.view ⊎ (round.view ≤ x.finalized) → (is_nullify (round_of x round.view).decision ≡ true) ⊎ (round.view ≤ x.finalized) → Stays term_length (acts ++ Cast (subject.Nullify round) ∷ []) x
-  nullify_cast_stays round one noted decided = record {
-    stands = nullify_cast_stands term_length acts x.current x round one noted decided stays.stands;
+  pub nullify_cast_stays : (round : Round) (m : ℕ) (signature : G) → 1 ≤ round.view → Contains x.nullify_votes round.view ⊎ (round.view ≤ x.finalized) → (is_nullify (round_of x round.view).decision ≡ true) ⊎ (round.view ≤ x.finalized) → Stays term_length (deeds ++ Signs m (subject.Nullify round) signature ∷ []) x
+  nullify_cast_stays round m signature one noted decided = record {
+    stands = nullify_cast_stands term_length deeds x.current x round m signature one noted decided stays.stands;
     ahead = stays.ahead;
-    final = final_still acts (Cast (subject.Nullify round)) x.finalized stays.final;
+    final = final_still deeds (Signs m (subject.Nullify round) signature) x.finalized stays.final;
   }
 
-  pub finalize_cast_stays : (p : Proposal D) → p.round.view < x.current → (is_finalize (round_of x p.round.view).decision ≡ true) ⊎ (p.round.view ≤ x.finalized) → Stays term_length (acts ++ Cast (subject.Finalize p) ∷ []) x
-  finalize_cast_stays p passed decided = record {
-    stands = finalize_cast_stands term_length acts x.current x p passed decided stays.stands;
+  pub finalize_cast_stays : (p : Proposal D) (m : ℕ) (signature : G) → p.round.view < x.current → (is_finalize (round_of x p.round.view).decision ≡ true) ⊎ (p.round.view ≤ x.finalized) → Stays term_length (deeds ++ Signs m (subject.Finalize p) signature ∷ []) x
+  finalize_cast_stays p m signature passed decided = record {
+    stands = finalize_cast_stands term_length deeds x.current x p m signature passed decided stays.stands;
     ahead = stays.ahead;
-    final = final_still acts (Cast (subject.Finalize p)) x.finalized stays.final;
+    final = final_still deeds (Signs m (subject.Finalize p) signature) x.finalized stays.final;
   }
 
-  pub nothing_stays : Stays term_length (acts ++ []) x
-  nothing_stays = subst (λ a. Stays term_length a x) (sym (append-nil acts)) stays
+  pub nothing_stays : Stays term_length (deeds ++ []) x
+  nothing_stays = subst (λ a. Stays term_length a x) (sym (append-nil deeds)) stays
 
   -- an entry that is passed over lies below the views that are kept
-  pub passed_over : {G : Type 0} (e : ArtifactFacts D G) → entry_view e ≤ x.finalized → MayRetake acts x.current e → Stays term_length (acts ++ entry_acts e) x
-  passed_over (NotarizeVote p _ _) below may = notarize_cast_stays p
-  passed_over (NullifyVote round _ _) below may = nullify_cast_stays round may.0 (inr below) (inr below)
-  passed_over (FinalizeVote p _ _) below may = finalize_cast_stays p (omega (arith, stays.ahead)) (inr below)
+  pub passed_over : (e : ArtifactFacts D G) → entry_view e ≤ x.finalized → MayRetake deeds x.current e → Stays term_length (deeds ++ entry_deeds e) x
+  passed_over (NotarizeVote p m signature) below may = notarize_cast_stays p m signature
+  passed_over (NullifyVote round m signature) below may = nullify_cast_stays round m signature may.0 (inr below) (inr below)
+  passed_over (FinalizeVote p m signature) below may = finalize_cast_stays p m signature (omega (arith, stays.ahead)) (inr below)
   passed_over (Verdict _ _) below may = nothing_stays
-  passed_over (Accepted (Notarized c)) below may = stays_accepted term_length acts (subject.Notarize c.proposal) x stays
-  passed_over (Accepted (Nullified c)) below may = stays_accepted term_length acts (subject.Nullify c.round) x stays
-  passed_over (Accepted (Finalized c)) below may = stays_accepted term_length acts (subject.Finalize c.proposal) x stays
+  passed_over (Accepted (Notarized c)) below may = stays_accepted term_length deeds (subject.Notarize c.proposal) x stays
+  passed_over (Accepted (Nullified c)) below may = stays_accepted term_length deeds (subject.Nullify c.round) x stays
+  passed_over (Accepted (Finalized c)) below may = stays_accepted term_length deeds (subject.Finalize c.proposal) x stays

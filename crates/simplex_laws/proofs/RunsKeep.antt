@@ -1,5 +1,5 @@
 -- What a floor sets up in a new state and each event keeps holds of each state of a run.
-use Rattle.std.proofs.Common.{◌≡◌, sym, subst, ℕ, ◌⊎◌, inl, inr, Bool, true, false, List, [], ◌∷◌, Option, Some, None, Result, Ok, Err}
+use Rattle.std.proofs.Common.{◌≡◌, sym, subst, ℕ, inl, inr, Bool, true, false, List, [], ◌∷◌, Option, Some, None, Result, Ok, Err}
 use Rattle.std.specs.Prelude.{MatchOption}
 use Rattle.simplex_types.specs.Config.{FloorFacts}
 use Rattle.simplex_types.specs.declared.types.messages.Subject.{Subject}
@@ -12,9 +12,9 @@ use Rattle.simplex_laws.specs.LifeLaws.{LifeCall, Calling, Working, as_step}
 use Rattle.simplex_member.specs.Lives.{MemberFacts, fallen}
 use Rattle.simplex_member.specs.Recovery.{recover_error}
 use Rattle.simplex_member.specs.Restarts.{RestartFacts, cut, new_life, retention_grows, GoesOn, IsRestart, IsRestartWhere}
-use Rattle.simplex_laws.specs.RunActs.{IsFresh, BeginFresh}
-use Rattle.simplex_member.specs.Runs.{StepFacts, Calls, Works, Restarts, IsStep, IsRun, IsRunFrom}
+use Rattle.simplex_member.specs.Runs.{StepFacts, Calls, Works, Restarts, IsStep, IsRun}
 use Rattle.simplex_member.specs.Start.{StartFacts, started}
+use Rattle.simplex_laws.specs.Fresh.{IsFresh, BeginFresh}
 use Rattle.simplex_laws.proofs.CallsMake.{call_by_any, work_by_any, floor_then_all_keep}
 use Rattle.simplex_laws.proofs.WithinLives.{call_outcome}
 

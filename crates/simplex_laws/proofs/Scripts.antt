@@ -27,9 +27,10 @@ use Rattle.simplex_member.specs.Restarts.{RestartFacts, cut, new_life, retention
 use Rattle.simplex_member.specs.Runs.{StepFacts, Calls, Works, Restarts, IsRun, IsRunFrom}
 use Rattle.simplex_member.specs.Start.{StartFacts, started}
 use Rattle.simplex_member.specs.Work.{WorkCall, IsWorkOf, IsWork, work_reply, left_of_work}
-use Rattle.simplex_laws.specs.Stories.{Story, Accepts, deeds, BeginsAs, Ran}
 use Rattle.simplex_laws.specs.Places.{Honest, Backed, IsNetworkOf}
 use Rattle.simplex_laws.specs.Scripts.{leader, start_at, round, proposal, certificate, one, two, impatient, patient, forgetful, four, restarting, skipping, five}
+use Rattle.simplex_laws.specs.Deeds.{Accepts}
+use Rattle.simplex_laws.specs.Stories.{Story, deeds_of, BeginsAs, Ran}
 use Rattle.simplex_laws.proofs.Splits.{Contains-cases}
 
 module _ {K L D G : Type 0} (same : D → D → Bool) (elect : Elect L) (signature_of : ℕ → Subject D → G) where
@@ -268,7 +269,7 @@ module _ (signature_of : ℕ → Subject ℕ → ℕ) where
   abbrev FourBack : Subject ℕ → Type 0
   FourBack c = Backed signature_of (four signature_of) c
 
-  impatient_accepts : (c : Subject ℕ) → Contains (deeds (impatient signature_of)) (Accepts c) → FourBack c
+  impatient_accepts : (c : Subject ℕ) → Contains (deeds_of (impatient signature_of)) (Accepts c) → FourBack c
   impatient_accepts c (zero, less, same) = absurd (cc)
   impatient_accepts c (suc zero, less, same) = (let e : subject.Notarize one ≡ c = cc in subst FourBack e notarized_one)
   impatient_accepts c (suc (suc zero), less, same) = (let e : subject.Notarize two ≡ c = cc in subst FourBack e notarized_two)
@@ -276,7 +277,7 @@ module _ (signature_of : ℕ → Subject ℕ → ℕ) where
   impatient_accepts c (suc (suc (suc (suc zero))), less, same) = absurd (cc)
   impatient_accepts c (suc (suc (suc (suc (suc k)))), less, same) = absurd (omega arith)
 
-  patient_accepts : (me : ℕ) (c : Subject ℕ) → Contains (deeds (patient signature_of me)) (Accepts c) → FourBack c
+  patient_accepts : (me : ℕ) (c : Subject ℕ) → Contains (deeds_of (patient signature_of me)) (Accepts c) → FourBack c
   patient_accepts me c (zero, less, same) = absurd (cc)
   patient_accepts me c (suc zero, less, same) = (let e : subject.Notarize one ≡ c = cc in subst FourBack e notarized_one)
   patient_accepts me c (suc (suc zero), less, same) = absurd (cc)
@@ -285,7 +286,7 @@ module _ (signature_of : ℕ → Subject ℕ → ℕ) where
   patient_accepts me c (suc (suc (suc (suc (suc zero)))), less, same) = absurd (cc)
   patient_accepts me c (suc (suc (suc (suc (suc (suc k))))), less, same) = absurd (omega arith)
 
-  forgetful_accepts : (c : Subject ℕ) → Contains (deeds (forgetful signature_of)) (Accepts c) → FourBack c
+  forgetful_accepts : (c : Subject ℕ) → Contains (deeds_of (forgetful signature_of)) (Accepts c) → FourBack c
   forgetful_accepts c (zero, less, same) = absurd (cc)
   forgetful_accepts c (suc zero, less, same) = (let e : subject.Notarize one ≡ c = cc in subst FourBack e notarized_one)
   forgetful_accepts c (suc (suc zero), less, same) = absurd (cc)
@@ -308,7 +309,7 @@ module _ (signature_of : ℕ → Subject ℕ → ℕ) where
   four_network = record {
     few_faulty = inl (omega arith, omega arith);
     honest = four_places (λ i s. Ran nat_eq leader signature_of 5 i s) impatient_ran (patient_ran 1 patient_told_1) forgetful_ran;
-    backed = λ i s c at h. four_places (λ j t. (d : Subject ℕ) → Contains (deeds t) (Accepts d) → FourBack d) impatient_accepts (patient_accepts 1) forgetful_accepts i s at c h;
+    backed = λ i s c at h. four_places (λ j t. (d : Subject ℕ) → Contains (deeds_of t) (Accepts d) → FourBack d) impatient_accepts (patient_accepts 1) forgetful_accepts i s at c h;
   }
 
   abbrev FiveBack : Subject ℕ → Type 0
@@ -326,7 +327,7 @@ module _ (signature_of : ℕ → Subject ℕ → ℕ) where
   pub five_finalize_three : FiveBack (subject.Finalize (proposal 3 1))
   five_finalize_three = inl ((6, omega arith, refl), inl ((6, omega arith, refl), inl ((6, omega arith, refl), inl (tt, tt))))
 
-  skipping_accepts : (me : ℕ) (c : Subject ℕ) → Contains (deeds (skipping signature_of me)) (Accepts c) → FiveBack c
+  skipping_accepts : (me : ℕ) (c : Subject ℕ) → Contains (deeds_of (skipping signature_of me)) (Accepts c) → FiveBack c
   skipping_accepts me c (zero, less, same) = absurd (cc)
   skipping_accepts me c (suc zero, less, same) = (let e : subject.Notarize one ≡ c = cc in subst FiveBack e five_notarize_one)
   skipping_accepts me c (suc (suc zero), less, same) = absurd (cc)
@@ -348,5 +349,5 @@ module _ (signature_of : ℕ → Subject ℕ → ℕ) where
   five_network = record {
     few_faulty = inr (omega arith);
     honest = five_places (λ i s. Ran nat_eq leader signature_of 1 i s) (skipping_ran 0 skipping_told_0) (skipping_ran 1 skipping_told_1) (skipping_ran 2 skipping_told_2);
-    backed = λ i s c at h. five_places (λ j t. (d : Subject ℕ) → Contains (deeds t) (Accepts d) → FiveBack d) (skipping_accepts 0) (skipping_accepts 1) (skipping_accepts 2) i s at c h;
+    backed = λ i s c at h. five_places (λ j t. (d : Subject ℕ) → Contains (deeds_of t) (Accepts d) → FiveBack d) (skipping_accepts 0) (skipping_accepts 1) (skipping_accepts 2) i s at c h;
   }

@@ -17,9 +17,8 @@ use Rattle.simplex_voter.specs.Certification.{after_certified, takes_verdict, is
 use Rattle.simplex_voter.specs.Acceptance.{notarization_added, nullification_added, finalization_added, after_add_notarization, takes_proposal_certificate}
 use Rattle.simplex_voter.specs.Votes.{nullify_answer, finalize_answer}
 use Rattle.simplex_voter.proofs.Gaps.{and_parts, not_true}
-use Rattle.simplex_laws.specs.Acts.{Act}
 use Rattle.simplex_member.specs.Calls.{CallFacts, AddNotarization, AddNullification, AddFinalization, Certified, ConstructNullify, ConstructFinalize, BroadcastNotarization, BroadcastNullification, BroadcastFinalization, GetBestCertificate, Prune, nullify_vote, finalize_vote, newly, first_vote, vote_entry, is_allowed, answer, after_call, recorded_by}
-use Rattle.simplex_laws.specs.CallActs.{acts_of_call}
+use Rattle.simplex_laws.specs.Deeds.{Deed, deeds_of_call}
 use Rattle.simplex_laws.proofs.OwnRecords.{OwnRecord, AreQuiet, quiet_none, quiet_newly, HasNoVerdict, no_verdict, own_quiet, own_verdict}
 use Rattle.simplex_laws.proofs.Recalls.{only_one}
 use Rattle.simplex_laws.specs.Events as event
@@ -57,34 +56,34 @@ module _ {K L D : Type 0} (x : Facts K L D) (v : ℕ) (success : Bool) where
       by_round (Some r) none = absurd (false≢true (sym none))
 
 -- the record's verdicts stay in order, and the state shows them
-pub record Tells {K L D G : Type 0} (acts : List (Act D)) (entries : List (ArtifactFacts D G)) (x : Facts K L D) : Type 0 where
-  pub own : OwnRecord acts entries
+pub record Tells {K L D G : Type 0} (deeds : List (Deed D G)) (entries : List (ArtifactFacts D G)) (x : Facts K L D) : Type 0 where
+  pub own : OwnRecord deeds entries
   pub shows : Shows entries x
 
-module _ {K L D G : Type 0} (same : D → D → Bool) (elect : Elect L) (acts : List (Act D)) (entries : List (ArtifactFacts D G)) (x : Facts K L D) (ordered : InOrder x) (tells : Tells acts entries x) where
+module _ {K L D G : Type 0} (same : D → D → Bool) (elect : Elect L) (deeds : List (Deed D G)) (entries : List (ArtifactFacts D G)) (x : Facts K L D) (ordered : InOrder x) (tells : Tells deeds entries x) where
   -- an event that brings neither notarization nor verdict, where none is recorded
   pub quiet_shows : (new : List (ArtifactFacts D G)) (e : Event K D G) → IsEvent x e → notarization_by e ≡ None → verdict_by e ≡ None → HasNoVerdict new → Shows (entries ++ new) (after_event same elect x e)
   quiet_shows new e takes no_notarization no_judgement silent =
       event_shows same elect x e (λ v token is. takes) entries (entries ++ new) ordered (λ c is. absurd (cc)) (λ round given success h is. absurd (cc)) (λ a h. Contains-append_left entries new a h) (λ c is none. absurd (cc))
       (λ round success h. elim (Contains-append_cases entries new (Verdict round success) h) [ inl old ↦ inl old | inr late ↦ absurd (silent round success late) ]) tells.shows
 
-  pub quiet_told : (more : List (Act D)) (new : List (ArtifactFacts D G)) (e : Event K D G) → IsEvent x e → notarization_by e ≡ None → verdict_by e ≡ None → AreQuiet new → Tells (acts ++ more) (entries ++ new) (after_event same elect x e)
-  quiet_told more new e takes no_notarization no_judgement quiet = record { own = own_quiet acts entries tells.own more new quiet; shows = quiet_shows new e takes no_notarization no_judgement (no_verdict new quiet) }
+  pub quiet_told : (more : List (Deed D G)) (new : List (ArtifactFacts D G)) (e : Event K D G) → IsEvent x e → notarization_by e ≡ None → verdict_by e ≡ None → AreQuiet new → Tells (deeds ++ more) (entries ++ new) (after_event same elect x e)
+  quiet_told more new e takes no_notarization no_judgement quiet = record { own = own_quiet deeds entries tells.own more new quiet; shows = quiet_shows new e takes no_notarization no_judgement (no_verdict new quiet) }
 
-  notarization_told : (more : List (Act D)) (c : ProposalFacts D) → takes_proposal_certificate x c ≡ true → Tells (acts ++ more) (entries ++ newly (notarization_added same elect x c).0 (Accepted (Notarized c))) (after_add_notarization same elect x c)
+  notarization_told : (more : List (Deed D G)) (c : ProposalFacts D) → takes_proposal_certificate x c ≡ true → Tells (deeds ++ more) (entries ++ newly (notarization_added same elect x c).0 (Accepted (Notarized c))) (after_add_notarization same elect x c)
   notarization_told more c takes =
       let is_new = (notarization_added same elect x c).0 in
       let entry : ArtifactFacts D G = Accepted (Notarized c) in
       let e : Event K D G = event.AddNotarization c in
       let quiet = quiet_newly is_new entry refl in
       record {
-        own = own_quiet acts entries tells.own more (newly is_new entry) quiet;
+        own = own_quiet deeds entries tells.own more (newly is_new entry) quiet;
         shows = event_shows same elect x e (λ v token is. takes) entries (entries ++ newly is_new entry) ordered (brings_kept x e takes refl).notarization (λ round given success h is. absurd (cc)) (λ a h. Contains-append_left entries (newly is_new entry) a h)
             (λ d is none. (let alike : c ≡ d = cc in subst (λ (f : ProposalFacts D). Contains (entries ++ newly is_new entry) (Accepted (Notarized f))) alike (let here : is_some (round_of x c.proposal.round.view).notarization ≡ false = subst (λ (f : ProposalFacts D). is_some (round_of x f.proposal.round.view).notarization ≡ false) (sym alike) none in rw here (Contains-append_right entries (entry ∷ []) entry (0, omega arith, refl)))))
             (λ round success h. elim (Contains-append_cases entries (newly is_new entry) (Verdict round success) h) [ inl old ↦ inl old | inr late ↦ absurd (no_verdict (newly is_new entry) quiet round success late) ]) tells.shows;
       }
 
-  verdict_told : (more : List (Act D)) (v : ℕ) (success : Bool) (now : ℕ) → takes_verdict x v success ≡ true → Tells (acts ++ more) (entries ++ newly (is_first_verdict x v) (Verdict (round_number x v) success)) (after_certified elect x v success now)
+  verdict_told : (more : List (Deed D G)) (v : ℕ) (success : Bool) (now : ℕ) → takes_verdict x v success ≡ true → Tells (deeds ++ more) (entries ++ newly (is_first_verdict x v) (Verdict (round_number x v) success)) (after_certified elect x v success now)
   verdict_told more v success now takes = by_tracked (is_tracked x v) refl
     where
       entry : ArtifactFacts D G
@@ -116,19 +115,19 @@ module _ {K L D G : Type 0} (same : D → D → Bool) (elect : Elect L) (acts : 
                 (subst (λ b. is_judged b (round_of (after_certified elect x v success now) v).certification ≡ true) one.1 (verdict_stands G same elect x v success now ordered tracked)))
           ]) tells.shows
 
-      by_first : is_tracked x v ≡ true → (b : Bool) → Tells (acts ++ more) (entries ++ newly b entry) (after_certified elect x v success now)
-      by_first tracked false = record { own = own_quiet acts entries tells.own more [] quiet_none; shows = shown tracked [] (λ round given h. absurd (omega (arith, h.1))) }
+      by_first : is_tracked x v ≡ true → (b : Bool) → Tells (deeds ++ more) (entries ++ newly b entry) (after_certified elect x v success now)
+      by_first tracked false = record { own = own_quiet deeds entries tells.own more [] quiet_none; shows = shown tracked [] (λ round given h. absurd (omega (arith, h.1))) }
       by_first tracked true =
           let c = tells.shows.notarized v (taken_beside x v success tracked takes).0 in
-          record { own = own_verdict acts entries tells.own more (round_number x v) success c (agree tracked); shows = shown tracked (entry ∷ []) same_verdict_as }
+          record { own = own_verdict deeds entries tells.own more (round_number x v) success c (agree tracked); shows = shown tracked (entry ∷ []) same_verdict_as }
 
-      by_tracked : (b : Bool) → is_tracked x v ≡ b → Tells (acts ++ more) (entries ++ newly (is_first_verdict x v) entry) (after_certified elect x v success now)
+      by_tracked : (b : Bool) → is_tracked x v ≡ b → Tells (deeds ++ more) (entries ++ newly (is_first_verdict x v) entry) (after_certified elect x v success now)
       by_tracked true tracked = by_first tracked (is_first_verdict x v)
       by_tracked false untracked =
           let later = untracked_later x v success untracked in
-          rw (later, untracked) (record { own = own_quiet acts entries tells.own more [] quiet_none; shows = shows_more entries [] (at_moment x now) (no_verdict [] quiet_none) (record { notarized = tells.shows.notarized; judged = tells.shows.judged }) })
+          rw (later, untracked) (record { own = own_quiet deeds entries tells.own more [] quiet_none; shows = shows_more entries [] (at_moment x now) (no_verdict [] quiet_none) (record { notarized = tells.shows.notarized; judged = tells.shows.judged }) })
 
-module _ {K L D G : Type 0} (same : D → D → Bool) (elect : Elect L) (signature_of : ℕ → Subject D → G) (acts : List (Act D)) (entries : List (ArtifactFacts D G)) (x : Facts K L D) (ordered : InOrder x) (tells : Tells acts entries x) where
+module _ {K L D G : Type 0} (same : D → D → Bool) (elect : Elect L) (signature_of : ℕ → Subject D → G) (deeds : List (Deed D G)) (entries : List (ArtifactFacts D G)) (x : Facts K L D) (ordered : InOrder x) (tells : Tells deeds entries x) where
   quiet_nullify : (v : ℕ) → AreQuiet (first_vote (nullify_vote signature_of x v))
   quiet_nullify v = by_key x.me (nullify_answer x v)
     where
@@ -146,19 +145,19 @@ module _ {K L D G : Type 0} (same : D → D → Bool) (elect : Elect L) (signatu
       by_key (Some m) None = quiet_none
       by_key (Some m) (Some p) = quiet_newly true (FinalizeVote p m (signature_of m (subject.Finalize p))) refl
 
-  told : (more : List (Act D)) (new : List (ArtifactFacts D G)) (e : Event K D G) → IsEvent x e → notarization_by e ≡ None → verdict_by e ≡ None → AreQuiet new → Tells (acts ++ more) (entries ++ new) (after_event same elect x e)
-  told = quiet_told same elect acts entries x ordered tells
+  told : (more : List (Deed D G)) (new : List (ArtifactFacts D G)) (e : Event K D G) → IsEvent x e → notarization_by e ≡ None → verdict_by e ≡ None → AreQuiet new → Tells (deeds ++ more) (entries ++ new) (after_event same elect x e)
+  told = quiet_told same elect deeds entries x ordered tells
 
   -- each call that is allowed and not refused
-  pub call_told : (call : CallFacts D) → is_allowed x call ≡ true → Tells (acts ++ acts_of_call call (answer same elect signature_of x call)) (entries ++ recorded_by same elect signature_of x call) (after_call same elect signature_of x call)
-  call_told (AddNotarization c) allowed = notarization_told same elect acts entries x ordered tells _ c allowed
+  pub call_told : (call : CallFacts D) → is_allowed x call ≡ true → Tells (deeds ++ deeds_of_call call (answer same elect signature_of x call)) (entries ++ recorded_by same elect signature_of x call) (after_call same elect signature_of x call)
+  call_told (AddNotarization c) allowed = notarization_told same elect deeds entries x ordered tells _ c allowed
   call_told (AddNullification c now) allowed = told _ _ (event.AddNullification c now) allowed refl refl (quiet_newly (nullification_added x c) (Accepted (Nullified c)) refl)
   call_told (AddFinalization c now) allowed = told _ _ (event.AddFinalization c now) allowed refl refl (quiet_newly (finalization_added same elect x c).0 (Accepted (Finalized c)) refl)
-  call_told (Certified v success now) allowed = verdict_told same elect acts entries x ordered tells _ v success now allowed
+  call_told (Certified v success now) allowed = verdict_told same elect deeds entries x ordered tells _ v success now allowed
   call_told (ConstructNullify v) allowed = told _ _ (event.ConstructNullify v) tt refl refl (quiet_nullify v)
   call_told (ConstructFinalize v) allowed = told _ _ (event.ConstructFinalize v) tt refl refl (quiet_finalize v)
   call_told (BroadcastNotarization v) allowed = told _ [] (event.BroadcastNotarization v) tt refl refl quiet_none
   call_told (BroadcastNullification v) allowed = told _ [] (event.BroadcastNullification v) tt refl refl quiet_none
   call_told (BroadcastFinalization v) allowed = told _ [] (event.BroadcastFinalization v) tt refl refl quiet_none
-  call_told GetBestCertificate allowed = record { own = own_quiet acts entries tells.own [] [] quiet_none; shows = shows_more entries [] x (no_verdict [] quiet_none) tells.shows }
+  call_told GetBestCertificate allowed = record { own = own_quiet deeds entries tells.own [] [] quiet_none; shows = shows_more entries [] x (no_verdict [] quiet_none) tells.shows }
   call_told Prune allowed = told _ [] event.Prune tt refl refl quiet_none

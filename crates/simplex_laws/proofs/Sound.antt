@@ -16,8 +16,8 @@ use Rattle.simplex_member.specs.Recovery.{recovered}
 use Rattle.simplex_laws.specs.Events as event
 use Rattle.simplex_laws.specs.Events.{Event, after_event}
 use Rattle.simplex_laws.specs.LifeLaws.{Kind, Notarization, Nullification, Finalization}
-use Rattle.simplex_laws.specs.RunActs.{IsFresh}
 use Rattle.simplex_laws.specs.Sums.{finalized_by, is_prune}
+use Rattle.simplex_laws.specs.Fresh.{IsFresh}
 use Rattle.simplex_laws.proofs.CallsMake.{is_floor, floor_then_all_keep}
 use Rattle.simplex_laws.proofs.EachRound.{IsGone}
 use Rattle.simplex_laws.proofs.Paths.{from_entry, from_first_entry}

@@ -1,4 +1,4 @@
--- A round stands to the acts as before once it takes a certificate, a verdict or a vote.
+-- A round stands to the deeds as before once it takes a certificate, a verdict or a vote.
 use Rattle.std.proofs.Common.{◌≡◌, refl, ap, sym, ◌∙◌, subst, ℕ, ◌<◌, ◌≤◌, ◌⊎◌, inl, inr, Bool, true, false, cond, List, Contains, Option, Some, None, is_some}
 use Rattle.std.proofs.lemmas.Bool.{false≢true, cases_Bool}
 use Rattle.simplex_types.specs.Certificates.{ProposalFacts}
@@ -9,7 +9,7 @@ use Rattle.simplex_types.specs.declared.types.messages.Subject.TheVariants as su
 use Rattle.simplex_types.specs.declared.types.numbers.Round.{Round}
 use Rattle.simplex_round.specs.Slot.{SlotFacts, after_certificate}
 use Rattle.simplex_round.specs.Round.{RoundFacts, new_round, with_recovered, with_notarization, with_finalization, certified_round}
-use Rattle.simplex_laws.specs.Acts.{Act, Accept}
+use Rattle.simplex_laws.specs.Deeds.{Deed, Accepts}
 use Rattle.simplex_laws.proofs.Standing.{RoundStands}
 
 -- a slot holds the proposal, unless another was seen
@@ -42,24 +42,24 @@ module _ {D : Type 0} (same : D → D → Bool) (decides : (d e : D) → same d 
         | inr other ↦ rw (is, other) (inl refl)
       ]
 
-  module _ {K : Type 0} (acts : List (Act D)) (reached finalized v : ℕ) (r : RoundFacts K D) (c : ProposalFacts D) (stands : RoundStands acts reached finalized v r) where
-    pub notarized_stands : c.proposal.round.view ≡ v → Contains acts (Accept (subject.Notarize c.proposal)) → RoundStands acts reached finalized v (with_notarization (same_proposal same) r c)
+  module _ {K G : Type 0} (deeds : List (Deed D G)) (reached finalized v : ℕ) (r : RoundFacts K D) (c : ProposalFacts D) (stands : RoundStands deeds reached finalized v r) where
+    pub notarized_stands : c.proposal.round.view ≡ v → Contains deeds (Accepts (subject.Notarize c.proposal)) → RoundStands deeds reached finalized v (with_notarization (same_proposal same) r c)
     notarized_stands at accepted = by_kept (is_some r.notarization)
       where
-        by_kept : (b : Bool) → RoundStands acts reached finalized v (cond b r (record (with_recovered (same_proposal same) r c.proposal) { notarization = Some c }))
+        by_kept : (b : Bool) → RoundStands deeds reached finalized v (cond b r (record (with_recovered (same_proposal same) r c.proposal) { notarization = Some c }))
         by_kept true = stands
         by_kept false = record {
-          notarized = λ d is. (let e : c ≡ d = cc in subst (λ (f : ProposalFacts D). (f.proposal.round.view ≡ v) × Contains acts (Accept (subject.Notarize f.proposal))) e (at, accepted));
+          notarized = λ d is. (let e : c ≡ d = cc in subst (λ (f : ProposalFacts D). (f.proposal.round.view ≡ v) × Contains deeds (Accepts (subject.Notarize f.proposal))) e (at, accepted));
           held = λ d is. (let e : c ≡ d = cc in subst (λ (f : ProposalFacts D). Holds (after_certificate (same_proposal same) r.slot c.proposal) f.proposal) e (holds_new r.slot c.proposal));
           entered = stands.entered;
           nullify_decided = stands.nullify_decided;
           finalize_decided = stands.finalize_decided;
         }
 
-    pub finalized_stands : RoundStands acts reached finalized v (with_finalization (same_proposal same) r c)
+    pub finalized_stands : RoundStands deeds reached finalized v (with_finalization (same_proposal same) r c)
     finalized_stands = by_kept (is_some r.finalization)
       where
-        by_kept : (b : Bool) → RoundStands acts reached finalized v (cond b r (record (with_recovered (same_proposal same) r c.proposal) { finalization = Some c }))
+        by_kept : (b : Bool) → RoundStands deeds reached finalized v (cond b r (record (with_recovered (same_proposal same) r c.proposal) { finalization = Some c }))
         by_kept true = stands
         by_kept false = record {
           notarized = stands.notarized;
@@ -69,8 +69,8 @@ module _ {D : Type 0} (same : D → D → Bool) (decides : (d e : D) → same d 
           finalize_decided = stands.finalize_decided;
         }
 
-module _ {K D : Type 0} (acts : List (Act D)) (reached finalized v : ℕ) (r : RoundFacts K D) (stands : RoundStands acts reached finalized v r) where
-  pub judged_stands : (success : Bool) → (success ≡ true → v < reached) → RoundStands acts reached finalized v (certified_round r success)
+module _ {K D G : Type 0} (deeds : List (Deed D G)) (reached finalized v : ℕ) (r : RoundFacts K D) (stands : RoundStands deeds reached finalized v r) where
+  pub judged_stands : (success : Bool) → (success ≡ true → v < reached) → RoundStands deeds reached finalized v (certified_round r success)
   judged_stands true enters = record {
     notarized = stands.notarized;
     held = stands.held;
@@ -87,8 +87,8 @@ module _ {K D : Type 0} (acts : List (Act D)) (reached finalized v : ℕ) (r : R
   }
 
 -- nothing is known of a view whose votes are no higher than a finalization
-pub fresh_stands : {K D : Type 0} (acts : List (Act D)) (reached finalized v : ℕ) (me : Option ℕ) (members : List K) (round : Round) → v ≤ finalized → RoundStands acts reached finalized v (new_round me members round)
-fresh_stands acts reached finalized v me members round below = record {
+pub fresh_stands : {K D G : Type 0} (deeds : List (Deed D G)) (reached finalized v : ℕ) (me : Option ℕ) (members : List K) (round : Round) → v ≤ finalized → RoundStands deeds reached finalized v (new_round me members round)
+fresh_stands deeds reached finalized v me members round below = record {
   notarized = λ c is. absurd (cc);
   held = λ c is. absurd (cc);
   entered = λ is. absurd (false≢true is);

@@ -10,13 +10,13 @@ use Rattle.simplex_round.specs.Round.{RoundFacts, new_round, is_nullify, is_fina
 use Rattle.simplex_voter.specs.Facts.{Facts, Elect, round_of, round_number}
 use Rattle.simplex_voter.specs.Windows.{min_active}
 use Rattle.simplex_voter.specs.Proposing.{proposal_of}
-use Rattle.simplex_laws.specs.Acts.{Act, Accept}
 use Rattle.simplex_laws.specs.Events as event
 use Rattle.simplex_laws.specs.Events.{Event, IsEvent, after_event}
 use Rattle.simplex_laws.specs.Sums.{is_prune, finalized_by}
+use Rattle.simplex_laws.specs.Deeds.{Deed, Accepts}
 use Rattle.simplex_laws.proofs.EachRound.{step_round, pruned_round}
 use Rattle.simplex_laws.proofs.InOrder.{InOrder}
-use Rattle.simplex_laws.proofs.LeavesVotes.{armed_nullify, armed_finalize, latched_nullify, latched_finalize, aborted_certified}
+use Rattle.simplex_laws.proofs.Rounds.{armed_nullify, armed_finalize, latched_nullify, latched_finalize, aborted_certified, awaited_nullify}
 use Rattle.simplex_laws.proofs.NotedVotes.{noted_old, noted_kept}
 use Rattle.simplex_laws.proofs.Paths.{event_path, asked_of_all}
 use Rattle.simplex_laws.proofs.Retaken.{holds_own}
@@ -24,7 +24,7 @@ use Rattle.simplex_laws.proofs.Standing.{RoundStands, Stands, round_later, stand
 use Rattle.simplex_laws.proofs.StandingRounds.{Holds, holds_new, holds_old, fresh_stands}
 use Rattle.simplex_laws.proofs.Steps as step
 use Rattle.simplex_laws.proofs.Steps.{RoundStep, Step, Puts, Notes, Raises, Strays, Prunes, along, notarization_by, verdict_by}
-use Rattle.simplex_laws.proofs.Works.{holds_voted, awaited_nullify}
+use Rattle.simplex_laws.proofs.Works.{holds_voted}
 
 prune_finalizes_none : {K D G : Type 0} (e : Event K D G) → is_prune e ≡ true → finalized_by e ≡ 0
 prune_finalizes_none event.Prune is = refl
@@ -35,10 +35,10 @@ passed_by : (a : Bool) (P : Type 0) → a ≡ false → (a ≡ true) ⊎ P → (
 passed_by a P isnt (inl is) b = absurd (false≢true (sym isnt ∙ is))
 passed_by a P isnt (inr p) b = inr p
 
-module _ {K L D G : Type 0} (same : D → D → Bool) (decides : (d e : D) → same d e ≡ true → d ≡ e) (elect : Elect L) (term_length : ℕ) (acts : List (Act D)) (reached : ℕ) (x : Facts K L D) (e : Event K D G) (takes : IsEvent x e) (ordered : InOrder x) (accepted : (c : ProposalFacts D) → notarization_by e ≡ Some c → Contains acts (Accept (subject.Notarize c.proposal))) (enters : (v : ℕ) → verdict_by e ≡ Some (v, true) → v < reached) where
-  change_stands : (finalized : ℕ) (y : Facts K L D) (v : ℕ) (r s : RoundFacts K D) → RoundStep same elect x e y v r s → RoundStands acts reached finalized v r → RoundStands acts reached finalized v s
+module _ {K L D G : Type 0} (same : D → D → Bool) (decides : (d e : D) → same d e ≡ true → d ≡ e) (elect : Elect L) (term_length : ℕ) (deeds : List (Deed D G)) (reached : ℕ) (x : Facts K L D) (e : Event K D G) (takes : IsEvent x e) (ordered : InOrder x) (accepted : (c : ProposalFacts D) → notarization_by e ≡ Some c → Contains deeds (Accepts (subject.Notarize c.proposal))) (enters : (v : ℕ) → verdict_by e ≡ Some (v, true) → v < reached) where
+  change_stands : (finalized : ℕ) (y : Facts K L D) (v : ℕ) (r s : RoundFacts K D) → RoundStep same elect x e y v r s → RoundStands deeds reached finalized v r → RoundStands deeds reached finalized v s
   change_stands finalized y v r s (step.Notarized c says at none) p = record {
-    notarized = λ d is. (let alike : c ≡ d = cc in subst (λ (f : ProposalFacts D). (f.proposal.round.view ≡ v) × Contains acts (Accept (subject.Notarize f.proposal))) alike (at, accepted c says));
+    notarized = λ d is. (let alike : c ≡ d = cc in subst (λ (f : ProposalFacts D). (f.proposal.round.view ≡ v) × Contains deeds (Accepts (subject.Notarize f.proposal))) alike (at, accepted c says));
     held = λ d is. (let alike : c ≡ d = cc in subst (λ (f : ProposalFacts D). Holds (after_certificate (same_proposal same) r.slot c.proposal) f.proposal) alike (holds_new same decides r.slot c.proposal));
     entered = p.entered;
     nullify_decided = p.nullify_decided;
@@ -59,13 +59,13 @@ module _ {K L D G : Type 0} (same : D → D → Bool) (decides : (d e : D) → s
   change_stands finalized y v r s (step.VotedAgain q binding says at is) p = record { notarized = p.notarized; held = λ d is. holds_own same decides r.slot q d.proposal (p.held d is); entered = p.entered; nullify_decided = p.nullify_decided; finalize_decided = p.finalize_decided }
   change_stands finalized y v r s _ p = record { notarized = p.notarized; held = p.held; entered = p.entered; nullify_decided = p.nullify_decided; finalize_decided = p.finalize_decided }
 
-  step_stands : (y z : Facts K L D) → Step same elect x e 0 y z → Stands term_length acts reached y → Stands term_length acts reached z
-  step_stands y z (Puts v r may change) p = stands_put term_length acts reached y v r (change_stands y.finalized y v (round_of y v) r change (p.rounds v)) p
+  step_stands : (y z : Facts K L D) → Step same elect x e 0 y z → Stands term_length deeds reached y → Stands term_length deeds reached z
+  step_stands y z (Puts v r may change) p = stands_put term_length deeds reached y v r (change_stands y.finalized y v (round_of y v) r change (p.rounds v)) p
   step_stands y z (Strays v r over astray) p = absurd (subst T astray ordered)
   step_stands y z (Raises v says above) p = record {
     terms = p.terms;
     rounds = λ w. elim (step_round same elect x e ordered 0 y _ (Raises v says above) w) [
-      | inl change ↦ change_stands v y w (round_of y w) _ change (round_later acts reached reached y.finalized v w (round_of y w) (omega arith) (omega arith) (p.rounds w))
+      | inl change ↦ change_stands v y w (round_of y w) _ change (round_later deeds reached reached y.finalized v w (round_of y w) (omega arith) (omega arith) (p.rounds w))
       | inr prunes ↦ absurd (let none = prune_finalizes_none e prunes.0 in omega (arith, none, says, above))
     ];
     passed = p.passed;
@@ -80,8 +80,8 @@ module _ {K L D G : Type 0} (same : D → D → Bool) (decides : (d e : D) → s
   step_stands y z (Prunes is) p = record {
     terms = p.terms;
     rounds = λ w. elim (pruned_round y w) [
-      | inl kept ↦ subst (RoundStands acts reached y.finalized w) (sym kept) (p.rounds w)
-      | inr gone ↦ subst (λ o. RoundStands acts reached y.finalized w (unwrap_or o (new_round y.me y.members (round_number y w)))) (sym gone.untracked) (fresh_stands acts reached y.finalized w y.me y.members (round_number y w) (let below = gone.below in omega (arith, below)))
+      | inl kept ↦ subst (RoundStands deeds reached y.finalized w) (sym kept) (p.rounds w)
+      | inr gone ↦ subst (λ o. RoundStands deeds reached y.finalized w (unwrap_or o (new_round y.me y.members (round_number y w)))) (sym gone.untracked) (fresh_stands deeds reached y.finalized w y.me y.members (round_number y w) (let below = gone.below in omega (arith, below)))
     ];
     passed = p.passed;
     noted = λ round h. (
@@ -97,6 +97,6 @@ module _ {K L D G : Type 0} (same : D → D → Bool) (decides : (d e : D) → s
   }
   step_stands y z _ p = record { terms = p.terms; rounds = p.rounds; passed = p.passed; noted = p.noted }
 
-  -- each event, where the record of acts has its certificate already
-  pub event_stands : Stands term_length acts reached x → Stands term_length acts reached (after_event same elect x e)
-  event_stands p = along same elect x e 0 (Stands term_length acts reached) step_stands x (after_event same elect x e) (event_path same elect 0 x e (omega arith) (asked_of_all x e)) p
+  -- each event, where the record of deeds has its certificate already
+  pub event_stands : Stands term_length deeds reached x → Stands term_length deeds reached (after_event same elect x e)
+  event_stands p = along same elect x e 0 (Stands term_length deeds reached) step_stands x (after_event same elect x e) (event_path same elect 0 x e (omega arith) (asked_of_all x e)) p

@@ -15,7 +15,7 @@ use Rattle.simplex_laws.specs.Events.{Event, IsEvent, after_event}
 use Rattle.simplex_laws.specs.Sums.{is_prune}
 use Rattle.simplex_laws.proofs.EachRound.{IsGone, rounds_along, rounds_or_gone}
 use Rattle.simplex_laws.proofs.InOrder.{InOrder}
-use Rattle.simplex_laws.proofs.LeavesVotes.{round_put}
+use Rattle.simplex_laws.proofs.Rounds.{round_put}
 use Rattle.simplex_laws.proofs.Paths.{event_path, asked_of_all, from_judged}
 use Rattle.simplex_laws.proofs.Rising.{event_goes, floor_goes}
 use Rattle.simplex_laws.proofs.Steps as step

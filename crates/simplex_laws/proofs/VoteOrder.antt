@@ -1,8 +1,9 @@
--- The order of two votes of one member, and what the acts before a vote have in common with all of its acts.
-use Rattle.std.proofs.Common.{◌≡◌, zero, suc, inl, inr, List, [], ◌∷◌, ◌++◌, Contains, arith, refl, sym, ap, ◌∙◌, subst, append_assoc}
+-- The order of two votes of one member, and what the deeds before a vote have in common with all of its deeds.
+use Rattle.std.proofs.Common.{◌≡◌, ℕ, zero, suc, inl, inr, List, [], ◌∷◌, ◌++◌, Contains, arith, refl, sym, ap, ◌∙◌, subst, append_assoc}
 use Rattle.std.proofs.lemmas.List.Elements.{Contains-append_left, Contains-append_right, Contains-append_cases}
 use Rattle.simplex_types.specs.declared.types.messages.Subject.{Subject}
-use Rattle.simplex_laws.specs.Acts.{Act, Cast, CastAfter}
+use Rattle.simplex_laws.specs.Deeds.{Deed, Signs}
+use Rattle.simplex_laws.specs.Lawful.{HasSigned, SignsAfter}
 
 -- an element splits its list
 pub Contains-split : {X : Type 0} (xs : List X) (x : X) → Contains xs x → (before after : List X) × (xs ≡ before ++ x ∷ after)
@@ -16,36 +17,39 @@ Contains-split {X} (y ∷ xs) x (suc k, less, same) =
 pub Contains-middle : {X : Type 0} (before after : List X) (x : X) → Contains (before ++ x ∷ after) x
 Contains-middle before after x = Contains-append_right before (x ∷ after) x (0, omega arith, refl)
 
-pub voted : {D : Type 0} (acts : List (Act D)) (vote : Subject D) → Contains acts (Cast vote) → (before : List (Act D)) × CastAfter acts before vote
-voted acts vote h = let parts = Contains-split acts (Cast vote) h in (parts.0, (parts.1, parts.2))
+module _ {D G : Type 0} where
+  pub voted : (deeds : List (Deed D G)) (vote : Subject D) → HasSigned deeds vote → (before : List (Deed D G)) × SignsAfter deeds before vote
+  voted deeds vote h = let parts = Contains-split deeds (Signs h.0 vote h.1) h.2 in (parts.0, (h.0, h.1, parts.1, parts.2))
 
--- what came before a vote is among all acts
-pub earlier : {D : Type 0} (acts before : List (Act D)) (vote : Subject D) (act : Act D) → CastAfter acts before vote → Contains before act → Contains acts act
-earlier acts before vote act (after, is) h = subst (λ xs. Contains xs act) (sym is) (Contains-append_left before (Cast vote ∷ after) act h)
+  -- what came before a vote is among all deeds
+  pub earlier : (deeds before : List (Deed D G)) (vote : Subject D) (deed : Deed D G) → SignsAfter deeds before vote → Contains before deed → Contains deeds deed
+  earlier deeds before vote deed (i, g, after, is) h = subst (λ xs. Contains xs deed) (sym is) (Contains-append_left before (Signs i vote g ∷ after) deed h)
 
--- two votes are one, or one of them was cast before the other
-pub data Order {D : Type 0} (acts : List (Act D)) (a b : Subject D) : Type 0 where
-  Same : a ≡ b → Order acts a b
-  First : (before : List (Act D)) → CastAfter acts before b → Contains before (Cast a) → Order acts a b
-  Second : (before : List (Act D)) → CastAfter acts before a → Contains before (Cast b) → Order acts a b
+-- two votes are one, or one of them was signed before the other
+pub data Order {D G : Type 0} (deeds : List (Deed D G)) (a b : Subject D) : Type 0 where
+  Same : a ≡ b → Order deeds a b
+  First : (before : List (Deed D G)) → SignsAfter deeds before b → HasSigned before a → Order deeds a b
+  Second : (before : List (Deed D G)) → SignsAfter deeds before a → HasSigned before b → Order deeds a b
 
-cast_same : {D : Type 0} (a b : Subject D) → Cast a ≡ Cast b → a ≡ b
-cast_same a b e = cc
+module _ {D G : Type 0} (deeds : List (Deed D G)) (a b : Subject D) where
+  signs_same : (i j : ℕ) (g h : G) → Signs i a g ≡ Signs j b h → a ≡ b
+  signs_same i j g h e = cc
 
--- where the list is split at the first vote and holds the second one behind it
-second_later : {D : Type 0} (acts before after : List (Act D)) (a b : Subject D) → acts ≡ before ++ Cast a ∷ after → Contains after (Cast b) → Order acts a b
-second_later {D} acts before after a b is h =
-    let parts = Contains-split after (Cast b) h in
-    let front : List (Act D) = before ++ Cast a ∷ parts.0 in
-    First front (parts.1, is ∙ (ap (λ (xs : List (Act D)). before ++ Cast a ∷ xs) parts.2 ∙ sym (append_assoc before (Cast a ∷ parts.0) (Cast b ∷ parts.1)))) (Contains-middle before parts.0 (Cast a))
+  -- where the list is split at the first vote and holds the second one behind it
+  second_later : (before after : List (Deed D G)) (i j : ℕ) (g h : G) → deeds ≡ before ++ Signs i a g ∷ after → Contains after (Signs j b h) → Order deeds a b
+  second_later before after i j g h is there =
+      let parts = Contains-split after (Signs j b h) there in
+      let front : List (Deed D G) = before ++ Signs i a g ∷ parts.0 in
+      let split = is ∙ (ap (λ (xs : List (Deed D G)). before ++ Signs i a g ∷ xs) parts.2 ∙ sym (append_assoc before (Signs i a g ∷ parts.0) (Signs j b h ∷ parts.1))) in
+      First front (j, h, parts.1, split) (i, g, Contains-middle before parts.0 (Signs i a g))
 
--- where the second vote is the first one or stands behind it
-from_first : {D : Type 0} (acts before after : List (Act D)) (a b : Subject D) → acts ≡ before ++ Cast a ∷ after → Contains (Cast a ∷ after) (Cast b) → Order acts a b
-from_first acts before after a b is (zero, less, same) = Same (cast_same a b same)
-from_first acts before after a b is (suc k, less, same) = second_later acts before after a b is (k, omega arith, same)
+  -- where the second vote is the first one or stands behind it
+  from_first : (before after : List (Deed D G)) (i j : ℕ) (g h : G) → deeds ≡ before ++ Signs i a g ∷ after → Contains (Signs i a g ∷ after) (Signs j b h) → Order deeds a b
+  from_first before after i j g h is (zero, less, same) = Same (signs_same i j g h same)
+  from_first before after i j g h is (suc k, less, same) = second_later before after i j g h is (k, omega arith, same)
 
-pub in_order : {D : Type 0} (acts : List (Act D)) (a b : Subject D) → Contains acts (Cast a) → Contains acts (Cast b) → Order acts a b
-in_order {D} acts a b has_a has_b =
-    let parts = Contains-split acts (Cast a) has_a in
-    let placed = Contains-append_cases parts.0 (Cast a ∷ parts.1) (Cast b) (subst (λ (xs : List (Act D)). Contains xs (Cast b)) parts.2 has_b) in
-    elim placed [ inl h ↦ Second parts.0 (parts.1, parts.2) h | inr h ↦ from_first acts parts.0 parts.1 a b parts.2 h ]
+  pub in_order : HasSigned deeds a → HasSigned deeds b → Order deeds a b
+  in_order (i, g, has_a) (j, h, has_b) =
+      let parts = Contains-split deeds (Signs i a g) has_a in
+      let placed = Contains-append_cases parts.0 (Signs i a g ∷ parts.1) (Signs j b h) (subst (λ (xs : List (Deed D G)). Contains xs (Signs j b h)) parts.2 has_b) in
+      elim placed [ inl old ↦ Second parts.0 (i, g, parts.1, parts.2) (j, h, old) | inr new ↦ from_first parts.0 parts.1 i j g h parts.2 new ]

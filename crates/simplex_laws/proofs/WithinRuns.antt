@@ -1,25 +1,20 @@
 -- The lives of a run from a start, and what each of them keeps.
-use Rattle.std.proofs.Common.{◌≡◌, refl, sym, ◌∙◌, subst, ℕ, ◌<◌, ◌≤◌, inl, inr, Bool, true, false, List, [], ◌∷◌, ◌++◌, length, Option, Some, None, Result, Ok, Err, arith}
-use Rattle.std.specs.Prelude.{MatchOption}
+use Rattle.std.proofs.Common.{◌≡◌, refl, sym, ◌∙◌, subst, ℕ, ◌<◌, ◌≤◌, inl, inr, Bool, true, List, [], ◌∷◌, ◌++◌, length, Option, Some, None, arith}
 use Rattle.std.proofs.lemmas.List.{length-map}
 use Rattle.simplex_types.specs.declared.types.fault.Fault.{Fault}
 use Rattle.simplex_types.specs.declared.types.messages.Subject.{Subject}
 use Rattle.simplex_voter.specs.Facts.{Facts, Elect}
 use Rattle.simplex_voter.specs.Windows.{min_active}
-use Rattle.simplex_member.specs.declared.member.error.RecoverError.{RecoverError}
 use Rattle.simplex_member.specs.Calls.{CallFacts, Told, Dropped, Refused, NotAllowed, is_allowed, answer, after_call}
 use Rattle.simplex_laws.specs.LifeLaws.{LifeCall, Calling, Working, as_step, as_steps, IsLife, IsLifeOfRun, WhileAlive, IsDropped, ConflictsStay, DroppedForGood, HandedOnce, IsAsAsked, HandedAsAsked}
-use Rattle.simplex_member.specs.Lives.{MemberFacts, fallen}
+use Rattle.simplex_member.specs.Lives.{MemberFacts}
 use Rattle.simplex_member.specs.Openings.{Openings}
 use Rattle.simplex_member.specs.Work.{WorkCall, TryPropose, work_allowed, work_answer, after_work}
-use Rattle.simplex_member.specs.Recovery.{recover_error}
-use Rattle.simplex_member.specs.Restarts.{RestartFacts, cut, new_life, retention_grows, GoesOn, IsRestart, IsRestartWhere}
-use Rattle.simplex_laws.specs.RunActs.{IsFresh, BeginFresh}
-use Rattle.simplex_member.specs.Runs.{StepFacts, Calls, Works, Restarts, IsStep, IsRun, IsRunFrom}
+use Rattle.simplex_member.specs.Runs.{StepFacts, IsStep, IsRun, IsRunFrom}
 use Rattle.simplex_member.specs.Start.{StartFacts, started}
+use Rattle.simplex_laws.specs.Fresh.{IsFresh, BeginFresh}
 use Rattle.simplex_laws.proofs.Conflicts.{Keeps, life_keeps}
 use Rattle.simplex_laws.proofs.HandedOut.{IsOrdered, life_hands_once}
-use Rattle.simplex_member.proofs.Going.{goes}
 use Rattle.simplex_laws.proofs.AsAsked.{call_as_asked}
 use Rattle.simplex_laws.proofs.Recalls.{only_one}
 use Rattle.simplex_laws.proofs.Splits.{Contains-cases}

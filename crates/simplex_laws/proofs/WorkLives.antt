@@ -12,11 +12,11 @@ use Rattle.simplex_voter.specs.Rules.{may_notarize}
 use Rattle.simplex_voter.specs.Votes.{after_construct_notarize}
 use Rattle.simplex_voter.proofs.Gaps.{and_parts}
 use Rattle.simplex_voter.proofs.Rules.{notarize_parts}
-use Rattle.simplex_laws.specs.Acts.{Act, Cast}
 use Rattle.simplex_member.specs.Calls.{Notarize, vote_entry}
-use Rattle.simplex_laws.specs.CallActs.{acts_of_work}
 use Rattle.simplex_member.specs.Openings.{Openings}
 use Rattle.simplex_member.specs.Work.{WorkCall, SetProposal, TryPropose, Proposed, SupersedeProposalRequest, PendingHandoffAbandonment, ReleaseProposalRequest, TryVerify, Verified, VerificationFailed, ConstructNotarize, CertifyCandidates, SetCertifyHandle, TriggerTimeout, NextTimeout, notarize_vote, recorded_by_work, work_allowed, work_answer, after_work, openings_after}
+use Rattle.simplex_laws.specs.Deeds.{Deed, Signs, signed_in}
+use Rattle.simplex_laws.proofs.Signed.{only_signed}
 use Rattle.simplex_laws.proofs.Lawful.{lawful_push}
 use Rattle.simplex_laws.proofs.LifeCalls.{no_key, no_rule}
 use Rattle.simplex_laws.proofs.Marks.{marked_few, marked_more}
@@ -32,33 +32,33 @@ use Rattle.simplex_laws.proofs.NotarizeVotes.{notarize_silent, notarize_told, no
 use Rattle.simplex_laws.proofs.NewLives.{Living, high_more, within_more}
 
 -- a vote to notarize is recorded
-grows_notarize : {D G : Type 0} (acts : List (Act D)) (entries : List (ArtifactFacts D G)) (p : Proposal D) (m : ℕ) (signature : G) → Grows acts (Cast (subject.Notarize p) ∷ []) entries (NotarizeVote p m signature ∷ [])
-grows_notarize acts entries p m signature = record {
+grows_notarize : {D G : Type 0} (deeds : List (Deed D G)) (entries : List (ArtifactFacts D G)) (p : Proposal D) (m : ℕ) (signature : G) → Grows deeds (Signs m (subject.Notarize p) signature ∷ []) entries (NotarizeVote p m signature ∷ [])
+grows_notarize deeds entries p m signature = record {
   accepted = λ c h. absurd (let e = only_one (NotarizeVote p m signature) (Accepted c) h in cc);
   nullify_cast = λ r n s h. absurd (let e = only_one (NotarizeVote p m signature) (NullifyVote r n s) h in cc);
   finalize_cast = λ q n s h. absurd (let e = only_one (NotarizeVote p m signature) (FinalizeVote q n s) h in cc);
-  nullify_kept = λ r h. absurd (let e = only_one (Cast (subject.Notarize p)) (Cast (subject.Nullify r)) h in cc);
-  finalize_kept = λ q h. absurd (let e = only_one (Cast (subject.Notarize p)) (Cast (subject.Finalize q)) h in cc);
+  nullify_kept = λ r h. absurd (let e = only_signed (Signs m (subject.Notarize p) signature) (subject.Nullify r) h in cc);
+  finalize_kept = λ q h. absurd (let e = only_signed (Signs m (subject.Notarize p) signature) (subject.Finalize q) h in cc);
   judged = λ before after q n s split. absurd (let e = single_split before after (NotarizeVote p m signature) (FinalizeVote q n s) split in cc);
 }
 
 module _ {K L D G : Type 0} (same : D → D → Bool) (elect : Elect L) (signature_of : ℕ → Subject D → G) (x : Facts K L D) (o : Openings K D) where
-  -- a call that is no vote to notarize is no act, and records nothing
-  pub silent_acts : (call : WorkCall D) → is_silent call ≡ true → acts_of_work (work_answer same elect signature_of x o call) ≡ []
-  silent_acts (SetProposal v p) silent = refl
-  silent_acts TryPropose silent = refl
-  silent_acts (Proposed v payload now) silent = refl
-  silent_acts (SupersedeProposalRequest v) silent = refl
-  silent_acts (PendingHandoffAbandonment v) silent = refl
-  silent_acts (ReleaseProposalRequest v) silent = refl
-  silent_acts TryVerify silent = refl
-  silent_acts (Verified v) silent = refl
-  silent_acts (VerificationFailed v reason now) silent = refl
-  silent_acts (ConstructNotarize v) silent = absurd (false≢true silent)
-  silent_acts CertifyCandidates silent = refl
-  silent_acts (SetCertifyHandle v token) silent = refl
-  silent_acts (TriggerTimeout v reason now) silent = refl
-  silent_acts (NextTimeout now) silent = refl
+  -- a call that is no vote to notarize is no deed, and records nothing
+  pub silent_deeds : (call : WorkCall D) → is_silent call ≡ true → signed_in (work_answer same elect signature_of x o call) ≡ []
+  silent_deeds (SetProposal v p) silent = refl
+  silent_deeds TryPropose silent = refl
+  silent_deeds (Proposed v payload now) silent = refl
+  silent_deeds (SupersedeProposalRequest v) silent = refl
+  silent_deeds (PendingHandoffAbandonment v) silent = refl
+  silent_deeds (ReleaseProposalRequest v) silent = refl
+  silent_deeds TryVerify silent = refl
+  silent_deeds (Verified v) silent = refl
+  silent_deeds (VerificationFailed v reason now) silent = refl
+  silent_deeds (ConstructNotarize v) silent = absurd (false≢true silent)
+  silent_deeds CertifyCandidates silent = refl
+  silent_deeds (SetCertifyHandle v token) silent = refl
+  silent_deeds (TriggerTimeout v reason now) silent = refl
+  silent_deeds (NextTimeout now) silent = refl
 
   pub silent_record : (call : WorkCall D) → is_silent call ≡ true → recorded_by_work same elect signature_of x call ≡ []
   silent_record (SetProposal v p) silent = refl
@@ -76,35 +76,35 @@ module _ {K L D G : Type 0} (same : D → D → Bool) (elect : Elect L) (signatu
   silent_record (TriggerTimeout v reason now) silent = refl
   silent_record (NextTimeout now) silent = refl
 
-module _ {K L D G : Type 0} (same : D → D → Bool) (decides : (d e : D) → same d e ≡ true → d ≡ e) (elect : Elect L) (signature_of : ℕ → Subject D → G) (term_length : ℕ) (some : 0 < term_length) (acts : List (Act D)) (closed kept : ℕ) (entries : List (ArtifactFacts D G)) (o : Openings K D) (x : Facts K L D) (living : Living term_length acts closed kept entries o x) where
-  -- with no act and nothing recorded
-  nothing_done : (next : Openings K D) (y : Facts K L D) → Living term_length acts closed kept entries next y → Living term_length (acts ++ []) closed kept (entries ++ []) next y
-  nothing_done next y lives = subst (λ a. Living term_length a closed kept (entries ++ []) next y) (sym (append-nil acts)) (subst (λ es. Living term_length acts closed kept es next y) (sym (append-nil entries)) lives)
+module _ {K L D G : Type 0} (same : D → D → Bool) (decides : (d e : D) → same d e ≡ true → d ≡ e) (elect : Elect L) (signature_of : ℕ → Subject D → G) (term_length : ℕ) (some : 0 < term_length) (deeds : List (Deed D G)) (closed kept : ℕ) (entries : List (ArtifactFacts D G)) (o : Openings K D) (x : Facts K L D) (living : Living term_length deeds closed kept entries o x) where
+  -- with no deed and nothing recorded
+  nothing_done : (next : Openings K D) (y : Facts K L D) → Living term_length deeds closed kept entries next y → Living term_length (deeds ++ []) closed kept (entries ++ []) next y
+  nothing_done next y lives = subst (λ a. Living term_length a closed kept (entries ++ []) next y) (sym (append-nil deeds)) (subst (λ es. Living term_length deeds closed kept es next y) (sym (append-nil entries)) lives)
 
-  silent_lives : (call : WorkCall D) → work_allowed x o call ≡ true → is_silent call ≡ true → Living term_length acts closed kept entries (openings_after same elect x o call) (after_work same elect x o call)
+  silent_lives : (call : WorkCall D) → work_allowed x o call ≡ true → is_silent call ≡ true → Living term_length deeds closed kept entries (openings_after same elect x o call) (after_work same elect x o call)
   silent_lives call allowed silent =
       let y = after_work same elect x o call in
       let left = call_works same decides elect x o call living.in_order allowed in
       let noted = living.noted in
       record {
-        keeps = record { lawful = living.keeps.lawful; stays = stays_worked term_length acts x y left living.keeps.stays };
-        follows = record { remembers = living.follows.remembers; marked = marked_few entries x y (few_worked term_length acts x y left) living.follows.marked };
+        keeps = record { lawful = living.keeps.lawful; stays = stays_worked term_length deeds x y left living.keeps.stays };
+        follows = record { remembers = living.follows.remembers; marked = marked_few entries x y (few_worked term_length deeds x y left) living.follows.marked };
         in_order = order_work same elect x o living.in_order call;
         notes = living.notes;
-        noted = (noted.0, noted.1, work_notes same decides elect noted.0 noted.1 acts o x noted.2 call living.in_order allowed silent);
+        noted = (noted.0, noted.1, work_notes same decides elect noted.0 noted.1 deeds o x noted.2 call living.in_order allowed silent);
         high = living.high;
         within = living.within;
       }
 
   -- a vote to notarize
 
-  decided_lives : (v : ℕ) → (base low : ℕ) → NotesStand base low acts o (after_construct_notarize same elect x v) → Living term_length acts closed kept entries o (after_construct_notarize same elect x v)
+  decided_lives : (v : ℕ) → (base low : ℕ) → NotesStand base low deeds o (after_construct_notarize same elect x v) → Living term_length deeds closed kept entries o (after_construct_notarize same elect x v)
   decided_lives v base low noted =
       let y = after_construct_notarize same elect x v in
       let left = call_works same decides elect x o (ConstructNotarize v) living.in_order refl in
       record {
-        keeps = record { lawful = living.keeps.lawful; stays = stays_worked term_length acts x y left living.keeps.stays };
-        follows = record { remembers = living.follows.remembers; marked = marked_few entries x y (few_worked term_length acts x y left) living.follows.marked };
+        keeps = record { lawful = living.keeps.lawful; stays = stays_worked term_length deeds x y left living.keeps.stays };
+        follows = record { remembers = living.follows.remembers; marked = marked_few entries x y (few_worked term_length deeds x y left) living.follows.marked };
         in_order = order_work same elect x o living.in_order (ConstructNotarize v);
         notes = living.notes;
         noted = (base, low, noted);
@@ -112,7 +112,7 @@ module _ {K L D G : Type 0} (same : D → D → Bool) (decides : (d e : D) → s
         within = living.within;
       }
 
-  cast_lives : (v m : ℕ) (h : Proposal D) (signature : G) → may_notarize same elect x v ≡ true → (round_of x v).slot.held ≡ Some h → Living term_length (acts ++ Cast (subject.Notarize h) ∷ []) closed kept (entries ++ NotarizeVote h m signature ∷ []) o (after_construct_notarize same elect x v)
+  cast_lives : (v m : ℕ) (h : Proposal D) (signature : G) → may_notarize same elect x v ≡ true → (round_of x v).slot.held ≡ Some h → Living term_length (deeds ++ Signs m (subject.Notarize h) signature ∷ []) closed kept (entries ++ NotarizeVote h m signature ∷ []) o (after_construct_notarize same elect x v)
   cast_lives v m h signature may holds =
       let y = after_construct_notarize same elect x v in
       let vote : ArtifactFacts D G = NotarizeVote h m signature in
@@ -122,27 +122,27 @@ module _ {K L D G : Type 0} (same : D → D → Bool) (decides : (d e : D) → s
       let terms = living.keeps.stays.stands.terms in
       record {
         keeps = record {
-          lawful = lawful_push term_length acts (Cast (subject.Notarize h)) living.keeps.lawful (notarize_allowed same decides elect term_length noted.0 noted.1 acts o x positive terms noted.2 v may h holds);
-          stays = notarize_cast_stays term_length acts y (stays_worked term_length acts x y left living.keeps.stays) h;
+          lawful = lawful_push term_length deeds (Signs m (subject.Notarize h) signature) living.keeps.lawful (notarize_allowed same decides elect term_length noted.0 noted.1 deeds o x positive terms noted.2 v may h holds);
+          stays = notarize_cast_stays term_length deeds y (stays_worked term_length deeds x y left living.keeps.stays) h m signature;
         };
         follows = record {
-          remembers = remembers_more acts entries kept (Cast (subject.Notarize h) ∷ []) (vote ∷ []) (grows_notarize acts entries h m signature) living.follows.remembers;
-          marked = marked_more entries (vote ∷ []) y (marked_few entries x y (few_worked term_length acts x y left) living.follows.marked);
+          remembers = remembers_more deeds entries kept (Signs m (subject.Notarize h) signature ∷ []) (vote ∷ []) (grows_notarize deeds entries h m signature) living.follows.remembers;
+          marked = marked_more entries (vote ∷ []) y (marked_few entries x y (few_worked term_length deeds x y left) living.follows.marked);
         };
         in_order = order_work same elect x o living.in_order (ConstructNotarize v);
-        notes = notes_cast acts kept entries h m signature living.notes;
-        noted = (noted.0, noted.1, rw may (notarize_noted same decides elect term_length noted.0 noted.1 acts o x positive terms noted.2 v may h holds));
+        notes = notes_cast deeds kept entries h m signature living.notes;
+        noted = (noted.0, noted.1, rw may (notarize_noted same decides elect term_length noted.0 noted.1 deeds o x positive terms noted.2 v may h m signature holds));
         high = high_more closed kept entries (vote ∷ []) living.high;
         within = within_more closed entries (vote ∷ []) living.within;
       }
 
   abbrev pub ToldLives : ℕ → Option (ArtifactFacts D G) → Type 0
-  ToldLives v vote = Living term_length (acts ++ acts_of_work {K = K} (Notarize vote)) closed kept (entries ++ vote_entry vote) o (after_construct_notarize same elect x v)
+  ToldLives v vote = Living term_length (deeds ++ signed_in {K = K} (Notarize vote)) closed kept (entries ++ vote_entry vote) o (after_construct_notarize same elect x v)
 
   notarize_lives : (v : ℕ) → ToldLives v (notarize_vote same elect signature_of x v)
   notarize_lives v = by_rule (may_notarize same elect x v) refl
     where
-      untold : (base low : ℕ) → NotesStand base low acts o (after_construct_notarize same elect x v) → notarize_vote same elect signature_of x v ≡ None → ToldLives v (notarize_vote same elect signature_of x v)
+      untold : (base low : ℕ) → NotesStand base low deeds o (after_construct_notarize same elect x v) → notarize_vote same elect signature_of x v ≡ None → ToldLives v (notarize_vote same elect signature_of x v)
       untold base low noted silent = subst (ToldLives v) (sym silent) (nothing_done o (after_construct_notarize same elect x v) (decided_lives v base low noted))
 
       by_held : (m : ℕ) (q : Option (Proposal D)) → (round_of x v).slot.held ≡ q → x.me ≡ Some m → may_notarize same elect x v ≡ true → ToldLives v (notarize_vote same elect signature_of x v)
@@ -156,8 +156,8 @@ module _ {K L D G : Type 0} (same : D → D → Bool) (decides : (d e : D) → s
       by_key None me may =
           let noted = living.noted in
           let positive : 0 < x.terms.term_length = omega (arith, some, living.keeps.stays.stands.terms) in
-          let tracked = voted_tracked same decides elect term_length noted.0 noted.1 acts o x positive living.keeps.stays.stands.terms noted.2 v may in
-          untold noted.0 noted.1 (rw may (decided_notes same decides elect noted.0 noted.1 acts o x noted.2 v may tracked)) (notarize_silent same elect signature_of x v (no_key (may_notarize same elect x v) x.me me))
+          let tracked = voted_tracked same decides elect term_length noted.0 noted.1 deeds o x positive living.keeps.stays.stands.terms noted.2 v may in
+          untold noted.0 noted.1 (rw may (decided_notes same decides elect noted.0 noted.1 deeds o x noted.2 v may tracked)) (notarize_silent same elect signature_of x v (no_key (may_notarize same elect x v) x.me me))
       by_key (Some m) me may = by_held m (round_of x v).slot.held refl me may
 
       by_rule : (b : Bool) → may_notarize same elect x v ≡ b → ToldLives v (notarize_vote same elect signature_of x v)
@@ -166,7 +166,7 @@ module _ {K L D G : Type 0} (same : D → D → Bool) (decides : (d e : D) → s
 
   -- a call that is allowed and not refused
   abbrev pub WorkLives : WorkCall D → Type 0
-  WorkLives call = Living term_length (acts ++ acts_of_work (work_answer same elect signature_of x o call)) closed kept (entries ++ recorded_by_work same elect signature_of x call) (openings_after same elect x o call) (after_work same elect x o call)
+  WorkLives call = Living term_length (deeds ++ signed_in (work_answer same elect signature_of x o call)) closed kept (entries ++ recorded_by_work same elect signature_of x call) (openings_after same elect x o call) (after_work same elect x o call)
 
   pub work_lives : (call : WorkCall D) → work_allowed x o call ≡ true → WorkLives call
   work_lives call allowed = by_kind (is_silent call) refl
@@ -175,8 +175,8 @@ module _ {K L D G : Type 0} (same : D → D → Bool) (decides : (d e : D) → s
       quiet silent =
           let next = openings_after same elect x o call in
           let y = after_work same elect x o call in
-          subst (λ a. Living term_length (acts ++ a) closed kept (entries ++ recorded_by_work same elect signature_of x call) next y) (sym (silent_acts same elect signature_of x o call silent))
-          (subst (λ es. Living term_length (acts ++ []) closed kept (entries ++ es) next y) (sym (silent_record same elect signature_of x o call silent))
+          subst (λ a. Living term_length (deeds ++ a) closed kept (entries ++ recorded_by_work same elect signature_of x call) next y) (sym (silent_deeds same elect signature_of x o call silent))
+          (subst (λ es. Living term_length (deeds ++ []) closed kept (entries ++ es) next y) (sym (silent_record same elect signature_of x o call silent))
           (nothing_done next y (silent_lives call allowed silent)))
 
       voting : (w : WorkCall D) → is_silent w ≡ false → WorkLives w

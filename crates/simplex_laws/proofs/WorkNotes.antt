@@ -30,11 +30,11 @@ use Rattle.simplex_voter.specs.Timeouts.{triggered, after_next_timeout}
 use Rattle.simplex_voter.specs.Certification.{after_candidates}
 use Rattle.simplex_voter.proofs.Elsewhere.{round_of-with_round}
 use Rattle.simplex_voter.proofs.Gaps.{and_parts, not_true}
-use Rattle.simplex_laws.specs.Acts.{Act}
 use Rattle.simplex_member.specs.Openings.{Openings, context_at, without_context, with_context, with_request, is_verifying, without_verification, with_verification}
 use Rattle.simplex_member.specs.Work.{WorkCall, SetProposal, TryPropose, Proposed, SupersedeProposalRequest, PendingHandoffAbandonment, ReleaseProposalRequest, TryVerify, Verified, VerificationFailed, ConstructNotarize, CertifyCandidates, SetCertifyHandle, TriggerTimeout, NextTimeout, work_allowed, after_work, openings_after}
+use Rattle.simplex_laws.specs.Deeds.{Deed}
 use Rattle.simplex_laws.proofs.Splits.{Contains-cons_rest}
-use Rattle.simplex_laws.proofs.LeavesVotes.{round_put}
+use Rattle.simplex_laws.proofs.Rounds.{round_put}
 use Rattle.simplex_laws.proofs.Calm.{leads_round, Grown, Calm, calm, calm_alike, calm_decided, calm_retry, calm_proposal, slot_in_round}
 use Rattle.simplex_laws.proofs.CalmOn.{CalmOn, found_apart, above_put, on_joined, on_same, on_if, on_put, on_there, on_tracked, on_moment, on_prepared, on_triggered}
 use Rattle.simplex_laws.proofs.Tidy.{Tidy, opposite, answered, given_out, proposes, reopened, tidy_calm}
@@ -46,7 +46,7 @@ use Rattle.simplex_laws.proofs.Ordered.{first_below, sorted_parts, found_in_orde
 use Rattle.simplex_laws.proofs.Works.{round_in_order}
 
 -- one round changes, and all else is left as it was
-module _ {K L D : Type 0} (base low : ℕ) (acts : List (Act D)) (o o' : Openings K D) (x : Facts K L D) (v : ℕ) (r : RoundFacts K D) (notes : NotesStand base low acts o x) where
+module _ {K L D G : Type 0} (base low : ℕ) (deeds : List (Deed D G)) (o o' : Openings K D) (x : Facts K L D) (v : ℕ) (r : RoundFacts K D) (notes : NotesStand base low deeds o x) where
   notes_put : is_tracked x v ≡ true
       → Grown v (round_of x v) r
       → Tidy (is_verifying o' v) (is_some (context_at o' v)) r
@@ -55,7 +55,7 @@ module _ {K L D : Type 0} (base low : ℕ) (acts : List (Act D)) (o o' : Opening
       → ((w : ℕ) → is_some (context_at o' w) ≡ true → (w ≡ v) ⊎ (is_some (context_at o w) ≡ true))
       → ((is_verifying o' v ≡ true) → low ≤ v)
       → ((is_some (context_at o' v) ≡ true) → low ≤ v)
-      → NotesStand base low acts o' (with_round x v r)
+      → NotesStand base low deeds o' (with_round x v r)
   notes_put tracked grown tidy worked verifying opened verifying_low context_low = record {
     above = above_put base x v r (notes.above v tracked) notes.above;
     active = notes.active;
@@ -180,23 +180,23 @@ module _ {K L D : Type 0} (x : Facts K L D) where
       by_test true so is = ((and_parts (is_admitted x e.0) (should_propose e.1) so).1, on_parent (preferred_parent same elect x e.0) is)
       by_test false other is = absurd (false≢true (ap is_some is))
 
-module _ {K L D : Type 0} (same : D → D → Bool) (decides : (d e : D) → same d e ≡ true → d ≡ e) (elect : Elect L) (base low : ℕ) (acts : List (Act D)) (o : Openings K D) (x : Facts K L D) (notes : NotesStand base low acts o x) where
+module _ {K L D G : Type 0} (same : D → D → Bool) (decides : (d e : D) → same d e ≡ true → d ≡ e) (elect : Elect L) (base low : ℕ) (deeds : List (Deed D G)) (o : Openings K D) (x : Facts K L D) (notes : NotesStand base low deeds o x) where
   -- with nothing more open
 
-  left_notes : (y : Facts K L D) → CalmOn base x y → NotesStand base low acts o y
-  left_notes y left = notes_calm base low acts o o x y left (λ v is. is) (λ v is. is) notes
+  left_notes : (y : Facts K L D) → CalmOn base x y → NotesStand base low deeds o y
+  left_notes y left = notes_calm base low deeds o o x y left (λ v is. is) (λ v is. is) notes
 
-  closed_notes : (v : ℕ) (y : Facts K L D) → CalmOn base x y → NotesStand base low acts (without_context o v) y
-  closed_notes v y left = notes_calm base low acts o (without_context o v) x y left (λ w is. is) (λ w is. still_open o v w is) notes
+  closed_notes : (v : ℕ) (y : Facts K L D) → CalmOn base x y → NotesStand base low deeds (without_context o v) y
+  closed_notes v y left = notes_calm base low deeds o (without_context o v) x y left (λ w is. is) (λ w is. still_open o v w is) notes
 
-  answered_notes : (v : ℕ) (y : Facts K L D) → CalmOn base x y → NotesStand base low acts (without_verification o v) y
-  answered_notes v y left = notes_calm base low acts o (without_verification o v) x y left (λ w is. (among_others v w o.verifying is).0) (λ w is. is) notes
+  answered_notes : (v : ℕ) (y : Facts K L D) → CalmOn base x y → NotesStand base low deeds (without_verification o v) y
+  answered_notes v y left = notes_calm base low deeds o (without_verification o v) x y left (λ w is. (among_others v w o.verifying is).0) (λ w is. is) notes
 
   kept_view : (v : ℕ) → min_active x ≤ v → base ≤ v
   kept_view v over = omega (arith, over, notes.active)
 
   -- a proposal of the view
-  proposal_notes : (v : ℕ) (p : Proposal D) → takes_proposal x v p ≡ true → NotesStand base low acts o (after_set_proposal same elect x v p)
+  proposal_notes : (v : ℕ) (p : Proposal D) → takes_proposal x v p ≡ true → NotesStand base low deeds o (after_set_proposal same elect x v p)
   proposal_notes v p takes =
       let parts = and_parts (takes_round x p.round) (p.round.view == v) takes in
       let at : p.round.view ≡ v = eqb-true p.round.view v parts.1 in
@@ -209,7 +209,7 @@ module _ {K L D : Type 0} (same : D → D → Bool) (decides : (d e : D) → sam
   build_calm v requested = on_tracked base x v _ (slot_in_round v (round_of x v) (build_requested requested (round_of x v).slot) (record { holding = λ p is clear. is; empty = λ is. is; placed = λ p is. inl is; clear = λ is. is; requested = λ is. is; verified = λ is. is }))
 
   -- a context is opened of a view that this member leads
-  opened_notes : (context : Context D K) → leads_round (round_of x context.round.view) ≡ true → low ≤ context.round.view → NotesStand base low acts (with_context o context) x
+  opened_notes : (context : Context D K) → leads_round (round_of x context.round.view) ≡ true → low ≤ context.round.view → NotesStand base low deeds (with_context o context) x
   opened_notes context leads over = record {
     above = notes.above;
     active = notes.active;
@@ -224,7 +224,7 @@ module _ {K L D : Type 0} (same : D → D → Bool) (decides : (d e : D) → sam
     covered = notes.covered;
   }
 
-  requested_notes : InOrder x → (request : Option (Request K D)) → propose_answer same elect x ≡ request → NotesStand base low acts (with_request o request) (option_map_or (λ r. with_build x (request_context r).round.view true) request x)
+  requested_notes : InOrder x → (request : Option (Request K D)) → propose_answer same elect x ≡ request → NotesStand base low deeds (with_request o request) (option_map_or (λ r. with_build x (request_context r).round.view true) request x)
   unfolding propose_answer
   requested_notes ordered None is = notes
   requested_notes ordered (Some r) is =
@@ -235,14 +235,14 @@ module _ {K L D : Type 0} (same : D → D → Bool) (decides : (d e : D) → sam
       let there : round_of x e.0 ≡ e.1 = round_in_order x e ordered (Contains-filtered _ x.rounds e found.1) in
       let leads : leads_round (round_of x context.round.view) ≡ true = subst (λ v. leads_round (round_of x v) ≡ true) (sym parts.1) (ap leads_round there ∙ proposer_leads e.1 parts.0) in
       let over : low ≤ context.round.view = (let ahead = ahead_now x e found.1 in omega (arith, notes.reached, ahead, parts.1)) in
-      notes_calm base low acts (with_context o context) (with_context o context) x (with_build x context.round.view true) (build_calm context.round.view true) (λ v is'. is') (λ v is'. is') (opened_notes context leads over)
+      notes_calm base low deeds (with_context o context) (with_context o context) x (with_build x context.round.view true) (build_calm context.round.view true) (λ v is'. is') (λ v is'. is') (opened_notes context leads over)
 
   -- an own proposal
 
   own_held : (s : SlotFacts D) (p : Proposal D) → holds_or_empty (same_proposal same) s p ≡ true → (q : Proposal D) → s.held ≡ Some q → Some p ≡ Some q
   own_held s p fits q is = ap Some (sym (same_proposal-true same decides q p (ap (λ h. option_map_or (λ k. same_proposal same k p) h true) (sym is) ∙ fits)))
 
-  proposed_notes : (v : ℕ) (context : Option (Context D K)) (payload : D) (now : ℕ) → context_at o v ≡ context → NotesStand base low acts (without_context o v) (option_map_or (λ c. after_proposed same elect x c payload now) context x)
+  proposed_notes : (v : ℕ) (context : Option (Context D K)) (payload : D) (now : ℕ) → context_at o v ≡ context → NotesStand base low deeds (without_context o v) (option_map_or (λ c. after_proposed same elect x c payload now) context x)
   unfolding proposed_answer
   proposed_notes v None payload now is = closed_notes v x (on_same base x)
   proposed_notes v (Some c) payload now is = by_answer (proposed_answer same elect x c payload) refl
@@ -266,7 +266,7 @@ module _ {K L D : Type 0} (same : D → D → Bool) (decides : (d e : D) → sam
           let there : round_at x v ≡ Some s = subst (λ u. round_at x u ≡ Some s) at some in
           (ap is_some there, ap (λ f. holds_or_empty (same_proposal same) (unwrap_or f (new_round x.me x.members (round_number x v))).slot built) there ∙ fits)
 
-      recorded : is_tracked x v ≡ true → holds_or_empty (same_proposal same) r.slot built ≡ true → NotesStand base low acts (without_context o v) (with_round m v (proposed_round same r c payload now))
+      recorded : is_tracked x v ≡ true → holds_or_empty (same_proposal same) r.slot built ≡ true → NotesStand base low deeds (without_context o v) (with_round m v (proposed_round same r c payload now))
       recorded tracked fits =
           let s = proposed_round same r c payload now in
           let slot : s.slot ≡ record { held = Some built; conflict = r.slot.conflict; verified = not r.slot.conflict; build_requested = true; verify_requested = true } = rw fits refl in
@@ -282,7 +282,7 @@ module _ {K L D : Type 0} (same : D → D → Bool) (decides : (d e : D) → sam
           } in
           let opened : is_some (context_at o v) ≡ true = ap is_some is in
           let old = left_notes m (on_moment base x now) in
-          notes_put base low acts o (without_context o v) m v s old tracked grown
+          notes_put base low deeds o (without_context o v) m v s old tracked grown
           (proposes v (is_verifying o v) (is_some (context_at o v)) (is_verifying o v) (is_some (context_at (without_context o v) v)) r s grown (λ q. still_open o v v q) (notes.tidy v (notes.above v tracked)) built c.parent.1 refl (ap (λ (t : SlotFacts D). t.held) slot) (ap (λ (t : SlotFacts D). t.verify_requested) slot) opened (λ q. q))
           (λ q un. notes.context_low v opened)
           (λ w q. inr q)
@@ -290,30 +290,30 @@ module _ {K L D : Type 0} (same : D → D → Bool) (decides : (d e : D) → sam
           (λ q. notes.context_low v opened)
           (λ q. notes.context_low v opened)
 
-      by_answer : (b : Bool) → proposed_answer same elect x c payload ≡ b → NotesStand base low acts (without_context o v) (if b then with_round m c.round.view (proposed_round same (round_of x c.round.view) c payload now) else m)
+      by_answer : (b : Bool) → proposed_answer same elect x c payload ≡ b → NotesStand base low deeds (without_context o v) (if b then with_round m c.round.view (proposed_round same (round_of x c.round.view) c payload now) else m)
       by_answer false refused = closed_notes v m (on_moment base x now)
       by_answer true answer =
           let parts = and_parts (context_stands same elect x c) _ answer in
           let there = found (round_at x c.round.view) refl parts.1 in
-          subst (λ u. NotesStand base low acts (without_context o v) (with_round m u (proposed_round same (round_of x u) c payload now))) (sym at) (recorded there.0 there.1)
+          subst (λ u. NotesStand base low deeds (without_context o v) (with_round m u (proposed_round same (round_of x u) c payload now))) (sym at) (recorded there.0 there.1)
 
   -- answers to a verification
 
-  unbound_notes : (now : ℕ) (v : ℕ) → is_verifying o v ≡ true → (m : Facts K L D) → CalmOn base x m → NotesStand base low acts (without_verification o v) (without_binding m v)
+  unbound_notes : (now : ℕ) (v : ℕ) → is_verifying o v ≡ true → (m : Facts K L D) → CalmOn base x m → NotesStand base low deeds (without_verification o v) (without_binding m v)
   unbound_notes now v open_now m left = by_tracked (is_tracked m v) refl
     where
-      old : NotesStand base low acts o m
+      old : NotesStand base low deeds o m
       old = left_notes m left
 
       r : RoundFacts K D
       r = round_of m v
 
-      by_tracked : (b : Bool) → is_tracked m v ≡ b → NotesStand base low acts (without_verification o v) (if b then with_round m v (record r { binding = None }) else m)
+      by_tracked : (b : Bool) → is_tracked m v ≡ b → NotesStand base low deeds (without_verification o v) (if b then with_round m v (record r { binding = None }) else m)
       by_tracked false is = answered_notes v m left
       by_tracked true is =
           let s : RoundFacts K D = record r { binding = None } in
           let tidy = old.tidy v (old.above v is) in
-          notes_put base low acts o (without_verification o v) m v s old is (unbound_grown v r)
+          notes_put base low deeds o (without_verification o v) m v s old is (unbound_grown v r)
           (answered v (is_verifying o v) (is_some (context_at o v)) (is_verifying (without_verification o v) v) (is_some (context_at o v)) r s (unbound_grown v r) (λ q. q) tidy (λ q un. absurd (opposite r.slot.verified q (tidy.verifying_unmarked open_now un))) open_now (not_open v))
           (λ q un. old.worked v q un)
           (λ w q. inr (among_others v w o.verifying q).0)
@@ -328,8 +328,8 @@ module _ {K L D : Type 0} (same : D → D → Bool) (decides : (d e : D) → sam
               by_flag false flag = refl
               by_flag true flag = absurd ((among_others u u o.verifying flag).1 refl)
 
-  verified_notes : (v : ℕ) → is_verifying o v ≡ true → NotesStand base low acts (without_verification o v) (after_verified same elect x v)
-  verified_notes v open_now = elim (binding_matches same elect x v) as (λ b. NotesStand base low acts (without_verification o v) (if b then with_tracked x v (with_mark (round_of x v)) else without_binding x v)) [
+  verified_notes : (v : ℕ) → is_verifying o v ≡ true → NotesStand base low deeds (without_verification o v) (after_verified same elect x v)
+  verified_notes v open_now = elim (binding_matches same elect x v) as (λ b. NotesStand base low deeds (without_verification o v) (if b then with_tracked x v (with_mark (round_of x v)) else without_binding x v)) [
     | true ↦ by_tracked (is_tracked x v) refl
     | false ↦ unbound_notes 0 v open_now x (on_same base x)
   ]
@@ -341,10 +341,10 @@ module _ {K L D : Type 0} (same : D → D → Bool) (decides : (d e : D) → sam
       not_open false flag = refl
       not_open true flag = absurd ((among_others v v o.verifying flag).1 refl)
 
-      by_tracked : (b : Bool) → is_tracked x v ≡ b → NotesStand base low acts (without_verification o v) (if b then with_round x v (with_mark r) else x)
+      by_tracked : (b : Bool) → is_tracked x v ≡ b → NotesStand base low deeds (without_verification o v) (if b then with_round x v (with_mark r) else x)
       by_tracked false is = answered_notes v x (on_same base x)
       by_tracked true is =
-          notes_put base low acts o (without_verification o v) x v (with_mark r) notes is (mark_grown v r)
+          notes_put base low deeds o (without_verification o v) x v (with_mark r) notes is (mark_grown v r)
           (answered v (is_verifying o v) (is_some (context_at o v)) (is_verifying (without_verification o v) v) (is_some (context_at o v)) r (with_mark r) (mark_grown v r) (λ q. q) (notes.tidy v (notes.above v is)) (λ q un. mark_bound v r) open_now (not_open (is_verifying (without_verification o v) v) refl))
           (λ q un. notes.verifying_low v open_now)
           (λ w q. inr (among_others v w o.verifying q).0)
@@ -352,10 +352,10 @@ module _ {K L D : Type 0} (same : D → D → Bool) (decides : (d e : D) → sam
           (λ q. notes.verifying_low v open_now)
           (λ q. notes.context_low v q)
 
-  failed_notes : (v : ℕ) (reason : TimeoutReason) (now : ℕ) → is_verifying o v ≡ true → NotesStand base low acts (without_verification o v) (after_verification_failed same elect x v reason now)
+  failed_notes : (v : ℕ) (reason : TimeoutReason) (now : ℕ) → is_verifying o v ≡ true → NotesStand base low deeds (without_verification o v) (after_verification_failed same elect x v reason now)
   failed_notes v reason now open_now =
       let m = at_moment x now in
-      elim (binding_matches same elect x v) as (λ b. NotesStand base low acts (without_verification o v) (if b then triggered m v reason now else without_binding m v)) [
+      elim (binding_matches same elect x v) as (λ b. NotesStand base low deeds (without_verification o v) (if b then triggered m v reason now else without_binding m v)) [
         | true ↦ answered_notes v (triggered m v reason now) (on_joined base x m (triggered m v reason now) (on_moment base x now) (on_triggered base m v reason now))
         | false ↦ unbound_notes now v open_now m (on_moment base x now)
       ]
@@ -408,7 +408,7 @@ pub record Stand {K L D : Type 0} (low : ℕ) (es : List (ℕ × RoundFacts K D)
   pub tracked : (e : ℕ × RoundFacts K D) → Contains es e → is_tracked y e.0 ≡ true
   pub high : (e : ℕ × RoundFacts K D) → Contains es e → low ≤ e.0
 
-module _ {K L D : Type 0} (same : D → D → Bool) (elect : Elect L) (base low : ℕ) (acts : List (Act D)) (o : Openings K D) (x : Facts K L D) where
+module _ {K L D G : Type 0} (same : D → D → Bool) (elect : Elect L) (base low : ℕ) (deeds : List (Deed D G)) (o : Openings K D) (x : Facts K L D) where
   -- behind a change at the first
   stand_rest : (e : ℕ × RoundFacts K D) (es : List (ℕ × RoundFacts K D)) (y : Facts K L D) (r : RoundFacts K D) → T (is_sorted nat_cmp (e ∷ es)) → Stand low (e ∷ es) y → Stand low es (with_round y e.0 r)
   stand_rest e es y r sorted stand = record {
@@ -434,18 +434,18 @@ module _ {K L D : Type 0} (same : D → D → Bool) (elect : Elect L) (base low 
   left_by es y = fold (λ z e. left_at z e (standing same elect x e)) y es
 
   -- what a view leaves that is no proposal to verify
-  quiet_at : (e : ℕ × RoundFacts K D) (r : RoundFacts K D) (y : Facts K L D) → NotesStand base low acts o y → is_tracked y e.0 ≡ true → round_of y e.0 ≡ e.1 → Calm e.0 e.1 r → NotesStand base low acts o (with_round y e.0 r)
-  quiet_at e r y notes tracked there same_work = notes_calm base low acts o o y (with_round y e.0 r) (on_there base y e.0 r tracked (subst (λ s. Calm e.0 s r) (sym there) same_work)) (λ v is. is) (λ v is. is) notes
+  quiet_at : (e : ℕ × RoundFacts K D) (r : RoundFacts K D) (y : Facts K L D) → NotesStand base low deeds o y → is_tracked y e.0 ≡ true → round_of y e.0 ≡ e.1 → Calm e.0 e.1 r → NotesStand base low deeds o (with_round y e.0 r)
+  quiet_at e r y notes tracked there same_work = notes_calm base low deeds o o y (with_round y e.0 r) (on_there base y e.0 r tracked (subst (λ s. Calm e.0 s r) (sym there) same_work)) (λ v is. is) (λ v is. is) notes
 
   -- the proposal that is given out to be verified
-  given_notes : (e : ℕ × RoundFacts K D) (d : D) (found : Leader K × Proposal D) (y : Facts K L D) → NotesStand base low acts o y → is_tracked y e.0 ≡ true → round_of y e.0 ≡ e.1 → low ≤ e.0 → pending_proposal e.1 ≡ Some found → NotesStand base low acts (with_verification o (Verify (verify_context found d) found.1)) (with_round y e.0 (verifying_round e.1 d))
+  given_notes : (e : ℕ × RoundFacts K D) (d : D) (found : Leader K × Proposal D) (y : Facts K L D) → NotesStand base low deeds o y → is_tracked y e.0 ≡ true → round_of y e.0 ≡ e.1 → low ≤ e.0 → pending_proposal e.1 ≡ Some found → NotesStand base low deeds (with_verification o (Verify (verify_context found d) found.1)) (with_round y e.0 (verifying_round e.1 d))
   given_notes e d found y notes tracked there over pending =
       let parts = pending_parts e.1 found pending in
       let at : found.1.round.view ≡ e.0 = notes.placed e.0 found.1 (ap (λ (r : RoundFacts K D). r.slot.held) there ∙ parts.3) in
       let next = with_verification o (Verify (verify_context found d) found.1) in
       let tidy = subst (λ r. Tidy (is_verifying o e.0) (is_some (context_at o e.0)) r) there (notes.tidy e.0 (notes.above e.0 tracked)) in
       let bound : (verifying_round e.1 d).binding ≡ Some (found.1, d) = ap (option_map (λ p. (p, d))) parts.3 in
-      notes_put base low acts o next y e.0 (verifying_round e.1 d) notes tracked
+      notes_put base low deeds o next y e.0 (verifying_round e.1 d) notes tracked
       (subst (λ r. Grown e.0 r (verifying_round e.1 d)) (sym there) (given_grown e.0 e.1 d))
       (given_out e.0 (is_verifying o e.0) (is_some (context_at o e.0)) (is_verifying next e.0) (is_some (context_at o e.0)) e.1 (verifying_round e.1 d) (given_grown e.0 e.1 d) (λ q. q) tidy found.1 d (λ q. q) bound parts.3 parts.2 refl parts.0 parts.1)
       (λ q un. over)
@@ -454,7 +454,7 @@ module _ {K L D : Type 0} (same : D → D → Bool) (elect : Elect L) (base low 
       (λ q. over)
       (λ q. over)
 
-  scan_notes : (es : List (ℕ × RoundFacts K D)) (y : Facts K L D) → T (is_sorted nat_cmp es) → Stand low es y → NotesStand base low acts o y → NotesStand base low acts (with_verification o (first_answer same elect x es)) (left_by (through passes es) y)
+  scan_notes : (es : List (ℕ × RoundFacts K D)) (y : Facts K L D) → T (is_sorted nat_cmp es) → Stand low es y → NotesStand base low deeds o y → NotesStand base low deeds (with_verification o (first_answer same elect x es)) (left_by (through passes es) y)
   scan_notes [] y sorted stand notes = notes
   scan_notes (e ∷ es) y sorted stand notes = by_standing (standing same elect x e) refl (λ z. scan_notes es z (sorted_parts e es sorted).1)
     where
@@ -468,17 +468,17 @@ module _ {K L D : Type 0} (same : D → D → Bool) (elect : Elect L) (base low 
       over = stand.high e (0, omega arith, refl)
 
       -- the scan goes on, or ends, with what this view leaves
-      goes_on : (s : Standing D) → standing same elect x e ≡ s → is_answered s ≡ false → NotesStand base low acts (with_verification o (first_answer same elect x es)) (left_by (through passes es) (left_at y e s)) → NotesStand base low acts (with_verification o (first_answer same elect x (e ∷ es))) (left_by (through passes (e ∷ es)) y)
+      goes_on : (s : Standing D) → standing same elect x e ≡ s → is_answered s ≡ false → NotesStand base low deeds (with_verification o (first_answer same elect x es)) (left_by (through passes es) (left_at y e s)) → NotesStand base low deeds (with_verification o (first_answer same elect x (e ∷ es))) (left_by (through passes (e ∷ es)) y)
       goes_on s is silent rest =
-          subst (λ a. NotesStand base low acts (with_verification o a) (left_by (through passes (e ∷ es)) y)) (sym (silent_answer same elect x e es s is silent))
-          (rw (is, silent) (subst (λ t. NotesStand base low acts (with_verification o (first_answer same elect x es)) (left_by (through passes es) (left_at y e t))) (sym is) rest))
+          subst (λ a. NotesStand base low deeds (with_verification o a) (left_by (through passes (e ∷ es)) y)) (sym (silent_answer same elect x e es s is silent))
+          (rw (is, silent) (subst (λ t. NotesStand base low deeds (with_verification o (first_answer same elect x es)) (left_by (through passes es) (left_at y e t))) (sym is) rest))
 
-      ends : (s : Standing D) (answer : Verification K D) → standing same elect x e ≡ s → is_answered s ≡ true → first_answer same elect x (e ∷ es) ≡ answer → NotesStand base low acts (with_verification o answer) (left_at y e s) → NotesStand base low acts (with_verification o (first_answer same elect x (e ∷ es))) (left_by (through passes (e ∷ es)) y)
+      ends : (s : Standing D) (answer : Verification K D) → standing same elect x e ≡ s → is_answered s ≡ true → first_answer same elect x (e ∷ es) ≡ answer → NotesStand base low deeds (with_verification o answer) (left_at y e s) → NotesStand base low deeds (with_verification o (first_answer same elect x (e ∷ es))) (left_by (through passes (e ∷ es)) y)
       ends s answer is told answers rest =
-          subst (λ a. NotesStand base low acts (with_verification o a) (left_by (through passes (e ∷ es)) y)) (sym answers)
-          (rw (is, told) (subst (λ t. NotesStand base low acts (with_verification o answer) (left_at y e t)) (sym is) rest))
+          subst (λ a. NotesStand base low deeds (with_verification o a) (left_by (through passes (e ∷ es)) y)) (sym answers)
+          (rw (is, told) (subst (λ t. NotesStand base low deeds (with_verification o answer) (left_at y e t)) (sym is) rest))
 
-      by_standing : (s : Standing D) → standing same elect x e ≡ s → ((z : Facts K L D) → Stand low es z → NotesStand base low acts o z → NotesStand base low acts (with_verification o (first_answer same elect x es)) (left_by (through passes es) z)) → NotesStand base low acts (with_verification o (first_answer same elect x (e ∷ es))) (left_by (through passes (e ∷ es)) y)
+      by_standing : (s : Standing D) → standing same elect x e ≡ s → ((z : Facts K L D) → Stand low es z → NotesStand base low deeds o z → NotesStand base low deeds (with_verification o (first_answer same elect x es)) (left_by (through passes es) z)) → NotesStand base low deeds (with_verification o (first_answer same elect x (e ∷ es))) (left_by (through passes (e ∷ es)) y)
       by_standing Passed is rest = goes_on Passed is refl (rest y (stand_tail e es y stand) notes)
       by_standing Invalid is rest =
           let r = with_latch e.1 y.moment InvalidProposal in
@@ -493,7 +493,7 @@ module _ {K L D : Type 0} (same : D → D → Bool) (elect : Elect L) (base low 
           let answer = Verify (verify_context found.0 d) found.0.1 in
           ends (Ready d) answer is refl (told_answer same elect x e es (Ready d) found.0 answer is found.1 refl) (given_notes e d found.0 y notes tracked here over found.1)
 
-  pub try_verify_notes : InOrder x → NotesStand base low acts o x → NotesStand base low acts (with_verification o (verify_answer same elect x)) (after_try_verify same elect x)
+  pub try_verify_notes : InOrder x → NotesStand base low deeds o x → NotesStand base low deeds (with_verification o (verify_answer same elect x)) (after_try_verify same elect x)
   try_verify_notes ordered notes =
       let ahead : T (is_sorted nat_cmp (views_ahead x)) = is_sorted-where_key nat_cmp (λ v. nat_le x.current v && nat_le v (next_term_start x.terms.term_length x.current)) x.rounds ordered in
       scan_notes (views_ahead x) x ahead
@@ -510,38 +510,38 @@ is_silent (ConstructNotarize v) = false
 is_silent _ = true
 
 -- all calls but a vote to notarize
-module _ {K L D : Type 0} (same : D → D → Bool) (decides : (d e : D) → same d e ≡ true → d ≡ e) (elect : Elect L) (base low : ℕ) (acts : List (Act D)) (o : Openings K D) (x : Facts K L D) (notes : NotesStand base low acts o x) where
-  pub decided_notes : (v : ℕ) → may_notarize same elect x v ≡ true → is_tracked x v ≡ true → NotesStand base low acts o (prepared elect (with_round x v (record (round_of x v) { notarize_decided = true })) v)
+module _ {K L D G : Type 0} (same : D → D → Bool) (decides : (d e : D) → same d e ≡ true → d ≡ e) (elect : Elect L) (base low : ℕ) (deeds : List (Deed D G)) (o : Openings K D) (x : Facts K L D) (notes : NotesStand base low deeds o x) where
+  pub decided_notes : (v : ℕ) → may_notarize same elect x v ≡ true → is_tracked x v ≡ true → NotesStand base low deeds o (prepared elect (with_round x v (record (round_of x v) { notarize_decided = true })) v)
   decided_notes v may tracked =
       let y = with_round x v (record (round_of x v) { notarize_decided = true }) in
-      left_notes same decides elect base low acts o x notes (prepared elect y v)
+      left_notes same decides elect base low deeds o x notes (prepared elect y v)
       (on_joined base x y (prepared elect y v) (on_there base x v _ tracked (calm_decided v (round_of x v))) (on_prepared base elect y v (notes.above v tracked)))
 
-  superseded_notes : (v : ℕ) (context : Option (Context D K)) (b : Bool) → NotesStand base low acts (if b then without_context o v else o) (option_map_or (λ c. after_supersede same elect x c) context x)
-  superseded_notes v None true = closed_notes same decides elect base low acts o x notes v x (on_same base x)
+  superseded_notes : (v : ℕ) (context : Option (Context D K)) (b : Bool) → NotesStand base low deeds (if b then without_context o v else o) (option_map_or (λ c. after_supersede same elect x c) context x)
+  superseded_notes v None true = closed_notes same decides elect base low deeds o x notes v x (on_same base x)
   superseded_notes v None false = notes
-  superseded_notes v (Some c) b = closes b (on_if base x (supersede_answer same elect x c) (after_release x c.round.view) x (build_calm same decides elect base low acts o x notes c.round.view false) (on_same base x))
+  superseded_notes v (Some c) b = closes b (on_if base x (supersede_answer same elect x c) (after_release x c.round.view) x (build_calm same decides elect base low deeds o x notes c.round.view false) (on_same base x))
     where
-      closes : (b : Bool) → CalmOn base x (after_supersede same elect x c) → NotesStand base low acts (if b then without_context o v else o) (after_supersede same elect x c)
-      closes true left = closed_notes same decides elect base low acts o x notes v (after_supersede same elect x c) left
-      closes false left = left_notes same decides elect base low acts o x notes (after_supersede same elect x c) left
+      closes : (b : Bool) → CalmOn base x (after_supersede same elect x c) → NotesStand base low deeds (if b then without_context o v else o) (after_supersede same elect x c)
+      closes true left = closed_notes same decides elect base low deeds o x notes v (after_supersede same elect x c) left
+      closes false left = left_notes same decides elect base low deeds o x notes (after_supersede same elect x c) left
 
-  pub work_notes : (call : WorkCall D) → InOrder x → work_allowed x o call ≡ true → is_silent call ≡ true → NotesStand base low acts (openings_after same elect x o call) (after_work same elect x o call)
-  work_notes (SetProposal v p) ordered allowed silent = proposal_notes same decides elect base low acts o x notes v p allowed
-  work_notes TryPropose ordered allowed silent = requested_notes same decides elect base low acts o x notes ordered (propose_answer same elect x) refl
-  work_notes (Proposed v payload now) ordered allowed silent = proposed_notes same decides elect base low acts o x notes v (context_at o v) payload now refl
+  pub work_notes : (call : WorkCall D) → InOrder x → work_allowed x o call ≡ true → is_silent call ≡ true → NotesStand base low deeds (openings_after same elect x o call) (after_work same elect x o call)
+  work_notes (SetProposal v p) ordered allowed silent = proposal_notes same decides elect base low deeds o x notes v p allowed
+  work_notes TryPropose ordered allowed silent = requested_notes same decides elect base low deeds o x notes ordered (propose_answer same elect x) refl
+  work_notes (Proposed v payload now) ordered allowed silent = proposed_notes same decides elect base low deeds o x notes v (context_at o v) payload now refl
   work_notes (SupersedeProposalRequest v) ordered allowed silent = superseded_notes v (context_at o v) (option_map_or (λ c. supersede_answer same elect x c) (context_at o v) false)
   work_notes (PendingHandoffAbandonment v) ordered allowed silent = notes
-  work_notes (ReleaseProposalRequest v) ordered allowed silent = closed_notes same decides elect base low acts o x notes v (after_release x v) (build_calm same decides elect base low acts o x notes v false)
-  work_notes TryVerify ordered allowed silent = try_verify_notes same elect base low acts o x ordered notes
-  work_notes (Verified v) ordered allowed silent = verified_notes same decides elect base low acts o x notes v allowed
-  work_notes (VerificationFailed v reason now) ordered allowed silent = failed_notes same decides elect base low acts o x notes v reason now allowed
+  work_notes (ReleaseProposalRequest v) ordered allowed silent = closed_notes same decides elect base low deeds o x notes v (after_release x v) (build_calm same decides elect base low deeds o x notes v false)
+  work_notes TryVerify ordered allowed silent = try_verify_notes same elect base low deeds o x ordered notes
+  work_notes (Verified v) ordered allowed silent = verified_notes same decides elect base low deeds o x notes v allowed
+  work_notes (VerificationFailed v reason now) ordered allowed silent = failed_notes same decides elect base low deeds o x notes v reason now allowed
   work_notes (ConstructNotarize v) ordered allowed silent = absurd (false≢true silent)
-  work_notes CertifyCandidates ordered allowed silent = notes_calm base low acts o (openings_after same elect x o CertifyCandidates) x (after_candidates x) (record { settings = refl; current = omega arith; finalized = omega arith; nullified = refl; above = λ above. above; rounds = λ v. calm v (round_of x v) }) (λ v is. is) (λ v is. is) notes
-  work_notes (SetCertifyHandle v token) ordered allowed silent = left_notes same decides elect base low acts o x notes _ (on_tracked base x v _ (calm_alike v (round_of x v) _ refl refl refl refl refl))
+  work_notes CertifyCandidates ordered allowed silent = notes_calm base low deeds o (openings_after same elect x o CertifyCandidates) x (after_candidates x) (record { settings = refl; current = omega arith; finalized = omega arith; nullified = refl; above = λ above. above; rounds = λ v. calm v (round_of x v) }) (λ v is. is) (λ v is. is) notes
+  work_notes (SetCertifyHandle v token) ordered allowed silent = left_notes same decides elect base low deeds o x notes _ (on_tracked base x v _ (calm_alike v (round_of x v) _ refl refl refl refl refl))
   work_notes (TriggerTimeout v reason now) ordered allowed silent =
       let m = at_moment x now in
-      left_notes same decides elect base low acts o x notes (triggered m v reason now) (on_joined base x m (triggered m v reason now) (on_moment base x now) (on_triggered base m v reason now))
+      left_notes same decides elect base low deeds o x notes (triggered m v reason now) (on_joined base x m (triggered m v reason now) (on_moment base x now) (on_triggered base m v reason now))
   work_notes (NextTimeout now) ordered allowed silent =
       let m = at_moment x now in
-      left_notes same decides elect base low acts o x notes (after_next_timeout x now) (on_joined base x m (after_next_timeout x now) (on_moment base x now) (on_tracked base m x.current _ (calm_retry x.current (round_of x x.current) now x.settings.timeout_retry)))
+      left_notes same decides elect base low deeds o x notes (after_next_timeout x now) (on_joined base x m (after_next_timeout x now) (on_moment base x now) (on_tracked base m x.current _ (calm_retry x.current (round_of x x.current) now x.settings.timeout_retry)))

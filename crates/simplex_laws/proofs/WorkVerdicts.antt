@@ -1,29 +1,29 @@
 -- Calls on the work of a view leave the verdicts, and record none.
-use Rattle.std.proofs.Common.{unwrap_or, ◌++◌, ◌≡◌, refl, ap, sym, subst, ℕ, arith, List, [], ◌∷◌, Contains, Bool, true, false, Option, Some, None, is_some}
+use Rattle.std.proofs.Common.{unwrap_or, ◌++◌, ◌≡◌, refl, ap, sym, subst, ℕ, List, [], ◌∷◌, Bool, true, false, Option, Some, None, is_some}
 use Rattle.std.proofs.lemmas.Bool.{false≢true}
 use Rattle.simplex_types.specs.declared.types.messages.Proposal.{Proposal}
 use Rattle.simplex_voter.specs.Facts.{Facts, Elect}
-use Rattle.std.proofs.lemmas.List.Elements.{Contains-append_right}
 use Rattle.std.specs.Prelude.{option_map, option_and_then}
 use Rattle.simplex_types.specs.Certificates.{ArtifactFacts, NotarizeVote, Verdict}
 use Rattle.simplex_types.specs.declared.types.messages.Subject.{Subject}
 use Rattle.simplex_types.specs.declared.types.messages.Subject.TheVariants as subject
 use Rattle.simplex_voter.specs.Votes.{notarize_answer}
-use Rattle.simplex_laws.specs.Acts.{Act, Cast}
 use Rattle.simplex_member.specs.Calls.{Notarize, vote_entry}
-use Rattle.simplex_laws.specs.CallActs.{acts_of_work}
 use Rattle.simplex_member.specs.Openings.{Openings}
 use Rattle.simplex_member.specs.Work.{WorkCall, ConstructNotarize, notarize_vote, recorded_by_work, work_allowed, work_answer, after_work}
+use Rattle.simplex_laws.specs.Deeds.{Deed, Signs, signed_in}
+use Rattle.simplex_laws.specs.Lawful.{HasSigned}
+use Rattle.simplex_laws.proofs.Signed.{signed_last}
 use Rattle.simplex_laws.proofs.InOrder.{InOrder}
 use Rattle.simplex_laws.proofs.WorkNotes.{is_silent}
-use Rattle.simplex_laws.proofs.WorkLives.{silent_acts, silent_record}
+use Rattle.simplex_laws.proofs.WorkLives.{silent_deeds, silent_record}
 use Rattle.simplex_laws.proofs.Recalls.{only_one}
 use Rattle.simplex_laws.proofs.OwnRecords.{HasNoVerdict, quiet_none, no_verdict, own_quiet, own_silent}
 use Rattle.simplex_laws.proofs.CallsMake.{AreSilent, work_silent, work_by_event}
 use Rattle.simplex_laws.proofs.ShownVerdicts.{Tells, shows_more, quiet_shows}
 use Rattle.simplex_laws.proofs.Verdicts.{Shows}
 
-module _ {K L D G : Type 0} (same : D → D → Bool) (elect : Elect L) (signature_of : ℕ → Subject D → G) (acts : List (Act D)) (entries : List (ArtifactFacts D G)) (x : Facts K L D) (o : Openings K D) (ordered : InOrder x) (tells : Tells acts entries x) where
+module _ {K L D G : Type 0} (same : D → D → Bool) (elect : Elect L) (signature_of : ℕ → Subject D → G) (deeds : List (Deed D G)) (entries : List (ArtifactFacts D G)) (x : Facts K L D) (o : Openings K D) (ordered : InOrder x) (tells : Tells deeds entries x) where
   -- what is shown after a call, whatever it records but a verdict
   abbrev pub Left : Facts K L D → Type 0
   Left y = (new : List (ArtifactFacts D G)) → HasNoVerdict new → Shows (entries ++ new) y
@@ -31,27 +31,27 @@ module _ {K L D G : Type 0} (same : D → D → Bool) (elect : Elect L) (signatu
   work_left : (call : WorkCall D) → work_allowed x o call ≡ true → Left (after_work same elect x o call)
   work_left call allowed =
       work_by_event G same elect x o (λ es y. AreSilent G es → Left y) (λ silent new none. shows_more entries new x none tells.shows)
-      (λ e rest takes none silent new nothing. quiet_shows same elect acts entries x ordered tells new e takes silent.0.notarization silent.0.verdict nothing) call allowed (work_silent G o call)
+      (λ e rest takes none silent new nothing. quiet_shows same elect deeds entries x ordered tells new e takes silent.0.notarization silent.0.verdict nothing) call allowed (work_silent G o call)
 
   -- what a vote to notarize records is cast
-  notarize_told : (call : WorkCall D) (vote : Option (ArtifactFacts D G)) → Left (after_work same elect x o call) → ((e : ArtifactFacts D G) → vote ≡ Some e → (p : Proposal D) × (m : ℕ) × (signature : G) × (e ≡ NotarizeVote p m signature)) → Tells (acts ++ acts_of_work {K = K} (Notarize vote)) (entries ++ vote_entry vote) (after_work same elect x o call)
+  notarize_told : (call : WorkCall D) (vote : Option (ArtifactFacts D G)) → Left (after_work same elect x o call) → ((e : ArtifactFacts D G) → vote ≡ Some e → (p : Proposal D) × (m : ℕ) × (signature : G) × (e ≡ NotarizeVote p m signature)) → Tells (deeds ++ signed_in {K = K} (Notarize vote)) (entries ++ vote_entry vote) (after_work same elect x o call)
   notarize_told call None left is = record {
-    own = own_quiet acts entries tells.own [] [] quiet_none;
+    own = own_quiet deeds entries tells.own [] [] quiet_none;
     shows = left [] (no_verdict [] quiet_none);
   }
   notarize_told call (Some e) left is =
       let one = is e refl in
-      subst (λ f. Tells (acts ++ acts_of_work {K = K} (Notarize (Some f))) (entries ++ f ∷ []) (after_work same elect x o call)) (sym one.3) (recorded one.0 one.1 one.2)
+      subst (λ f. Tells (deeds ++ signed_in {K = K} (Notarize (Some f))) (entries ++ f ∷ []) (after_work same elect x o call)) (sym one.3) (recorded one.0 one.1 one.2)
     where
-      recorded : (p : Proposal D) (m : ℕ) (signature : G) → Tells (acts ++ Cast (subject.Notarize p) ∷ []) (entries ++ NotarizeVote p m signature ∷ []) (after_work same elect x o call)
+      recorded : (p : Proposal D) (m : ℕ) (signature : G) → Tells (deeds ++ Signs m (subject.Notarize p) signature ∷ []) (entries ++ NotarizeVote p m signature ∷ []) (after_work same elect x o call)
       recorded p m signature =
           let new : List (ArtifactFacts D G) = NotarizeVote p m signature ∷ [] in
           let silent : HasNoVerdict new = λ round success h. (let f = only_one (NotarizeVote p m signature) (Verdict round success) h in cc) in
           record {
-            own = own_silent acts entries tells.own (Cast (subject.Notarize p) ∷ []) new silent (λ q n g h.
+            own = own_silent deeds entries tells.own (Signs m (subject.Notarize p) signature ∷ []) new silent (λ q n g h.
                 (let f = only_one (NotarizeVote p m signature) (NotarizeVote q n g) h in
                 let same_proposal_cast : p ≡ q = cc in
-                subst (λ (k : Proposal D). Contains (acts ++ Cast (subject.Notarize p) ∷ []) (Cast (subject.Notarize k))) same_proposal_cast (Contains-append_right acts (Cast (subject.Notarize p) ∷ []) (Cast (subject.Notarize p)) (0, omega arith, refl))));
+                subst (λ (k : Proposal D). HasSigned (deeds ++ Signs m (subject.Notarize p) signature ∷ []) (subject.Notarize k)) same_proposal_cast (signed_last deeds m (subject.Notarize p) signature)));
             shows = left new silent;
           }
 
@@ -64,7 +64,7 @@ module _ {K L D G : Type 0} (same : D → D → Bool) (elect : Elect L) (signatu
       by_key (Some m) (Some p) told = (p, m, signature_of m (subject.Notarize p), sym (ap (λ f. unwrap_or f e) told))
 
   abbrev pub WorkTells : WorkCall D → Type 0
-  WorkTells call = Tells (acts ++ acts_of_work (work_answer same elect signature_of x o call)) (entries ++ recorded_by_work same elect signature_of x call) (after_work same elect x o call)
+  WorkTells call = Tells (deeds ++ signed_in (work_answer same elect signature_of x o call)) (entries ++ recorded_by_work same elect signature_of x call) (after_work same elect x o call)
 
   -- each call on the work of a view that is allowed and not refused
   pub work_told : (call : WorkCall D) → work_allowed x o call ≡ true → WorkTells call
@@ -73,8 +73,8 @@ module _ {K L D G : Type 0} (same : D → D → Bool) (elect : Elect L) (signatu
       by_kind : (w : WorkCall D) (b : Bool) → is_silent w ≡ b → Left (after_work same elect x o w) → WorkTells w
       by_kind w true silent left =
           let y = after_work same elect x o w in
-          subst (λ a. Tells (acts ++ a) (entries ++ recorded_by_work same elect signature_of x w) y) (sym (silent_acts same elect signature_of x o w silent))
-          (subst (λ es. Tells (acts ++ []) (entries ++ es) y) (sym (silent_record same elect signature_of x o w silent))
-          (record { own = own_quiet acts entries tells.own [] [] quiet_none; shows = left [] (no_verdict [] quiet_none) }))
+          subst (λ a. Tells (deeds ++ a) (entries ++ recorded_by_work same elect signature_of x w) y) (sym (silent_deeds same elect signature_of x o w silent))
+          (subst (λ es. Tells (deeds ++ []) (entries ++ es) y) (sym (silent_record same elect signature_of x o w silent))
+          (record { own = own_quiet deeds entries tells.own [] [] quiet_none; shows = left [] (no_verdict [] quiet_none) }))
       by_kind (ConstructNotarize v) false voting left = notarize_told (ConstructNotarize v) (notarize_vote same elect signature_of x v) left (is_notarize v)
       by_kind _ false voting left = absurd (false≢true (sym voting))

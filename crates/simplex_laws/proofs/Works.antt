@@ -1,26 +1,23 @@
 -- Calls on the work of a view leave what the voting rules for nullifying and finalizing rest on.
-use Rattle.std.proofs.Common.{◌≡◌, refl, ap, sym, ◌∙◌, subst, ℕ, ◌≤◌, inl, inr, Bool, true, false, not, List, Contains, Option, Some, None, is_some, unwrap_or, arith}
-use Rattle.std.proofs.lemmas.Bool.{false≢true, true≢false}
+use Rattle.std.proofs.Common.{◌≡◌, refl, ap, sym, ◌∙◌, subst, ℕ, ◌≤◌, inl, inr, Bool, true, List, Contains, Option, Some, None, unwrap_or, arith}
+use Rattle.std.proofs.lemmas.Bool.{true≢false}
 use Rattle.simplex_types.specs.Proposal.{same_proposal}
 use Rattle.simplex_types.specs.declared.types.messages.Proposal.{Proposal}
-use Rattle.simplex_round.specs.declared.round.Decision.{Decision}
-use Rattle.simplex_round.specs.declared.round.Decision.TheVariants as decision
 use Rattle.simplex_round.specs.Slot.{SlotFacts, after_vote}
-use Rattle.simplex_round.specs.Round.{RoundFacts, new_round, is_nullify, is_finalize, is_certified, has_no_retry, awaits_retry}
+use Rattle.simplex_round.specs.Round.{RoundFacts, new_round, is_nullify, is_finalize, is_certified}
 use Rattle.simplex_voter.specs.Facts.{Facts, Elect, round_of, round_number}
 use Rattle.simplex_voter.specs.Proposing.{proposal_of}
-use Rattle.simplex_voter.proofs.Gaps.{and_parts}
-use Rattle.simplex_laws.specs.Acts.{Act}
 use Rattle.simplex_member.specs.Openings.{Openings}
 use Rattle.simplex_member.specs.Work.{WorkCall, work_allowed, after_work}
 use Rattle.simplex_laws.specs.Events.{Event, IsEvent, after_event}
+use Rattle.simplex_laws.specs.Deeds.{Deed}
 use Rattle.simplex_laws.proofs.CallsMake.{AreSilent, work_silent, work_by_event}
 use Rattle.simplex_laws.proofs.EachRound.{rounds_along}
 use Rattle.simplex_laws.proofs.Paths.{event_path, asked_of_all}
 use Rattle.simplex_laws.proofs.Rising.{event_goes, event_finalizes}
 use Rattle.simplex_laws.proofs.Steps as step
 use Rattle.simplex_laws.proofs.Steps.{RoundStep, Step, IsSilent, Notes, Prunes, along}
-use Rattle.simplex_laws.proofs.LeavesVotes.{armed_nullify, armed_finalize, latched_nullify, latched_finalize, aborted_certified}
+use Rattle.simplex_laws.proofs.Rounds.{armed_nullify, armed_finalize, latched_nullify, latched_finalize, aborted_certified, awaited_nullify}
 use Rattle.simplex_laws.proofs.Standing.{RoundStands, HasFinal, Stays, stands_later}
 use Rattle.simplex_laws.proofs.StandingRounds.{Holds}
 use Rattle.simplex_laws.proofs.Retaken.{holds_own}
@@ -70,17 +67,6 @@ module _ {D : Type 0} (same : D → D → Bool) where
         | inl seen ↦ rw (is, seen) (inl refl)
         | inr here ↦ (let there : Some h ≡ Some q = sym is ∙ here in rw is (inr there))
       ]
-
--- rounds
-
-module _ {K D : Type 0} where
-  pub awaited_nullify : (r : RoundFacts K D) → awaits_retry r ≡ true → (is_nullify r.decision ≡ true) × (is_finalize r.decision ≡ false)
-  awaited_nullify r awaits = by_decision r.decision (and_parts (not (is_some r.finalization)) (has_no_retry r.decision) awaits).1
-    where
-      by_decision : (d : Decision) → has_no_retry d ≡ true → (is_nullify d ≡ true) × (is_finalize d ≡ false)
-      by_decision (decision.Pending _ _ _) is = absurd (false≢true is)
-      by_decision (decision.Nullify _) is = (refl, refl)
-      by_decision decision.Finalize is = absurd (false≢true is)
 
 module _ {K L D G : Type 0} (same : D → D → Bool) (decides : (d e : D) → same d e ≡ true → d ≡ e) (elect : Elect L) (x : Facts K L D) (e : Event K D G) (takes : IsEvent x e) (silent : IsSilent e) where
   change_alike : (y : Facts K L D) (v : ℕ) (r s : RoundFacts K D) → RoundStep same elect x e y v r s → WorkAlike r s
@@ -136,8 +122,8 @@ module _ {K L D : Type 0} (same : D → D → Bool) (decides : (d e : D) → sam
 
 -- what was kept is kept
 
-module _ {K L D : Type 0} (term_length : ℕ) (acts : List (Act D)) (x y : Facts K L D) (left : WorksOn x y) where
-  round_worked : (reached v : ℕ) → RoundStands acts reached x.finalized v (round_of x v) → RoundStands acts reached x.finalized v (round_of y v)
+module _ {K L D G : Type 0} (term_length : ℕ) (deeds : List (Deed D G)) (x y : Facts K L D) (left : WorksOn x y) where
+  round_worked : (reached v : ℕ) → RoundStands deeds reached x.finalized v (round_of x v) → RoundStands deeds reached x.finalized v (round_of y v)
   round_worked reached v stands =
       let same = left.rounds v in
       record {
@@ -148,18 +134,18 @@ module _ {K L D : Type 0} (term_length : ℕ) (acts : List (Act D)) (x y : Facts
         finalize_decided = λ p h at. elim (stands.finalize_decided p h at) [ inl is ↦ inl (same.finalize ∙ is) | inr below ↦ inr below ];
       }
 
-  pub stays_worked : Stays term_length acts x → Stays term_length acts y
+  pub stays_worked : Stays term_length deeds x → Stays term_length deeds y
   stays_worked keeps =
-      let later = stands_later term_length acts x.current y.current x left.current keeps.stands in
+      let later = stands_later term_length deeds x.current y.current x left.current keeps.stands in
       record {
         stands = record {
           terms = ap (λ terms. terms.term_length) left.terms ∙ later.terms;
-          rounds = λ v. subst (λ finalized. RoundStands acts y.current finalized v (round_of y v)) (sym left.finalized) (round_worked y.current v (later.rounds v));
+          rounds = λ v. subst (λ finalized. RoundStands deeds y.current finalized v (round_of y v)) (sym left.finalized) (round_worked y.current v (later.rounds v));
           passed = later.passed;
           noted = λ round h. rw (left.nullify_votes, left.finalized) (later.noted round h);
         };
         ahead = omega (arith, left.finalized, left.current, keeps.ahead);
-        final = subst (λ v. HasFinal acts v) (sym left.finalized) keeps.final;
+        final = subst (λ v. HasFinal deeds v) (sym left.finalized) keeps.final;
       }
 
   pub few_worked : FewerMarks x y

@@ -10,7 +10,8 @@ use Rattle.simplex_member.specs.Lives.{MemberFacts}
 use Rattle.simplex_member.specs.Runs.{StepFacts, Calls, Works, IsRun}
 use Rattle.simplex_member.specs.Start.{started}
 use Rattle.simplex_member.specs.Work.{ConstructNotarize}
-use Rattle.simplex_laws.specs.Stories.{Story, Deed, Signs, signed_in}
+use Rattle.simplex_laws.specs.Deeds.{Deed, Signs, signed_in}
+use Rattle.simplex_laws.specs.Stories.{Story}
 
 abbrev pub is_refused : {K D G : Type 0} → Told K D G → Bool
 is_refused (Refused fault) = true

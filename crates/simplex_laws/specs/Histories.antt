@@ -1,18 +1,22 @@
 -- How the history of a member's life grows: by its calls, and anew by each recovery.
-use Rattle.std.specs.Prelude.{◌≡◌, ℕ, Bool, ◌-◌, nat_lt, if◌then◌else◌, List, [], ◌∷◌, ◌++◌, Option, Some, None, MatchOption}
+use Rattle.std.specs.Prelude.{◌≡◌, ℕ, Bool, ◌-◌, nat_lt, if◌then◌else◌, List, [], ◌∷◌, ◌++◌, Option, Some, None, MatchOption, Ok}
 use Rattle.simplex_types.specs.Certificates.{ArtifactFacts, Verdict, Accepted, Notarized, Nullified, Finalized}
-use Rattle.simplex_voter.specs.Facts.{Elect}
+use Rattle.simplex_types.specs.declared.types.messages.Subject.{Subject}
+use Rattle.simplex_voter.specs.Facts.{Facts, Elect}
 use Rattle.simplex_types.specs.declared.types.messages.Context.{Context}
 use Rattle.simplex_member.specs.Calls.{CallFacts, Told, Refused, NotAllowed, NotRestarted}
 use Rattle.simplex_member.specs.Openings.{Openings, context_at}
 use Rattle.simplex_member.specs.Work as work
 use Rattle.simplex_member.specs.Work.{WorkCall}
 use Rattle.simplex_member.specs.Entries.{entry_view}
-use Rattle.simplex_laws.specs.Events.{Event, History, SetFloor, AddNotarization, AddNullification, AddFinalization, Certified, ConstructNotarize, SetProposal, TryPropose, Proposed, Supersede, Release, TryVerify, Verified, VerificationFailed, CertifyCandidates, SetCertifyHandle, TriggerTimeout, NextTimeout, Replay, events_of}
-use Rattle.simplex_member.specs.Lives.{MemberFacts}
-use Rattle.simplex_member.specs.Runs.{StepFacts, Calls, Works, Restarts}
+use Rattle.simplex_laws.specs.Events.{Event, History, SetFloor, AddNotarization, AddNullification, AddFinalization, Certified, ConstructNotarize, SetProposal, TryPropose, Proposed, Supersede, Release, TryVerify, Verified, VerificationFailed, CertifyCandidates, SetCertifyHandle, TriggerTimeout, NextTimeout, Replay, IsEvent, after_event, with_event, events_of}
+use Rattle.simplex_laws.specs.Fresh.{IsFresh, BeginFresh}
+use Rattle.simplex_member.specs.Lives.{MemberFacts, IsCall}
+use Rattle.simplex_member.specs.Recovery.{recovered, recover_error}
+use Rattle.simplex_member.specs.Restarts.{RestartFacts, IsByView, IsRestart, cut}
+use Rattle.simplex_member.specs.Runs.{StepFacts, Calls, Works, Restarts, IsRun}
 use Rattle.simplex_laws.specs.Shows.{Shows}
-use Rattle.simplex_member.specs.Start.{StartFacts}
+use Rattle.simplex_member.specs.Start.{StartFacts, started}
 use Rattle.simplex_laws.specs.Sums.{finalized_in}
 
 -- an entry is taken again: a certificate is added before it is replayed, and a verdict is given after that
@@ -94,3 +98,45 @@ module _ {K L D G : Type 0} (same : D → D → Bool) (elect : Elect L) where
   -- while the member lives, its state knows what the history says
   abbrev pub IsShown : History K L D G → MemberFacts K L D G → Type 0
   IsShown history m = MatchOption m.life (Unit {0}) (Shows same elect history)
+
+module _ (K : Type 0) {L D G : Type 0} (same : D → D → Bool) (elect : Elect L) (signature_of : ℕ → Subject D → G) where
+  -- of a new state nothing was said
+  abbrev pub NothingSaid : Type 0
+  NothingSaid = (term_length : ℕ) (x : Facts K L D) → IsFresh term_length x → Shows {G = G} same elect (record { fresh = x; events = [] }) x
+
+  -- an event that the state allows is the last of the history then
+  abbrev pub EventsAreShown : Type 0
+  EventsAreShown =
+      (history : History K L D G) (x : Facts K L D) (e : Event K D G) → Shows same elect history x → IsEvent x e → Shows same elect (with_event history e) (after_event same elect x e)
+
+  abbrev pub CallsAreShown : Type 0
+  CallsAreShown =
+      (history : History K L D G) (m left : MemberFacts K L D G) (call : CallFacts D) (told : Told K D G)
+      → IsShown same elect history m
+      → IsCall same elect signature_of m call told left
+      → IsShown same elect (with_call history call told) left
+
+  abbrev pub RecoveriesAreShown : Type 0
+  RecoveriesAreShown =
+      (term_length : ℕ) (start : StartFacts K L D) (entries : List (ArtifactFacts D G))
+      → IsFresh term_length start.fresh
+      → recover_error same start.fresh start.floor start.now entries ≡ None
+      → Shows same elect (recovery start entries) (recovered same elect start.fresh start.floor start.now entries)
+
+  -- of some order by view of what is left of the record
+  abbrev pub RestartsAreShown : Type 0
+  RestartsAreShown =
+      (term_length : ℕ) (m left : MemberFacts K L D G) (r : RestartFacts K L D)
+      → IsFresh term_length r.start.fresh
+      → IsRestart same elect m r (Ok tt) left
+      → (copy : List (ArtifactFacts D G)) × IsByView (cut m r.drop r.prune).entries copy × IsShown same elect (recovery r.start copy) left
+
+  -- of the history that the run's steps lead to
+  abbrev pub RunsAreShown : Type 0
+  RunsAreShown =
+      (term_length : ℕ) (start : StartFacts K L D) (steps : List (StepFacts K L D)) (replies : List (Told K D G)) (end : MemberFacts K L D G)
+      → IsFresh term_length start.fresh
+      → BeginFresh term_length steps
+      → recover_error {G = G} same start.fresh start.floor start.now [] ≡ None
+      → IsRun same elect signature_of (started same elect start.fresh start.floor start.now) steps replies end
+      → (last : History K L D G) × LeadsTo (recovery start []) steps replies last × IsShown same elect last end

@@ -1,7 +1,6 @@
-pub mod Acts
-pub mod Network
-pub mod CallActs
-pub mod RunActs
+pub mod Deeds
+pub mod Lawful
+pub mod Fresh
 pub mod LifeLaws
 pub mod Outside
 pub mod Events

@@ -1,5 +1,5 @@
 -- What each life of a member keeps. A life lies between a start or a restart and the next one.
-use Rattle.std.specs.Prelude.{◌≡◌, ◌⊎◌, ℕ, ◌<◌, ◌≤◌, Bool, true, false, List, [], ◌∷◌, ◌++◌, map, nat_eq, Contains, Option, Some, None}
+use Rattle.std.specs.Prelude.{◌≡◌, ◌⊎◌, ℕ, ◌<◌, ◌≤◌, Bool, true, false, List, [], ◌∷◌, ◌++◌, map, length, nat_eq, Contains, Option, Some, None}
 use Rattle.std.specs.List.{IsDistinct}
 use Rattle.simplex_types.specs.Certificates.{CertificateFacts, Notarized, Nullified, Finalized}
 use Rattle.simplex_types.specs.declared.types.messages.Subject.{Subject}
@@ -9,9 +9,10 @@ use Rattle.simplex_member.specs.Calls.{CallFacts, BroadcastNotarization, Broadca
 use Rattle.simplex_member.specs.Entries.{certificate_round}
 use Rattle.simplex_member.specs.Lives.{MemberFacts}
 use Rattle.simplex_member.specs.Recovery.{recover_error}
-use Rattle.simplex_member.specs.Runs.{StepFacts, Calls, Works, IsRun}
+use Rattle.simplex_member.specs.Runs.{StepFacts, Calls, Works, IsRun, IsRunFrom}
 use Rattle.simplex_member.specs.Start.{StartFacts, started}
 use Rattle.simplex_member.specs.Work.{WorkCall}
+use Rattle.simplex_laws.specs.Fresh.{IsFresh, BeginFresh}
 
 -- a call of a life: any but a restart
 pub data LifeCall (D : Type 0) : Type 0 where
@@ -117,3 +118,27 @@ module _ {K D G : Type 0} where
   HandedAsAsked (Calling call ∷ calls) (told ∷ replies) = IsAsAsked call told × HandedAsAsked calls replies
   HandedAsAsked (Working call ∷ calls) (told ∷ replies) = HandedAsAsked calls replies
   HandedAsAsked _ _ = Unit {0}
+
+module _ (K : Type 0) {L D G : Type 0} (same : D → D → Bool) (elect : Elect L) (signature_of : ℕ → Subject D → G) where
+  -- of each life, of whatever member
+  abbrev pub OfEachLife : (MemberFacts K L D G → List (LifeCall D) → List (Told K D G) → MemberFacts K L D G → Type 0) → Type 0
+  OfEachLife Holds =
+      (m end : MemberFacts K L D G) (calls : List (LifeCall D)) (replies : List (Told K D G)) → IsLife same elect signature_of m calls replies end → Holds m calls replies end
+
+  -- of each stretch of a life that a run leads to, where each life begins freshly
+  abbrev pub OfEachStretch : (MemberFacts K L D G → List (LifeCall D) → List (Told K D G) → MemberFacts K L D G → Type 0) → Type 0
+  OfEachStretch Holds =
+      (term_length : ℕ) (start : StartFacts K L D) (before : List (StepFacts K L D)) (told : List (Told K D G)) (m end : MemberFacts K L D G) (calls : List (LifeCall D)) (replies : List (Told K D G))
+      → IsFresh term_length start.fresh
+      → BeginFresh term_length before
+      → IsLifeOfRun same elect signature_of start before told m calls replies end
+      → Holds m calls replies end
+
+  -- calls of a run with no restart among them are such a stretch
+  abbrev pub StretchesAreLives : Type 0
+  StretchesAreLives =
+      (start : StartFacts K L D) (before after : List (StepFacts K L D)) (calls : List (LifeCall D)) (told replies rest : List (Told K D G))
+      → length before ≡ length told
+      → length calls ≡ length replies
+      → IsRunFrom same elect signature_of start (before ++ (as_steps calls ++ after)) (told ++ (replies ++ rest))
+      → (m end : MemberFacts K L D G) × IsLifeOfRun same elect signature_of start before told m calls replies end

@@ -1,5 +1,5 @@
 -- What has come to a member so far and what it answered, of the code's own values.
-use Rattle.std.specs.Prelude.{◌≡◌, ℕ, Bool, List, [], ◌∷◌, ◌++◌, map, Option, None}
+use Rattle.std.specs.Prelude.{◌≡◌, ℕ, Bool, List, [], ◌∷◌, ◌++◌, map, Option, None, Result}
 use Rattle.simplex_types.specs.declared.types.window.Terms.{Terms}
 use Rattle.simplex_types.specs.declared.types.messages.Subject.{Subject}
 use Rattle.simplex_voter.specs.Facts.{Elect}
@@ -11,8 +11,9 @@ use Rattle.simplex_member.specs.Lives.{MemberFacts}
 use Rattle.simplex_member.specs.Recovery.{recover_error}
 use Rattle.simplex_member.specs.Runs.{StepFacts, steps_of, IsRun}
 use Rattle.simplex_member.specs.Start.{StartFacts, start_facts, started}
-use Rattle.simplex_laws.specs.Acts.{IsLawful}
-use Rattle.simplex_laws.specs.Stories.{Story, Deed, LivesAs, act_of, deeds}
+use Rattle.simplex_laws.specs.Deeds.{Deed}
+use Rattle.simplex_laws.specs.Shown.{floor_in, begun_by, IsSetUpAs}
+use Rattle.simplex_laws.specs.Stories.{Story, deeds_of, LivesAs, Ran}
 
 abbrev pub story_of : {S L D K G C : Type 0} → (S → Option ℕ) → (S → List K) → (L → Terms) → (L → Bool) → (C → List ℕ) → Start S L D K G C → List (Step S L D K G C) → List (Reply S D K G C) → Story K L D G
 story_of me members terms elects_early bytes_of start steps replies = record {
@@ -30,10 +31,6 @@ module _ {K L D G : Type 0} where
   abbrev pub with_step : Story K L D G → StepFacts K L D → Told K D G → Story K L D G
   with_step s step told = record s { steps = s.steps ++ step ∷ []; replies = s.replies ++ told ∷ [] }
 
-  -- its votes keep the rules
-  abbrev pub Lawful : ℕ → Story K L D G → Type 0
-  Lawful term_length s = IsLawful term_length (map act_of (deeds s))
-
 module _ {K L D G : Type 0} (same : D → D → Bool) (elect : Elect L) (signature_of : ℕ → Subject D → G) where
   -- this is the story of the member so far, as member `i` of a network
   pub record HasStory (term_length i : ℕ) (s : Story K L D G) (m : MemberFacts K L D G) : Type 0 where
@@ -45,4 +42,30 @@ module _ {K L D G : Type 0} (same : D → D → Bool) (elect : Elect L) (signatu
   pub record HasDone (term_length i : ℕ) (all : List (Deed D G)) (m : MemberFacts K L D G) : Type 0 where
     pub story : Story K L D G
     pub told : HasStory term_length i story m
-    pub same_deeds : deeds story ≡ all
+    pub same_deeds : deeds_of story ≡ all
+
+  -- these deeds are done besides
+  abbrev pub DoesMore : MemberFacts K L D G → List (Deed D G) → MemberFacts K L D G → Type 0
+  DoesMore m more next = (term_length i : ℕ) (all : List (Deed D G)) → HasDone term_length i all m → HasDone term_length i (all ++ more) next
+
+  -- of whatever it has done so far, as whichever member
+  abbrev pub OfAllDone : MemberFacts K L D G → (ℕ → ℕ → List (Deed D G) → Type 0) → Type 0
+  OfAllDone m Holds = (term_length i : ℕ) (all : List (Deed D G)) → HasDone term_length i all m → Holds term_length i all
+
+module _ (K : Type 0) {L D G : Type 0} (same : D → D → Bool) (elect : Elect L) (signature_of : ℕ → Subject D → G) where
+  -- a network may have a member `i` with these deeds
+  abbrev pub MayBeDoneBy : ℕ → ℕ → List (Deed D G) → Type 0
+  MayBeDoneBy term_length i all = (s : Story K L D G) × Ran same elect signature_of term_length i s × (deeds_of s ≡ all)
+
+module _ {S L D K G C : Type 0} (same : D → D → Bool) (elect : Elect L) (signature_of : ℕ → Subject D → G) (me : S → Option ℕ) (terms : L → Terms) where
+  -- a member that begins with this start has accepted the floor's finalization
+  abbrev pub HasBegun : Start S L D K G C → MemberFacts K L D G → Type 0
+  HasBegun start m = (term_length i : ℕ) → IsSetUpAs me terms term_length i start → HasDone same elect signature_of term_length i (floor_in start.floor) m
+
+  -- one that begins again with this start has, where it succeeds, accepted the floor's finalization besides
+  abbrev pub HasBegunAgain : {E : Type 0} → MemberFacts K L D G → Start S L D K G C → Result (Unit {0}) E → MemberFacts K L D G → Type 0
+  HasBegunAgain m start result next =
+      (term_length i : ℕ) (all : List (Deed D G))
+      → IsSetUpAs me terms term_length i start
+      → HasDone same elect signature_of term_length i all m
+      → HasDone same elect signature_of term_length i (all ++ begun_by start result) next

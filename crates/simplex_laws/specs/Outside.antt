@@ -1,7 +1,17 @@
 -- What a member's own record may be refused for.
-use Rattle.std.specs.Prelude.{◌≡◌, ◌⊎◌}
+use Rattle.std.specs.Prelude.{◌≡◌, ◌⊎◌, ℕ, Bool, List, Some, Err}
+use Rattle.simplex_types.specs.Certificates.{ArtifactFacts}
+use Rattle.simplex_types.specs.declared.types.messages.Subject.{Subject}
+use Rattle.simplex_voter.specs.Facts.{Elect}
 use Rattle.simplex_member.specs.declared.member.error.RecoverError.{RecoverError}
 use Rattle.simplex_member.specs.declared.member.error.RecoverError.TheVariants as error
+use Rattle.simplex_member.specs.Calls.{Told}
+use Rattle.simplex_member.specs.Lives.{MemberFacts}
+use Rattle.simplex_member.specs.Recovery.{recover_error}
+use Rattle.simplex_member.specs.Restarts.{RestartFacts, IsByView, cut, IsRestart}
+use Rattle.simplex_member.specs.Runs.{StepFacts, IsRun, EndsRunFrom}
+use Rattle.simplex_member.specs.Start.{StartFacts, started}
+use Rattle.simplex_laws.specs.Fresh.{IsFresh, BeginFresh}
 
 -- the error comes from outside: of the next start's epoch, key, floor or moment, or of a proposal or view that others sent;
 -- not of how the entries stand beside one another
@@ -17,3 +27,35 @@ IsFromOutside _ = ⊥
 -- what a restart is refused for: that, or more views to be kept of a pruned record, or want of memory
 abbrev pub IsExcused : RecoverError → Type 0
 IsExcused found = IsFromOutside found ⊎ (found ≡ error.RetentionGrown) ⊎ (found ≡ error.OutOfMemory)
+
+module _ (K : Type 0) {L D G : Type 0} (same : D → D → Bool) (elect : Elect L) (signature_of : ℕ → Subject D → G) where
+  -- of each member that a run leads to, where each life begins freshly
+  abbrev pub OfEachEnd : (MemberFacts K L D G → Type 0) → Type 0
+  OfEachEnd Holds =
+      (term_length : ℕ) (start : StartFacts K L D) (steps : List (StepFacts K L D)) (replies : List (Told K D G)) (end : MemberFacts K L D G)
+      → IsFresh term_length start.fresh
+      → BeginFresh term_length steps
+      → IsRun same elect signature_of (started same elect start.fresh start.floor start.now) steps replies end
+      → Holds end
+
+  -- whatever restart comes next: what it leaves of the record, by view, is refused only for what comes from outside
+  abbrev pub RecordIsTaken : MemberFacts K L D G → Type 0
+  RecordIsTaken end =
+      (next : RestartFacts K L D) (copy : List (ArtifactFacts D G)) (found : RecoverError)
+      → IsByView (cut end next.drop next.prune).entries copy
+      → recover_error same next.start.fresh next.start.floor next.start.now copy ≡ Some found
+      → IsFromOutside found
+
+  -- and the restart itself for no other reason than an excuse
+  abbrev pub RestartIsExcused : MemberFacts K L D G → Type 0
+  RestartIsExcused end =
+      (left : MemberFacts K L D G) (next : RestartFacts K L D) (found : RecoverError) → IsRestart same elect end next (Err found) left → IsExcused found
+
+  -- so is a run, at its start or at one of its restarts
+  abbrev pub RunsAreExcused : Type 0
+  RunsAreExcused =
+      (term_length : ℕ) (start : StartFacts K L D) (steps : List (StepFacts K L D)) (found : RecoverError)
+      → IsFresh term_length start.fresh
+      → BeginFresh term_length steps
+      → EndsRunFrom {K = K} {G = G} same elect signature_of start steps found
+      → IsExcused found

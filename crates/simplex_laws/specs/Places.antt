@@ -1,10 +1,18 @@
 -- A network: who is faulty, what the others did, and the certificates that the votes of both make.
-use Rattle.std.specs.Prelude.{◌≡◌, ℕ, zero, suc, ◌-◌, ◌*◌, ◌≤◌, ◌<◌, ◌⊎◌, ⊤, Bool, true, false, List, [], ◌∷◌, length, slice_get, Contains, Some}
+use Rattle.std.specs.Prelude.{◌≡◌, ℕ, zero, suc, ◌-◌, ◌*◌, ◌/◌, ◌≤◌, ◌<◌, ◌⊎◌, ⊤, Bool, true, false, List, [], ◌∷◌, length, slice_get, Contains, Some}
 use Rattle.std.specs.List.{count_by}
 use Rattle.simplex_types.specs.declared.types.messages.Subject.{Subject}
 use Rattle.simplex_voter.specs.Facts.{Elect}
-use Rattle.simplex_laws.specs.Network.{max_faults, quorum}
-use Rattle.simplex_laws.specs.Stories.{Story, Accepts, Signs, deeds, Ran}
+use Rattle.simplex_laws.specs.Deeds.{Accepts, Signs}
+use Rattle.simplex_laws.specs.Stories.{Story, deeds_of, Ran}
+
+-- the greatest number of faulty members that a network of n is meant to bear
+abbrev pub max_faults : ℕ → ℕ
+max_faults n = (n - 1) / 3
+
+-- how many votes make a certificate
+abbrev pub quorum : ℕ → ℕ
+quorum n = n - max_faults n
 
 -- a faulty member may send anything; of an honest one all is given that came to it and that it answered
 pub data Place (K L D G : Type 0) : Type 0 where
@@ -35,7 +43,7 @@ module _ {K L D G : Type 0} (signature_of : ℕ → Subject D → G) where
   -- the member at place `i` is faulty or signed this vote, as `i`
   abbrev pub MayHaveSigned : Subject D → ℕ → Place K L D G → Type 0
   MayHaveSigned vote i Faulty = ⊤
-  MayHaveSigned vote i (Honest s) = Contains (deeds s) (Signs i vote (signature_of i vote))
+  MayHaveSigned vote i (Honest s) = Contains (deeds_of s) (Signs i vote (signature_of i vote))
 
   -- n - f members may have signed it: a certificate of it may exist
   abbrev pub Backed : List (Place K L D G) → Subject D → Type 0
@@ -46,4 +54,10 @@ module _ {K L D G : Type 0} (same : D → D → Bool) (elect : Elect L) (signatu
   pub record IsNetworkOf (term_length : ℕ) (network : List (Place K L D G)) : Type 0 where
     pub few_faulty : FewFaulty network
     pub honest : (i : ℕ) (s : Story K L D G) → slice_get network i ≡ Some (Honest s) → Ran same elect signature_of term_length i s
-    pub backed : (i : ℕ) (s : Story K L D G) (certificate : Subject D) → slice_get network i ≡ Some (Honest s) → Contains (deeds s) (Accepts certificate) → Backed signature_of network certificate
+    pub backed : (i : ℕ) (s : Story K L D G) (certificate : Subject D) → slice_get network i ≡ Some (Honest s) → Contains (deeds_of s) (Accepts certificate) → Backed signature_of network certificate
+
+module _ (K : Type 0) {L D G : Type 0} (same : D → D → Bool) (elect : Elect L) (signature_of : ℕ → Subject D → G) where
+  -- of each such network, in terms of whatever length
+  abbrev pub OfEachNetwork : (ℕ → List (Place K L D G) → Type 0) → Type 0
+  OfEachNetwork Holds =
+      (term_length : ℕ) (network : List (Place K L D G)) → IsNetworkOf same elect signature_of term_length network → Holds term_length network

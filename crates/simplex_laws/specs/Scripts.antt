@@ -13,8 +13,9 @@ use Rattle.simplex_member.specs.Calls.{AddNotarization, AddNullification, AddFin
 use Rattle.simplex_member.specs.Runs.{Calls, Works, Restarts}
 use Rattle.simplex_member.specs.Start.{StartFacts}
 use Rattle.simplex_member.specs.Work.{SetProposal, TryVerify, Verified, ConstructNotarize}
-use Rattle.simplex_laws.specs.Stories.{Story}
 use Rattle.simplex_laws.specs.Places.{Place, Faulty, Honest}
+use Rattle.simplex_laws.specs.Deeds.{Deed, Signs}
+use Rattle.simplex_laws.specs.Stories.{Story}
 
 -- member 3 leads each view
 abbrev pub leader : Elect ℕ
@@ -54,6 +55,10 @@ abbrev pub context : ℕ → ℕ → Context ℕ ℕ
 context view parent = record { round = round view; leader = 3; parent = (parent, parent) }
 
 module _ (signature_of : ℕ → Subject ℕ → ℕ) where
+  -- a member signs this
+  abbrev pub signed : ℕ → Subject ℕ → Deed ℕ ℕ
+  signed me vote = Signs me vote (signature_of me vote)
+
   abbrev pub nullify_vote : ℕ → ℕ → Told ℕ ℕ ℕ
   nullify_vote me view = Nullify (Some (false, NullifyVote (round view) me (signature_of me (subject.Nullify (round view)))))
 

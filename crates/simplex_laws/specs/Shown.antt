@@ -11,7 +11,7 @@ use Rattle.simplex_member.specs.declared.member.calls.Reply.TheVariants as reply
 use Rattle.simplex_member.specs.declared.member.runs.Step.{Step}
 use Rattle.simplex_member.specs.declared.member.runs.Step.TheVariants as step
 use Rattle.simplex_member.specs.declared.member.start.Start.{Start}
-use Rattle.simplex_laws.specs.Stories.{Deed, Accepts, Signs}
+use Rattle.simplex_laws.specs.Deeds.{Deed, Accepts, Signs}
 
 module _ {S D K G C : Type 0} where
   -- the vote of a reply

@@ -1,20 +1,16 @@
 //! The laws of members: their votes, what their lives keep in order, their records and histories, and agreement. Nothing here
 //! does anything but `living`: the contracts are the laws.
 
-mod headline;
 mod histories;
 mod instances;
 mod lives;
 mod living;
 mod network;
 mod own_record;
-mod run_example;
 
-pub use headline::network_agrees;
 pub use histories::histories_are_shown;
 pub use instances::{restarts_are_runs, skipped_views_are_agreed_on, terms_are_agreed_on};
 pub use lives::{lives_keep_order, runs_keep_order};
 pub use living::{LawfulMember, run_lawfully};
-pub use network::{agreement, agreement_of_runs, premises_can_be_met, votes_are_lawful};
+pub use network::{agreement, votes_are_lawful};
 pub use own_record::own_record_is_taken;
-pub use run_example::runs_can_finalize;

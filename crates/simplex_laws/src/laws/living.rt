@@ -1,12 +1,13 @@
 //! Members whose deeds so far keep the laws: a whole run, and one that goes on.
 
-ghost use Rattle.std.specs.Prelude.{◌≡◌, ℕ, IfOk, length, map};
-ghost use Rattle.simplex_member.specs.Runs.{AreSetUp};
+ghost use Rattle.std.specs.Prelude.{◌≡◌, ℕ, IfOk, IfErr, length};
+ghost use Rattle.simplex_member.specs.Runs.{AreSetUp, EndsRunFrom, steps_of};
+ghost use Rattle.simplex_member.specs.Start.{start_facts};
 ghost use Rattle.simplex_laws.specs.Exactly.{SignsExactly};
 ghost use Rattle.simplex_laws.specs.Living.{story_of};
-ghost use Rattle.simplex_laws.specs.Acts.{IsLawful};
+ghost use Rattle.simplex_laws.specs.Lawful.{IsLawful};
 ghost use Rattle.simplex_laws.specs.Shown.{shown, AreSetUpAs};
-ghost use Rattle.simplex_laws.specs.Stories.{act_of, deeds, Ran};
+ghost use Rattle.simplex_laws.specs.Stories.{deeds_of, Ran};
 
 use simplex_member::member::{Call, Member, RecoverError, Reply, Restart, Start, Step, Work, run};
 use simplex_types::types::{CertificateScheme, Digest, Elector, Scheme};
@@ -20,6 +21,7 @@ use std::marker::Model;
 ///   a network does.
 /// - `shows`: and what it accepts and signs there is what the steps and the replies show.
 /// - `lawful`: this keeps the voting rules, over all its lives.
+/// - `ended`: it ends early as `run` does, with the error of a start or a restart that is refused, or with `OutOfMemory`.
 pub fn run_lawfully<S: Scheme<D>, L: Elector<S>, D: Digest>(
     alloc: Global,
     start: Start<S, L, D>,
@@ -27,10 +29,20 @@ pub fn run_lawfully<S: Scheme<D>, L: Elector<S>, D: Digest>(
 ) -> Result<Vec<Reply<S, D>>, RecoverError>
     requires started { L.members start.settings.elector ≡ length (S.participants start.settings.scheme) }
     requires restarted { AreSetUp S.participants L.members steps.items }
-    ensures exact { IfOk result (λ replies. SignsExactly D.eq L.elect S.signature_of (story_of S.me S.participants L.terms L.elects_early S.certificate_bytes start steps.items replies.items)) }
-    ensures ran { IfOk result (λ replies. (term_length i : ℕ) → AreSetUpAs S.me L.terms term_length i start steps.items → Ran D.eq L.elect S.signature_of term_length i (story_of S.me S.participants L.terms L.elects_early S.certificate_bytes start steps.items replies.items)) }
-    ensures shows { IfOk result (λ replies. deeds (story_of S.me S.participants L.terms L.elects_early S.certificate_bytes start steps.items replies.items) ≡ shown start steps.items replies.items) }
-    ensures lawful { IfOk result (λ replies. (term_length i : ℕ) → AreSetUpAs S.me L.terms term_length i start steps.items → IsLawful term_length (map act_of (shown start steps.items replies.items))) }
+    ensures exact { IfOk result (λ replies.
+        SignsExactly D.eq L.elect S.signature_of
+        (story_of S.me S.participants L.terms L.elects_early S.certificate_bytes start steps.items replies.items)) }
+    ensures ran { IfOk result (λ replies. (term_length i : ℕ) → AreSetUpAs S.me L.terms term_length i start steps.items
+        → Ran D.eq L.elect S.signature_of term_length i
+        (story_of S.me S.participants L.terms L.elects_early S.certificate_bytes start steps.items replies.items)) }
+    ensures shows { IfOk result (λ replies.
+        deeds_of (story_of S.me S.participants L.terms L.elects_early S.certificate_bytes start steps.items replies.items)
+        ≡ shown start steps.items replies.items) }
+    ensures lawful { IfOk result (λ replies. (term_length i : ℕ) → AreSetUpAs S.me L.terms term_length i start steps.items
+        → IsLawful term_length (shown start steps.items replies.items)) }
+    ensures ended { IfErr result (EndsRunFrom D.eq L.elect S.signature_of
+        (start_facts S.me S.participants L.terms L.elects_early S.certificate_bytes start)
+        (steps_of S.me S.participants L.terms L.elects_early S.certificate_bytes steps.items)) }
 {
     run(alloc, start, steps)
 }
@@ -50,24 +62,35 @@ impl<S: CertificateScheme, L: Elector<S>, D: Digest> Model for LawfulMember<S, L
 }
 
 impl<S: Scheme<D>, L: Elector<S>, D: Digest> LawfulMember<S, L, D> {
-    ghost use Rattle.std.specs.Prelude.{List, ◌++◌};
+    ghost use Rattle.std.specs.Prelude.{[], ◌++◌};
+    ghost use Rattle.simplex_types.specs.Config.{floor_facts};
     ghost use Rattle.simplex_member.specs.Calls.{call_facts, told};
     ghost use Rattle.simplex_member.specs.Runs.{Calls, Works};
     ghost use Rattle.simplex_member.specs.Lives.{IsCall};
+    ghost use Rattle.simplex_member.specs.Recovery.{recover_error};
     ghost use Rattle.simplex_member.specs.Restarts.{restart_facts, IsRestart};
+    ghost use Rattle.simplex_member.specs.Start.{set_up, started, IsDue};
     ghost use Rattle.simplex_member.specs.Work.{work_facts, IsWork};
     ghost use Rattle.simplex_laws.specs.Exactly.{ExactAt};
-    ghost use Rattle.simplex_laws.specs.Living.{HasDone};
-    ghost use Rattle.simplex_laws.specs.Shown.{votes_in, taken_by, floor_in, begun_by, IsSetUpAs};
-    ghost use Rattle.simplex_laws.specs.Stories.{Deed, Story};
+    ghost use Rattle.simplex_laws.specs.Living.{DoesMore, MayBeDoneBy, OfAllDone, HasBegun, HasBegunAgain};
+    ghost use Rattle.simplex_laws.specs.Shown.{votes_in, taken_by};
 
-    /// A member at a floor. It has accepted the floor's finalization.
+    /// A member at a floor, as `Member::start` makes it or refuses. It has accepted the floor's finalization.
+    ///
+    /// `OtherEpoch`, `ZeroView` or `ViewTooLarge` where that is of another epoch or of view 0, or names a view above 2^63 - 1;
+    /// `TimeOverflow` where a deadline passes 2^64 - 1 milliseconds; `OutOfMemory`.
     pub fn start(
         alloc: Global,
         start: Start<S, L, D>,
     ) -> Result<LawfulMember<S, L, D>, RecoverError>
         requires { L.members start.settings.elector ≡ length (S.participants start.settings.scheme) }
-        ensures { IfOk result (λ member. (term_length i : ℕ) → IsSetUpAs S.me L.terms term_length i start → HasDone D.eq L.elect S.signature_of term_length i (floor_in start.floor) member) }
+        ensures started { IfOk result (λ member. member ≡ started D.eq L.elect
+            (set_up S.me S.participants L.terms L.elects_early start.settings)
+            (floor_facts S.certificate_bytes start.floor) start.now) }
+        ensures refused { IfErr result (IsDue (recover_error {G = S.Signature} D.eq
+            (set_up S.me S.participants L.terms L.elects_early start.settings)
+            (floor_facts S.certificate_bytes start.floor) start.now [])) }
+        ensures begins { IfOk result (HasBegun D.eq L.elect S.signature_of S.me L.terms start) }
     {
         Ok(LawfulMember {
             member: Member::start(alloc, start)?,
@@ -79,7 +102,7 @@ impl<S: Scheme<D>, L: Elector<S>, D: Digest> LawfulMember<S, L, D> {
     pub fn call(&mut self, call: Call<S, D>) -> Reply<S, D>
         ensures answered { IsCall D.eq L.elect S.signature_of self.old (call_facts S.certificate_bytes call) (told S.certificate_bytes result) self.new }
         ensures exact { ExactAt D.eq L.elect S.signature_of self.old.life (Calls (call_facts S.certificate_bytes call)) (told S.certificate_bytes result) }
-        ensures goes_on { (term_length i : ℕ) (all : List (Deed D S.Signature)) → HasDone D.eq L.elect S.signature_of term_length i all self.old → HasDone D.eq L.elect S.signature_of term_length i (all ++ (taken_by call result ++ votes_in result)) self.new }
+        ensures goes_on { DoesMore D.eq L.elect S.signature_of self.old (taken_by call result ++ votes_in result) self.new }
     {
         self.member.call(call)
     }
@@ -88,7 +111,7 @@ impl<S: Scheme<D>, L: Elector<S>, D: Digest> LawfulMember<S, L, D> {
     pub fn work(&mut self, work: Work<D>) -> Reply<S, D>
         ensures answered { IsWork D.eq L.elect S.signature_of self.old (work_facts work) (told S.certificate_bytes result) self.new }
         ensures exact { ExactAt D.eq L.elect S.signature_of self.old.life (Works (work_facts work)) (told S.certificate_bytes result) }
-        ensures goes_on { (term_length i : ℕ) (all : List (Deed D S.Signature)) → HasDone D.eq L.elect S.signature_of term_length i all self.old → HasDone D.eq L.elect S.signature_of term_length i (all ++ votes_in result) self.new }
+        ensures goes_on { DoesMore D.eq L.elect S.signature_of self.old (votes_in result) self.new }
     {
         self.member.work(work)
     }
@@ -97,8 +120,9 @@ impl<S: Scheme<D>, L: Elector<S>, D: Digest> LawfulMember<S, L, D> {
     /// stays, also what is dropped from its record or pruned.
     pub fn restart(&mut self, restart: Restart<S, L, D>) -> Result<(), RecoverError>
         requires { L.members restart.start.settings.elector ≡ length (S.participants restart.start.settings.scheme) }
-        ensures restarted { IsRestart D.eq L.elect self.old (restart_facts S.me S.participants L.terms L.elects_early S.certificate_bytes restart) result self.new }
-        ensures goes_on { (term_length i : ℕ) (all : List (Deed D S.Signature)) → IsSetUpAs S.me L.terms term_length i restart.start → HasDone D.eq L.elect S.signature_of term_length i all self.old → HasDone D.eq L.elect S.signature_of term_length i (all ++ begun_by restart.start result) self.new }
+        ensures restarted { IsRestart D.eq L.elect self.old
+            (restart_facts S.me S.participants L.terms L.elects_early S.certificate_bytes restart) result self.new }
+        ensures goes_on { HasBegunAgain D.eq L.elect S.signature_of S.me L.terms self.old restart.start result self.new }
     {
         self.member.restart(restart)
     }
@@ -106,7 +130,7 @@ impl<S: Scheme<D>, L: Elector<S>, D: Digest> LawfulMember<S, L, D> {
     /// All that the member has done so far keeps the voting rules, and a network may have it as member `i`. It does nothing:
     /// its contract is the law.
     pub fn keeps_the_laws(&self)
-        ensures lawful { (term_length i : ℕ) (all : List (Deed D S.Signature)) → HasDone D.eq L.elect S.signature_of term_length i all self.now → IsLawful term_length (map act_of all) }
-        ensures ran { (term_length i : ℕ) (all : List (Deed D S.Signature)) → HasDone D.eq L.elect S.signature_of term_length i all self.now → (s : Story S.PublicKey L D S.Signature) × Ran D.eq L.elect S.signature_of term_length i s × (deeds s ≡ all) }
+        ensures lawful { OfAllDone D.eq L.elect S.signature_of self.now (λ term_length i all. IsLawful term_length all) }
+        ensures ran { OfAllDone D.eq L.elect S.signature_of self.now (MayBeDoneBy S.PublicKey D.eq L.elect S.signature_of) }
     {}
 }

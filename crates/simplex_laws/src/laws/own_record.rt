@@ -1,16 +1,6 @@
 //! What a restart may refuse of a member's own record.
 
-ghost use Rattle.std.specs.Prelude.{◌≡◌, ℕ, List, Some, Err};
-ghost use Rattle.simplex_types.specs.Certificates.{ArtifactFacts};
-ghost use Rattle.simplex_member.specs.declared.member.error.RecoverError.{RecoverError};
-ghost use Rattle.simplex_member.specs.Calls.{Told};
-ghost use Rattle.simplex_member.specs.Lives.{MemberFacts};
-ghost use Rattle.simplex_laws.specs.Outside.{IsFromOutside, IsExcused};
-ghost use Rattle.simplex_member.specs.Recovery.{recover_error};
-ghost use Rattle.simplex_member.specs.Restarts.{RestartFacts, IsByView, cut, IsRestart};
-ghost use Rattle.simplex_laws.specs.RunActs.{IsFresh, BeginFresh};
-ghost use Rattle.simplex_member.specs.Runs.{StepFacts, IsRun, EndsRunFrom};
-ghost use Rattle.simplex_member.specs.Start.{StartFacts, started};
+ghost use Rattle.simplex_laws.specs.Outside.{OfEachEnd, RecordIsTaken, RestartIsExcused, RunsAreExcused};
 
 use simplex_types::types::{Digest, Elector, Scheme};
 
@@ -26,7 +16,7 @@ use simplex_types::types::{Digest, Elector, Scheme};
 ///   memory.
 /// - `run`: so is a run, at its start or at one of its restarts.
 pub fn own_record_is_taken<S: Scheme<D>, L: Elector<S>, D: Digest>()
-    ensures record { (term_length : ℕ) (start : StartFacts S.PublicKey L D) (steps : List (StepFacts S.PublicKey L D)) (replies : List (Told S.PublicKey D S.Signature)) (end : MemberFacts S.PublicKey L D S.Signature) (next : RestartFacts S.PublicKey L D) (copy : List (ArtifactFacts D S.Signature)) (found : RecoverError) → IsFresh term_length start.fresh → BeginFresh term_length steps → IsRun D.eq L.elect S.signature_of (started D.eq L.elect start.fresh start.floor start.now) steps replies end → IsByView (cut end next.drop next.prune).entries copy → recover_error D.eq next.start.fresh next.start.floor next.start.now copy ≡ Some found → IsFromOutside found }
-    ensures restart { (term_length : ℕ) (start : StartFacts S.PublicKey L D) (steps : List (StepFacts S.PublicKey L D)) (replies : List (Told S.PublicKey D S.Signature)) (end left : MemberFacts S.PublicKey L D S.Signature) (next : RestartFacts S.PublicKey L D) (found : RecoverError) → IsFresh term_length start.fresh → BeginFresh term_length steps → IsRun D.eq L.elect S.signature_of (started D.eq L.elect start.fresh start.floor start.now) steps replies end → IsRestart D.eq L.elect end next (Err found) left → IsExcused found }
-    ensures run { (term_length : ℕ) (start : StartFacts S.PublicKey L D) (steps : List (StepFacts S.PublicKey L D)) (found : RecoverError) → IsFresh term_length start.fresh → BeginFresh term_length steps → EndsRunFrom {K = S.PublicKey} {G = S.Signature} D.eq L.elect S.signature_of start steps found → IsExcused found }
+    ensures record { OfEachEnd S.PublicKey D.eq L.elect S.signature_of (RecordIsTaken S.PublicKey D.eq L.elect S.signature_of) }
+    ensures restart { OfEachEnd S.PublicKey D.eq L.elect S.signature_of (RestartIsExcused S.PublicKey D.eq L.elect S.signature_of) }
+    ensures run { RunsAreExcused S.PublicKey D.eq L.elect S.signature_of }
 {}

@@ -1,11 +1,10 @@
 -- from what `run` ensures
-use Rattle.std.proofs.Common.{subst, List, map}
-use Rattle.simplex_laws.specs.Acts.{IsLawful}
+use Rattle.std.proofs.Common.{subst}
 use Rattle.simplex_laws.specs.Living.{story_of}
-use Rattle.simplex_laws.specs.Stories.{Deed, act_of}
+use Rattle.simplex_laws.specs.Lawful.{IsLawful}
 use Rattle.simplex_laws.proofs.Exactly.{run_exact}
 use Rattle.simplex_laws.proofs.Living.{if_ok_on}
-use Rattle.simplex_laws.proofs.Placing.{story_lawful}
+use Rattle.simplex_laws.proofs.RunsLawful.{story_lawful}
 use Rattle.simplex_laws.proofs.Shown.{story_shown, lives_as}
 use Rattle.simplex_laws.proofs.laws.living.run_lawfully.Goals as goal
 
@@ -19,4 +18,7 @@ pub returns-clause-shows : goal.returns-clause-shows
 returns-clause-shows g c = if_ok_on c.run.result (λ replies run. story_shown g.S.CertificateScheme.me g.S.CertificateScheme.participants g.L.Elector.terms g.L.Elector.elects_early g.S.CertificateScheme.certificate_bytes c.args.start c.args.steps.items replies.items) c.run.ensures.whole
 
 pub returns-clause-lawful : goal.returns-clause-lawful
-returns-clause-lawful g c = if_ok_on c.run.result (λ replies run term_length i holds. subst (λ (ds : List (Deed _ _)). IsLawful term_length (map act_of ds)) (story_shown g.S.CertificateScheme.me g.S.CertificateScheme.participants g.L.Elector.terms g.L.Elector.elects_early g.S.CertificateScheme.certificate_bytes c.args.start c.args.steps.items replies.items) (story_lawful g.D.PartialEq.eq g.met.D.Digest.equal_is_same g.L.Elector.elect g.S.Scheme.signature_of term_length i (story_of g.S.CertificateScheme.me g.S.CertificateScheme.participants g.L.Elector.terms g.L.Elector.elects_early g.S.CertificateScheme.certificate_bytes c.args.start c.args.steps.items replies.items) (record { lives = lives_as g.S.CertificateScheme.me g.S.CertificateScheme.participants g.L.Elector.terms g.L.Elector.elects_early g.S.CertificateScheme.certificate_bytes term_length i c.args.start c.args.steps.items holds; run = run }))) c.run.ensures.whole
+returns-clause-lawful g c = if_ok_on c.run.result (λ replies run term_length i holds. subst (IsLawful term_length) (story_shown g.S.CertificateScheme.me g.S.CertificateScheme.participants g.L.Elector.terms g.L.Elector.elects_early g.S.CertificateScheme.certificate_bytes c.args.start c.args.steps.items replies.items) (story_lawful g.D.PartialEq.eq g.met.D.Digest.equal_is_same g.L.Elector.elect g.S.Scheme.signature_of term_length i (story_of g.S.CertificateScheme.me g.S.CertificateScheme.participants g.L.Elector.terms g.L.Elector.elects_early g.S.CertificateScheme.certificate_bytes c.args.start c.args.steps.items replies.items) (record { lives = lives_as g.S.CertificateScheme.me g.S.CertificateScheme.participants g.L.Elector.terms g.L.Elector.elects_early g.S.CertificateScheme.certificate_bytes term_length i c.args.start c.args.steps.items holds; run = run }))) c.run.ensures.whole
+
+pub returns-clause-ended : goal.returns-clause-ended
+returns-clause-ended g c = c.run.ensures.ended
