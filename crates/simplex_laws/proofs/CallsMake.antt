@@ -116,7 +116,7 @@ module _ {K D : Type 0} (G : Type 0) where
 -- what each event keeps, whether it is taken or not, holds of each new life
 
 module _ {K L D G : Type 0} (same : D → D → Bool) (elect : Elect L) (P : Facts K L D → Type 0) (keeps : (x : Facts K L D) (e : Event K D G) → P x → P (after_event same elect x e)) (now : ℕ) where
-  retaken_keeps : (x : Facts K L D) (e : ArtifactFacts D G) → P x → P (retaken same elect x now e)
+  pub retaken_keeps : (x : Facts K L D) (e : ArtifactFacts D G) → P x → P (retaken same elect x now e)
   retaken_keeps x (NotarizeVote p m signature) holds = keeps x (Replay (NotarizeVote p m signature)) holds
   retaken_keeps x (NullifyVote round m signature) holds = keeps x (Replay (NullifyVote round m signature)) holds
   retaken_keeps x (FinalizeVote p m signature) holds = keeps x (Replay (FinalizeVote p m signature)) holds
@@ -125,7 +125,7 @@ module _ {K L D G : Type 0} (same : D → D → Bool) (elect : Elect L) (P : Fac
   retaken_keeps x (Accepted (Nullified c)) holds = keeps _ (Replay (Accepted (Nullified c))) (keeps x (AddNullification c now) holds)
   retaken_keeps x (Accepted (Finalized c)) holds = keeps _ (Replay (Accepted (Finalized c))) (keeps x (AddFinalization c now) holds)
 
-  all_keep : (x : Facts K L D) (entries : List (ArtifactFacts D G)) → P x → P (all_taken same elect x now entries)
+  pub all_keep : (x : Facts K L D) (entries : List (ArtifactFacts D G)) → P x → P (all_taken same elect x now entries)
   unfolding taken
   all_keep x [] holds = holds
   all_keep x (e ∷ rest) holds = all_keep (taken same elect x now e) rest (elim (nat_lt (entry_view e) (min_active x)) as (λ b. P (if b then x else retaken same elect x now e)) [ true ↦ holds | false ↦ retaken_keeps x e holds ])

@@ -3,7 +3,6 @@ pub mod Signed
 pub mod VoteOrder
 pub mod Lawful
 pub mod Rounds
-pub mod LeavesVotes
 pub mod Standing
 pub mod StandingRounds
 pub mod NotedVotes
@@ -24,7 +23,6 @@ pub mod CutsRemembered
 pub mod Ordered
 pub mod InOrder
 pub mod Lifetimes
-pub mod Works
 pub mod Calm
 pub mod CalmOn
 pub mod CalmCalls

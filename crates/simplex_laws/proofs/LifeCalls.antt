@@ -11,16 +11,20 @@ use Rattle.simplex_round.specs.Round.{is_nullify}
 use Rattle.simplex_voter.specs.Facts.{Facts, Elect, round_of, round_number}
 use Rattle.simplex_voter.specs.Rules.{may_nullify, may_finalize}
 use Rattle.simplex_voter.specs.Votes.{nullify_answer, after_construct_nullify, finalize_answer, after_construct_finalize}
-use Rattle.simplex_voter.specs.Serving.{after_broadcast_notarization, after_broadcast_nullification, after_broadcast_finalization}
 use Rattle.simplex_voter.proofs.Gaps.{and_parts}
 use Rattle.simplex_voter.proofs.Rules.{nullify_parts, finalize_parts}
 use Rattle.simplex_member.specs.Calls.{CallFacts, AddNotarization, AddNullification, AddFinalization, Certified, ConstructNullify, ConstructFinalize, BroadcastNotarization, BroadcastNullification, BroadcastFinalization, GetBestCertificate, Prune, Nullify, Finalize, nullify_vote, finalize_vote, answer, after_call}
 use Rattle.simplex_laws.specs.Deeds.{Deed, Accepts, Signs, deeds_of_call}
 use Rattle.simplex_laws.specs.Lawful.{IsLawful}
-use Rattle.simplex_laws.proofs.LeavesVotes.{broadcast_notarization_leaves, broadcast_nullification_leaves, broadcast_finalization_leaves}
-use Rattle.simplex_laws.proofs.Standing.{Stays, stays_left}
+use Rattle.simplex_laws.proofs.Standing.{Stays}
 use Rattle.simplex_laws.proofs.Lawful.{lawful_push}
-use Rattle.simplex_laws.proofs.StandingCalls.{certified_stays, prune_stays, notarization_stays, nullification_stays, finalization_stays}
+use Rattle.simplex_laws.proofs.StandingCalls.{certified_stays, notarization_stays, nullification_stays, finalization_stays}
+use Rattle.simplex_laws.proofs.StandingSteps.{plain_suits, stays_on}
+use Rattle.simplex_laws.proofs.InOrder.{InOrder}
+use Rattle.simplex_laws.proofs.Steps.{notarization_by, verdict_by, nullify_by, finalize_by}
+use Rattle.simplex_laws.specs.Events as event
+use Rattle.simplex_laws.specs.Events.{Event, after_event}
+use Rattle.simplex_laws.specs.Sums.{finalized_by}
 use Rattle.simplex_laws.proofs.StandingVotes.{nullify_allowed, nullify_decided, nullify_voted, finalize_allowed, finalize_decided, finalize_voted}
 
 -- what each call of a life keeps: its deeds are lawful, and its facts show them
@@ -120,23 +124,28 @@ module _ {K L D G : Type 0} (elect : Elect L) (signature_of : ℕ → Subject D 
           subst (λ o. KeepsRules term_length (deeds ++ deeds_of_call {K = K} (ConstructFinalize v) (Finalize o)) (after_construct_finalize elect x v)) (sym silent)
           (rw may (nothing_shown x keeps.lawful keeps.stays))
 
-module _ {K L D G : Type 0} (same : D → D → Bool) (decides : (d e : D) → same d e ≡ true → d ≡ e) (elect : Elect L) (signature_of : ℕ → Subject D → G) (term_length : ℕ) (deeds : List (Deed D G)) (x : Facts K L D) (keeps : KeepsRules term_length deeds x) where
+module _ {K L D G : Type 0} (same : D → D → Bool) (decides : (d e : D) → same d e ≡ true → d ≡ e) (elect : Elect L) (signature_of : ℕ → Subject D → G) (term_length : ℕ) (deeds : List (Deed D G)) (x : Facts K L D) (ordered : InOrder x) (keeps : KeepsRules term_length deeds x) where
   accepts : (certificate : Subject D) → IsLawful term_length (deeds ++ Accepts certificate ∷ [])
   accepts certificate = lawful_push term_length deeds (Accepts certificate) keeps.lawful tt
 
   shows_nothing : (y : Facts K L D) → Stays term_length deeds y → KeepsRules term_length (deeds ++ []) y
   shows_nothing y stays = nothing_shown elect signature_of term_length deeds y keeps.lawful stays
 
+  -- an event with no certificate, no verdict and no vote
+  quiet : (e : Event K D G) → notarization_by e ≡ None → finalized_by e ≡ 0 → verdict_by e ≡ None → nullify_by e ≡ None → finalize_by e ≡ None → KeepsRules term_length (deeds ++ []) (after_event same elect x e)
+  quiet e notarization final verdict nullify finalize =
+      shows_nothing (after_event same elect x e) (stays_on same decides elect term_length deeds x e (plain_suits deeds _ x e notarization final nullify finalize (λ v says. absurd (cc))) ordered keeps.stays)
+
   -- a call that is allowed and not refused
   pub call_keeps : (call : CallFacts D) → KeepsRules term_length (deeds ++ deeds_of_call call (answer same elect signature_of x call)) (after_call same elect signature_of x call)
-  call_keeps (AddNotarization c) = record { lawful = accepts (subject.Notarize c.proposal); stays = notarization_stays same decides elect term_length deeds x c keeps.stays }
-  call_keeps (AddNullification c now) = record { lawful = accepts (subject.Nullify c.round); stays = nullification_stays same decides elect term_length deeds x c now keeps.stays }
-  call_keeps (AddFinalization c now) = record { lawful = accepts (subject.Finalize c.proposal); stays = finalization_stays same decides elect term_length deeds x c now keeps.stays }
-  call_keeps (Certified v success now) = shows_nothing _ (certified_stays term_length deeds elect x v success now keeps.stays)
+  call_keeps (AddNotarization c) = record { lawful = accepts (subject.Notarize c.proposal); stays = notarization_stays same decides elect term_length deeds x ordered keeps.stays c }
+  call_keeps (AddNullification c now) = record { lawful = accepts (subject.Nullify c.round); stays = nullification_stays same decides elect term_length deeds x ordered keeps.stays c now }
+  call_keeps (AddFinalization c now) = record { lawful = accepts (subject.Finalize c.proposal); stays = finalization_stays same decides elect term_length deeds x ordered keeps.stays c now }
+  call_keeps (Certified v success now) = shows_nothing _ (certified_stays same decides elect term_length deeds x ordered keeps.stays v success now)
   call_keeps (ConstructNullify v) = nullify_keeps elect signature_of term_length deeds x v keeps
   call_keeps (ConstructFinalize v) = finalize_keeps elect signature_of term_length deeds x v keeps
-  call_keeps (BroadcastNotarization v) = shows_nothing _ (stays_left term_length deeds x (after_broadcast_notarization x v) (broadcast_notarization_leaves x v) keeps.stays)
-  call_keeps (BroadcastNullification v) = shows_nothing _ (stays_left term_length deeds x (after_broadcast_nullification x v) (broadcast_nullification_leaves x v) keeps.stays)
-  call_keeps (BroadcastFinalization v) = shows_nothing _ (stays_left term_length deeds x (after_broadcast_finalization x v) (broadcast_finalization_leaves x v) keeps.stays)
+  call_keeps (BroadcastNotarization v) = quiet (event.BroadcastNotarization v) refl refl refl refl refl
+  call_keeps (BroadcastNullification v) = quiet (event.BroadcastNullification v) refl refl refl refl refl
+  call_keeps (BroadcastFinalization v) = quiet (event.BroadcastFinalization v) refl refl refl refl refl
   call_keeps GetBestCertificate = shows_nothing x keeps.stays
-  call_keeps Prune = shows_nothing _ (prune_stays term_length deeds x keeps.stays)
+  call_keeps Prune = quiet event.Prune refl refl refl refl refl

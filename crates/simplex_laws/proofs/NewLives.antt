@@ -140,7 +140,7 @@ module _ {K L D G : Type 0} (same : D → D → Bool) (decides : (d e : D) → s
         };
         follows = record {
           remembers = floor_remembers deeds kept entries between.remembers floor;
-          marked = marked_in copy (with_floor entries floor) x there (recovered_marked same elect signature_of settings me members elector terms early copy floor now epochs);
+          marked = marked_in copy (with_floor entries floor) x there (recovered_marked same elect settings me members elector terms early copy floor now epochs);
         };
         in_order = order_recovered same elect settings me members elector terms early floor now copy;
         notes = notes_floored deeds kept entries floor between.notes;
@@ -153,8 +153,8 @@ module _ {K L D G : Type 0} (same : D → D → Bool) (decides : (d e : D) → s
   -- a call that is allowed and not refused
   pub call_lives : (o : Openings K D) (call : CallFacts D) → 0 < term_length → is_allowed x call ≡ true → Living term_length deeds closed kept entries o x → Living term_length (deeds ++ deeds_of_call call (answer same elect signature_of x call)) closed kept (entries ++ recorded_by same elect signature_of x call) (closed_by o call) (after_call same elect signature_of x call)
   call_lives o call some allowed living = record {
-    keeps = call_keeps same decides elect signature_of term_length deeds x living.keeps call;
-    follows = call_follows same elect signature_of term_length deeds kept entries x living.keeps.stays living.follows call allowed;
+    keeps = call_keeps same decides elect signature_of term_length deeds x living.in_order living.keeps call;
+    follows = call_follows same elect signature_of term_length deeds kept entries x living.keeps.stays living.in_order living.follows call allowed;
     in_order = order_call same elect signature_of x living.in_order call;
     notes = notes_called same elect signature_of x deeds kept entries call living.notes;
     noted =

@@ -131,7 +131,7 @@ module _ {K L D G : Type 0} {same : D → D → Bool} {elect : Elect L} {low : �
   to_named : {y : Facts K L D} (v : ℕ) → Path same elect x e low from y → Path same elect x e low from (named_also y v)
   to_named {y} v path = either (nat_lt y.finalized v) _ y (λ is. Then path (Names v (grind (arith, nat_tests)))) (λ final. path)
 
-  to_woken : {y : Facts K L D} (p : ℕ) → Path same elect x e low from y → Path same elect x e low from (woken elect y p)
+  pub to_woken : {y : Facts K L D} (p : ℕ) → Path same elect x e low from y → Path same elect x e low from (woken elect y p)
   to_woken {y} p path = either (option_map_or (waits_for elect y p) (round_at y (p + 1)) false) (named_also y (p + 1)) y (λ waits. to_named (p + 1) path) (λ none. path)
 
   to_raised : {y : Facts K L D} (v : ℕ) → finalized_by e ≡ v → Path same elect x e low from y → Path same elect x e low from (raised y v)
@@ -175,9 +175,13 @@ module _ {K L D G : Type 0} {same : D → D → Bool} {elect : Elect L} {low : �
       let kept = to_finalized c says over (to_elected (v + 1) (Some c.bytes) (omega arith) path) in
       either (is_some (round_of x v).finalization) _ _ (λ old. kept) (λ new. to_slid v over (to_woken v kept))
 
+  -- and from the finalized view on
+  pub from_raised : (c : ProposalFacts D) (now : ℕ) → finalization_by e ≡ Some c → low ≤ c.proposal.round.view → Path same elect x e low from (raised (at_moment x now) c.proposal.round.view) → Path same elect x e low from (after_add_finalization same elect x c now)
+  from_raised c now says over path = from_entry c now says over (to_entered (c.proposal.round.view + 1) now (λ above. omega arith) path)
+
   to_finalization : (c : ProposalFacts D) (now : ℕ) → finalization_by e ≡ Some c → finalized_by e ≡ c.proposal.round.view → low ≤ c.proposal.round.view → Path same elect x e low from x → Path same elect x e low from (after_add_finalization same elect x c now)
   to_finalization c now says raises over path =
-      from_entry c now says over (to_entered (c.proposal.round.view + 1) now (λ above. omega arith) (to_raised c.proposal.round.view raises (Then path (Moves now))))
+      from_raised c now says over (to_raised c.proposal.round.view raises (Then path (Moves now)))
 
 -- what an event asks of its views, so that none below `low` comes to be tracked
 

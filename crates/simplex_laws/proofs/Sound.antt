@@ -40,7 +40,7 @@ pub record IsSound {K L D : Type 0} (term_length : ℕ) (x : Facts K L D) : Type
   pub placed : IsPlaced x
   pub in_order : InOrder x
 
-entered_reaches : {K L D : Type 0} (x : Facts K L D) (v now : ℕ) → v ≤ (entered x v now).current
+pub entered_reaches : {K L D : Type 0} (x : Facts K L D) (v now : ℕ) → v ≤ (entered x v now).current
 entered_reaches x v now = enters (nat_lt x.current v) refl
   where
     enters : (b : Bool) → nat_lt x.current v ≡ b → v ≤ (entered x v now).current
@@ -62,7 +62,7 @@ module _ {K L D G : Type 0} (same : D → D → Bool) (elect : Elect L) (x : Fac
       inr (omega (arith, (goes_along {G = G} same elect x (event.SetFloor (Genesis payload) now) 0 _ _ (from_first_entry payload now (omega arith) Still)).current, entered_reaches (record (at_moment x now) { genesis = Some payload }) 1 now))
   event_passes _ = inl (refl, refl)
 
-  event_ahead : (e : Event K D G) → IsAhead x ⊎ ((x.finalized ≡ 0) × (is_floor e ≡ true)) → IsAhead (after_event same elect x e)
+  pub event_ahead : (e : Event K D G) → IsAhead x ⊎ ((x.finalized ≡ 0) × (is_floor e ≡ true)) → IsAhead (after_event same elect x e)
   event_ahead e (inl ahead) =
       let goes = event_goes same elect x e in
       let finalizes = event_finalizes same elect x e in

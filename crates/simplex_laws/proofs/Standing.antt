@@ -1,5 +1,5 @@
--- What a state's facts show of the deeds that led to it, and that it stays so while the deeds grow and the votes are left.
-use Rattle.std.proofs.Common.{◌≡◌, refl, ap, sym, ◌∙◌, subst, ℕ, ◌≤◌, ◌<◌, ◌⊎◌, inl, inr, true, List, [], ◌∷◌, ◌++◌, Contains, Some, arith}
+-- What a state's facts show of the deeds that led to it, and that it stays so while the deeds grow.
+use Rattle.std.proofs.Common.{◌≡◌, refl, sym, subst, ℕ, ◌≤◌, ◌<◌, ◌⊎◌, inl, inr, true, List, [], ◌∷◌, ◌++◌, Contains, Some, arith}
 use Rattle.std.proofs.lemmas.Bool.{cases_eq}
 use Rattle.std.proofs.lemmas.List.Elements.{Contains-append_left, Contains-append_right}
 use Rattle.simplex_types.specs.Certificates.{ProposalFacts}
@@ -13,7 +13,6 @@ use Rattle.simplex_voter.proofs.Elsewhere.{round_of-with_round}
 use Rattle.simplex_laws.specs.Deeds.{Deed, Accepts}
 use Rattle.simplex_laws.specs.Lawful.{HasSigned}
 use Rattle.simplex_laws.proofs.Signed.{signed_push}
-use Rattle.simplex_laws.proofs.LeavesVotes.{VotesAlike, LeavesVotes}
 use Rattle.simplex_laws.proofs.Rounds.{round_put}
 
 -- a round of view v, where the current view is to be `reached`
@@ -60,15 +59,6 @@ final_still deeds new v (inl genesis) = inl genesis
 final_still deeds new v (inr (p, h, at)) = inr (p, still deeds new (Accepts (subject.Finalize p)) h, at)
 
 module _ {K D G : Type 0} (deeds : List (Deed D G)) where
-  pub round_alike : (reached finalized v : ℕ) (r s : RoundFacts K D) → VotesAlike r s → RoundStands deeds reached finalized v r → RoundStands deeds reached finalized v s
-  round_alike reached finalized v r s same stands = record {
-    notarized = λ c is. stands.notarized c (sym same.notarization ∙ is);
-    held = λ c is. subst (λ t. (t.conflict ≡ true) ⊎ (t.held ≡ Some c.proposal)) (sym same.slot) (stands.held c (sym same.notarization ∙ is));
-    entered = λ is. stands.entered (sym same.certified ∙ is);
-    nullify_decided = λ round h at. elim (stands.nullify_decided round h at) [ inl is ↦ inl (same.nullify ∙ is) | inr below ↦ inr below ];
-    finalize_decided = λ p h at. elim (stands.finalize_decided p h at) [ inl is ↦ inl (same.finalize ∙ is) | inr below ↦ inr below ];
-  }
-
   pub round_later : (reached further finalized higher v : ℕ) (r : RoundFacts K D) → reached ≤ further → finalized ≤ higher → RoundStands deeds reached finalized v r → RoundStands deeds further higher v r
   round_later reached further finalized higher v r later raised stands = record {
     notarized = stands.notarized;
@@ -88,14 +78,6 @@ module _ {K D G : Type 0} (deeds : List (Deed D G)) where
   }
 
 module _ {K L D G : Type 0} (term_length : ℕ) (deeds : List (Deed D G)) where
-  pub stands_left : (reached : ℕ) (x y : Facts K L D) → LeavesVotes x y → Stands term_length deeds reached x → Stands term_length deeds reached y
-  stands_left reached x y left stands = record {
-    terms = ap (λ terms. terms.term_length) left.terms ∙ stands.terms;
-    rounds = λ v. subst (λ finalized. RoundStands deeds reached finalized v (round_of y v)) (sym left.finalized) (round_alike deeds reached x.finalized v (round_of x v) (round_of y v) (left.rounds v) (stands.rounds v));
-    passed = stands.passed;
-    noted = λ round h. rw (left.nullify_votes, left.finalized) (stands.noted round h);
-  }
-
   pub stands_later : (reached further : ℕ) (x : Facts K L D) → reached ≤ further → Stands term_length deeds reached x → Stands term_length deeds further x
   stands_later reached further x later stands = record {
     terms = stands.terms;
@@ -120,16 +102,6 @@ module _ {K L D G : Type 0} (term_length : ℕ) (deeds : List (Deed D G)) where
     passed = λ p h. stands.passed p (not_vote deeds certificate (subject.Finalize p) h);
     noted = λ round h. stands.noted round (not_vote deeds certificate (subject.Nullify round) h);
   }
-
-  pub stays_left : (x y : Facts K L D) → LeavesVotes x y → Stays term_length deeds x → Stays term_length deeds y
-  stays_left x y left keeps = record {
-    stands = stands_left y.current x y left (stands_later x.current y.current x left.current keeps.stands);
-    ahead = omega (arith, left.finalized, left.current, keeps.ahead);
-    final = subst (λ v. HasFinal deeds v) (sym left.finalized) keeps.final;
-  }
-
-  pub stays_put : (x : Facts K L D) (v : ℕ) (r : RoundFacts K D) → RoundStands deeds x.current x.finalized v r → Stays term_length deeds x → Stays term_length deeds (with_round x v r)
-  stays_put x v r here keeps = record { stands = stands_put x.current x v r here keeps.stands; ahead = keeps.ahead; final = keeps.final }
 
   pub stays_accepted : (certificate : Subject D) (x : Facts K L D) → Stays term_length deeds x → Stays term_length (deeds ++ Accepts certificate ∷ []) x
   stays_accepted certificate x keeps = record {

@@ -1,10 +1,12 @@
 -- What stands of the votes stands after each event: by the changes of one round.
-use Rattle.std.proofs.Common.{◌≡◌, refl, sym, ◌∙◌, subst, ℕ, ◌<◌, ◌≤◌, ◌⊎◌, inl, inr, Bool, true, false, nat_le, List, Contains, Some, unwrap_or, arith}
+use Rattle.std.proofs.Common.{◌≡◌, ◌≢◌, refl, sym, ◌∙◌, subst, ℕ, ◌<◌, ◌≤◌, ◌⊎◌, inl, inr, Bool, true, false, nat_le, List, Contains, Some, None, unwrap_or, arith}
 use Rattle.std.specs.Prelude.{T}
 use Rattle.std.proofs.lemmas.Bool.{cases_Bool, false≢true, leb-false}
 use Rattle.simplex_types.specs.Proposal.{same_proposal}
 use Rattle.simplex_types.specs.Certificates.{ProposalFacts}
+use Rattle.simplex_types.specs.declared.types.messages.Proposal.{Proposal}
 use Rattle.simplex_types.specs.declared.types.messages.Subject.TheVariants as subject
+use Rattle.simplex_types.specs.declared.types.numbers.Round.{Round}
 use Rattle.simplex_round.specs.Slot.{after_certificate}
 use Rattle.simplex_round.specs.Round.{RoundFacts, new_round, is_nullify, is_finalize}
 use Rattle.simplex_voter.specs.Facts.{Facts, Elect, round_of, round_number}
@@ -14,17 +16,42 @@ use Rattle.simplex_laws.specs.Events as event
 use Rattle.simplex_laws.specs.Events.{Event, IsEvent, after_event}
 use Rattle.simplex_laws.specs.Sums.{is_prune, finalized_by}
 use Rattle.simplex_laws.specs.Deeds.{Deed, Accepts}
+use Rattle.simplex_laws.specs.Lawful.{HasSigned}
 use Rattle.simplex_laws.proofs.EachRound.{step_round, pruned_round}
 use Rattle.simplex_laws.proofs.InOrder.{InOrder}
 use Rattle.simplex_laws.proofs.Rounds.{armed_nullify, armed_finalize, latched_nullify, latched_finalize, aborted_certified, awaited_nullify}
 use Rattle.simplex_laws.proofs.NotedVotes.{noted_old, noted_kept}
 use Rattle.simplex_laws.proofs.Paths.{event_path, asked_of_all}
-use Rattle.simplex_laws.proofs.Retaken.{holds_own}
-use Rattle.simplex_laws.proofs.Standing.{RoundStands, Stands, round_later, stands_put}
-use Rattle.simplex_laws.proofs.StandingRounds.{Holds, holds_new, holds_old, fresh_stands}
+use Rattle.simplex_laws.proofs.Standing.{RoundStands, Stands, HasFinal, Stays, round_later, stands_later, stands_put}
+use Rattle.simplex_laws.proofs.StandingRounds.{Holds, holds_new, holds_old, holds_own, holds_voted, fresh_stands}
+use Rattle.simplex_laws.proofs.CallsMake.{is_floor}
+use Rattle.simplex_laws.proofs.Rising.{event_goes}
+use Rattle.simplex_laws.proofs.Sound.{IsAhead, event_ahead}
 use Rattle.simplex_laws.proofs.Steps as step
-use Rattle.simplex_laws.proofs.Steps.{RoundStep, Step, Puts, Notes, Raises, Strays, Prunes, along, notarization_by, verdict_by}
-use Rattle.simplex_laws.proofs.Works.{holds_voted}
+use Rattle.simplex_laws.proofs.Steps.{RoundStep, Step, Puts, Notes, Raises, Strays, Prunes, along, IsSilent, notarization_by, verdict_by, nullify_by, finalize_by}
+
+-- what has to be known of an event: what it brings was accepted, a view that it judges to be true is passed, and a vote that
+-- it decides is allowed, or stands against no vote of the other kind
+pub record Suits {K L D G : Type 0} (deeds : List (Deed D G)) (reached : ℕ) (x : Facts K L D) (e : Event K D G) : Type 0 where
+  pub notarized : (c : ProposalFacts D) → notarization_by e ≡ Some c → Contains deeds (Accepts (subject.Notarize c.proposal))
+  pub finalized : HasFinal deeds (finalized_by e)
+  pub enters : (v : ℕ) → verdict_by e ≡ Some (v, true) → v < reached
+  pub nullifies : (v : ℕ) → nullify_by e ≡ Some v → IsEvent x e ⊎ ((p : Proposal D) → HasSigned deeds (subject.Finalize p) → v ≢ p.round.view)
+  pub finalizes : (v : ℕ) → finalize_by e ≡ Some v → IsEvent x e ⊎ ((round : Round) → HasSigned deeds (subject.Nullify round) → round.view ≢ v)
+
+module _ {K L D G : Type 0} (deeds : List (Deed D G)) (reached : ℕ) (x : Facts K L D) (e : Event K D G) where
+  -- an event that brings no notarization and no finalization and decides no vote
+  pub plain_suits : notarization_by e ≡ None → finalized_by e ≡ 0 → nullify_by e ≡ None → finalize_by e ≡ None → ((v : ℕ) → verdict_by e ≡ Some (v, true) → v < reached) → Suits deeds reached x e
+  plain_suits notarization final nullify finalize enters = record {
+    notarized = λ c says. absurd (cc);
+    finalized = inl final;
+    enters = enters;
+    nullifies = λ v says. absurd (cc);
+    finalizes = λ v says. absurd (cc);
+  }
+
+  pub silent_suits : IsSilent e → Suits deeds reached x e
+  silent_suits silent = plain_suits silent.notarization silent.final silent.nullify silent.finalize (λ v says. absurd (let none = silent.verdict in cc))
 
 prune_finalizes_none : {K D G : Type 0} (e : Event K D G) → is_prune e ≡ true → finalized_by e ≡ 0
 prune_finalizes_none event.Prune is = refl
@@ -35,22 +62,22 @@ passed_by : (a : Bool) (P : Type 0) → a ≡ false → (a ≡ true) ⊎ P → (
 passed_by a P isnt (inl is) b = absurd (false≢true (sym isnt ∙ is))
 passed_by a P isnt (inr p) b = inr p
 
-module _ {K L D G : Type 0} (same : D → D → Bool) (decides : (d e : D) → same d e ≡ true → d ≡ e) (elect : Elect L) (term_length : ℕ) (deeds : List (Deed D G)) (reached : ℕ) (x : Facts K L D) (e : Event K D G) (takes : IsEvent x e) (ordered : InOrder x) (accepted : (c : ProposalFacts D) → notarization_by e ≡ Some c → Contains deeds (Accepts (subject.Notarize c.proposal))) (enters : (v : ℕ) → verdict_by e ≡ Some (v, true) → v < reached) where
+module _ {K L D G : Type 0} (same : D → D → Bool) (decides : (d e : D) → same d e ≡ true → d ≡ e) (elect : Elect L) (term_length : ℕ) (deeds : List (Deed D G)) (reached : ℕ) (x : Facts K L D) (e : Event K D G) (suits : Suits deeds reached x e) (ordered : InOrder x) where
   change_stands : (finalized : ℕ) (y : Facts K L D) (v : ℕ) (r s : RoundFacts K D) → RoundStep same elect x e y v r s → RoundStands deeds reached finalized v r → RoundStands deeds reached finalized v s
   change_stands finalized y v r s (step.Notarized c says at none) p = record {
-    notarized = λ d is. (let alike : c ≡ d = cc in subst (λ (f : ProposalFacts D). (f.proposal.round.view ≡ v) × Contains deeds (Accepts (subject.Notarize f.proposal))) alike (at, accepted c says));
+    notarized = λ d is. (let alike : c ≡ d = cc in subst (λ (f : ProposalFacts D). (f.proposal.round.view ≡ v) × Contains deeds (Accepts (subject.Notarize f.proposal))) alike (at, suits.notarized c says));
     held = λ d is. (let alike : c ≡ d = cc in subst (λ (f : ProposalFacts D). Holds (after_certificate (same_proposal same) r.slot c.proposal) f.proposal) alike (holds_new same decides r.slot c.proposal));
     entered = p.entered;
     nullify_decided = p.nullify_decided;
     finalize_decided = p.finalize_decided;
   }
   change_stands finalized y v r s (step.Finalized c says at none) p = record { notarized = p.notarized; held = λ d is. holds_old same decides r.slot c.proposal d.proposal (p.held d is); entered = p.entered; nullify_decided = p.nullify_decided; finalize_decided = p.finalize_decided }
-  change_stands finalized y v r s (step.Judged true says fits) p = record { notarized = p.notarized; held = p.held; entered = λ is. enters v says; nullify_decided = p.nullify_decided; finalize_decided = p.finalize_decided }
+  change_stands finalized y v r s (step.Judged true says fits) p = record { notarized = p.notarized; held = p.held; entered = λ is. suits.enters v says; nullify_decided = p.nullify_decided; finalize_decided = p.finalize_decided }
   change_stands finalized y v r s (step.Judged false says fits) p = record { notarized = p.notarized; held = p.held; entered = λ is. absurd (false≢true is); nullify_decided = p.nullify_decided; finalize_decided = p.finalize_decided }
   change_stands finalized y v r s (step.Certifying token says fits) p = record { notarized = p.notarized; held = p.held; entered = λ is. absurd (false≢true is); nullify_decided = p.nullify_decided; finalize_decided = p.finalize_decided }
   change_stands finalized y v r s (step.Ended under_way) p = record { notarized = p.notarized; held = p.held; entered = λ is. p.entered (sym (aborted_certified r.certification) ∙ is); nullify_decided = p.nullify_decided; finalize_decided = p.finalize_decided }
-  change_stands finalized y v r s (step.NullifyDecided says fits) p = record { notarized = p.notarized; held = p.held; entered = p.entered; nullify_decided = λ round h at. inl refl; finalize_decided = λ q h at. passed_by (is_finalize r.decision) (v ≤ finalized) (fits takes) (p.finalize_decided q h at) false }
-  change_stands finalized y v r s (step.FinalizeDecided says fits) p = record { notarized = p.notarized; held = p.held; entered = p.entered; nullify_decided = λ round h at. passed_by (is_nullify r.decision) (v ≤ finalized) (fits takes) (p.nullify_decided round h at) false; finalize_decided = λ q h at. inl refl }
+  change_stands finalized y v r s (step.NullifyDecided says fits) p = record { notarized = p.notarized; held = p.held; entered = p.entered; nullify_decided = λ round h at. inl refl; finalize_decided = λ q h at. elim (suits.nullifies v says) [ inl takes ↦ passed_by (is_finalize r.decision) (v ≤ finalized) (fits takes) (p.finalize_decided q h at) false | inr apart ↦ absurd (apart q h (sym at)) ] }
+  change_stands finalized y v r s (step.FinalizeDecided says fits) p = record { notarized = p.notarized; held = p.held; entered = p.entered; nullify_decided = λ round h at. elim (suits.finalizes v says) [ inl takes ↦ passed_by (is_nullify r.decision) (v ≤ finalized) (fits takes) (p.nullify_decided round h at) false | inr apart ↦ absurd (apart round h at) ]; finalize_decided = λ q h at. inl refl }
   change_stands finalized y v r s (step.Entered now) p = record { notarized = p.notarized; held = p.held; entered = p.entered; nullify_decided = λ round h at. elim (p.nullify_decided round h at) [ inl is ↦ inl (armed_nullify r.decision _ _ ∙ is) | inr below ↦ inr below ]; finalize_decided = λ q h at. elim (p.finalize_decided q h at) [ inl is ↦ inl (armed_finalize r.decision _ _ ∙ is) | inr below ↦ inr below ] }
   change_stands finalized y v r s (step.Latched now reason) p = record { notarized = p.notarized; held = p.held; entered = p.entered; nullify_decided = λ round h at. elim (p.nullify_decided round h at) [ inl is ↦ inl (latched_nullify r.decision (now, reason) ∙ is) | inr below ↦ inr below ]; finalize_decided = λ q h at. elim (p.finalize_decided q h at) [ inl is ↦ inl (latched_finalize r.decision (now, reason) ∙ is) | inr below ↦ inr below ] }
   change_stands finalized y v r s (step.Retried now interval says awaits) p = record { notarized = p.notarized; held = p.held; entered = p.entered; nullify_decided = λ round h at. inl refl; finalize_decided = λ q h at. passed_by (is_finalize r.decision) (v ≤ finalized) (awaited_nullify r awaits).1 (p.finalize_decided q h at) false }
@@ -97,6 +124,25 @@ module _ {K L D G : Type 0} (same : D → D → Bool) (decides : (d e : D) → s
   }
   step_stands y z _ p = record { terms = p.terms; rounds = p.rounds; passed = p.passed; noted = p.noted }
 
-  -- each event, where the record of deeds has its certificate already
   pub event_stands : Stands term_length deeds reached x → Stands term_length deeds reached (after_event same elect x e)
   event_stands p = along same elect x e 0 (Stands term_length deeds reached) step_stands x (after_event same elect x e) (event_path same elect 0 x e (omega arith) (asked_of_all x e)) p
+
+  step_final : (y z : Facts K L D) → Step same elect x e 0 y z → HasFinal deeds y.finalized → HasFinal deeds z.finalized
+  step_final y z (Raises v says above) p = subst (λ n. HasFinal deeds n) says suits.finalized
+  step_final y z _ p = p
+
+  pub event_final : HasFinal deeds x.finalized → HasFinal deeds (after_event same elect x e).finalized
+  event_final p = along same elect x e 0 (λ y. HasFinal deeds y.finalized) step_final x (after_event same elect x e) (event_path same elect 0 x e (omega arith) (asked_of_all x e)) p
+
+module _ {K L D G : Type 0} (same : D → D → Bool) (decides : (d e : D) → same d e ≡ true → d ≡ e) (elect : Elect L) (term_length : ℕ) (deeds : List (Deed D G)) (x : Facts K L D) (e : Event K D G) (suits : Suits deeds (after_event same elect x e).current x e) (ordered : InOrder x) where
+  -- an event, also the floor of a new state
+  pub event_stays : IsAhead x ⊎ ((x.finalized ≡ 0) × (is_floor e ≡ true)) → Stands term_length deeds (after_event same elect x e).current x → HasFinal deeds x.finalized → Stays term_length deeds (after_event same elect x e)
+  event_stays ahead stands final = record {
+    stands = event_stands same decides elect term_length deeds (after_event same elect x e).current x e suits ordered stands;
+    ahead = event_ahead same elect x e ahead;
+    final = event_final same decides elect term_length deeds (after_event same elect x e).current x e suits ordered final;
+  }
+
+  -- an event of a life
+  pub stays_on : Stays term_length deeds x → Stays term_length deeds (after_event same elect x e)
+  stays_on stays = event_stays (inl stays.ahead) (stands_later term_length deeds x.current (after_event same elect x e).current x (event_goes same elect x e).current stays.stands) stays.final

@@ -19,11 +19,13 @@ use Rattle.simplex_laws.specs.Deeds.{Deed, Signs, signed_in}
 use Rattle.simplex_laws.proofs.Signed.{only_signed}
 use Rattle.simplex_laws.proofs.Lawful.{lawful_push}
 use Rattle.simplex_laws.proofs.LifeCalls.{no_key, no_rule}
-use Rattle.simplex_laws.proofs.Marks.{marked_few, marked_more}
+use Rattle.simplex_laws.proofs.Marks.{Marked, marked_more, quiet_marked}
+use Rattle.simplex_laws.proofs.CallsMake.{AreSilent, work_silent, work_by_event}
+use Rattle.simplex_laws.proofs.Standing.{Stays}
+use Rattle.simplex_laws.proofs.StandingSteps.{silent_suits, stays_on}
 use Rattle.simplex_laws.proofs.Recalls.{only_one}
 use Rattle.simplex_laws.proofs.Remembering.{Grows, remembers_more, single_split}
 use Rattle.simplex_laws.proofs.Retaken.{notarize_cast_stays}
-use Rattle.simplex_laws.proofs.Works.{call_works, stays_worked, few_worked}
 use Rattle.simplex_laws.proofs.InOrder.{order_work}
 use Rattle.simplex_laws.proofs.Notes.{NotesStand}
 use Rattle.simplex_laws.proofs.NotesRemembered.{notes_cast}
@@ -81,14 +83,24 @@ module _ {K L D G : Type 0} (same : D → D → Bool) (decides : (d e : D) → s
   nothing_done : (next : Openings K D) (y : Facts K L D) → Living term_length deeds closed kept entries next y → Living term_length (deeds ++ []) closed kept (entries ++ []) next y
   nothing_done next y lives = subst (λ a. Living term_length a closed kept (entries ++ []) next y) (sym (append-nil deeds)) (subst (λ es. Living term_length deeds closed kept es next y) (sym (append-nil entries)) lives)
 
+  -- what stands of the votes and what the record shows, after a call on the work of a view
+
+  stays_worked : (call : WorkCall D) → work_allowed x o call ≡ true → Stays term_length deeds (after_work same elect x o call)
+  stays_worked call allowed =
+      work_by_event G same elect x o (λ es y. AreSilent G es → Stays term_length deeds y) (λ silent. living.keeps.stays)
+      (λ e rest takes floor silent. stays_on same decides elect term_length deeds x e (silent_suits deeds _ x e silent.0) living.in_order living.keeps.stays) call allowed (work_silent G o call)
+
+  marked_worked : (call : WorkCall D) → work_allowed x o call ≡ true → Marked entries (after_work same elect x o call)
+  marked_worked call allowed =
+      work_by_event G same elect x o (λ es y. AreSilent G es → Marked entries y) (λ silent. living.follows.marked)
+      (λ e rest takes floor silent. quiet_marked same elect x e entries living.in_order silent.0.verdict silent.0.nullify living.follows.marked) call allowed (work_silent G o call)
+
   silent_lives : (call : WorkCall D) → work_allowed x o call ≡ true → is_silent call ≡ true → Living term_length deeds closed kept entries (openings_after same elect x o call) (after_work same elect x o call)
   silent_lives call allowed silent =
-      let y = after_work same elect x o call in
-      let left = call_works same decides elect x o call living.in_order allowed in
       let noted = living.noted in
       record {
-        keeps = record { lawful = living.keeps.lawful; stays = stays_worked term_length deeds x y left living.keeps.stays };
-        follows = record { remembers = living.follows.remembers; marked = marked_few entries x y (few_worked term_length deeds x y left) living.follows.marked };
+        keeps = record { lawful = living.keeps.lawful; stays = stays_worked call allowed };
+        follows = record { remembers = living.follows.remembers; marked = marked_worked call allowed };
         in_order = order_work same elect x o living.in_order call;
         notes = living.notes;
         noted = (noted.0, noted.1, work_notes same decides elect noted.0 noted.1 deeds o x noted.2 call living.in_order allowed silent);
@@ -101,10 +113,9 @@ module _ {K L D G : Type 0} (same : D → D → Bool) (decides : (d e : D) → s
   decided_lives : (v : ℕ) → (base low : ℕ) → NotesStand base low deeds o (after_construct_notarize same elect x v) → Living term_length deeds closed kept entries o (after_construct_notarize same elect x v)
   decided_lives v base low noted =
       let y = after_construct_notarize same elect x v in
-      let left = call_works same decides elect x o (ConstructNotarize v) living.in_order refl in
       record {
-        keeps = record { lawful = living.keeps.lawful; stays = stays_worked term_length deeds x y left living.keeps.stays };
-        follows = record { remembers = living.follows.remembers; marked = marked_few entries x y (few_worked term_length deeds x y left) living.follows.marked };
+        keeps = record { lawful = living.keeps.lawful; stays = stays_worked (ConstructNotarize v) refl };
+        follows = record { remembers = living.follows.remembers; marked = marked_worked (ConstructNotarize v) refl };
         in_order = order_work same elect x o living.in_order (ConstructNotarize v);
         notes = living.notes;
         noted = (base, low, noted);
@@ -116,18 +127,17 @@ module _ {K L D G : Type 0} (same : D → D → Bool) (decides : (d e : D) → s
   cast_lives v m h signature may holds =
       let y = after_construct_notarize same elect x v in
       let vote : ArtifactFacts D G = NotarizeVote h m signature in
-      let left = call_works same decides elect x o (ConstructNotarize v) living.in_order refl in
       let noted = living.noted in
       let positive : 0 < x.terms.term_length = omega (arith, some, living.keeps.stays.stands.terms) in
       let terms = living.keeps.stays.stands.terms in
       record {
         keeps = record {
           lawful = lawful_push term_length deeds (Signs m (subject.Notarize h) signature) living.keeps.lawful (notarize_allowed same decides elect term_length noted.0 noted.1 deeds o x positive terms noted.2 v may h holds);
-          stays = notarize_cast_stays term_length deeds y (stays_worked term_length deeds x y left living.keeps.stays) h m signature;
+          stays = notarize_cast_stays term_length deeds y (stays_worked (ConstructNotarize v) refl) h m signature;
         };
         follows = record {
           remembers = remembers_more deeds entries kept (Signs m (subject.Notarize h) signature ∷ []) (vote ∷ []) (grows_notarize deeds entries h m signature) living.follows.remembers;
-          marked = marked_more entries (vote ∷ []) y (marked_few entries x y (few_worked term_length deeds x y left) living.follows.marked);
+          marked = marked_more entries (vote ∷ []) y (marked_worked (ConstructNotarize v) refl);
         };
         in_order = order_work same elect x o living.in_order (ConstructNotarize v);
         notes = notes_cast deeds kept entries h m signature living.notes;

@@ -43,7 +43,11 @@ use Rattle.simplex_laws.proofs.Openings.{among_others, now_among, context_view, 
 use Rattle.simplex_laws.proofs.InOrder.{InOrder}
 use Rattle.simplex_laws.proofs.Filters.{Contains-filtered, filtered_passes}
 use Rattle.simplex_laws.proofs.Ordered.{first_below, sorted_parts, found_in_order}
-use Rattle.simplex_laws.proofs.Works.{round_in_order}
+
+module _ {K L D : Type 0} where
+  -- an entry of the tracked views is the round of its view
+  round_in_order : (x : Facts K L D) (e : ℕ × RoundFacts K D) → InOrder x → Contains x.rounds e → round_of x e.0 ≡ e.1
+  round_in_order x e ordered h = ap (λ o. unwrap_or o (new_round x.me x.members (round_number x e.0))) (found_in_order x.rounds e ordered h)
 
 -- one round changes, and all else is left as it was
 module _ {K L D G : Type 0} (base low : ℕ) (deeds : List (Deed D G)) (o o' : Openings K D) (x : Facts K L D) (v : ℕ) (r : RoundFacts K D) (notes : NotesStand base low deeds o x) where
