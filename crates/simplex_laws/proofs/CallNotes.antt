@@ -50,7 +50,7 @@ among_more k u (x ∷ xs) h = by_order (nat_cmp k x) (among_more k u xs) h
     ]
 
 -- offers say nothing of votes to notarize
-closed_offer : {K L D G : Type 0} (base low : ℕ) (deeds : List (Deed D G)) (o : Openings K D) (call : CallFacts D) (y : Facts K L D) → NotesStand base low deeds o y → NotesStand base low deeds (closed_by o call) y
+closed_offer : {K L D : Type 0} (base low : ℕ) (deeds : List (Deed D)) (o : Openings K D) (call : CallFacts D) (y : Facts K L D) → NotesStand base low deeds o y → NotesStand base low deeds (closed_by o call) y
 closed_offer base low deeds o call y notes = record {
   above = notes.above;
   active = notes.active;
@@ -64,13 +64,13 @@ closed_offer base low deeds o call y notes = record {
   covered = notes.covered;
 }
 
-module _ {K L D G : Type 0} (same : D → D → Bool) (elect : Elect L) (signature_of : ℕ → Subject D → G) (base low : ℕ) (deeds : List (Deed D G)) (o : Openings K D) (x : Facts K L D) (notes : NotesStand base low deeds o x) where
+module _ {K L D : Type 0} (same : D → D → Bool) (elect : Elect L) (base low : ℕ) (deeds : List (Deed D)) (o : Openings K D) (x : Facts K L D) (notes : NotesStand base low deeds o x) where
   -- the deeds of the call, and a change that leaves the work on each view
-  acted : (call : CallFacts D) → CalmOn base x (after_call same elect signature_of x call) → NotesStand base low (deeds ++ deeds_of_call {K = K} {G = G} call (answer same elect signature_of x call)) o (after_call same elect signature_of x call)
+  acted : (call : CallFacts D) → CalmOn base x (after_call same elect x call) → NotesStand base low (deeds ++ deeds_of_call {K = K} call (answer same elect x call)) o (after_call same elect x call)
   acted call left =
-      let y = after_call same elect signature_of x call in
-      let more = deeds_of_call {K = K} {G = G} call (answer same elect signature_of x call) in
-      notes_calm base low (deeds ++ more) o o x y left (λ v is. is) (λ v is. is) (notes_acted base low deeds more o x (calls_cast_none same elect signature_of x call) notes)
+      let y = after_call same elect x call in
+      let more = deeds_of_call {K = K} call (answer same elect x call) in
+      notes_calm base low (deeds ++ more) o o x y left (λ v is. is) (λ v is. is) (notes_acted base low deeds more o x (calls_cast_none same elect x call) notes)
 
   active_view : (round : Round) → takes_round x round ≡ true → (1 ≤ round.view) × (base ≤ round.view)
   active_view round takes =
@@ -78,13 +78,13 @@ module _ {K L D G : Type 0} (same : D → D → Bool) (elect : Elect L) (signatu
       let parts = and_parts (nat_le 1 round.view) (nat_le (min_active x) round.view) admitted in
       (grind (arith, nat_tests, parts.0), (let over : min_active x ≤ round.view = grind (arith, nat_tests, parts.1) in omega (arith, over, notes.active)))
 
-  nullification_notes : (c : NullificationFacts) (now : ℕ) → 0 < x.terms.term_length → takes_round x c.round ≡ true → NotesStand base low (deeds ++ Accepts (subject.Nullify c.round) ∷ []) o (after_call same elect signature_of x (AddNullification c now))
+  nullification_notes : (c : NullificationFacts) (now : ℕ) → 0 < x.terms.term_length → takes_round x c.round ≡ true → NotesStand base low (deeds ++ Accepts (subject.Nullify c.round) ∷ []) o (after_call same elect x (AddNullification c now))
   nullification_notes c now some takes =
       let view = active_view c.round takes in
       let more = Accepts (subject.Nullify c.round) ∷ [] in
       let next : c.round.view < next_term_start x.terms.term_length c.round.view = next_above x.terms.term_length c.round.view some view.0 in
       let left = on_nullification_kept base same elect x c now view.1 (omega (arith, next, view.1)) in
-      let acted_notes = notes_acted base low deeds more o x (calls_cast_none same elect signature_of x (AddNullification c now)) notes in
+      let acted_notes = notes_acted base low deeds more o x (calls_cast_none same elect x (AddNullification c now)) notes in
       let kept = notes_calm base low (deeds ++ more) o o x _ left (λ v is. is) (λ v is. is) acted_notes in
       record {
         above = kept.above;
@@ -139,7 +139,7 @@ module _ {K L D G : Type 0} (same : D → D → Bool) (elect : Elect L) (signatu
       worked_still v false is verified un = absurd (false≢true (sym (ap (λ (r : RoundFacts K D). r.slot.verified) (round_by v false is)) ∙ verified))
 
   -- a call that is allowed, whatever is open
-  open_notes : (call : CallFacts D) → 0 < x.terms.term_length → x.finalized < x.current → is_allowed x call ≡ true → (b : ℕ) × NotesStand b low (deeds ++ deeds_of_call {K = K} {G = G} call (answer same elect signature_of x call)) o (after_call same elect signature_of x call)
+  open_notes : (call : CallFacts D) → 0 < x.terms.term_length → x.finalized < x.current → is_allowed x call ≡ true → (b : ℕ) × NotesStand b low (deeds ++ deeds_of_call {K = K} call (answer same elect x call)) o (after_call same elect x call)
   open_notes (AddNotarization c) some ahead allowed = (base, acted (AddNotarization c) (on_add_notarization base same elect x c (active_view c.proposal.round allowed).1))
   open_notes (AddNullification c now) some ahead allowed = (base, nullification_notes c now some allowed)
   open_notes (AddFinalization c now) some ahead allowed = (base, acted (AddFinalization c now) (on_add_finalization base same elect x c now (active_view c.proposal.round allowed).1))
@@ -156,7 +156,7 @@ module _ {K L D G : Type 0} (same : D → D → Bool) (elect : Elect L) (signatu
       notes_nothing = notes_acted (min_active x) low deeds [] o (after_prune x) (λ p h. absurd (signed_none (subject.Notarize p) h)) pruned_notes
 
   -- with the offer closed that a verdict closes
-  pub call_notes : (call : CallFacts D) → 0 < x.terms.term_length → x.finalized < x.current → is_allowed x call ≡ true → (b : ℕ) × NotesStand b low (deeds ++ deeds_of_call {K = K} {G = G} call (answer same elect signature_of x call)) (closed_by o call) (after_call same elect signature_of x call)
+  pub call_notes : (call : CallFacts D) → 0 < x.terms.term_length → x.finalized < x.current → is_allowed x call ≡ true → (b : ℕ) × NotesStand b low (deeds ++ deeds_of_call {K = K} call (answer same elect x call)) (closed_by o call) (after_call same elect x call)
   call_notes call some ahead allowed =
       let left = open_notes call some ahead allowed in
-      (left.0, closed_offer left.0 low (deeds ++ deeds_of_call {K = K} {G = G} call (answer same elect signature_of x call)) o call (after_call same elect signature_of x call) left.1)
+      (left.0, closed_offer left.0 low (deeds ++ deeds_of_call {K = K} call (answer same elect x call)) o call (after_call same elect x call) left.1)

@@ -23,33 +23,33 @@ use Rattle.simplex_laws.specs.Histories.{in_context, work_events}
 use Rattle.simplex_laws.proofs.Steps.{IsSilent}
 
 -- how a life begins
-abbrev pub is_floor : {K D G : Type 0} → Event K D G → Bool
+abbrev pub is_floor : {K D : Type 0} → Event K D → Bool
 is_floor (SetFloor _ _) = true
 is_floor _ = false
 
-module _ (G : Type 0) {K L D : Type 0} (same : D → D → Bool) (elect : Elect L) (x : Facts K L D) where
+module _ {K L D : Type 0} (same : D → D → Bool) (elect : Elect L) (x : Facts K L D) where
   -- a call is at most one event
-  abbrev pub after_one : List (Event K D G) → Facts K L D
+  abbrev pub after_one : List (Event K D) → Facts K L D
   after_one [] = x
   after_one (e ∷ _) = after_event same elect x e
 
-  abbrev pub IsOneTaken : List (Event K D G) → Type 0
+  abbrev pub IsOneTaken : List (Event K D) → Type 0
   IsOneTaken [] = Unit {0}
   IsOneTaken (e ∷ _) = IsEvent x e × (is_floor e ≡ false)
 
-  by_one : (P : List (Event K D G) → Facts K L D → Type 0) → P [] x → ((e : Event K D G) (rest : List (Event K D G)) → IsEvent x e → is_floor e ≡ false → P (e ∷ rest) (after_event same elect x e)) → (es : List (Event K D G)) → IsOneTaken es → P es (after_one es)
+  by_one : (P : List (Event K D) → Facts K L D → Type 0) → P [] x → ((e : Event K D) (rest : List (Event K D)) → IsEvent x e → is_floor e ≡ false → P (e ∷ rest) (after_event same elect x e)) → (es : List (Event K D)) → IsOneTaken es → P es (after_one es)
   by_one P still each [] taken = still
   by_one P still each (e ∷ rest) taken = each e rest taken.0 taken.1
 
-  by_any : (P : Facts K L D → Type 0) → P x → ((e : Event K D G) → P (after_event same elect x e)) → (es : List (Event K D G)) → P (after_one es)
+  by_any : (P : Facts K L D → Type 0) → P x → ((e : Event K D) → P (after_event same elect x e)) → (es : List (Event K D)) → P (after_one es)
   by_any P still each [] = still
   by_any P still each (e ∷ rest) = each e
 
   -- calls
 
-  call_is : (signature_of : ℕ → Subject D → G) (call : CallFacts D) → after_call same elect signature_of x call ≡ after_one (events_of call)
-  call_is signature_of calls.GetBestCertificate = refl
-  call_is signature_of _ = refl
+  call_is : (call : CallFacts D) → after_call same elect x call ≡ after_one (events_of call)
+  call_is calls.GetBestCertificate = refl
+  call_is _ = refl
 
   call_taken : (call : CallFacts D) → is_allowed x call ≡ true → IsOneTaken (events_of call)
   call_taken (calls.AddNotarization c) is = (is, refl)
@@ -60,16 +60,16 @@ module _ (G : Type 0) {K L D : Type 0} (same : D → D → Bool) (elect : Elect 
   call_taken _ is = (tt, refl)
 
   -- what holds of no change and of each event that is taken holds of a call that is allowed
-  pub call_by_event : (signature_of : ℕ → Subject D → G) (P : List (Event K D G) → Facts K L D → Type 0) → P [] x → ((e : Event K D G) (rest : List (Event K D G)) → IsEvent x e → is_floor e ≡ false → P (e ∷ rest) (after_event same elect x e)) → (call : CallFacts D) → is_allowed x call ≡ true → P (events_of call) (after_call same elect signature_of x call)
-  call_by_event signature_of P still each call allowed = subst (P (events_of call)) (sym (call_is signature_of call)) (by_one P still each (events_of call) (call_taken call allowed))
+  pub call_by_event : (P : List (Event K D) → Facts K L D → Type 0) → P [] x → ((e : Event K D) (rest : List (Event K D)) → IsEvent x e → is_floor e ≡ false → P (e ∷ rest) (after_event same elect x e)) → (call : CallFacts D) → is_allowed x call ≡ true → P (events_of call) (after_call same elect x call)
+  call_by_event P still each call allowed = subst (P (events_of call)) (sym (call_is call)) (by_one P still each (events_of call) (call_taken call allowed))
 
   -- and what holds of each event in any case, of each call
-  pub call_by_any : (signature_of : ℕ → Subject D → G) (P : Facts K L D → Type 0) → P x → ((e : Event K D G) → P (after_event same elect x e)) → (call : CallFacts D) → P (after_call same elect signature_of x call)
-  call_by_any signature_of P still each call = subst P (sym (call_is signature_of call)) (by_any P still each (events_of call))
+  pub call_by_any : (P : Facts K L D → Type 0) → P x → ((e : Event K D) → P (after_event same elect x e)) → (call : CallFacts D) → P (after_call same elect x call)
+  call_by_any P still each call = subst P (sym (call_is call)) (by_any P still each (events_of call))
 
   -- calls on the work of a view
 
-  in_context_is : (f : Context D K → Facts K L D) (event : Context D K → Event K D G) → ((c : Context D K) → f c ≡ after_event same elect x (event c)) → (context : Option (Context D K)) → option_map_or f context x ≡ after_one (in_context event context)
+  in_context_is : (f : Context D K → Facts K L D) (event : Context D K → Event K D) → ((c : Context D K) → f c ≡ after_event same elect x (event c)) → (context : Option (Context D K)) → option_map_or f context x ≡ after_one (in_context event context)
   in_context_is f event is None = refl
   in_context_is f event is (Some c) = is c
 
@@ -78,7 +78,7 @@ module _ (G : Type 0) {K L D : Type 0} (same : D → D → Bool) (elect : Elect 
   work_is o (work.SupersedeProposalRequest v) = in_context_is _ Supersede (λ c. refl) (context_at o v)
   work_is o _ = refl
 
-  in_context_taken : (event : Context D K → Event K D G) → ((c : Context D K) → IsEvent x (event c) × (is_floor (event c) ≡ false)) → (context : Option (Context D K)) → IsOneTaken (in_context event context)
+  in_context_taken : (event : Context D K → Event K D) → ((c : Context D K) → IsEvent x (event c) × (is_floor (event c) ≡ false)) → (context : Option (Context D K)) → IsOneTaken (in_context event context)
   in_context_taken event taken None = tt
   in_context_taken event taken (Some c) = taken c
 
@@ -90,20 +90,20 @@ module _ (G : Type 0) {K L D : Type 0} (same : D → D → Bool) (elect : Elect 
   work_taken o (work.SetCertifyHandle v token) is = ((and_parts (is_offered o v) (takes_certify_handle x v) is).1, refl)
   work_taken o _ is = (tt, refl)
 
-  pub work_by_event : (o : Openings K D) (P : List (Event K D G) → Facts K L D → Type 0) → P [] x → ((e : Event K D G) (rest : List (Event K D G)) → IsEvent x e → is_floor e ≡ false → P (e ∷ rest) (after_event same elect x e)) → (call : WorkCall D) → work_allowed x o call ≡ true → P (work_events o call) (after_work same elect x o call)
+  pub work_by_event : (o : Openings K D) (P : List (Event K D) → Facts K L D → Type 0) → P [] x → ((e : Event K D) (rest : List (Event K D)) → IsEvent x e → is_floor e ≡ false → P (e ∷ rest) (after_event same elect x e)) → (call : WorkCall D) → work_allowed x o call ≡ true → P (work_events o call) (after_work same elect x o call)
   work_by_event o P still each call allowed = subst (P (work_events o call)) (sym (work_is o call)) (by_one P still each (work_events o call) (work_taken o call allowed))
 
-  pub work_by_any : (o : Openings K D) (P : Facts K L D → Type 0) → P x → ((e : Event K D G) → P (after_event same elect x e)) → (call : WorkCall D) → P (after_work same elect x o call)
+  pub work_by_any : (o : Openings K D) (P : Facts K L D → Type 0) → P x → ((e : Event K D) → P (after_event same elect x e)) → (call : WorkCall D) → P (after_work same elect x o call)
   work_by_any o P still each call = subst P (sym (work_is o call)) (by_any P still each (work_events o call))
 
 -- calls on the work of a view are silent
 
-module _ {K D : Type 0} (G : Type 0) where
-  abbrev pub AreSilent : List (Event K D G) → Type 0
+module _ {K D : Type 0} where
+  abbrev pub AreSilent : List (Event K D) → Type 0
   AreSilent [] = Unit {0}
   AreSilent (e ∷ rest) = IsSilent e × AreSilent rest
 
-  in_context_silent : (event : Context D K → Event K D G) → ((c : Context D K) → IsSilent (event c)) → (context : Option (Context D K)) → AreSilent (in_context event context)
+  in_context_silent : (event : Context D K → Event K D) → ((c : Context D K) → IsSilent (event c)) → (context : Option (Context D K)) → AreSilent (in_context event context)
   in_context_silent event silent None = tt
   in_context_silent event silent (Some c) = (silent c, tt)
 
@@ -115,24 +115,24 @@ module _ {K D : Type 0} (G : Type 0) where
 
 -- what each event keeps, whether it is taken or not, holds of each new life
 
-module _ {K L D G : Type 0} (same : D → D → Bool) (elect : Elect L) (P : Facts K L D → Type 0) (keeps : (x : Facts K L D) (e : Event K D G) → P x → P (after_event same elect x e)) (now : ℕ) where
-  pub retaken_keeps : (x : Facts K L D) (e : ArtifactFacts D G) → P x → P (retaken same elect x now e)
-  retaken_keeps x (NotarizeVote p m signature) holds = keeps x (Replay (NotarizeVote p m signature)) holds
-  retaken_keeps x (NullifyVote round m signature) holds = keeps x (Replay (NullifyVote round m signature)) holds
-  retaken_keeps x (FinalizeVote p m signature) holds = keeps x (Replay (FinalizeVote p m signature)) holds
-  retaken_keeps x (Verdict round success) holds = keeps (replayed {G = G} same elect x (Verdict round success)) (Certified round.view success now) (keeps x (Replay (Verdict round success)) holds)
+module _ {K L D : Type 0} (same : D → D → Bool) (elect : Elect L) (P : Facts K L D → Type 0) (keeps : (x : Facts K L D) (e : Event K D) → P x → P (after_event same elect x e)) (now : ℕ) where
+  pub retaken_keeps : (x : Facts K L D) (e : ArtifactFacts D) → P x → P (retaken same elect x now e)
+  retaken_keeps x (NotarizeVote p m) holds = keeps x (Replay (NotarizeVote p m)) holds
+  retaken_keeps x (NullifyVote round m) holds = keeps x (Replay (NullifyVote round m)) holds
+  retaken_keeps x (FinalizeVote p m) holds = keeps x (Replay (FinalizeVote p m)) holds
+  retaken_keeps x (Verdict round success) holds = keeps (replayed same elect x (Verdict round success)) (Certified round.view success now) (keeps x (Replay (Verdict round success)) holds)
   retaken_keeps x (Accepted (Notarized c)) holds = keeps _ (Replay (Accepted (Notarized c))) (keeps x (AddNotarization c) holds)
   retaken_keeps x (Accepted (Nullified c)) holds = keeps _ (Replay (Accepted (Nullified c))) (keeps x (AddNullification c now) holds)
   retaken_keeps x (Accepted (Finalized c)) holds = keeps _ (Replay (Accepted (Finalized c))) (keeps x (AddFinalization c now) holds)
 
-  pub all_keep : (x : Facts K L D) (entries : List (ArtifactFacts D G)) → P x → P (all_taken same elect x now entries)
+  pub all_keep : (x : Facts K L D) (entries : List (ArtifactFacts D)) → P x → P (all_taken same elect x now entries)
   unfolding taken
   all_keep x [] holds = holds
   all_keep x (e ∷ rest) holds = all_keep (taken same elect x now e) rest (elim (nat_lt (entry_view e) (min_active x)) as (λ b. P (if b then x else retaken same elect x now e)) [ true ↦ holds | false ↦ retaken_keeps x e holds ])
 
-  pub floor_then_all_keep : (x : Facts K L D) (floor : FloorFacts D) (entries : List (ArtifactFacts D G)) → P (after_set_floor same elect x floor now) → P (recovered same elect x floor now entries)
+  pub floor_then_all_keep : (x : Facts K L D) (floor : FloorFacts D) (entries : List (ArtifactFacts D)) → P (after_set_floor same elect x floor now) → P (recovered same elect x floor now entries)
   unfolding recovered
   floor_then_all_keep x floor entries holds = all_keep _ entries holds
 
-  pub recovered_keeps : (x : Facts K L D) (floor : FloorFacts D) (entries : List (ArtifactFacts D G)) → P x → P (recovered same elect x floor now entries)
+  pub recovered_keeps : (x : Facts K L D) (floor : FloorFacts D) (entries : List (ArtifactFacts D)) → P x → P (recovered same elect x floor now entries)
   recovered_keeps x floor entries holds = floor_then_all_keep x floor entries (keeps x (SetFloor floor now) holds)

@@ -33,7 +33,7 @@ use Rattle.simplex_laws.specs.Events.{Event, after_event}
 use Rattle.simplex_laws.proofs.Remembering.{remembers_more, grows_nothing, grows_verdict, grows_certificate, grows_again, grows_nullify, grows_finalize}
 
 -- the record remembers the deeds, and what the state's facts show
-pub record Follows {K L D G : Type 0} (deeds : List (Deed D G)) (kept : ℕ) (entries : List (ArtifactFacts D G)) (x : Facts K L D) : Type 0 where
+pub record Follows {K L D : Type 0} (deeds : List (Deed D)) (kept : ℕ) (entries : List (ArtifactFacts D)) (x : Facts K L D) : Type 0 where
   pub remembers : Remembers deeds kept entries
   pub marked : Marked entries x
 
@@ -51,19 +51,19 @@ module _ {K L D : Type 0} (x : Facts K L D) (v : ℕ) where
       by_round None some takes no_first = absurd (false≢true some)
       by_round (Some r) some takes no_first = judged_true (is_judged true r.certification) (is_judged false r.certification) (and_parts (is_some r.notarization) (not (is_judged false r.certification)) takes).1 no_first
 
-module _ {K L D G : Type 0} (same : D → D → Bool) (elect : Elect L) (signature_of : ℕ → Subject D → G) (term_length : ℕ) (deeds : List (Deed D G)) (kept : ℕ) (entries : List (ArtifactFacts D G)) (x : Facts K L D) (stays : Stays term_length deeds x) (ordered : InOrder x) (follows : Follows deeds kept entries x) where
+module _ {K L D : Type 0} (same : D → D → Bool) (elect : Elect L) (term_length : ℕ) (deeds : List (Deed D)) (kept : ℕ) (entries : List (ArtifactFacts D)) (x : Facts K L D) (stays : Stays term_length deeds x) (ordered : InOrder x) (follows : Follows deeds kept entries x) where
   nothing_follows : (y : Facts K L D) → Marked entries y → Follows (deeds ++ []) kept (entries ++ []) y
   nothing_follows y marked = record { remembers = remembers_more deeds entries kept [] [] (grows_nothing deeds entries) follows.remembers; marked = marked_more entries [] y marked }
 
   -- an event that gives no verdict and decides no vote to nullify shows no more
 
-  quiet_on : (e : Event K D G) → verdict_by e ≡ None → nullify_by e ≡ None → Marked entries (after_event same elect x e)
+  quiet_on : (e : Event K D) → verdict_by e ≡ None → nullify_by e ≡ None → Marked entries (after_event same elect x e)
   quiet_on e verdict nullify = quiet_marked same elect x e entries ordered verdict nullify follows.marked
 
-  quiet_follows : (e : Event K D G) → verdict_by e ≡ None → nullify_by e ≡ None → Follows (deeds ++ []) kept (entries ++ []) (after_event same elect x e)
+  quiet_follows : (e : Event K D) → verdict_by e ≡ None → nullify_by e ≡ None → Follows (deeds ++ []) kept (entries ++ []) (after_event same elect x e)
   quiet_follows e verdict nullify = nothing_follows (after_event same elect x e) (quiet_on e verdict nullify)
 
-  certificate_follows : (is_new : Bool) (c : CertificateFacts D) (e : Event K D G) → verdict_by e ≡ None → nullify_by e ≡ None → Follows (deeds ++ Accepts (subject_of c) ∷ []) kept (entries ++ newly is_new (Accepted c)) (after_event same elect x e)
+  certificate_follows : (is_new : Bool) (c : CertificateFacts D) (e : Event K D) → verdict_by e ≡ None → nullify_by e ≡ None → Follows (deeds ++ Accepts (subject_of c) ∷ []) kept (entries ++ newly is_new (Accepted c)) (after_event same elect x e)
   certificate_follows is_new c e verdict nullify = record {
     remembers = remembers_more deeds entries kept (Accepts (subject_of c) ∷ []) (newly is_new (Accepted c)) (grows_certificate deeds entries is_new c) follows.remembers;
     marked = marked_more entries (newly is_new (Accepted c)) (after_event same elect x e) (quiet_on e verdict nullify);
@@ -77,10 +77,10 @@ module _ {K L D G : Type 0} (same : D → D → Bool) (elect : Elect L) (signatu
     marked = event_marked same elect x given entries (entries ++ new) ordered (λ a h. Contains-append_left entries new a h) (λ w says before after. shown w says before after) (λ w says before after key. absurd (cc)) follows.marked;
   }
     where
-      new : List (ArtifactFacts D G)
+      new : List (ArtifactFacts D)
       new = newly (is_first_verdict x v) (Verdict (round_number x v) success)
 
-      given : Event K D G
+      given : Event K D
       given = event.Certified v success now
 
       verdict : is_tracked x v ≡ true → success ≡ true → (b : Bool) → is_first_verdict x v ≡ b → (round : Round) × Contains (entries ++ newly (is_first_verdict x v) (Verdict (round_number x v) success)) (Verdict round true) × (round.view ≡ v)
@@ -102,99 +102,96 @@ module _ {K L D G : Type 0} (same : D → D → Bool) (elect : Elect L) (signatu
 
   -- a vote to nullify is recorded, unless it was before
 
-  nullify_marked : (v : ℕ) (new : List (ArtifactFacts D G)) → (may_nullify x v ≡ true → is_nullify (round_of x v).decision ≡ false → is_some x.me ≡ true → (m : ℕ) × (signature : G) × Contains (entries ++ new) (NullifyVote (round_number x v) m signature)) → Marked (entries ++ new) (after_construct_nullify x v)
+  nullify_marked : (v : ℕ) (new : List (ArtifactFacts D)) → (may_nullify x v ≡ true → is_nullify (round_of x v).decision ≡ false → is_some x.me ≡ true → (m : ℕ) × Contains (entries ++ new) (NullifyVote (round_number x v) m)) → Marked (entries ++ new) (after_construct_nullify x v)
   nullify_marked v new vote = event_marked same elect x decides entries (entries ++ new) ordered (λ a h. Contains-append_left entries new a h) (λ w says before after. absurd (cc)) (λ w says before after key. shown w says before after key (may_nullify x v) refl) follows.marked
     where
-      decides : Event K D G
+      decides : Event K D
       decides = event.ConstructNullify v
 
-      shown : (w : ℕ) → nullify_by decides ≡ Some w → is_nullify (round_of x w).decision ≡ false → is_nullify (round_of (after_construct_nullify x v) w).decision ≡ true → is_some x.me ≡ true → (b : Bool) → may_nullify x v ≡ b → (m : ℕ) × (signature : G) × Contains (entries ++ new) (NullifyVote (round_number x w) m signature)
+      shown : (w : ℕ) → nullify_by decides ≡ Some w → is_nullify (round_of x w).decision ≡ false → is_nullify (round_of (after_construct_nullify x v) w).decision ≡ true → is_some x.me ≡ true → (b : Bool) → may_nullify x v ≡ b → (m : ℕ) × Contains (entries ++ new) (NullifyVote (round_number x w) m)
       shown w says before after key true may =
           let at : v ≡ w = cc in
-          subst (λ u. (m : ℕ) × (signature : G) × Contains (entries ++ new) (NullifyVote (round_number x u) m signature)) at (vote may (subst (λ u. is_nullify (round_of x u).decision ≡ false) (sym at) before) key)
+          subst (λ u. (m : ℕ) × Contains (entries ++ new) (NullifyVote (round_number x u) m)) at (vote may (subst (λ u. is_nullify (round_of x u).decision ≡ false) (sym at) before) key)
       shown w says before after key false barred =
           let unmoved : after_construct_nullify x v ≡ x = rw barred refl in
           absurd (false≢true (sym before ∙ subst (λ y. is_nullify (round_of y w).decision ≡ true) unmoved after))
 
-  nullify_follows : (v : ℕ) → Follows (deeds ++ deeds_of_call {K = K} (ConstructNullify v) (Nullify (nullify_vote signature_of x v))) kept (entries ++ first_vote (nullify_vote signature_of x v)) (after_construct_nullify x v)
+  nullify_follows : (v : ℕ) → Follows (deeds ++ deeds_of_call {K = K} (ConstructNullify v) (Nullify (nullify_vote x v))) kept (entries ++ first_vote (nullify_vote x v)) (after_construct_nullify x v)
   nullify_follows v = by_rule (may_nullify x v) refl
     where
       round : Round
       round = round_number x v
 
-      untold : nullify_vote signature_of x v ≡ None → (may_nullify x v ≡ true → is_some x.me ≡ true → ⊥) → Follows (deeds ++ deeds_of_call {K = K} (ConstructNullify v) (Nullify (nullify_vote signature_of x v))) kept (entries ++ first_vote (nullify_vote signature_of x v)) (after_construct_nullify x v)
+      untold : nullify_vote x v ≡ None → (may_nullify x v ≡ true → is_some x.me ≡ true → ⊥) → Follows (deeds ++ deeds_of_call {K = K} (ConstructNullify v) (Nullify (nullify_vote x v))) kept (entries ++ first_vote (nullify_vote x v)) (after_construct_nullify x v)
       untold silent barred =
           let y = after_construct_nullify x v in
           let marked = nullify_marked v [] (λ may undecided key. absurd (barred may key)) in
           subst (λ o. Follows (deeds ++ deeds_of_call {K = K} (ConstructNullify v) (Nullify o)) kept (entries ++ first_vote o) y) (sym silent)
           (record { remembers = remembers_more deeds entries kept [] [] (grows_nothing deeds entries) follows.remembers; marked = marked })
 
-      by_retry : (m : ℕ) (b : Bool) → is_nullify (round_of x v).decision ≡ b → x.me ≡ Some m → may_nullify x v ≡ true → Follows (deeds ++ Signs m (subject.Nullify (round_number x v)) (signature_of m (subject.Nullify (round_number x v))) ∷ []) kept (entries ++ first_vote (Some (b, NullifyVote (round_number x v) m (signature_of m (subject.Nullify (round_number x v)))))) (after_construct_nullify x v)
+      by_retry : (m : ℕ) (b : Bool) → is_nullify (round_of x v).decision ≡ b → x.me ≡ Some m → may_nullify x v ≡ true → Follows (deeds ++ Signs m (subject.Nullify (round_number x v)) ∷ []) kept (entries ++ first_vote (Some (b, NullifyVote (round_number x v) m))) (after_construct_nullify x v)
       by_retry m true decided me may =
-          let signature = signature_of m (subject.Nullify round) in
           let e = follows.marked.nullified v decided (ap is_some me) in
           record {
-            remembers = remembers_more deeds entries kept (Signs m (subject.Nullify round) signature ∷ []) [] (grows_again deeds entries round m e.0 signature e.1 (omega (arith, (nullify_parts x v may).current, stays.ahead)) e.2) follows.remembers;
+            remembers = remembers_more deeds entries kept (Signs m (subject.Nullify round) ∷ []) [] (grows_again deeds entries round m e.0 (omega (arith, (nullify_parts x v may).current, stays.ahead)) e.1) follows.remembers;
             marked = nullify_marked v [] (λ _ undecided key. absurd (false≢true (sym undecided ∙ decided)));
           }
       by_retry m false undecided me may =
-          let signature = signature_of m (subject.Nullify round) in
-          let new : List (ArtifactFacts D G) = NullifyVote round m signature ∷ [] in
+          let new : List (ArtifactFacts D) = NullifyVote round m ∷ [] in
           record {
-            remembers = remembers_more deeds entries kept (Signs m (subject.Nullify round) signature ∷ []) new (grows_nullify deeds entries round m signature (omega (arith, (nullify_parts x v may).current, stays.ahead))) follows.remembers;
-            marked = nullify_marked v new (λ _ _ key. (m, signature, Contains-append_right entries new (NullifyVote round m signature) (0, omega arith, refl)));
+            remembers = remembers_more deeds entries kept (Signs m (subject.Nullify round) ∷ []) new (grows_nullify deeds entries round m (omega (arith, (nullify_parts x v may).current, stays.ahead))) follows.remembers;
+            marked = nullify_marked v new (λ _ _ key. (m, Contains-append_right entries new (NullifyVote round m) (0, omega arith, refl)));
           }
 
-      by_key : (o : Option ℕ) → x.me ≡ o → may_nullify x v ≡ true → Follows (deeds ++ deeds_of_call {K = K} (ConstructNullify v) (Nullify (nullify_vote signature_of x v))) kept (entries ++ first_vote (nullify_vote signature_of x v)) (after_construct_nullify x v)
+      by_key : (o : Option ℕ) → x.me ≡ o → may_nullify x v ≡ true → Follows (deeds ++ deeds_of_call {K = K} (ConstructNullify v) (Nullify (nullify_vote x v))) kept (entries ++ first_vote (nullify_vote x v)) (after_construct_nullify x v)
       by_key None me may =
           let keyless : is_some x.me ≡ false = ap is_some me in
-          untold (nullify_silent elect signature_of x v (no_key (may_nullify x v) x.me me)) (λ _ key. false≢true (sym keyless ∙ key))
+          untold (nullify_silent elect x v (no_key (may_nullify x v) x.me me)) (λ _ key. false≢true (sym keyless ∙ key))
       by_key (Some m) me may =
-          subst (λ o. Follows (deeds ++ deeds_of_call {K = K} (ConstructNullify v) (Nullify o)) kept (entries ++ first_vote o) (after_construct_nullify x v)) (sym (nullify_told elect signature_of x v m me may))
+          subst (λ o. Follows (deeds ++ deeds_of_call {K = K} (ConstructNullify v) (Nullify o)) kept (entries ++ first_vote o) (after_construct_nullify x v)) (sym (nullify_told elect x v m me may))
           (by_retry m (is_nullify (round_of x v).decision) refl me may)
 
-      by_rule : (b : Bool) → may_nullify x v ≡ b → Follows (deeds ++ deeds_of_call {K = K} (ConstructNullify v) (Nullify (nullify_vote signature_of x v))) kept (entries ++ first_vote (nullify_vote signature_of x v)) (after_construct_nullify x v)
+      by_rule : (b : Bool) → may_nullify x v ≡ b → Follows (deeds ++ deeds_of_call {K = K} (ConstructNullify v) (Nullify (nullify_vote x v))) kept (entries ++ first_vote (nullify_vote x v)) (after_construct_nullify x v)
       by_rule true may = by_key x.me refl may
-      by_rule false barred = untold (nullify_silent elect signature_of x v (no_rule (may_nullify x v) x.me barred)) (λ may key. false≢true (sym barred ∙ may))
+      by_rule false barred = untold (nullify_silent elect x v (no_rule (may_nullify x v) x.me barred)) (λ may key. false≢true (sym barred ∙ may))
 
   -- a vote to finalize is recorded
 
-  finalize_follows : (v : ℕ) → Follows (deeds ++ deeds_of_call {K = K} (ConstructFinalize v) (Finalize (finalize_vote elect signature_of x v))) kept (entries ++ vote_entry (finalize_vote elect signature_of x v)) (after_construct_finalize elect x v)
+  finalize_follows : (v : ℕ) → Follows (deeds ++ deeds_of_call {K = K} (ConstructFinalize v) (Finalize (finalize_vote elect x v))) kept (entries ++ vote_entry (finalize_vote elect x v)) (after_construct_finalize elect x v)
   finalize_follows v = by_rule (may_finalize elect x v) refl
     where
       marked : Marked entries (after_construct_finalize elect x v)
       marked = quiet_on (event.ConstructFinalize v) refl refl
 
-      untold : finalize_vote elect signature_of x v ≡ None → Follows (deeds ++ deeds_of_call {K = K} (ConstructFinalize v) (Finalize (finalize_vote elect signature_of x v))) kept (entries ++ vote_entry (finalize_vote elect signature_of x v)) (after_construct_finalize elect x v)
+      untold : finalize_vote elect x v ≡ None → Follows (deeds ++ deeds_of_call {K = K} (ConstructFinalize v) (Finalize (finalize_vote elect x v))) kept (entries ++ vote_entry (finalize_vote elect x v)) (after_construct_finalize elect x v)
       untold silent = subst (λ o. Follows (deeds ++ deeds_of_call {K = K} (ConstructFinalize v) (Finalize o)) kept (entries ++ vote_entry o) (after_construct_finalize elect x v)) (sym silent) (nothing_follows (after_construct_finalize elect x v) marked)
 
-      by_held : (m : ℕ) (o : Option (Proposal D)) → (round_of x v).slot.held ≡ o → x.me ≡ Some m → may_finalize elect x v ≡ true → Follows (deeds ++ deeds_of_call {K = K} (ConstructFinalize v) (Finalize (finalize_vote elect signature_of x v))) kept (entries ++ vote_entry (finalize_vote elect signature_of x v)) (after_construct_finalize elect x v)
+      by_held : (m : ℕ) (o : Option (Proposal D)) → (round_of x v).slot.held ≡ o → x.me ≡ Some m → may_finalize elect x v ≡ true → Follows (deeds ++ deeds_of_call {K = K} (ConstructFinalize v) (Finalize (finalize_vote elect x v))) kept (entries ++ vote_entry (finalize_vote elect x v)) (after_construct_finalize elect x v)
       by_held m None holds me may =
           let alone = (and_parts (is_some (round_of x v).slot.held) _ (finalize_parts elect x v may).unequivocated).0 in
           absurd (false≢true (sym (ap is_some holds) ∙ alone))
       by_held m (Some h) holds me may =
           let rule = finalize_parts elect x v may in
-          let told = finalize_told elect signature_of x v m h me may holds in
+          let told = finalize_told elect x v m h me may holds in
           let named = held_notarized deeds x.current x.finalized v (round_of x v) (stays.stands.rounds v) h rule.unequivocated rule.notarized holds in
           let verdict = follows.marked.certified v rule.certified in
-          let signature = signature_of m (subject.Finalize h) in
-          let new : List (ArtifactFacts D G) = FinalizeVote h m signature ∷ [] in
-          let next : Follows (deeds ++ Signs m (subject.Finalize h) signature ∷ []) kept (entries ++ new) (after_construct_finalize elect x v) = record {
-            remembers = remembers_more deeds entries kept (Signs m (subject.Finalize h) signature ∷ []) new (grows_finalize deeds entries h m signature verdict.0 verdict.1 (verdict.2 ∙ sym named.0)) follows.remembers;
+          let new : List (ArtifactFacts D) = FinalizeVote h m ∷ [] in
+          let next : Follows (deeds ++ Signs m (subject.Finalize h) ∷ []) kept (entries ++ new) (after_construct_finalize elect x v) = record {
+            remembers = remembers_more deeds entries kept (Signs m (subject.Finalize h) ∷ []) new (grows_finalize deeds entries h m verdict.0 verdict.1 (verdict.2 ∙ sym named.0)) follows.remembers;
             marked = marked_more entries new (after_construct_finalize elect x v) marked;
           } in
           subst (λ o. Follows (deeds ++ deeds_of_call {K = K} (ConstructFinalize v) (Finalize o)) kept (entries ++ vote_entry o) (after_construct_finalize elect x v)) (sym told) next
 
-      by_key : (o : Option ℕ) → x.me ≡ o → may_finalize elect x v ≡ true → Follows (deeds ++ deeds_of_call {K = K} (ConstructFinalize v) (Finalize (finalize_vote elect signature_of x v))) kept (entries ++ vote_entry (finalize_vote elect signature_of x v)) (after_construct_finalize elect x v)
-      by_key None me may = untold (finalize_silent elect signature_of x v (no_key (may_finalize elect x v) x.me me))
+      by_key : (o : Option ℕ) → x.me ≡ o → may_finalize elect x v ≡ true → Follows (deeds ++ deeds_of_call {K = K} (ConstructFinalize v) (Finalize (finalize_vote elect x v))) kept (entries ++ vote_entry (finalize_vote elect x v)) (after_construct_finalize elect x v)
+      by_key None me may = untold (finalize_silent elect x v (no_key (may_finalize elect x v) x.me me))
       by_key (Some m) me may = by_held m (round_of x v).slot.held refl me may
 
-      by_rule : (b : Bool) → may_finalize elect x v ≡ b → Follows (deeds ++ deeds_of_call {K = K} (ConstructFinalize v) (Finalize (finalize_vote elect signature_of x v))) kept (entries ++ vote_entry (finalize_vote elect signature_of x v)) (after_construct_finalize elect x v)
+      by_rule : (b : Bool) → may_finalize elect x v ≡ b → Follows (deeds ++ deeds_of_call {K = K} (ConstructFinalize v) (Finalize (finalize_vote elect x v))) kept (entries ++ vote_entry (finalize_vote elect x v)) (after_construct_finalize elect x v)
       by_rule true may = by_key x.me refl may
-      by_rule false barred = untold (finalize_silent elect signature_of x v (no_rule (may_finalize elect x v) x.me barred))
+      by_rule false barred = untold (finalize_silent elect x v (no_rule (may_finalize elect x v) x.me barred))
 
   -- each call that is allowed and not refused
-  pub call_follows : (call : CallFacts D) → is_allowed x call ≡ true → Follows (deeds ++ deeds_of_call call (answer same elect signature_of x call)) kept (entries ++ recorded_by same elect signature_of x call) (after_call same elect signature_of x call)
+  pub call_follows : (call : CallFacts D) → is_allowed x call ≡ true → Follows (deeds ++ deeds_of_call call (answer same elect x call)) kept (entries ++ recorded_by same elect x call) (after_call same elect x call)
   call_follows (AddNotarization c) allowed = certificate_follows (notarization_added same elect x c).0 (Notarized c) (event.AddNotarization c) refl refl
   call_follows (AddNullification c now) allowed = certificate_follows (nullification_added x c) (Nullified c) (event.AddNullification c now) refl refl
   call_follows (AddFinalization c now) allowed = certificate_follows (finalization_added same elect x c).0 (Finalized c) (event.AddFinalization c now) refl refl

@@ -38,7 +38,7 @@ notarize_same : {D : Type 0} (p q : Proposal D) → subject.Notarize p ≡ subje
 notarize_same p q e = cc
 
 -- two notarize votes of one member in one view have one proposal
-one_notarized : {D G : Type 0} (term_length : ℕ) (deeds : List (Deed D G)) (p q : Proposal D) → IsLawful term_length deeds → HasSigned deeds (subject.Notarize p) → HasSigned deeds (subject.Notarize q) → p.round.view ≡ q.round.view → p ≡ q
+one_notarized : {D : Type 0} (term_length : ℕ) (deeds : List (Deed D)) (p q : Proposal D) → IsLawful term_length deeds → HasSigned deeds (subject.Notarize p) → HasSigned deeds (subject.Notarize q) → p.round.view ≡ q.round.view → p ≡ q
 one_notarized term_length deeds p q lawful has_p has_q same =
     elim (in_order deeds (subject.Notarize p) (subject.Notarize q) has_p has_q) [
       | Same e ↦ notarize_same p q e
@@ -55,36 +55,36 @@ is_only : {X : Type 0} (y x : X) → Contains (y ∷ []) x → y ≡ x
 is_only y x (zero, less, same) = same
 is_only y x (suc k, less, same) = absurd (omega arith)
 
-module _ {K L D G : Type 0} (same : D → D → Bool) (decides : (d e : D) → same d e ≡ true → d ≡ e) (elect : Elect L) (signature_of : ℕ → Subject D → G) (term_length : ℕ) (network : List (Place K L D G)) (good : IsNetworkOf same elect signature_of term_length network) where
-  lawful : (k : ℕ) (s : Story K L D G) → slice_get network k ≡ Some (Honest s) → IsLawful term_length (deeds_of s)
-  lawful k s at = story_lawful same decides elect signature_of term_length k s (good.honest k s at)
+module _ {K L D : Type 0} (same : D → D → Bool) (decides : (d e : D) → same d e ≡ true → d ≡ e) (elect : Elect L) (term_length : ℕ) (network : List (Place K L D)) (good : IsNetworkOf same elect term_length network) where
+  lawful : (k : ℕ) (s : Story K L D) → slice_get network k ≡ Some (Honest s) → IsLawful term_length (deeds_of s)
+  lawful k s at = story_lawful same decides elect term_length k s (good.honest k s at)
 
   -- what an honest member accepted before a vote is backed
-  backed_before : (k : ℕ) (s : Story K L D G) (before : List (Deed D G)) (vote certificate : Subject D) → slice_get network k ≡ Some (Honest s) → SignsAfter (deeds_of s) before vote → Contains before (Accepts certificate) → Backed signature_of network certificate
+  backed_before : (k : ℕ) (s : Story K L D) (before : List (Deed D)) (vote certificate : Subject D) → slice_get network k ≡ Some (Honest s) → SignsAfter (deeds_of s) before vote → Contains before (Accepts certificate) → Backed network certificate
   backed_before k s before vote certificate at signs accepted = good.backed k s certificate at (earlier (deeds_of s) before vote (Accepts certificate) signs accepted)
 
   -- a backed finalization's proposal has a backed notarization
-  pub finalized_notarized : FinalizedNotarized signature_of network
+  pub finalized_notarized : FinalizedNotarized network
   finalized_notarized final finalized =
-      let m = shared_member signature_of network (subject.Finalize final) (subject.Finalize final) good.few_faulty finalized finalized in
+      let m = shared_member network (subject.Finalize final) (subject.Finalize final) good.few_faulty finalized finalized in
       let signs = voted (deeds_of m.1) (subject.Finalize final) m.3 in
       backed_before m.0 m.1 signs.0 (subject.Finalize final) (subject.Notarize final) m.2 signs.1 ((lawful m.0 m.1 m.2).finalizes_notarized signs.0 final signs.1)
 
-  certified_notarized : (p : Proposal D) → Certified signature_of network p → Backed signature_of network (subject.Notarize p)
+  certified_notarized : (p : Proposal D) → Certified network p → Backed network (subject.Notarize p)
   certified_notarized p (inl h) = h
   certified_notarized p (inr h) = finalized_notarized p h
 
-  pub one_proposal : OneProposal signature_of network
+  pub one_proposal : OneProposal network
   one_proposal p q has_p has_q at =
-      let m = shared_member signature_of network (subject.Notarize p) (subject.Notarize q) good.few_faulty (certified_notarized p has_p) (certified_notarized q has_q) in
+      let m = shared_member network (subject.Notarize p) (subject.Notarize q) good.few_faulty (certified_notarized p has_p) (certified_notarized q has_q) in
       one_notarized term_length (deeds_of m.1) p q (lawful m.0 m.1 m.2) m.3 m.4 at
 
   -- no nullification covers a finalized view below a bound
-  uncovered_below : (bound : ℕ) (final : Proposal D) (round : Round) → final.round.view < bound → Backed signature_of network (subject.Finalize final) → Backed signature_of network (subject.Nullify round) → covers term_length round.view final.round.view ≡ true → ⊥
+  uncovered_below : (bound : ℕ) (final : Proposal D) (round : Round) → final.round.view < bound → Backed network (subject.Finalize final) → Backed network (subject.Nullify round) → covers term_length round.view final.round.view ≡ true → ⊥
   uncovered_below zero final round less finalized nullified covering = absurd (omega arith)
   uncovered_below (suc bound) final round less finalized nullified covering =
-      let m = shared_member signature_of network (subject.Nullify round) (subject.Finalize final) good.few_faulty nullified finalized in
-      let deeds : List (Deed D G) = deeds_of m.1 in
+      let m = shared_member network (subject.Nullify round) (subject.Finalize final) good.few_faulty nullified finalized in
+      let deeds : List (Deed D) = deeds_of m.1 in
       let keeps : IsLawful term_length deeds = lawful m.0 m.1 m.2 in
       elim (in_order deeds (subject.Nullify round) (subject.Finalize final) m.3 m.4) [
         | Same e ↦ absurd (cc)
@@ -97,7 +97,7 @@ module _ {K L D G : Type 0} (same : D → D → Bool) (decides : (d e : D) → s
         | Second before at h ↦ false≢true (sym (keeps.nullifies_ahead before round final at h) ∙ covering)
       ]
 
-  pub finalized_uncovered : FinalizedUncovered signature_of network term_length
+  pub finalized_uncovered : FinalizedUncovered network term_length
   finalized_uncovered final round finalized nullified =
       elim (cases_Bool (covers term_length round.view final.round.view)) [
         | inl covering ↦ absurd (uncovered_below (suc final.round.view) final round (omega arith) finalized nullified covering)
@@ -105,39 +105,39 @@ module _ {K L D G : Type 0} (same : D → D → Bool) (decides : (d e : D) → s
       ]
 
   -- a backed notarization's parent is an earlier view
-  parent_earlier : (p : Proposal D) → Backed signature_of network (subject.Notarize p) → p.parent < p.round.view
+  parent_earlier : (p : Proposal D) → Backed network (subject.Notarize p) → p.parent < p.round.view
   parent_earlier p notarized =
-      let m = shared_member signature_of network (subject.Notarize p) (subject.Notarize p) good.few_faulty notarized notarized in
+      let m = shared_member network (subject.Notarize p) (subject.Notarize p) good.few_faulty notarized notarized in
       let signs = voted (deeds_of m.1) (subject.Notarize p) m.3 in
       (lawful m.0 m.1 m.2).parent_before signs.0 p signs.1
 
   -- a backed notarization skips no finalized view
-  not_skipped : (final p : Proposal D) → Backed signature_of network (subject.Finalize final) → Backed signature_of network (subject.Notarize p) → p.parent < final.round.view → final.round.view < p.round.view → ⊥
+  not_skipped : (final p : Proposal D) → Backed network (subject.Finalize final) → Backed network (subject.Notarize p) → p.parent < final.round.view → final.round.view < p.round.view → ⊥
   not_skipped final p finalized notarized low high =
-      let m = shared_member signature_of network (subject.Notarize p) (subject.Notarize p) good.few_faulty notarized notarized in
+      let m = shared_member network (subject.Notarize p) (subject.Notarize p) good.few_faulty notarized notarized in
       let signs = voted (deeds_of m.1) (subject.Notarize p) m.3 in
       let cover = (lawful m.0 m.1 m.2).gapless signs.0 p final.round.view signs.1 low high in
       let nullified = backed_before m.0 m.1 signs.0 (subject.Notarize p) (subject.Nullify cover.0) m.2 signs.1 cover.1 in
       false≢true (sym (finalized_uncovered final cover.0 finalized nullified) ∙ cover.2)
 
-  pub parent_not_below : ParentNotBelow signature_of network
+  pub parent_not_below : ParentNotBelow network
   parent_not_below final p finalized notarized high =
       elim (cases_lt p.parent final.round.view) [
         | inl low ↦ absurd (not_skipped final p finalized notarized low high)
         | inr h ↦ h
       ]
 
-  chain_head : (p q : Proposal D) (rest : List (Proposal D)) → Chain signature_of network (q ∷ rest) → Backed signature_of network (subject.Notarize q)
+  chain_head : (p q : Proposal D) (rest : List (Proposal D)) → Chain network (q ∷ rest) → Backed network (subject.Notarize q)
   chain_head p q [] chain = chain
   chain_head p q (r ∷ rest) chain = chain.0
 
   -- the step of a chain over the finalized view
-  meets_finalized : (final p q : Proposal D) → Backed signature_of network (subject.Finalize final) → Backed signature_of network (subject.Notarize p) → Backed signature_of network (subject.Notarize q) → p.parent ≡ q.round.view → final.round.view < p.round.view → q.round.view ≤ final.round.view → q ≡ final
+  meets_finalized : (final p q : Proposal D) → Backed network (subject.Finalize final) → Backed network (subject.Notarize p) → Backed network (subject.Notarize q) → p.parent ≡ q.round.view → final.round.view < p.round.view → q.round.view ≤ final.round.view → q ≡ final
   meets_finalized final p q finalized has_p has_q named above below =
       let low = parent_not_below final p finalized has_p above in
       one_proposal q final (inl has_q) (inr finalized) (omega arith)
 
-  pub chain_holds_finalized : ChainHoldsFinalized signature_of network
+  pub chain_holds_finalized : ChainHoldsFinalized network
   chain_holds_finalized final high low [] finalized chain has_high has_low above below = absurd (omega (arith, has_high.1))
   chain_holds_finalized final high low (p ∷ []) finalized chain has_high has_low above below =
       let top = ap (λ x. x.round.view) (is_only p high has_high) in

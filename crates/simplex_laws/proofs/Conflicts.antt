@@ -18,22 +18,22 @@ use Rattle.simplex_laws.proofs.Paths.{tracked_by}
 use Rattle.simplex_laws.proofs.WithinLives.{InOrderly, alive_still, alive_joined, each_call}
 
 -- conflicts stay, and what is kept does not begin lower
-pub record Keeps {K L D G : Type 0} (replies : List (Told K D G)) (x y : Facts K L D) : Type 0 where
+pub record Keeps {K L D : Type 0} (replies : List (Told K D)) (x y : Facts K L D) : Type 0 where
   pub floor : min_active x ≤ min_active y
   pub conflicts : ConflictsStay replies x y
 
-module _ {K D G : Type 0} where
-  more_dropped : (told : Told K D G) (replies : List (Told K D G)) (v : ℕ) → IsDropped replies v → IsDropped (told ∷ replies) v
+module _ {K D : Type 0} where
+  more_dropped : (told : Told K D) (replies : List (Told K D)) (v : ℕ) → IsDropped replies v → IsDropped (told ∷ replies) v
   more_dropped told replies v (views, there, among) = (views, Contains-cons_rest told replies _ there, among)
 
-  first_dropped : (told : Told K D G) (replies : List (Told K D G)) (v : ℕ) → IsDropped (told ∷ []) v → IsDropped (told ∷ replies) v
+  first_dropped : (told : Told K D) (replies : List (Told K D)) (v : ℕ) → IsDropped (told ∷ []) v → IsDropped (told ∷ replies) v
   first_dropped told replies v (views, there, among) = (views, Contains-append_left (told ∷ []) replies _ there, among)
 
-module _ {K L D G : Type 0} where
-  pub keeps : (replies : List (Told K D G)) (x : Facts K L D) → Keeps replies x x
+module _ {K L D : Type 0} where
+  pub keeps : (replies : List (Told K D)) (x : Facts K L D) → Keeps replies x x
   keeps replies x = record { floor = omega arith; conflicts = λ v is. inl is }
 
-  pub keeps_on : (told : Told K D G) (replies : List (Told K D G)) (x y z : Facts K L D) → Keeps (told ∷ []) x y → Keeps replies y z → Keeps (told ∷ replies) x z
+  pub keeps_on : (told : Told K D) (replies : List (Told K D)) (x y z : Facts K L D) → Keeps (told ∷ []) x y → Keeps replies y z → Keeps (told ∷ replies) x z
   keeps_on told replies x y z p q = record { floor = omega (arith, p.floor, q.floor); conflicts = conflicts }
     where
       conflicts : ConflictsStay (told ∷ replies) x z
@@ -45,34 +45,34 @@ module _ {K L D G : Type 0} where
         ]
       ]
 
-module _ {K L D G : Type 0} (same : D → D → Bool) (elect : Elect L) (signature_of : ℕ → Subject D → G) where
-  call_keeps : (call : CallFacts D) (x : Facts K L D) → InOrder x → is_allowed x call ≡ true → Keeps (answer same elect signature_of x call ∷ []) x (after_call same elect signature_of x call)
+module _ {K L D : Type 0} (same : D → D → Bool) (elect : Elect L) where
+  call_keeps : (call : CallFacts D) (x : Facts K L D) → InOrder x → is_allowed x call ≡ true → Keeps (answer same elect x call ∷ []) x (after_call same elect x call)
   call_keeps call x ordered allowed = record { floor = floor; conflicts = conflicts }
     where
-      floor : min_active x ≤ min_active (after_call same elect signature_of x call)
-      floor = floor_goes x _ (call_goes same elect x signature_of call)
+      floor : min_active x ≤ min_active (after_call same elect x call)
+      floor = floor_goes x _ (call_goes same elect x call)
 
-      conflicts : ConflictsStay (answer same elect signature_of x call ∷ []) x (after_call same elect signature_of x call)
-      conflicts v is = elim (call_lasts same elect x ordered signature_of call allowed v) [
+      conflicts : ConflictsStay (answer same elect x call ∷ []) x (after_call same elect x call)
+      conflicts v is = elim (call_lasts same elect x ordered call allowed v) [
         | inl lasts ↦ inl (lasts.conflict is)
         | inr drops ↦ inr (record { dropped = drops.dropped (tracked_by x v (λ r. r.slot.conflict) refl is); below = omega (arith, drops.gone.below, floor) })
       ]
 
-  work_keeps : (call : WorkCall D) (x : Facts K L D) (o : Openings K D) → InOrder x → work_allowed x o call ≡ true → Keeps (work_answer same elect signature_of x o call ∷ []) x (after_work same elect x o call)
+  work_keeps : (call : WorkCall D) (x : Facts K L D) (o : Openings K D) → InOrder x → work_allowed x o call ≡ true → Keeps (work_answer same elect x o call ∷ []) x (after_work same elect x o call)
   work_keeps call x o ordered allowed = record {
     floor = floor_goes x _ (work_goes same elect x o call);
     conflicts = λ v is. inl ((work_lasts same elect x ordered o call allowed v).conflict is);
   }
 
-  told_keeps : (m : MemberFacts K L D G) (call : LifeCall D) (told : Told K D G) (left : MemberFacts K L D G) → IsStep same elect signature_of m (as_step call) told left → WhileAlive (InOrderly (Keeps (told ∷ []))) m.life left.life
+  told_keeps : (m : MemberFacts K L D) (call : LifeCall D) (told : Told K D) (left : MemberFacts K L D) → IsStep same elect m (as_step call) told left → WhileAlive (InOrderly (Keeps (told ∷ []))) m.life left.life
   told_keeps =
-      each_call same elect signature_of (λ call told. InOrderly (Keeps (told ∷ [])))
+      each_call same elect (λ call told. InOrderly (Keeps (told ∷ [])))
       (λ call fault x ordered. (ordered, keeps (Refused fault ∷ []) x)) (λ call x ordered. (ordered, keeps (NotAllowed ∷ []) x))
-      (λ call x allowed ordered. (order_call same elect signature_of x ordered call, call_keeps call x ordered allowed))
+      (λ call x allowed ordered. (order_call same elect x ordered call, call_keeps call x ordered allowed))
       (λ call x o allowed ordered. (order_work same elect x o ordered call, work_keeps call x o ordered allowed))
 
-  pub life_keeps : (m end : MemberFacts K L D G) (calls : List (LifeCall D)) (replies : List (Told K D G)) → IsLife same elect signature_of m calls replies end → WhileAlive (InOrderly (Keeps replies)) m.life end.life
-  life_keeps m end [] [] life = subst (λ n. WhileAlive (InOrderly (Keeps {G = G} [])) m.life n.life) life (alive_still (InOrderly (Keeps {G = G} [])) m.life (λ x ordered. (ordered, keeps [] x)))
+  pub life_keeps : (m end : MemberFacts K L D) (calls : List (LifeCall D)) (replies : List (Told K D)) → IsLife same elect m calls replies end → WhileAlive (InOrderly (Keeps replies)) m.life end.life
+  life_keeps m end [] [] life = subst (λ n. WhileAlive (InOrderly (Keeps [])) m.life n.life) life (alive_still (InOrderly (Keeps [])) m.life (λ x ordered. (ordered, keeps [] x)))
   life_keeps m end [] (told ∷ replies) life = absurd life
   life_keeps m end (call ∷ calls) [] life = absurd life
   life_keeps m end (call ∷ calls) (told ∷ replies) (next, is_call, rest) =

@@ -19,59 +19,59 @@ use Rattle.simplex_laws.proofs.Filters.{filter_split, filter_middle, Contains-fi
 use Rattle.simplex_laws.proofs.Recalls.{Remembers}
 use Rattle.simplex_laws.proofs.Remembering.{remembers_more, grows_certificate}
 
-module _ {D G : Type 0} (deeds : List (Deed D G)) (kept : ℕ) (entries : List (ArtifactFacts D G)) (remembers : Remembers deeds kept entries) where
+module _ {D : Type 0} (deeds : List (Deed D)) (kept : ℕ) (entries : List (ArtifactFacts D)) (remembers : Remembers deeds kept entries) where
   -- entries of each view in the same order
 
-  module _ (copy : List (ArtifactFacts D G)) (of_each_view : (v : ℕ) → filter (λ e. entry_view e == v) copy ≡ filter (λ e. entry_view e == v) entries) where
-    pub in_record : (e : ArtifactFacts D G) → Contains copy e → Contains entries e
+  module _ (copy : List (ArtifactFacts D)) (of_each_view : (v : ℕ) → filter (λ e. entry_view e == v) copy ≡ filter (λ e. entry_view e == v) entries) where
+    pub in_record : (e : ArtifactFacts D) → Contains copy e → Contains entries e
     in_record e h =
-        let test : ArtifactFacts D G → Bool = λ f. entry_view f == entry_view e in
+        let test : ArtifactFacts D → Bool = λ f. entry_view f == entry_view e in
         Contains-filtered test entries e (subst (λ es. Contains es e) (of_each_view (entry_view e)) (Contains-filter test copy e h (eq-eqb (entry_view e) (entry_view e) refl)))
 
-    pub in_copy : (e : ArtifactFacts D G) → Contains entries e → Contains copy e
+    pub in_copy : (e : ArtifactFacts D) → Contains entries e → Contains copy e
     in_copy e h =
-        let test : ArtifactFacts D G → Bool = λ f. entry_view f == entry_view e in
+        let test : ArtifactFacts D → Bool = λ f. entry_view f == entry_view e in
         Contains-filtered test copy e (subst (λ es. Contains es e) (sym (of_each_view (entry_view e))) (Contains-filter test entries e h (eq-eqb (entry_view e) (entry_view e) refl)))
 
-    copy_judged : (before after : List (ArtifactFacts D G)) (p : Proposal D) (m : ℕ) (signature : G) → copy ≡ before ++ FinalizeVote p m signature ∷ after → (round : Round) × Contains before (Verdict round true) × (round.view ≡ p.round.view)
-    copy_judged before after p m signature split =
+    copy_judged : (before after : List (ArtifactFacts D)) (p : Proposal D) (m : ℕ) → copy ≡ before ++ FinalizeVote p m ∷ after → (round : Round) × Contains before (Verdict round true) × (round.view ≡ p.round.view)
+    copy_judged before after p m split =
         let v = p.round.view in
-        let test : ArtifactFacts D G → Bool = λ f. entry_view f == v in
-        let vote : ArtifactFacts D G = FinalizeVote p m signature in
+        let test : ArtifactFacts D → Bool = λ f. entry_view f == v in
+        let vote : ArtifactFacts D = FinalizeVote p m in
         let same : filter test entries ≡ filter test before ++ vote ∷ filter test after = sym (of_each_view v) ∙ (ap (filter test) split ∙ filter_middle test before after vote (eq-eqb v v refl)) in
         let whole = filter_split test entries (filter test before) (filter test after) vote same in
-        let verdict = remembers.judged whole.0 whole.1 p m signature whole.2 in
+        let verdict = remembers.judged whole.0 whole.1 p m whole.2 in
         let kept_there : Contains (filter test whole.0) (Verdict verdict.0 true) = Contains-filter test whole.0 (Verdict verdict.0 true) verdict.1 (eq-eqb verdict.0.view v verdict.2) in
         (verdict.0, Contains-filtered test before (Verdict verdict.0 true) (subst (λ es. Contains es (Verdict verdict.0 true)) (sym whole.3) kept_there), verdict.2)
 
     pub copy_remembers : Remembers deeds kept copy
     copy_remembers = record {
       accepted = λ c h. remembers.accepted c (in_record (Accepted c) h);
-      nullify_cast = λ round m signature h. remembers.nullify_cast round m signature (in_record (NullifyVote round m signature) h);
-      finalize_cast = λ p m signature h. remembers.finalize_cast p m signature (in_record (FinalizeVote p m signature) h);
-      nullify_kept = λ round h. elim (remembers.nullify_kept round h) [ inl e ↦ inl (e.0, e.1, in_copy (NullifyVote round e.0 e.1) e.2) | inr below ↦ inr below ];
-      finalize_kept = λ p h. elim (remembers.finalize_kept p h) [ inl e ↦ inl (e.0, e.1, in_copy (FinalizeVote p e.0 e.1) e.2) | inr below ↦ inr below ];
+      nullify_cast = λ round m h. remembers.nullify_cast round m (in_record (NullifyVote round m) h);
+      finalize_cast = λ p m h. remembers.finalize_cast p m (in_record (FinalizeVote p m) h);
+      nullify_kept = λ round h. elim (remembers.nullify_kept round h) [ inl e ↦ inl (e.0, in_copy (NullifyVote round e.0) e.1) | inr below ↦ inr below ];
+      finalize_kept = λ p h. elim (remembers.finalize_kept p h) [ inl e ↦ inl (e.0, in_copy (FinalizeVote p e.0) e.1) | inr below ↦ inr below ];
       above_genesis = remembers.above_genesis;
       judged = copy_judged;
     }
 
   -- without last entries that are no votes
 
-  pub left_remembers : (left tail : List (ArtifactFacts D G)) → entries ≡ left ++ tail → ((e : ArtifactFacts D G) → Contains tail e → is_vote e ≡ false) → Remembers deeds kept left
+  pub left_remembers : (left tail : List (ArtifactFacts D)) → entries ≡ left ++ tail → ((e : ArtifactFacts D) → Contains tail e → is_vote e ≡ false) → Remembers deeds kept left
   left_remembers left tail split no_votes = record {
     accepted = λ c h. remembers.accepted c (there (Accepted c) h);
-    nullify_cast = λ round m signature h. remembers.nullify_cast round m signature (there (NullifyVote round m signature) h);
-    finalize_cast = λ p m signature h. remembers.finalize_cast p m signature (there (FinalizeVote p m signature) h);
-    nullify_kept = λ round h. elim (remembers.nullify_kept round h) [ inl e ↦ inl (e.0, e.1, voted (NullifyVote round e.0 e.1) refl e.2) | inr below ↦ inr below ];
-    finalize_kept = λ p h. elim (remembers.finalize_kept p h) [ inl e ↦ inl (e.0, e.1, voted (FinalizeVote p e.0 e.1) refl e.2) | inr below ↦ inr below ];
+    nullify_cast = λ round m h. remembers.nullify_cast round m (there (NullifyVote round m) h);
+    finalize_cast = λ p m h. remembers.finalize_cast p m (there (FinalizeVote p m) h);
+    nullify_kept = λ round h. elim (remembers.nullify_kept round h) [ inl e ↦ inl (e.0, voted (NullifyVote round e.0) refl e.1) | inr below ↦ inr below ];
+    finalize_kept = λ p h. elim (remembers.finalize_kept p h) [ inl e ↦ inl (e.0, voted (FinalizeVote p e.0) refl e.1) | inr below ↦ inr below ];
     above_genesis = remembers.above_genesis;
-    judged = λ before after p m signature is. remembers.judged before (after ++ tail) p m signature (split ∙ (ap (λ es. es ++ tail) is ∙ append_assoc before (FinalizeVote p m signature ∷ after) tail));
+    judged = λ before after p m is. remembers.judged before (after ++ tail) p m (split ∙ (ap (λ es. es ++ tail) is ∙ append_assoc before (FinalizeVote p m ∷ after) tail));
   }
     where
-      there : (e : ArtifactFacts D G) → Contains left e → Contains entries e
+      there : (e : ArtifactFacts D) → Contains left e → Contains entries e
       there e h = subst (λ es. Contains es e) (sym split) (Contains-append_left left tail e h)
 
-      voted : (e : ArtifactFacts D G) → is_vote e ≡ true → Contains entries e → Contains left e
+      voted : (e : ArtifactFacts D) → is_vote e ≡ true → Contains entries e → Contains left e
       voted e vote h = elim (Contains-append_cases left tail e (subst (λ es. Contains es e) split h)) [
         | inl old ↦ old
         | inr dropped ↦ absurd (false≢true (sym (no_votes e dropped) ∙ vote))
@@ -82,33 +82,33 @@ module _ {D G : Type 0} (deeds : List (Deed D G)) (kept : ℕ) (entries : List (
   pub bounded_remembers : (bound : ℕ) → Remembers deeds (max kept bound) (filter (λ e. nat_le bound (entry_view e)) entries)
   bounded_remembers bound = record {
     accepted = λ c h. remembers.accepted c (Contains-filtered test entries (Accepted c) h);
-    nullify_cast = λ round m signature h. remembers.nullify_cast round m signature (Contains-filtered test entries (NullifyVote round m signature) h);
-    finalize_cast = λ p m signature h. remembers.finalize_cast p m signature (Contains-filtered test entries (FinalizeVote p m signature) h);
+    nullify_cast = λ round m h. remembers.nullify_cast round m (Contains-filtered test entries (NullifyVote round m) h);
+    finalize_cast = λ p m h. remembers.finalize_cast p m (Contains-filtered test entries (FinalizeVote p m) h);
     nullify_kept = λ round h. elim (remembers.nullify_kept round h) [
       | inr below ↦ inr (omega arith)
       | inl e ↦ elim (cases_Bool (nat_le bound round.view)) [
-        | inl stays ↦ inl (e.0, e.1, Contains-filter test entries (NullifyVote round e.0 e.1) e.2 stays)
+        | inl stays ↦ inl (e.0, Contains-filter test entries (NullifyVote round e.0) e.1 stays)
         | inr falls ↦ inr (omega (arith, leb-false bound round.view falls))
       ]
     ];
     finalize_kept = λ p h. elim (remembers.finalize_kept p h) [
       | inr below ↦ inr (omega arith)
       | inl e ↦ elim (cases_Bool (nat_le bound p.round.view)) [
-        | inl stays ↦ inl (e.0, e.1, Contains-filter test entries (FinalizeVote p e.0 e.1) e.2 stays)
+        | inl stays ↦ inl (e.0, Contains-filter test entries (FinalizeVote p e.0) e.1 stays)
         | inr falls ↦ inr (omega (arith, leb-false bound p.round.view falls))
       ]
     ];
     above_genesis = remembers.above_genesis;
-    judged = λ before after p m signature split.
-        (let whole = filter_split test entries before after (FinalizeVote p m signature) split in
-        let verdict = remembers.judged whole.0 whole.1 p m signature whole.2 in
-        let here : Contains (filter test entries) (FinalizeVote p m signature) = subst (λ es. Contains es (FinalizeVote p m signature)) (sym split) (Contains-middle before after (FinalizeVote p m signature)) in
-        let passes : nat_le bound p.round.view ≡ true = filtered_passes test entries (FinalizeVote p m signature) here in
+    judged = λ before after p m split.
+        (let whole = filter_split test entries before after (FinalizeVote p m) split in
+        let verdict = remembers.judged whole.0 whole.1 p m whole.2 in
+        let here : Contains (filter test entries) (FinalizeVote p m) = subst (λ es. Contains es (FinalizeVote p m)) (sym split) (Contains-middle before after (FinalizeVote p m)) in
+        let passes : nat_le bound p.round.view ≡ true = filtered_passes test entries (FinalizeVote p m) here in
         let stays : nat_le bound verdict.0.view ≡ true = ap (nat_le bound) verdict.2 ∙ passes in
         (verdict.0, subst (λ es. Contains es (Verdict verdict.0 true)) (sym whole.3) (Contains-filter test whole.0 (Verdict verdict.0 true) verdict.1 stays), verdict.2));
   }
     where
-      test : ArtifactFacts D G → Bool
+      test : ArtifactFacts D → Bool
       test e = nat_le bound (entry_view e)
 
   -- with the floor's finalization

@@ -31,24 +31,24 @@ module _ {K L D : Type 0} (x : Facts K L D) where
       test : nat_le (min_active x) v ≡ false
       test = grind (arith, nat_tests)
 
-module _ (G : Type 0) {K L D : Type 0} (low : ℕ) (x : Facts K L D) (active : low ≤ min_active x) (reached : low ≤ x.current) where
+module _ {K L D : Type 0} (low : ℕ) (x : Facts K L D) (active : low ≤ min_active x) (reached : low ≤ x.current) where
   -- no event notes a view below the bound
 
-  pub covers_above : (e : Event K D G) → IsEvent x e → (v : ℕ) → v < low → covers_from v e ≡ false
+  pub covers_above : (e : Event K D) → IsEvent x e → (v : ℕ) → v < low → covers_from v e ≡ false
   covers_above (AddNullification c now) takes v below = apart_from low x active c.round v takes below
   covers_above (Replay e) takes v below = replays e takes
     where
-      replays : (a : ArtifactFacts D G) → TakesReplay x (as_artifact {K = K} a) → covers_from {K = K} v (Replay a) ≡ false
+      replays : (a : ArtifactFacts D) → TakesReplay x (as_artifact {K = K} a) → covers_from {K = K} v (Replay a) ≡ false
       replays (Accepted (Nullified c)) t = apart_from low x active c.round v t.kept below
       replays (Accepted (Notarized c)) t = refl
       replays (Accepted (Finalized c)) t = refl
-      replays (NotarizeVote p signer signature) t = refl
-      replays (NullifyVote round signer signature) t = refl
-      replays (FinalizeVote p signer signature) t = refl
+      replays (NotarizeVote p signer) t = refl
+      replays (NullifyVote round signer) t = refl
+      replays (FinalizeVote p signer) t = refl
       replays (Verdict round success) t = refl
   covers_above _ takes v below = refl
 
-  pub casts_above : (e : Event K D G) → IsEvent x e → (v : ℕ) → v < low → casts_nullify v x e ≡ false
+  pub casts_above : (e : Event K D) → IsEvent x e → (v : ℕ) → v < low → casts_nullify v x e ≡ false
   casts_above (ConstructNullify w) takes v below = by_rule (may_nullify x w) refl
     where
       by_rule : (b : Bool) → may_nullify x w ≡ b → (may_nullify x w && is_some x.me && eqb v w) ≡ false
@@ -56,21 +56,21 @@ module _ (G : Type 0) {K L D : Type 0} (low : ℕ) (x : Facts K L D) (active : l
       by_rule true may = rw (ne_eqb v w (λ same. absurd (omega (arith, same, (nullify_parts x w may).current, reached, below)))) (and_false (may_nullify x w && is_some x.me))
   casts_above (Replay e) takes v below = replays e takes
     where
-      replays : (a : ArtifactFacts D G) → TakesReplay x (as_artifact {K = K} a) → casts_nullify v x (Replay a) ≡ false
-      replays (NullifyVote round signer signature) t = apart_from low x active round v t.kept below
-      replays (NotarizeVote p signer signature) t = refl
-      replays (FinalizeVote p signer signature) t = refl
+      replays : (a : ArtifactFacts D) → TakesReplay x (as_artifact {K = K} a) → casts_nullify v x (Replay a) ≡ false
+      replays (NullifyVote round signer) t = apart_from low x active round v t.kept below
+      replays (NotarizeVote p signer) t = refl
+      replays (FinalizeVote p signer) t = refl
       replays (Verdict round success) t = refl
       replays (Accepted c) t = refl
   casts_above _ takes v below = refl
 
-module _ {K L D G : Type 0} (same : D → D → Bool) (elect : Elect L) (x : Facts K L D) where
+module _ {K L D : Type 0} (same : D → D → Bool) (elect : Elect L) (x : Facts K L D) where
   -- what a prune takes out of them
 
-  pub nullified_dropped : (e : Event K D G) (v : ℕ) → v < (if is_prune e then min_active x else 0) → is_among (after_event same elect x e).nullified v ≡ false
+  pub nullified_dropped : (e : Event K D) (v : ℕ) → v < (if is_prune e then min_active x else 0) → is_among (after_event same elect x e).nullified v ≡ false
   nullified_dropped Prune v below = left_none x x.nullified v below
   nullified_dropped _ v below = absurd (omega (arith, below))
 
-  pub votes_dropped : (e : Event K D G) (v : ℕ) → v < (if is_prune e then min_active x else 0) → is_among (after_event same elect x e).nullify_votes v ≡ false
+  pub votes_dropped : (e : Event K D) (v : ℕ) → v < (if is_prune e then min_active x else 0) → is_among (after_event same elect x e).nullify_votes v ≡ false
   votes_dropped Prune v below = left_none x x.nullify_votes v below
   votes_dropped _ v below = absurd (omega (arith, below))

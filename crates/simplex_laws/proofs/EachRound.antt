@@ -35,7 +35,7 @@ module _ {K L D : Type 0} where
       by_kept true is = inl (ap (λ o. unwrap_or o (new_round x.me x.members (round_number x v))) (pruned_view x v ∙ ap (λ b. cond b (round_at x v) None) is))
       by_kept false is = inr (record { below = omega (arith, leb-false (min_active x) v is); untracked = pruned_view x v ∙ ap (λ b. cond b (round_at x v) None) is })
 
-module _ {K L D G : Type 0} (same : D → D → Bool) (elect : Elect L) (begun : Facts K L D) (e : Event K D G) where
+module _ {K L D : Type 0} (same : D → D → Bool) (elect : Elect L) (begun : Facts K L D) (e : Event K D) where
   ended : (x : Facts K L D) (v : ℕ) (b : Bool) (r : RoundFacts K D) → RoundStep same elect begun e x v r (if b then without_token r else r)
   ended x v false r = step.Kept
   ended x v true r = ends (is_some (token_of r.certification)) refl
@@ -69,11 +69,11 @@ module _ {K L D G : Type 0} (same : D → D → Bool) (elect : Elect L) (begun :
 
 -- the same with a prune, which drops a round or leaves it
 
-prune_alone : {K L D G : Type 0} (same : D → D → Bool) (elect : Elect L) (x : Facts K L D) (e : Event K D G) → is_prune e ≡ true → after_event same elect x e ≡ after_prune x
+prune_alone : {K L D : Type 0} (same : D → D → Bool) (elect : Elect L) (x : Facts K L D) (e : Event K D) → is_prune e ≡ true → after_event same elect x e ≡ after_prune x
 prune_alone same elect x Prune is = refl
 prune_alone same elect x _ is = absurd (false≢true is)
 
-module _ {K L D G : Type 0} (same : D → D → Bool) (elect : Elect L) (x : Facts K L D) (e : Event K D G) (ordered : T (is_sorted nat_cmp x.rounds)) (low : ℕ) (Q : ℕ → RoundFacts K D → RoundFacts K D → Type 0) (on : (v : ℕ) (r s t : RoundFacts K D) → Q v r s → Q v s t → Q v r t) (changes : (y : Facts K L D) (v : ℕ) (r s : RoundFacts K D) → RoundStep same elect x e y v r s → Q v r s) where
+module _ {K L D : Type 0} (same : D → D → Bool) (elect : Elect L) (x : Facts K L D) (e : Event K D) (ordered : T (is_sorted nat_cmp x.rounds)) (low : ℕ) (Q : ℕ → RoundFacts K D → RoundFacts K D → Type 0) (on : (v : ℕ) (r s t : RoundFacts K D) → Q v r s → Q v s t → Q v r t) (changes : (y : Facts K L D) (v : ℕ) (r s : RoundFacts K D) → RoundStep same elect x e y v r s → Q v r s) where
   pub rounds_or_gone : Path same elect x e low x (after_event same elect x e) → (v : ℕ) → Q v (round_of x v) (round_of (after_event same elect x e) v) ⊎ ((is_prune e ≡ true) × IsGone x (after_event same elect x e) v)
   rounds_or_gone path v = by_prune (is_prune e) refl
     where

@@ -14,8 +14,8 @@ use Rattle.simplex_laws.proofs.WorkScans.{try_verify_works}
 use Rattle.simplex_laws.proofs.WorkTimeouts.{trigger_works, failed_works, next_timeout_works}
 use Rattle.simplex_laws.proofs.WorkVotes.{notarize_works, nullify_works, finalize_works, proposal_works}
 
-module _ {K L D G : Type 0} (same : D → D → Bool) (elect : Elect L) (x : Facts K L D) where
-  pub event_works : (e : Event K D G) → is_sorted nat_cmp x.rounds ≡ true → WorkFollows same elect e x (after_event same elect x e)
+module _ {K L D : Type 0} (same : D → D → Bool) (elect : Elect L) (x : Facts K L D) where
+  pub event_works : (e : Event K D) → is_sorted nat_cmp x.rounds ≡ true → WorkFollows same elect e x (after_event same elect x e)
   event_works (SetFloor (Genesis payload) now) ordered = genesis_works same elect x payload now
   event_works (SetFloor (Finalized c) now) ordered = floor_finalization_works same elect x c now
   event_works (AddNotarization c) ordered = notarization_works same elect x c

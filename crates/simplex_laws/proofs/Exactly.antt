@@ -36,68 +36,68 @@ no_key i e = absurd (cc)
 no_subject : {D : Type 0} (vote : Subject D) → None ≡ Some vote → ⊥
 no_subject vote e = absurd (cc)
 
-module _ {K D G : Type 0} (signature_of : ℕ → Subject D → G) where
+module _ {K D : Type 0} where
   -- no vote is told, since there is no key, the rule doesn't hold, or the call is refused
-  untold : (Rule : Type 0) (me : Option ℕ) (about : Option (Subject D)) (told : Told K D G) → signed_in told ≡ [] → ((d : Deed D G) → is_refused told ≡ false → Rule → IsSignedFor signature_of me about d → ⊥) → IsExact signature_of Rule me about told
+  untold : (Rule : Type 0) (me : Option ℕ) (about : Option (Subject D)) (told : Told K D) → signed_in told ≡ [] → ((d : Deed D) → is_refused told ≡ false → Rule → IsSignedFor me about d → ⊥) → IsExact Rule me about told
   untold Rule me about told none never = record {
-    only = λ d h. absurd (let g : Contains [] d = subst (λ (ds : List (Deed D G)). Contains ds d) none h in omega (arith, g.1));
+    only = λ d h. absurd (let g : Contains [] d = subst (λ (ds : List (Deed D)). Contains ds d) none h in omega (arith, g.1));
     due = λ d kept rule signed. absurd (never d kept rule signed);
   }
 
-  refused : (Rule : Type 0) (me : Option ℕ) (about : Option (Subject D)) (f : Fault) → IsExact {K = K} signature_of Rule me about (Refused f)
+  refused : (Rule : Type 0) (me : Option ℕ) (about : Option (Subject D)) (f : Fault) → IsExact {K = K} Rule me about (Refused f)
   refused Rule me about f = untold Rule me about (Refused f) refl (λ d kept rule signed. false≢true (sym kept))
 
   -- one is
-  told_so : (Rule : Type 0) (m : ℕ) (about : Subject D) (told : Told K D G) → Rule → signed_in told ≡ Signs m about (signature_of m about) ∷ [] → IsExact signature_of Rule (Some m) (Some about) told
+  told_so : (Rule : Type 0) (m : ℕ) (about : Subject D) (told : Told K D) → Rule → signed_in told ≡ Signs m about ∷ [] → IsExact Rule (Some m) (Some about) told
   told_so Rule m about told holds is = record {
-    only = λ d h. (let e : Signs m about (signature_of m about) ≡ d = is_only _ d (subst (λ (ds : List (Deed D G)). Contains ds d) is h) in (holds, (m, about, refl, refl, sym e)));
+    only = λ d h. (let e : Signs m about ≡ d = is_only _ d (subst (λ (ds : List (Deed D)). Contains ds d) is h) in (holds, (m, about, refl, refl, sym e)));
     due = λ d kept rule signed. (
         let key : Some m ≡ Some signed.0 = signed.2 in
         let on : Some about ≡ Some signed.1 = signed.3 in
-        let so : d ≡ Signs signed.0 signed.1 (signature_of signed.0 signed.1) = signed.4 in
+        let so : d ≡ Signs signed.0 signed.1 = signed.4 in
         let i = signed.0 in
         let vote = signed.1 in
-        let whole : Signs m about (signature_of m about) ∷ [] ≡ d ∷ [] = cc in
+        let whole : Signs m about ∷ [] ≡ d ∷ [] = cc in
         let out : signed_in told ≡ d ∷ [] = cc in out);
   }
 
   module _ (Rule : Type 0) (may : Bool) (whole : Rule → may ≡ true) (parts : may ≡ true → Rule) where
     exact_nullify : (may_be : Bool) → may ≡ may_be → (me : Option ℕ) (retry : Bool) (r : Round)
-        → IsExact {K = K} signature_of Rule me (Some (subject.Nullify r)) (Nullify (option_and_then (λ m. option_map (λ again. (again, NullifyVote r m (signature_of m (subject.Nullify r)))) (if is_some me && may_be then Some retry else None)) me))
+        → IsExact {K = K} {D = D} Rule me (Some (subject.Nullify r)) (Nullify (option_and_then (λ m. option_map (λ again. (again, NullifyVote r m)) (if is_some me && may_be then Some retry else None)) me))
     exact_nullify may_be is None retry r = untold Rule None (Some (subject.Nullify r)) _ refl (λ d kept rule signed. no_key signed.0 signed.2)
     exact_nullify true is (Some m) retry r = told_so Rule m (subject.Nullify r) _ (parts is) refl
     exact_nullify false is (Some m) retry r = untold Rule (Some m) (Some (subject.Nullify r)) _ refl (λ d kept rule signed. false≢true (let h = whole rule in cc))
 
     exact_finalize : (may_be : Bool) → may ≡ may_be → (me : Option ℕ) (p : Option (Proposal D))
-        → IsExact {K = K} signature_of Rule me (option_map subject.Finalize p) (Finalize (option_and_then (λ m. option_map (λ q. FinalizeVote q m (signature_of m (subject.Finalize q))) (if is_some me && may_be then p else None)) me))
+        → IsExact {K = K} Rule me (option_map subject.Finalize p) (Finalize (option_and_then (λ m. option_map (λ q. FinalizeVote q m) (if is_some me && may_be then p else None)) me))
     exact_finalize may_be is None p = untold Rule None (option_map subject.Finalize p) _ refl (λ d kept rule signed. no_key signed.0 signed.2)
     exact_finalize true is (Some m) (Some p) = told_so Rule m (subject.Finalize p) _ (parts is) refl
     exact_finalize true is (Some m) None = untold Rule (Some m) None _ refl (λ d kept rule signed. no_subject signed.1 signed.3)
     exact_finalize false is (Some m) p = untold Rule (Some m) (option_map subject.Finalize p) _ refl (λ d kept rule signed. false≢true (let h = whole rule in cc))
 
     exact_notarize : (may_be : Bool) → may ≡ may_be → (me : Option ℕ) (p : Option (Proposal D))
-        → IsExact {K = K} signature_of Rule me (option_map subject.Notarize p) (Notarize (option_and_then (λ m. option_map (λ q. NotarizeVote q m (signature_of m (subject.Notarize q))) (if is_some me && may_be then p else None)) me))
+        → IsExact {K = K} Rule me (option_map subject.Notarize p) (Notarize (option_and_then (λ m. option_map (λ q. NotarizeVote q m) (if is_some me && may_be then p else None)) me))
     exact_notarize may_be is None p = untold Rule None (option_map subject.Notarize p) _ refl (λ d kept rule signed. no_key signed.0 signed.2)
     exact_notarize true is (Some m) (Some p) = told_so Rule m (subject.Notarize p) _ (parts is) refl
     exact_notarize true is (Some m) None = untold Rule (Some m) None _ refl (λ d kept rule signed. no_subject signed.1 signed.3)
     exact_notarize false is (Some m) p = untold Rule (Some m) (option_map subject.Notarize p) _ refl (λ d kept rule signed. false≢true (let h = whole rule in cc))
 
-module _ {K D G : Type 0} where
+module _ {K D : Type 0} where
   -- a reply with no vote stays one where the call isn't allowed or is refused
-  still_none : (allowed : Bool) (f : Option Fault) (told : Told K D G) → signed_in told ≡ [] → signed_in (if allowed then unless_refused f told else NotAllowed) ≡ []
+  still_none : (allowed : Bool) (f : Option Fault) (told : Told K D) → signed_in told ≡ [] → signed_in (if allowed then unless_refused f told else NotAllowed) ≡ []
   still_none false f told none = refl
   still_none true (Some f) told none = refl
   still_none true None told none = none
 
-module _ (K D G : Type 0) where
-  restart_signs_none : (result : Result (Unit {0}) RecoverError) → signed_in {K = K} {D = D} {G = G} (restart_told result) ≡ []
+module _ (K D : Type 0) where
+  restart_signs_none : (result : Result (Unit {0}) RecoverError) → signed_in {K = K} {D = D} (restart_told result) ≡ []
   restart_signs_none (Ok done) = refl
   restart_signs_none (Err e) = refl
 
-module _ {K L D G : Type 0} (same : D → D → Bool) (elect : Elect L) (signature_of : ℕ → Subject D → G) where
-  call_refused : (x : Facts K L D) (call : CallFacts D) (f : Fault) → ExactAt same elect signature_of (Some x) (Calls call) (Refused f)
-  call_refused x (ConstructNullify v) f = refused signature_of (NullifyRule x v) x.me (Some (subject.Nullify (round_number x v))) f
-  call_refused x (ConstructFinalize v) f = refused signature_of (FinalizeRule elect x v) x.me (option_map subject.Finalize (held x v)) f
+module _ {K L D : Type 0} (same : D → D → Bool) (elect : Elect L) where
+  call_refused : (x : Facts K L D) (call : CallFacts D) (f : Fault) → ExactAt same elect (Some x) (Calls call) (Refused f)
+  call_refused x (ConstructNullify v) f = refused (NullifyRule x v) x.me (Some (subject.Nullify (round_number x v))) f
+  call_refused x (ConstructFinalize v) f = refused (FinalizeRule elect x v) x.me (option_map subject.Finalize (held x v)) f
   call_refused x (AddNotarization c) f = refl
   call_refused x (AddNullification c now) f = refl
   call_refused x (AddFinalization c now) f = refl
@@ -108,38 +108,38 @@ module _ {K L D G : Type 0} (same : D → D → Bool) (elect : Elect L) (signatu
   call_refused x GetBestCertificate f = refl
   call_refused x Prune f = refl
 
-  call_told : (x : Facts K L D) (call : CallFacts D) → ExactAt same elect signature_of (Some x) (Calls call) (reply_of same elect signature_of x call)
+  call_told : (x : Facts K L D) (call : CallFacts D) → ExactAt same elect (Some x) (Calls call) (reply_of same elect x call)
   call_told x (ConstructNullify v) = by_fault (plain_refusal x)
     where
-      by_fault : (f : Option Fault) → IsExact signature_of (NullifyRule x v) x.me (Some (subject.Nullify (round_number x v))) (unless_refused f (answer same elect signature_of x (ConstructNullify v)))
+      by_fault : (f : Option Fault) → IsExact (NullifyRule x v) x.me (Some (subject.Nullify (round_number x v))) (unless_refused f (answer same elect x (ConstructNullify v)))
       by_fault (Some f) = call_refused x (ConstructNullify v) f
-      by_fault None = exact_nullify signature_of (NullifyRule x v) (may_nullify x v) (nullify_whole x v) (nullify_parts x v) (may_nullify x v) refl x.me (is_nullify (round_of x v).decision) (round_number x v)
+      by_fault None = exact_nullify (NullifyRule x v) (may_nullify x v) (nullify_whole x v) (nullify_parts x v) (may_nullify x v) refl x.me (is_nullify (round_of x v).decision) (round_number x v)
   call_told x (ConstructFinalize v) = by_fault (plain_refusal x)
     where
-      by_fault : (f : Option Fault) → IsExact signature_of (FinalizeRule elect x v) x.me (option_map subject.Finalize (held x v)) (unless_refused f (answer same elect signature_of x (ConstructFinalize v)))
+      by_fault : (f : Option Fault) → IsExact (FinalizeRule elect x v) x.me (option_map subject.Finalize (held x v)) (unless_refused f (answer same elect x (ConstructFinalize v)))
       by_fault (Some f) = call_refused x (ConstructFinalize v) f
-      by_fault None = exact_finalize signature_of (FinalizeRule elect x v) (may_finalize elect x v) (finalize_whole elect x v) (finalize_parts elect x v) (may_finalize elect x v) refl x.me (held x v)
-  call_told x (AddNotarization c) = still_none (is_allowed x (AddNotarization c)) (fault_of x (AddNotarization c)) (answer same elect signature_of x (AddNotarization c)) refl
-  call_told x (AddNullification c now) = still_none (is_allowed x (AddNullification c now)) (fault_of x (AddNullification c now)) (answer same elect signature_of x (AddNullification c now)) refl
-  call_told x (AddFinalization c now) = still_none (is_allowed x (AddFinalization c now)) (fault_of x (AddFinalization c now)) (answer same elect signature_of x (AddFinalization c now)) refl
-  call_told x (Certified v success now) = still_none (is_allowed x (Certified v success now)) (fault_of x (Certified v success now)) (answer same elect signature_of x (Certified v success now)) refl
-  call_told x (BroadcastNotarization v) = still_none true (plain_refusal x) (answer same elect signature_of x (BroadcastNotarization v)) refl
-  call_told x (BroadcastNullification v) = still_none true (plain_refusal x) (answer same elect signature_of x (BroadcastNullification v)) refl
-  call_told x (BroadcastFinalization v) = still_none true (plain_refusal x) (answer same elect signature_of x (BroadcastFinalization v)) refl
-  call_told x GetBestCertificate = still_none true (plain_refusal x) (answer same elect signature_of x GetBestCertificate) refl
-  call_told x Prune = still_none true (plain_refusal x) (answer same elect signature_of x Prune) refl
+      by_fault None = exact_finalize (FinalizeRule elect x v) (may_finalize elect x v) (finalize_whole elect x v) (finalize_parts elect x v) (may_finalize elect x v) refl x.me (held x v)
+  call_told x (AddNotarization c) = still_none (is_allowed x (AddNotarization c)) (fault_of x (AddNotarization c)) (answer same elect x (AddNotarization c)) refl
+  call_told x (AddNullification c now) = still_none (is_allowed x (AddNullification c now)) (fault_of x (AddNullification c now)) (answer same elect x (AddNullification c now)) refl
+  call_told x (AddFinalization c now) = still_none (is_allowed x (AddFinalization c now)) (fault_of x (AddFinalization c now)) (answer same elect x (AddFinalization c now)) refl
+  call_told x (Certified v success now) = still_none (is_allowed x (Certified v success now)) (fault_of x (Certified v success now)) (answer same elect x (Certified v success now)) refl
+  call_told x (BroadcastNotarization v) = still_none true (plain_refusal x) (answer same elect x (BroadcastNotarization v)) refl
+  call_told x (BroadcastNullification v) = still_none true (plain_refusal x) (answer same elect x (BroadcastNullification v)) refl
+  call_told x (BroadcastFinalization v) = still_none true (plain_refusal x) (answer same elect x (BroadcastFinalization v)) refl
+  call_told x GetBestCertificate = still_none true (plain_refusal x) (answer same elect x GetBestCertificate) refl
+  call_told x Prune = still_none true (plain_refusal x) (answer same elect x Prune) refl
 
-  pub call_exact : (m next : MemberFacts K L D G) (call : CallFacts D) (told : Told K D G) → IsCall same elect signature_of m call told next → ExactAt same elect signature_of m.life (Calls call) told
+  pub call_exact : (m next : MemberFacts K L D) (call : CallFacts D) (told : Told K D) → IsCall same elect m call told next → ExactAt same elect m.life (Calls call) told
   unfolding IsCall
   call_exact m next call told is_call = by_life m.life is_call
     where
-      by_life : (o : Option (Facts K L D)) → AnswersAlive same elect signature_of o m call told next → ExactAt same elect signature_of o (Calls call) told
+      by_life : (o : Option (Facts K L D)) → AnswersAlive same elect o m call told next → ExactAt same elect o (Calls call) told
       by_life None (tells, leaves) = rw tells refl
       by_life (Some x) (inl (tells, leaves)) = rw tells (call_told x call)
       by_life (Some x) (inr (allowed, tells, leaves)) = rw tells (call_refused x call fault.OutOfMemory)
 
-  work_refused : (x : Facts K L D) (call : WorkCall D) (f : Fault) → ExactAt same elect signature_of (Some x) (Works call) (Refused f)
-  work_refused x (ConstructNotarize v) f = refused signature_of (NotarizeRule same elect x v) x.me (option_map subject.Notarize (held x v)) f
+  work_refused : (x : Facts K L D) (call : WorkCall D) (f : Fault) → ExactAt same elect (Some x) (Works call) (Refused f)
+  work_refused x (ConstructNotarize v) f = refused (NotarizeRule same elect x v) x.me (option_map subject.Notarize (held x v)) f
   work_refused x (SetProposal v p) f = refl
   work_refused x TryPropose f = refl
   work_refused x (Proposed v payload now) f = refl
@@ -154,15 +154,15 @@ module _ {K L D G : Type 0} (same : D → D → Bool) (elect : Elect L) (signatu
   work_refused x (TriggerTimeout v reason now) f = refl
   work_refused x (NextTimeout now) f = refl
 
-  silent : (x : Facts K L D) (o : Openings K D) (call : WorkCall D) → signed_in (work_answer same elect signature_of x o call) ≡ [] → signed_in (work_reply same elect signature_of x o call) ≡ []
-  silent x o call none = still_none (work_allowed x o call) (work_fault x call) (work_answer same elect signature_of x o call) none
+  silent : (x : Facts K L D) (o : Openings K D) (call : WorkCall D) → signed_in (work_answer same elect x o call) ≡ [] → signed_in (work_reply same elect x o call) ≡ []
+  silent x o call none = still_none (work_allowed x o call) (work_fault x call) (work_answer same elect x o call) none
 
-  work_told : (x : Facts K L D) (o : Openings K D) (call : WorkCall D) → ExactAt same elect signature_of (Some x) (Works call) (work_reply same elect signature_of x o call)
+  work_told : (x : Facts K L D) (o : Openings K D) (call : WorkCall D) → ExactAt same elect (Some x) (Works call) (work_reply same elect x o call)
   work_told x o (ConstructNotarize v) = by_fault (plain_refusal x)
     where
-      by_fault : (f : Option Fault) → IsExact signature_of (NotarizeRule same elect x v) x.me (option_map subject.Notarize (held x v)) (unless_refused f (work_answer same elect signature_of x o (ConstructNotarize v)))
+      by_fault : (f : Option Fault) → IsExact (NotarizeRule same elect x v) x.me (option_map subject.Notarize (held x v)) (unless_refused f (work_answer same elect x o (ConstructNotarize v)))
       by_fault (Some f) = work_refused x (ConstructNotarize v) f
-      by_fault None = exact_notarize signature_of (NotarizeRule same elect x v) (may_notarize same elect x v) (notarize_whole same elect x v) (notarize_parts same elect x v) (may_notarize same elect x v) refl x.me (held x v)
+      by_fault None = exact_notarize (NotarizeRule same elect x v) (may_notarize same elect x v) (notarize_whole same elect x v) (notarize_parts same elect x v) (may_notarize same elect x v) refl x.me (held x v)
   work_told x o (SetProposal v p) = silent x o (SetProposal v p) refl
   work_told x o TryPropose = silent x o TryPropose refl
   work_told x o (Proposed v payload now) = silent x o (Proposed v payload now) refl
@@ -177,27 +177,27 @@ module _ {K L D G : Type 0} (same : D → D → Bool) (elect : Elect L) (signatu
   work_told x o (TriggerTimeout v reason now) = silent x o (TriggerTimeout v reason now) refl
   work_told x o (NextTimeout now) = silent x o (NextTimeout now) refl
 
-  pub work_exact : (m next : MemberFacts K L D G) (call : WorkCall D) (told : Told K D G) → IsWork same elect signature_of m call told next → ExactAt same elect signature_of m.life (Works call) told
+  pub work_exact : (m next : MemberFacts K L D) (call : WorkCall D) (told : Told K D) → IsWork same elect m call told next → ExactAt same elect m.life (Works call) told
   unfolding IsWork
   work_exact m next call told is_work = by_life m.life is_work
     where
-      by_life : (o : Option (Facts K L D)) → IsWorkOf same elect signature_of o m call told next → ExactAt same elect signature_of o (Works call) told
+      by_life : (o : Option (Facts K L D)) → IsWorkOf same elect o m call told next → ExactAt same elect o (Works call) told
       by_life None (tells, leaves) = rw tells refl
       by_life (Some x) (inl (tells, leaves)) = rw tells (work_told x m.openings call)
       by_life (Some x) (inr (allowed, tells, leaves)) = rw tells (work_refused x call fault.OutOfMemory)
 
-  pub restart_exact : (life : Option (Facts K L D)) (r : RestartFacts K L D) (result : Result (Unit {0}) RecoverError) → ExactAt same elect signature_of life (Restarts r) (restart_told result)
-  restart_exact None r result = restart_signs_none K D G result
-  restart_exact (Some x) r result = restart_signs_none K D G result
+  pub restart_exact : (life : Option (Facts K L D)) (r : RestartFacts K L D) (result : Result (Unit {0}) RecoverError) → ExactAt same elect life (Restarts r) (restart_told result)
+  restart_exact None r result = restart_signs_none K D result
+  restart_exact (Some x) r result = restart_signs_none K D result
 
-  step_exact : (m next : MemberFacts K L D G) (step : StepFacts K L D) (told : Told K D G) → IsStep same elect signature_of m step told next → ExactAt same elect signature_of m.life step told
+  step_exact : (m next : MemberFacts K L D) (step : StepFacts K L D) (told : Told K D) → IsStep same elect m step told next → ExactAt same elect m.life step told
   step_exact m next (Calls call) told is_step = call_exact m next call told is_step
   step_exact m next (Works call) told is_step = work_exact m next call told is_step
   step_exact m next (Restarts r) told (result, restarts, is) = rw is (restart_exact m.life r result)
 
   -- a run comes apart at each of its steps
-  parted : (m end : MemberFacts K L D G) (before after : List (StepFacts K L D)) (step : StepFacts K L D) (heard rest : List (Told K D G)) (told : Told K D G) → length before ≡ length heard → IsRun same elect signature_of m (before ++ step ∷ after) (heard ++ told ∷ rest) end
-      → (k : MemberFacts K L D G) × IsRun same elect signature_of m before heard k × ExactAt same elect signature_of k.life step told
+  parted : (m end : MemberFacts K L D) (before after : List (StepFacts K L D)) (step : StepFacts K L D) (heard rest : List (Told K D)) (told : Told K D) → length before ≡ length heard → IsRun same elect m (before ++ step ∷ after) (heard ++ told ∷ rest) end
+      → (k : MemberFacts K L D) × IsRun same elect m before heard k × ExactAt same elect k.life step told
   parted m end [] after step [] rest told long (next, is_step, run) = (m, refl, step_exact m next step told is_step)
   parted m end [] after step (h ∷ heard) rest told long run = absurd (omega arith)
   parted m end (s ∷ before) after step [] rest told long run = absurd (omega arith)
@@ -205,10 +205,10 @@ module _ {K L D G : Type 0} (same : D → D → Bool) (elect : Elect L) (signatu
       let found = parted next end before after step heard rest told (omega arith) run in
       (found.0, (next, is_step, found.1), found.2)
 
-  pub run_exact : (s : Story K L D G) → IsRunFrom same elect signature_of s.start s.steps s.replies → SignsExactly same elect signature_of s
+  pub run_exact : (s : Story K L D) → IsRunFrom same elect s.start s.steps s.replies → SignsExactly same elect s
   unfolding IsRunFrom
   run_exact s (accepted, end, run) before after step heard rest told steps_are replies_are long =
       let m = started same elect s.start.fresh s.start.floor s.start.now in
-      let split : IsRun same elect signature_of m (before ++ step ∷ after) s.replies end = subst (λ (xs : List (StepFacts K L D)). IsRun same elect signature_of m xs s.replies end) steps_are run in
-      let whole : IsRun same elect signature_of m (before ++ step ∷ after) (heard ++ told ∷ rest) end = subst (λ (xs : List (Told K D G)). IsRun same elect signature_of m (before ++ step ∷ after) xs end) replies_are split in
+      let split : IsRun same elect m (before ++ step ∷ after) s.replies end = subst (λ (xs : List (StepFacts K L D)). IsRun same elect m xs s.replies end) steps_are run in
+      let whole : IsRun same elect m (before ++ step ∷ after) (heard ++ told ∷ rest) end = subst (λ (xs : List (Told K D)). IsRun same elect m (before ++ step ∷ after) xs end) replies_are split in
       parted m end before after step heard rest told long whole

@@ -18,12 +18,12 @@ use Rattle.simplex_laws.proofs.NotedVotes.{tied}
 use Rattle.simplex_laws.proofs.Leaving.{Known, known_of, Alike, Leaves}
 
 -- the lowest view that an event leaves
-abbrev pub left_from : {K L D G : Type 0} → Facts K L D → Event K D G → ℕ
+abbrev pub left_from : {K L D : Type 0} → Facts K L D → Event K D → ℕ
 left_from x e = if is_prune e then min_active x else 0
 
-module _ {K L D G : Type 0} (same : D → D → Bool) (elect : Elect L) where
+module _ {K L D : Type 0} (same : D → D → Bool) (elect : Elect L) where
   -- what is known of a view, with what an event says of it
-  abbrev pub adds : Facts K L D → Event K D G → ℕ → Known D → Known D
+  abbrev pub adds : Facts K L D → Event K D → ℕ → Known D → Known D
   adds x e v k = record {
     notarization = or_new k.notarization (notarizes v e);
     nullification = or_new k.nullification (nullifies v e);
@@ -40,11 +40,11 @@ module _ {K L D G : Type 0} (same : D → D → Bool) (elect : Elect L) where
   }
 
   -- an event says nothing of a view
-  abbrev pub IsElsewhere : Facts K L D → Event K D G → ℕ → Type 0
+  abbrev pub IsElsewhere : Facts K L D → Event K D → ℕ → Type 0
   IsElsewhere x e v = (k : Known D) → adds x e v k ≡ k
 
   -- the facts after an event are those before with what it says
-  pub record Follows (e : Event K D G) (x y : Facts K L D) : Type 0 where
+  pub record Follows (e : Event K D) (x y : Facts K L D) : Type 0 where
     pub settings : y.settings ≡ x.settings
     pub terms : y.terms ≡ x.terms
     pub genesis : y.genesis ≡ option_or (sets_genesis e) x.genesis
@@ -57,7 +57,7 @@ module _ {K L D G : Type 0} (same : D → D → Bool) (elect : Elect L) where
     pub rounds : (v : ℕ) → left_from x e ≤ v → known_of (round_of y v) ≡ adds x e v (known_of (round_of x v))
 
   -- an event says nothing
-  pub record IsSilent (x : Facts K L D) (e : Event K D G) : Type 0 where
+  pub record IsSilent (x : Facts K L D) (e : Event K D) : Type 0 where
     pub genesis : sets_genesis e ≡ None
     pub entered : (term_length : ℕ) → entered_by term_length (is_tracked x) e ≡ 0
     pub finalized : finalized_by e ≡ 0
@@ -85,7 +85,7 @@ among_noted k v (u ∷ ks) =
     swapped true false c = refl
     swapped false b c = refl
 
-module _ {K L D G : Type 0} (same : D → D → Bool) (elect : Elect L) (x : Facts K L D) (e : Event K D G) where
+module _ {K L D : Type 0} (same : D → D → Bool) (elect : Elect L) (x : Facts K L D) (e : Event K D) where
   -- between changes that leave a round alike
   pub added_between : (v : ℕ) (q r s t : RoundFacts K D) → Alike q r → known_of s ≡ adds same elect x e v (known_of r) → Alike s t → known_of t ≡ adds same elect x e v (known_of q)
   added_between v q r s t before added after = after ∙ added ∙ ap (adds same elect x e v) before

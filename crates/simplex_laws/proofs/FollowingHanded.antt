@@ -58,14 +58,14 @@ module _ {D : Type 0} (same : D → D → Bool) (decides : (d e : D) → same d 
 
 -- the first of its kind is kept
 
-module _ (G : Type 0) {K L D : Type 0} (same : D → D → Bool) (decides : (d e : D) → same d e ≡ true → d ≡ e) (elect : Elect L) (x : Facts K L D) (c : ProposalFacts D) (r : RoundFacts K D) where
-  notarization_added : r.notarization ≡ (round_of x c.proposal.round.view).notarization → known_of (with_notarization (same_proposal same) r c) ≡ adds {G = G} same elect x (AddNotarization c) c.proposal.round.view (known_of r)
+module _ {K L D : Type 0} (same : D → D → Bool) (decides : (d e : D) → same d e ≡ true → d ≡ e) (elect : Elect L) (x : Facts K L D) (c : ProposalFacts D) (r : RoundFacts K D) where
+  notarization_added : r.notarization ≡ (round_of x c.proposal.round.view).notarization → known_of (with_notarization (same_proposal same) r c) ≡ adds same elect x (AddNotarization c) c.proposal.round.view (known_of r)
   notarization_added stands = first r.notarization refl
     where
       v : ℕ
       v = c.proposal.round.view
 
-      first : (o : Option (ProposalFacts D)) → r.notarization ≡ o → known_of (with_notarization (same_proposal same) r c) ≡ adds {G = G} same elect x (AddNotarization c) v (known_of r)
+      first : (o : Option (ProposalFacts D)) → r.notarization ≡ o → known_of (with_notarization (same_proposal same) r c) ≡ adds same elect x (AddNotarization c) v (known_of r)
       first None is =
           let none : is_none (round_of x v).notarization ≡ true = ap is_none (sym stands ∙ is) in
           rw (is, none, eq-eqb v v refl) (λ i. record (known_of r) { notarization = Some c; held = settled_held same decides r.slot c.proposal i; conflict = settled_conflict same decides r.slot c.proposal i })
@@ -73,13 +73,13 @@ module _ (G : Type 0) {K L D : Type 0} (same : D → D → Bool) (decides : (d e
           let some : is_none (round_of x v).notarization ≡ false = ap is_none (sym stands ∙ is) in
           rw (is, some, eq-eqb v v refl) refl
 
-  finalization_added : (now : ℕ) → r.finalization ≡ (round_of x c.proposal.round.view).finalization → known_of (with_finalization (same_proposal same) r c) ≡ adds {G = G} same elect x (AddFinalization c now) c.proposal.round.view (known_of r)
+  finalization_added : (now : ℕ) → r.finalization ≡ (round_of x c.proposal.round.view).finalization → known_of (with_finalization (same_proposal same) r c) ≡ adds same elect x (AddFinalization c now) c.proposal.round.view (known_of r)
   finalization_added now stands = first r.finalization refl
     where
       v : ℕ
       v = c.proposal.round.view
 
-      first : (o : Option (ProposalFacts D)) → r.finalization ≡ o → known_of (with_finalization (same_proposal same) r c) ≡ adds {G = G} same elect x (AddFinalization c now) v (known_of r)
+      first : (o : Option (ProposalFacts D)) → r.finalization ≡ o → known_of (with_finalization (same_proposal same) r c) ≡ adds same elect x (AddFinalization c now) v (known_of r)
       first None is =
           let none : is_none (round_of x v).finalization ≡ true = ap is_none (sym stands ∙ is) in
           rw (is, none, eq-eqb v v refl) (λ i. record (known_of r) { finalization = Some c; held = settled_held same decides r.slot c.proposal i; conflict = settled_conflict same decides r.slot c.proposal i })
@@ -87,18 +87,18 @@ module _ (G : Type 0) {K L D : Type 0} (same : D → D → Bool) (decides : (d e
           let some : is_none (round_of x v).finalization ≡ false = ap is_none (sym stands ∙ is) in
           rw (is, some, eq-eqb v v refl) refl
 
-module _ (G : Type 0) {K L D : Type 0} (same : D → D → Bool) (elect : Elect L) (x : Facts K L D) (c : NullificationFacts) (now : ℕ) (r : RoundFacts K D) where
-  nullification_added : known_of (with_nullification r c) ≡ adds {G = G} same elect x (AddNullification c now) c.round.view (known_of r)
+module _ {K L D : Type 0} (same : D → D → Bool) (elect : Elect L) (x : Facts K L D) (c : NullificationFacts) (now : ℕ) (r : RoundFacts K D) where
+  nullification_added : known_of (with_nullification r c) ≡ adds same elect x (AddNullification c now) c.round.view (known_of r)
   nullification_added = first r.nullification refl
     where
-      first : (o : Option NullificationFacts) → r.nullification ≡ o → known_of (with_nullification r c) ≡ adds {G = G} same elect x (AddNullification c now) c.round.view (known_of r)
+      first : (o : Option NullificationFacts) → r.nullification ≡ o → known_of (with_nullification r c) ≡ adds same elect x (AddNullification c now) c.round.view (known_of r)
       first None is = rw (is, eq-eqb c.round.view c.round.view refl) refl
       first (Some d) is = rw (is, eq-eqb c.round.view c.round.view refl) refl
 
 -- proposal certificates
 
-module _ {K L D G : Type 0} (same : D → D → Bool) (decides : (d e : D) → same d e ≡ true → d ≡ e) (elect : Elect L) (x : Facts K L D) (c : ProposalFacts D) where
-  pub notarization_follows : Follows {G = G} same elect (AddNotarization c) x (after_add_notarization same elect x c)
+module _ {K L D : Type 0} (same : D → D → Bool) (decides : (d e : D) → same d e ≡ true → d ≡ e) (elect : Elect L) (x : Facts K L D) (c : ProposalFacts D) where
+  pub notarization_follows : Follows same elect (AddNotarization c) x (after_add_notarization same elect x c)
   notarization_follows =
       let v = c.proposal.round.view in
       let d = elected elect x (v + 1) (Some c.bytes) in
@@ -116,10 +116,10 @@ module _ {K L D G : Type 0} (same : D → D → Bool) (decides : (d e : D) → s
         nullified = λ w _. ap (λ views. is_among views w) (after.nullified ∙ before.nullified);
         nullify_votes = λ w _. ap (λ views. is_among views w) (after.nullify_votes ∙ before.nullify_votes);
         ordered = λ h. after.ordered (put_ordered d v (with_notarization (same_proposal same) (round_of d v) c) (before.ordered h));
-        rounds = λ w _. put_between {G = G} same elect x (AddNotarization c) d y v (with_notarization (same_proposal same) (round_of d v) c) before.rounds (notarization_added G same decides elect x c (round_of d v) (ap (λ k. k.notarization) (before.rounds v))) (λ u apart k. rw apart refl) after.rounds w;
+        rounds = λ w _. put_between same elect x (AddNotarization c) d y v (with_notarization (same_proposal same) (round_of d v) c) before.rounds (notarization_added same decides elect x c (round_of d v) (ap (λ k. k.notarization) (before.rounds v))) (λ u apart k. rw apart refl) after.rounds w;
       }
 
-  pub finalization_follows : (now : ℕ) → Follows {G = G} same elect (AddFinalization c now) x (after_add_finalization same elect x c now)
+  pub finalization_follows : (now : ℕ) → Follows same elect (AddFinalization c now) x (after_add_finalization same elect x c now)
   finalization_follows now =
       let v = c.proposal.round.view in
       let a = at_moment x now in
@@ -142,11 +142,11 @@ module _ {K L D G : Type 0} (same : D → D → Bool) (decides : (d e : D) → s
         nullified = λ w _. ap (λ views. is_among views w) (after.nullified ∙ before.nullified);
         nullify_votes = λ w _. ap (λ views. is_among views w) (after.nullify_votes ∙ before.nullify_votes);
         ordered = λ h. after.ordered (put_ordered d v (with_finalization (same_proposal same) (round_of d v) c) (before.ordered h));
-        rounds = λ w _. put_between {G = G} same elect x (AddFinalization c now) d y v (with_finalization (same_proposal same) (round_of d v) c) before.rounds (finalization_added G same decides elect x c (round_of d v) now (ap (λ k. k.finalization) (before.rounds v))) (λ u apart k. rw apart refl) after.rounds w;
+        rounds = λ w _. put_between same elect x (AddFinalization c now) d y v (with_finalization (same_proposal same) (round_of d v) c) before.rounds (finalization_added same decides elect x c (round_of d v) now (ap (λ k. k.finalization) (before.rounds v))) (λ u apart k. rw apart refl) after.rounds w;
       }
 
   -- the floor's finalization says what a finalization says, and is handed out
-  pub floor_finalization_follows : (now : ℕ) → Follows {G = G} same elect (SetFloor (Finalized c) now) x (after_set_floor same elect x (Finalized c) now)
+  pub floor_finalization_follows : (now : ℕ) → Follows same elect (SetFloor (Finalized c) now) x (after_set_floor same elect x (Finalized c) now)
   floor_finalization_follows now =
       let f = finalization_follows now in
       record {
@@ -171,22 +171,22 @@ module _ {K L D G : Type 0} (same : D → D → Bool) (decides : (d e : D) → s
       r : RoundFacts K D
       r = record (round_of z v) { finalization_broadcast = true }
 
-      handed : (w : ℕ) → ((w ≡ v) ⊎ (w ≡ v → ⊥)) → known_of (round_of (with_round z v r) w) ≡ adds {G = G} same elect x (SetFloor (Finalized c) now) w (known_of (round_of x w))
+      handed : (w : ℕ) → ((w ≡ v) ⊎ (w ≡ v → ⊥)) → known_of (round_of (with_round z v r) w) ≡ adds same elect x (SetFloor (Finalized c) now) w (known_of (round_of x w))
       handed w (inl here) =
-          let f : Follows {G = G} same elect (AddFinalization c now) x z = finalization_follows now in
+          let f : Follows same elect (AddFinalization c now) x z = finalization_follows now in
           let k : Known D = known_of (round_of x v) in
-          let said : (record (adds {G = G} same elect x (AddFinalization c now) v k) { finalization_broadcast = true }) ≡ adds {G = G} same elect x (SetFloor (Finalized c) now) v k = rw (eq-eqb v v refl) refl in
+          let said : (record (adds same elect x (AddFinalization c now) v k) { finalization_broadcast = true }) ≡ adds same elect x (SetFloor (Finalized c) now) v k = rw (eq-eqb v v refl) refl in
           rw (here, round_of-same z v r) (ap (λ (k : Known D). record k { finalization_broadcast = true }) (f.rounds v (omega arith)) ∙ said)
       handed w (inr apart) =
-          let f : Follows {G = G} same elect (AddFinalization c now) x z = finalization_follows now in
+          let f : Follows same elect (AddFinalization c now) x z = finalization_follows now in
           let k : Known D = known_of (round_of x w) in
-          let said : adds {G = G} same elect x (AddFinalization c now) w k ≡ adds {G = G} same elect x (SetFloor (Finalized c) now) w k = rw (ne_eqb w v apart) refl in
+          let said : adds same elect x (AddFinalization c now) w k ≡ adds same elect x (SetFloor (Finalized c) now) w k = rw (ne_eqb w v apart) refl in
           ap known_of (round_of-with_round z w v apart r) ∙ f.rounds w (omega arith) ∙ said
 
 -- nullifications, and the floor at genesis
 
-module _ {K L D G : Type 0} (same : D → D → Bool) (elect : Elect L) (x : Facts K L D) where
-  pub nullification_follows : (c : NullificationFacts) (now : ℕ) → Follows {G = G} same elect (AddNullification c now) x (after_add_nullification elect x c now)
+module _ {K L D : Type 0} (same : D → D → Bool) (elect : Elect L) (x : Facts K L D) where
+  pub nullification_follows : (c : NullificationFacts) (now : ℕ) → Follows same elect (AddNullification c now) x (after_add_nullification elect x c now)
   nullification_follows c now =
       let u = c.round.view in
       let next = next_term_start x.terms.term_length u in
@@ -206,10 +206,10 @@ module _ {K L D G : Type 0} (same : D → D → Bool) (elect : Elect L) (x : Fac
         nullified = λ w _. among_noted u w d.nullified ∙ ap (λ views. eqb w u || is_among views w) before.nullified;
         nullify_votes = λ w _. ap (λ views. is_among views w) before.nullify_votes;
         ordered = λ h. put_ordered d u (with_nullification (round_of d u) c) (before.ordered h);
-        rounds = λ w _. put_between {G = G} same elect x (AddNullification c now) d z u (with_nullification (round_of d u) c) before.rounds (nullification_added G same elect x c now (round_of d u)) (λ s apart k. rw apart refl) (λ s. refl) w;
+        rounds = λ w _. put_between same elect x (AddNullification c now) d z u (with_nullification (round_of d u) c) before.rounds (nullification_added same elect x c now (round_of d u)) (λ s apart k. rw apart refl) (λ s. refl) w;
       }
 
-  pub genesis_follows : (payload : D) (now : ℕ) → Follows {G = G} same elect (SetFloor (Genesis payload) now) x (after_set_floor same elect x (Genesis payload) now)
+  pub genesis_follows : (payload : D) (now : ℕ) → Follows same elect (SetFloor (Genesis payload) now) x (after_set_floor same elect x (Genesis payload) now)
   genesis_follows payload now =
       let a : Facts K L D = record (at_moment x now) { genesis = Some payload } in
       let e = entered a 1 now in
@@ -258,24 +258,24 @@ module _ {K L D : Type 0} (x : Facts K L D) where
           let test : (is_some r.notarization && not (is_judged (not success) r.certification)) ≡ true = sym (ap (λ o. option_map_or (λ s. is_some s.notarization && not (is_judged (not success) s.certification)) o true) found) ∙ (and_parts _ _ takes).1 in
           rw found (not_true _ (and_parts (is_some r.notarization) _ test).1)
 
-module _ (G : Type 0) {K L D : Type 0} (same : D → D → Bool) (elect : Elect L) (x : Facts K L D) (v now : ℕ) where
-  judged_rounds : (success : Bool) (y : Facts K L D) → takes_verdict x v success ≡ true → is_tracked x v ≡ true → ((w : ℕ) → Alike (round_of (judged x v success) w) (round_of y w)) → (w : ℕ) → known_of (round_of y w) ≡ adds {G = G} same elect x (Certified v success now) w (known_of (round_of x w))
-  judged_rounds success y takes here after w = put_between {G = G} same elect x (Certified v success now) x y v (certified_round (round_of x v) success) (λ s. refl) (rw (eq-eqb v v refl, here) (λ i. record (known_of (round_of x v)) { verdict = verdict_first (round_of x v).certification success (uncontradicted x v success takes here) i })) (λ u apart k. rw apart refl) after w
+module _ {K L D : Type 0} (same : D → D → Bool) (elect : Elect L) (x : Facts K L D) (v now : ℕ) where
+  judged_rounds : (success : Bool) (y : Facts K L D) → takes_verdict x v success ≡ true → is_tracked x v ≡ true → ((w : ℕ) → Alike (round_of (judged x v success) w) (round_of y w)) → (w : ℕ) → known_of (round_of y w) ≡ adds same elect x (Certified v success now) w (known_of (round_of x w))
+  judged_rounds success y takes here after w = put_between same elect x (Certified v success now) x y v (certified_round (round_of x v) success) (λ s. refl) (rw (eq-eqb v v refl, here) (λ i. record (known_of (round_of x v)) { verdict = verdict_first (round_of x v).certification success (uncontradicted x v success takes here) i })) (λ u apart k. rw apart refl) after w
 
-module _ {K L D G : Type 0} (same : D → D → Bool) (elect : Elect L) (x : Facts K L D) (v now : ℕ) where
-  pub verdict_follows : (success : Bool) → takes_verdict x v success ≡ true → Follows {G = G} same elect (Certified v success now) x (after_certified elect x v success now)
+module _ {K L D : Type 0} (same : D → D → Bool) (elect : Elect L) (x : Facts K L D) (v now : ℕ) where
+  pub verdict_follows : (success : Bool) → takes_verdict x v success ≡ true → Follows same elect (Certified v success now) x (after_certified elect x v success now)
   verdict_follows success takes = by_tracked (is_tracked x v) refl success takes
     where
       a : Facts K L D
       a = at_moment x now
 
-      by_tracked : (b : Bool) → is_tracked x v ≡ b → (s : Bool) → takes_verdict x v s ≡ true → Follows {G = G} same elect (Certified v s now) x (if is_tracked x v then verdict_taken elect a v s now else a)
+      by_tracked : (b : Bool) → is_tracked x v ≡ b → (s : Bool) → takes_verdict x v s ≡ true → Follows same elect (Certified v s now) x (if is_tracked x v then verdict_taken elect a v s now else a)
       by_tracked true here true taken =
           let j = judged a v true in
           let e = entered j (v + 1) now in
           let y = woken elect e v in
           let after = then_quiet now (max x.current (v + 1)) x.finalized j e y (entered_leaves j (v + 1) now) (woken_quiet elect e v) in
-          subst (λ b. Follows {G = G} same elect (Certified v true now) x (if b then y else a)) (sym here)
+          subst (λ b. Follows same elect (Certified v true now) x (if b then y else a)) (sym here)
           (record {
             settings = after.settings;
             terms = after.terms;
@@ -286,13 +286,13 @@ module _ {K L D G : Type 0} (same : D → D → Bool) (elect : Elect L) (x : Fac
             nullified = λ w _. ap (λ views. is_among views w) after.nullified;
             nullify_votes = λ w _. ap (λ views. is_among views w) after.nullify_votes;
             ordered = λ h. after.ordered (put_ordered a v (certified_round (round_of x v) true) h);
-            rounds = λ w _. judged_rounds G same elect x v now true y taken here after.rounds w;
+            rounds = λ w _. judged_rounds same elect x v now true y taken here after.rounds w;
           })
       by_tracked true here false taken =
           let j = judged a v false in
           let y = triggered j v FailedCertification now in
           let after = triggered_quiet j v FailedCertification now in
-          subst (λ b. Follows {G = G} same elect (Certified v false now) x (if b then y else a)) (sym here)
+          subst (λ b. Follows same elect (Certified v false now) x (if b then y else a)) (sym here)
           (record {
             settings = after.settings;
             terms = after.terms;
@@ -303,10 +303,10 @@ module _ {K L D G : Type 0} (same : D → D → Bool) (elect : Elect L) (x : Fac
             nullified = λ w _. ap (λ views. is_among views w) after.nullified;
             nullify_votes = λ w _. ap (λ views. is_among views w) after.nullify_votes;
             ordered = λ h. after.ordered (put_ordered a v (certified_round (round_of x v) false) h);
-            rounds = λ w _. judged_rounds G same elect x v now false y taken here after.rounds w;
+            rounds = λ w _. judged_rounds same elect x v now false y taken here after.rounds w;
           })
       by_tracked false gone s taken =
-          subst (λ b. Follows {G = G} same elect (Certified v s now) x (if b then verdict_taken elect a v s now else a)) (sym gone)
+          subst (λ b. Follows same elect (Certified v s now) x (if b then verdict_taken elect a v s now else a)) (sym gone)
           (record {
             settings = refl;
             terms = refl;
@@ -317,9 +317,9 @@ module _ {K L D G : Type 0} (same : D → D → Bool) (elect : Elect L) (x : Fac
             nullified = λ w _. refl;
             nullify_votes = λ w _. refl;
             ordered = λ h. h;
-            rounds = λ w _. nothing_added {G = G} same elect x (Certified v s now) w (λ k. rw (gone, and_false (eqb w v)) refl) (round_of x w) (round_of x w) refl;
+            rounds = λ w _. nothing_added same elect x (Certified v s now) w (λ k. rw (gone, and_false (eqb w v)) refl) (round_of x w) (round_of x w) refl;
           })
         where
-          nowhere : (t : Bool) → x.current ≡ max x.current (entered_by {K = K} {D = D} {G = G} x.terms.term_length (is_tracked x) (Certified v t now))
+          nowhere : (t : Bool) → x.current ≡ max x.current (entered_by {K = K} {D = D} x.terms.term_length (is_tracked x) (Certified v t now))
           nowhere true = rw gone (omega arith)
           nowhere false = omega arith

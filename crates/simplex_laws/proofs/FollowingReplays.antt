@@ -23,9 +23,9 @@ use Rattle.simplex_laws.proofs.FollowingQuiet.{release_quiet, supersede_quiet, t
 use Rattle.simplex_laws.proofs.FollowingScans.{try_verify_quiet}
 use Rattle.simplex_laws.proofs.FollowingVotes.{own_held, own_conflict, nullify_follows, finalize_follows, notarize_follows, proposal_follows, proposed_follows, broadcast_notarization_follows, broadcast_nullification_follows, broadcast_finalization_follows, prune_follows}
 
-module _ {K L D G : Type 0} (same : D → D → Bool) (decides : (d e : D) → same d e ≡ true → d ≡ e) (elect : Elect L) (x : Facts K L D) where
-  replayed_notarize : (p : Proposal D) (signer : ℕ) (signature : G) → Follows same elect (Replay (NotarizeVote p signer signature)) x (replayed same elect x (NotarizeVote p signer signature))
-  replayed_notarize p signer signature =
+module _ {K L D : Type 0} (same : D → D → Bool) (decides : (d e : D) → same d e ≡ true → d ≡ e) (elect : Elect L) (x : Facts K L D) where
+  replayed_notarize : (p : Proposal D) (signer : ℕ) → Follows same elect (Replay (NotarizeVote p signer)) x (replayed same elect x (NotarizeVote p signer))
+  replayed_notarize p signer =
       record {
         settings = after.settings;
         terms = after.terms;
@@ -36,7 +36,7 @@ module _ {K L D G : Type 0} (same : D → D → Bool) (decides : (d e : D) → s
         nullified = λ w _. ap (λ views. is_among views w) after.nullified;
         nullify_votes = λ w _. ap (λ views. is_among views w) after.nullify_votes;
         ordered = λ h. after.ordered (put_ordered x v t h);
-        rounds = λ w _. put_between same elect x (Replay (NotarizeVote p signer signature)) x (prepared elect z v) v t (λ u. refl) voted (λ u apart k. rw apart refl) after.rounds w;
+        rounds = λ w _. put_between same elect x (Replay (NotarizeVote p signer)) x (prepared elect z v) v t (λ u. refl) voted (λ u apart k. rw apart refl) after.rounds w;
       }
     where
       v : ℕ
@@ -61,15 +61,15 @@ module _ {K L D G : Type 0} (same : D → D → Bool) (decides : (d e : D) → s
       unbound None = refl
       unbound (Some bound) = refl
 
-      said : known_of s ≡ adds same elect x (Replay (NotarizeVote p signer signature)) v (known_of r)
+      said : known_of s ≡ adds same elect x (Replay (NotarizeVote p signer)) v (known_of r)
       said = rw (eq-eqb v v refl) (λ i. record (known_of r) { notarize_decided = true; held = own_held same r.slot p decides i; conflict = own_conflict same r.slot p i })
 
-      voted : known_of t ≡ adds same elect x (Replay (NotarizeVote p signer signature)) v (known_of r)
+      voted : known_of t ≡ adds same elect x (Replay (NotarizeVote p signer)) v (known_of r)
       voted = unbound (restored_binding x p) ∙ said
 
-  replay_follows : (e : ArtifactFacts D G) → TakesReplay x (as_artifact {K = K} e) → Follows same elect (Replay e) x (replayed same elect x e)
-  replay_follows (NotarizeVote p signer signature) takes = replayed_notarize p signer signature
-  replay_follows (NullifyVote round signer signature) takes =
+  replay_follows : (e : ArtifactFacts D) → TakesReplay x (as_artifact {K = K} e) → Follows same elect (Replay e) x (replayed same elect x e)
+  replay_follows (NotarizeVote p signer) takes = replayed_notarize p signer
+  replay_follows (NullifyVote round signer) takes =
       let v = round.view in
       let r : RoundFacts K D = record (round_of x v) { decision = decision.Nullify None } in
       record {
@@ -82,9 +82,9 @@ module _ {K L D G : Type 0} (same : D → D → Bool) (decides : (d e : D) → s
         nullified = λ w _. refl;
         nullify_votes = λ w _. among_noted v w x.nullify_votes;
         ordered = put_ordered x v r;
-        rounds = λ w _. put_alone same elect x (Replay (NullifyVote round signer signature)) v r (rw (eq-eqb v v refl) (λ i. record (known_of (round_of x v)) { nullify_decided = true; finalize_decided = sym takes.taken.1 i })) (λ u apart k. rw apart refl) w;
+        rounds = λ w _. put_alone same elect x (Replay (NullifyVote round signer)) v r (rw (eq-eqb v v refl) (λ i. record (known_of (round_of x v)) { nullify_decided = true; finalize_decided = sym takes.taken.1 i })) (λ u apart k. rw apart refl) w;
       }
-  replay_follows (FinalizeVote p signer signature) takes =
+  replay_follows (FinalizeVote p signer) takes =
       let v = p.round.view in
       let r : RoundFacts K D = record (round_of x v) { decision = decision.Finalize } in
       record {
@@ -97,7 +97,7 @@ module _ {K L D G : Type 0} (same : D → D → Bool) (decides : (d e : D) → s
         nullified = λ w _. refl;
         nullify_votes = λ w _. refl;
         ordered = put_ordered x v r;
-        rounds = λ w _. put_alone same elect x (Replay (FinalizeVote p signer signature)) v r (rw (eq-eqb v v refl) (λ i. record (known_of (round_of x v)) { nullify_decided = sym takes.taken.1 i; finalize_decided = true })) (λ u apart k. rw apart refl) w;
+        rounds = λ w _. put_alone same elect x (Replay (FinalizeVote p signer)) v r (rw (eq-eqb v v refl) (λ i. record (known_of (round_of x v)) { nullify_decided = sym takes.taken.1 i; finalize_decided = true })) (λ u apart k. rw apart refl) w;
       }
   replay_follows (Verdict round success) takes =
       let v = round.view in
@@ -112,7 +112,7 @@ module _ {K L D G : Type 0} (same : D → D → Bool) (decides : (d e : D) → s
         nullified = λ w _. refl;
         nullify_votes = λ w _. refl;
         ordered = put_ordered x v (certified_round r success);
-        rounds = λ w _. put_alone {G = G} same elect x (Replay (Verdict round success)) v (certified_round r success) (rw (eq-eqb v v refl) (λ i. record (known_of r) { verdict = verdict_first r.certification success takes.taken i })) (λ u apart k. rw apart refl) w;
+        rounds = λ w _. put_alone same elect x (Replay (Verdict round success)) v (certified_round r success) (rw (eq-eqb v v refl) (λ i. record (known_of r) { verdict = verdict_first r.certification success takes.taken i })) (λ u apart k. rw apart refl) w;
       }
   replay_follows (Accepted (Notarized c)) takes =
       let v = c.proposal.round.view in
@@ -126,7 +126,7 @@ module _ {K L D G : Type 0} (same : D → D → Bool) (decides : (d e : D) → s
         nullified = λ w _. refl;
         nullify_votes = λ w _. refl;
         ordered = put_ordered x v (record (round_of x v) { notarization_broadcast = true });
-        rounds = λ w _. put_alone {G = G} same elect x (Replay (Accepted (Notarized c))) v (record (round_of x v) { notarization_broadcast = true }) (rw (eq-eqb v v refl) refl) (λ u apart k. rw apart refl) w;
+        rounds = λ w _. put_alone same elect x (Replay (Accepted (Notarized c))) v (record (round_of x v) { notarization_broadcast = true }) (rw (eq-eqb v v refl) refl) (λ u apart k. rw apart refl) w;
       }
   replay_follows (Accepted (Nullified c)) takes =
       let v = c.round.view in
@@ -140,7 +140,7 @@ module _ {K L D G : Type 0} (same : D → D → Bool) (decides : (d e : D) → s
         nullified = λ w _. among_noted v w x.nullified;
         nullify_votes = λ w _. refl;
         ordered = put_ordered x v (record (round_of x v) { nullification_broadcast = true });
-        rounds = λ w _. put_alone {G = G} same elect x (Replay (Accepted (Nullified c))) v (record (round_of x v) { nullification_broadcast = true }) (rw (eq-eqb v v refl) refl) (λ u apart k. rw apart refl) w;
+        rounds = λ w _. put_alone same elect x (Replay (Accepted (Nullified c))) v (record (round_of x v) { nullification_broadcast = true }) (rw (eq-eqb v v refl) refl) (λ u apart k. rw apart refl) w;
       }
   replay_follows (Accepted (Finalized c)) takes =
       let v = c.proposal.round.view in
@@ -154,14 +154,14 @@ module _ {K L D G : Type 0} (same : D → D → Bool) (decides : (d e : D) → s
         nullified = λ w _. refl;
         nullify_votes = λ w _. refl;
         ordered = put_ordered x v (record (round_of x v) { finalization_broadcast = true });
-        rounds = λ w _. put_alone {G = G} same elect x (Replay (Accepted (Finalized c))) v (record (round_of x v) { finalization_broadcast = true }) (rw (eq-eqb v v refl) refl) (λ u apart k. rw apart refl) w;
+        rounds = λ w _. put_alone same elect x (Replay (Accepted (Finalized c))) v (record (round_of x v) { finalization_broadcast = true }) (rw (eq-eqb v v refl) refl) (λ u apart k. rw apart refl) w;
       }
 
-  quietly : (e : Event K D G) → IsSilent same elect x e → Leaves (unwrap_or (moment_by e) x.moment) x.current x.finalized x (after_event same elect x e) → Follows same elect e x (after_event same elect x e)
+  quietly : (e : Event K D) → IsSilent same elect x e → Leaves (unwrap_or (moment_by e) x.moment) x.current x.finalized x (after_event same elect x e) → Follows same elect e x (after_event same elect x e)
   quietly e silent leaves = silent_follows same elect x e (after_event same elect x e) silent leaves
 
   -- each event
-  pub event_follows : (e : Event K D G) → IsEvent x e → is_sorted nat_cmp x.rounds ≡ true → Follows same elect e x (after_event same elect x e)
+  pub event_follows : (e : Event K D) → IsEvent x e → is_sorted nat_cmp x.rounds ≡ true → Follows same elect e x (after_event same elect x e)
   event_follows (SetFloor (Genesis payload) now) takes ordered = genesis_follows same elect x payload now
   event_follows (SetFloor (FinalizedFloor c) now) takes ordered = floor_finalization_follows same decides elect x c now
   event_follows (AddNotarization c) takes ordered = notarization_follows same decides elect x c

@@ -102,10 +102,10 @@ module _ {K L D : Type 0} (x : Facts K L D) where
       test : nat_le (min_active x) v ≡ true
       test = grind (arith, nat_tests)
 
-module _ {K L D G : Type 0} (same : D → D → Bool) (elect : Elect L) (x : Facts K L D) where
+module _ {K L D : Type 0} (same : D → D → Bool) (elect : Elect L) (x : Facts K L D) where
   -- votes
 
-  pub nullify_follows : (v : ℕ) → Follows {G = G} same elect (ConstructNullify v) x (after_construct_nullify x v)
+  pub nullify_follows : (v : ℕ) → Follows same elect (ConstructNullify v) x (after_construct_nullify x v)
   nullify_follows v = by_rule (may_nullify x v) refl
     where
       r : RoundFacts K D
@@ -114,7 +114,7 @@ module _ {K L D G : Type 0} (same : D → D → Bool) (elect : Elect L) (x : Fac
       z : Facts K L D
       z = with_round x v (after_nullify r)
 
-      decided : may_nullify x v ≡ true → known_of (after_nullify r) ≡ adds {G = G} same elect x (ConstructNullify v) v (known_of r)
+      decided : may_nullify x v ≡ true → known_of (after_nullify r) ≡ adds same elect x (ConstructNullify v) v (known_of r)
       decided may =
           let open_vote : is_finalize r.decision ≡ false = (nullify_parts x v may).no_finalize in
           rw (may, open_vote, eq-eqb v v refl) (λ i. record (known_of r) { nullify_decided = true; finalize_decided = false })
@@ -123,28 +123,28 @@ module _ {K L D G : Type 0} (same : D → D → Bool) (elect : Elect L) (x : Fac
       noted true keyed may w = rw (may, keyed) (among_noted v w x.nullify_votes)
       noted false keyless may w = rw (may, keyless) refl
 
-      voted : (b : Bool) → is_some x.me ≡ b → may_nullify x v ≡ true → Follows {G = G} same elect (ConstructNullify v) x (if b then record z { nullify_votes = insert_key nat_cmp x.nullify_votes v } else z)
-      voted true keyed may = record { settings = refl; terms = refl; genesis = refl; moment = refl; current = omega arith; finalized = omega arith; nullified = λ w _. refl; nullify_votes = λ w _. noted true keyed may w; ordered = put_ordered x v (after_nullify r); rounds = λ w _. put_alone {G = G} same elect x (ConstructNullify v) v (after_nullify r) (decided may) (λ u apart k. rw apart refl) w }
-      voted false keyless may = record { settings = refl; terms = refl; genesis = refl; moment = refl; current = omega arith; finalized = omega arith; nullified = λ w _. refl; nullify_votes = λ w _. noted false keyless may w; ordered = put_ordered x v (after_nullify r); rounds = λ w _. put_alone {G = G} same elect x (ConstructNullify v) v (after_nullify r) (decided may) (λ u apart k. rw apart refl) w }
+      voted : (b : Bool) → is_some x.me ≡ b → may_nullify x v ≡ true → Follows same elect (ConstructNullify v) x (if b then record z { nullify_votes = insert_key nat_cmp x.nullify_votes v } else z)
+      voted true keyed may = record { settings = refl; terms = refl; genesis = refl; moment = refl; current = omega arith; finalized = omega arith; nullified = λ w _. refl; nullify_votes = λ w _. noted true keyed may w; ordered = put_ordered x v (after_nullify r); rounds = λ w _. put_alone same elect x (ConstructNullify v) v (after_nullify r) (decided may) (λ u apart k. rw apart refl) w }
+      voted false keyless may = record { settings = refl; terms = refl; genesis = refl; moment = refl; current = omega arith; finalized = omega arith; nullified = λ w _. refl; nullify_votes = λ w _. noted false keyless may w; ordered = put_ordered x v (after_nullify r); rounds = λ w _. put_alone same elect x (ConstructNullify v) v (after_nullify r) (decided may) (λ u apart k. rw apart refl) w }
 
-      by_rule : (b : Bool) → may_nullify x v ≡ b → Follows {G = G} same elect (ConstructNullify v) x (if b then nullify_cast z v else x)
+      by_rule : (b : Bool) → may_nullify x v ≡ b → Follows same elect (ConstructNullify v) x (if b then nullify_cast z v else x)
       by_rule true may = voted (is_some x.me) refl may
-      by_rule false barred = record { settings = refl; terms = refl; genesis = refl; moment = refl; current = omega arith; finalized = omega arith; nullified = λ w _. refl; nullify_votes = λ w _. rw barred refl; ordered = λ h. h; rounds = λ w _. nothing_added {G = G} same elect x (ConstructNullify v) w (λ k. rw (barred, and_false (eqb w v)) refl) (round_of x w) (round_of x w) refl }
+      by_rule false barred = record { settings = refl; terms = refl; genesis = refl; moment = refl; current = omega arith; finalized = omega arith; nullified = λ w _. refl; nullify_votes = λ w _. rw barred refl; ordered = λ h. h; rounds = λ w _. nothing_added same elect x (ConstructNullify v) w (λ k. rw (barred, and_false (eqb w v)) refl) (round_of x w) (round_of x w) refl }
 
-  pub finalize_follows : (v : ℕ) → Follows {G = G} same elect (ConstructFinalize v) x (after_construct_finalize elect x v)
+  pub finalize_follows : (v : ℕ) → Follows same elect (ConstructFinalize v) x (after_construct_finalize elect x v)
   finalize_follows v = by_rule (may_finalize elect x v) refl
     where
       r : RoundFacts K D
       r = round_of x v
 
-      decided : may_finalize elect x v ≡ true → known_of (record r { decision = decision.Finalize }) ≡ adds {G = G} same elect x (ConstructFinalize v) v (known_of r)
+      decided : may_finalize elect x v ≡ true → known_of (record r { decision = decision.Finalize }) ≡ adds same elect x (ConstructFinalize v) v (known_of r)
       decided may = rw (may, eq-eqb v v refl) (λ i. record (known_of r) { nullify_decided = pending_nullify r.decision (finalize_parts elect x v may).undecided i; finalize_decided = true })
 
-      by_rule : (b : Bool) → may_finalize elect x v ≡ b → Follows {G = G} same elect (ConstructFinalize v) x (if b then finalize_cast x v else x)
-      by_rule true may = record { settings = refl; terms = refl; genesis = refl; moment = refl; current = omega arith; finalized = omega arith; nullified = λ w _. refl; nullify_votes = λ w _. refl; ordered = put_ordered x v (record r { decision = decision.Finalize }); rounds = λ w _. put_alone {G = G} same elect x (ConstructFinalize v) v (record r { decision = decision.Finalize }) (decided may) (λ u apart k. rw apart refl) w }
-      by_rule false barred = record { settings = refl; terms = refl; genesis = refl; moment = refl; current = omega arith; finalized = omega arith; nullified = λ w _. refl; nullify_votes = λ w _. refl; ordered = λ h. h; rounds = λ w _. nothing_added {G = G} same elect x (ConstructFinalize v) w (λ k. rw (barred, and_false (eqb w v)) refl) (round_of x w) (round_of x w) refl }
+      by_rule : (b : Bool) → may_finalize elect x v ≡ b → Follows same elect (ConstructFinalize v) x (if b then finalize_cast x v else x)
+      by_rule true may = record { settings = refl; terms = refl; genesis = refl; moment = refl; current = omega arith; finalized = omega arith; nullified = λ w _. refl; nullify_votes = λ w _. refl; ordered = put_ordered x v (record r { decision = decision.Finalize }); rounds = λ w _. put_alone same elect x (ConstructFinalize v) v (record r { decision = decision.Finalize }) (decided may) (λ u apart k. rw apart refl) w }
+      by_rule false barred = record { settings = refl; terms = refl; genesis = refl; moment = refl; current = omega arith; finalized = omega arith; nullified = λ w _. refl; nullify_votes = λ w _. refl; ordered = λ h. h; rounds = λ w _. nothing_added same elect x (ConstructFinalize v) w (λ k. rw (barred, and_false (eqb w v)) refl) (round_of x w) (round_of x w) refl }
 
-  pub notarize_follows : (v : ℕ) → Follows {G = G} same elect (ConstructNotarize v) x (after_construct_notarize same elect x v)
+  pub notarize_follows : (v : ℕ) → Follows same elect (ConstructNotarize v) x (after_construct_notarize same elect x v)
   notarize_follows v = by_rule (may_notarize same elect x v) refl
     where
       r : RoundFacts K D
@@ -153,10 +153,10 @@ module _ {K L D G : Type 0} (same : D → D → Bool) (elect : Elect L) (x : Fac
       z : Facts K L D
       z = with_round x v r
 
-      decided : may_notarize same elect x v ≡ true → known_of r ≡ adds {G = G} same elect x (ConstructNotarize v) v (known_of (round_of x v))
+      decided : may_notarize same elect x v ≡ true → known_of r ≡ adds same elect x (ConstructNotarize v) v (known_of (round_of x v))
       decided may = rw (may, eq-eqb v v refl) refl
 
-      by_rule : (b : Bool) → may_notarize same elect x v ≡ b → Follows {G = G} same elect (ConstructNotarize v) x (if b then prepared elect z v else x)
+      by_rule : (b : Bool) → may_notarize same elect x v ≡ b → Follows same elect (ConstructNotarize v) x (if b then prepared elect z v else x)
       by_rule true may =
           let after : Quiet z (prepared elect z v) = prepared_quiet elect z v in
           record {
@@ -169,13 +169,13 @@ module _ {K L D G : Type 0} (same : D → D → Bool) (elect : Elect L) (x : Fac
             nullified = λ w _. ap (λ views. is_among views w) after.nullified;
             nullify_votes = λ w _. ap (λ views. is_among views w) after.nullify_votes;
             ordered = λ h. after.ordered (put_ordered x v r h);
-            rounds = λ w _. put_between {G = G} same elect x (ConstructNotarize v) x (prepared elect z v) v r (λ u. refl) (decided may) (λ u apart k. rw apart refl) after.rounds w;
+            rounds = λ w _. put_between same elect x (ConstructNotarize v) x (prepared elect z v) v r (λ u. refl) (decided may) (λ u apart k. rw apart refl) after.rounds w;
           }
-      by_rule false barred = record { settings = refl; terms = refl; genesis = refl; moment = refl; current = omega arith; finalized = omega arith; nullified = λ w _. refl; nullify_votes = λ w _. refl; ordered = λ h. h; rounds = λ w _. nothing_added {G = G} same elect x (ConstructNotarize v) w (λ k. rw (barred, and_false (eqb w v)) refl) (round_of x w) (round_of x w) refl }
+      by_rule false barred = record { settings = refl; terms = refl; genesis = refl; moment = refl; current = omega arith; finalized = omega arith; nullified = λ w _. refl; nullify_votes = λ w _. refl; ordered = λ h. h; rounds = λ w _. nothing_added same elect x (ConstructNotarize v) w (λ k. rw (barred, and_false (eqb w v)) refl) (round_of x w) (round_of x w) refl }
 
   -- proposals
 
-  pub proposal_follows : (v : ℕ) (p : Proposal D) → Follows {G = G} same elect (SetProposal v p) x (after_set_proposal same elect x v p)
+  pub proposal_follows : (v : ℕ) (p : Proposal D) → Follows same elect (SetProposal v p) x (after_set_proposal same elect x v p)
   proposal_follows v p =
       record {
         settings = before.settings;
@@ -187,7 +187,7 @@ module _ {K L D G : Type 0} (same : D → D → Bool) (elect : Elect L) (x : Fac
         nullified = λ w _. ap (λ views. is_among views w) before.nullified;
         nullify_votes = λ w _. ap (λ views. is_among views w) before.nullify_votes;
         ordered = λ h. put_ordered y v (with_proposal same r p) (before.ordered h);
-        rounds = λ w _. put_between {G = G} same elect x (SetProposal v p) y (with_round y v (with_proposal same r p)) v (with_proposal same r p) before.rounds (heard (is_nullify r.decision) refl) (λ u apart k. rw apart refl) (λ u. refl) w;
+        rounds = λ w _. put_between same elect x (SetProposal v p) y (with_round y v (with_proposal same r p)) v (with_proposal same r p) before.rounds (heard (is_nullify r.decision) refl) (λ u apart k. rw apart refl) (λ u. refl) w;
       }
     where
       y : Facts K L D
@@ -199,7 +199,7 @@ module _ {K L D G : Type 0} (same : D → D → Bool) (elect : Elect L) (x : Fac
       r : RoundFacts K D
       r = round_of y v
 
-      heard : (b : Bool) → is_nullify r.decision ≡ b → known_of (if b then r else record r { slot = after_vote (same_proposal same) r.slot p }) ≡ adds {G = G} same elect x (SetProposal v p) v (known_of r)
+      heard : (b : Bool) → is_nullify r.decision ≡ b → known_of (if b then r else record r { slot = after_vote (same_proposal same) r.slot p }) ≡ adds same elect x (SetProposal v p) v (known_of r)
       heard true is =
           let voted : is_nullify (round_of x v).decision ≡ true = sym (ap (λ k. k.nullify_decided) (before.rounds v)) ∙ is in
           rw (voted, eq-eqb v v refl) refl
@@ -207,7 +207,7 @@ module _ {K L D G : Type 0} (same : D → D → Bool) (elect : Elect L) (x : Fac
           let not_voted : is_nullify (round_of x v).decision ≡ false = sym (ap (λ k. k.nullify_decided) (before.rounds v)) ∙ is in
           rw (not_voted, eq-eqb v v refl) (λ i. record (known_of r) { held = heard_held same r.slot p i; conflict = heard_conflict same r.slot p i })
 
-  pub proposed_follows : ((d e : D) → same d e ≡ true → d ≡ e) → (context : Context D K) (payload : D) (now : ℕ) → Follows {G = G} same elect (Proposed context payload now) x (after_proposed same elect x context payload now)
+  pub proposed_follows : ((d e : D) → same d e ≡ true → d ≡ e) → (context : Context D K) (payload : D) (now : ℕ) → Follows same elect (Proposed context payload now) x (after_proposed same elect x context payload now)
   proposed_follows decides context payload now = by_answer (proposed_answer same elect x context payload) refl
     where
       a : Facts K L D
@@ -222,16 +222,16 @@ module _ {K L D G : Type 0} (same : D → D → Bool) (elect : Elect L) (x : Fac
       p : Proposal D
       p = proposal_of context payload
 
-      built : proposed_answer same elect x context payload ≡ true → known_of (proposed_round same r context payload now) ≡ adds {G = G} same elect x (Proposed context payload now) v (known_of r)
+      built : proposed_answer same elect x context payload ≡ true → known_of (proposed_round same r context payload now) ≡ adds same elect x (Proposed context payload now) v (known_of r)
       built taken = rw (taken, eq-eqb v v refl) (λ i. record (known_of r) { held = own_held same r.slot p decides i; conflict = own_conflict same r.slot p i })
 
-      by_answer : (b : Bool) → proposed_answer same elect x context payload ≡ b → Follows {G = G} same elect (Proposed context payload now) x (if b then with_round a v (proposed_round same r context payload now) else a)
-      by_answer true taken = record { settings = refl; terms = refl; genesis = refl; moment = refl; current = omega arith; finalized = omega arith; nullified = λ w _. refl; nullify_votes = λ w _. refl; ordered = put_ordered x v (proposed_round same r context payload now); rounds = λ w _. put_alone {G = G} same elect x (Proposed context payload now) v (proposed_round same r context payload now) (built taken) (λ u apart k. rw apart refl) w }
-      by_answer false dropped = record { settings = refl; terms = refl; genesis = refl; moment = refl; current = omega arith; finalized = omega arith; nullified = λ w _. refl; nullify_votes = λ w _. refl; ordered = λ h. h; rounds = λ w _. nothing_added {G = G} same elect x (Proposed context payload now) w (λ k. rw (dropped, and_false (eqb w v)) refl) (round_of x w) (round_of x w) refl }
+      by_answer : (b : Bool) → proposed_answer same elect x context payload ≡ b → Follows same elect (Proposed context payload now) x (if b then with_round a v (proposed_round same r context payload now) else a)
+      by_answer true taken = record { settings = refl; terms = refl; genesis = refl; moment = refl; current = omega arith; finalized = omega arith; nullified = λ w _. refl; nullify_votes = λ w _. refl; ordered = put_ordered x v (proposed_round same r context payload now); rounds = λ w _. put_alone same elect x (Proposed context payload now) v (proposed_round same r context payload now) (built taken) (λ u apart k. rw apart refl) w }
+      by_answer false dropped = record { settings = refl; terms = refl; genesis = refl; moment = refl; current = omega arith; finalized = omega arith; nullified = λ w _. refl; nullify_votes = λ w _. refl; ordered = λ h. h; rounds = λ w _. nothing_added same elect x (Proposed context payload now) w (λ k. rw (dropped, and_false (eqb w v)) refl) (round_of x w) (round_of x w) refl }
 
   -- broadcasts
 
-  pub broadcast_notarization_follows : (v : ℕ) → Follows {G = G} same elect (BroadcastNotarization v) x (after_broadcast_notarization x v)
+  pub broadcast_notarization_follows : (v : ℕ) → Follows same elect (BroadcastNotarization v) x (after_broadcast_notarization x v)
   broadcast_notarization_follows v = by_round (round_at x v) refl
     where
       r : RoundFacts K D
@@ -240,16 +240,16 @@ module _ {K L D G : Type 0} (same : D → D → Bool) (elect : Elect L) (x : Fac
       s : RoundFacts K D
       s = record r { notarization_broadcast = r.notarization_broadcast || is_some r.notarization }
 
-      handed : known_of s ≡ adds {G = G} same elect x (BroadcastNotarization v) v (known_of r)
+      handed : known_of s ≡ adds same elect x (BroadcastNotarization v) v (known_of r)
       handed = rw (eq-eqb v v refl) (λ i. record (known_of r) { notarization_broadcast = or_swap r.notarization_broadcast (is_some r.notarization) i })
 
-      by_round : (o : Option (RoundFacts K D)) → round_at x v ≡ o → Follows {G = G} same elect (BroadcastNotarization v) x (if is_some o then with_round x v s else x)
-      by_round (Some _) found = record { settings = refl; terms = refl; genesis = refl; moment = refl; current = omega arith; finalized = omega arith; nullified = λ w _. refl; nullify_votes = λ w _. refl; ordered = put_ordered x v s; rounds = λ w _. put_alone {G = G} same elect x (BroadcastNotarization v) v s handed (λ u apart k. rw apart refl) w }
+      by_round : (o : Option (RoundFacts K D)) → round_at x v ≡ o → Follows same elect (BroadcastNotarization v) x (if is_some o then with_round x v s else x)
+      by_round (Some _) found = record { settings = refl; terms = refl; genesis = refl; moment = refl; current = omega arith; finalized = omega arith; nullified = λ w _. refl; nullify_votes = λ w _. refl; ordered = put_ordered x v s; rounds = λ w _. put_alone same elect x (BroadcastNotarization v) v s handed (λ u apart k. rw apart refl) w }
       by_round None none =
           let empty : is_some (round_of x v).notarization ≡ false = ap (λ o. is_some (unwrap_or o (new_round x.me x.members (round_number x v))).notarization) none in
-          record { settings = refl; terms = refl; genesis = refl; moment = refl; current = omega arith; finalized = omega arith; nullified = λ w _. refl; nullify_votes = λ w _. refl; ordered = λ h. h; rounds = λ w _. nothing_added {G = G} same elect x (BroadcastNotarization v) w (λ k. rw (empty, and_false (eqb w v)) refl) (round_of x w) (round_of x w) refl }
+          record { settings = refl; terms = refl; genesis = refl; moment = refl; current = omega arith; finalized = omega arith; nullified = λ w _. refl; nullify_votes = λ w _. refl; ordered = λ h. h; rounds = λ w _. nothing_added same elect x (BroadcastNotarization v) w (λ k. rw (empty, and_false (eqb w v)) refl) (round_of x w) (round_of x w) refl }
 
-  pub broadcast_nullification_follows : (v : ℕ) → Follows {G = G} same elect (BroadcastNullification v) x (after_broadcast_nullification x v)
+  pub broadcast_nullification_follows : (v : ℕ) → Follows same elect (BroadcastNullification v) x (after_broadcast_nullification x v)
   broadcast_nullification_follows v = by_round (round_at x v) refl
     where
       r : RoundFacts K D
@@ -258,16 +258,16 @@ module _ {K L D G : Type 0} (same : D → D → Bool) (elect : Elect L) (x : Fac
       s : RoundFacts K D
       s = record r { nullification_broadcast = r.nullification_broadcast || is_some r.nullification }
 
-      handed : known_of s ≡ adds {G = G} same elect x (BroadcastNullification v) v (known_of r)
+      handed : known_of s ≡ adds same elect x (BroadcastNullification v) v (known_of r)
       handed = rw (eq-eqb v v refl) (λ i. record (known_of r) { nullification_broadcast = or_swap r.nullification_broadcast (is_some r.nullification) i })
 
-      by_round : (o : Option (RoundFacts K D)) → round_at x v ≡ o → Follows {G = G} same elect (BroadcastNullification v) x (if is_some o then with_round x v s else x)
-      by_round (Some _) found = record { settings = refl; terms = refl; genesis = refl; moment = refl; current = omega arith; finalized = omega arith; nullified = λ w _. refl; nullify_votes = λ w _. refl; ordered = put_ordered x v s; rounds = λ w _. put_alone {G = G} same elect x (BroadcastNullification v) v s handed (λ u apart k. rw apart refl) w }
+      by_round : (o : Option (RoundFacts K D)) → round_at x v ≡ o → Follows same elect (BroadcastNullification v) x (if is_some o then with_round x v s else x)
+      by_round (Some _) found = record { settings = refl; terms = refl; genesis = refl; moment = refl; current = omega arith; finalized = omega arith; nullified = λ w _. refl; nullify_votes = λ w _. refl; ordered = put_ordered x v s; rounds = λ w _. put_alone same elect x (BroadcastNullification v) v s handed (λ u apart k. rw apart refl) w }
       by_round None none =
           let empty : is_some (round_of x v).nullification ≡ false = ap (λ o. is_some (unwrap_or o (new_round x.me x.members (round_number x v))).nullification) none in
-          record { settings = refl; terms = refl; genesis = refl; moment = refl; current = omega arith; finalized = omega arith; nullified = λ w _. refl; nullify_votes = λ w _. refl; ordered = λ h. h; rounds = λ w _. nothing_added {G = G} same elect x (BroadcastNullification v) w (λ k. rw (empty, and_false (eqb w v)) refl) (round_of x w) (round_of x w) refl }
+          record { settings = refl; terms = refl; genesis = refl; moment = refl; current = omega arith; finalized = omega arith; nullified = λ w _. refl; nullify_votes = λ w _. refl; ordered = λ h. h; rounds = λ w _. nothing_added same elect x (BroadcastNullification v) w (λ k. rw (empty, and_false (eqb w v)) refl) (round_of x w) (round_of x w) refl }
 
-  pub broadcast_finalization_follows : (v : ℕ) → Follows {G = G} same elect (BroadcastFinalization v) x (after_broadcast_finalization x v)
+  pub broadcast_finalization_follows : (v : ℕ) → Follows same elect (BroadcastFinalization v) x (after_broadcast_finalization x v)
   broadcast_finalization_follows v = by_round (round_at x v) refl
     where
       r : RoundFacts K D
@@ -276,16 +276,16 @@ module _ {K L D G : Type 0} (same : D → D → Bool) (elect : Elect L) (x : Fac
       s : RoundFacts K D
       s = record r { finalization_broadcast = r.finalization_broadcast || is_some r.finalization }
 
-      handed : known_of s ≡ adds {G = G} same elect x (BroadcastFinalization v) v (known_of r)
+      handed : known_of s ≡ adds same elect x (BroadcastFinalization v) v (known_of r)
       handed = rw (eq-eqb v v refl) (λ i. record (known_of r) { finalization_broadcast = or_swap r.finalization_broadcast (is_some r.finalization) i })
 
-      by_round : (o : Option (RoundFacts K D)) → round_at x v ≡ o → Follows {G = G} same elect (BroadcastFinalization v) x (if is_some o then with_round x v s else x)
-      by_round (Some _) found = record { settings = refl; terms = refl; genesis = refl; moment = refl; current = omega arith; finalized = omega arith; nullified = λ w _. refl; nullify_votes = λ w _. refl; ordered = put_ordered x v s; rounds = λ w _. put_alone {G = G} same elect x (BroadcastFinalization v) v s handed (λ u apart k. rw apart refl) w }
+      by_round : (o : Option (RoundFacts K D)) → round_at x v ≡ o → Follows same elect (BroadcastFinalization v) x (if is_some o then with_round x v s else x)
+      by_round (Some _) found = record { settings = refl; terms = refl; genesis = refl; moment = refl; current = omega arith; finalized = omega arith; nullified = λ w _. refl; nullify_votes = λ w _. refl; ordered = put_ordered x v s; rounds = λ w _. put_alone same elect x (BroadcastFinalization v) v s handed (λ u apart k. rw apart refl) w }
       by_round None none =
           let empty : is_some (round_of x v).finalization ≡ false = ap (λ o. is_some (unwrap_or o (new_round x.me x.members (round_number x v))).finalization) none in
-          record { settings = refl; terms = refl; genesis = refl; moment = refl; current = omega arith; finalized = omega arith; nullified = λ w _. refl; nullify_votes = λ w _. refl; ordered = λ h. h; rounds = λ w _. nothing_added {G = G} same elect x (BroadcastFinalization v) w (λ k. rw (empty, and_false (eqb w v)) refl) (round_of x w) (round_of x w) refl }
+          record { settings = refl; terms = refl; genesis = refl; moment = refl; current = omega arith; finalized = omega arith; nullified = λ w _. refl; nullify_votes = λ w _. refl; ordered = λ h. h; rounds = λ w _. nothing_added same elect x (BroadcastFinalization v) w (λ k. rw (empty, and_false (eqb w v)) refl) (round_of x w) (round_of x w) refl }
 
-  pub prune_follows : Follows {G = G} same elect Prune x (after_prune x)
+  pub prune_follows : Follows same elect Prune x (after_prune x)
   prune_follows = record {
     settings = refl;
     terms = refl;

@@ -34,7 +34,7 @@ IsSpent kind v x =
 abbrev pub Hands : {K L D : Type 0} → Kind → List ℕ → Facts K L D → Facts K L D → Type 0
 Hands kind views x y = (views ≡ []) ⊎ ((v : ℕ) × (views ≡ v ∷ []) × (IsSpent kind v x → ⊥) × IsSpent kind v y)
 
-pub record HandsOut {K L D G : Type 0} (call : LifeCall D) (told : Told K D G) (x y : Facts K L D) : Type 0 where
+pub record HandsOut {K L D : Type 0} (call : LifeCall D) (told : Told K D) (x y : Facts K L D) : Type 0 where
   pub spent : (kind : Kind) (v : ℕ) → IsSpent kind v x → IsSpent kind v y
   pub hands : (kind : Kind) → Hands kind (handed_by kind call told) x y
 
@@ -87,10 +87,10 @@ module _ {K L D : Type 0} where
       subst (λ b. IsSpent kind v (if b then with_round x v r else x)) (sym tracked)
       (inl (ap (is_handed kind) (round_put x v r) ∙ sent))
 
-module _ {K L D : Type 0} (G : Type 0) where
-  hands_notarization : (x : Facts K L D) (v : ℕ) (kind : Kind) → Hands kind (handed_by {K = K} {D = D} {G = G} kind (Calling (BroadcastNotarization v)) (Handed (option_map Notarized (broadcast_notarization_answer x v)))) x (after_broadcast_notarization x v)
+module _ {K L D : Type 0} where
+  hands_notarization : (x : Facts K L D) (v : ℕ) (kind : Kind) → Hands kind (handed_by {K = K} {D = D} kind (Calling (BroadcastNotarization v)) (Handed (option_map Notarized (broadcast_notarization_answer x v)))) x (after_broadcast_notarization x v)
   hands_notarization x v kind = elim (asked (λ r. r.notarization_broadcast) (λ r. r.notarization) x v) [
-    | inl none ↦ inl (ap (λ o. handed_by {K = K} {D = D} {G = G} kind (Calling (BroadcastNotarization v)) (Handed (option_map Notarized o))) none)
+    | inl none ↦ inl (ap (λ o. handed_by {K = K} {D = D} kind (Calling (BroadcastNotarization v)) (Handed (option_map Notarized o))) none)
     | inr (c, some, first) ↦ rw some (by_kind kind c first)
   ]
     where
@@ -104,9 +104,9 @@ module _ {K L D : Type 0} (G : Type 0) where
       by_kind Nullification c first = inl refl
       by_kind Finalization c first = inl refl
 
-  hands_nullification : (x : Facts K L D) (v : ℕ) (kind : Kind) → Hands kind (handed_by {K = K} {D = D} {G = G} kind (Calling (BroadcastNullification v)) (Handed (option_map Nullified (broadcast_nullification_answer x v)))) x (after_broadcast_nullification x v)
+  hands_nullification : (x : Facts K L D) (v : ℕ) (kind : Kind) → Hands kind (handed_by {K = K} {D = D} kind (Calling (BroadcastNullification v)) (Handed (option_map Nullified (broadcast_nullification_answer x v)))) x (after_broadcast_nullification x v)
   hands_nullification x v kind = elim (asked (λ r. r.nullification_broadcast) (λ r. r.nullification) x v) [
-    | inl none ↦ inl (ap (λ o. handed_by {K = K} {D = D} {G = G} kind (Calling (BroadcastNullification v)) (Handed (option_map Nullified o))) none)
+    | inl none ↦ inl (ap (λ o. handed_by {K = K} {D = D} kind (Calling (BroadcastNullification v)) (Handed (option_map Nullified o))) none)
     | inr (c, some, first) ↦ rw some (by_kind kind c first)
   ]
     where
@@ -120,9 +120,9 @@ module _ {K L D : Type 0} (G : Type 0) where
       )
       by_kind Finalization c first = inl refl
 
-  hands_finalization : (x : Facts K L D) (v : ℕ) (kind : Kind) → Hands kind (handed_by {K = K} {D = D} {G = G} kind (Calling (BroadcastFinalization v)) (Handed (option_map Finalized (broadcast_finalization_answer x v)))) x (after_broadcast_finalization x v)
+  hands_finalization : (x : Facts K L D) (v : ℕ) (kind : Kind) → Hands kind (handed_by {K = K} {D = D} kind (Calling (BroadcastFinalization v)) (Handed (option_map Finalized (broadcast_finalization_answer x v)))) x (after_broadcast_finalization x v)
   hands_finalization x v kind = elim (asked (λ r. r.finalization_broadcast) (λ r. r.finalization) x v) [
-    | inl none ↦ inl (ap (λ o. handed_by {K = K} {D = D} {G = G} kind (Calling (BroadcastFinalization v)) (Handed (option_map Finalized o))) none)
+    | inl none ↦ inl (ap (λ o. handed_by {K = K} {D = D} kind (Calling (BroadcastFinalization v)) (Handed (option_map Finalized o))) none)
     | inr (c, some, first) ↦ rw some (by_kind kind c first)
   ]
     where
@@ -136,26 +136,26 @@ module _ {K L D : Type 0} (G : Type 0) where
         now_spent Finalization x v _ first.tracked (or_some (round_of x v).finalization_broadcast (round_of x v).finalization c first.stands),
       )
 
-best_unasked : (K : Type 0) {D : Type 0} (G : Type 0) (kind : Kind) (best : Option (CertificateFacts D)) → handed_by {K = K} {D = D} {G = G} kind (Calling GetBestCertificate) (Handed best) ≡ []
-best_unasked K G Notarization None = refl
-best_unasked K G Nullification None = refl
-best_unasked K G Finalization None = refl
-best_unasked K G Notarization (Some c) = refl
-best_unasked K G Nullification (Some c) = refl
-best_unasked K G Finalization (Some c) = refl
+best_unasked : (K : Type 0) {D : Type 0} (kind : Kind) (best : Option (CertificateFacts D)) → handed_by {K = K} {D = D} kind (Calling GetBestCertificate) (Handed best) ≡ []
+best_unasked K Notarization None = refl
+best_unasked K Nullification None = refl
+best_unasked K Finalization None = refl
+best_unasked K Notarization (Some c) = refl
+best_unasked K Nullification (Some c) = refl
+best_unasked K Finalization (Some c) = refl
 
-module _ (K : Type 0) {D : Type 0} (G : Type 0) (kind : Kind) where
+module _ (K : Type 0) {D : Type 0} (kind : Kind) where
   -- a call that is refused is handed nothing
-  refused_none : (call : LifeCall D) (fault : Fault) → handed_by {K = K} {G = G} kind call (Refused fault) ≡ []
+  refused_none : (call : LifeCall D) (fault : Fault) → handed_by {K = K} kind call (Refused fault) ≡ []
   refused_none (Calling call) fault = refl
   refused_none (Working call) fault = refl
 
-  not_allowed_none : (call : LifeCall D) → handed_by {K = K} {G = G} kind call NotAllowed ≡ []
+  not_allowed_none : (call : LifeCall D) → handed_by {K = K} kind call NotAllowed ≡ []
   not_allowed_none (Calling call) = refl
   not_allowed_none (Working call) = refl
 
-module _ {K L D G : Type 0} (same : D → D → Bool) (elect : Elect L) (signature_of : ℕ → Subject D → G) where
-  event_spends : (x : Facts K L D) → InOrder x → (e : Event K D G) → IsEvent x e → is_floor e ≡ false → (kind : Kind) (v : ℕ) → IsSpent kind v x → IsSpent kind v (after_event same elect x e)
+module _ {K L D : Type 0} (same : D → D → Bool) (elect : Elect L) where
+  event_spends : (x : Facts K L D) → InOrder x → (e : Event K D) → IsEvent x e → is_floor e ≡ false → (kind : Kind) (v : ℕ) → IsSpent kind v x → IsSpent kind v (after_event same elect x e)
   event_spends x ordered e takes none kind v spent =
       let y = after_event same elect x e in
       let floor = floor_goes x y (event_goes same elect x e) in
@@ -167,31 +167,31 @@ module _ {K L D G : Type 0} (same : D → D → Bool) (elect : Elect L) (signatu
         ]
       ]
 
-  call_spends : (x : Facts K L D) → InOrder x → (call : CallFacts D) → is_allowed x call ≡ true → (kind : Kind) (v : ℕ) → IsSpent kind v x → IsSpent kind v (after_call same elect signature_of x call)
-  call_spends x ordered call allowed = call_by_event G same elect x signature_of (λ es y. (kind : Kind) (v : ℕ) → IsSpent kind v x → IsSpent kind v y) (λ kind v spent. spent) (λ e rest. event_spends x ordered e) call allowed
+  call_spends : (x : Facts K L D) → InOrder x → (call : CallFacts D) → is_allowed x call ≡ true → (kind : Kind) (v : ℕ) → IsSpent kind v x → IsSpent kind v (after_call same elect x call)
+  call_spends x ordered call allowed = call_by_event same elect x (λ es y. (kind : Kind) (v : ℕ) → IsSpent kind v x → IsSpent kind v y) (λ kind v spent. spent) (λ e rest. event_spends x ordered e) call allowed
 
-  call_hands : (x : Facts K L D) (call : CallFacts D) (kind : Kind) → Hands kind (handed_by kind (Calling call) (answer same elect signature_of x call)) x (after_call same elect signature_of x call)
+  call_hands : (x : Facts K L D) (call : CallFacts D) (kind : Kind) → Hands kind (handed_by kind (Calling call) (answer same elect x call)) x (after_call same elect x call)
   call_hands x (AddNotarization c) kind = inl refl
   call_hands x (AddNullification c now) kind = inl refl
   call_hands x (AddFinalization c now) kind = inl refl
   call_hands x (Certified v success now) kind = inl refl
   call_hands x (ConstructNullify v) kind = inl refl
   call_hands x (ConstructFinalize v) kind = inl refl
-  call_hands x (BroadcastNotarization v) kind = hands_notarization G x v kind
-  call_hands x (BroadcastNullification v) kind = hands_nullification G x v kind
-  call_hands x (BroadcastFinalization v) kind = hands_finalization G x v kind
-  call_hands x GetBestCertificate kind = inl (best_unasked K G kind (best_certificate x))
+  call_hands x (BroadcastNotarization v) kind = hands_notarization x v kind
+  call_hands x (BroadcastNullification v) kind = hands_nullification x v kind
+  call_hands x (BroadcastFinalization v) kind = hands_finalization x v kind
+  call_hands x GetBestCertificate kind = inl (best_unasked K kind (best_certificate x))
   call_hands x Prune kind = inl refl
 
   work_spends : (x : Facts K L D) → InOrder x → (o : Openings K D) (call : WorkCall D) → work_allowed x o call ≡ true → (kind : Kind) (v : ℕ) → IsSpent kind v x → IsSpent kind v (after_work same elect x o call)
-  work_spends x ordered o call allowed = work_by_event G same elect x o (λ es y. (kind : Kind) (v : ℕ) → IsSpent kind v x → IsSpent kind v y) (λ kind v spent. spent) (λ e rest. event_spends x ordered e) call allowed
+  work_spends x ordered o call allowed = work_by_event same elect x o (λ es y. (kind : Kind) (v : ℕ) → IsSpent kind v x → IsSpent kind v y) (λ kind v spent. spent) (λ e rest. event_spends x ordered e) call allowed
 
-  outcome : (m : MemberFacts K L D G) (call : LifeCall D) (told : Told K D G) (left : MemberFacts K L D G) → IsStep same elect signature_of m (as_step call) told left → ((fault : Fault) × (told ≡ Refused fault) × (left.life ≡ None)) ⊎ ((x y : Facts K L D) × (m.life ≡ Some x) × (left.life ≡ Some y) × InOrderly (HandsOut call told) x y)
+  outcome : (m : MemberFacts K L D) (call : LifeCall D) (told : Told K D) (left : MemberFacts K L D) → IsStep same elect m (as_step call) told left → ((fault : Fault) × (told ≡ Refused fault) × (left.life ≡ None)) ⊎ ((x y : Facts K L D) × (m.life ≡ Some x) × (left.life ≡ Some y) × InOrderly (HandsOut call told) x y)
   outcome =
-      call_outcome same elect signature_of (λ call told. InOrderly (HandsOut call told))
-      (λ call fault x ordered. (ordered, record { spent = λ kind v s. s; hands = λ kind. inl (refused_none K G kind call fault) }))
-      (λ call x ordered. (ordered, record { spent = λ kind v s. s; hands = λ kind. inl (not_allowed_none K G kind call) }))
-      (λ call x allowed ordered. (order_call same elect signature_of x ordered call, record { spent = call_spends x ordered call allowed; hands = call_hands x call }))
+      call_outcome same elect (λ call told. InOrderly (HandsOut call told))
+      (λ call fault x ordered. (ordered, record { spent = λ kind v s. s; hands = λ kind. inl (refused_none K kind call fault) }))
+      (λ call x ordered. (ordered, record { spent = λ kind v s. s; hands = λ kind. inl (not_allowed_none K kind call) }))
+      (λ call x allowed ordered. (order_call same elect x ordered call, record { spent = call_spends x ordered call allowed; hands = call_hands x call }))
       (λ call x o allowed ordered. (order_work same elect x o ordered call, record { spent = work_spends x ordered o call allowed; hands = λ kind. inl refl }))
 
 -- a member without a state hands nothing out
@@ -203,14 +203,14 @@ abbrev pub IsOrdered : {K L D : Type 0} → Option (Facts K L D) → Type 0
 IsOrdered None = Unit {0}
 IsOrdered (Some x) = InOrder x
 
-module _ {K L D G : Type 0} (same : D → D → Bool) (elect : Elect L) (signature_of : ℕ → Subject D → G) (kind : Kind) where
+module _ {K L D : Type 0} (same : D → D → Bool) (elect : Elect L) (kind : Kind) where
   -- what is spent is not handed out any more
-  never_again : (v : ℕ) (m end : MemberFacts K L D G) (calls : List (LifeCall D)) (replies : List (Told K D G)) → IsSpentIn kind v m.life → IsLife same elect signature_of m calls replies end → AllByRecursion (λ w. nat_eq v w ≡ false) (handed_in kind calls replies)
+  never_again : (v : ℕ) (m end : MemberFacts K L D) (calls : List (LifeCall D)) (replies : List (Told K D)) → IsSpentIn kind v m.life → IsLife same elect m calls replies end → AllByRecursion (λ w. nat_eq v w ≡ false) (handed_in kind calls replies)
   never_again v m end [] [] spent life = tt
   never_again v m end [] (told ∷ replies) spent life = absurd life
   never_again v m end (call ∷ calls) [] spent life = absurd life
-  never_again v m end (call ∷ calls) (told ∷ replies) spent (next, is_call, rest) = elim (outcome same elect signature_of m call told next is_call) [
-    | inl (fault, tells, dies) ↦ rw (tells, refused_none K G kind call fault) (never_again v next end calls replies (subst (IsSpentIn kind v) (sym dies) tt) rest)
+  never_again v m end (call ∷ calls) (told ∷ replies) spent (next, is_call, rest) = elim (outcome same elect m call told next is_call) [
+    | inl (fault, tells, dies) ↦ rw (tells, refused_none K kind call fault) (never_again v next end calls replies (subst (IsSpentIn kind v) (sym dies) tt) rest)
     | inr (x, y, alive, lives, leads) ↦ (
         let here : InOrder x × IsSpent kind v x = subst (IsSpentIn kind v) alive spent in
         let out = leads here.0 in
@@ -225,13 +225,13 @@ module _ {K L D G : Type 0} (same : D → D → Bool) (elect : Elect L) (signatu
         )
   ]
 
-  handed_once : (m end : MemberFacts K L D G) (calls : List (LifeCall D)) (replies : List (Told K D G)) → IsOrdered m.life → IsLife same elect signature_of m calls replies end → IsDistinct nat_eq (handed_in kind calls replies)
+  handed_once : (m end : MemberFacts K L D) (calls : List (LifeCall D)) (replies : List (Told K D)) → IsOrdered m.life → IsLife same elect m calls replies end → IsDistinct nat_eq (handed_in kind calls replies)
   unfolding IsDistinct
   handed_once m end [] [] ordered life = tt
   handed_once m end [] (told ∷ replies) ordered life = absurd life
   handed_once m end (call ∷ calls) [] ordered life = absurd life
-  handed_once m end (call ∷ calls) (told ∷ replies) ordered (next, is_call, rest) = elim (outcome same elect signature_of m call told next is_call) [
-    | inl (fault, tells, dies) ↦ rw (tells, refused_none K G kind call fault) (handed_once next end calls replies (subst IsOrdered (sym dies) tt) rest)
+  handed_once m end (call ∷ calls) (told ∷ replies) ordered (next, is_call, rest) = elim (outcome same elect m call told next is_call) [
+    | inl (fault, tells, dies) ↦ rw (tells, refused_none K kind call fault) (handed_once next end calls replies (subst IsOrdered (sym dies) tt) rest)
     | inr (x, y, alive, lives, leads) ↦ (
         let out = leads (subst IsOrdered alive ordered) in
         let later = handed_once next end calls replies (subst IsOrdered (sym lives) out.0) rest in
@@ -242,6 +242,6 @@ module _ {K L D G : Type 0} (same : D → D → Bool) (elect : Elect L) (signatu
         )
   ]
 
-module _ {K L D G : Type 0} (same : D → D → Bool) (elect : Elect L) (signature_of : ℕ → Subject D → G) where
-  pub life_hands_once : (m end : MemberFacts K L D G) (calls : List (LifeCall D)) (replies : List (Told K D G)) → IsOrdered m.life → IsLife same elect signature_of m calls replies end → HandedOnce calls replies
-  life_hands_once m end calls replies ordered life kind = handed_once same elect signature_of kind m end calls replies ordered life
+module _ {K L D : Type 0} (same : D → D → Bool) (elect : Elect L) where
+  pub life_hands_once : (m end : MemberFacts K L D) (calls : List (LifeCall D)) (replies : List (Told K D)) → IsOrdered m.life → IsLife same elect m calls replies end → HandedOnce calls replies
+  life_hands_once m end calls replies ordered life kind = handed_once same elect kind m end calls replies ordered life

@@ -27,14 +27,14 @@ use Rattle.simplex_voter.specs.Windows.{min_active}
 
 -- the sums by themselves
 
-module _ {K D G : Type 0} where
+module _ {K D : Type 0} where
   -- a finalization enters the next view
-  passes : (term_length : ℕ) (is_notarized : ℕ → Bool) (e : Event K D G) → (finalized_by e ≡ 0) ⊎ (finalized_by e < entered_by term_length is_notarized e)
+  passes : (term_length : ℕ) (is_notarized : ℕ → Bool) (e : Event K D) → (finalized_by e ≡ 0) ⊎ (finalized_by e < entered_by term_length is_notarized e)
   passes t n (SetFloor (Finalized c) now) = inr (omega arith)
   passes t n (AddFinalization c now) = inr (omega arith)
   passes t n _ = inl refl
 
-  pub finalized_passed : (term_length : ℕ) (history : List (Event K D G)) → (finalized_in history ≡ 0) ⊎ (finalized_in history < current_in term_length history)
+  pub finalized_passed : (term_length : ℕ) (history : List (Event K D)) → (finalized_in history ≡ 0) ⊎ (finalized_in history < current_in term_length history)
   finalized_passed t [] = inl refl
   finalized_passed t (e ∷ before) = joined (finalized_passed t before) (passes t (is_notarized_in before) e)
     where
@@ -44,7 +44,7 @@ module _ {K D G : Type 0} where
       joined (inr a) (inl b) = inr (omega arith)
       joined (inr a) (inr b) = inr (omega arith)
 
-  pub kept_finalized : (retention : ℕ) (history : List (Event K D G)) → kept_in retention history ≤ finalized_in history
+  pub kept_finalized : (retention : ℕ) (history : List (Event K D)) → kept_in retention history ≤ finalized_in history
   kept_finalized r [] = omega arith
   kept_finalized r (e ∷ before) =
       let behind : kept_in r before ≤ finalized_in before = kept_finalized r before in
@@ -55,7 +55,7 @@ module _ {K D G : Type 0} where
       lower true = omega arith
       lower false = omega arith
 
-  kept_active : (retention : ℕ) (history : List (Event K D G)) → kept_in retention history ≤ finalized_in history - retention
+  kept_active : (retention : ℕ) (history : List (Event K D)) → kept_in retention history ≤ finalized_in history - retention
   kept_active r [] = omega arith
   kept_active r (e ∷ before) =
       let behind : kept_in r before ≤ finalized_in before - r = kept_active r before in
@@ -66,16 +66,16 @@ module _ {K D G : Type 0} where
       lower true = omega arith
       lower false = omega arith
 
-  kept_reached : (retention term_length : ℕ) (history : List (Event K D G)) (current : ℕ) → current ≡ current_in term_length history → kept_in retention history ≤ current
+  kept_reached : (retention term_length : ℕ) (history : List (Event K D)) (current : ℕ) → current ≡ current_in term_length history → kept_in retention history ≤ current
   kept_reached r t history current is =
       let low = kept_finalized r history in
       elim (finalized_passed t history) [ inl none ↦ omega (arith, low, none) | inr above ↦ omega (arith, low, above, is) ]
 
-  moment_follows : (o : Option ℕ) (history : List (Event K D G)) → unwrap_or o (unwrap_or (latest moment_by history) 0) ≡ unwrap_or (option_or o (latest moment_by history)) 0
+  moment_follows : (o : Option ℕ) (history : List (Event K D)) → unwrap_or o (unwrap_or (latest moment_by history) 0) ≡ unwrap_or (option_or o (latest moment_by history)) 0
   moment_follows None history = refl
   moment_follows (Some now) history = refl
 
-module _ {K L D G : Type 0} (same : D → D → Bool) (elect : Elect L) (history : History K L D G) (x : Facts K L D) (shows : Shows same elect history x) where
+module _ {K L D : Type 0} (same : D → D → Bool) (elect : Elect L) (history : History K L D) (x : Facts K L D) (shows : Shows same elect history x) where
   -- a view for which a verdict may be given is tracked where a notarization was handed in
   tracked_notarized : (v : ℕ) (success : Bool) → takes_verdict x v success ≡ true → kept_of history ≤ v → is_tracked x v ≡ is_notarized_in history.events v
   tracked_notarized v success takes kept = notarized (round_at x v) refl ∙ ap (λ (r : RoundFacts K D). is_some r.notarization) (shows.rounds v kept)
@@ -86,7 +86,7 @@ module _ {K L D G : Type 0} (same : D → D → Bool) (elect : Elect L) (history
           let test : (is_some r.notarization && not (is_judged (not success) r.certification)) ≡ true = sym (ap (λ o. option_map_or (λ s. is_some s.notarization && not (is_judged (not success) s.certification)) o true) found) ∙ (and_parts _ _ takes).1 in
           rw found (sym (and_parts (is_some r.notarization) _ test).0)
 
-  judged_alike : (e : Event K D G) → IsEvent x e → (v : ℕ) → kept_of history ≤ v → judges (is_tracked x) v e ≡ judges (is_notarized_in history.events) v e
+  judged_alike : (e : Event K D) → IsEvent x e → (v : ℕ) → kept_of history ≤ v → judges (is_tracked x) v e ≡ judges (is_notarized_in history.events) v e
   judged_alike (Certified w success now) takes v kept = by_view (cases_eq v w)
     where
       by_view : ((v ≡ w) ⊎ (v ≡ w → ⊥)) → (if eqb v w && is_tracked x w then Some success else None) ≡ (if eqb v w && is_notarized_in history.events w then Some success else None)
@@ -94,12 +94,12 @@ module _ {K L D G : Type 0} (same : D → D → Bool) (elect : Elect L) (history
       by_view (inr apart) = rw (ne_eqb v w apart) refl
   judged_alike (Replay e) takes v kept = replays e
     where
-      replays : (a : ArtifactFacts D G) → judges {K = K} (is_tracked x) v (Replay a) ≡ judges {K = K} (is_notarized_in history.events) v (Replay a)
+      replays : (a : ArtifactFacts D) → judges {K = K} (is_tracked x) v (Replay a) ≡ judges {K = K} (is_notarized_in history.events) v (Replay a)
       replays (Verdict round success) = refl
       replays _ = refl
   judged_alike _ takes v kept = refl
 
-  entered_alike : (t : ℕ) → x.current ≡ current_in t history.events → (e : Event K D G) → IsEvent x e → max x.current (entered_by t (is_tracked x) e) ≡ max x.current (entered_by t (is_notarized_in history.events) e)
+  entered_alike : (t : ℕ) → x.current ≡ current_in t history.events → (e : Event K D) → IsEvent x e → max x.current (entered_by t (is_tracked x) e) ≡ max x.current (entered_by t (is_notarized_in history.events) e)
   entered_alike t current (Certified w true now) takes = by_kept (cases_lt w (kept_of history))
     where
       already : (b : Bool) → w < x.current → max x.current (if b then w + 1 else 0) ≡ x.current
@@ -120,7 +120,7 @@ module _ {K L D G : Type 0} (same : D → D → Bool) (elect : Elect L) (history
   entered_alike t current (Certified w false now) takes = refl
   entered_alike t current _ takes = refl
 
-  pub event_shown : ((d e : D) → same d e ≡ true → d ≡ e) → (e : Event K D G) → IsEvent x e → Shows same elect (with_event history e) (after_event same elect x e)
+  pub event_shown : ((d e : D) → same d e ≡ true → d ≡ e) → (e : Event K D) → IsEvent x e → Shows same elect (with_event history e) (after_event same elect x e)
   event_shown decides e allowed = record {
     facts = ap (λ z. after_event same elect z e) shows.facts;
     dropped = λ some v below. gone some v below (cases_lt v (kept_in fresh.settings.view_retention events));
@@ -156,7 +156,7 @@ module _ {K L D G : Type 0} (same : D → D → Bool) (elect : Elect L) (history
       fresh : Facts K L D
       fresh = history.fresh
 
-      events : List (Event K D G)
+      events : List (Event K D)
       events = history.events
 
       follows : Follows same elect e x (after_event same elect x e)
@@ -201,15 +201,15 @@ module _ {K L D G : Type 0} (same : D → D → Bool) (elect : Elect L) (history
       unnoted v below (inl dropped) = nullified_dropped same elect x e v dropped
       unnoted v below (inr from) =
           let gone_before = earlier_gone v below from in
-          follows.nullified v from ∙ ap (λ b. b || is_among x.nullified v) (covers_above G (kept_in fresh.settings.view_retention events) x active reached e allowed v gone_before) ∙ shows.nullified_dropped v gone_before
+          follows.nullified v from ∙ ap (λ b. b || is_among x.nullified v) (covers_above (kept_in fresh.settings.view_retention events) x active reached e allowed v gone_before) ∙ shows.nullified_dropped v gone_before
 
       unvoted : (v : ℕ) → v < kept_in fresh.settings.view_retention (e ∷ events) → ((v < left_from x e) ⊎ (left_from x e ≤ v)) → is_among (after_event same elect x e).nullify_votes v ≡ false
       unvoted v below (inl dropped) = votes_dropped same elect x e v dropped
       unvoted v below (inr from) =
           let gone_before = earlier_gone v below from in
-          follows.nullify_votes v from ∙ ap (λ b. b || is_among x.nullify_votes v) (casts_above G (kept_in fresh.settings.view_retention events) x active reached e allowed v gone_before) ∙ shows.votes_dropped v gone_before
+          follows.nullify_votes v from ∙ ap (λ b. b || is_among x.nullify_votes v) (casts_above (kept_in fresh.settings.view_retention events) x active reached e allowed v gone_before) ∙ shows.votes_dropped v gone_before
 
-      done : (does : Facts K L D → Event K D G → Bool) (b : Bool) → b ≡ was_done same elect does fresh events → (does x e || b) ≡ was_done same elect does fresh (e ∷ events)
+      done : (does : Facts K L D → Event K D → Bool) (b : Bool) → b ≡ was_done same elect does fresh events → (does x e || b) ≡ was_done same elect does fresh (e ∷ events)
       done does b is = done_further same elect history x shows.facts e does b is
 
       tracked_further : (a b c : Bool) → (a || (b || c)) ≡ ((a || b) || c)

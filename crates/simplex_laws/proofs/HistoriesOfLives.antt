@@ -39,23 +39,23 @@ use Rattle.simplex_member.proofs.Remaking.{set_takes}
 use Rattle.simplex_member.proofs.Start.{good_floor}
 
 -- an entry is the artifact whose certificates are their bytes
-entry_back : (K : Type 0) {D G : Type 0} (e : ArtifactFacts D G) → artifact_facts (λ b. b) (as_artifact {K = K} e) ≡ e
-entry_back K (NotarizeVote p signer signature) = refl
-entry_back K (NullifyVote round signer signature) = refl
-entry_back K (FinalizeVote p signer signature) = refl
+entry_back : (K : Type 0) {D : Type 0} (e : ArtifactFacts D) → artifact_facts (λ b. b) (as_artifact {K = K} e) ≡ e
+entry_back K (NotarizeVote p signer) = refl
+entry_back K (NullifyVote round signer) = refl
+entry_back K (FinalizeVote p signer) = refl
 entry_back K (Verdict round success) = refl
 entry_back K (Accepted (Notarized c)) = refl
 entry_back K (Accepted (Nullified c)) = refl
 entry_back K (Accepted (Finalized c)) = refl
 
-entries_back : (K : Type 0) {D G : Type 0} (es : List (ArtifactFacts D G)) → entries_of (λ b. b) (map (as_artifact {K = K}) es) ≡ es
+entries_back : (K : Type 0) {D : Type 0} (es : List (ArtifactFacts D)) → entries_of (λ b. b) (map (as_artifact {K = K}) es) ≡ es
 entries_back K [] = refl
 entries_back K (e ∷ es) = rw (entry_back K e, entries_back K es) refl
 
-module _ {K L D G : Type 0} (same : D → D → Bool) (elect : Elect L) where
+module _ {K L D : Type 0} (same : D → D → Bool) (elect : Elect L) where
   -- of a new state nothing was said
-  pub begun_shown : (term_length : ℕ) (x : Facts K L D) → IsFresh term_length x → Shows {G = G} same elect (record { fresh = x; events = [] }) x
-  begun_shown term_length x fresh = subst (λ y. Shows {G = G} same elect (record { fresh = y; events = [] }) y) (sym fresh.fresh) (record {
+  pub begun_shown : (term_length : ℕ) (x : Facts K L D) → IsFresh term_length x → Shows same elect (record { fresh = x; events = [] }) x
+  begun_shown term_length x fresh = subst (λ y. Shows same elect (record { fresh = y; events = [] }) y) (sym fresh.fresh) (record {
     facts = refl;
     dropped = λ some v below. refl;
     nullified_dropped = λ v below. refl;
@@ -81,53 +81,53 @@ module _ {K L D G : Type 0} (same : D → D → Bool) (elect : Elect L) where
   })
 
   -- what is answered is not refused
-  told_events : (signature_of : ℕ → Subject D → G) (history : History K L D G) (x : Facts K L D) (call : CallFacts D) → with_call history call (answer same elect signature_of x call) ≡ with_events history (events_of call)
-  told_events signature_of history x (calls.AddNotarization c) = refl
-  told_events signature_of history x (calls.AddNullification c now) = refl
-  told_events signature_of history x (calls.AddFinalization c now) = refl
-  told_events signature_of history x (calls.Certified v success now) = refl
-  told_events signature_of history x (calls.ConstructNullify v) = refl
-  told_events signature_of history x (calls.ConstructFinalize v) = refl
-  told_events signature_of history x (calls.BroadcastNotarization v) = refl
-  told_events signature_of history x (calls.BroadcastNullification v) = refl
-  told_events signature_of history x (calls.BroadcastFinalization v) = refl
-  told_events signature_of history x calls.GetBestCertificate = refl
-  told_events signature_of history x calls.Prune = refl
+  told_events : (history : History K L D) (x : Facts K L D) (call : CallFacts D) → with_call history call (answer same elect x call) ≡ with_events history (events_of call)
+  told_events history x (calls.AddNotarization c) = refl
+  told_events history x (calls.AddNullification c now) = refl
+  told_events history x (calls.AddFinalization c now) = refl
+  told_events history x (calls.Certified v success now) = refl
+  told_events history x (calls.ConstructNullify v) = refl
+  told_events history x (calls.ConstructFinalize v) = refl
+  told_events history x (calls.BroadcastNotarization v) = refl
+  told_events history x (calls.BroadcastNullification v) = refl
+  told_events history x (calls.BroadcastFinalization v) = refl
+  told_events history x calls.GetBestCertificate = refl
+  told_events history x calls.Prune = refl
 
-  told_work : (signature_of : ℕ → Subject D → G) (history : History K L D G) (x : Facts K L D) (o : Openings K D) (call : WorkCall D) → with_work history o call (work_answer same elect signature_of x o call) ≡ with_events history (work_events o call)
-  told_work signature_of history x o (work.SetProposal v p) = refl
-  told_work signature_of history x o work.TryPropose = refl
-  told_work signature_of history x o (work.Proposed v payload now) = refl
-  told_work signature_of history x o (work.SupersedeProposalRequest v) = refl
-  told_work signature_of history x o (work.PendingHandoffAbandonment v) = refl
-  told_work signature_of history x o (work.ReleaseProposalRequest v) = refl
-  told_work signature_of history x o work.TryVerify = refl
-  told_work signature_of history x o (work.Verified v) = refl
-  told_work signature_of history x o (work.VerificationFailed v reason now) = refl
-  told_work signature_of history x o (work.ConstructNotarize v) = refl
-  told_work signature_of history x o work.CertifyCandidates = refl
-  told_work signature_of history x o (work.SetCertifyHandle v token) = refl
-  told_work signature_of history x o (work.TriggerTimeout v reason now) = refl
-  told_work signature_of history x o (work.NextTimeout now) = refl
+  told_work : (history : History K L D) (x : Facts K L D) (o : Openings K D) (call : WorkCall D) → with_work history o call (work_answer same elect x o call) ≡ with_events history (work_events o call)
+  told_work history x o (work.SetProposal v p) = refl
+  told_work history x o work.TryPropose = refl
+  told_work history x o (work.Proposed v payload now) = refl
+  told_work history x o (work.SupersedeProposalRequest v) = refl
+  told_work history x o (work.PendingHandoffAbandonment v) = refl
+  told_work history x o (work.ReleaseProposalRequest v) = refl
+  told_work history x o work.TryVerify = refl
+  told_work history x o (work.Verified v) = refl
+  told_work history x o (work.VerificationFailed v reason now) = refl
+  told_work history x o (work.ConstructNotarize v) = refl
+  told_work history x o work.CertifyCandidates = refl
+  told_work history x o (work.SetCertifyHandle v token) = refl
+  told_work history x o (work.TriggerTimeout v reason now) = refl
+  told_work history x o (work.NextTimeout now) = refl
 
-module _ {K L D G : Type 0} (same : D → D → Bool) (decides : (d e : D) → same d e ≡ true → d ≡ e) (elect : Elect L) (history : History K L D G) (x : Facts K L D) (shows : Shows same elect history x) where
+module _ {K L D : Type 0} (same : D → D → Bool) (decides : (d e : D) → same d e ≡ true → d ≡ e) (elect : Elect L) (history : History K L D) (x : Facts K L D) (shows : Shows same elect history x) where
   -- a call makes of the facts what its events make of them
-  call_shown : (signature_of : ℕ → Subject D → G) (call : CallFacts D) → is_allowed x call ≡ true → Shows same elect (with_events history (events_of call)) (after_call same elect signature_of x call)
-  call_shown signature_of (calls.AddNotarization c) allowed = event_shown same elect history x shows decides (AddNotarization c) allowed
-  call_shown signature_of (calls.AddNullification c now) allowed = event_shown same elect history x shows decides (AddNullification c now) allowed
-  call_shown signature_of (calls.AddFinalization c now) allowed = event_shown same elect history x shows decides (AddFinalization c now) allowed
-  call_shown signature_of (calls.Certified v success now) allowed = event_shown same elect history x shows decides (Certified v success now) allowed
-  call_shown signature_of (calls.ConstructNullify v) allowed = event_shown same elect history x shows decides (ConstructNullify v) tt
-  call_shown signature_of (calls.ConstructFinalize v) allowed = event_shown same elect history x shows decides (ConstructFinalize v) tt
-  call_shown signature_of (calls.BroadcastNotarization v) allowed = event_shown same elect history x shows decides (BroadcastNotarization v) tt
-  call_shown signature_of (calls.BroadcastNullification v) allowed = event_shown same elect history x shows decides (BroadcastNullification v) tt
-  call_shown signature_of (calls.BroadcastFinalization v) allowed = event_shown same elect history x shows decides (BroadcastFinalization v) tt
-  call_shown signature_of calls.GetBestCertificate allowed = shows
-  call_shown signature_of calls.Prune allowed = event_shown same elect history x shows decides Prune tt
+  call_shown : (call : CallFacts D) → is_allowed x call ≡ true → Shows same elect (with_events history (events_of call)) (after_call same elect x call)
+  call_shown (calls.AddNotarization c) allowed = event_shown same elect history x shows decides (AddNotarization c) allowed
+  call_shown (calls.AddNullification c now) allowed = event_shown same elect history x shows decides (AddNullification c now) allowed
+  call_shown (calls.AddFinalization c now) allowed = event_shown same elect history x shows decides (AddFinalization c now) allowed
+  call_shown (calls.Certified v success now) allowed = event_shown same elect history x shows decides (Certified v success now) allowed
+  call_shown (calls.ConstructNullify v) allowed = event_shown same elect history x shows decides (ConstructNullify v) tt
+  call_shown (calls.ConstructFinalize v) allowed = event_shown same elect history x shows decides (ConstructFinalize v) tt
+  call_shown (calls.BroadcastNotarization v) allowed = event_shown same elect history x shows decides (BroadcastNotarization v) tt
+  call_shown (calls.BroadcastNullification v) allowed = event_shown same elect history x shows decides (BroadcastNullification v) tt
+  call_shown (calls.BroadcastFinalization v) allowed = event_shown same elect history x shows decides (BroadcastFinalization v) tt
+  call_shown calls.GetBestCertificate allowed = shows
+  call_shown calls.Prune allowed = event_shown same elect history x shows decides Prune tt
 
   -- so does one on the work of a view
 
-  in_context_shown : (event : Context D K → Event K D G) (after : Context D K → Facts K L D) → ((c : Context D K) → Shows same elect (with_event history (event c)) (after c)) → (context : Option (Context D K)) → Shows same elect (with_events history (in_context event context)) (option_map_or after context x)
+  in_context_shown : (event : Context D K → Event K D) (after : Context D K → Facts K L D) → ((c : Context D K) → Shows same elect (with_event history (event c)) (after c)) → (context : Option (Context D K)) → Shows same elect (with_events history (in_context event context)) (option_map_or after context x)
   in_context_shown event after shown None = shows
   in_context_shown event after shown (Some c) = shown c
 
@@ -149,13 +149,13 @@ module _ {K L D G : Type 0} (same : D → D → Bool) (decides : (d e : D) → s
 
   -- an entry that is taken again
 
-  retaken_shown : (now : ℕ) (e : ArtifactFacts D G) → TakesEntry (λ b. b) same elect x now (as_artifact {K = K} e) → Shows same elect (with_events history (retaken_events now e)) (retaken same elect x now e)
-  retaken_shown now (NotarizeVote p signer signature) takes = event_shown same elect history x shows decides (Replay (NotarizeVote p signer signature)) takes.replays
-  retaken_shown now (NullifyVote round signer signature) takes = event_shown same elect history x shows decides (Replay (NullifyVote round signer signature)) takes.replays
-  retaken_shown now (FinalizeVote p signer signature) takes = event_shown same elect history x shows decides (Replay (FinalizeVote p signer signature)) takes.replays
+  retaken_shown : (now : ℕ) (e : ArtifactFacts D) → TakesEntry (λ b. b) same elect x now (as_artifact {K = K} e) → Shows same elect (with_events history (retaken_events now e)) (retaken same elect x now e)
+  retaken_shown now (NotarizeVote p signer) takes = event_shown same elect history x shows decides (Replay (NotarizeVote p signer)) takes.replays
+  retaken_shown now (NullifyVote round signer) takes = event_shown same elect history x shows decides (Replay (NullifyVote round signer)) takes.replays
+  retaken_shown now (FinalizeVote p signer) takes = event_shown same elect history x shows decides (Replay (FinalizeVote p signer)) takes.replays
   retaken_shown now (Verdict round success) takes =
       let e = Replay (Verdict round success) in
-      event_shown same elect (with_event history e) (replayed {G = G} same elect x (Verdict round success)) (event_shown same elect history x shows decides e takes.replays) decides (Certified round.view success now) takes.gives
+      event_shown same elect (with_event history e) (replayed same elect x (Verdict round success)) (event_shown same elect history x shows decides e takes.replays) decides (Certified round.view success now) takes.gives
   retaken_shown now (Accepted (Notarized c)) takes =
       event_shown same elect (with_event history (AddNotarization c)) (after_add_notarization same elect x c) (event_shown same elect history x shows decides (AddNotarization c) takes.kept) decides (Replay (Accepted (Notarized c))) takes.replays
   retaken_shown now (Accepted (Nullified c)) takes =
@@ -163,7 +163,7 @@ module _ {K L D G : Type 0} (same : D → D → Bool) (decides : (d e : D) → s
   retaken_shown now (Accepted (Finalized c)) takes =
       event_shown same elect (with_event history (AddFinalization c now)) (after_add_finalization same elect x c now) (event_shown same elect history x shows decides (AddFinalization c now) takes.kept) decides (Replay (Accepted (Finalized c))) takes.replays
 
-  taken_shown : (now : ℕ) (e : ArtifactFacts D G) → (nat_lt (entry_view e) (min_active x) ≡ false → TakesEntry (λ b. b) same elect x now (as_artifact {K = K} e)) → Shows same elect (with_entry history now e) (taken same elect x now e)
+  taken_shown : (now : ℕ) (e : ArtifactFacts D) → (nat_lt (entry_view e) (min_active x) ≡ false → TakesEntry (λ b. b) same elect x now (as_artifact {K = K} e)) → Shows same elect (with_entry history now e) (taken same elect x now e)
   unfolding taken
   taken_shown now e takes = by_view (nat_lt (entry_view e) (min_active x)) refl
     where
@@ -175,61 +175,61 @@ module _ {K L D G : Type 0} (same : D → D → Bool) (decides : (d e : D) → s
       by_view false above = rw (lowest_alike, above) (retaken_shown now e (takes above))
 
 -- the view of an entry's artifact
-view_back : (K : Type 0) {D G : Type 0} (e : ArtifactFacts D G) → artifact_view (as_artifact {K = K} e) ≡ entry_view e
-view_back K (NotarizeVote p signer signature) = refl
-view_back K (NullifyVote round signer signature) = refl
-view_back K (FinalizeVote p signer signature) = refl
+view_back : (K : Type 0) {D : Type 0} (e : ArtifactFacts D) → artifact_view (as_artifact {K = K} e) ≡ entry_view e
+view_back K (NotarizeVote p signer) = refl
+view_back K (NullifyVote round signer) = refl
+view_back K (FinalizeVote p signer) = refl
 view_back K (Verdict round success) = refl
 view_back K (Accepted (Notarized c)) = refl
 view_back K (Accepted (Nullified c)) = refl
 view_back K (Accepted (Finalized c)) = refl
 
-module _ {K L D G : Type 0} (same : D → D → Bool) (decides : (d e : D) → same d e ≡ true → d ≡ e) (elect : Elect L) (now : ℕ) where
-  entries_shown : (entries : List (ArtifactFacts D G)) (history : History K L D G) (x : Facts K L D) → Shows same elect history x → TakesEntries (λ b. b) same elect x now (map (as_artifact {K = K}) entries) → Shows same elect (with_entries history now entries) (all_taken same elect x now entries)
+module _ {K L D : Type 0} (same : D → D → Bool) (decides : (d e : D) → same d e ≡ true → d ≡ e) (elect : Elect L) (now : ℕ) where
+  entries_shown : (entries : List (ArtifactFacts D)) (history : History K L D) (x : Facts K L D) → Shows same elect history x → TakesEntries (λ b. b) same elect x now (map (as_artifact {K = K}) entries) → Shows same elect (with_entries history now entries) (all_taken same elect x now entries)
   entries_shown [] history x shows takes = shows
   entries_shown (e ∷ rest) history x shows takes =
       let y = taken same elect x now e in
       let next : Shows same elect (with_entry history now e) y = taken_shown same decides elect history x shows now e (λ above. takes.0.taken (ap (λ v. nat_lt v (min_active x)) (view_back K e) ∙ above)) in
       entries_shown rest (with_entry history now e) y next (subst (λ a. TakesEntries (λ b. b) same elect (taken same elect x now a) now (map (as_artifact {K = K}) rest)) (entry_back K e) takes.1)
 
-module _ {K L D G : Type 0} (same : D → D → Bool) (decides : (d e : D) → same d e ≡ true → d ≡ e) (elect : Elect L) (start : StartFacts K L D) (term_length : ℕ) (fresh : IsFresh term_length start.fresh) where
+module _ {K L D : Type 0} (same : D → D → Bool) (decides : (d e : D) → same d e ≡ true → d ≡ e) (elect : Elect L) (start : StartFacts K L D) (term_length : ℕ) (fresh : IsFresh term_length start.fresh) where
   -- a floor that breaks no rule
-  floor_shown : first_error (floor_rules start.fresh.settings.epoch start.floor) ≡ None → Shows {G = G} same elect (record { fresh = start.fresh; events = SetFloor start.floor start.now ∷ [] }) (after_set_floor same elect start.fresh start.floor start.now)
+  floor_shown : first_error (floor_rules start.fresh.settings.epoch start.floor) ≡ None → Shows same elect (record { fresh = start.fresh; events = SetFloor start.floor start.now ∷ [] }) (after_set_floor same elect start.fresh start.floor start.now)
   floor_shown good = event_shown same elect (record { fresh = start.fresh; events = [] }) start.fresh (begun_shown same elect term_length start.fresh fresh) decides (SetFloor start.floor start.now) (good_floor start.fresh (ap (λ y. y.current) fresh.fresh) start.floor good)
 
-  unbroken_shown : (entries : List (ArtifactFacts D G)) → first_broken_rule same start.fresh.settings.epoch start.fresh.me start.floor entries ≡ None → Shows same elect (recovery start entries) (recovered same elect start.fresh start.floor start.now entries)
+  unbroken_shown : (entries : List (ArtifactFacts D)) → first_broken_rule same start.fresh.settings.epoch start.fresh.me start.floor entries ≡ None → Shows same elect (recovery start entries) (recovered same elect start.fresh start.floor start.now entries)
   unfolding recovered first_broken_rule
   unbroken_shown entries none =
       let x = start.fresh in
       let y = after_set_floor same elect x start.floor start.now in
       let good = (first_none (first_error (floor_rules x.settings.epoch start.floor)) (first_broken_after same x.settings.epoch x.me [] entries) none).0 in
-      let bears : BearsAll {G = G} [] x = subst (BearsAll {G = G} []) (sym fresh.fresh) (new_bears x.settings x.me x.members x.elector x.terms x.elects_early) in
+      let bears : BearsAll [] x = subst (BearsAll []) (sym fresh.fresh) (new_bears x.settings x.me x.members x.elector x.terms x.elects_early) in
       let going : x.failed ≡ false = ap (λ z. z.failed) fresh.fresh in
       let takes : TakesEntries (λ b. b) same elect y start.now (map (as_artifact {K = K}) entries) = set_takes same elect x start.floor start.now (λ b. b) (map (as_artifact {K = K}) entries) going bears (subst (λ es. first_broken_rule same x.settings.epoch x.me start.floor es ≡ None) (sym (entries_back K entries)) none) in
       entries_shown same decides elect start.now entries (record { fresh = x; events = SetFloor start.floor start.now ∷ [] }) y (floor_shown good) takes
 
-  pub recovered_shown : (entries : List (ArtifactFacts D G)) → recover_error same start.fresh start.floor start.now entries ≡ None → Shows same elect (recovery start entries) (recovered same elect start.fresh start.floor start.now entries)
+  pub recovered_shown : (entries : List (ArtifactFacts D)) → recover_error same start.fresh start.floor start.now entries ≡ None → Shows same elect (recovery start entries) (recovered same elect start.fresh start.floor start.now entries)
   recovered_shown entries none = unbroken_shown entries (first_none (first_broken_rule same start.fresh.settings.epoch start.fresh.me start.floor entries) _ none).0
 
-module _ {K L D G : Type 0} (same : D → D → Bool) (decides : (d e : D) → same d e ≡ true → d ≡ e) (elect : Elect L) (signature_of : ℕ → Subject D → G) (m : MemberFacts K L D G) where
+module _ {K L D : Type 0} (same : D → D → Bool) (decides : (d e : D) → same d e ≡ true → d ≡ e) (elect : Elect L) (m : MemberFacts K L D) where
   -- a call
 
-  answered : (history : History K L D G) (call : CallFacts D) (x : Facts K L D) → IsShown same elect history m → Shows same elect history x → IsShown same elect (with_call history call (reply_of same elect signature_of x call)) (left_of same elect signature_of x m call)
+  answered : (history : History K L D) (call : CallFacts D) (x : Facts K L D) → IsShown same elect history m → Shows same elect history x → IsShown same elect (with_call history call (reply_of same elect x call)) (left_of same elect x m call)
   answered history call x shown shows = by_allowed (is_allowed x call) refl
     where
-      by_fault : (o : Option Fault) → fault_of x call ≡ o → is_allowed x call ≡ true → IsShown same elect (with_call history call (reply_of same elect signature_of x call)) (left_of same elect signature_of x m call)
-      by_fault None no_fault allowed = rw (allowed, no_fault) (subst (λ h. Shows same elect h (after_call same elect signature_of x call)) (sym (told_events same elect signature_of history x call)) (call_shown same decides elect history x shows signature_of call allowed))
+      by_fault : (o : Option Fault) → fault_of x call ≡ o → is_allowed x call ≡ true → IsShown same elect (with_call history call (reply_of same elect x call)) (left_of same elect x m call)
+      by_fault None no_fault allowed = rw (allowed, no_fault) (subst (λ h. Shows same elect h (after_call same elect x call)) (sym (told_events same elect history x call)) (call_shown same decides elect history x shows call allowed))
       by_fault (Some f) refused allowed = rw (allowed, refused) shown
 
-      by_allowed : (b : Bool) → is_allowed x call ≡ b → IsShown same elect (with_call history call (reply_of same elect signature_of x call)) (left_of same elect signature_of x m call)
+      by_allowed : (b : Bool) → is_allowed x call ≡ b → IsShown same elect (with_call history call (reply_of same elect x call)) (left_of same elect x m call)
       by_allowed true allowed = by_fault (fault_of x call) refl allowed
       by_allowed false not_allowed = rw not_allowed shown
 
-  pub called_shown : (history : History K L D G) (left : MemberFacts K L D G) (call : CallFacts D) (told : Told K D G) → IsShown same elect history m → IsCall same elect signature_of m call told left → IsShown same elect (with_call history call told) left
+  pub called_shown : (history : History K L D) (left : MemberFacts K L D) (call : CallFacts D) (told : Told K D) → IsShown same elect history m → IsCall same elect m call told left → IsShown same elect (with_call history call told) left
   unfolding IsCall
   called_shown history left call told shown is_call = by_life m.life refl is_call
     where
-      by_life : (o : Option (Facts K L D)) → m.life ≡ o → AnswersAlive same elect signature_of o m call told left → IsShown same elect (with_call history call told) left
+      by_life : (o : Option (Facts K L D)) → m.life ≡ o → AnswersAlive same elect o m call told left → IsShown same elect (with_call history call told) left
       by_life None dead (tells, leaves) = rw (tells, leaves) shown
       by_life (Some x) alive (inl (tells, leaves)) = rw (tells, leaves) (answered history call x shown (subst (λ o. MatchOption o (Unit {0}) (Shows same elect history)) alive shown))
       by_life (Some x) alive (inr (_, tells, inl leaves)) = rw (tells, leaves) shown
@@ -237,33 +237,33 @@ module _ {K L D G : Type 0} (same : D → D → Bool) (decides : (d e : D) → s
 
   -- a call on the work of a view
 
-  worked : (history : History K L D G) (call : WorkCall D) (x : Facts K L D) → IsShown same elect history m → Shows same elect history x → IsShown same elect (with_work history m.openings call (work_reply same elect signature_of x m.openings call)) (left_of_work same elect signature_of x m call)
+  worked : (history : History K L D) (call : WorkCall D) (x : Facts K L D) → IsShown same elect history m → Shows same elect history x → IsShown same elect (with_work history m.openings call (work_reply same elect x m.openings call)) (left_of_work same elect x m call)
   worked history call x shown shows = by_allowed (work_allowed x m.openings call) refl
     where
-      by_fault : (f : Option Fault) → work_fault x call ≡ f → work_allowed x m.openings call ≡ true → IsShown same elect (with_work history m.openings call (work_reply same elect signature_of x m.openings call)) (left_of_work same elect signature_of x m call)
-      by_fault None no_fault allowed = rw (allowed, no_fault) (subst (λ h. Shows same elect h (after_work same elect x m.openings call)) (sym (told_work same elect signature_of history x m.openings call)) (work_shown same decides elect history x shows m.openings call allowed))
+      by_fault : (f : Option Fault) → work_fault x call ≡ f → work_allowed x m.openings call ≡ true → IsShown same elect (with_work history m.openings call (work_reply same elect x m.openings call)) (left_of_work same elect x m call)
+      by_fault None no_fault allowed = rw (allowed, no_fault) (subst (λ h. Shows same elect h (after_work same elect x m.openings call)) (sym (told_work same elect history x m.openings call)) (work_shown same decides elect history x shows m.openings call allowed))
       by_fault (Some f) refused allowed = rw (allowed, refused) shown
 
-      by_allowed : (b : Bool) → work_allowed x m.openings call ≡ b → IsShown same elect (with_work history m.openings call (work_reply same elect signature_of x m.openings call)) (left_of_work same elect signature_of x m call)
+      by_allowed : (b : Bool) → work_allowed x m.openings call ≡ b → IsShown same elect (with_work history m.openings call (work_reply same elect x m.openings call)) (left_of_work same elect x m call)
       by_allowed true allowed = by_fault (work_fault x call) refl allowed
       by_allowed false not_allowed = rw not_allowed shown
 
-  worked_shown : (history : History K L D G) (left : MemberFacts K L D G) (call : WorkCall D) (told : Told K D G) → IsShown same elect history m → IsWork same elect signature_of m call told left → IsShown same elect (with_work history m.openings call told) left
+  worked_shown : (history : History K L D) (left : MemberFacts K L D) (call : WorkCall D) (told : Told K D) → IsShown same elect history m → IsWork same elect m call told left → IsShown same elect (with_work history m.openings call told) left
   unfolding IsWork
   worked_shown history left call told shown is_work = by_life m.life refl is_work
     where
-      by_life : (o : Option (Facts K L D)) → m.life ≡ o → IsWorkOf same elect signature_of o m call told left → IsShown same elect (with_work history m.openings call told) left
+      by_life : (o : Option (Facts K L D)) → m.life ≡ o → IsWorkOf same elect o m call told left → IsShown same elect (with_work history m.openings call told) left
       by_life None dead (tells, leaves) = rw (tells, leaves) shown
       by_life (Some x) alive (inl (tells, leaves)) = rw (tells, leaves) (worked history call x shown (subst (λ o. MatchOption o (Unit {0}) (Shows same elect history)) alive shown))
       by_life (Some x) alive (inr (_, tells, inl leaves)) = rw (tells, leaves) shown
       by_life (Some x) alive (inr (_, tells, inr leaves)) = rw (tells, leaves) tt
 
   -- a restart that is refused leaves a member that has failed, or the one that it was
-  refused_shown : (history : History K L D G) (left : MemberFacts K L D G) (r : RestartFacts K L D) (result : Result (Unit {0}) RecoverError) (found : RecoverError) → result ≡ Err found → IsShown same elect history m → IsRestart same elect m r result left → IsShown same elect history left
+  refused_shown : (history : History K L D) (left : MemberFacts K L D) (r : RestartFacts K L D) (result : Result (Unit {0}) RecoverError) (found : RecoverError) → result ≡ Err found → IsShown same elect history m → IsRestart same elect m r result left → IsShown same elect history left
   unfolding IsRestart
   refused_shown history left r result found refused shown restarts = by_test (retention_grows m r.prune r.start.fresh.settings.view_retention) restarts
     where
-      by_error : (o : Option RecoverError) (copy : List (ArtifactFacts D G)) → MatchOption o ((result ≡ Ok tt) × (left ≡ new_life same elect (cut m r.drop r.prune) r.start copy)) (λ e. (result ≡ Err e) × (left ≡ fallen (cut m r.drop r.prune))) → IsShown same elect history left
+      by_error : (o : Option RecoverError) (copy : List (ArtifactFacts D)) → MatchOption o ((result ≡ Ok tt) × (left ≡ new_life same elect (cut m r.drop r.prune) r.start copy)) (λ e. (result ≡ Err e) × (left ≡ fallen (cut m r.drop r.prune))) → IsShown same elect history left
       by_error None copy (is, leaves) = absurd (cc)
       by_error (Some e) copy (is, leaves) = rw leaves tt
 
@@ -277,57 +277,57 @@ module _ {K L D G : Type 0} (same : D → D → Bool) (decides : (d e : D) → s
 
   -- one that is not refused
 
-  from_copy : (n left : MemberFacts K L D G) (start : StartFacts K L D) (result : Result (Unit {0}) RecoverError) (term_length : ℕ) (copy : List (ArtifactFacts D G)) → result ≡ Ok tt → IsFresh term_length start.fresh → MatchOption (recover_error same start.fresh start.floor start.now copy) ((result ≡ Ok tt) × (left ≡ new_life same elect n start copy)) (λ e. (result ≡ Err e) × (left ≡ fallen n)) → IsShown same elect (recovery start copy) left
+  from_copy : (n left : MemberFacts K L D) (start : StartFacts K L D) (result : Result (Unit {0}) RecoverError) (term_length : ℕ) (copy : List (ArtifactFacts D)) → result ≡ Ok tt → IsFresh term_length start.fresh → MatchOption (recover_error same start.fresh start.floor start.now copy) ((result ≡ Ok tt) × (left ≡ new_life same elect n start copy)) (λ e. (result ≡ Err e) × (left ≡ fallen n)) → IsShown same elect (recovery start copy) left
   from_copy n left start result term_length copy well fresh goes = by_error (recover_error same start.fresh start.floor start.now copy) refl goes
     where
       by_error : (o : Option RecoverError) → recover_error same start.fresh start.floor start.now copy ≡ o → MatchOption o ((result ≡ Ok tt) × (left ≡ new_life same elect n start copy)) (λ e. (result ≡ Err e) × (left ≡ fallen n)) → IsShown same elect (recovery start copy) left
       by_error None none (_, leaves) = rw leaves (recovered_shown same decides elect start term_length fresh copy none)
       by_error (Some e) due (is, leaves) = absurd (cc)
 
-  pub restarted_shown : (term_length : ℕ) (left : MemberFacts K L D G) (r : RestartFacts K L D) (result : Result (Unit {0}) RecoverError) → result ≡ Ok tt → IsFresh term_length r.start.fresh → IsRestart same elect m r result left → (copy : List (ArtifactFacts D G)) × IsByView (cut m r.drop r.prune).entries copy × IsShown same elect (recovery r.start copy) left
+  pub restarted_shown : (term_length : ℕ) (left : MemberFacts K L D) (r : RestartFacts K L D) (result : Result (Unit {0}) RecoverError) → result ≡ Ok tt → IsFresh term_length r.start.fresh → IsRestart same elect m r result left → (copy : List (ArtifactFacts D)) × IsByView (cut m r.drop r.prune).entries copy × IsShown same elect (recovery r.start copy) left
   unfolding IsRestart
   restarted_shown term_length left r result well fresh restarts = by_test (retention_grows m r.prune r.start.fresh.settings.view_retention) restarts
     where
-      by_going : GoesOn same elect (cut m r.drop r.prune) r.start result left → (copy : List (ArtifactFacts D G)) × IsByView (cut m r.drop r.prune).entries copy × IsShown same elect (recovery r.start copy) left
+      by_going : GoesOn same elect (cut m r.drop r.prune) r.start result left → (copy : List (ArtifactFacts D)) × IsByView (cut m r.drop r.prune).entries copy × IsShown same elect (recovery r.start copy) left
       by_going (inl (is, leaves)) = absurd (cc)
       by_going (inr (copy, by_view, goes)) = (copy, by_view, from_copy (cut m r.drop r.prune) left r.start result term_length copy well fresh goes)
 
-      by_test : (b : Bool) → IsRestartWhere same elect b m r result left → (copy : List (ArtifactFacts D G)) × IsByView (cut m r.drop r.prune).entries copy × IsShown same elect (recovery r.start copy) left
+      by_test : (b : Bool) → IsRestartWhere same elect b m r result left → (copy : List (ArtifactFacts D)) × IsByView (cut m r.drop r.prune).entries copy × IsShown same elect (recovery r.start copy) left
       by_test true (is, leaves) = absurd (cc)
       by_test false goes = by_going goes
 
-module _ {K L D G : Type 0} (same : D → D → Bool) (decides : (d e : D) → same d e ≡ true → d ≡ e) (elect : Elect L) (signature_of : ℕ → Subject D → G) (term_length : ℕ) where
-  run_shown : (steps : List (StepFacts K L D)) (replies : List (Told K D G)) (history : History K L D G) (m end : MemberFacts K L D G) → BeginFresh term_length steps → IsShown same elect history m → IsRun same elect signature_of m steps replies end → (last : History K L D G) × LeadsTo history steps replies last × IsShown same elect last end
+module _ {K L D : Type 0} (same : D → D → Bool) (decides : (d e : D) → same d e ≡ true → d ≡ e) (elect : Elect L) (term_length : ℕ) where
+  run_shown : (steps : List (StepFacts K L D)) (replies : List (Told K D)) (history : History K L D) (m end : MemberFacts K L D) → BeginFresh term_length steps → IsShown same elect history m → IsRun same elect m steps replies end → (last : History K L D) × LeadsTo history steps replies last × IsShown same elect last end
   run_shown [] [] history m end fresh shown run = (history, refl, subst (IsShown same elect history) run shown)
   run_shown [] (told ∷ replies) history m end fresh shown run = absurd run
   run_shown (step ∷ steps) [] history m end fresh shown run = absurd run
   run_shown (Calls call ∷ steps) (told ∷ replies) history m end fresh shown (next, is_step, rest) =
-      run_shown steps replies (with_call history call told) next end fresh (called_shown same decides elect signature_of m history next call told shown is_step) rest
+      run_shown steps replies (with_call history call told) next end fresh (called_shown same decides elect m history next call told shown is_step) rest
   run_shown (Works call ∷ steps) (told ∷ replies) history m end fresh shown (next, is_step, rest) =
-      let later = run_shown steps replies (with_work history m.openings call told) next end fresh (worked_shown same decides elect signature_of m history next call told shown is_step) rest in
+      let later = run_shown steps replies (with_work history m.openings call told) next end fresh (worked_shown same decides elect m history next call told shown is_step) rest in
       (later.0, (m.openings, later.1), later.2)
   run_shown (Restarts r ∷ steps) (told ∷ replies) history m end fresh shown (next, (result, is_restart, tells), rest) =
       by_result result refl is_restart (tells ∙ refl) (λ left_shown. run_shown steps replies history next end fresh.1 left_shown rest) (λ copy copy_shown. run_shown steps replies (recovery r.start copy) next end fresh.1 copy_shown rest)
     where
-      After : Told K D G → Type 0
-      After t = (last : History K L D G) × LeadsTo history (Restarts r ∷ steps) (t ∷ replies) last × IsShown same elect last end
+      After : Told K D → Type 0
+      After t = (last : History K L D) × LeadsTo history (Restarts r ∷ steps) (t ∷ replies) last × IsShown same elect last end
 
       by_result : (found : Result (Unit {0}) RecoverError) → result ≡ found → IsRestart same elect m r result next → told ≡ restart_told result
-          → (IsShown same elect history next → (last : History K L D G) × LeadsTo history steps replies last × IsShown same elect last end)
-          → ((copy : List (ArtifactFacts D G)) → IsShown same elect (recovery r.start copy) next → (last : History K L D G) × LeadsTo (recovery r.start copy) steps replies last × IsShown same elect last end)
+          → (IsShown same elect history next → (last : History K L D) × LeadsTo history steps replies last × IsShown same elect last end)
+          → ((copy : List (ArtifactFacts D)) → IsShown same elect (recovery r.start copy) next → (last : History K L D) × LeadsTo (recovery r.start copy) steps replies last × IsShown same elect last end)
           → After told
       by_result (Ok _) is restarts tells behind renewed =
-          let found = restarted_shown same decides elect signature_of m term_length next r result is fresh.0 restarts in
+          let found = restarted_shown same decides elect m term_length next r result is fresh.0 restarts in
           let later = renewed found.0 found.2 in
           let so : told ≡ Restarted = tells ∙ ap restart_told is in
           subst After (sym so) (later.0, (found.0, later.1), later.2)
       by_result (Err e) is restarts tells behind renewed =
-          let later = behind (refused_shown same decides elect signature_of m history next r result e is shown restarts) in
+          let later = behind (refused_shown same decides elect m history next r result e is shown restarts) in
           let so : told ≡ NotRestarted e = tells ∙ ap restart_told is in
           subst After (sym so) later
 
   -- from the start on
-  pub ran_shown : (start : StartFacts K L D) (steps : List (StepFacts K L D)) (replies : List (Told K D G)) (end : MemberFacts K L D G) → IsFresh term_length start.fresh → BeginFresh term_length steps → recover_error {G = G} same start.fresh start.floor start.now [] ≡ None → IsRun same elect signature_of (started same elect start.fresh start.floor start.now) steps replies end → (last : History K L D G) × LeadsTo (recovery start []) steps replies last × IsShown same elect last end
+  pub ran_shown : (start : StartFacts K L D) (steps : List (StepFacts K L D)) (replies : List (Told K D)) (end : MemberFacts K L D) → IsFresh term_length start.fresh → BeginFresh term_length steps → recover_error same start.fresh start.floor start.now [] ≡ None → IsRun same elect (started same elect start.fresh start.floor start.now) steps replies end → (last : History K L D) × LeadsTo (recovery start []) steps replies last × IsShown same elect last end
   unfolding recovered
   ran_shown start steps replies end begins fresh good run =
-      run_shown steps replies (recovery start []) (started same elect start.fresh start.floor start.now) end fresh (recovered_shown {G = G} same decides elect start term_length begins [] good) run
+      run_shown steps replies (recovery start []) (started same elect start.fresh start.floor start.now) end fresh (recovered_shown same decides elect start term_length begins [] good) run

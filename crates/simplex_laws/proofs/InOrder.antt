@@ -36,25 +36,25 @@ module _ {K D : Type 0} where
   sorted_aborted v [] = refl
   sorted_aborted v (e ∷ es) = rw (below_aborted v e.0 es, sorted_aborted v es) refl
 
-module _ {K L D G : Type 0} (same : D → D → Bool) (elect : Elect L) where
-  step_in_order : (x : Facts K L D) (e : Event K D G) (y z : Facts K L D) → Step same elect x e 0 y z → InOrder y → InOrder z
+module _ {K L D : Type 0} (same : D → D → Bool) (elect : Elect L) where
+  step_in_order : (x : Facts K L D) (e : Event K D) (y z : Facts K L D) → Step same elect x e 0 y z → InOrder y → InOrder z
   step_in_order x e y z (Puts v r may s) ordered = is_sorted-put nat_cmp nat_cmp_total v r y.rounds ordered
   step_in_order x e y z (Strays v r over astray) ordered = is_sorted-put nat_cmp nat_cmp_total v r y.rounds ordered
   step_in_order x e y z (Raises v says above) ordered = subst T (sym (sorted_aborted v y.rounds)) ordered
   step_in_order x e y z (Prunes is) ordered = is_sorted-where_key nat_cmp (λ u. nat_le (min_active y) u) y.rounds ordered
   step_in_order x e y z _ ordered = ordered
 
-  pub event_in_order : (x : Facts K L D) (e : Event K D G) → InOrder x → InOrder (after_event same elect x e)
+  pub event_in_order : (x : Facts K L D) (e : Event K D) → InOrder x → InOrder (after_event same elect x e)
   event_in_order x e ordered = along same elect x e 0 InOrder (step_in_order x e) x (after_event same elect x e) (event_path same elect 0 x e (omega arith) (asked_of_all x e)) ordered
 
-module _ {K L D G : Type 0} (same : D → D → Bool) (elect : Elect L) (signature_of : ℕ → Subject D → G) (x : Facts K L D) (ordered : InOrder x) where
-  pub order_call : (call : CallFacts D) → InOrder (after_call same elect signature_of x call)
-  order_call call = call_by_any G same elect x signature_of InOrder ordered (λ e. event_in_order same elect x e ordered) call
+module _ {K L D : Type 0} (same : D → D → Bool) (elect : Elect L) (x : Facts K L D) (ordered : InOrder x) where
+  pub order_call : (call : CallFacts D) → InOrder (after_call same elect x call)
+  order_call call = call_by_any same elect x InOrder ordered (λ e. event_in_order same elect x e ordered) call
 
 module _ {K L D : Type 0} (same : D → D → Bool) (elect : Elect L) (x : Facts K L D) (o : Openings K D) (ordered : InOrder x) where
   pub order_work : (call : WorkCall D) → InOrder (after_work same elect x o call)
-  order_work call = work_by_any (Unit {0}) same elect x o InOrder ordered (λ e. event_in_order same elect x e ordered) call
+  order_work call = work_by_any same elect x o InOrder ordered (λ e. event_in_order same elect x e ordered) call
 
-module _ {K L D G : Type 0} (same : D → D → Bool) (elect : Elect L) (settings : Settings) (me : Option ℕ) (members : List K) (elector : L) (terms : Terms) (early : Bool) where
-  pub order_recovered : (floor : FloorFacts D) (now : ℕ) (copy : List (ArtifactFacts D G)) → InOrder (recovered same elect (new_facts settings me members elector terms early) floor now copy)
+module _ {K L D : Type 0} (same : D → D → Bool) (elect : Elect L) (settings : Settings) (me : Option ℕ) (members : List K) (elector : L) (terms : Terms) (early : Bool) where
+  pub order_recovered : (floor : FloorFacts D) (now : ℕ) (copy : List (ArtifactFacts D)) → InOrder (recovered same elect (new_facts settings me members elector terms early) floor now copy)
   order_recovered floor now copy = recovered_keeps same elect InOrder (λ x e. event_in_order same elect x e) now (new_facts settings me members elector terms early) floor copy tt

@@ -123,12 +123,12 @@ module _ {D : Type 0} (same : Proposal D → Proposal D → Bool) (s : SlotFacts
       by_test false = h
 
 -- the certificates that an event brings are of views that are kept
-pub record BringsFrom {K D G : Type 0} (low : ℕ) (e : Event K D G) : Type 0 where
+pub record BringsFrom {K D : Type 0} (low : ℕ) (e : Event K D) : Type 0 where
   pub notarization : (c : ProposalFacts D) → notarization_by e ≡ Some c → low ≤ c.proposal.round.view
   pub nullification : (c : NullificationFacts) → nullification_by e ≡ Some c → low ≤ c.round.view
   pub finalization : (c : ProposalFacts D) → finalization_by e ≡ Some c → low ≤ c.proposal.round.view
 
-module _ {K L D G : Type 0} (same : D → D → Bool) (elect : Elect L) (x : Facts K L D) (e : Event K D G) (low : ℕ) (brings : BringsFrom low e) where
+module _ {K L D : Type 0} (same : D → D → Bool) (elect : Elect L) (x : Facts K L D) (e : Event K D) (low : ℕ) (brings : BringsFrom low e) where
   change_lasts : (y : Facts K L D) (v : ℕ) (r s : RoundFacts K D) → RoundStep same elect x e y v r s → RoundLasts low v r s
   change_lasts y v r s (step.Notarized c says at none) = (let kept = brings.notarization c says in record {
     conflict = λ h. certified_conflict (same_proposal same) r.slot c.proposal h;
@@ -171,9 +171,9 @@ module _ {K L D G : Type 0} (same : D → D → Bool) (elect : Elect L) (x : Fac
   pub event_lasts : InOrder x → (v : ℕ) → RoundLasts low v (round_of x v) (round_of (after_event same elect x e) v) ⊎ ((is_prune e ≡ true) × IsGone x (after_event same elect x e) v)
   event_lasts ordered = rounds_or_gone same elect x e ordered 0 (RoundLasts low) (round_joined low) change_lasts (event_path same elect 0 x e (omega arith) (asked_of_all x e))
 
-module _ {K L D G : Type 0} (x : Facts K L D) where
+module _ {K L D : Type 0} (x : Facts K L D) where
   -- within a life
-  pub brings_kept : (e : Event K D G) → IsEvent x e → is_floor e ≡ false → BringsFrom (min_active x) e
+  pub brings_kept : (e : Event K D) → IsEvent x e → is_floor e ≡ false → BringsFrom (min_active x) e
   brings_kept (event.SetFloor floor now) takes none = absurd (true≢false none)
   brings_kept (event.AddNotarization c) takes none = record { notarization = λ d is. (let e : c ≡ d = cc in subst (λ (h : ProposalFacts D). min_active x ≤ h.proposal.round.view) e (kept_view x c.proposal.round takes).1); nullification = λ d is. absurd (cc); finalization = λ d is. absurd (cc) }
   brings_kept (event.AddNullification c now) takes none = record { notarization = λ d is. absurd (cc); nullification = λ d is. (let e : c ≡ d = cc in subst (λ (h : NullificationFacts). min_active x ≤ h.round.view) e (kept_view x c.round takes).1); finalization = λ d is. absurd (cc) }
@@ -181,7 +181,7 @@ module _ {K L D G : Type 0} (x : Facts K L D) where
   brings_kept _ takes none = record { notarization = λ d is. absurd (cc); nullification = λ d is. absurd (cc); finalization = λ d is. absurd (cc) }
 
 -- each certificate is of some view
-pub brings_any : {K D G : Type 0} (e : Event K D G) → BringsFrom 0 e
+pub brings_any : {K D : Type 0} (e : Event K D) → BringsFrom 0 e
 brings_any e = record { notarization = λ c is. omega arith; nullification = λ c is. omega arith; finalization = λ c is. omega arith }
 
 -- calls
@@ -201,35 +201,35 @@ found_key test v (e ∷ es) there passes = elim (cases_eq v e.0) [
 ]
 
 -- a view below those that were kept isn't tracked from a call on, which is told that it was dropped
-pub record Drops {K L D G : Type 0} (x y : Facts K L D) (told : Told K D G) (v : ℕ) : Type 0 where
+pub record Drops {K L D : Type 0} (x y : Facts K L D) (told : Told K D) (v : ℕ) : Type 0 where
   pub gone : IsGone x y v
   pub dropped : is_tracked x v ≡ true → IsDropped (told ∷ []) v
 
 -- of the events of a call
-abbrev pub AllLast : {K L D G : Type 0} → Facts K L D → List (Event K D G) → Facts K L D → Type 0
+abbrev pub AllLast : {K L D : Type 0} → Facts K L D → List (Event K D) → Facts K L D → Type 0
 AllLast x es y = (v : ℕ) → RoundLasts (min_active x) v (round_of x v) (round_of y v) ⊎ ((list_any is_prune es ≡ true) × IsGone x y v)
 
-none_lasts : {K L D : Type 0} (G : Type 0) (x : Facts K L D) → AllLast {G = G} x [] x
-none_lasts G x v = inl (still (min_active x) v (round_of x v))
+none_lasts : {K L D : Type 0} (x : Facts K L D) → AllLast x [] x
+none_lasts x v = inl (still (min_active x) v (round_of x v))
 
-module _ {K L D G : Type 0} (same : D → D → Bool) (elect : Elect L) (x : Facts K L D) (ordered : InOrder x) where
-  taken_lasts : (e : Event K D G) (rest : List (Event K D G)) → IsEvent x e → is_floor e ≡ false → AllLast x (e ∷ rest) (after_event same elect x e)
+module _ {K L D : Type 0} (same : D → D → Bool) (elect : Elect L) (x : Facts K L D) (ordered : InOrder x) where
+  taken_lasts : (e : Event K D) (rest : List (Event K D)) → IsEvent x e → is_floor e ≡ false → AllLast x (e ∷ rest) (after_event same elect x e)
   taken_lasts e rest takes none v = elim (event_lasts same elect x e (min_active x) (brings_kept x e takes none) ordered v) [ inl lasts ↦ inl lasts | inr (prunes, gone) ↦ inr (rw prunes refl, gone) ]
 
-  pub call_lasts : (signature_of : ℕ → Subject D → G) (call : CallFacts D) → is_allowed x call ≡ true → (v : ℕ) → RoundLasts (min_active x) v (round_of x v) (round_of (after_call same elect signature_of x call) v) ⊎ Drops x (after_call same elect signature_of x call) (answer same elect signature_of x call) v
-  call_lasts signature_of call allowed v = elim (call_by_event G same elect x signature_of (AllLast x) (none_lasts G x) taken_lasts call allowed v) [
+  pub call_lasts : (call : CallFacts D) → is_allowed x call ≡ true → (v : ℕ) → RoundLasts (min_active x) v (round_of x v) (round_of (after_call same elect x call) v) ⊎ Drops x (after_call same elect x call) (answer same elect x call) v
+  call_lasts call allowed v = elim (call_by_event same elect x (AllLast x) (none_lasts x) taken_lasts call allowed v) [
     | inl lasts ↦ inl lasts
     | inr (prunes, gone) ↦ inr (record { gone = gone; dropped = λ tracked. told call prunes gone.below tracked })
   ]
     where
-      told : (call : CallFacts D) → list_any is_prune (events_of {K = K} {G = G} call) ≡ true → v < min_active x → is_tracked x v ≡ true → IsDropped (answer same elect signature_of x call ∷ []) v
+      told : (call : CallFacts D) → list_any is_prune (events_of {K = K} call) ≡ true → v < min_active x → is_tracked x v ≡ true → IsDropped (answer same elect x call ∷ []) v
       told Prune prunes below tracked = (let under : nat_lt v (min_active x) ≡ true = grind (arith, nat_tests) in (prune_answer x, (0, omega arith, refl), found_key (λ u. nat_lt u (min_active x)) v x.rounds tracked under))
       told _ prunes below tracked = absurd (true≢false (sym prunes))
 
 module _ {K L D : Type 0} (same : D → D → Bool) (elect : Elect L) (x : Facts K L D) (ordered : InOrder x) where
   pub work_lasts : (o : Openings K D) (call : WorkCall D) → work_allowed x o call ≡ true → (v : ℕ) → RoundLasts (min_active x) v (round_of x v) (round_of (after_work same elect x o call) v)
   work_lasts o call allowed =
-      work_by_event (Unit {0}) same elect x o (λ es y. AreSilent (Unit {0}) es → (v : ℕ) → RoundLasts (min_active x) v (round_of x v) (round_of y v))
+      work_by_event same elect x o (λ es y. AreSilent es → (v : ℕ) → RoundLasts (min_active x) v (round_of x v) (round_of y v))
       (λ silent v. still (min_active x) v (round_of x v))
       (λ e rest takes none silent v. elim (event_lasts same elect x e (min_active x) (brings_kept x e takes none) ordered v) [ inl lasts ↦ lasts | inr (prunes, gone) ↦ absurd (true≢false (sym prunes ∙ silent.0.prune)) ])
-      call allowed (work_silent (Unit {0}) o call)
+      call allowed (work_silent o call)

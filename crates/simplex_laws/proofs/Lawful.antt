@@ -10,35 +10,35 @@ use Rattle.simplex_laws.specs.Deeds.{Deed, Accepts}
 use Rattle.simplex_laws.specs.Lawful.{HasSigned, SignsAfter, HasCover, HasFinalizedBetween, IsLawful}
 use Rattle.simplex_laws.proofs.Signed.{vote_of, signed_none, signed_push, signed_split}
 
-pub record AllowsNotarize {D G : Type 0} (term_length : ℕ) (deeds : List (Deed D G)) (p : Proposal D) : Type 0 where
+pub record AllowsNotarize {D : Type 0} (term_length : ℕ) (deeds : List (Deed D)) (p : Proposal D) : Type 0 where
   pub only : (q : Proposal D) → HasSigned deeds (subject.Notarize q) → q.round.view ≢ p.round.view
   pub parent_before : p.parent < p.round.view
   pub gapless : (skipped : ℕ) → p.parent < skipped → skipped < p.round.view → HasCover term_length deeds skipped
 
-pub record AllowsNullify {D G : Type 0} (term_length : ℕ) (deeds : List (Deed D G)) (round : Round) : Type 0 where
+pub record AllowsNullify {D : Type 0} (term_length : ℕ) (deeds : List (Deed D)) (round : Round) : Type 0 where
   pub not_finalized : (p : Proposal D) → HasSigned deeds (subject.Finalize p) → round.view ≢ p.round.view
   pub ahead : (p : Proposal D) → HasSigned deeds (subject.Finalize p) → covers term_length round.view p.round.view ≡ false
 
-pub record AllowsFinalize {D G : Type 0} (term_length : ℕ) (deeds : List (Deed D G)) (p : Proposal D) : Type 0 where
+pub record AllowsFinalize {D : Type 0} (term_length : ℕ) (deeds : List (Deed D)) (p : Proposal D) : Type 0 where
   pub only : (q : Proposal D) → HasSigned deeds (subject.Finalize q) → q.round.view ≢ p.round.view
   pub not_nullified : (round : Round) → HasSigned deeds (subject.Nullify round) → round.view ≢ p.round.view
   pub notarized : Contains deeds (Accepts (subject.Notarize p))
   pub past_nullify : (round : Round) → HasSigned deeds (subject.Nullify round) → round.view < p.round.view → covers term_length round.view p.round.view ≡ true → HasFinalizedBetween deeds round.view p.round.view
 
 -- one more vote, if any
-abbrev pub Allows : {D G : Type 0} → ℕ → List (Deed D G) → Option (Subject D) → Type 0
+abbrev pub Allows : {D : Type 0} → ℕ → List (Deed D) → Option (Subject D) → Type 0
 Allows term_length deeds None = ⊤
 Allows term_length deeds (Some (subject.Notarize p)) = AllowsNotarize term_length deeds p
 Allows term_length deeds (Some (subject.Nullify round)) = AllowsNullify term_length deeds round
 Allows term_length deeds (Some (subject.Finalize p)) = AllowsFinalize term_length deeds p
 
-no_cast : {D G : Type 0} (vote : Subject D) (before : List (Deed D G)) → SignsAfter [] before vote → ⊥
-no_cast vote [] at = absurd (let e = at.3 in cc)
-no_cast vote (b ∷ before) at = absurd (let e = at.3 in cc)
+no_cast : {D : Type 0} (vote : Subject D) (before : List (Deed D)) → SignsAfter [] before vote → ⊥
+no_cast vote [] at = absurd (let e = at.2 in cc)
+no_cast vote (b ∷ before) at = absurd (let e = at.2 in cc)
 
 -- no deeds break no rule
-pub lawful_start : {D G : Type 0} (term_length : ℕ) → IsLawful {D = D} {G = G} term_length []
-lawful_start {D} {G} term_length =
+pub lawful_start : {D : Type 0} (term_length : ℕ) → IsLawful {D = D} term_length []
+lawful_start {D} term_length =
     record {
       one_notarize = λ before p q at h. absurd (no_cast (subject.Notarize p) before at);
       one_finalize = λ before p q at h. absurd (no_cast (subject.Finalize p) before at);
@@ -51,7 +51,7 @@ lawful_start {D} {G} term_length =
     }
 
 -- deeds that keep the rules and one more that they allow keep the rules
-pub lawful_push : {D G : Type 0} (term_length : ℕ) (deeds : List (Deed D G)) (deed : Deed D G) → IsLawful term_length deeds → Allows term_length deeds (vote_of deed) → IsLawful term_length (deeds ++ deed ∷ [])
+pub lawful_push : {D : Type 0} (term_length : ℕ) (deeds : List (Deed D)) (deed : Deed D) → IsLawful term_length deeds → Allows term_length deeds (vote_of deed) → IsLawful term_length (deeds ++ deed ∷ [])
 lawful_push {D} term_length deeds deed lawful allows =
     record {
       one_notarize = λ before p q at h.

@@ -28,7 +28,7 @@ use Rattle.simplex_laws.specs.Sums.{finalized_by}
 use Rattle.simplex_laws.proofs.StandingVotes.{nullify_allowed, nullify_decided, nullify_voted, finalize_allowed, finalize_decided, finalize_voted}
 
 -- what each call of a life keeps: its deeds are lawful, and its facts show them
-pub record KeepsRules {K L D G : Type 0} (term_length : ℕ) (deeds : List (Deed D G)) (x : Facts K L D) : Type 0 where
+pub record KeepsRules {K L D : Type 0} (term_length : ℕ) (deeds : List (Deed D)) (x : Facts K L D) : Type 0 where
   pub lawful : IsLawful term_length deeds
   pub stays : Stays term_length deeds x
 
@@ -36,27 +36,27 @@ pub none_follows : {A B : Type 0} (f : A → Option B) (o : Option A) → ((a : 
 none_follows f None no_value = refl
 none_follows f (Some a) no_value = no_value a
 
-module _ {K L D G : Type 0} (elect : Elect L) (signature_of : ℕ → Subject D → G) (x : Facts K L D) (v : ℕ) where
+module _ {K L D : Type 0} (elect : Elect L) (x : Facts K L D) (v : ℕ) where
   -- what is told of a vote
 
-  pub nullify_silent : (is_some x.me && may_nullify x v) ≡ false → nullify_vote signature_of x v ≡ None
+  pub nullify_silent : (is_some x.me && may_nullify x v) ≡ false → nullify_vote x v ≡ None
   nullify_silent no_vote = none_follows _ x.me (λ m. rw no_vote refl)
 
-  pub nullify_told : (m : ℕ) → x.me ≡ Some m → may_nullify x v ≡ true → nullify_vote signature_of x v ≡ Some (is_nullify (round_of x v).decision, NullifyVote (round_number x v) m (signature_of m (subject.Nullify (round_number x v))))
+  pub nullify_told : (m : ℕ) → x.me ≡ Some m → may_nullify x v ≡ true → nullify_vote x v ≡ Some (is_nullify (round_of x v).decision, NullifyVote (round_number x v) m)
   nullify_told m me may =
       let votes : (is_some x.me && may_nullify x v) ≡ true = ap (λ b. b && may_nullify x v) (ap is_some me) ∙ may in
-      ap (option_and_then (λ n. option_map (λ retry. (retry, NullifyVote (round_number x v) n (signature_of n (subject.Nullify (round_number x v))))) (nullify_answer x v))) me
+      ap (option_and_then (λ n. option_map (λ retry. (retry, NullifyVote (round_number x v) n)) (nullify_answer x v))) me
       ∙ rw votes refl
 
-  pub finalize_silent : (is_some x.me && may_finalize elect x v) ≡ false → finalize_vote elect signature_of x v ≡ None
+  pub finalize_silent : (is_some x.me && may_finalize elect x v) ≡ false → finalize_vote elect x v ≡ None
   finalize_silent no_vote = none_follows _ x.me (λ m. rw no_vote refl)
 
-  pub finalize_told : (m : ℕ) (h : Proposal D) → x.me ≡ Some m → may_finalize elect x v ≡ true → (round_of x v).slot.held ≡ Some h → finalize_vote elect signature_of x v ≡ Some (FinalizeVote h m (signature_of m (subject.Finalize h)))
+  pub finalize_told : (m : ℕ) (h : Proposal D) → x.me ≡ Some m → may_finalize elect x v ≡ true → (round_of x v).slot.held ≡ Some h → finalize_vote elect x v ≡ Some (FinalizeVote h m)
   finalize_told m h me may holds =
       let votes : (is_some x.me && may_finalize elect x v) ≡ true = ap (λ b. b && may_finalize elect x v) (ap is_some me) ∙ may in
       let answered : finalize_answer elect x v ≡ Some h = rw votes holds in
-      ap (option_and_then (λ n. option_map (λ p. FinalizeVote p n (signature_of n (subject.Finalize p))) (finalize_answer elect x v))) me
-      ∙ ap (option_map (λ p. FinalizeVote p m (signature_of m (subject.Finalize p)))) answered
+      ap (option_and_then (λ n. option_map (λ p. FinalizeVote p n) (finalize_answer elect x v))) me
+      ∙ ap (option_map (λ p. FinalizeVote p m)) answered
 
 pub no_key : (b : Bool) (o : Option ℕ) → o ≡ None → (is_some o && b) ≡ false
 no_key b o none = rw none refl
@@ -65,85 +65,85 @@ pub no_rule : (b : Bool) (o : Option ℕ) → b ≡ false → (is_some o && b) �
 no_rule b None no_vote = refl
 no_rule b (Some m) no_vote = no_vote
 
-module _ {K L D G : Type 0} (elect : Elect L) (signature_of : ℕ → Subject D → G) (term_length : ℕ) (deeds : List (Deed D G)) where
+module _ {K L D : Type 0} (elect : Elect L) (term_length : ℕ) (deeds : List (Deed D)) where
   -- the rules are kept with one more call that shows no deed
   nothing_shown : (y : Facts K L D) → IsLawful term_length deeds → Stays term_length deeds y → KeepsRules term_length (deeds ++ []) y
   nothing_shown y lawful stays = subst (λ a. KeepsRules term_length a y) (sym (append-nil deeds)) (record { lawful = lawful; stays = stays })
 
-  nullify_keeps : (x : Facts K L D) (v : ℕ) → KeepsRules term_length deeds x → KeepsRules term_length (deeds ++ deeds_of_call {K = K} (ConstructNullify v) (Nullify (nullify_vote signature_of x v))) (after_construct_nullify x v)
+  nullify_keeps : (x : Facts K L D) (v : ℕ) → KeepsRules term_length deeds x → KeepsRules term_length (deeds ++ deeds_of_call {K = K} (ConstructNullify v) (Nullify (nullify_vote x v))) (after_construct_nullify x v)
   nullify_keeps x v keeps = by_rule (may_nullify x v) refl
     where
-      by_key : (o : Option ℕ) → x.me ≡ o → may_nullify x v ≡ true → KeepsRules term_length (deeds ++ deeds_of_call {K = K} (ConstructNullify v) (Nullify (nullify_vote signature_of x v))) (after_construct_nullify x v)
+      by_key : (o : Option ℕ) → x.me ≡ o → may_nullify x v ≡ true → KeepsRules term_length (deeds ++ deeds_of_call {K = K} (ConstructNullify v) (Nullify (nullify_vote x v))) (after_construct_nullify x v)
       by_key None me may =
-          let silent = nullify_silent elect signature_of x v (no_key (may_nullify x v) x.me me) in
+          let silent = nullify_silent elect x v (no_key (may_nullify x v) x.me me) in
           let keyless : is_some x.me ≡ false = ap is_some me in
           subst (λ o. KeepsRules term_length (deeds ++ deeds_of_call {K = K} (ConstructNullify v) (Nullify o)) (after_construct_nullify x v)) (sym silent)
           (rw (may, keyless) (nothing_shown _ keeps.lawful (nullify_decided term_length deeds x v keeps.stays (nullify_parts x v may))))
       by_key (Some m) me may =
-          let told = nullify_told elect signature_of x v m me may in
+          let told = nullify_told elect x v m me may in
           let keyed : is_some x.me ≡ true = ap is_some me in
           subst (λ o. KeepsRules term_length (deeds ++ deeds_of_call {K = K} (ConstructNullify v) (Nullify o)) (after_construct_nullify x v)) (sym told)
           (rw (may, keyed) (record {
-            lawful = lawful_push term_length deeds (Signs m (subject.Nullify (round_number x v)) (signature_of m (subject.Nullify (round_number x v)))) keeps.lawful (nullify_allowed term_length deeds x v keeps.stays (nullify_parts x v may));
-            stays = nullify_voted term_length deeds x v keeps.stays m (signature_of m (subject.Nullify (round_number x v))) (nullify_parts x v may);
+            lawful = lawful_push term_length deeds (Signs m (subject.Nullify (round_number x v))) keeps.lawful (nullify_allowed term_length deeds x v keeps.stays (nullify_parts x v may));
+            stays = nullify_voted term_length deeds x v keeps.stays m (nullify_parts x v may);
           }))
 
-      by_rule : (b : Bool) → may_nullify x v ≡ b → KeepsRules term_length (deeds ++ deeds_of_call {K = K} (ConstructNullify v) (Nullify (nullify_vote signature_of x v))) (after_construct_nullify x v)
+      by_rule : (b : Bool) → may_nullify x v ≡ b → KeepsRules term_length (deeds ++ deeds_of_call {K = K} (ConstructNullify v) (Nullify (nullify_vote x v))) (after_construct_nullify x v)
       by_rule true may = by_key x.me refl may
       by_rule false may =
-          let silent = nullify_silent elect signature_of x v (no_rule (may_nullify x v) x.me may) in
+          let silent = nullify_silent elect x v (no_rule (may_nullify x v) x.me may) in
           subst (λ o. KeepsRules term_length (deeds ++ deeds_of_call {K = K} (ConstructNullify v) (Nullify o)) (after_construct_nullify x v)) (sym silent)
           (rw may (nothing_shown x keeps.lawful keeps.stays))
 
-  finalize_keeps : (x : Facts K L D) (v : ℕ) → KeepsRules term_length deeds x → KeepsRules term_length (deeds ++ deeds_of_call {K = K} (ConstructFinalize v) (Finalize (finalize_vote elect signature_of x v))) (after_construct_finalize elect x v)
+  finalize_keeps : (x : Facts K L D) (v : ℕ) → KeepsRules term_length deeds x → KeepsRules term_length (deeds ++ deeds_of_call {K = K} (ConstructFinalize v) (Finalize (finalize_vote elect x v))) (after_construct_finalize elect x v)
   finalize_keeps x v keeps = by_rule (may_finalize elect x v) refl
     where
-      by_held : (m : ℕ) (o : Option (Proposal D)) → (round_of x v).slot.held ≡ o → x.me ≡ Some m → may_finalize elect x v ≡ true → KeepsRules term_length (deeds ++ deeds_of_call {K = K} (ConstructFinalize v) (Finalize (finalize_vote elect signature_of x v))) (after_construct_finalize elect x v)
+      by_held : (m : ℕ) (o : Option (Proposal D)) → (round_of x v).slot.held ≡ o → x.me ≡ Some m → may_finalize elect x v ≡ true → KeepsRules term_length (deeds ++ deeds_of_call {K = K} (ConstructFinalize v) (Finalize (finalize_vote elect x v))) (after_construct_finalize elect x v)
       by_held m None holds me may =
           let alone = (and_parts (is_some (round_of x v).slot.held) _ (finalize_parts elect x v may).unequivocated).0 in
           absurd (false≢true (sym (ap is_some holds) ∙ alone))
       by_held m (Some h) holds me may =
-          let told = finalize_told elect signature_of x v m h me may holds in
+          let told = finalize_told elect x v m h me may holds in
           subst (λ o. KeepsRules term_length (deeds ++ deeds_of_call {K = K} (ConstructFinalize v) (Finalize o)) (after_construct_finalize elect x v)) (sym told)
           (rw may (record {
-            lawful = lawful_push term_length deeds (Signs m (subject.Finalize h) (signature_of m (subject.Finalize h))) keeps.lawful (finalize_allowed term_length deeds x v keeps.stays elect h (finalize_parts elect x v may) holds);
-            stays = finalize_voted term_length deeds x v keeps.stays elect h m (signature_of m (subject.Finalize h)) (finalize_parts elect x v may) holds;
+            lawful = lawful_push term_length deeds (Signs m (subject.Finalize h)) keeps.lawful (finalize_allowed term_length deeds x v keeps.stays elect h (finalize_parts elect x v may) holds);
+            stays = finalize_voted term_length deeds x v keeps.stays elect h m (finalize_parts elect x v may) holds;
           }))
 
-      by_key : (o : Option ℕ) → x.me ≡ o → may_finalize elect x v ≡ true → KeepsRules term_length (deeds ++ deeds_of_call {K = K} (ConstructFinalize v) (Finalize (finalize_vote elect signature_of x v))) (after_construct_finalize elect x v)
+      by_key : (o : Option ℕ) → x.me ≡ o → may_finalize elect x v ≡ true → KeepsRules term_length (deeds ++ deeds_of_call {K = K} (ConstructFinalize v) (Finalize (finalize_vote elect x v))) (after_construct_finalize elect x v)
       by_key None me may =
-          let silent = finalize_silent elect signature_of x v (no_key (may_finalize elect x v) x.me me) in
+          let silent = finalize_silent elect x v (no_key (may_finalize elect x v) x.me me) in
           subst (λ o. KeepsRules term_length (deeds ++ deeds_of_call {K = K} (ConstructFinalize v) (Finalize o)) (after_construct_finalize elect x v)) (sym silent)
           (rw may (nothing_shown _ keeps.lawful (finalize_decided term_length deeds x v keeps.stays elect (finalize_parts elect x v may))))
       by_key (Some m) me may = by_held m (round_of x v).slot.held refl me may
 
-      by_rule : (b : Bool) → may_finalize elect x v ≡ b → KeepsRules term_length (deeds ++ deeds_of_call {K = K} (ConstructFinalize v) (Finalize (finalize_vote elect signature_of x v))) (after_construct_finalize elect x v)
+      by_rule : (b : Bool) → may_finalize elect x v ≡ b → KeepsRules term_length (deeds ++ deeds_of_call {K = K} (ConstructFinalize v) (Finalize (finalize_vote elect x v))) (after_construct_finalize elect x v)
       by_rule true may = by_key x.me refl may
       by_rule false may =
-          let silent = finalize_silent elect signature_of x v (no_rule (may_finalize elect x v) x.me may) in
+          let silent = finalize_silent elect x v (no_rule (may_finalize elect x v) x.me may) in
           subst (λ o. KeepsRules term_length (deeds ++ deeds_of_call {K = K} (ConstructFinalize v) (Finalize o)) (after_construct_finalize elect x v)) (sym silent)
           (rw may (nothing_shown x keeps.lawful keeps.stays))
 
-module _ {K L D G : Type 0} (same : D → D → Bool) (decides : (d e : D) → same d e ≡ true → d ≡ e) (elect : Elect L) (signature_of : ℕ → Subject D → G) (term_length : ℕ) (deeds : List (Deed D G)) (x : Facts K L D) (ordered : InOrder x) (keeps : KeepsRules term_length deeds x) where
+module _ {K L D : Type 0} (same : D → D → Bool) (decides : (d e : D) → same d e ≡ true → d ≡ e) (elect : Elect L) (term_length : ℕ) (deeds : List (Deed D)) (x : Facts K L D) (ordered : InOrder x) (keeps : KeepsRules term_length deeds x) where
   accepts : (certificate : Subject D) → IsLawful term_length (deeds ++ Accepts certificate ∷ [])
   accepts certificate = lawful_push term_length deeds (Accepts certificate) keeps.lawful tt
 
   shows_nothing : (y : Facts K L D) → Stays term_length deeds y → KeepsRules term_length (deeds ++ []) y
-  shows_nothing y stays = nothing_shown elect signature_of term_length deeds y keeps.lawful stays
+  shows_nothing y stays = nothing_shown elect term_length deeds y keeps.lawful stays
 
   -- an event with no certificate, no verdict and no vote
-  quiet : (e : Event K D G) → notarization_by e ≡ None → finalized_by e ≡ 0 → verdict_by e ≡ None → nullify_by e ≡ None → finalize_by e ≡ None → KeepsRules term_length (deeds ++ []) (after_event same elect x e)
+  quiet : (e : Event K D) → notarization_by e ≡ None → finalized_by e ≡ 0 → verdict_by e ≡ None → nullify_by e ≡ None → finalize_by e ≡ None → KeepsRules term_length (deeds ++ []) (after_event same elect x e)
   quiet e notarization final verdict nullify finalize =
       shows_nothing (after_event same elect x e) (stays_on same decides elect term_length deeds x e (plain_suits deeds _ x e notarization final nullify finalize (λ v says. absurd (cc))) ordered keeps.stays)
 
   -- a call that is allowed and not refused
-  pub call_keeps : (call : CallFacts D) → KeepsRules term_length (deeds ++ deeds_of_call call (answer same elect signature_of x call)) (after_call same elect signature_of x call)
+  pub call_keeps : (call : CallFacts D) → KeepsRules term_length (deeds ++ deeds_of_call call (answer same elect x call)) (after_call same elect x call)
   call_keeps (AddNotarization c) = record { lawful = accepts (subject.Notarize c.proposal); stays = notarization_stays same decides elect term_length deeds x ordered keeps.stays c }
   call_keeps (AddNullification c now) = record { lawful = accepts (subject.Nullify c.round); stays = nullification_stays same decides elect term_length deeds x ordered keeps.stays c now }
   call_keeps (AddFinalization c now) = record { lawful = accepts (subject.Finalize c.proposal); stays = finalization_stays same decides elect term_length deeds x ordered keeps.stays c now }
   call_keeps (Certified v success now) = shows_nothing _ (certified_stays same decides elect term_length deeds x ordered keeps.stays v success now)
-  call_keeps (ConstructNullify v) = nullify_keeps elect signature_of term_length deeds x v keeps
-  call_keeps (ConstructFinalize v) = finalize_keeps elect signature_of term_length deeds x v keeps
+  call_keeps (ConstructNullify v) = nullify_keeps elect term_length deeds x v keeps
+  call_keeps (ConstructFinalize v) = finalize_keeps elect term_length deeds x v keeps
   call_keeps (BroadcastNotarization v) = quiet (event.BroadcastNotarization v) refl refl refl refl refl
   call_keeps (BroadcastNullification v) = quiet (event.BroadcastNullification v) refl refl refl refl refl
   call_keeps (BroadcastFinalization v) = quiet (event.BroadcastFinalization v) refl refl refl refl refl

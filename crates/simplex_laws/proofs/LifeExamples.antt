@@ -24,10 +24,7 @@ abbrev Call : Type 0
 Call = CallFacts ℕ
 
 abbrev Reply : Type 0
-Reply = Told ℕ ℕ ℕ
-
-abbrev sign : ℕ → Subject ℕ → ℕ
-sign member about = 0
+Reply = Told ℕ ℕ
 
 -- begun at genesis, in terms of so many views
 abbrev begun_in : ℕ → State
@@ -36,11 +33,11 @@ begun_in term_length =
 
 -- what allowed calls leave, and what they are told
 abbrev after_all : State → List Call → State
-after_all x calls = fold (λ y call. after_call nat_eq in_turn sign y call) x calls
+after_all x calls = fold (λ y call. after_call nat_eq in_turn y call) x calls
 
 abbrev replies_from : State → List Call → List Reply
 replies_from x [] = []
-replies_from x (call ∷ calls) = answer nat_eq in_turn sign x call ∷ replies_from (after_call nat_eq in_turn sign x call) calls
+replies_from x (call ∷ calls) = answer nat_eq in_turn x call ∷ replies_from (after_call nat_eq in_turn x call) calls
 
 abbrev after : List Call → State
 after calls = after_all (begun_in 1) calls

@@ -21,13 +21,13 @@ use Rattle.simplex_laws.proofs.Notes.{RemembersNotes}
 use Rattle.simplex_laws.proofs.NotesRemembered.{notes_left, notes_bounded}
 
 -- a closed entry, which no drop takes, is a finalization that is no lower than what is kept
-abbrev pub IsHigh : {D G : Type 0} → ℕ → ℕ → List (ArtifactFacts D G) → Type 0
-IsHigh {D} {G} closed kept entries =
+abbrev pub IsHigh : {D : Type 0} → ℕ → ℕ → List (ArtifactFacts D) → Type 0
+IsHigh {D} closed kept entries =
     (kept ≡ 0)
-    ⊎ ((c : ProposalFacts D) × (front back : List (ArtifactFacts D G)) × (entries ≡ front ++ Accepted (Finalized c) ∷ back) × (length front < closed) × (kept ≤ c.proposal.round.view))
+    ⊎ ((c : ProposalFacts D) × (front back : List (ArtifactFacts D)) × (entries ≡ front ++ Accepted (Finalized c) ∷ back) × (length front < closed) × (kept ≤ c.proposal.round.view))
 
 -- between lives: the deeds are lawful, and the record remembers them but for views below `kept`
-pub record Between {D G : Type 0} (term_length : ℕ) (deeds : List (Deed D G)) (closed kept : ℕ) (entries : List (ArtifactFacts D G)) : Type 0 where
+pub record Between {D : Type 0} (term_length : ℕ) (deeds : List (Deed D)) (closed kept : ℕ) (entries : List (ArtifactFacts D)) : Type 0 where
   pub lawful : IsLawful term_length deeds
   pub remembers : Remembers deeds kept entries
   pub notes : RemembersNotes deeds kept entries
@@ -40,21 +40,21 @@ last_at {X} (e ∷ []) zero x long last = let same : e ≡ x = cc in ap (λ (y :
 last_at (e ∷ (f ∷ es)) zero x long last = absurd (omega arith)
 last_at (e ∷ es) (suc n) x long last = ap (λ fs. e ∷ fs) (last_at es n x (omega arith) last)
 
-module _ {D G : Type 0} where
+module _ {D : Type 0} where
   -- the last entry that may be dropped
 
-  last_open : (closed : ℕ) (entries : List (ArtifactFacts D G)) → may_drop closed entries ≡ true → (closed < length entries) × ((e : ArtifactFacts D G) × (entries ≡ take (length entries - 1) entries ++ e ∷ []) × (is_vote e ≡ false))
+  last_open : (closed : ℕ) (entries : List (ArtifactFacts D)) → may_drop closed entries ≡ true → (closed < length entries) × ((e : ArtifactFacts D) × (entries ≡ take (length entries - 1) entries ++ e ∷ []) × (is_vote e ≡ false))
   unfolding may_drop
   last_open closed entries may =
       let parts = and_parts (nat_lt closed (length entries)) _ may in
       let more : closed < length entries = ltb-true closed (length entries) parts.0 in
       (more, by_last (slice_get entries (length entries - 1)) refl (not_true _ parts.1) more)
     where
-      by_last : (o : Option (ArtifactFacts D G)) → slice_get entries (length entries - 1) ≡ o → option_map_or is_vote o true ≡ false → closed < length entries → (e : ArtifactFacts D G) × (entries ≡ take (length entries - 1) entries ++ e ∷ []) × (is_vote e ≡ false)
+      by_last : (o : Option (ArtifactFacts D)) → slice_get entries (length entries - 1) ≡ o → option_map_or is_vote o true ≡ false → closed < length entries → (e : ArtifactFacts D) × (entries ≡ take (length entries - 1) entries ++ e ∷ []) × (is_vote e ≡ false)
       by_last None is no_vote more = absurd (false≢true (sym no_vote))
       by_last (Some e) is no_vote more = (e, last_at entries (length entries - 1) e (omega arith) is, no_vote)
 
-  drops : (closed n : ℕ) (entries : List (ArtifactFacts D G)) → closed ≤ length entries → (tail : List (ArtifactFacts D G)) × (entries ≡ without_last closed n entries ++ tail) × ((e : ArtifactFacts D G) → Contains tail e → is_vote e ≡ false) × (closed ≤ length (without_last closed n entries))
+  drops : (closed n : ℕ) (entries : List (ArtifactFacts D)) → closed ≤ length entries → (tail : List (ArtifactFacts D)) × (entries ≡ without_last closed n entries ++ tail) × ((e : ArtifactFacts D) → Contains tail e → is_vote e ≡ false) × (closed ≤ length (without_last closed n entries))
   drops closed zero entries within = ([], sym (append-nil entries), λ e h. absurd (omega (arith, h.1)), within)
   drops closed (suc n) entries within = elim (cases_Bool (may_drop closed entries)) [
     | inr stays ↦ rw (none_dropped closed (suc n) entries stays) ([], sym (append-nil entries), λ e h. absurd (omega (arith, h.1)), within)
@@ -66,13 +66,13 @@ module _ {D G : Type 0} where
         let more = open_last.0 in
         let rest = drops closed n shorter (omega arith) in
         let joined : entries ≡ without_last closed n shorter ++ (rest.0 ++ last ∷ []) = open_last.1.1 ∙ (ap (λ es. es ++ last ∷ []) rest.1 ∙ append_assoc (without_last closed n shorter) rest.0 (last ∷ [])) in
-        let no_votes : (e : ArtifactFacts D G) → Contains (rest.0 ++ last ∷ []) e → is_vote e ≡ false =
+        let no_votes : (e : ArtifactFacts D) → Contains (rest.0 ++ last ∷ []) e → is_vote e ≡ false =
         λ e h. elim (Contains-push_cases rest.0 last e h) [ inl old ↦ rest.2 e old | inr new ↦ ap is_vote (sym new) ∙ open_last.1.2 ] in
         let fewer : without_last closed n shorter ≡ without_last closed (suc n) entries = rw falls refl in
-        subst (λ left. (tail : List (ArtifactFacts D G)) × (entries ≡ left ++ tail) × ((e : ArtifactFacts D G) → Contains tail e → is_vote e ≡ false) × (closed ≤ length left)) fewer (rest.0 ++ last ∷ [], joined, no_votes, rest.3))
+        subst (λ left. (tail : List (ArtifactFacts D)) × (entries ≡ left ++ tail) × ((e : ArtifactFacts D) → Contains tail e → is_vote e ≡ false) × (closed ≤ length left)) fewer (rest.0 ++ last ∷ [], joined, no_votes, rest.3))
   ]
 
-  high_left : (closed kept : ℕ) (entries left tail : List (ArtifactFacts D G)) → entries ≡ left ++ tail → closed ≤ length left → IsHigh closed kept entries → IsHigh closed kept left
+  high_left : (closed kept : ℕ) (entries left tail : List (ArtifactFacts D)) → entries ≡ left ++ tail → closed ≤ length left → IsHigh closed kept entries → IsHigh closed kept left
   high_left closed kept entries left tail split within (inl none) = inl none
   high_left closed kept entries left tail split within (inr (c, front, back, is, early, above)) = elim (append_split left tail front back (Accepted (Finalized c)) (sym split ∙ is)) [
     | inl here ↦ inr (c, front, here.0, here.1, early, above)
@@ -81,23 +81,23 @@ module _ {D G : Type 0} where
 
   -- the highest finalized view
 
-  by_kind : (e : ArtifactFacts D G) → (finalized_by e ≡ 0) ⊎ ((c : ProposalFacts D) × (e ≡ Accepted (Finalized c)) × (c.proposal.round.view ≡ finalized_by e))
-  by_kind (NotarizeVote _ _ _) = inl refl
-  by_kind (NullifyVote _ _ _) = inl refl
-  by_kind (FinalizeVote _ _ _) = inl refl
+  by_kind : (e : ArtifactFacts D) → (finalized_by e ≡ 0) ⊎ ((c : ProposalFacts D) × (e ≡ Accepted (Finalized c)) × (c.proposal.round.view ≡ finalized_by e))
+  by_kind (NotarizeVote _ _) = inl refl
+  by_kind (NullifyVote _ _) = inl refl
+  by_kind (FinalizeVote _ _) = inl refl
   by_kind (Verdict _ _) = inl refl
   by_kind (Accepted (Notarized _)) = inl refl
   by_kind (Accepted (Nullified _)) = inl refl
   by_kind (Accepted (Finalized c)) = inr (c, refl, refl)
 
-  is_highest : (entries : List (ArtifactFacts D G)) (c : ProposalFacts D) → Contains entries (Accepted (Finalized c)) → c.proposal.round.view ≤ finalized_in entries
+  is_highest : (entries : List (ArtifactFacts D)) (c : ProposalFacts D) → Contains entries (Accepted (Finalized c)) → c.proposal.round.view ≤ finalized_in entries
   is_highest [] c h = absurd (omega (arith, h.1))
   is_highest (e ∷ rest) c h = elim (Contains-cases e rest (Accepted (Finalized c)) h) [
     | inl here ↦ (let same : finalized_by e ≡ c.proposal.round.view = ap finalized_by here in omega arith)
     | inr later ↦ (let below = is_highest rest c later in omega arith)
   ]
 
-  has_highest : (entries : List (ArtifactFacts D G)) → (finalized_in entries ≡ 0) ⊎ ((c : ProposalFacts D) × Contains entries (Accepted (Finalized c)) × (c.proposal.round.view ≡ finalized_in entries))
+  has_highest : (entries : List (ArtifactFacts D)) → (finalized_in entries ≡ 0) ⊎ ((c : ProposalFacts D) × Contains entries (Accepted (Finalized c)) × (c.proposal.round.view ≡ finalized_in entries))
   has_highest [] = inl refl
   has_highest (e ∷ rest) = elim (cases_lt (finalized_in rest) (finalized_by e)) [
     | inl first ↦ elim (by_kind e) [
@@ -110,17 +110,17 @@ module _ {D G : Type 0} where
     ]
   ]
 
-  high_below : (closed kept : ℕ) (entries : List (ArtifactFacts D G)) → IsHigh closed kept entries → kept ≤ finalized_in entries
+  high_below : (closed kept : ℕ) (entries : List (ArtifactFacts D)) → IsHigh closed kept entries → kept ≤ finalized_in entries
   high_below closed kept entries (inl none) = omega arith
   high_below closed kept entries (inr (c, front, back, is, early, above)) =
       let here = is_highest entries c (subst (λ es. Contains es (Accepted (Finalized c))) (sym is) (Contains-middle front back (Accepted (Finalized c)))) in
       omega arith
 
-  pub high_known : (closed kept : ℕ) (entries : List (ArtifactFacts D G)) → IsHigh closed kept entries → (kept ≡ 0) ⊎ ((c : ProposalFacts D) × Contains entries (Accepted (Finalized c)) × (kept ≤ c.proposal.round.view))
+  pub high_known : (closed kept : ℕ) (entries : List (ArtifactFacts D)) → IsHigh closed kept entries → (kept ≡ 0) ⊎ ((c : ProposalFacts D) × Contains entries (Accepted (Finalized c)) × (kept ≤ c.proposal.round.view))
   high_known closed kept entries (inl none) = inl none
   high_known closed kept entries (inr (c, front, back, is, early, above)) = inr (c, subst (λ es. Contains es (Accepted (Finalized c))) (sym is) (Contains-middle front back (Accepted (Finalized c))), above)
 
-module _ {D G : Type 0} (term_length : ℕ) (deeds : List (Deed D G)) (closed kept : ℕ) (entries : List (ArtifactFacts D G)) (between : Between term_length deeds closed kept entries) where
+module _ {D : Type 0} (term_length : ℕ) (deeds : List (Deed D)) (closed kept : ℕ) (entries : List (ArtifactFacts D)) (between : Between term_length deeds closed kept entries) where
   -- a drop
   pub dropped_between : (n : ℕ) → Between term_length deeds closed kept (without_last closed n entries)
   dropped_between n =

@@ -17,16 +17,16 @@ use Rattle.simplex_laws.proofs.Steps as step
 use Rattle.simplex_laws.proofs.Steps.{RoundStep, verdict_by, nullify_by}
 
 -- what is shown is recorded; a vote to nullify, where there is a key
-pub record Marked {K L D G : Type 0} (entries : List (ArtifactFacts D G)) (x : Facts K L D) : Type 0 where
+pub record Marked {K L D : Type 0} (entries : List (ArtifactFacts D)) (x : Facts K L D) : Type 0 where
   pub certified : (v : ℕ) → is_certified (round_of x v).certification ≡ true → (round : Round) × Contains entries (Verdict round true) × (round.view ≡ v)
-  pub nullified : (v : ℕ) → is_nullify (round_of x v).decision ≡ true → is_some x.me ≡ true → (m : ℕ) × (signature : G) × Contains entries (NullifyVote (round_number x v) m signature)
+  pub nullified : (v : ℕ) → is_nullify (round_of x v).decision ≡ true → is_some x.me ≡ true → (m : ℕ) × Contains entries (NullifyVote (round_number x v) m)
 
 -- a true verdict and a vote to nullify are old or the event's
-pub record Marks {K D G : Type 0} (e : Event K D G) (v : ℕ) (r s : RoundFacts K D) : Type 0 where
+pub record Marks {K D : Type 0} (e : Event K D) (v : ℕ) (r s : RoundFacts K D) : Type 0 where
   pub certified : is_certified s.certification ≡ true → (is_certified r.certification ≡ true) ⊎ (verdict_by e ≡ Some (v, true))
   pub nullified : is_nullify s.decision ≡ true → (is_nullify r.decision ≡ true) ⊎ (nullify_by e ≡ Some v)
 
-module _ {K L D G : Type 0} (same : D → D → Bool) (elect : Elect L) (x : Facts K L D) (e : Event K D G) where
+module _ {K L D : Type 0} (same : D → D → Bool) (elect : Elect L) (x : Facts K L D) (e : Event K D) where
   marks_on : (v : ℕ) (r s t : RoundFacts K D) → Marks e v r s → Marks e v s t → Marks e v r t
   marks_on v r s t p q = record {
     certified = λ is. elim (q.certified is) [ inl before ↦ p.certified before | inr new ↦ inr new ];
@@ -49,7 +49,7 @@ module _ {K L D G : Type 0} (same : D → D → Bool) (elect : Elect L) (x : Fac
   event_marks ordered = rounds_or_gone same elect x e ordered 0 (Marks e) marks_on marks (event_path same elect 0 x e (omega arith) (asked_of_all x e))
 
   -- a record that has what the event newly shows
-  pub event_marked : (entries more : List (ArtifactFacts D G)) → InOrder x → ((a : ArtifactFacts D G) → Contains entries a → Contains more a) → ((v : ℕ) → verdict_by e ≡ Some (v, true) → is_certified (round_of x v).certification ≡ false → is_certified (round_of (after_event same elect x e) v).certification ≡ true → (round : Round) × Contains more (Verdict round true) × (round.view ≡ v)) → ((v : ℕ) → nullify_by e ≡ Some v → is_nullify (round_of x v).decision ≡ false → is_nullify (round_of (after_event same elect x e) v).decision ≡ true → is_some x.me ≡ true → (m : ℕ) × (signature : G) × Contains more (NullifyVote (round_number x v) m signature)) → Marked entries x → Marked more (after_event same elect x e)
+  pub event_marked : (entries more : List (ArtifactFacts D)) → InOrder x → ((a : ArtifactFacts D) → Contains entries a → Contains more a) → ((v : ℕ) → verdict_by e ≡ Some (v, true) → is_certified (round_of x v).certification ≡ false → is_certified (round_of (after_event same elect x e) v).certification ≡ true → (round : Round) × Contains more (Verdict round true) × (round.view ≡ v)) → ((v : ℕ) → nullify_by e ≡ Some v → is_nullify (round_of x v).decision ≡ false → is_nullify (round_of (after_event same elect x e) v).decision ≡ true → is_some x.me ≡ true → (m : ℕ) × Contains more (NullifyVote (round_number x v) m)) → Marked entries x → Marked more (after_event same elect x e)
   event_marked entries more ordered keeps verdict vote marked = record { certified = certified; nullified = nullified }
     where
       y : Facts K L D
@@ -70,29 +70,29 @@ module _ {K L D G : Type 0} (same : D → D → Bool) (elect : Elect L) (x : Fac
         ]
       ]
 
-      as_set_up : (v : ℕ) → (m : ℕ) × (signature : G) × Contains more (NullifyVote (round_number x v) m signature) → (m : ℕ) × (signature : G) × Contains more (NullifyVote (round_number y v) m signature)
-      as_set_up v (m, signature, h) = (m, signature, subst (λ settings. Contains more (NullifyVote (record { epoch = settings.epoch; view = v }) m signature)) (sym (event_goes same elect x e).settings) h)
+      as_set_up : (v : ℕ) → (m : ℕ) × Contains more (NullifyVote (round_number x v) m) → (m : ℕ) × Contains more (NullifyVote (round_number y v) m)
+      as_set_up v (m, h) = (m, subst (λ settings. Contains more (NullifyVote (record { epoch = settings.epoch; view = v }) m)) (sym (event_goes same elect x e).settings) h)
 
-      nullified : (v : ℕ) → is_nullify (round_of y v).decision ≡ true → is_some y.me ≡ true → (m : ℕ) × (signature : G) × Contains more (NullifyVote (round_number y v) m signature)
+      nullified : (v : ℕ) → is_nullify (round_of y v).decision ≡ true → is_some y.me ≡ true → (m : ℕ) × Contains more (NullifyVote (round_number y v) m)
       nullified v is key = elim (event_marks ordered v) [
         | inr (prunes, gone) ↦ absurd (false≢true (sym (no_vote v gone.untracked) ∙ is))
         | inl change ↦ (
             let keyed : is_some x.me ≡ true = ap is_some (sym (event_goes same elect x e).me) ∙ key in
             as_set_up v (elim (cases_Bool (is_nullify (round_of x v).decision)) [
-              | inl before ↦ (let c = marked.nullified v before keyed in (c.0, c.1, keeps (NullifyVote (round_number x v) c.0 c.1) c.2))
+              | inl before ↦ (let c = marked.nullified v before keyed in (c.0, keeps (NullifyVote (round_number x v) c.0) c.1))
               | inr none ↦ elim (change.nullified is) [ inl before ↦ absurd (false≢true (sym none ∙ before)) | inr says ↦ vote v says none is keyed ]
             ]))
       ]
 
   -- an event that gives no verdict and decides no vote to nullify
-  pub quiet_marked : (entries : List (ArtifactFacts D G)) → InOrder x → verdict_by e ≡ None → nullify_by e ≡ None → Marked entries x → Marked entries (after_event same elect x e)
+  pub quiet_marked : (entries : List (ArtifactFacts D)) → InOrder x → verdict_by e ≡ None → nullify_by e ≡ None → Marked entries x → Marked entries (after_event same elect x e)
   quiet_marked entries ordered verdict nullify marked = event_marked entries entries ordered (λ a h. h) (λ v says before after. absurd (cc)) (λ v says before after key. absurd (cc)) marked
 
 -- marks and the record
 
-module _ {K L D G : Type 0} where
-  pub marked_more : (entries more : List (ArtifactFacts D G)) (x : Facts K L D) → Marked entries x → Marked (entries ++ more) x
+module _ {K L D : Type 0} where
+  pub marked_more : (entries more : List (ArtifactFacts D)) (x : Facts K L D) → Marked entries x → Marked (entries ++ more) x
   marked_more entries more x marked = record {
     certified = λ v is. (let e = marked.certified v is in (e.0, Contains-append_left entries more (Verdict e.0 true) e.1, e.2));
-    nullified = λ v is key. (let e = marked.nullified v is key in (e.0, e.1, Contains-append_left entries more (NullifyVote (round_number x v) e.0 e.1) e.2));
+    nullified = λ v is key. (let e = marked.nullified v is key in (e.0, Contains-append_left entries more (NullifyVote (round_number x v) e.0) e.1));
   }

@@ -36,7 +36,7 @@ use Rattle.simplex_laws.proofs.CallNotes.{call_notes}
 use Rattle.simplex_laws.proofs.Lifetimes.{IsHigh, Between, high_known}
 
 -- a living member: its state keeps the rules, and its record follows them
-pub record Living {K L D G : Type 0} (term_length : ℕ) (deeds : List (Deed D G)) (closed kept : ℕ) (entries : List (ArtifactFacts D G)) (o : Openings K D) (x : Facts K L D) : Type 0 where
+pub record Living {K L D : Type 0} (term_length : ℕ) (deeds : List (Deed D)) (closed kept : ℕ) (entries : List (ArtifactFacts D)) (o : Openings K D) (x : Facts K L D) : Type 0 where
   pub keeps : KeepsRules term_length deeds x
   pub follows : Follows deeds kept entries x
   pub in_order : InOrder x
@@ -46,7 +46,7 @@ pub record Living {K L D G : Type 0} (term_length : ℕ) (deeds : List (Deed D G
   pub within : closed ≤ length entries
 
 -- where a life ends the record is left
-pub living_between : {K L D G : Type 0} (term_length : ℕ) (deeds : List (Deed D G)) (closed kept : ℕ) (entries : List (ArtifactFacts D G)) (o : Openings K D) (x : Facts K L D) → Living term_length deeds closed kept entries o x → Between term_length deeds closed kept entries
+pub living_between : {K L D : Type 0} (term_length : ℕ) (deeds : List (Deed D)) (closed kept : ℕ) (entries : List (ArtifactFacts D)) (o : Openings K D) (x : Facts K L D) → Living term_length deeds closed kept entries o x → Between term_length deeds closed kept entries
 living_between term_length deeds closed kept entries o x living = record { lawful = living.keeps.lawful; remembers = living.follows.remembers; notes = living.notes; high = living.high; within = living.within }
 
 abbrev pub second_broken : List (Bool × RecoverError) → Bool
@@ -71,55 +71,55 @@ same_epoch a b is = elim (cases_Bool (a == b)) [
   | inr other ↦ absurd (let e : not (a == b) ≡ true = rw other refl in false≢true (sym is ∙ e))
 ]
 
-module _ {D G : Type 0} (same : D → D → Bool) (epoch : ℕ) (me : Option ℕ) where
-  of_epoch : (before : List (ArtifactFacts D G)) (e : ArtifactFacts D G) → first_error (entry_rules same epoch me before e) ≡ None → (entry_round e).epoch ≡ epoch
-  of_epoch before (NotarizeVote p signer signature) is = same_epoch p.round.epoch epoch (second_rule (entry_rules same epoch me before (NotarizeVote p signer signature)) is)
-  of_epoch before (NullifyVote round signer signature) is = same_epoch round.epoch epoch (second_rule (entry_rules same epoch me before (NullifyVote round signer signature)) is)
-  of_epoch before (FinalizeVote p signer signature) is = same_epoch p.round.epoch epoch (second_rule (entry_rules same epoch me before (FinalizeVote p signer signature)) is)
+module _ {D : Type 0} (same : D → D → Bool) (epoch : ℕ) (me : Option ℕ) where
+  of_epoch : (before : List (ArtifactFacts D)) (e : ArtifactFacts D) → first_error (entry_rules same epoch me before e) ≡ None → (entry_round e).epoch ≡ epoch
+  of_epoch before (NotarizeVote p signer) is = same_epoch p.round.epoch epoch (second_rule (entry_rules same epoch me before (NotarizeVote p signer)) is)
+  of_epoch before (NullifyVote round signer) is = same_epoch round.epoch epoch (second_rule (entry_rules same epoch me before (NullifyVote round signer)) is)
+  of_epoch before (FinalizeVote p signer) is = same_epoch p.round.epoch epoch (second_rule (entry_rules same epoch me before (FinalizeVote p signer)) is)
   of_epoch before (Verdict round success) is = same_epoch round.epoch epoch (second_rule (entry_rules same epoch me before (Verdict round success)) is)
-  of_epoch before (Accepted c) is = same_epoch (entry_round {G = G} (Accepted c)).epoch epoch (second_rule (entry_rules same epoch me before (Accepted c)) is)
+  of_epoch before (Accepted c) is = same_epoch (entry_round (Accepted c)).epoch epoch (second_rule (entry_rules same epoch me before (Accepted c)) is)
 
   -- the entries of a record that breaks no rule are of this epoch
-  pub all_of_epoch : (before entries : List (ArtifactFacts D G)) → first_broken_after same epoch me before entries ≡ None → (e : ArtifactFacts D G) → Contains entries e → (entry_round e).epoch ≡ epoch
+  pub all_of_epoch : (before entries : List (ArtifactFacts D)) → first_broken_after same epoch me before entries ≡ None → (e : ArtifactFacts D) → Contains entries e → (entry_round e).epoch ≡ epoch
   all_of_epoch before [] unbroken e h = absurd (omega (arith, h.1))
   all_of_epoch before (f ∷ rest) unbroken e h =
       let parts = first_none (first_error (entry_rules same epoch me before f)) (first_broken_after same epoch me (f ∷ before) rest) unbroken in
       elim (Contains-cases f rest e h) [
-        | inl here ↦ ap (λ (g : ArtifactFacts D G). (entry_round g).epoch) (sym here) ∙ of_epoch before f parts.0
+        | inl here ↦ ap (λ (g : ArtifactFacts D). (entry_round g).epoch) (sym here) ∙ of_epoch before f parts.0
         | inr later ↦ all_of_epoch (f ∷ before) rest parts.1 e later
       ]
 
-module _ {D G : Type 0} where
-  floor_split : (entries : List (ArtifactFacts D G)) (floor : FloorFacts D) → (more : List (ArtifactFacts D G)) × (with_floor entries floor ≡ entries ++ more)
+module _ {D : Type 0} where
+  floor_split : (entries : List (ArtifactFacts D)) (floor : FloorFacts D) → (more : List (ArtifactFacts D)) × (with_floor entries floor ≡ entries ++ more)
   floor_split entries (Genesis payload) = ([], sym (append-nil entries))
   floor_split entries (FinalizedFloor c) = by_record (stands c.proposal.round.view is_finalization entries) refl
     where
-      by_record : (b : Bool) → stands c.proposal.round.view is_finalization entries ≡ b → (more : List (ArtifactFacts D G)) × (with_floor entries (FinalizedFloor c) ≡ entries ++ more)
+      by_record : (b : Bool) → stands c.proposal.round.view is_finalization entries ≡ b → (more : List (ArtifactFacts D)) × (with_floor entries (FinalizedFloor c) ≡ entries ++ more)
       by_record true is = rw is ([], sym (append-nil entries))
       by_record false is = rw is (Accepted (Finalized c) ∷ [], refl)
 
-  pub high_more : (closed kept : ℕ) (entries more : List (ArtifactFacts D G)) → IsHigh closed kept entries → IsHigh closed kept (entries ++ more)
+  pub high_more : (closed kept : ℕ) (entries more : List (ArtifactFacts D)) → IsHigh closed kept entries → IsHigh closed kept (entries ++ more)
   high_more closed kept entries more (inl none) = inl none
   high_more closed kept entries more (inr (c, front, back, is, early, above)) =
       inr (c, front, back ++ more, ap (λ es. es ++ more) is ∙ append_assoc front (Accepted (Finalized c) ∷ back) more, early, above)
 
-  pub within_more : (closed : ℕ) (entries more : List (ArtifactFacts D G)) → closed ≤ length entries → closed ≤ length (entries ++ more)
+  pub within_more : (closed : ℕ) (entries more : List (ArtifactFacts D)) → closed ≤ length entries → closed ≤ length (entries ++ more)
   within_more closed entries more within = omega (arith, length-append entries more)
 
-module _ {K L D G : Type 0} where
-  marked_in : (a b : List (ArtifactFacts D G)) (x : Facts K L D) → ((e : ArtifactFacts D G) → Contains a e → Contains b e) → Marked a x → Marked b x
+module _ {K L D : Type 0} where
+  marked_in : (a b : List (ArtifactFacts D)) (x : Facts K L D) → ((e : ArtifactFacts D) → Contains a e → Contains b e) → Marked a x → Marked b x
   marked_in a b x there marked = record {
     certified = λ v is. (let e = marked.certified v is in (e.0, there (Verdict e.0 true) e.1, e.2));
-    nullified = λ v is key. (let e = marked.nullified v is key in (e.0, e.1, there (NullifyVote (round_number x v) e.0 e.1) e.2));
+    nullified = λ v is key. (let e = marked.nullified v is key in (e.0, there (NullifyVote (round_number x v) e.0) e.1));
   }
 
-floor_lawful : {D G : Type 0} (term_length : ℕ) (deeds : List (Deed D G)) (floor : FloorFacts D) → IsLawful term_length deeds → IsLawful term_length (deeds ++ of_floor floor)
+floor_lawful : {D : Type 0} (term_length : ℕ) (deeds : List (Deed D)) (floor : FloorFacts D) → IsLawful term_length deeds → IsLawful term_length (deeds ++ of_floor floor)
 floor_lawful term_length deeds (Genesis payload) lawful = subst (IsLawful term_length) (sym (append-nil deeds)) lawful
 floor_lawful term_length deeds (FinalizedFloor c) lawful = lawful_push term_length deeds (Accepts (subject.Finalize c.proposal)) lawful tt
 
-module _ {K L D G : Type 0} (same : D → D → Bool) (decides : (d e : D) → same d e ≡ true → d ≡ e) (elect : Elect L) (signature_of : ℕ → Subject D → G) (settings : Settings) (me : Option ℕ) (members : List K) (elector : L) (terms : Terms) (early : Bool) where
+module _ {K L D : Type 0} (same : D → D → Bool) (decides : (d e : D) → same d e ≡ true → d ≡ e) (elect : Elect L) (settings : Settings) (me : Option ℕ) (members : List K) (elector : L) (terms : Terms) (early : Bool) where
   -- a new life from a copy of the record by view
-  pub new_life_lives : (deeds : List (Deed D G)) (closed kept : ℕ) (entries copy : List (ArtifactFacts D G)) (floor : FloorFacts D) (now : ℕ) → Between terms.term_length deeds closed kept entries → ((v : ℕ) → filter (λ e. entry_view e == v) copy ≡ filter (λ e. entry_view e == v) entries) → ((e : ArtifactFacts D G) → Contains copy e → (entry_round e).epoch ≡ settings.epoch) → Living terms.term_length (deeds ++ of_floor floor) closed kept (with_floor entries floor) no_openings (recovered same elect (new_facts settings me members elector terms early) floor now copy)
+  pub new_life_lives : (deeds : List (Deed D)) (closed kept : ℕ) (entries copy : List (ArtifactFacts D)) (floor : FloorFacts D) (now : ℕ) → Between terms.term_length deeds closed kept entries → ((v : ℕ) → filter (λ e. entry_view e == v) copy ≡ filter (λ e. entry_view e == v) entries) → ((e : ArtifactFacts D) → Contains copy e → (entry_round e).epoch ≡ settings.epoch) → Living terms.term_length (deeds ++ of_floor floor) closed kept (with_floor entries floor) no_openings (recovered same elect (new_facts settings me members elector terms early) floor now copy)
   new_life_lives deeds closed kept entries copy floor now between by_view epochs =
       let t = terms.term_length in
       let x = recovered same elect (new_facts settings me members elector terms early) floor now copy in
@@ -131,7 +131,7 @@ module _ {K L D G : Type 0} (same : D → D → Bool) (decides : (d e : D) → s
       let copied = notes_copied deeds kept entries between.notes copy by_view in
       let noted = recovered_notes same elect settings me members elector terms early deeds kept copy floor now copied (λ c h. remembers.accepted (Nullified c) h) final stays.ahead in
       let more = floor_split entries floor in
-      let there : (e : ArtifactFacts D G) → Contains copy e → Contains (with_floor entries floor) e =
+      let there : (e : ArtifactFacts D) → Contains copy e → Contains (with_floor entries floor) e =
       λ e h. subst (λ es. Contains es e) (sym more.1) (Contains-append_left entries more.0 e (into_record e h)) in
       record {
         keeps = record {
@@ -149,18 +149,18 @@ module _ {K L D G : Type 0} (same : D → D → Bool) (decides : (d e : D) → s
         within = subst (λ es. closed ≤ length es) (sym more.1) (within_more closed entries more.0 between.within);
       }
 
-module _ {K L D G : Type 0} (same : D → D → Bool) (decides : (d e : D) → same d e ≡ true → d ≡ e) (elect : Elect L) (signature_of : ℕ → Subject D → G) (term_length : ℕ) (deeds : List (Deed D G)) (closed kept : ℕ) (entries : List (ArtifactFacts D G)) (x : Facts K L D) where
+module _ {K L D : Type 0} (same : D → D → Bool) (decides : (d e : D) → same d e ≡ true → d ≡ e) (elect : Elect L) (term_length : ℕ) (deeds : List (Deed D)) (closed kept : ℕ) (entries : List (ArtifactFacts D)) (x : Facts K L D) where
   -- a call that is allowed and not refused
-  pub call_lives : (o : Openings K D) (call : CallFacts D) → 0 < term_length → is_allowed x call ≡ true → Living term_length deeds closed kept entries o x → Living term_length (deeds ++ deeds_of_call call (answer same elect signature_of x call)) closed kept (entries ++ recorded_by same elect signature_of x call) (closed_by o call) (after_call same elect signature_of x call)
+  pub call_lives : (o : Openings K D) (call : CallFacts D) → 0 < term_length → is_allowed x call ≡ true → Living term_length deeds closed kept entries o x → Living term_length (deeds ++ deeds_of_call call (answer same elect x call)) closed kept (entries ++ recorded_by same elect x call) (closed_by o call) (after_call same elect x call)
   call_lives o call some allowed living = record {
-    keeps = call_keeps same decides elect signature_of term_length deeds x living.in_order living.keeps call;
-    follows = call_follows same elect signature_of term_length deeds kept entries x living.keeps.stays living.in_order living.follows call allowed;
-    in_order = order_call same elect signature_of x living.in_order call;
-    notes = notes_called same elect signature_of x deeds kept entries call living.notes;
+    keeps = call_keeps same decides elect term_length deeds x living.in_order living.keeps call;
+    follows = call_follows same elect term_length deeds kept entries x living.keeps.stays living.in_order living.follows call allowed;
+    in_order = order_call same elect x living.in_order call;
+    notes = notes_called same elect x deeds kept entries call living.notes;
     noted =
         (let noted = living.noted in
-        let left = call_notes same elect signature_of noted.0 noted.1 deeds o x noted.2 call (omega (arith, some, living.keeps.stays.stands.terms)) living.keeps.stays.ahead allowed in
+        let left = call_notes same elect noted.0 noted.1 deeds o x noted.2 call (omega (arith, some, living.keeps.stays.stands.terms)) living.keeps.stays.ahead allowed in
         (left.0, noted.1, left.1));
-    high = high_more closed kept entries (recorded_by same elect signature_of x call) living.high;
-    within = within_more closed entries (recorded_by same elect signature_of x call) living.within;
+    high = high_more closed kept entries (recorded_by same elect x call) living.high;
+    within = within_more closed entries (recorded_by same elect x call) living.within;
   }

@@ -32,16 +32,16 @@ use Rattle.simplex_laws.proofs.Rounds.{round_put}
 use Rattle.simplex_laws.proofs.WorkNotes.{decided_notes}
 
 -- what is told of a vote
-module _ {K L D G : Type 0} (same : D → D → Bool) (elect : Elect L) (signature_of : ℕ → Subject D → G) (x : Facts K L D) (v : ℕ) where
-  pub notarize_silent : (is_some x.me && may_notarize same elect x v) ≡ false → notarize_vote same elect signature_of x v ≡ None
+module _ {K L D : Type 0} (same : D → D → Bool) (elect : Elect L) (x : Facts K L D) (v : ℕ) where
+  pub notarize_silent : (is_some x.me && may_notarize same elect x v) ≡ false → notarize_vote same elect x v ≡ None
   notarize_silent no_vote = none_follows _ x.me (λ m. rw no_vote refl)
 
-  pub notarize_told : (m : ℕ) (h : Proposal D) → x.me ≡ Some m → may_notarize same elect x v ≡ true → (round_of x v).slot.held ≡ Some h → notarize_vote same elect signature_of x v ≡ Some (NotarizeVote h m (signature_of m (subject.Notarize h)))
+  pub notarize_told : (m : ℕ) (h : Proposal D) → x.me ≡ Some m → may_notarize same elect x v ≡ true → (round_of x v).slot.held ≡ Some h → notarize_vote same elect x v ≡ Some (NotarizeVote h m)
   notarize_told m h me may holds =
       let votes : (is_some x.me && may_notarize same elect x v) ≡ true = ap (λ b. b && may_notarize same elect x v) (ap is_some me) ∙ may in
       let answered : notarize_answer same elect x v ≡ Some h = rw votes holds in
-      ap (option_and_then (λ n. option_map (λ p. NotarizeVote p n (signature_of n (subject.Notarize p))) (notarize_answer same elect x v))) me
-      ∙ ap (option_map (λ p. NotarizeVote p m (signature_of m (subject.Notarize p)))) answered
+      ap (option_and_then (λ n. option_map (λ p. NotarizeVote p n) (notarize_answer same elect x v))) me
+      ∙ ap (option_map (λ p. NotarizeVote p m)) answered
 
 -- a view that holds a proposal is tracked
 pub tracked_held : {K L D : Type 0} (x : Facts K L D) (v : ℕ) → is_some (round_of x v).slot.held ≡ true → is_tracked x v ≡ true
@@ -55,7 +55,7 @@ admitted_above : {K L D : Type 0} (x : Facts K L D) (v : ℕ) → is_admitted x 
 unfolding is_admitted
 admitted_above x v is = grind (arith, nat_tests)
 
-module _ {K L D G : Type 0} (same : D → D → Bool) (decides : (d e : D) → same d e ≡ true → d ≡ e) (elect : Elect L) (term_length base low : ℕ) (deeds : List (Deed D G)) (o : Openings K D) (x : Facts K L D) (some : 0 < x.terms.term_length) (terms : x.terms.term_length ≡ term_length) (notes : NotesStand base low deeds o x) (v : ℕ) (may : may_notarize same elect x v ≡ true) where
+module _ {K L D : Type 0} (same : D → D → Bool) (decides : (d e : D) → same d e ≡ true → d ≡ e) (elect : Elect L) (term_length base low : ℕ) (deeds : List (Deed D)) (o : Openings K D) (x : Facts K L D) (some : 0 < x.terms.term_length) (terms : x.terms.term_length ≡ term_length) (notes : NotesStand base low deeds o x) (v : ℕ) (may : may_notarize same elect x v ≡ true) where
   rule : NotarizeRule same elect x v
   rule = notarize_parts same elect x v may
 
@@ -93,8 +93,8 @@ module _ {K L D G : Type 0} (same : D → D → Bool) (decides : (d e : D) → s
       }
 
   -- and it is decided then
-  pub notarize_noted : (p : Proposal D) (m : ℕ) (signature : G) → (round_of x v).slot.held ≡ Some p → NotesStand base low (deeds ++ Signs m (subject.Notarize p) signature ∷ []) o (prepared elect (with_round x v (record (round_of x v) { notarize_decided = true })) v)
-  notarize_noted p m signature holds =
+  pub notarize_noted : (p : Proposal D) (m : ℕ) → (round_of x v).slot.held ≡ Some p → NotesStand base low (deeds ++ Signs m (subject.Notarize p) ∷ []) o (prepared elect (with_round x v (record (round_of x v) { notarize_decided = true })) v)
+  notarize_noted p m holds =
       let y = with_round x v (record (round_of x v) { notarize_decided = true }) in
       let z = prepared elect y v in
       let kept = decided_notes same decides elect base low deeds o x notes v may voted_tracked in
@@ -109,9 +109,9 @@ module _ {K L D G : Type 0} (same : D → D → Bool) (decides : (d e : D) → s
         worked = kept.worked;
         verifying_low = kept.verifying_low;
         context_low = kept.context_low;
-        voted = λ q h above over. elim (signed_push deeds (Signs m (subject.Notarize p) signature) (subject.Notarize q) h) [
+        voted = λ q h above over. elim (signed_push deeds (Signs m (subject.Notarize p)) (subject.Notarize q) h) [
           | inl old ↦ kept.voted q old above over
           | inr new ↦ (let one : p ≡ q = cc in subst (λ u. (round_of z u).notarize_decided ≡ true) (sym at ∙ ap (λ (k : Proposal D). k.round.view) one) decided)
         ];
-        covered = λ u h. (let c = kept.covered u h in (c.0, Contains-append_left deeds (Signs m (subject.Notarize p) signature ∷ []) (Accepts (subject.Nullify c.0)) c.1, c.2));
+        covered = λ u h. (let c = kept.covered u h in (c.0, Contains-append_left deeds (Signs m (subject.Notarize p) ∷ []) (Accepts (subject.Nullify c.0)) c.1, c.2));
       }

@@ -15,7 +15,7 @@ use Rattle.simplex_laws.proofs.CalmOn.{Above, CalmOn}
 use Rattle.simplex_laws.proofs.Tidy.{Tidy, contrary, tidy_calm}
 
 -- views below `base` were pruned; work on views below `low` ended with the lives before
-pub record NotesStand {K L D G : Type 0} (base low : ℕ) (deeds : List (Deed D G)) (o : Openings K D) (x : Facts K L D) : Type 0 where
+pub record NotesStand {K L D : Type 0} (base low : ℕ) (deeds : List (Deed D)) (o : Openings K D) (x : Facts K L D) : Type 0 where
   pub above : Above base x
   pub active : base ≤ min_active x
   pub reached : low ≤ x.current
@@ -32,17 +32,17 @@ pub record NotesStand {K L D G : Type 0} (base low : ℕ) (deeds : List (Deed D 
   pub covered : (u : ℕ) → Contains x.nullified u → (round : Round) × Contains deeds (Accepts (subject.Nullify round)) × (round.view ≡ u)
 
 -- what a record holds of the votes to notarize; it may lack those of views below `kept`
-pub record RemembersNotes {D G : Type 0} (deeds : List (Deed D G)) (kept : ℕ) (entries : List (ArtifactFacts D G)) : Type 0 where
-  pub cast : (p : Proposal D) (m : ℕ) (signature : G) → Contains entries (NotarizeVote p m signature) → HasSigned deeds (subject.Notarize p)
-  pub noted : (p : Proposal D) → HasSigned deeds (subject.Notarize p) → ((m : ℕ) × (signature : G) × Contains entries (NotarizeVote p m signature)) ⊎ (p.round.view < kept)
+pub record RemembersNotes {D : Type 0} (deeds : List (Deed D)) (kept : ℕ) (entries : List (ArtifactFacts D)) : Type 0 where
+  pub cast : (p : Proposal D) (m : ℕ) → Contains entries (NotarizeVote p m) → HasSigned deeds (subject.Notarize p)
+  pub noted : (p : Proposal D) → HasSigned deeds (subject.Notarize p) → ((m : ℕ) × Contains entries (NotarizeVote p m)) ⊎ (p.round.view < kept)
 
 -- no deed of them is a vote to notarize
-abbrev pub CastsNone : {D G : Type 0} → List (Deed D G) → Type 0
+abbrev pub CastsNone : {D : Type 0} → List (Deed D) → Type 0
 CastsNone {D} deeds = (p : Proposal D) → HasSigned deeds (subject.Notarize p) → ⊥
 
-module _ {K L D G : Type 0} (base low : ℕ) (deeds : List (Deed D G)) where
+module _ {K L D : Type 0} (base low : ℕ) (deeds : List (Deed D)) where
   -- deeds that are no votes to notarize
-  pub notes_acted : (more : List (Deed D G)) (o : Openings K D) (x : Facts K L D) → CastsNone more → NotesStand base low deeds o x → NotesStand base low (deeds ++ more) o x
+  pub notes_acted : (more : List (Deed D)) (o : Openings K D) (x : Facts K L D) → CastsNone more → NotesStand base low deeds o x → NotesStand base low (deeds ++ more) o x
   notes_acted more o x none notes = record {
     above = notes.above;
     active = notes.active;

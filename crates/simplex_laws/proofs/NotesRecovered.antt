@@ -43,12 +43,12 @@ pub record RoundRemade {K D : Type 0} (v : ℕ) (r : RoundFacts K D) : Type 0 wh
   pub worked : r.slot.verified ≡ true → r.notarize_decided ≡ true
 
 -- so at each view, and each nullified view has its nullification in the record
-pub record Remade {K L D G : Type 0} (copy : List (ArtifactFacts D G)) (x : Facts K L D) : Type 0 where
+pub record Remade {K L D : Type 0} (copy : List (ArtifactFacts D)) (x : Facts K L D) : Type 0 where
   pub rounds : (v : ℕ) → RoundRemade v (round_of x v)
   pub covered : (u : ℕ) → Contains x.nullified u → (c : NullificationFacts) × Contains copy (Accepted (Nullified c)) × (c.round.view ≡ u)
 
 -- what each entry that is taken again keeps
-pub record Remakes {K L D G : Type 0} (copy : List (ArtifactFacts D G)) (x y : Facts K L D) : Type 0 where
+pub record Remakes {K L D : Type 0} (copy : List (ArtifactFacts D)) (x y : Facts K L D) : Type 0 where
   pub finalized : x.finalized ≤ y.finalized
   pub decided : (v : ℕ) → (round_of x v).notarize_decided ≡ true → (round_of y v).notarize_decided ≡ true
   pub made : Remade copy x → Remade copy y
@@ -118,7 +118,7 @@ module _ {K D : Type 0} where
 
 -- changes of a state
 
-module _ {K L D G : Type 0} (copy : List (ArtifactFacts D G)) where
+module _ {K L D : Type 0} (copy : List (ArtifactFacts D)) where
   remakes_joined : (x y z : Facts K L D) → Remakes copy x y → Remakes copy y z → Remakes copy x z
   remakes_joined x y z p q = record { finalized = omega (arith, p.finalized, q.finalized); decided = λ v is. q.decided v (p.decided v is); made = λ m. q.made (p.made m) }
 
@@ -167,7 +167,7 @@ module _ {K L D G : Type 0} (copy : List (ArtifactFacts D G)) where
 
 -- entries that are taken again
 
-module _ {K L D G : Type 0} (same : D → D → Bool) (elect : Elect L) (now : ℕ) (copy : List (ArtifactFacts D G)) where
+module _ {K L D : Type 0} (same : D → D → Bool) (elect : Elect L) (now : ℕ) (copy : List (ArtifactFacts D)) where
   module _ (x : Facts K L D) where
     -- the round of a vote that is taken again
     abbrev own_round_again : Proposal D → RoundFacts K D
@@ -176,42 +176,42 @@ module _ {K L D G : Type 0} (same : D → D → Bool) (elect : Elect L) (now : �
     voted_again : (p : Proposal D) → (own_round_again p).notarize_decided ≡ true
     voted_again p = bound_decided (record (round_of x p.round.view) { slot = after_own (same_proposal same) (round_of x p.round.view).slot p; notarize_decided = true }) (option_and_then (restored_binding x) (Some p))
 
-    remakes_vote : (p : Proposal D) (m : ℕ) (signature : G) → Remakes copy x (retaken same elect x now (NotarizeVote p m signature))
-    remakes_vote p m signature =
+    remakes_vote : (p : Proposal D) (m : ℕ) → Remakes copy x (retaken same elect x now (NotarizeVote p m))
+    remakes_vote p m =
         let v = p.round.view in
         let y = with_round x v (own_round_again p) in
         remakes_joined copy x y (prepared elect y v)
         (remakes_put copy x v (own_round_again p) (voted_again p) (own_remade same (round_of x v) p (option_and_then (restored_binding x) (Some p))))
         (remakes_calm copy y (prepared elect y v) (on_prepared 0 elect y v (omega arith)))
 
-    noted_again : (p : Proposal D) (m : ℕ) (signature : G) → (round_of (retaken same elect x now (NotarizeVote p m signature)) p.round.view).notarize_decided ≡ true
-    noted_again p m signature =
+    noted_again : (p : Proposal D) (m : ℕ) → (round_of (retaken same elect x now (NotarizeVote p m)) p.round.view).notarize_decided ≡ true
+    noted_again p m =
         let v = p.round.view in
         let y = with_round x v (own_round_again p) in
         ((on_prepared 0 elect y v (omega arith)).rounds v).grown.decided (ap (λ (s : RoundFacts K D). s.notarize_decided) (round_put x v (own_round_again p)) ∙ voted_again p)
 
-    remakes_verdict : (round : Round) (success : Bool) → Remakes copy x (retaken {G = G} same elect x now (Verdict round success))
+    remakes_verdict : (round : Round) (success : Bool) → Remakes copy x (retaken same elect x now (Verdict round success))
     remakes_verdict round success =
         let v = round.view in
         let r = certified_round (round_of x v) success in
         let j = with_round x v r in
         remakes_calm copy x _ (on_joined 0 x j _ (on_put 0 x v r (omega arith) (calm_alike v (round_of x v) r refl refl refl refl refl)) (on_certified 0 elect j v success now (λ tracked. omega arith)))
 
-    remakes_notarization : (c : ProposalFacts D) → Remakes copy x (retaken {G = G} same elect x now (Accepted (Notarized c)))
+    remakes_notarization : (c : ProposalFacts D) → Remakes copy x (retaken same elect x now (Accepted (Notarized c)))
     remakes_notarization c =
         let v = c.proposal.round.view in
         let y = after_add_notarization same elect x c in
         let r : RoundFacts K D = record (round_of y v) { notarization_broadcast = true } in
         remakes_calm copy x (with_round y v r) (on_joined 0 x y (with_round y v r) (on_add_notarization 0 same elect x c (omega arith)) (on_put 0 y v r (omega arith) (calm_alike v (round_of y v) r refl refl refl refl refl)))
 
-    remakes_finalization : (c : ProposalFacts D) → Remakes copy x (retaken {G = G} same elect x now (Accepted (Finalized c)))
+    remakes_finalization : (c : ProposalFacts D) → Remakes copy x (retaken same elect x now (Accepted (Finalized c)))
     remakes_finalization c =
         let v = c.proposal.round.view in
         let y = after_add_finalization same elect x c now in
         let r : RoundFacts K D = record (round_of y v) { finalization_broadcast = true } in
         remakes_calm copy x (with_round y v r) (on_joined 0 x y (with_round y v r) (on_add_finalization 0 same elect x c now (omega arith)) (on_put 0 y v r (omega arith) (calm_alike v (round_of y v) r refl refl refl refl refl)))
 
-    remakes_nullification : (c : NullificationFacts) → Contains copy (Accepted (Nullified c)) → Remakes copy x (retaken {G = G} same elect x now (Accepted (Nullified c)))
+    remakes_nullification : (c : NullificationFacts) → Contains copy (Accepted (Nullified c)) → Remakes copy x (retaken same elect x now (Accepted (Nullified c)))
     remakes_nullification c here =
         let v = c.round.view in
         let next = next_term_start x.terms.term_length v in
@@ -224,15 +224,15 @@ module _ {K L D G : Type 0} (same : D → D → Bool) (elect : Elect L) (now : �
         (remakes_joined copy y n (with_round n v r) (remakes_nullified copy y c here)
         (remakes_calm copy n (with_round n v r) (on_put 0 n v r (omega arith) (calm_alike v (round_of n v) r refl refl refl refl refl)))))
 
-    retaken_remakes : (e : ArtifactFacts D G) → Contains copy e → Remakes copy x (retaken same elect x now e)
-    retaken_remakes (NotarizeVote p m signature) here = remakes_vote p m signature
-    retaken_remakes (NullifyVote round m signature) here =
+    retaken_remakes : (e : ArtifactFacts D) → Contains copy e → Remakes copy x (retaken same elect x now e)
+    retaken_remakes (NotarizeVote p m) here = remakes_vote p m
+    retaken_remakes (NullifyVote round m) here =
         let v = round.view in
         let y : Facts K L D = record x { nullify_votes = insert_key nat_cmp x.nullify_votes v } in
         let r : RoundFacts K D = record (round_of y v) { decision = decision.Nullify None } in
         let same_so_far : CalmOn 0 x y = record { settings = refl; current = omega arith; finalized = omega arith; nullified = refl; above = λ above. above; rounds = λ w. calm w (round_of x w) } in
         remakes_calm copy x (with_round y v r) (on_joined 0 x y (with_round y v r) same_so_far (on_put 0 y v r (omega arith) (calm_alike v (round_of y v) r refl refl refl refl refl)))
-    retaken_remakes (FinalizeVote p m signature) here =
+    retaken_remakes (FinalizeVote p m) here =
         let v = p.round.view in
         let r : RoundFacts K D = record (round_of x v) { decision = decision.Finalize } in
         remakes_calm copy x (with_round x v r) (on_put 0 x v r (omega arith) (calm_alike v (round_of x v) r refl refl refl refl refl))
@@ -264,51 +264,51 @@ module _ {K L D G : Type 0} (same : D → D → Bool) (elect : Elect L) (now : �
 
   -- an entry is taken again, or passed over
 
-  taken_remakes : (x : Facts K L D) (e : ArtifactFacts D G) → Contains copy e → Remakes copy x (taken same elect x now e)
+  taken_remakes : (x : Facts K L D) (e : ArtifactFacts D) → Contains copy e → Remakes copy x (taken same elect x now e)
   unfolding taken
   taken_remakes x e here = elim (nat_lt (entry_view e) (min_active x)) as (λ b. Remakes copy x (if b then x else retaken same elect x now e)) [
     | true ↦ remakes_same copy x
     | false ↦ retaken_remakes x e here
   ]
 
-  taken_noted : (x : Facts K L D) (p : Proposal D) (m : ℕ) (signature : G) → ((round_of (taken same elect x now (NotarizeVote p m signature)) p.round.view).notarize_decided ≡ true) ⊎ (p.round.view ≤ (taken same elect x now (NotarizeVote p m signature)).finalized)
+  taken_noted : (x : Facts K L D) (p : Proposal D) (m : ℕ) → ((round_of (taken same elect x now (NotarizeVote p m)) p.round.view).notarize_decided ≡ true) ⊎ (p.round.view ≤ (taken same elect x now (NotarizeVote p m)).finalized)
   unfolding taken
-  taken_noted x p m signature = by_view (nat_lt p.round.view (min_active x)) refl
+  taken_noted x p m = by_view (nat_lt p.round.view (min_active x)) refl
     where
-      by_view : (b : Bool) → nat_lt p.round.view (min_active x) ≡ b → ((round_of (if b then x else retaken same elect x now (NotarizeVote p m signature)) p.round.view).notarize_decided ≡ true) ⊎ (p.round.view ≤ (if b then x else retaken same elect x now (NotarizeVote p m signature)).finalized)
+      by_view : (b : Bool) → nat_lt p.round.view (min_active x) ≡ b → ((round_of (if b then x else retaken same elect x now (NotarizeVote p m)) p.round.view).notarize_decided ≡ true) ⊎ (p.round.view ≤ (if b then x else retaken same elect x now (NotarizeVote p m)).finalized)
       by_view true is = inr (omega (arith, ltb-true p.round.view (min_active x) is))
-      by_view false is = inl (noted_again x p m signature)
+      by_view false is = inl (noted_again x p m)
 
-  taken_reaches : (x : Facts K L D) (c : ProposalFacts D) → c.proposal.round.view ≤ (taken {G = G} same elect x now (Accepted (Finalized c))).finalized
+  taken_reaches : (x : Facts K L D) (c : ProposalFacts D) → c.proposal.round.view ≤ (taken same elect x now (Accepted (Finalized c))).finalized
   unfolding taken
   taken_reaches x c = by_view (nat_lt c.proposal.round.view (min_active x)) refl
     where
-      by_view : (b : Bool) → nat_lt c.proposal.round.view (min_active x) ≡ b → c.proposal.round.view ≤ (if b then x else retaken {G = G} same elect x now (Accepted (Finalized c))).finalized
+      by_view : (b : Bool) → nat_lt c.proposal.round.view (min_active x) ≡ b → c.proposal.round.view ≤ (if b then x else retaken same elect x now (Accepted (Finalized c))).finalized
       by_view true is = omega (arith, ltb-true c.proposal.round.view (min_active x) is)
       by_view false is = finalization_reaches x c
 
   -- all entries
 
-  all_remake : (rest : List (ArtifactFacts D G)) (x : Facts K L D) → ((e : ArtifactFacts D G) → Contains rest e → Contains copy e) → Remakes copy x (all_taken same elect x now rest)
+  all_remake : (rest : List (ArtifactFacts D)) (x : Facts K L D) → ((e : ArtifactFacts D) → Contains rest e → Contains copy e) → Remakes copy x (all_taken same elect x now rest)
   all_remake [] x all = remakes_same copy x
   all_remake (e ∷ rest) x all =
       let y = taken same elect x now e in
       remakes_joined copy x y (all_taken same elect y now rest) (taken_remakes x e (all e (0, omega arith, refl))) (all_remake rest y (λ f h. all f (Contains-cons_rest e rest f h)))
 
-  all_noted : (rest : List (ArtifactFacts D G)) (x : Facts K L D) → ((e : ArtifactFacts D G) → Contains rest e → Contains copy e) → (p : Proposal D) (m : ℕ) (signature : G) → Contains rest (NotarizeVote p m signature) → ((round_of (all_taken same elect x now rest) p.round.view).notarize_decided ≡ true) ⊎ (p.round.view ≤ (all_taken same elect x now rest).finalized)
-  all_noted [] x all p m signature h = absurd (omega (arith, h.1))
-  all_noted (e ∷ rest) x all p m signature h =
+  all_noted : (rest : List (ArtifactFacts D)) (x : Facts K L D) → ((e : ArtifactFacts D) → Contains rest e → Contains copy e) → (p : Proposal D) (m : ℕ) → Contains rest (NotarizeVote p m) → ((round_of (all_taken same elect x now rest) p.round.view).notarize_decided ≡ true) ⊎ (p.round.view ≤ (all_taken same elect x now rest).finalized)
+  all_noted [] x all p m h = absurd (omega (arith, h.1))
+  all_noted (e ∷ rest) x all p m h =
       let y = taken same elect x now e in
       let later = all_remake rest y (λ f there. all f (Contains-cons_rest e rest f there)) in
-      elim (Contains-cases e rest (NotarizeVote p m signature) h) [
-        | inr behind ↦ all_noted rest y (λ f there. all f (Contains-cons_rest e rest f there)) p m signature behind
-        | inl here ↦ elim (subst (λ f. ((round_of (taken same elect x now f) p.round.view).notarize_decided ≡ true) ⊎ (p.round.view ≤ (taken same elect x now f).finalized)) (sym here) (taken_noted x p m signature)) [
+      elim (Contains-cases e rest (NotarizeVote p m) h) [
+        | inr behind ↦ all_noted rest y (λ f there. all f (Contains-cons_rest e rest f there)) p m behind
+        | inl here ↦ elim (subst (λ f. ((round_of (taken same elect x now f) p.round.view).notarize_decided ≡ true) ⊎ (p.round.view ≤ (taken same elect x now f).finalized)) (sym here) (taken_noted x p m)) [
           | inl is ↦ inl (later.decided p.round.view is)
           | inr below ↦ inr (omega (arith, below, later.finalized))
         ]
       ]
 
-  all_reach : (rest : List (ArtifactFacts D G)) (x : Facts K L D) → ((e : ArtifactFacts D G) → Contains rest e → Contains copy e) → (c : ProposalFacts D) → Contains rest (Accepted (Finalized c)) → c.proposal.round.view ≤ (all_taken same elect x now rest).finalized
+  all_reach : (rest : List (ArtifactFacts D)) (x : Facts K L D) → ((e : ArtifactFacts D) → Contains rest e → Contains copy e) → (c : ProposalFacts D) → Contains rest (Accepted (Finalized c)) → c.proposal.round.view ≤ (all_taken same elect x now rest).finalized
   all_reach [] x all c h = absurd (omega (arith, h.1))
   all_reach (e ∷ rest) x all c h =
       let y = taken same elect x now e in
@@ -332,11 +332,11 @@ module _ {K L D G : Type 0} (same : D → D → Bool) (elect : Elect L) (now : �
       let y = after_add_finalization same elect x c now in
       remakes_calm copy x _ (on_joined 0 x y _ (on_add_finalization 0 same elect x c now (omega arith)) (on_floor 0 y c.proposal.round.view (omega arith)))
 
-module _ {K L D G : Type 0} (same : D → D → Bool) (elect : Elect L) (settings : Settings) (me : Option ℕ) (members : List K) (elector : L) (terms : Terms) (early : Bool) where
-  abbrev pub made_again : FloorFacts D → ℕ → List (ArtifactFacts D G) → Facts K L D
+module _ {K L D : Type 0} (same : D → D → Bool) (elect : Elect L) (settings : Settings) (me : Option ℕ) (members : List K) (elector : L) (terms : Terms) (early : Bool) where
+  abbrev pub made_again : FloorFacts D → ℕ → List (ArtifactFacts D) → Facts K L D
   made_again floor now copy = recovered same elect (new_facts settings me members elector terms early) floor now copy
 
-  fresh_remade : (copy : List (ArtifactFacts D G)) → Remade copy (new_facts {K = K} {L = L} {D = D} settings me members elector terms early)
+  fresh_remade : (copy : List (ArtifactFacts D)) → Remade copy (new_facts {K = K} {L = L} {D = D} settings me members elector terms early)
   fresh_remade copy = record {
     rounds = λ v. record {
       tidy = record {
@@ -355,7 +355,7 @@ module _ {K L D G : Type 0} (same : D → D → Bool) (elect : Elect L) (setting
   }
 
   -- the votes to notarize that were cast above the finalized view are decided
-  pub recovered_notes : (deeds : List (Deed D G)) (kept : ℕ) (copy : List (ArtifactFacts D G)) (floor : FloorFacts D) (now : ℕ) → RemembersNotes deeds kept copy → ((c : NullificationFacts) → Contains copy (Accepted (Nullified c)) → Contains deeds (Accepts (subject.Nullify c.round))) → (kept ≡ 0) ⊎ ((c : ProposalFacts D) × Contains copy (Accepted (Finalized c)) × (kept ≤ c.proposal.round.view)) → (made_again floor now copy).finalized < (made_again floor now copy).current → NotesStand 0 ((made_again floor now copy).finalized + 1) deeds no_openings (made_again floor now copy)
+  pub recovered_notes : (deeds : List (Deed D)) (kept : ℕ) (copy : List (ArtifactFacts D)) (floor : FloorFacts D) (now : ℕ) → RemembersNotes deeds kept copy → ((c : NullificationFacts) → Contains copy (Accepted (Nullified c)) → Contains deeds (Accepts (subject.Nullify c.round))) → (kept ≡ 0) ⊎ ((c : ProposalFacts D) × Contains copy (Accepted (Finalized c)) × (kept ≤ c.proposal.round.view)) → (made_again floor now copy).finalized < (made_again floor now copy).current → NotesStand 0 ((made_again floor now copy).finalized + 1) deeds no_openings (made_again floor now copy)
   unfolding recovered
   recovered_notes deeds kept copy floor now remembers accepted high ahead = record {
     above = λ v tracked. omega arith;
@@ -367,7 +367,7 @@ module _ {K L D G : Type 0} (same : D → D → Bool) (elect : Elect L) (setting
     verifying_low = λ v is. absurd (false≢true is);
     context_low = λ v is. absurd (false≢true is);
     voted = λ p h above over. elim (remembers.noted p h) [
-      | inl e ↦ elim (all_noted same elect now copy copy z (λ f there. there) p e.0 e.1 e.2) [
+      | inl e ↦ elim (all_noted same elect now copy copy z (λ f there. there) p e.0 e.1) [
         | inl is ↦ is
         | inr below ↦ absurd (omega (arith, below, above))
       ]

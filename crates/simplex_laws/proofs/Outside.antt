@@ -37,9 +37,9 @@ pub from_either : (o p : Option RecoverError) (found : RecoverError) → option_
 from_either None p found is = inr is
 from_either (Some e) p found is = inl is
 
-module _ {D G : Type 0} (same : D → D → Bool) where
+module _ {D : Type 0} (same : D → D → Bool) where
   -- an entry that breaks none of the rules on those before it, the newest first
-  pub record Fits (before : List (ArtifactFacts D G)) (e : ArtifactFacts D G) : Type 0 where
+  pub record Fits (before : List (ArtifactFacts D)) (e : ArtifactFacts D) : Type 0 where
     pub in_order : nat_lt (entry_view e) (last_view before) ≡ false
     pub notarized : lacks_notarization before e ≡ false
     pub one_verdict : contradicts_verdict before e ≡ false
@@ -48,19 +48,19 @@ module _ {D G : Type 0} (same : D → D → Bool) where
     pub judged : lacks_true_verdict before e ≡ false
 
   -- each entry fits behind those before it
-  abbrev pub Fit : List (ArtifactFacts D G) → List (ArtifactFacts D G) → Type 0
+  abbrev pub Fit : List (ArtifactFacts D) → List (ArtifactFacts D) → Type 0
   Fit before [] = Unit {0}
   Fit before (e ∷ rest) = Fits before e × Fit (e ∷ before) rest
 
-module _ {D G : Type 0} (same : D → D → Bool) (epoch : ℕ) (me : Option ℕ) where
-  own_outside : (e : ArtifactFacts D G) → AreOutside (own_rules epoch me e)
-  own_outside (NotarizeVote p m g) = (λ _. tt, (λ _. tt, (λ _. tt, (λ _. tt, (λ _. tt, tt)))))
-  own_outside (NullifyVote round m g) = (λ _. tt, (λ _. tt, (λ _. tt, (λ _. tt, tt))))
-  own_outside (FinalizeVote p m g) = (λ _. tt, (λ _. tt, (λ _. tt, (λ _. tt, (λ _. tt, tt)))))
+module _ {D : Type 0} (same : D → D → Bool) (epoch : ℕ) (me : Option ℕ) where
+  own_outside : (e : ArtifactFacts D) → AreOutside (own_rules epoch me e)
+  own_outside (NotarizeVote p m) = (λ _. tt, (λ _. tt, (λ _. tt, (λ _. tt, (λ _. tt, tt)))))
+  own_outside (NullifyVote round m) = (λ _. tt, (λ _. tt, (λ _. tt, (λ _. tt, tt))))
+  own_outside (FinalizeVote p m) = (λ _. tt, (λ _. tt, (λ _. tt, (λ _. tt, (λ _. tt, tt)))))
   own_outside (Verdict round success) = (λ _. tt, (λ _. tt, (λ _. tt, tt)))
   own_outside (Accepted c) = (λ _. tt, (λ _. tt, (λ _. tt, tt)))
 
-  entry_outside : (before : List (ArtifactFacts D G)) (e : ArtifactFacts D G) → Fits same before e → AreOutside (entry_rules same epoch me before e)
+  entry_outside : (before : List (ArtifactFacts D)) (e : ArtifactFacts D) → Fits same before e → AreOutside (entry_rules same epoch me before e)
   entry_outside before e fits = (
     unbroken (nat_lt (entry_view e) (last_view before)) error.OutOfOrder fits.in_order,
     outside_joined (own_rules epoch me e) (beside_rules same before e) (own_outside e) (
@@ -78,7 +78,7 @@ module _ {D G : Type 0} (same : D → D → Bool) (epoch : ℕ) (me : Option ℕ
     ),
   )
 
-  entries_outside : (before entries : List (ArtifactFacts D G)) (found : RecoverError) → Fit same before entries → first_broken_after same epoch me before entries ≡ Some found → IsFromOutside found
+  entries_outside : (before entries : List (ArtifactFacts D)) (found : RecoverError) → Fit same before entries → first_broken_after same epoch me before entries ≡ Some found → IsFromOutside found
   entries_outside before [] found fit is = absurd (cc)
   entries_outside before (e ∷ rest) found fit is = elim (from_either (first_error (entry_rules same epoch me before e)) (first_broken_after same epoch me (e ∷ before) rest) found is) [
     | inl here ↦ first_outside (entry_rules same epoch me before e) found (entry_outside before e fit.0) here
@@ -93,9 +93,9 @@ late_outside : (b : Bool) (found : RecoverError) → (if b then Some error.TimeO
 late_outside true found is = let same : error.TimeOverflow ≡ found = cc in subst IsFromOutside same tt
 late_outside false found is = absurd (cc)
 
-module _ {K L D G : Type 0} (same : D → D → Bool) (x : Facts K L D) (floor : FloorFacts D) (now : ℕ) where
+module _ {K L D : Type 0} (same : D → D → Bool) (x : Facts K L D) (floor : FloorFacts D) (now : ℕ) where
   -- no state is made only for what comes from outside
-  pub error_outside : (entries : List (ArtifactFacts D G)) (found : RecoverError) → Fit same [] entries → recover_error same x floor now entries ≡ Some found → IsFromOutside found
+  pub error_outside : (entries : List (ArtifactFacts D)) (found : RecoverError) → Fit same [] entries → recover_error same x floor now entries ≡ Some found → IsFromOutside found
   unfolding first_broken_rule
   error_outside entries found fit is = elim (from_either (first_broken_rule same x.settings.epoch x.me floor entries) (if has_late_deadline x now then Some error.TimeOverflow else None) found is) [
     | inr late ↦ late_outside (has_late_deadline x now) found late

@@ -37,16 +37,16 @@ use Rattle.simplex_laws.proofs.Verdicts.{Shows}
 use Rattle.simplex_laws.proofs.Together.{record_fits}
 
 -- a member's record keeps its verdicts in order, and while it lives its state shows them
-abbrev pub TellsOn : {K L D G : Type 0} → List (Deed D G) → List (ArtifactFacts D G) → Option (Facts K L D) → Type 0
+abbrev pub TellsOn : {K L D : Type 0} → List (Deed D) → List (ArtifactFacts D) → Option (Facts K L D) → Type 0
 TellsOn deeds entries None = OwnRecord deeds entries
 TellsOn deeds entries (Some x) = Tells deeds entries x
 
-abbrev pub MemberTells : {K L D G : Type 0} → List (Deed D G) → MemberFacts K L D G → Type 0
+abbrev pub MemberTells : {K L D : Type 0} → List (Deed D) → MemberFacts K L D → Type 0
 MemberTells deeds m = TellsOn deeds m.entries m.life
 
-module _ {D G : Type 0} where
+module _ {D : Type 0} where
   -- a drop leaves the first entries
-  left_first : (closed n : ℕ) (entries : List (ArtifactFacts D G)) → (tail : List (ArtifactFacts D G)) × (entries ≡ without_last closed n entries ++ tail)
+  left_first : (closed n : ℕ) (entries : List (ArtifactFacts D)) → (tail : List (ArtifactFacts D)) × (entries ≡ without_last closed n entries ++ tail)
   left_first closed zero entries = ([], sym (append-nil entries))
   left_first closed (suc n) entries = elim (cases_Bool (may_drop closed entries)) [
     | inr stays ↦ rw (none_dropped closed (suc n) entries stays) ([], sym (append-nil entries))
@@ -56,38 +56,38 @@ module _ {D G : Type 0} where
         let rest = left_first closed n shorter in
         let joined : entries ≡ without_last closed n shorter ++ (rest.0 ++ last) = sym (take-append-drop (length entries - 1) entries) ∙ (ap (λ es. es ++ last) rest.1 ∙ append_assoc (without_last closed n shorter) rest.0 last) in
         let fewer : without_last closed n shorter ≡ without_last closed (suc n) entries = rw falls refl in
-        subst (λ left. (tail : List (ArtifactFacts D G)) × (entries ≡ left ++ tail)) fewer (rest.0 ++ last, joined))
+        subst (λ left. (tail : List (ArtifactFacts D)) × (entries ≡ left ++ tail)) fewer (rest.0 ++ last, joined))
   ]
 
-  pruned_own : (deeds : List (Deed D G)) (entries : List (ArtifactFacts D G)) (retention : ℕ) → OwnRecord deeds entries → OwnRecord deeds (pruned retention entries)
+  pruned_own : (deeds : List (Deed D)) (entries : List (ArtifactFacts D)) (retention : ℕ) → OwnRecord deeds entries → OwnRecord deeds (pruned retention entries)
   unfolding pruned
   pruned_own deeds entries retention own = own_bounded deeds entries own (finalized_in entries - retention)
 
   -- the floor adds no verdict
-  floor_adds : (entries : List (ArtifactFacts D G)) (floor : FloorFacts D) → (more : List (ArtifactFacts D G)) × (with_floor entries floor ≡ entries ++ more) × HasNoVerdict more
+  floor_adds : (entries : List (ArtifactFacts D)) (floor : FloorFacts D) → (more : List (ArtifactFacts D)) × (with_floor entries floor ≡ entries ++ more) × HasNoVerdict more
   floor_adds entries (Genesis payload) = ([], sym (append-nil entries), λ round success h. absurd (omega (arith, h.1)))
   floor_adds entries (FinalizedFloor c) = by_record (stands c.proposal.round.view is_finalization entries) refl
     where
-      by_record : (b : Bool) → stands c.proposal.round.view is_finalization entries ≡ b → (more : List (ArtifactFacts D G)) × (with_floor entries (FinalizedFloor c) ≡ entries ++ more) × HasNoVerdict more
+      by_record : (b : Bool) → stands c.proposal.round.view is_finalization entries ≡ b → (more : List (ArtifactFacts D)) × (with_floor entries (FinalizedFloor c) ≡ entries ++ more) × HasNoVerdict more
       by_record true is = rw is ([], sym (append-nil entries), λ round success h. absurd (omega (arith, h.1)))
       by_record false is = rw is (Accepted (Finalized c) ∷ [], refl, λ round success h. (let e = only_one (Accepted (Finalized c)) (Verdict round success) h in cc))
 
-module _ {K L D G : Type 0} where
-  own_of : (deeds : List (Deed D G)) (entries : List (ArtifactFacts D G)) (life : Option (Facts K L D)) → TellsOn deeds entries life → OwnRecord deeds entries
+module _ {K L D : Type 0} where
+  own_of : (deeds : List (Deed D)) (entries : List (ArtifactFacts D)) (life : Option (Facts K L D)) → TellsOn deeds entries life → OwnRecord deeds entries
   own_of deeds entries None own = own
   own_of deeds entries (Some x) tells = tells.own
 
-  untold : (deeds : List (Deed D G)) (m : MemberFacts K L D G) → MemberTells deeds m → MemberTells (deeds ++ []) m
+  untold : (deeds : List (Deed D)) (m : MemberFacts K L D) → MemberTells deeds m → MemberTells (deeds ++ []) m
   untold deeds m tells = subst (λ a. MemberTells a m) (sym (append-nil deeds)) tells
 
-  cut_own : (deeds : List (Deed D G)) (m : MemberFacts K L D G) (n : ℕ) (prune : Bool) → OwnRecord deeds m.entries → OwnRecord deeds (cut m n prune).entries
+  cut_own : (deeds : List (Deed D)) (m : MemberFacts K L D) (n : ℕ) (prune : Bool) → OwnRecord deeds m.entries → OwnRecord deeds (cut m n prune).entries
   cut_own deeds m n false own = let left = left_first m.closed n m.entries in own_left deeds m.entries own (without_last m.closed n m.entries) left.0 left.1
   cut_own deeds m n true own =
       let left = left_first m.closed n m.entries in
       pruned_own deeds (without_last m.closed n m.entries) m.retention (own_left deeds m.entries own (without_last m.closed n m.entries) left.0 left.1)
 
   -- the same entries, and the floor's finalization besides
-  shows_whole : (entries copy : List (ArtifactFacts D G)) (floor : FloorFacts D) (x : Facts K L D) → ((v : ℕ) → filter (λ e. entry_view e == v) copy ≡ filter (λ e. entry_view e == v) entries) → Shows copy x → Shows (with_floor entries floor) x
+  shows_whole : (entries copy : List (ArtifactFacts D)) (floor : FloorFacts D) (x : Facts K L D) → ((v : ℕ) → filter (λ e. entry_view e == v) copy ≡ filter (λ e. entry_view e == v) entries) → Shows copy x → Shows (with_floor entries floor) x
   shows_whole entries copy floor x by_view shows =
       let into = same_entries copy entries by_view in
       let back = same_entries entries copy (λ v. sym (by_view v)) in
@@ -98,25 +98,25 @@ module _ {K L D G : Type 0} where
       } in
       subst (λ es. Shows es x) (sym more.1) (shows_more entries more.0 x more.2 here)
 
-module _ {K L D G : Type 0} (same : D → D → Bool) (elect : Elect L) (signature_of : ℕ → Subject D → G) (term_length : ℕ) (deeds : List (Deed D G)) (m : MemberFacts K L D G) where
+module _ {K L D : Type 0} (same : D → D → Bool) (elect : Elect L) (term_length : ℕ) (deeds : List (Deed D)) (m : MemberFacts K L D) where
   -- a call
 
-  answered : (call : CallFacts D) (x : Facts K L D) → InOrder x → m.life ≡ Some x → MemberTells deeds m → MemberTells (deeds ++ deeds_of_call call (reply_of same elect signature_of x call)) (left_of same elect signature_of x m call)
+  answered : (call : CallFacts D) (x : Facts K L D) → InOrder x → m.life ≡ Some x → MemberTells deeds m → MemberTells (deeds ++ deeds_of_call call (reply_of same elect x call)) (left_of same elect x m call)
   answered call x ordered alive tells = by_allowed (is_allowed x call) refl
     where
-      by_fault : (o : Option Fault) → fault_of x call ≡ o → is_allowed x call ≡ true → MemberTells (deeds ++ deeds_of_call call (reply_of same elect signature_of x call)) (left_of same elect signature_of x m call)
-      by_fault None no_fault allowed = rw (allowed, no_fault) (call_told same elect signature_of deeds m.entries x ordered (subst (λ life. TellsOn deeds m.entries life) alive tells) call allowed)
+      by_fault : (o : Option Fault) → fault_of x call ≡ o → is_allowed x call ≡ true → MemberTells (deeds ++ deeds_of_call call (reply_of same elect x call)) (left_of same elect x m call)
+      by_fault None no_fault allowed = rw (allowed, no_fault) (call_told same elect deeds m.entries x ordered (subst (λ life. TellsOn deeds m.entries life) alive tells) call allowed)
       by_fault (Some f) refused allowed = rw (allowed, refused) (untold deeds m tells)
 
-      by_allowed : (b : Bool) → is_allowed x call ≡ b → MemberTells (deeds ++ deeds_of_call call (reply_of same elect signature_of x call)) (left_of same elect signature_of x m call)
+      by_allowed : (b : Bool) → is_allowed x call ≡ b → MemberTells (deeds ++ deeds_of_call call (reply_of same elect x call)) (left_of same elect x m call)
       by_allowed true allowed = by_fault (fault_of x call) refl allowed
       by_allowed false not_allowed = rw not_allowed (untold deeds m tells)
 
-  call_tells_on : (call : CallFacts D) (told : Told K D G) (left : MemberFacts K L D G) → ((x : Facts K L D) → m.life ≡ Some x → InOrder x) → MemberTells deeds m → IsCall same elect signature_of m call told left → MemberTells (deeds ++ deeds_of_call call told) left
+  call_tells_on : (call : CallFacts D) (told : Told K D) (left : MemberFacts K L D) → ((x : Facts K L D) → m.life ≡ Some x → InOrder x) → MemberTells deeds m → IsCall same elect m call told left → MemberTells (deeds ++ deeds_of_call call told) left
   unfolding IsCall
   call_tells_on call told left ordered tells is_call = by_life m.life refl is_call
     where
-      by_life : (o : Option (Facts K L D)) → m.life ≡ o → AnswersAlive same elect signature_of o m call told left → MemberTells (deeds ++ deeds_of_call call told) left
+      by_life : (o : Option (Facts K L D)) → m.life ≡ o → AnswersAlive same elect o m call told left → MemberTells (deeds ++ deeds_of_call call told) left
       by_life None dead (tell, leaves) = rw (tell, leaves) (untold deeds m tells)
       by_life (Some x) alive (inl (tell, leaves)) = rw (tell, leaves) (answered call x (ordered x alive) alive tells)
       by_life (Some x) alive (inr (_, tell, inl leaves)) = rw (tell, leaves) (untold deeds m tells)
@@ -124,22 +124,22 @@ module _ {K L D G : Type 0} (same : D → D → Bool) (elect : Elect L) (signatu
 
   -- a call on the work of a view
 
-  worked : (call : WorkCall D) (x : Facts K L D) → InOrder x → m.life ≡ Some x → MemberTells deeds m → MemberTells (deeds ++ signed_in (work_reply same elect signature_of x m.openings call)) (left_of_work same elect signature_of x m call)
+  worked : (call : WorkCall D) (x : Facts K L D) → InOrder x → m.life ≡ Some x → MemberTells deeds m → MemberTells (deeds ++ signed_in (work_reply same elect x m.openings call)) (left_of_work same elect x m call)
   worked call x ordered alive tells = by_allowed (work_allowed x m.openings call) refl
     where
-      by_fault : (f : Option Fault) → work_fault x call ≡ f → work_allowed x m.openings call ≡ true → MemberTells (deeds ++ signed_in (work_reply same elect signature_of x m.openings call)) (left_of_work same elect signature_of x m call)
-      by_fault None no_fault allowed = rw (allowed, no_fault) (work_told same elect signature_of deeds m.entries x m.openings ordered (subst (λ life. TellsOn deeds m.entries life) alive tells) call allowed)
+      by_fault : (f : Option Fault) → work_fault x call ≡ f → work_allowed x m.openings call ≡ true → MemberTells (deeds ++ signed_in (work_reply same elect x m.openings call)) (left_of_work same elect x m call)
+      by_fault None no_fault allowed = rw (allowed, no_fault) (work_told same elect deeds m.entries x m.openings ordered (subst (λ life. TellsOn deeds m.entries life) alive tells) call allowed)
       by_fault (Some f) refused allowed = rw (allowed, refused) (untold deeds m tells)
 
-      by_allowed : (b : Bool) → work_allowed x m.openings call ≡ b → MemberTells (deeds ++ signed_in (work_reply same elect signature_of x m.openings call)) (left_of_work same elect signature_of x m call)
+      by_allowed : (b : Bool) → work_allowed x m.openings call ≡ b → MemberTells (deeds ++ signed_in (work_reply same elect x m.openings call)) (left_of_work same elect x m call)
       by_allowed true allowed = by_fault (work_fault x call) refl allowed
       by_allowed false not_allowed = rw not_allowed (untold deeds m tells)
 
-  work_tells_on : (call : WorkCall D) (told : Told K D G) (left : MemberFacts K L D G) → ((x : Facts K L D) → m.life ≡ Some x → InOrder x) → MemberTells deeds m → IsWork same elect signature_of m call told left → MemberTells (deeds ++ signed_in told) left
+  work_tells_on : (call : WorkCall D) (told : Told K D) (left : MemberFacts K L D) → ((x : Facts K L D) → m.life ≡ Some x → InOrder x) → MemberTells deeds m → IsWork same elect m call told left → MemberTells (deeds ++ signed_in told) left
   unfolding IsWork
   work_tells_on call told left ordered tells is_work = by_life m.life refl is_work
     where
-      by_life : (o : Option (Facts K L D)) → m.life ≡ o → IsWorkOf same elect signature_of o m call told left → MemberTells (deeds ++ signed_in told) left
+      by_life : (o : Option (Facts K L D)) → m.life ≡ o → IsWorkOf same elect o m call told left → MemberTells (deeds ++ signed_in told) left
       by_life None dead (tell, leaves) = rw (tell, leaves) (untold deeds m tells)
       by_life (Some x) alive (inl (tell, leaves)) = rw (tell, leaves) (worked call x (ordered x alive) alive tells)
       by_life (Some x) alive (inr (_, tell, inl leaves)) = rw (tell, leaves) (untold deeds m tells)
@@ -147,7 +147,7 @@ module _ {K L D G : Type 0} (same : D → D → Bool) (elect : Elect L) (signatu
 
   -- a restart
 
-  from_copy : (n : MemberFacts K L D G) (start : StartFacts K L D) (copy : List (ArtifactFacts D G)) → IsFresh term_length start.fresh → OwnRecord deeds n.entries → IsByView n.entries copy → MemberTells (deeds ++ of_floor start.floor) (new_life same elect n start copy)
+  from_copy : (n : MemberFacts K L D) (start : StartFacts K L D) (copy : List (ArtifactFacts D)) → IsFresh term_length start.fresh → OwnRecord deeds n.entries → IsByView n.entries copy → MemberTells (deeds ++ of_floor start.floor) (new_life same elect n start copy)
   from_copy n start copy fresh own by_view =
       let x = start.fresh in
       let in_copy = own_copy deeds n.entries own copy by_view.of_each_view in
@@ -158,21 +158,21 @@ module _ {K L D G : Type 0} (same : D → D → Bool) (elect : Elect L) (signatu
         shows = shows_whole n.entries copy start.floor (recovered same elect x start.floor start.now copy) by_view.of_each_view (subst (λ y. Shows copy y) (sym made) shows);
       }
 
-  goes_on : (n : MemberFacts K L D G) (r : RestartFacts K L D) (result : Result (Unit {0}) RecoverError) (left : MemberFacts K L D G) → IsFresh term_length r.start.fresh → OwnRecord deeds n.entries → GoesOn same elect n r.start result left → MemberTells (deeds ++ deeds_at (Restarts r) (restart_told {K = K} {D = D} {G = G} result)) left
+  goes_on : (n : MemberFacts K L D) (r : RestartFacts K L D) (result : Result (Unit {0}) RecoverError) (left : MemberFacts K L D) → IsFresh term_length r.start.fresh → OwnRecord deeds n.entries → GoesOn same elect n r.start result left → MemberTells (deeds ++ deeds_at (Restarts r) (restart_told {K = K} {D = D} result)) left
   goes_on n r result left fresh own (inl (is, leaves)) = rw (is, leaves) (untold deeds (fallen n) own)
   goes_on n r result left fresh own (inr (copy, by_view, goes)) = by_error (recover_error same r.start.fresh r.start.floor r.start.now copy) goes
     where
-      by_error : (o : Option RecoverError) → MatchOption o ((result ≡ Ok tt) × (left ≡ new_life same elect n r.start copy)) (λ e. (result ≡ Err e) × (left ≡ fallen n)) → MemberTells (deeds ++ deeds_at (Restarts r) (restart_told {K = K} {D = D} {G = G} result)) left
+      by_error : (o : Option RecoverError) → MatchOption o ((result ≡ Ok tt) × (left ≡ new_life same elect n r.start copy)) (λ e. (result ≡ Err e) × (left ≡ fallen n)) → MemberTells (deeds ++ deeds_at (Restarts r) (restart_told {K = K} {D = D} result)) left
       by_error None (is, leaves) =
           rw (is, leaves)
           (subst (λ more. MemberTells (deeds ++ more) (new_life same elect n r.start copy)) (sym (append-nil (of_floor r.start.floor))) (from_copy n r.start copy fresh own by_view))
       by_error (Some e) (is, leaves) = rw (is, leaves) (untold deeds (fallen n) own)
 
-  restart_tells_on : (r : RestartFacts K L D) (result : Result (Unit {0}) RecoverError) (left : MemberFacts K L D G) → IsFresh term_length r.start.fresh → MemberTells deeds m → IsRestart same elect m r result left → MemberTells (deeds ++ deeds_at (Restarts r) (restart_told {K = K} {D = D} {G = G} result)) left
+  restart_tells_on : (r : RestartFacts K L D) (result : Result (Unit {0}) RecoverError) (left : MemberFacts K L D) → IsFresh term_length r.start.fresh → MemberTells deeds m → IsRestart same elect m r result left → MemberTells (deeds ++ deeds_at (Restarts r) (restart_told {K = K} {D = D} result)) left
   unfolding IsRestart
   restart_tells_on r result left fresh tells restarts = by_test (retention_grows m r.prune r.start.fresh.settings.view_retention) restarts
     where
-      by_test : (b : Bool) → IsRestartWhere same elect b m r result left → MemberTells (deeds ++ deeds_at (Restarts r) (restart_told {K = K} {D = D} {G = G} result)) left
+      by_test : (b : Bool) → IsRestartWhere same elect b m r result left → MemberTells (deeds ++ deeds_at (Restarts r) (restart_told {K = K} {D = D} result)) left
       by_test true (is, leaves) = rw (is, leaves) (untold deeds m tells)
       by_test false goes = goes_on (cut m r.drop r.prune) r result left fresh (cut_own deeds m r.drop r.prune (own_of deeds m.entries m.life tells)) goes
 
@@ -182,31 +182,31 @@ error_in (Ok _) = error.OutOfMemory
 error_in (Err found) = found
 
 -- what holds of a member at each moment of a run
-pub record KeepsRecord {K L D G : Type 0} (term_length : ℕ) (deeds : List (Deed D G)) (m : MemberFacts K L D G) : Type 0 where
+pub record KeepsRecord {K L D : Type 0} (term_length : ℕ) (deeds : List (Deed D)) (m : MemberFacts K L D) : Type 0 where
   pub lives : MemberLives term_length deeds m
   pub tells : MemberTells deeds m
 
-module _ {K L D G : Type 0} (same : D → D → Bool) (decides : (d e : D) → same d e ≡ true → d ≡ e) (itself : (d : D) → same d d ≡ true) (elect : Elect L) (signature_of : ℕ → Subject D → G) (term_length : ℕ) (some : 0 < term_length) where
-  called : (deeds : List (Deed D G)) (m next : MemberFacts K L D G) (call : CallFacts D) (told : Told K D G) → KeepsRecord term_length deeds m → IsCall same elect signature_of m call told next → KeepsRecord term_length (deeds ++ deeds_of_call call told) next
+module _ {K L D : Type 0} (same : D → D → Bool) (decides : (d e : D) → same d e ≡ true → d ≡ e) (itself : (d : D) → same d d ≡ true) (elect : Elect L) (term_length : ℕ) (some : 0 < term_length) where
+  called : (deeds : List (Deed D)) (m next : MemberFacts K L D) (call : CallFacts D) (told : Told K D) → KeepsRecord term_length deeds m → IsCall same elect m call told next → KeepsRecord term_length (deeds ++ deeds_of_call call told) next
   called deeds m next call told own is = record {
-    lives = call_lives_on same decides elect signature_of term_length some deeds m call told next own.lives is;
-    tells = call_tells_on same elect signature_of term_length deeds m call told next (λ x alive. (let living = subst (λ life. LivesOn term_length deeds m.closed own.lives.0 m.entries m.openings life) alive own.lives.1 in living.in_order)) own.tells is;
+    lives = call_lives_on same decides elect term_length some deeds m call told next own.lives is;
+    tells = call_tells_on same elect term_length deeds m call told next (λ x alive. (let living = subst (λ life. LivesOn term_length deeds m.closed own.lives.0 m.entries m.openings life) alive own.lives.1 in living.in_order)) own.tells is;
   }
 
-  worked_on : (deeds : List (Deed D G)) (m next : MemberFacts K L D G) (call : WorkCall D) (told : Told K D G) → KeepsRecord term_length deeds m → IsWork same elect signature_of m call told next → KeepsRecord term_length (deeds ++ signed_in told) next
+  worked_on : (deeds : List (Deed D)) (m next : MemberFacts K L D) (call : WorkCall D) (told : Told K D) → KeepsRecord term_length deeds m → IsWork same elect m call told next → KeepsRecord term_length (deeds ++ signed_in told) next
   worked_on deeds m next call told own is = record {
-    lives = work_lives_on same decides elect signature_of term_length some deeds m call told next own.lives is;
-    tells = work_tells_on same elect signature_of term_length deeds m call told next (λ x alive. (let living = subst (λ life. LivesOn term_length deeds m.closed own.lives.0 m.entries m.openings life) alive own.lives.1 in living.in_order)) own.tells is;
+    lives = work_lives_on same decides elect term_length some deeds m call told next own.lives is;
+    tells = work_tells_on same elect term_length deeds m call told next (λ x alive. (let living = subst (λ life. LivesOn term_length deeds m.closed own.lives.0 m.entries m.openings life) alive own.lives.1 in living.in_order)) own.tells is;
   }
 
-  restarted : (deeds : List (Deed D G)) (m next : MemberFacts K L D G) (r : RestartFacts K L D) (told : Told K D G) → IsFresh term_length r.start.fresh → KeepsRecord term_length deeds m → (result : Result (Unit {0}) RecoverError) × IsRestart same elect m r result next × (told ≡ restart_told result) → KeepsRecord term_length (deeds ++ deeds_at (Restarts r) told) next
+  restarted : (deeds : List (Deed D)) (m next : MemberFacts K L D) (r : RestartFacts K L D) (told : Told K D) → IsFresh term_length r.start.fresh → KeepsRecord term_length deeds m → (result : Result (Unit {0}) RecoverError) × IsRestart same elect m r result next × (told ≡ restart_told result) → KeepsRecord term_length (deeds ++ deeds_at (Restarts r) told) next
   restarted deeds m next r told fresh own (result, is, tell) = rw tell (record {
-    lives = restart_lives_on same decides elect signature_of term_length some deeds m r result next fresh own.lives is;
-    tells = restart_tells_on same elect signature_of term_length deeds m r result next fresh own.tells is;
+    lives = restart_lives_on same decides elect term_length some deeds m r result next fresh own.lives is;
+    tells = restart_tells_on same elect term_length deeds m r result next fresh own.tells is;
   })
 
   -- so it does where the run ends
-  run_own : (steps : List (StepFacts K L D)) (replies : List (Told K D G)) (deeds : List (Deed D G)) (m end : MemberFacts K L D G) → BeginFresh term_length steps → KeepsRecord term_length deeds m → IsRun same elect signature_of m steps replies end → (all : List (Deed D G)) × KeepsRecord term_length all end
+  run_own : (steps : List (StepFacts K L D)) (replies : List (Told K D)) (deeds : List (Deed D)) (m end : MemberFacts K L D) → BeginFresh term_length steps → KeepsRecord term_length deeds m → IsRun same elect m steps replies end → (all : List (Deed D)) × KeepsRecord term_length all end
   run_own [] [] deeds m end fresh own run = (deeds, subst (λ n. KeepsRecord term_length deeds n) run own)
   run_own [] (told ∷ replies) deeds m end fresh own run = absurd run
   run_own (step ∷ steps) [] deeds m end fresh own run = absurd run
@@ -215,7 +215,7 @@ module _ {K L D G : Type 0} (same : D → D → Bool) (decides : (d e : D) → s
   run_own (Restarts r ∷ steps) (told ∷ replies) deeds m end fresh own (next, is_step, rest) = run_own steps replies (deeds ++ deeds_at (Restarts r) told) next end fresh.1 (restarted deeds m next r told fresh.0 own is_step) rest
 
   -- a copy of what any cut leaves breaks no rule on how entries stand beside one another
-  copy_fits : (deeds : List (Deed D G)) (m : MemberFacts K L D G) (n : ℕ) (prune : Bool) (copy : List (ArtifactFacts D G)) → KeepsRecord term_length deeds m → IsByView (cut m n prune).entries copy → Fit same [] copy
+  copy_fits : (deeds : List (Deed D)) (m : MemberFacts K L D) (n : ℕ) (prune : Bool) (copy : List (ArtifactFacts D)) → KeepsRecord term_length deeds m → IsByView (cut m n prune).entries copy → Fit same [] copy
   copy_fits deeds m n prune copy own by_view =
       let left = (cut m n prune).entries in
       let between = cut_between term_length deeds m n own.lives.0 prune (between_of term_length deeds m.closed own.lives.0 m.entries m.openings m.life own.lives.1) in
@@ -223,14 +223,14 @@ module _ {K L D G : Type 0} (same : D → D → Bool) (decides : (d e : D) → s
       let in_copy = own_copy deeds left (cut_own deeds m n prune (own_of deeds m.entries m.life own.tells)) copy by_view.of_each_view in
       record_fits same itself copy (own_together term_length deeds between.0 copy between.1.lawful remembers in_copy) by_view.rising
 
-  copy_outside : (deeds : List (Deed D G)) (m : MemberFacts K L D G) (r : RestartFacts K L D) (copy : List (ArtifactFacts D G)) (found : RecoverError) → KeepsRecord term_length deeds m → IsByView (cut m r.drop r.prune).entries copy → recover_error same r.start.fresh r.start.floor r.start.now copy ≡ Some found → IsFromOutside found
+  copy_outside : (deeds : List (Deed D)) (m : MemberFacts K L D) (r : RestartFacts K L D) (copy : List (ArtifactFacts D)) (found : RecoverError) → KeepsRecord term_length deeds m → IsByView (cut m r.drop r.prune).entries copy → recover_error same r.start.fresh r.start.floor r.start.now copy ≡ Some found → IsFromOutside found
   copy_outside deeds m r copy found own by_view is = error_outside same r.start.fresh r.start.floor r.start.now copy found (copy_fits deeds m r.drop r.prune copy own by_view) is
 
-  restart_excused : (deeds : List (Deed D G)) (m left : MemberFacts K L D G) (r : RestartFacts K L D) (result : Result (Unit {0}) RecoverError) (found : RecoverError) → result ≡ Err found → KeepsRecord term_length deeds m → IsRestart same elect m r result left → IsExcused found
+  restart_excused : (deeds : List (Deed D)) (m left : MemberFacts K L D) (r : RestartFacts K L D) (result : Result (Unit {0}) RecoverError) (found : RecoverError) → result ≡ Err found → KeepsRecord term_length deeds m → IsRestart same elect m r result left → IsExcused found
   unfolding IsRestart
   restart_excused deeds m left r result found refused own restarts = by_test (retention_grows m r.prune r.start.fresh.settings.view_retention) restarts
     where
-      by_error : (copy : List (ArtifactFacts D G)) → IsByView (cut m r.drop r.prune).entries copy → (o : Option RecoverError) → recover_error same r.start.fresh r.start.floor r.start.now copy ≡ o → MatchOption o ((result ≡ Ok tt) × (left ≡ new_life same elect (cut m r.drop r.prune) r.start copy)) (λ e. (result ≡ Err e) × (left ≡ fallen (cut m r.drop r.prune))) → IsExcused found
+      by_error : (copy : List (ArtifactFacts D)) → IsByView (cut m r.drop r.prune).entries copy → (o : Option RecoverError) → recover_error same r.start.fresh r.start.floor r.start.now copy ≡ o → MatchOption o ((result ≡ Ok tt) × (left ≡ new_life same elect (cut m r.drop r.prune) r.start copy)) (λ e. (result ≡ Err e) × (left ≡ fallen (cut m r.drop r.prune))) → IsExcused found
       by_error copy by_view None none (is, leaves) = absurd (cc)
       by_error copy by_view (Some e) due (is, leaves) = inl (copy_outside deeds m r copy found own by_view (due ∙ ap Some (sym (ap error_in is) ∙ ap error_in refused)))
 
@@ -239,7 +239,7 @@ module _ {K L D G : Type 0} (same : D → D → Bool) (decides : (d e : D) → s
       by_test false (inl (is, leaves)) = inr (inr (sym (ap error_in refused) ∙ ap error_in is))
       by_test false (inr (copy, by_view, goes)) = by_error copy by_view (recover_error same r.start.fresh r.start.floor r.start.now copy) refl goes
 
-  run_excused : (steps : List (StepFacts K L D)) (deeds : List (Deed D G)) (m : MemberFacts K L D G) (found : RecoverError) → BeginFresh term_length steps → KeepsRecord term_length deeds m → EndsRun same elect signature_of m steps found → IsExcused found
+  run_excused : (steps : List (StepFacts K L D)) (deeds : List (Deed D)) (m : MemberFacts K L D) (found : RecoverError) → BeginFresh term_length steps → KeepsRecord term_length deeds m → EndsRun same elect m steps found → IsExcused found
   run_excused [] deeds m found fresh own ends = absurd ends
   run_excused (Calls call ∷ steps) deeds m found fresh own (inl refused) = absurd refused
   run_excused (Calls call ∷ steps) deeds m found fresh own (inr (told, next, is_step, served, later)) = run_excused steps (deeds ++ deeds_of_call call told) next found fresh (called deeds m next call told own is_step) later
@@ -248,12 +248,12 @@ module _ {K L D G : Type 0} (same : D → D → Bool) (decides : (d e : D) → s
   run_excused (Restarts r ∷ steps) deeds m found fresh own (inl (left, refused)) = restart_excused deeds m left r (Err found) found refl own refused
   run_excused (Restarts r ∷ steps) deeds m found fresh own (inr (told, next, is_step, served, later)) = run_excused steps (deeds ++ deeds_at (Restarts r) told) next found fresh.1 (restarted deeds m next r told fresh.0 own is_step) later
 
-module _ {K L D G : Type 0} (same : D → D → Bool) (decides : (d e : D) → same d e ≡ true → d ≡ e) (itself : (d : D) → same d d ≡ true) (elect : Elect L) (signature_of : ℕ → Subject D → G) (term_length : ℕ) (start : StartFacts K L D) (begins : IsFresh term_length start.fresh) where
-  start_tells : MemberTells {G = G} (of_floor start.floor) (started same elect start.fresh start.floor start.now)
+module _ {K L D : Type 0} (same : D → D → Bool) (decides : (d e : D) → same d e ≡ true → d ≡ e) (itself : (d : D) → same d d ≡ true) (elect : Elect L) (term_length : ℕ) (start : StartFacts K L D) (begins : IsFresh term_length start.fresh) where
+  start_tells : MemberTells (of_floor start.floor) (started same elect start.fresh start.floor start.now)
   unfolding recovered
   start_tells =
       let x = start.fresh in
-      let none : List (ArtifactFacts D G) = [] in
+      let none : List (ArtifactFacts D) = [] in
       let shows = recovered_shows same elect x.settings x.me x.members x.elector x.terms x.elects_early none start.floor start.now (λ i j d low within. absurd (omega arith)) (λ round other success given h. absurd (omega (arith, h.1))) in
       let made = ap (λ y. recovered same elect y start.floor start.now none) begins.fresh in
       record {
@@ -261,25 +261,25 @@ module _ {K L D G : Type 0} (same : D → D → Bool) (decides : (d e : D) → s
         shows = shows_whole none none start.floor (recovered same elect x start.floor start.now none) (λ v. refl) (subst (λ y. Shows none y) (sym made) shows);
       }
 
-  start_own : KeepsRecord {G = G} term_length (of_floor start.floor) (started same elect start.fresh start.floor start.now)
-  start_own = record { lives = start_lives same decides elect signature_of term_length start begins; tells = start_tells }
+  start_own : KeepsRecord term_length (of_floor start.floor) (started same elect start.fresh start.floor start.now)
+  start_own = record { lives = start_lives same decides elect term_length start begins; tells = start_tells }
 
   module _ (steps : List (StepFacts K L D)) (fresh : BeginFresh term_length steps) where
     -- a copy of a member's own record is refused only for what comes from outside
-    pub own_record_outside : (replies : List (Told K D G)) (end : MemberFacts K L D G) (next : RestartFacts K L D) (copy : List (ArtifactFacts D G)) (found : RecoverError) → IsRun same elect signature_of (started same elect start.fresh start.floor start.now) steps replies end → IsByView (cut end next.drop next.prune).entries copy → recover_error same next.start.fresh next.start.floor next.start.now copy ≡ Some found → IsFromOutside found
+    pub own_record_outside : (replies : List (Told K D)) (end : MemberFacts K L D) (next : RestartFacts K L D) (copy : List (ArtifactFacts D)) (found : RecoverError) → IsRun same elect (started same elect start.fresh start.floor start.now) steps replies end → IsByView (cut end next.drop next.prune).entries copy → recover_error same next.start.fresh next.start.floor next.start.now copy ≡ Some found → IsFromOutside found
     own_record_outside replies end next copy found run by_view is =
-        let own = run_own same decides itself elect signature_of term_length begins.some steps replies (of_floor start.floor) (started same elect start.fresh start.floor start.now) end fresh start_own run in
-        copy_outside same decides itself elect signature_of term_length begins.some own.0 end next copy found own.1 by_view is
+        let own = run_own same decides itself elect term_length begins.some steps replies (of_floor start.floor) (started same elect start.fresh start.floor start.now) end fresh start_own run in
+        copy_outside same decides itself elect term_length begins.some own.0 end next copy found own.1 by_view is
 
     -- so is a restart, but for its retention and want of memory
-    pub own_restart_excused : (replies : List (Told K D G)) (end left : MemberFacts K L D G) (next : RestartFacts K L D) (found : RecoverError) → IsRun same elect signature_of (started same elect start.fresh start.floor start.now) steps replies end → IsRestart same elect end next (Err found) left → IsExcused found
+    pub own_restart_excused : (replies : List (Told K D)) (end left : MemberFacts K L D) (next : RestartFacts K L D) (found : RecoverError) → IsRun same elect (started same elect start.fresh start.floor start.now) steps replies end → IsRestart same elect end next (Err found) left → IsExcused found
     own_restart_excused replies end left next found run restarts =
-        let own = run_own same decides itself elect signature_of term_length begins.some steps replies (of_floor start.floor) (started same elect start.fresh start.floor start.now) end fresh start_own run in
-        restart_excused same decides itself elect signature_of term_length begins.some own.0 end left next (Err found) found refl own.1 restarts
+        let own = run_own same decides itself elect term_length begins.some steps replies (of_floor start.floor) (started same elect start.fresh start.floor start.now) end fresh start_own run in
+        restart_excused same decides itself elect term_length begins.some own.0 end left next (Err found) found refl own.1 restarts
 
     -- and a run
-    pub own_run_excused : (found : RecoverError) → EndsRunFrom {G = G} same elect signature_of start steps found → IsExcused found
+    pub own_run_excused : (found : RecoverError) → EndsRunFrom same elect start steps found → IsExcused found
     unfolding EndsRunFrom
     own_run_excused found (inl memory) = inr (inr memory)
-    own_run_excused found (inr (inl refused)) = inl (error_outside {G = G} same start.fresh start.floor start.now [] found tt refused)
-    own_run_excused found (inr (inr ends)) = run_excused same decides itself elect signature_of term_length begins.some steps (of_floor start.floor) (started same elect start.fresh start.floor start.now) found fresh start_own ends
+    own_run_excused found (inr (inl refused)) = inl (error_outside same start.fresh start.floor start.now [] found tt refused)
+    own_run_excused found (inr (inr ends)) = run_excused same decides itself elect term_length begins.some steps (of_floor start.floor) (started same elect start.fresh start.floor start.now) found fresh start_own ends

@@ -56,7 +56,7 @@ tracked_by x v test fails = by_round (round_at x v)
     by_round None passes = absurd (false≢true (sym fails ∙ passes))
     by_round (Some r) passes = refl
 
-module _ {K L D G : Type 0} {same : D → D → Bool} {elect : Elect L} {low : ℕ} {x : Facts K L D} {e : Event K D G} {from : Facts K L D} where
+module _ {K L D : Type 0} {same : D → D → Bool} {elect : Elect L} {low : ℕ} {x : Facts K L D} {e : Event K D} {from : Facts K L D} where
   either : (b : Bool) (y z : Facts K L D) → (b ≡ true → Path same elect x e low from y) → (b ≡ false → Path same elect x e low from z) → Path same elect x e low from (if b then y else z)
   either true y z p q = p refl
   either false y z p q = q refl
@@ -185,8 +185,8 @@ module _ {K L D G : Type 0} {same : D → D → Bool} {elect : Elect L} {low : �
 
 -- what an event asks of its views, so that none below `low` comes to be tracked
 
-module _ {K L D G : Type 0} where
-  abbrev pub AskedFrom : ℕ → Facts K L D → Event K D G → Type 0
+module _ {K L D : Type 0} where
+  abbrev pub AskedFrom : ℕ → Facts K L D → Event K D → Type 0
   AskedFrom low x (SetFloor (Genesis payload) _) = low ≤ 1
   AskedFrom low x (SetFloor (FinalizedFloor c) _) = low ≤ c.proposal.round.view
   AskedFrom low x (AddNotarization c) = low ≤ c.proposal.round.view
@@ -198,7 +198,7 @@ module _ {K L D G : Type 0} where
   AskedFrom low x _ = Unit {0}
 
   -- nothing is asked from genesis on
-  pub asked_of_all : (x : Facts K L D) (e : Event K D G) → AskedFrom 0 x e
+  pub asked_of_all : (x : Facts K L D) (e : Event K D) → AskedFrom 0 x e
   asked_of_all x (SetFloor (Genesis payload) _) = omega arith
   asked_of_all x (SetFloor (FinalizedFloor c) _) = omega arith
   asked_of_all x (AddNotarization c) = omega arith
@@ -239,14 +239,14 @@ module _ {K L D : Type 0} (same : D → D → Bool) (elect : Elect L) (x : Facts
       let ahead : nat_le x.current e.0 ≡ true = (and_parts (nat_le x.current e.0) _ passes).0 in
       (Contains-filtered _ x.rounds e among, grind (arith, nat_tests, ahead))
 
-module _ {K L D G : Type 0} (same : D → D → Bool) (elect : Elect L) (low : ℕ) (x : Facts K L D) where
-  abbrev To : Event K D G → Facts K L D → Type 0
+module _ {K L D : Type 0} (same : D → D → Bool) (elect : Elect L) (low : ℕ) (x : Facts K L D) where
+  abbrev To : Event K D → Facts K L D → Type 0
   To e y = Path same elect x e low x y
 
-  moved : (e : Event K D G) (now : ℕ) → To e (at_moment x now)
+  moved : (e : Event K D) (now : ℕ) → To e (at_moment x now)
   moved e now = Then Still (Moves now)
 
-  floor_path : (floor : FloorFacts D) (now : ℕ) → AskedFrom {G = G} low x (SetFloor floor now) → To (SetFloor floor now) (after_set_floor same elect x floor now)
+  floor_path : (floor : FloorFacts D) (now : ℕ) → AskedFrom low x (SetFloor floor now) → To (SetFloor floor now) (after_set_floor same elect x floor now)
   floor_path (Genesis payload) now over = from_first_entry payload now over (to_entered 1 now (λ above. over) (Then (moved (SetFloor (Genesis payload) now) now) (Founds payload)))
   floor_path (FinalizedFloor c) now over = put c.proposal.round.view _ (inl over) step.SentFinalization (to_finalization c now refl refl over Still)
 
@@ -300,7 +300,7 @@ module _ {K L D G : Type 0} (same : D → D → Bool) (elect : Elect L) (low : �
       let r = round_of y v in
       put_either v (is_nullify r.decision) r (record r { slot = after_vote (same_proposal same) r.slot p }) (inl over) (λ given_up. step.Kept) (λ free. step.Heard p refl free) (to_prepared v over Still)
 
-  build_path : (e : Event K D G) (v : ℕ) (requested : Bool) → To e (with_build x v requested)
+  build_path : (e : Event K D) (v : ℕ) (requested : Bool) → To e (with_build x v requested)
   build_path e v requested = put_tracked v _ (step.Asked requested) Still
 
   propose_path : (request : Option (Request K D)) → To TryPropose (option_map_or (λ r. with_build x (request_context r).round.view true) request x)
@@ -322,9 +322,9 @@ module _ {K L D G : Type 0} (same : D → D → Bool) (elect : Elect L) (low : �
 
   left_at_path : (y : Facts K L D) (e : ℕ × RoundFacts K D) → low ≤ e.0 → round_of y e.0 ≡ e.1 → (s : Standing D) → standing same elect x e ≡ s → To TryVerify y → To TryVerify (left_at y e s)
   left_at_path y e over here Passed is path = path
-  left_at_path y e over here Invalid is path = put e.0 _ (inl over) (subst (λ r. RoundStep {G = G} same elect x TryVerify y e.0 r (with_latch e.1 y.moment InvalidProposal)) (sym here) (step.Latched y.moment InvalidProposal)) path
-  left_at_path y e over here (Lacks w kind) is path = put e.0 _ (inl over) (subst (λ (r : RoundFacts K D). RoundStep {G = G} same elect x TryVerify y e.0 r (record e.1 { last_request = Some w })) (sym here) (step.Requested w refl)) path
-  left_at_path y e over here (Ready d) is path = put e.0 _ (inl over) (subst (λ r. RoundStep {G = G} same elect x TryVerify y e.0 r (verifying_round e.1 d)) (sym here) (step.Verifying d refl is)) path
+  left_at_path y e over here Invalid is path = put e.0 _ (inl over) (subst (λ r. RoundStep same elect x TryVerify y e.0 r (with_latch e.1 y.moment InvalidProposal)) (sym here) (step.Latched y.moment InvalidProposal)) path
+  left_at_path y e over here (Lacks w kind) is path = put e.0 _ (inl over) (subst (λ (r : RoundFacts K D). RoundStep same elect x TryVerify y e.0 r (record e.1 { last_request = Some w })) (sym here) (step.Requested w refl)) path
+  left_at_path y e over here (Ready d) is path = put e.0 _ (inl over) (subst (λ r. RoundStep same elect x TryVerify y e.0 r (verifying_round e.1 d)) (sym here) (step.Verifying d refl is)) path
 
   scan_path : (es : List (ℕ × RoundFacts K D)) (y : Facts K L D) → T (is_sorted nat_cmp es) → ((e : ℕ × RoundFacts K D) → Contains es e → (low ≤ e.0) × (round_of y e.0 ≡ e.1)) → To TryVerify y → To TryVerify (fold (λ y e. left_at y e (standing same elect x e)) y es)
   scan_path [] y sorted here path = path
@@ -384,21 +384,21 @@ module _ {K L D G : Type 0} (same : D → D → Bool) (elect : Elect L) (low : �
       let r = round_of x x.current in
       put_tracked_either x.current (awaits_retry r) (record r { decision = decision.Nullify (Some (now + x.settings.timeout_retry)) }) r (λ awaits. step.Retried now x.settings.timeout_retry refl awaits) (λ none. step.Kept) (moved (NextTimeout now) now)
 
-  replay_path : (e : ArtifactFacts D G) → low ≤ entry_view e → To (Replay e) (replayed same elect x e)
-  replay_path (NotarizeVote p m signature) over = to_prepared p.round.view over (put p.round.view _ (inl over) (bound (restored_binding x p) refl) Still)
+  replay_path : (e : ArtifactFacts D) → low ≤ entry_view e → To (Replay e) (replayed same elect x e)
+  replay_path (NotarizeVote p m) over = to_prepared p.round.view over (put p.round.view _ (inl over) (bound (restored_binding x p) refl) Still)
     where
-      bound : (o : Option (Proposal D × D)) → restored_binding x p ≡ o → RoundStep {G = G} same elect x (Replay (NotarizeVote p m signature)) x p.round.view (round_of x p.round.view) (bound_again (record (round_of x p.round.view) { slot = after_own (same_proposal same) (round_of x p.round.view).slot p; notarize_decided = true }) o)
+      bound : (o : Option (Proposal D × D)) → restored_binding x p ≡ o → RoundStep same elect x (Replay (NotarizeVote p m)) x p.round.view (round_of x p.round.view) (bound_again (record (round_of x p.round.view) { slot = after_own (same_proposal same) (round_of x p.round.view).slot p; notarize_decided = true }) o)
       bound None is = step.VotedAgain p (round_of x p.round.view).binding refl refl (inl refl)
       bound (Some b) is = step.VotedAgain p (Some b) refl refl (inr (sym is))
-  replay_path (NullifyVote round m signature) over = put round.view _ (inl over) (step.NullifyDecided refl (λ takes. takes.taken.1)) (Then Still (Notes round.view refl))
-  replay_path (FinalizeVote p m signature) over = put p.round.view _ (inl over) (step.FinalizeDecided refl (λ takes. takes.taken.1)) Still
+  replay_path (NullifyVote round m) over = put round.view _ (inl over) (step.NullifyDecided refl (λ takes. takes.taken.1)) (Then Still (Notes round.view refl))
+  replay_path (FinalizeVote p m) over = put p.round.view _ (inl over) (step.FinalizeDecided refl (λ takes. takes.taken.1)) Still
   replay_path (Verdict round success) over = put round.view _ (inl over) (step.Judged success refl (λ takes. takes.taken)) Still
   replay_path (Accepted (Notarized c)) over = put c.proposal.round.view _ (inl over) step.SentNotarization Still
   replay_path (Accepted (Nullified c)) over = put c.round.view _ (inl over) step.SentNullification (Then Still (Covers c.round.view (eq-eqb c.round.view c.round.view refl)))
   replay_path (Accepted (Finalized c)) over = put c.proposal.round.view _ (inl over) step.SentFinalization Still
 
   -- each event
-  pub event_path : (e : Event K D G) → low ≤ x.current → AskedFrom low x e → To e (after_event same elect x e)
+  pub event_path : (e : Event K D) → low ≤ x.current → AskedFrom low x e → To e (after_event same elect x e)
   event_path (SetFloor floor now) reached over = floor_path floor now over
   event_path (AddNotarization c) reached over = notarization_path c over
   event_path (AddNullification c now) reached over = nullification_path c now over.0 over.1
@@ -425,6 +425,6 @@ module _ {K L D G : Type 0} (same : D → D → Bool) (elect : Elect L) (low : �
   event_path Prune reached over = Then Still (Prunes refl)
   event_path (Replay e) reached over = replay_path e over
 
-module _ {K L D G : Type 0} {same : D → D → Bool} {elect : Elect L} {x : Facts K L D} {e : Event K D G} where
+module _ {K L D : Type 0} {same : D → D → Bool} {elect : Elect L} {x : Facts K L D} {e : Event K D} where
   pub from_judged : (v : ℕ) (success : Bool) (now : ℕ) → Path same elect x e 0 (judged (at_moment x now) v success) (verdict_taken elect (at_moment x now) v success now)
   from_judged v success now = from_verdict v success now (λ above. omega arith) Still

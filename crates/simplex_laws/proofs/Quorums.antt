@@ -25,12 +25,12 @@ module _ {X : Type 0} where
   AtLeastFrom-both P Q i (suc a) (suc b) (suc c) (x ∷ xs) e (inr h) (inl k) = inr (AtLeastFrom-both P Q (suc i) (suc a) b (suc c) xs (omega arith) h k.1)
   AtLeastFrom-both P Q i (suc a) (suc b) (suc c) (x ∷ xs) e (inr h) (inr k) = inr (AtLeastFrom-both P Q (suc i) (suc a) (suc b) (suc c) xs (omega arith) h k)
 
-module _ {K L D G : Type 0} where
-  one_more : (p : Place K L D G) (network : List (Place K L D G)) → faults (p ∷ network) ≡ cond (is_faulty p) 1 0 + faults network
-  one_more p network = sum_by-cons (λ (q : Place K L D G). cond (is_faulty q) 1 0) p network
+module _ {K L D : Type 0} where
+  one_more : (p : Place K L D) (network : List (Place K L D)) → faults (p ∷ network) ≡ cond (is_faulty p) 1 0 + faults network
+  one_more p network = sum_by-cons (λ (q : Place K L D). cond (is_faulty q) 1 0) p network
 
   -- one of more members than are faulty is honest
-  honest_one : (Q : ℕ → Place K L D G → Type 0) (i count : ℕ) (network : List (Place K L D G)) → AtLeastFrom i count Q network → faults network < count → (j k : ℕ) × (s : Story K L D G) × (slice_get network k ≡ Some (Honest s)) × Q j (Honest s)
+  honest_one : (Q : ℕ → Place K L D → Type 0) (i count : ℕ) (network : List (Place K L D)) → AtLeastFrom i count Q network → faults network < count → (j k : ℕ) × (s : Story K L D) × (slice_get network k ≡ Some (Honest s)) × Q j (Honest s)
   honest_one Q i zero network h less = absurd (omega arith)
   honest_one Q i (suc count) [] h less = absurd h
   honest_one Q i (suc count) (Faulty ∷ network) (inl h) less =
@@ -45,11 +45,11 @@ module _ {K L D G : Type 0} where
       (found.0, suc found.1, found.2, found.3, found.4)
 
   -- two backed subjects share an honest member that signed both
-  pub shared_member : (signature_of : ℕ → Subject D → G) (network : List (Place K L D G)) (a b : Subject D) → FewFaulty network → Backed signature_of network a → Backed signature_of network b → (k : ℕ) × (s : Story K L D G) × (slice_get network k ≡ Some (Honest s)) × HasSigned (deeds_of s) a × HasSigned (deeds_of s) b
-  shared_member signature_of network a b few h k =
+  pub shared_member : (network : List (Place K L D)) (a b : Subject D) → FewFaulty network → Backed network a → Backed network b → (k : ℕ) × (s : Story K L D) × (slice_get network k ≡ Some (Honest s)) × HasSigned (deeds_of s) a × HasSigned (deeds_of s) b
+  shared_member network a b few h k =
       let n = length network in
-      let signed = MayHaveSigned signature_of in
+      let signed = MayHaveSigned in
       let both = AtLeastFrom-both (signed a) (signed b) 0 (quorum n) (quorum n) (n - 2 * max_faults n) network (omega arith) h k in
       let found = honest_one (λ j p. signed a j p × signed b j p) 0 (n - 2 * max_faults n) network both (omega arith) in
       let i = found.0 in
-      (found.1, found.2, found.3, (i, signature_of i a, found.4.0), (i, signature_of i b, found.4.1))
+      (found.1, found.2, found.3, (i, found.4.0), (i, found.4.1))

@@ -19,21 +19,21 @@ use Rattle.simplex_laws.proofs.RetakenEntries.{taken_stays, taken_keeps, taken_r
 use Rattle.simplex_laws.proofs.InOrder.{InOrder, event_in_order}
 
 -- what a record holds of a member's deeds; it may lack votes of views below `kept`
-pub record Remembers {D G : Type 0} (deeds : List (Deed D G)) (kept : ℕ) (entries : List (ArtifactFacts D G)) : Type 0 where
+pub record Remembers {D : Type 0} (deeds : List (Deed D)) (kept : ℕ) (entries : List (ArtifactFacts D)) : Type 0 where
   -- each certificate was accepted, and each vote was cast
   pub accepted : (c : CertificateFacts D) → Contains entries (Accepted c) → Contains deeds (Accepts (subject_of c))
-  pub nullify_cast : (round : Round) (m : ℕ) (signature : G) → Contains entries (NullifyVote round m signature) → HasSigned deeds (subject.Nullify round)
-  pub finalize_cast : (p : Proposal D) (m : ℕ) (signature : G) → Contains entries (FinalizeVote p m signature) → HasSigned deeds (subject.Finalize p)
+  pub nullify_cast : (round : Round) (m : ℕ) → Contains entries (NullifyVote round m) → HasSigned deeds (subject.Nullify round)
+  pub finalize_cast : (p : Proposal D) (m : ℕ) → Contains entries (FinalizeVote p m) → HasSigned deeds (subject.Finalize p)
   -- each vote that was cast is recorded, or stands below what is kept
-  pub nullify_kept : (round : Round) → HasSigned deeds (subject.Nullify round) → ((m : ℕ) × (signature : G) × Contains entries (NullifyVote round m signature)) ⊎ (round.view < kept)
-  pub finalize_kept : (p : Proposal D) → HasSigned deeds (subject.Finalize p) → ((m : ℕ) × (signature : G) × Contains entries (FinalizeVote p m signature)) ⊎ (p.round.view < kept)
+  pub nullify_kept : (round : Round) → HasSigned deeds (subject.Nullify round) → ((m : ℕ) × Contains entries (NullifyVote round m)) ⊎ (round.view < kept)
+  pub finalize_kept : (p : Proposal D) → HasSigned deeds (subject.Finalize p) → ((m : ℕ) × Contains entries (FinalizeVote p m)) ⊎ (p.round.view < kept)
   -- no vote to nullify is of genesis
   pub above_genesis : (round : Round) → HasSigned deeds (subject.Nullify round) → 1 ≤ round.view
   -- behind each vote to finalize stands a true verdict of its view
-  pub judged : (before after : List (ArtifactFacts D G)) (p : Proposal D) (m : ℕ) (signature : G) → entries ≡ before ++ FinalizeVote p m signature ∷ after → (round : Round) × Contains before (Verdict round true) × (round.view ≡ p.round.view)
+  pub judged : (before after : List (ArtifactFacts D)) (p : Proposal D) (m : ℕ) → entries ≡ before ++ FinalizeVote p m ∷ after → (round : Round) × Contains before (Verdict round true) × (round.view ≡ p.round.view)
 
 -- the deeds that entries record, in turn
-abbrev pub entries_deeds : {D G : Type 0} → List (ArtifactFacts D G) → List (Deed D G)
+abbrev pub entries_deeds : {D : Type 0} → List (ArtifactFacts D) → List (Deed D)
 entries_deeds [] = []
 entries_deeds (e ∷ rest) = entry_deeds e ++ entries_deeds rest
 
@@ -41,53 +41,53 @@ pub only_one : {X : Type 0} (y x : X) → Contains (y ∷ []) x → y ≡ x
 only_one y x (zero, less, same) = same
 only_one y x (suc k, less, same) = absurd (omega arith)
 
-module _ {D G : Type 0} where
+module _ {D : Type 0} where
   -- an entry's deed shows the entry
 
-  of_nullify : (e : ArtifactFacts D G) (round : Round) → HasSigned (entry_deeds e) (subject.Nullify round) → (m : ℕ) × (signature : G) × (e ≡ NullifyVote round m signature)
-  of_nullify (NotarizeVote p m signature) round h = absurd (let e = only_signed (Signs m (subject.Notarize p) signature) (subject.Nullify round) h in cc)
-  of_nullify (NullifyVote r m signature) round h =
-      let e = only_signed (Signs m (subject.Nullify r) signature) (subject.Nullify round) h in
+  of_nullify : (e : ArtifactFacts D) (round : Round) → HasSigned (entry_deeds e) (subject.Nullify round) → (m : ℕ) × (e ≡ NullifyVote round m)
+  of_nullify (NotarizeVote p m) round h = absurd (let e = only_signed (Signs m (subject.Notarize p)) (subject.Nullify round) h in cc)
+  of_nullify (NullifyVote r m) round h =
+      let e = only_signed (Signs m (subject.Nullify r)) (subject.Nullify round) h in
       let same : r ≡ round = cc in
-      (m, signature, ap (λ (s : Round). NullifyVote s m signature) same)
-  of_nullify (FinalizeVote p m signature) round h = absurd (let e = only_signed (Signs m (subject.Finalize p) signature) (subject.Nullify round) h in cc)
+      (m, ap (λ (s : Round). NullifyVote s m) same)
+  of_nullify (FinalizeVote p m) round h = absurd (let e = only_signed (Signs m (subject.Finalize p)) (subject.Nullify round) h in cc)
   of_nullify (Verdict _ _) round h = absurd (signed_none (subject.Nullify round) h)
   of_nullify (Accepted c) round h = absurd (let e = only_signed (Accepts (subject_of c)) (subject.Nullify round) h in cc)
 
-  of_finalize : (e : ArtifactFacts D G) (p : Proposal D) → HasSigned (entry_deeds e) (subject.Finalize p) → (m : ℕ) × (signature : G) × (e ≡ FinalizeVote p m signature)
-  of_finalize (NotarizeVote q m signature) p h = absurd (let e = only_signed (Signs m (subject.Notarize q) signature) (subject.Finalize p) h in cc)
-  of_finalize (NullifyVote r m signature) p h = absurd (let e = only_signed (Signs m (subject.Nullify r) signature) (subject.Finalize p) h in cc)
-  of_finalize (FinalizeVote q m signature) p h =
-      let e = only_signed (Signs m (subject.Finalize q) signature) (subject.Finalize p) h in
+  of_finalize : (e : ArtifactFacts D) (p : Proposal D) → HasSigned (entry_deeds e) (subject.Finalize p) → (m : ℕ) × (e ≡ FinalizeVote p m)
+  of_finalize (NotarizeVote q m) p h = absurd (let e = only_signed (Signs m (subject.Notarize q)) (subject.Finalize p) h in cc)
+  of_finalize (NullifyVote r m) p h = absurd (let e = only_signed (Signs m (subject.Nullify r)) (subject.Finalize p) h in cc)
+  of_finalize (FinalizeVote q m) p h =
+      let e = only_signed (Signs m (subject.Finalize q)) (subject.Finalize p) h in
       let same : q ≡ p = cc in
-      (m, signature, ap (λ (s : Proposal D). FinalizeVote s m signature) same)
+      (m, ap (λ (s : Proposal D). FinalizeVote s m) same)
   of_finalize (Verdict _ _) p h = absurd (signed_none (subject.Finalize p) h)
   of_finalize (Accepted c) p h = absurd (let e = only_signed (Accepts (subject_of c)) (subject.Finalize p) h in cc)
 
-  pub of_accept : (e : ArtifactFacts D G) (s : Subject D) → Contains (entry_deeds e) (Accepts s) → (c : CertificateFacts D) × (e ≡ Accepted c) × (subject_of c ≡ s)
-  of_accept (NotarizeVote p _ _) s h = absurd (let e = only_one _ _ h in cc)
-  of_accept (NullifyVote _ _ _) s h = absurd (let e = only_one _ _ h in cc)
-  of_accept (FinalizeVote p _ _) s h = absurd (let e = only_one _ _ h in cc)
+  pub of_accept : (e : ArtifactFacts D) (s : Subject D) → Contains (entry_deeds e) (Accepts s) → (c : CertificateFacts D) × (e ≡ Accepted c) × (subject_of c ≡ s)
+  of_accept (NotarizeVote p _) s h = absurd (let e = only_one _ _ h in cc)
+  of_accept (NullifyVote _ _) s h = absurd (let e = only_one _ _ h in cc)
+  of_accept (FinalizeVote p _) s h = absurd (let e = only_one _ _ h in cc)
   of_accept (Verdict _ _) s h = absurd (omega (arith, h.1))
   of_accept (Accepted c) s h = (c, refl, (let e = only_one (Accepts (subject_of c)) (Accepts s) h in cc))
 
   -- the deeds of a list's entries are those of the entries in it
 
-  pub entry_of : (entries : List (ArtifactFacts D G)) (deed : Deed D G) → Contains (entries_deeds entries) deed → (e : ArtifactFacts D G) × Contains entries e × Contains (entry_deeds e) deed
+  pub entry_of : (entries : List (ArtifactFacts D)) (deed : Deed D) → Contains (entries_deeds entries) deed → (e : ArtifactFacts D) × Contains entries e × Contains (entry_deeds e) deed
   entry_of [] deed h = absurd (omega (arith, h.1))
   entry_of (e ∷ rest) deed h = elim (Contains-append_cases (entry_deeds e) (entries_deeds rest) deed h) [
     | inl here ↦ (e, (0, omega arith, refl), here)
     | inr later ↦ (let found = entry_of rest deed later in (found.0, Contains-cons_rest e rest found.0 found.1, found.2))
   ]
 
-  pub deed_of : (entries : List (ArtifactFacts D G)) (e : ArtifactFacts D G) (deed : Deed D G) → Contains entries e → Contains (entry_deeds e) deed → Contains (entries_deeds entries) deed
+  pub deed_of : (entries : List (ArtifactFacts D)) (e : ArtifactFacts D) (deed : Deed D) → Contains entries e → Contains (entry_deeds e) deed → Contains (entries_deeds entries) deed
   deed_of [] e deed h shows = absurd (omega (arith, h.1))
   deed_of (f ∷ rest) e deed h shows = elim (Contains-cases f rest e h) [
     | inl here ↦ Contains-append_left (entry_deeds f) (entries_deeds rest) deed (subst (λ g. Contains (entry_deeds g) deed) (sym here) shows)
     | inr later ↦ Contains-append_right (entry_deeds f) (entries_deeds rest) deed (deed_of rest e deed later shows)
   ]
 
-module _ {K L D G : Type 0} (term_length : ℕ) (a b : List (Deed D G)) (x : Facts K L D) where
+module _ {K L D : Type 0} (term_length : ℕ) (a b : List (Deed D)) (x : Facts K L D) where
   -- the same facts show other deeds, with no more votes above the finalized view and no fewer certificates
   pub stays_over : ((s : Subject D) → Contains a (Accepts s) → Contains b (Accepts s)) → ((round : Round) → HasSigned b (subject.Nullify round) → (1 ≤ round.view) × (HasSigned a (subject.Nullify round) ⊎ (round.view ≤ x.finalized))) → ((p : Proposal D) → HasSigned b (subject.Finalize p) → HasSigned a (subject.Finalize p) ⊎ (p.round.view ≤ x.finalized)) → Stays term_length a x → Stays term_length b x
   stays_over accepts nullifies finalizes stays = record {
@@ -109,45 +109,45 @@ module _ {K L D G : Type 0} (term_length : ℕ) (a b : List (Deed D G)) (x : Fac
   }
 
 -- the votes among some deeds are among these
-abbrev pub AreRecorded : {D G : Type 0} → List (Deed D G) → List (Deed D G) → Type 0
+abbrev pub AreRecorded : {D : Type 0} → List (Deed D) → List (Deed D) → Type 0
 AreRecorded {D} deeds a =
     ((round : Round) → HasSigned a (subject.Nullify round) → HasSigned deeds (subject.Nullify round))
     × ((p : Proposal D) → HasSigned a (subject.Finalize p) → HasSigned deeds (subject.Finalize p))
 
-module _ {D G : Type 0} (term_length : ℕ) (deeds : List (Deed D G)) (lawful : IsLawful term_length deeds) (kept : ℕ) (copy : List (ArtifactFacts D G)) (remembers : Remembers deeds kept copy) where
-  may_retake : (a : List (Deed D G)) (before rest : List (ArtifactFacts D G)) (e : ArtifactFacts D G) (current : ℕ) → copy ≡ before ++ e ∷ rest → AreRecorded deeds a → ((round : Round) → Contains before (Verdict round true) → round.view < current) → MayRetake a current e
-  may_retake a before rest (NotarizeVote _ _ _) current split recorded passed = tt
-  may_retake a before rest (NullifyVote round m signature) current split recorded passed =
-      let entry : Contains copy (NullifyVote round m signature) = subst (λ es. Contains es (NullifyVote round m signature)) (sym split) (Contains-append_right before (NullifyVote round m signature ∷ rest) (NullifyVote round m signature) (0, omega arith, refl)) in
-      let cast = remembers.nullify_cast round m signature entry in
+module _ {D : Type 0} (term_length : ℕ) (deeds : List (Deed D)) (lawful : IsLawful term_length deeds) (kept : ℕ) (copy : List (ArtifactFacts D)) (remembers : Remembers deeds kept copy) where
+  may_retake : (a : List (Deed D)) (before rest : List (ArtifactFacts D)) (e : ArtifactFacts D) (current : ℕ) → copy ≡ before ++ e ∷ rest → AreRecorded deeds a → ((round : Round) → Contains before (Verdict round true) → round.view < current) → MayRetake a current e
+  may_retake a before rest (NotarizeVote _ _) current split recorded passed = tt
+  may_retake a before rest (NullifyVote round m) current split recorded passed =
+      let entry : Contains copy (NullifyVote round m) = subst (λ es. Contains es (NullifyVote round m)) (sym split) (Contains-append_right before (NullifyVote round m ∷ rest) (NullifyVote round m) (0, omega arith, refl)) in
+      let cast = remembers.nullify_cast round m entry in
       (remembers.above_genesis round cast, λ p h. lawful.not_both round p cast (recorded.1 p h))
-  may_retake a before rest (FinalizeVote p m signature) current split recorded passed =
-      let entry : Contains copy (FinalizeVote p m signature) = subst (λ es. Contains es (FinalizeVote p m signature)) (sym split) (Contains-append_right before (FinalizeVote p m signature ∷ rest) (FinalizeVote p m signature) (0, omega arith, refl)) in
-      let cast = remembers.finalize_cast p m signature entry in
-      let verdict = remembers.judged before rest p m signature split in
+  may_retake a before rest (FinalizeVote p m) current split recorded passed =
+      let entry : Contains copy (FinalizeVote p m) = subst (λ es. Contains es (FinalizeVote p m)) (sym split) (Contains-append_right before (FinalizeVote p m ∷ rest) (FinalizeVote p m) (0, omega arith, refl)) in
+      let cast = remembers.finalize_cast p m entry in
+      let verdict = remembers.judged before rest p m split in
       (omega (arith, passed verdict.0 verdict.1, verdict.2), λ round h. lawful.not_both round p (recorded.0 round h) cast)
   may_retake a before rest (Verdict _ _) current split recorded passed = tt
   may_retake a before rest (Accepted _) current split recorded passed = tt
 
   -- the votes of one more entry are recorded too
-  recorded_also : (a : List (Deed D G)) (e : ArtifactFacts D G) → Contains copy e → AreRecorded deeds a → AreRecorded deeds (a ++ entry_deeds e)
+  recorded_also : (a : List (Deed D)) (e : ArtifactFacts D) → Contains copy e → AreRecorded deeds a → AreRecorded deeds (a ++ entry_deeds e)
   recorded_also a e here recorded = (
     λ round h. elim (signed_cases a (entry_deeds e) (subject.Nullify round) h) [
       | inl old ↦ recorded.0 round old
-      | inr new ↦ (let is = of_nullify e round new in remembers.nullify_cast round is.0 is.1 (subst (λ f. Contains copy f) is.2 here))
+      | inr new ↦ (let is = of_nullify e round new in remembers.nullify_cast round is.0 (subst (λ f. Contains copy f) is.1 here))
     ],
     λ p h. elim (signed_cases a (entry_deeds e) (subject.Finalize p) h) [
       | inl old ↦ recorded.1 p old
-      | inr new ↦ (let is = of_finalize e p new in remembers.finalize_cast p is.0 is.1 (subst (λ f. Contains copy f) is.2 here))
+      | inr new ↦ (let is = of_finalize e p new in remembers.finalize_cast p is.0 (subst (λ f. Contains copy f) is.1 here))
     ],
   )
 
-module _ {K L D G : Type 0} (same : D → D → Bool) (decides : (d e : D) → same d e ≡ true → d ≡ e) (elect : Elect L) (term_length : ℕ) (deeds : List (Deed D G)) (lawful : IsLawful term_length deeds) (kept : ℕ) (copy : List (ArtifactFacts D G)) (remembers : Remembers deeds kept copy) (now : ℕ) where
-  pub all_stay : (rest before : List (ArtifactFacts D G)) (a : List (Deed D G)) (x : Facts K L D) → copy ≡ before ++ rest → AreRecorded deeds a → ((round : Round) → Contains before (Verdict round true) → round.view < x.current) → InOrder x → Stays term_length a x → Stays term_length (a ++ entries_deeds rest) (all_taken same elect x now rest)
+module _ {K L D : Type 0} (same : D → D → Bool) (decides : (d e : D) → same d e ≡ true → d ≡ e) (elect : Elect L) (term_length : ℕ) (deeds : List (Deed D)) (lawful : IsLawful term_length deeds) (kept : ℕ) (copy : List (ArtifactFacts D)) (remembers : Remembers deeds kept copy) (now : ℕ) where
+  pub all_stay : (rest before : List (ArtifactFacts D)) (a : List (Deed D)) (x : Facts K L D) → copy ≡ before ++ rest → AreRecorded deeds a → ((round : Round) → Contains before (Verdict round true) → round.view < x.current) → InOrder x → Stays term_length a x → Stays term_length (a ++ entries_deeds rest) (all_taken same elect x now rest)
   all_stay [] before a x split recorded passed ordered stays = subst (λ b. Stays term_length b x) (sym (append-nil a)) stays
   all_stay (e ∷ rest) before a x split recorded passed ordered stays =
       let y = taken same elect x now e in
-      let further : List (ArtifactFacts D G) = before ++ e ∷ [] in
+      let further : List (ArtifactFacts D) = before ++ e ∷ [] in
       let here : Contains copy e = subst (λ es. Contains es e) (sym split) (Contains-append_right before (e ∷ rest) e (0, omega arith, refl)) in
       let next : copy ≡ further ++ rest = split ∙ sym (append_assoc before (e ∷ []) rest) in
       let took = taken_stays same decides elect term_length a x now stays ordered e (may_retake term_length deeds lawful kept copy remembers a before rest e x.current split recorded passed) in

@@ -17,12 +17,12 @@ use Rattle.simplex_laws.proofs.Rising.{event_goes}
 use Rattle.simplex_laws.proofs.Splits.{Contains-cons_rest}
 use Rattle.simplex_laws.proofs.Steps.{verdict_by, nullify_by}
 
-module _ {K L D G : Type 0} (same : D → D → Bool) (elect : Elect L) (entries : List (ArtifactFacts D G)) (now : ℕ) where
-  quiet_on : (x : Facts K L D) (e : Event K D G) → InOrder x → verdict_by e ≡ None → nullify_by e ≡ None → Marked entries x → Marked entries (after_event same elect x e)
+module _ {K L D : Type 0} (same : D → D → Bool) (elect : Elect L) (entries : List (ArtifactFacts D)) (now : ℕ) where
+  quiet_on : (x : Facts K L D) (e : Event K D) → InOrder x → verdict_by e ≡ None → nullify_by e ≡ None → Marked entries x → Marked entries (after_event same elect x e)
   quiet_on x e ordered verdict nullify marked = quiet_marked same elect x e entries ordered verdict nullify marked
 
   -- a verdict that stands in the record
-  verdict_on : (x : Facts K L D) (e : Event K D G) (round : Round) (success : Bool) → InOrder x → verdict_by e ≡ Some (round.view, success) → nullify_by e ≡ None → Contains entries (Verdict round success) → Marked entries x → Marked entries (after_event same elect x e)
+  verdict_on : (x : Facts K L D) (e : Event K D) (round : Round) (success : Bool) → InOrder x → verdict_by e ≡ Some (round.view, success) → nullify_by e ≡ None → Contains entries (Verdict round success) → Marked entries x → Marked entries (after_event same elect x e)
   verdict_on x e round success ordered gives nullify here marked =
       event_marked same elect x e entries entries ordered (λ a h. h)
       (λ v says before after.
@@ -30,31 +30,31 @@ module _ {K L D G : Type 0} (same : D → D → Bool) (elect : Elect L) (entries
       (round, subst (λ b. Contains entries (Verdict round b)) (ap (λ (p : ℕ × Bool). p.1) pair) here, ap (λ (p : ℕ × Bool). p.0) pair)))
       (λ v says before after key. absurd (cc)) marked
 
-  retaken_marked : (x : Facts K L D) (e : ArtifactFacts D G) → InOrder x → Contains entries e → (entry_round e).epoch ≡ x.settings.epoch → Marked entries x → Marked entries (retaken same elect x now e)
-  retaken_marked x (NotarizeVote p m signature) ordered here epoch marked = quiet_on x (event.Replay (NotarizeVote p m signature)) ordered refl refl marked
-  retaken_marked x (NullifyVote round m signature) ordered here epoch marked =
-      event_marked same elect x (event.Replay (NullifyVote round m signature)) entries entries ordered (λ a h. h) (λ v says before after. absurd (cc))
+  retaken_marked : (x : Facts K L D) (e : ArtifactFacts D) → InOrder x → Contains entries e → (entry_round e).epoch ≡ x.settings.epoch → Marked entries x → Marked entries (retaken same elect x now e)
+  retaken_marked x (NotarizeVote p m) ordered here epoch marked = quiet_on x (event.Replay (NotarizeVote p m)) ordered refl refl marked
+  retaken_marked x (NullifyVote round m) ordered here epoch marked =
+      event_marked same elect x (event.Replay (NullifyVote round m)) entries entries ordered (λ a h. h) (λ v says before after. absurd (cc))
       (λ v says before after key.
       (let at : round.view ≡ v = cc in
       let same_round : round ≡ round_number x v = (λ i. record { epoch = epoch i; view = at i }) in
-      (m, signature, subst (λ (s : Round). Contains entries (NullifyVote s m signature)) same_round here))) marked
-  retaken_marked x (FinalizeVote p m signature) ordered here epoch marked = quiet_on x (event.Replay (FinalizeVote p m signature)) ordered refl refl marked
+      (m, subst (λ (s : Round). Contains entries (NullifyVote s m)) same_round here))) marked
+  retaken_marked x (FinalizeVote p m) ordered here epoch marked = quiet_on x (event.Replay (FinalizeVote p m)) ordered refl refl marked
   retaken_marked x (Verdict round success) ordered here epoch marked =
-      let replay : Event K D G = event.Replay (Verdict round success) in
-      let given : Event K D G = event.Certified round.view success now in
+      let replay : Event K D = event.Replay (Verdict round success) in
+      let given : Event K D = event.Certified round.view success now in
       verdict_on (after_event same elect x replay) given round success (event_in_order same elect x replay ordered) refl refl here (verdict_on x replay round success ordered refl refl here marked)
   retaken_marked x (Accepted (Notarized c)) ordered here epoch marked =
-      let added : Event K D G = event.AddNotarization c in
+      let added : Event K D = event.AddNotarization c in
       quiet_on (after_event same elect x added) (event.Replay (Accepted (Notarized c))) (event_in_order same elect x added ordered) refl refl (quiet_on x added ordered refl refl marked)
   retaken_marked x (Accepted (Nullified c)) ordered here epoch marked =
-      let added : Event K D G = event.AddNullification c now in
+      let added : Event K D = event.AddNullification c now in
       quiet_on (after_event same elect x added) (event.Replay (Accepted (Nullified c))) (event_in_order same elect x added ordered) refl refl (quiet_on x added ordered refl refl marked)
   retaken_marked x (Accepted (Finalized c)) ordered here epoch marked =
-      let added : Event K D G = event.AddFinalization c now in
+      let added : Event K D = event.AddFinalization c now in
       quiet_on (after_event same elect x added) (event.Replay (Accepted (Finalized c))) (event_in_order same elect x added ordered) refl refl (quiet_on x added ordered refl refl marked)
 
   -- the rest of a record whose entries are all of this epoch
-  all_marked : (x : Facts K L D) (rest : List (ArtifactFacts D G)) → InOrder x → ((e : ArtifactFacts D G) → Contains rest e → Contains entries e × ((entry_round e).epoch ≡ x.settings.epoch)) → Marked entries x → Marked entries (all_taken same elect x now rest)
+  all_marked : (x : Facts K L D) (rest : List (ArtifactFacts D)) → InOrder x → ((e : ArtifactFacts D) → Contains rest e → Contains entries e × ((entry_round e).epoch ≡ x.settings.epoch)) → Marked entries x → Marked entries (all_taken same elect x now rest)
   all_marked x [] ordered all marked = marked
   all_marked x (e ∷ rest) ordered all marked =
       let here = all e (0, omega arith, refl) in
@@ -64,13 +64,13 @@ module _ {K L D G : Type 0} (same : D → D → Bool) (elect : Elect L) (entries
       all_marked y rest in_order (λ f h. (let known = all f (Contains-cons_rest e rest f h) in (known.0, known.1 ∙ ap (λ (s : Settings). s.epoch) (sym set_up))))
       (taken_if same elect x now (Marked entries) e marked (retaken_marked x e ordered here.0 here.1 marked))
 
-module _ {K L D G : Type 0} (same : D → D → Bool) (elect : Elect L) (settings : Settings) (me : Option ℕ) (members : List K) (elector : L) (terms : Terms) (early : Bool) where
+module _ {K L D : Type 0} (same : D → D → Bool) (elect : Elect L) (settings : Settings) (me : Option ℕ) (members : List K) (elector : L) (terms : Terms) (early : Bool) where
   -- a state that is made from a record, whose entries are of the settings' epoch, shows nothing that the record doesn't hold
-  pub recovered_marked : (copy : List (ArtifactFacts D G)) (floor : FloorFacts D) (now : ℕ) → ((e : ArtifactFacts D G) → Contains copy e → (entry_round e).epoch ≡ settings.epoch) → Marked copy (recovered same elect (new_facts settings me members elector terms early) floor now copy)
+  pub recovered_marked : (copy : List (ArtifactFacts D)) (floor : FloorFacts D) (now : ℕ) → ((e : ArtifactFacts D) → Contains copy e → (entry_round e).epoch ≡ settings.epoch) → Marked copy (recovered same elect (new_facts settings me members elector terms early) floor now copy)
   unfolding recovered
   recovered_marked copy floor now epochs =
       let fresh : Facts K L D = new_facts settings me members elector terms early in
-      let floored : Event K D G = event.SetFloor floor now in
+      let floored : Event K D = event.SetFloor floor now in
       let goes = event_goes same elect fresh floored in
       let none : Marked copy fresh = record { certified = λ v is. absurd (false≢true is); nullified = λ v is key. absurd (false≢true is) } in
       all_marked same elect copy now (after_event same elect fresh floored) copy (event_in_order same elect fresh floored tt) (λ e h. (h, epochs e h ∙ ap (λ (s : Settings). s.epoch) (sym goes.settings))) (quiet_on same elect copy now fresh floored tt refl refl none)

@@ -31,15 +31,15 @@ use Rattle.simplex_laws.proofs.Verdicts.{Shows, judged_so, event_shows}
 
 -- in the midst of a recovery: the state shows the entries that were taken, and what is kept begins at the base, or else no
 -- higher than the last entry
-pub record Recovers {K L D G : Type 0} (base top : ℕ) (done : List (ArtifactFacts D G)) (x : Facts K L D) : Type 0 where
+pub record Recovers {K L D : Type 0} (base top : ℕ) (done : List (ArtifactFacts D)) (x : Facts K L D) : Type 0 where
   pub shows : Shows done x
   pub reached : base ≤ min_active x
   pub within : min_active x ≤ max base top
   pub in_order : InOrder x
 
-module _ {K L D G : Type 0} (same : D → D → Bool) (elect : Elect L) (base top : ℕ) (done : List (ArtifactFacts D G)) (x : Facts K L D) (recovers : Recovers base top done x) (e : Event K D G) (v : ℕ) (over : top ≤ v) (within : finalized_by e ≤ v) (handles : (v token : ℕ) → e ≡ event.SetCertifyHandle v token → IsEvent x e) where
+module _ {K L D : Type 0} (same : D → D → Bool) (elect : Elect L) (base top : ℕ) (done : List (ArtifactFacts D)) (x : Facts K L D) (recovers : Recovers base top done x) (e : Event K D) (v : ℕ) (over : top ≤ v) (within : finalized_by e ≤ v) (handles : (v token : ℕ) → e ≡ event.SetCertifyHandle v token → IsEvent x e) where
   -- an event of a view that is no lower
-  pub more_recovers : (more : List (ArtifactFacts D G)) → Shows more (after_event same elect x e) → Recovers base v more (after_event same elect x e)
+  pub more_recovers : (more : List (ArtifactFacts D)) → Shows more (after_event same elect x e) → Recovers base v more (after_event same elect x e)
   more_recovers more shows =
       let goes = event_goes same elect x e in
       let finalizes = event_finalizes same elect x e in
@@ -52,7 +52,7 @@ module _ {K L D G : Type 0} (same : D → D → Bool) (elect : Elect L) (base to
       }
 
   -- of an entry that is no verdict, or of none
-  pub quiet_recovers : (new : List (ArtifactFacts D G)) → HasNoVerdict new → notarization_by e ≡ None → verdict_by e ≡ None → Recovers base v (done ++ new) (after_event same elect x e)
+  pub quiet_recovers : (new : List (ArtifactFacts D)) → HasNoVerdict new → notarization_by e ≡ None → verdict_by e ≡ None → Recovers base v (done ++ new) (after_event same elect x e)
   quiet_recovers new silent no_notarization no_judgement =
       more_recovers (done ++ new)
       (event_shows same elect x e handles done (done ++ new) recovers.in_order (λ c is. absurd (cc)) (λ round given success h is. absurd (cc)) (λ a h. Contains-append_left done new a h) (λ c is none. absurd (cc))
@@ -63,24 +63,24 @@ module _ {K L D G : Type 0} (same : D → D → Bool) (elect : Elect L) (base to
       more_recovers done
       (event_shows same elect x e handles done done recovers.in_order (λ c is. absurd (cc)) (λ round given success h is. absurd (cc)) (λ a h. h) (λ c is none. absurd (cc)) (λ round success h. inl h) recovers.shows)
 
-module _ {K L D G : Type 0} (same : D → D → Bool) (elect : Elect L) (now base top : ℕ) (done : List (ArtifactFacts D G)) (x : Facts K L D) (recovers : Recovers base top done x) where
+module _ {K L D : Type 0} (same : D → D → Bool) (elect : Elect L) (now base top : ℕ) (done : List (ArtifactFacts D)) (x : Facts K L D) (recovers : Recovers base top done x) where
   -- an entry that is taken again; those of its verdict's view agree with it
-  retaken_recovers : (e : ArtifactFacts D G) → top ≤ entry_view e → min_active x ≤ entry_view e → ((round other : Round) (success given : Bool) → e ≡ Verdict round success → Contains done (Verdict other given) → other.view ≡ round.view → given ≡ success) → Recovers base (entry_view e) (done ++ e ∷ []) (retaken same elect x now e)
-  retaken_recovers (NotarizeVote p m g) over kept agree =
-      let a : ArtifactFacts D G = NotarizeVote p m g in
+  retaken_recovers : (e : ArtifactFacts D) → top ≤ entry_view e → min_active x ≤ entry_view e → ((round other : Round) (success given : Bool) → e ≡ Verdict round success → Contains done (Verdict other given) → other.view ≡ round.view → given ≡ success) → Recovers base (entry_view e) (done ++ e ∷ []) (retaken same elect x now e)
+  retaken_recovers (NotarizeVote p m) over kept agree =
+      let a : ArtifactFacts D = NotarizeVote p m in
       quiet_recovers same elect base top done x recovers (event.Replay a) p.round.view over (omega arith) (λ v token is. absurd (cc)) (a ∷ []) (λ round success h. (let e = only_one a (Verdict round success) h in cc)) refl refl
-  retaken_recovers (NullifyVote round m g) over kept agree =
-      let a : ArtifactFacts D G = NullifyVote round m g in
+  retaken_recovers (NullifyVote round m) over kept agree =
+      let a : ArtifactFacts D = NullifyVote round m in
       quiet_recovers same elect base top done x recovers (event.Replay a) round.view over (omega arith) (λ v token is. absurd (cc)) (a ∷ []) (λ other success h. (let e = only_one a (Verdict other success) h in cc)) refl refl
-  retaken_recovers (FinalizeVote p m g) over kept agree =
-      let a : ArtifactFacts D G = FinalizeVote p m g in
+  retaken_recovers (FinalizeVote p m) over kept agree =
+      let a : ArtifactFacts D = FinalizeVote p m in
       quiet_recovers same elect base top done x recovers (event.Replay a) p.round.view over (omega arith) (λ v token is. absurd (cc)) (a ∷ []) (λ round success h. (let e = only_one a (Verdict round success) h in cc)) refl refl
   retaken_recovers (Verdict round success) over kept agree =
       let v = round.view in
-      let a : ArtifactFacts D G = Verdict round success in
+      let a : ArtifactFacts D = Verdict round success in
       let whole = done ++ a ∷ [] in
-      let replay : Event K D G = event.Replay a in
-      let give : Event K D G = event.Certified v success now in
+      let replay : Event K D = event.Replay a in
+      let give : Event K D = event.Certified v success now in
       let j = replayed same elect x a in
       let agreed : (other : Round) (given : Bool) → Contains whole (Verdict other given) → other.view ≡ v → given ≡ success = λ other given h at. elim (Contains-push_cases done a (Verdict other given) h) [
         | inl old ↦ agree round other success given refl old at
@@ -101,8 +101,8 @@ module _ {K L D G : Type 0} (same : D → D → Bool) (elect : Elect L) (now bas
       (λ b h. h) (λ c is none. absurd (cc)) (λ other given h. inl h) first.shows)
   retaken_recovers (Accepted (Notarized c)) over kept agree =
       let v = c.proposal.round.view in
-      let a : ArtifactFacts D G = Accepted (Notarized c) in
-      let add : Event K D G = event.AddNotarization c in
+      let a : ArtifactFacts D = Accepted (Notarized c) in
+      let add : Event K D = event.AddNotarization c in
       let whole = done ++ a ∷ [] in
       let silent : HasNoVerdict (a ∷ []) = λ round success h. (let e = only_one a (Verdict round success) h in cc) in
       let first = more_recovers same elect base top done x recovers add v over (omega arith) (λ w token is. absurd (cc)) whole
@@ -114,35 +114,35 @@ module _ {K L D G : Type 0} (same : D → D → Bool) (elect : Elect L) (now bas
       still_recovers same elect base v whole (after_add_notarization same elect x c) first (event.Replay a) v (omega arith) (omega arith) (λ w token is. absurd (cc)) refl refl
   retaken_recovers (Accepted (Nullified c)) over kept agree =
       let v = c.round.view in
-      let a : ArtifactFacts D G = Accepted (Nullified c) in
+      let a : ArtifactFacts D = Accepted (Nullified c) in
       let first = quiet_recovers same elect base top done x recovers (event.AddNullification c now) v over (omega arith) (λ w token is. absurd (cc)) (a ∷ []) (λ round success h. (let e = only_one a (Verdict round success) h in cc)) refl refl in
       still_recovers same elect base v (done ++ a ∷ []) (after_add_nullification elect x c now) first (event.Replay a) v (omega arith) (omega arith) (λ w token is. absurd (cc)) refl refl
   retaken_recovers (Accepted (Finalized c)) over kept agree =
       let v = c.proposal.round.view in
-      let a : ArtifactFacts D G = Accepted (Finalized c) in
+      let a : ArtifactFacts D = Accepted (Finalized c) in
       let first = quiet_recovers same elect base top done x recovers (event.AddFinalization c now) v over (omega arith) (λ w token is. absurd (cc)) (a ∷ []) (λ round success h. (let e = only_one a (Verdict round success) h in cc)) refl refl in
       still_recovers same elect base v (done ++ a ∷ []) (after_add_finalization same elect x c now) first (event.Replay a) v (omega arith) (omega arith) (λ w token is. absurd (cc)) refl refl
 
 -- the views of a record from the base on
-abbrev pub above : {D G : Type 0} → ℕ → List (ArtifactFacts D G) → List (ArtifactFacts D G)
+abbrev pub above : {D : Type 0} → ℕ → List (ArtifactFacts D) → List (ArtifactFacts D)
 above base entries = filter (λ e. nat_le base (entry_view e)) entries
 
 -- where a recovery ends: the state shows the entries, and what it keeps begins no lower than the base
-pub record Recovered {K L D G : Type 0} (base : ℕ) (entries : List (ArtifactFacts D G)) (x : Facts K L D) : Type 0 where
+pub record Recovered {K L D : Type 0} (base : ℕ) (entries : List (ArtifactFacts D)) (x : Facts K L D) : Type 0 where
   pub shows : Shows entries x
   pub reached : base ≤ min_active x
 
-module _ {K L D G : Type 0} (same : D → D → Bool) (elect : Elect L) (now base : ℕ) (copy : List (ArtifactFacts D G)) (one_verdict : (round other : Round) (success given : Bool) → Contains copy (Verdict round success) → Contains copy (Verdict other given) → round.view ≡ other.view → success ≡ given) where
-  passed_over : (x : Facts K L D) (e : ArtifactFacts D G) → nat_lt (entry_view e) (min_active x) ≡ true → taken same elect x now e ≡ x
+module _ {K L D : Type 0} (same : D → D → Bool) (elect : Elect L) (now base : ℕ) (copy : List (ArtifactFacts D)) (one_verdict : (round other : Round) (success given : Bool) → Contains copy (Verdict round success) → Contains copy (Verdict other given) → round.view ≡ other.view → success ≡ given) where
+  passed_over : (x : Facts K L D) (e : ArtifactFacts D) → nat_lt (entry_view e) (min_active x) ≡ true → taken same elect x now e ≡ x
   unfolding taken
   passed_over x e is = rw is refl
 
-  taken_again : (x : Facts K L D) (e : ArtifactFacts D G) → nat_lt (entry_view e) (min_active x) ≡ false → taken same elect x now e ≡ retaken same elect x now e
+  taken_again : (x : Facts K L D) (e : ArtifactFacts D) → nat_lt (entry_view e) (min_active x) ≡ false → taken same elect x now e ≡ retaken same elect x now e
   unfolding taken
   taken_again x e is = rw is refl
 
   -- the rest of a record by rising views
-  all_recover : (rest done : List (ArtifactFacts D G)) (top : ℕ) (x : Facts K L D) → Recovers base top done x → Rises top rest → ((e : ArtifactFacts D G) → Contains done e → Contains copy e) → ((e : ArtifactFacts D G) → Contains rest e → Contains copy e) → Recovered base (done ++ above base rest) (all_taken same elect x now rest)
+  all_recover : (rest done : List (ArtifactFacts D)) (top : ℕ) (x : Facts K L D) → Recovers base top done x → Rises top rest → ((e : ArtifactFacts D) → Contains done e → Contains copy e) → ((e : ArtifactFacts D) → Contains rest e → Contains copy e) → Recovered base (done ++ above base rest) (all_taken same elect x now rest)
   all_recover [] done top x recovers rises known coming = record { shows = subst (λ es. Shows es x) (sym (append-nil done)) recovers.shows; reached = recovers.reached }
   all_recover (e ∷ rest) done top x recovers rises known coming = elim (cases_Bool (nat_lt (entry_view e) (min_active x))) [
     | inl passed ↦
@@ -160,7 +160,7 @@ module _ {K L D G : Type 0} (same : D → D → Bool) (elect : Elect L) (now bas
         rw (taken_again x e kept, stays) (subst (λ es. Recovered base es (all_taken same elect (retaken same elect x now e) now rest)) (append_assoc done (e ∷ []) (above base rest)) ends))
   ]
 
-module _ {K L D G : Type 0} (base : ℕ) (copy : List (ArtifactFacts D G)) (x : Facts K L D) where
+module _ {K L D : Type 0} (base : ℕ) (copy : List (ArtifactFacts D)) (x : Facts K L D) where
   -- what stands below the base is neither kept nor held notarized
   whole_shown : Recovered base (above base copy) x → Shows copy x
   whole_shown ends = record {
@@ -182,13 +182,13 @@ module _ {K L D : Type 0} (same : D → D → Bool) (elect : Elect L) (settings 
   abbrev pub fresh : Facts K L D
   fresh = new_facts settings me members elector terms early
 
-  pub recovered_shows : {G : Type 0} (copy : List (ArtifactFacts D G)) (floor : FloorFacts D) (now : ℕ) → IsNonDecreasingBy entry_view copy → ((round other : Round) (success given : Bool) → Contains copy (Verdict round success) → Contains copy (Verdict other given) → round.view ≡ other.view → success ≡ given) → Shows copy (recovered same elect fresh floor now copy)
+  pub recovered_shows : (copy : List (ArtifactFacts D)) (floor : FloorFacts D) (now : ℕ) → IsNonDecreasingBy entry_view copy → ((round other : Round) (success given : Bool) → Contains copy (Verdict round success) → Contains copy (Verdict other given) → round.view ≡ other.view → success ≡ given) → Shows copy (recovered same elect fresh floor now copy)
   unfolding recovered
-  recovered_shows {G} copy floor now rising one_verdict =
+  recovered_shows copy floor now rising one_verdict =
       let x = after_set_floor same elect fresh floor now in
-      let e : Event K D G = event.SetFloor floor now in
+      let e : Event K D = event.SetFloor floor now in
       let base = min_active x in
-      let start : Recovers {G = G} base 0 [] x = record {
+      let start : Recovers base 0 [] x = record {
         shows = event_shows same elect fresh e (λ w token is. absurd (cc)) [] [] tt (λ c is. absurd (cc)) (λ round given success h is. absurd (cc)) (λ a h. h) (λ c is none. absurd (cc)) (λ round success h. inl h)
             (record { notarized = λ v is. absurd (false≢true is); judged = λ round success h. absurd (omega (arith, h.1)) });
         reached = omega arith;

@@ -36,48 +36,48 @@ raised_reaches x v = raises (nat_lt x.finalized v) refl
     raises true is = rw is (omega arith)
     raises false is = rw is (grind (arith, nat_tests))
 
-module _ {K L D : Type 0} (G : Type 0) (same : D → D → Bool) (elect : Elect L) (x : Facts K L D) (now : ℕ) where
+module _ {K L D : Type 0} (same : D → D → Bool) (elect : Elect L) (x : Facts K L D) (now : ℕ) where
   -- a finalization is no higher than the finalized view then
   finalization_passes : (c : ProposalFacts D) → c.proposal.round.view ≤ (after_add_finalization same elect x c now).finalized
   finalization_passes c =
-      let e : Event K D G = event.AddFinalization c now in
+      let e : Event K D = event.AddFinalization c now in
       omega (arith, (goes_along same elect x e 0 _ _ (from_raised c now refl (omega arith) Still)).finalized, raised_reaches (at_moment x now) c.proposal.round.view)
 
-module _ {K L D G : Type 0} (same : D → D → Bool) (elect : Elect L) (x : Facts K L D) (now : ℕ) where
-  taken_finalizes : (e : ArtifactFacts D G) (c : ProposalFacts D) → e ≡ Accepted (Finalized c) → c.proposal.round.view ≤ (taken same elect x now e).finalized
+module _ {K L D : Type 0} (same : D → D → Bool) (elect : Elect L) (x : Facts K L D) (now : ℕ) where
+  taken_finalizes : (e : ArtifactFacts D) (c : ProposalFacts D) → e ≡ Accepted (Finalized c) → c.proposal.round.view ≤ (taken same elect x now e).finalized
   unfolding taken
   taken_finalizes e c is = rw is (by_view (nat_lt c.proposal.round.view (min_active x)) refl)
     where
-      by_view : (b : Bool) → nat_lt c.proposal.round.view (min_active x) ≡ b → c.proposal.round.view ≤ (if nat_lt c.proposal.round.view (min_active x) then x else retaken {G = G} same elect x now (Accepted (Finalized c))).finalized
+      by_view : (b : Bool) → nat_lt c.proposal.round.view (min_active x) ≡ b → c.proposal.round.view ≤ (if nat_lt c.proposal.round.view (min_active x) then x else retaken same elect x now (Accepted (Finalized c))).finalized
       by_view true below = rw below (omega (arith, ltb-true c.proposal.round.view (min_active x) below))
-      by_view false kept = rw kept (omega (arith, finalization_passes G same elect x now c, (event_goes {G = G} same elect (after_add_finalization same elect x c now) (event.Replay (Accepted (Finalized c)))).finalized))
+      by_view false kept = rw kept (omega (arith, finalization_passes same elect x now c, (event_goes same elect (after_add_finalization same elect x c now) (event.Replay (Accepted (Finalized c)))).finalized))
 
-module _ {K L D G : Type 0} (same : D → D → Bool) (elect : Elect L) (now : ℕ) where
-  all_final : (x : Facts K L D) (entries : List (ArtifactFacts D G)) → x.finalized ≤ (all_taken same elect x now entries).finalized
+module _ {K L D : Type 0} (same : D → D → Bool) (elect : Elect L) (now : ℕ) where
+  all_final : (x : Facts K L D) (entries : List (ArtifactFacts D)) → x.finalized ≤ (all_taken same elect x now entries).finalized
   all_final x entries = all_keep same elect (λ y. x.finalized ≤ y.finalized) (λ y e p. omega (arith, p, (event_goes same elect y e).finalized)) now x entries (omega arith)
 
   -- each recorded finalization is no higher
-  pub all_finalizes : (x : Facts K L D) (entries : List (ArtifactFacts D G)) (c : ProposalFacts D) → Contains entries (Accepted (Finalized c)) → c.proposal.round.view ≤ (all_taken same elect x now entries).finalized
+  pub all_finalizes : (x : Facts K L D) (entries : List (ArtifactFacts D)) (c : ProposalFacts D) → Contains entries (Accepted (Finalized c)) → c.proposal.round.view ≤ (all_taken same elect x now entries).finalized
   all_finalizes x [] c h = absurd (omega (arith, h.1))
   all_finalizes x (e ∷ rest) c h = elim (Contains-cases e rest (Accepted (Finalized c)) h) [
     | inl here ↦ omega (arith, taken_finalizes same elect x now e c here, all_final (taken same elect x now e) rest)
     | inr later ↦ all_finalizes (taken same elect x now e) rest c later
   ]
 
-module _ {K L D G : Type 0} (same : D → D → Bool) (decides : (d e : D) → same d e ≡ true → d ≡ e) (elect : Elect L) (settings : Settings) (me : Option ℕ) (members : List K) (elector : L) (terms : Terms) (early : Bool) where
+module _ {K L D : Type 0} (same : D → D → Bool) (decides : (d e : D) → same d e ≡ true → d ≡ e) (elect : Elect L) (settings : Settings) (me : Option ℕ) (members : List K) (elector : L) (terms : Terms) (early : Bool) where
   -- a state made from a record of all deeds before shows them, and the floor's finalization besides; of the views that the
   -- record may lack votes of, one that is no lower is finalized in it
-  pub recovered_stays : (deeds : List (Deed D G)) (kept : ℕ) (copy : List (ArtifactFacts D G)) (floor : FloorFacts D) (now : ℕ) → IsLawful terms.term_length deeds → Remembers deeds kept copy → (kept ≡ 0) ⊎ ((c : ProposalFacts D) × Contains copy (Accepted (Finalized c)) × (kept ≤ c.proposal.round.view)) → Stays terms.term_length (deeds ++ of_floor floor) (recovered same elect (new_facts settings me members elector terms early) floor now copy)
+  pub recovered_stays : (deeds : List (Deed D)) (kept : ℕ) (copy : List (ArtifactFacts D)) (floor : FloorFacts D) (now : ℕ) → IsLawful terms.term_length deeds → Remembers deeds kept copy → (kept ≡ 0) ⊎ ((c : ProposalFacts D) × Contains copy (Accepted (Finalized c)) × (kept ≤ c.proposal.round.view)) → Stays terms.term_length (deeds ++ of_floor floor) (recovered same elect (new_facts settings me members elector terms early) floor now copy)
   unfolding recovered
   recovered_stays deeds kept copy floor now lawful remembers final =
       let x = after_set_floor same elect (new_facts settings me members elector terms early) floor now in
-      let floored : Event K D G = event.SetFloor floor now in
+      let floored : Event K D = event.SetFloor floor now in
       let z = all_taken same elect x now copy in
       let t = terms.term_length in
       let a = of_floor floor ++ entries_deeds copy in
       let b = deeds ++ of_floor floor in
       let none : AreRecorded deeds (of_floor floor) = (λ round h. absurd (floor_unsigned floor (subject.Nullify round) h), λ p h. absurd (floor_unsigned floor (subject.Finalize p) h)) in
-      let stays : Stays t a z = all_stay same decides elect t deeds lawful kept copy remembers now copy [] (of_floor floor) x refl none (λ round h. absurd (omega (arith, h.1))) (event_in_order same elect (new_facts settings me members elector terms early) floored tt) (start_stays G same decides elect settings me members elector terms early floor now) in
+      let stays : Stays t a z = all_stay same decides elect t deeds lawful kept copy remembers now copy [] (of_floor floor) x refl none (λ round h. absurd (omega (arith, h.1))) (event_in_order same elect (new_facts settings me members elector terms early) floored tt) (start_stays same decides elect settings me members elector terms early floor now) in
       let high : kept ≤ z.finalized = elim final [ inl nothing ↦ omega arith | inr c ↦ omega (arith, all_finalizes same elect now x copy c.0 c.1, c.2) ] in
       stays_over t a b z
       (λ s h. elim (Contains-append_cases (of_floor floor) (entries_deeds copy) (Accepts s) h) [
@@ -93,7 +93,7 @@ module _ {K L D G : Type 0} (same : D → D → Bool) (decides : (d e : D) → s
         | inl old ↦ (
           remembers.above_genesis round old,
           elim (remembers.nullify_kept round old) [
-            | inl e ↦ inl (signed_right (of_floor floor) (entries_deeds copy) (subject.Nullify round) (e.0, e.1, deed_of copy (NullifyVote round e.0 e.1) (Signs e.0 (subject.Nullify round) e.1) e.2 (0, omega arith, refl)))
+            | inl e ↦ inl (signed_right (of_floor floor) (entries_deeds copy) (subject.Nullify round) (e.0, deed_of copy (NullifyVote round e.0) (Signs e.0 (subject.Nullify round)) e.1 (0, omega arith, refl)))
             | inr below ↦ inr (omega arith)
           ],
         )
@@ -101,7 +101,7 @@ module _ {K L D G : Type 0} (same : D → D → Bool) (decides : (d e : D) → s
       (λ p h. elim (signed_cases deeds (of_floor floor) (subject.Finalize p) h) [
         | inr from_floor ↦ absurd (floor_unsigned floor (subject.Finalize p) from_floor)
         | inl old ↦ elim (remembers.finalize_kept p old) [
-          | inl e ↦ inl (signed_right (of_floor floor) (entries_deeds copy) (subject.Finalize p) (e.0, e.1, deed_of copy (FinalizeVote p e.0 e.1) (Signs e.0 (subject.Finalize p) e.1) e.2 (0, omega arith, refl)))
+          | inl e ↦ inl (signed_right (of_floor floor) (entries_deeds copy) (subject.Finalize p) (e.0, deed_of copy (FinalizeVote p e.0) (Signs e.0 (subject.Finalize p)) e.1 (0, omega arith, refl)))
           | inr below ↦ inr (omega arith)
         ]
       ])

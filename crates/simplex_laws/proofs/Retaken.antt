@@ -23,24 +23,24 @@ subject_of (Nullified c) = subject.Nullify c.round
 subject_of (Finalized c) = subject.Finalize c.proposal
 
 -- the deed that an entry records
-abbrev pub entry_deeds : {D G : Type 0} → ArtifactFacts D G → List (Deed D G)
-entry_deeds (NotarizeVote p m signature) = Signs m (subject.Notarize p) signature ∷ []
-entry_deeds (NullifyVote round m signature) = Signs m (subject.Nullify round) signature ∷ []
-entry_deeds (FinalizeVote p m signature) = Signs m (subject.Finalize p) signature ∷ []
+abbrev pub entry_deeds : {D : Type 0} → ArtifactFacts D → List (Deed D)
+entry_deeds (NotarizeVote p m) = Signs m (subject.Notarize p) ∷ []
+entry_deeds (NullifyVote round m) = Signs m (subject.Nullify round) ∷ []
+entry_deeds (FinalizeVote p m) = Signs m (subject.Finalize p) ∷ []
 entry_deeds (Verdict _ _) = []
 entry_deeds (Accepted c) = Accepts (subject_of c) ∷ []
 
 -- a vote may be taken again: no other vote of its view was, and a finalize vote's view is passed
-abbrev pub MayRetake : {D G : Type 0} → List (Deed D G) → ℕ → ArtifactFacts D G → Type 0
-MayRetake {D} deeds current (NullifyVote round _ _) = (1 ≤ round.view) × ((p : Proposal D) → HasSigned deeds (subject.Finalize p) → round.view ≢ p.round.view)
-MayRetake deeds current (FinalizeVote p _ _) = (p.round.view < current) × ((round : Round) → HasSigned deeds (subject.Nullify round) → round.view ≢ p.round.view)
+abbrev pub MayRetake : {D : Type 0} → List (Deed D) → ℕ → ArtifactFacts D → Type 0
+MayRetake {D} deeds current (NullifyVote round _) = (1 ≤ round.view) × ((p : Proposal D) → HasSigned deeds (subject.Finalize p) → round.view ≢ p.round.view)
+MayRetake deeds current (FinalizeVote p _) = (p.round.view < current) × ((round : Round) → HasSigned deeds (subject.Nullify round) → round.view ≢ p.round.view)
 MayRetake deeds current _ = ⊤
 
-module _ {K L D G : Type 0} (term_length : ℕ) (deeds : List (Deed D G)) (x : Facts K L D) (stays : Stays term_length deeds x) where
+module _ {K L D : Type 0} (term_length : ℕ) (deeds : List (Deed D)) (x : Facts K L D) (stays : Stays term_length deeds x) where
   -- a vote to notarize is cast
-  pub notarize_cast_stays : (p : Proposal D) (m : ℕ) (signature : G) → Stays term_length (deeds ++ Signs m (subject.Notarize p) signature ∷ []) x
-  notarize_cast_stays p m signature =
-      let new = Signs m (subject.Notarize p) signature in
+  pub notarize_cast_stays : (p : Proposal D) (m : ℕ) → Stays term_length (deeds ++ Signs m (subject.Notarize p) ∷ []) x
+  notarize_cast_stays p m =
+      let new = Signs m (subject.Notarize p) in
       record {
         stands = record {
           terms = stays.stands.terms;
@@ -59,28 +59,28 @@ module _ {K L D G : Type 0} (term_length : ℕ) (deeds : List (Deed D G)) (x : F
         final = final_still deeds new x.finalized stays.final;
       }
 
-  pub nullify_cast_stays : (round : Round) (m : ℕ) (signature : G) → 1 ≤ round.view → Contains x.nullify_votes round.view ⊎ (round.view ≤ x.finalized) → (is_nullify (round_of x round.view).decision ≡ true) ⊎ (round.view ≤ x.finalized) → Stays term_length (deeds ++ Signs m (subject.Nullify round) signature ∷ []) x
-  nullify_cast_stays round m signature one noted decided = record {
-    stands = nullify_cast_stands term_length deeds x.current x round m signature one noted decided stays.stands;
+  pub nullify_cast_stays : (round : Round) (m : ℕ) → 1 ≤ round.view → Contains x.nullify_votes round.view ⊎ (round.view ≤ x.finalized) → (is_nullify (round_of x round.view).decision ≡ true) ⊎ (round.view ≤ x.finalized) → Stays term_length (deeds ++ Signs m (subject.Nullify round) ∷ []) x
+  nullify_cast_stays round m one noted decided = record {
+    stands = nullify_cast_stands term_length deeds x.current x round m one noted decided stays.stands;
     ahead = stays.ahead;
-    final = final_still deeds (Signs m (subject.Nullify round) signature) x.finalized stays.final;
+    final = final_still deeds (Signs m (subject.Nullify round)) x.finalized stays.final;
   }
 
-  pub finalize_cast_stays : (p : Proposal D) (m : ℕ) (signature : G) → p.round.view < x.current → (is_finalize (round_of x p.round.view).decision ≡ true) ⊎ (p.round.view ≤ x.finalized) → Stays term_length (deeds ++ Signs m (subject.Finalize p) signature ∷ []) x
-  finalize_cast_stays p m signature passed decided = record {
-    stands = finalize_cast_stands term_length deeds x.current x p m signature passed decided stays.stands;
+  pub finalize_cast_stays : (p : Proposal D) (m : ℕ) → p.round.view < x.current → (is_finalize (round_of x p.round.view).decision ≡ true) ⊎ (p.round.view ≤ x.finalized) → Stays term_length (deeds ++ Signs m (subject.Finalize p) ∷ []) x
+  finalize_cast_stays p m passed decided = record {
+    stands = finalize_cast_stands term_length deeds x.current x p m passed decided stays.stands;
     ahead = stays.ahead;
-    final = final_still deeds (Signs m (subject.Finalize p) signature) x.finalized stays.final;
+    final = final_still deeds (Signs m (subject.Finalize p)) x.finalized stays.final;
   }
 
   pub nothing_stays : Stays term_length (deeds ++ []) x
   nothing_stays = subst (λ a. Stays term_length a x) (sym (append-nil deeds)) stays
 
   -- an entry that is passed over lies below the views that are kept
-  pub passed_over : (e : ArtifactFacts D G) → entry_view e ≤ x.finalized → MayRetake deeds x.current e → Stays term_length (deeds ++ entry_deeds e) x
-  passed_over (NotarizeVote p m signature) below may = notarize_cast_stays p m signature
-  passed_over (NullifyVote round m signature) below may = nullify_cast_stays round m signature may.0 (inr below) (inr below)
-  passed_over (FinalizeVote p m signature) below may = finalize_cast_stays p m signature (omega (arith, stays.ahead)) (inr below)
+  pub passed_over : (e : ArtifactFacts D) → entry_view e ≤ x.finalized → MayRetake deeds x.current e → Stays term_length (deeds ++ entry_deeds e) x
+  passed_over (NotarizeVote p m) below may = notarize_cast_stays p m
+  passed_over (NullifyVote round m) below may = nullify_cast_stays round m may.0 (inr below) (inr below)
+  passed_over (FinalizeVote p m) below may = finalize_cast_stays p m (omega (arith, stays.ahead)) (inr below)
   passed_over (Verdict _ _) below may = nothing_stays
   passed_over (Accepted (Notarized c)) below may = stays_accepted term_length deeds (subject.Notarize c.proposal) x stays
   passed_over (Accepted (Nullified c)) below may = stays_accepted term_length deeds (subject.Nullify c.round) x stays

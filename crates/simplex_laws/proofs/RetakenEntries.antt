@@ -27,37 +27,37 @@ use Rattle.simplex_laws.proofs.Standing.{Stays, stands_later}
 use Rattle.simplex_laws.proofs.StandingCalls.{certified_passes, certified_suits, notarization_stays, nullification_stays, finalization_stays}
 use Rattle.simplex_laws.proofs.StandingSteps.{Suits, plain_suits, event_stands, event_stays, stays_on}
 
-module _ {K L D G : Type 0} (same : D → D → Bool) (elect : Elect L) (x : Facts K L D) (now : ℕ) where
+module _ {K L D : Type 0} (same : D → D → Bool) (elect : Elect L) (x : Facts K L D) (now : ℕ) where
   -- neither the current view nor the finalized one falls
 
-  pub taken_if : (P : Facts K L D → Type 0) (e : ArtifactFacts D G) → P x → P (retaken same elect x now e) → P (taken same elect x now e)
+  pub taken_if : (P : Facts K L D → Type 0) (e : ArtifactFacts D) → P x → P (retaken same elect x now e) → P (taken same elect x now e)
   unfolding taken
   taken_if P e still again = elim (nat_lt (entry_view e) (min_active x)) as (λ b. P (if b then x else retaken same elect x now e)) [ true ↦ still | false ↦ again ]
 
-  pub taken_keeps : (P : Facts K L D → Type 0) → ((y : Facts K L D) (e : Event K D G) → P y → P (after_event same elect y e)) → (e : ArtifactFacts D G) → P x → P (taken same elect x now e)
+  pub taken_keeps : (P : Facts K L D → Type 0) → ((y : Facts K L D) (e : Event K D) → P y → P (after_event same elect y e)) → (e : ArtifactFacts D) → P x → P (taken same elect x now e)
   taken_keeps P keeps e holds = taken_if P e holds (retaken_keeps same elect P keeps now x e holds)
 
-  pub taken_rises : (e : ArtifactFacts D G) → x.current ≤ (taken same elect x now e).current
+  pub taken_rises : (e : ArtifactFacts D) → x.current ≤ (taken same elect x now e).current
   taken_rises e = taken_keeps (λ y. x.current ≤ y.current) (λ y f p. omega (arith, p, (event_goes same elect y f).current)) e (omega arith)
 
-module _ {K L D G : Type 0} (same : D → D → Bool) (decides : (d e : D) → same d e ≡ true → d ≡ e) (elect : Elect L) (term_length : ℕ) (deeds : List (Deed D G)) (x : Facts K L D) (now : ℕ) where
+module _ {K L D : Type 0} (same : D → D → Bool) (decides : (d e : D) → same d e ≡ true → d ≡ e) (elect : Elect L) (term_length : ℕ) (deeds : List (Deed D)) (x : Facts K L D) (now : ℕ) where
   -- a verdict that is taken again is given after it is replayed
 
   abbrev again : ℕ → Bool → Facts K L D
   again v success = with_round x v (certified_round (round_of x v) success)
 
   verdict_again_passes : (v : ℕ) → v < (after_certified elect (again v true) v true now).current
-  verdict_again_passes v = certified_passes G same elect (again v true) v now true (tracked_put x v (certified_round (round_of x v) true)) refl
+  verdict_again_passes v = certified_passes same elect (again v true) v now true (tracked_put x v (certified_round (round_of x v) true)) refl
 
   module _ (stays : Stays term_length deeds x) (ordered : InOrder x) where
     verdict_again_stays : (round : Round) (success : Bool) → Stays term_length deeds (after_certified elect (again round.view success) round.view success now)
     verdict_again_stays round success =
         let v = round.view in
-        let replay : Event K D G = event.Replay (Verdict round success) in
-        let given : Event K D G = event.Certified v success now in
+        let replay : Event K D = event.Replay (Verdict round success) in
+        let given : Event K D = event.Certified v success now in
         let y = again v success in
         let z = after_certified elect y v success now in
-        let suits = certified_suits G same elect y v now deeds success (tracked_put x v (certified_round (round_of x v) success)) in
+        let suits = certified_suits same elect y v now deeds success (tracked_put x v (certified_round (round_of x v) success)) in
         let before : Suits deeds z.current x replay = plain_suits deeds z.current x replay refl refl refl refl (λ w says. suits.enters w says) in
         let later = stands_later term_length deeds x.current z.current x (event_goes same elect y given).current stays.stands in
         event_stays same decides elect term_length deeds y given suits (event_in_order same elect x replay ordered) (inl stays.ahead)
@@ -65,16 +65,16 @@ module _ {K L D G : Type 0} (same : D → D → Bool) (decides : (d e : D) → s
 
     -- a certificate is added before it is replayed
 
-    replayed_stays : (a : List (Deed D G)) (c : CertificateFacts D) (y : Facts K L D) → InOrder y → Stays term_length a y → Stays term_length a (after_event {G = G} same elect y (event.Replay (Accepted c)))
+    replayed_stays : (a : List (Deed D)) (c : CertificateFacts D) (y : Facts K L D) → InOrder y → Stays term_length a y → Stays term_length a (after_event same elect y (event.Replay (Accepted c)))
     replayed_stays a c y in_order keeps = stays_on same decides elect term_length a y (event.Replay (Accepted c)) (plain_suits a _ y (event.Replay (Accepted c)) refl refl refl refl (λ w says. absurd (cc))) in_order keeps
 
-    retaken_stays : (e : ArtifactFacts D G) → MayRetake deeds x.current e → Stays term_length (deeds ++ entry_deeds e) (retaken same elect x now e)
-    retaken_stays (NotarizeVote p m signature) may =
-        let e : Event K D G = event.Replay (NotarizeVote p m signature) in
-        notarize_cast_stays term_length deeds (after_event same elect x e) (stays_on same decides elect term_length deeds x e (plain_suits deeds _ x e refl refl refl refl (λ w says. absurd (cc))) ordered stays) p m signature
-    retaken_stays (NullifyVote round m signature) may =
+    retaken_stays : (e : ArtifactFacts D) → MayRetake deeds x.current e → Stays term_length (deeds ++ entry_deeds e) (retaken same elect x now e)
+    retaken_stays (NotarizeVote p m) may =
+        let e : Event K D = event.Replay (NotarizeVote p m) in
+        notarize_cast_stays term_length deeds (after_event same elect x e) (stays_on same decides elect term_length deeds x e (plain_suits deeds _ x e refl refl refl refl (λ w says. absurd (cc))) ordered stays) p m
+    retaken_stays (NullifyVote round m) may =
         let v = round.view in
-        let e : Event K D G = event.Replay (NullifyVote round m signature) in
+        let e : Event K D = event.Replay (NullifyVote round m) in
         let y : Facts K L D = record x { nullify_votes = insert_key nat_cmp x.nullify_votes v } in
         let r : RoundFacts K D = record (round_of y v) { decision = decision.Nullify None } in
         let z = with_round y v r in
@@ -86,10 +86,10 @@ module _ {K L D G : Type 0} (same : D → D → Bool) (decides : (d e : D) → s
           finalizes = λ w says. absurd (cc);
         } in
         let decided : is_nullify (round_of z v).decision ≡ true = ap (λ (s : RoundFacts K D). is_nullify s.decision) (round_put y v r) in
-        nullify_cast_stays term_length deeds z (stays_on same decides elect term_length deeds x e suits ordered stays) round m signature may.0 (inl (noted_new v x.nullify_votes)) (inl decided)
-    retaken_stays (FinalizeVote p m signature) may =
+        nullify_cast_stays term_length deeds z (stays_on same decides elect term_length deeds x e suits ordered stays) round m may.0 (inl (noted_new v x.nullify_votes)) (inl decided)
+    retaken_stays (FinalizeVote p m) may =
         let v = p.round.view in
-        let e : Event K D G = event.Replay (FinalizeVote p m signature) in
+        let e : Event K D = event.Replay (FinalizeVote p m) in
         let r : RoundFacts K D = record (round_of x v) { decision = decision.Finalize } in
         let z = with_round x v r in
         let suits : Suits deeds z.current x e = record {
@@ -99,20 +99,20 @@ module _ {K L D G : Type 0} (same : D → D → Bool) (decides : (d e : D) → s
           nullifies = λ w says. absurd (cc);
           finalizes = λ w says. inr (λ round h at. (let here : v ≡ w = cc in may.1 round h (at ∙ sym here)));
         } in
-        finalize_cast_stays term_length deeds z (stays_on same decides elect term_length deeds x e suits ordered stays) p m signature may.0 (inl (ap (λ s. is_finalize s.decision) (round_put x v r)))
-    retaken_stays (Verdict round success) may = subst (λ a. Stays term_length a (retaken {G = G} same elect x now (Verdict round success))) (sym (append-nil deeds)) (verdict_again_stays round success)
+        finalize_cast_stays term_length deeds z (stays_on same decides elect term_length deeds x e suits ordered stays) p m may.0 (inl (ap (λ s. is_finalize s.decision) (round_put x v r)))
+    retaken_stays (Verdict round success) may = subst (λ a. Stays term_length a (retaken same elect x now (Verdict round success))) (sym (append-nil deeds)) (verdict_again_stays round success)
     retaken_stays (Accepted (Notarized c)) may =
-        let e : Event K D G = event.AddNotarization c in
+        let e : Event K D = event.AddNotarization c in
         replayed_stays (deeds ++ Accepts (subject.Notarize c.proposal) ∷ []) (Notarized c) (after_event same elect x e) (event_in_order same elect x e ordered) (notarization_stays same decides elect term_length deeds x ordered stays c)
     retaken_stays (Accepted (Nullified c)) may =
-        let e : Event K D G = event.AddNullification c now in
+        let e : Event K D = event.AddNullification c now in
         replayed_stays (deeds ++ Accepts (subject.Nullify c.round) ∷ []) (Nullified c) (after_event same elect x e) (event_in_order same elect x e ordered) (nullification_stays same decides elect term_length deeds x ordered stays c now)
     retaken_stays (Accepted (Finalized c)) may =
-        let e : Event K D G = event.AddFinalization c now in
+        let e : Event K D = event.AddFinalization c now in
         replayed_stays (deeds ++ Accepts (subject.Finalize c.proposal) ∷ []) (Finalized c) (after_event same elect x e) (event_in_order same elect x e ordered) (finalization_stays same decides elect term_length deeds x ordered stays c now)
 
     -- an entry is taken again, or passed over
-    pub taken_stays : (e : ArtifactFacts D G) → MayRetake deeds x.current e → Stays term_length (deeds ++ entry_deeds e) (taken same elect x now e)
+    pub taken_stays : (e : ArtifactFacts D) → MayRetake deeds x.current e → Stays term_length (deeds ++ entry_deeds e) (taken same elect x now e)
     unfolding taken
     taken_stays e may = by_view (nat_lt (entry_view e) (min_active x)) refl
       where
@@ -120,7 +120,7 @@ module _ {K L D G : Type 0} (same : D → D → Bool) (decides : (d e : D) → s
         by_view true is = rw is (passed_over term_length deeds x stays e (omega (arith, ltb-true (entry_view e) (min_active x) is)) may)
         by_view false is = rw is (retaken_stays e may)
 
-  pub taken_passes : (e : ArtifactFacts D G) (round : Round) → e ≡ Verdict round true → x.finalized < x.current → round.view < (taken same elect x now e).current
+  pub taken_passes : (e : ArtifactFacts D) (round : Round) → e ≡ Verdict round true → x.finalized < x.current → round.view < (taken same elect x now e).current
   unfolding taken
   taken_passes e round is ahead = rw is (by_view (nat_lt round.view (min_active x)) refl)
     where

@@ -44,7 +44,7 @@ module _ {K L D : Type 0} where
       let retention = ap (λ s. s.view_retention) goes.settings in
       omega (arith, goes.finalized, retention)
 
-module _ {K L D G : Type 0} (same : D → D → Bool) (elect : Elect L) (begun : Facts K L D) (e : Event K D G) (low : ℕ) where
+module _ {K L D : Type 0} (same : D → D → Bool) (elect : Elect L) (begun : Facts K L D) (e : Event K D) (low : ℕ) where
   step_goes : (x y z : Facts K L D) → Step same elect begun e low y z → GoesOn x y → GoesOn x z
   step_goes x y z (Reaches v above) p = record { failed = p.failed; settings = p.settings; me = p.me; members = p.members; elector = p.elector; terms = p.terms; elects_early = p.elects_early; current = omega (arith, p.current); finalized = p.finalized }
   step_goes x y z (Raises v says above) p = record { failed = p.failed; settings = p.settings; me = p.me; members = p.members; elector = p.elector; terms = p.terms; elects_early = p.elects_early; current = p.current; finalized = omega (arith, p.finalized) }
@@ -53,22 +53,22 @@ module _ {K L D G : Type 0} (same : D → D → Bool) (elect : Elect L) (begun :
   pub goes_along : (x y : Facts K L D) → Path same elect begun e low x y → GoesOn x y
   goes_along x y path = along same elect begun e low (GoesOn x) (step_goes x) x y path (goes_still x)
 
-module _ {K L D G : Type 0} (same : D → D → Bool) (elect : Elect L) (x : Facts K L D) where
-  pub event_goes : (e : Event K D G) → GoesOn x (after_event same elect x e)
+module _ {K L D : Type 0} (same : D → D → Bool) (elect : Elect L) (x : Facts K L D) where
+  pub event_goes : (e : Event K D) → GoesOn x (after_event same elect x e)
   event_goes e = goes_along same elect x e 0 x (after_event same elect x e) (event_path same elect 0 x e (omega arith) (asked_of_all x e))
 
   -- the last finalized view is the one before or the event's
-  pub event_finalizes : (e : Event K D G) → (after_event same elect x e).finalized ≤ max x.finalized (finalized_by e)
+  pub event_finalizes : (e : Event K D) → (after_event same elect x e).finalized ≤ max x.finalized (finalized_by e)
   event_finalizes e = along same elect x e 0 (λ y. y.finalized ≤ max x.finalized (finalized_by e)) keeps x (after_event same elect x e) (event_path same elect 0 x e (omega arith) (asked_of_all x e)) (omega arith)
     where
       keeps : (y z : Facts K L D) → Step same elect x e 0 y z → y.finalized ≤ max x.finalized (finalized_by e) → z.finalized ≤ max x.finalized (finalized_by e)
       keeps y z (Raises v says above) p = omega (arith, says)
       keeps y z _ p = p
 
-module _ {K L D G : Type 0} (same : D → D → Bool) (elect : Elect L) (x : Facts K L D) where
-  pub call_goes : (signature_of : ℕ → Subject D → G) (call : CallFacts D) → GoesOn x (after_call same elect signature_of x call)
-  call_goes signature_of call = call_by_any G same elect x signature_of (GoesOn x) (goes_still x) (λ e. event_goes same elect x e) call
+module _ {K L D : Type 0} (same : D → D → Bool) (elect : Elect L) (x : Facts K L D) where
+  pub call_goes : (call : CallFacts D) → GoesOn x (after_call same elect x call)
+  call_goes call = call_by_any same elect x (GoesOn x) (goes_still x) (λ e. event_goes same elect x e) call
 
 module _ {K L D : Type 0} (same : D → D → Bool) (elect : Elect L) (x : Facts K L D) where
   pub work_goes : (o : Openings K D) (call : WorkCall D) → GoesOn x (after_work same elect x o call)
-  work_goes o call = work_by_any (Unit {0}) same elect x o (GoesOn x) (goes_still x) (λ e. event_goes same elect x e) call
+  work_goes o call = work_by_any same elect x o (GoesOn x) (goes_still x) (λ e. event_goes same elect x e) call

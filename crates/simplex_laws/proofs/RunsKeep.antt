@@ -23,11 +23,11 @@ abbrev pub HoldsIn : {K L D : Type 0} → (Facts K L D → Type 0) → Option (F
 HoldsIn P None = Unit {0}
 HoldsIn P (Some x) = P x
 
-module _ {K L D G : Type 0} (same : D → D → Bool) (elect : Elect L) (signature_of : ℕ → Subject D → G) (term_length : ℕ) (P : Facts K L D → Type 0)
+module _ {K L D : Type 0} (same : D → D → Bool) (elect : Elect L) (term_length : ℕ) (P : Facts K L D → Type 0)
     (begins : (x : Facts K L D) (floor : FloorFacts D) (now : ℕ) → IsFresh term_length x → P (after_set_floor same elect x floor now))
-    (keeps : (x : Facts K L D) (e : Event K D G) → P x → P (after_event same elect x e)) where
+    (keeps : (x : Facts K L D) (e : Event K D) → P x → P (after_event same elect x e)) where
   -- one that goes on is made again, and another one has no state
-  from_copy : (n : MemberFacts K L D G) (start : StartFacts K L D) (result : Result (Unit {0}) RecoverError) (left : MemberFacts K L D G) → IsFresh term_length start.fresh → GoesOn same elect n start result left → HoldsIn P left.life
+  from_copy : (n : MemberFacts K L D) (start : StartFacts K L D) (result : Result (Unit {0}) RecoverError) (left : MemberFacts K L D) → IsFresh term_length start.fresh → GoesOn same elect n start result left → HoldsIn P left.life
   from_copy n start result left fresh (inl (is, leaves)) = rw leaves tt
   from_copy n start result left fresh (inr (copy, by_view, goes)) = by_error (recover_error same start.fresh start.floor start.now copy) goes
     where
@@ -35,7 +35,7 @@ module _ {K L D G : Type 0} (same : D → D → Bool) (elect : Elect L) (signatu
       by_error None (_, leaves) = rw leaves (floor_then_all_keep same elect P keeps start.now start.fresh start.floor copy (begins start.fresh start.floor start.now fresh))
       by_error (Some e) (_, leaves) = rw leaves tt
 
-  restart_keeps : (m : MemberFacts K L D G) (r : RestartFacts K L D) (result : Result (Unit {0}) RecoverError) (left : MemberFacts K L D G) → IsFresh term_length r.start.fresh → HoldsIn P m.life → IsRestart same elect m r result left → HoldsIn P left.life
+  restart_keeps : (m : MemberFacts K L D) (r : RestartFacts K L D) (result : Result (Unit {0}) RecoverError) (left : MemberFacts K L D) → IsFresh term_length r.start.fresh → HoldsIn P m.life → IsRestart same elect m r result left → HoldsIn P left.life
   unfolding IsRestart
   restart_keeps m r result left fresh sound restarts = by_test (retention_grows m r.prune r.start.fresh.settings.view_retention) restarts
     where
@@ -43,16 +43,16 @@ module _ {K L D G : Type 0} (same : D → D → Bool) (elect : Elect L) (signatu
       by_test true (_, leaves) = rw leaves sound
       by_test false goes = from_copy (cut m r.drop r.prune) r.start result left fresh goes
 
-  told_keeps : (m : MemberFacts K L D G) (call : LifeCall D) (told : Told K D G) (left : MemberFacts K L D G) → IsStep same elect signature_of m (as_step call) told left → HoldsIn P m.life → HoldsIn P left.life
+  told_keeps : (m : MemberFacts K L D) (call : LifeCall D) (told : Told K D) (left : MemberFacts K L D) → IsStep same elect m (as_step call) told left → HoldsIn P m.life → HoldsIn P left.life
   told_keeps m call told left is_step sound =
-      elim (call_outcome same elect signature_of (λ c t x y. P x → P y) (λ c f x s. s) (λ c x s. s)
-      (λ c x allowed s. call_by_any G same elect x signature_of P s (λ e. keeps x e s) c) (λ c x o allowed s. work_by_any G same elect x o P s (λ e. keeps x e s) c) m call told left is_step) [
+      elim (call_outcome same elect (λ c t x y. P x → P y) (λ c f x s. s) (λ c x s. s)
+      (λ c x allowed s. call_by_any same elect x P s (λ e. keeps x e s) c) (λ c x o allowed s. work_by_any same elect x o P s (λ e. keeps x e s) c) m call told left is_step) [
         | inl (fault, tells, dies) ↦ subst (HoldsIn P) (sym dies) tt
         | inr (x, y, alive, lives, leads) ↦ subst (HoldsIn P) (sym lives) (leads (subst (HoldsIn P) alive sound))
       ]
 
   -- from a member that keeps it on, over calls and restarts
-  pub run_keeps : (steps : List (StepFacts K L D)) (replies : List (Told K D G)) (m end : MemberFacts K L D G) → BeginFresh term_length steps → HoldsIn P m.life → IsRun same elect signature_of m steps replies end → HoldsIn P end.life
+  pub run_keeps : (steps : List (StepFacts K L D)) (replies : List (Told K D)) (m end : MemberFacts K L D) → BeginFresh term_length steps → HoldsIn P m.life → IsRun same elect m steps replies end → HoldsIn P end.life
   run_keeps [] [] m end fresh sound run = subst (λ n. HoldsIn P n.life) run sound
   run_keeps [] (told ∷ replies) m end fresh sound run = absurd run
   run_keeps (step ∷ steps) [] m end fresh sound run = absurd run
@@ -64,5 +64,5 @@ module _ {K L D G : Type 0} (same : D → D → Bool) (elect : Elect L) (signatu
       run_keeps steps replies next end fresh.1 (restart_keeps m r is_step.0 next fresh.0 sound is_step.1) rest
 
   -- from the start of a run on
-  pub run_induction : (start : StartFacts K L D) (steps : List (StepFacts K L D)) (replies : List (Told K D G)) (end : MemberFacts K L D G) → IsFresh term_length start.fresh → BeginFresh term_length steps → IsRun same elect signature_of (started same elect start.fresh start.floor start.now) steps replies end → HoldsIn P end.life
+  pub run_induction : (start : StartFacts K L D) (steps : List (StepFacts K L D)) (replies : List (Told K D)) (end : MemberFacts K L D) → IsFresh term_length start.fresh → BeginFresh term_length steps → IsRun same elect (started same elect start.fresh start.floor start.now) steps replies end → HoldsIn P end.life
   run_induction start steps replies end begun fresh run = run_keeps steps replies (started same elect start.fresh start.floor start.now) end fresh (begins start.fresh start.floor start.now begun) run

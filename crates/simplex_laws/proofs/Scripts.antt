@@ -33,33 +33,33 @@ use Rattle.simplex_laws.specs.Deeds.{Accepts}
 use Rattle.simplex_laws.specs.Stories.{Story, deeds_of, BeginsAs, Ran}
 use Rattle.simplex_laws.proofs.Splits.{Contains-cases}
 
-module _ {K L D G : Type 0} (same : D → D → Bool) (elect : Elect L) (signature_of : ℕ → Subject D → G) where
+module _ {K L D : Type 0} (same : D → D → Bool) (elect : Elect L) where
   -- what is told, where no growth is refused and each restart finds its record in order
-  abbrev pub reply_then : Option (Facts K L D) → MemberFacts K L D G → StepFacts K L D → Told K D G
+  abbrev pub reply_then : Option (Facts K L D) → MemberFacts K L D → StepFacts K L D → Told K D
   reply_then life m (Restarts r) = Restarted
   reply_then None m (Calls call) = Refused fault.Failed
   reply_then None m (Works call) = Refused fault.Failed
-  reply_then (Some x) m (Calls call) = reply_of same elect signature_of x call
-  reply_then (Some x) m (Works call) = work_reply same elect signature_of x m.openings call
+  reply_then (Some x) m (Calls call) = reply_of same elect x call
+  reply_then (Some x) m (Works call) = work_reply same elect x m.openings call
 
   -- and what is left
-  abbrev pub next_then : Option (Facts K L D) → MemberFacts K L D G → StepFacts K L D → MemberFacts K L D G
+  abbrev pub next_then : Option (Facts K L D) → MemberFacts K L D → StepFacts K L D → MemberFacts K L D
   next_then life m (Restarts r) = new_life same elect (cut m r.drop r.prune) r.start (cut m r.drop r.prune).entries
   next_then None m (Calls call) = m
   next_then None m (Works call) = m
-  next_then (Some x) m (Calls call) = left_of same elect signature_of x m call
-  next_then (Some x) m (Works call) = left_of_work same elect signature_of x m call
+  next_then (Some x) m (Calls call) = left_of same elect x m call
+  next_then (Some x) m (Works call) = left_of_work same elect x m call
 
-  abbrev pub replies_from : MemberFacts K L D G → List (StepFacts K L D) → List (Told K D G)
+  abbrev pub replies_from : MemberFacts K L D → List (StepFacts K L D) → List (Told K D)
   replies_from m [] = []
   replies_from m (step ∷ steps) = reply_then m.life m step ∷ replies_from (next_then m.life m step) steps
 
-  abbrev pub end_from : MemberFacts K L D G → List (StepFacts K L D) → MemberFacts K L D G
+  abbrev pub end_from : MemberFacts K L D → List (StepFacts K L D) → MemberFacts K L D
   end_from m [] = m
   end_from m (step ∷ steps) = end_from (next_then m.life m step) steps
 
   -- each restart is taken
-  abbrev pub Fits : MemberFacts K L D G → List (StepFacts K L D) → Type 0
+  abbrev pub Fits : MemberFacts K L D → List (StepFacts K L D) → Type 0
   Fits m [] = Unit {0}
   Fits m (Restarts r ∷ steps) =
       (retention_grows m r.prune r.start.fresh.settings.view_retention ≡ false)
@@ -69,44 +69,44 @@ module _ {K L D G : Type 0} (same : D → D → Bool) (elect : Elect L) (signatu
   Fits m (Calls call ∷ steps) = Fits (next_then m.life m (Calls call)) steps
   Fits m (Works call ∷ steps) = Fits (next_then m.life m (Works call)) steps
 
-  call_answered : (life : Option (Facts K L D)) (m : MemberFacts K L D G) (call : CallFacts D) → AnswersAlive same elect signature_of life m call (reply_then life m (Calls call)) (next_then life m (Calls call))
+  call_answered : (life : Option (Facts K L D)) (m : MemberFacts K L D) (call : CallFacts D) → AnswersAlive same elect life m call (reply_then life m (Calls call)) (next_then life m (Calls call))
   call_answered None m call = (refl, refl)
   call_answered (Some x) m call = inl (refl, refl)
 
-  work_answered : (life : Option (Facts K L D)) (m : MemberFacts K L D G) (call : WorkCall D) → IsWorkOf same elect signature_of life m call (reply_then life m (Works call)) (next_then life m (Works call))
+  work_answered : (life : Option (Facts K L D)) (m : MemberFacts K L D) (call : WorkCall D) → IsWorkOf same elect life m call (reply_then life m (Works call)) (next_then life m (Works call))
   work_answered None m call = (refl, refl)
   work_answered (Some x) m call = inl (refl, refl)
 
-  call_made : (m : MemberFacts K L D G) (call : CallFacts D) → IsCall same elect signature_of m call (reply_then m.life m (Calls call)) (next_then m.life m (Calls call))
+  call_made : (m : MemberFacts K L D) (call : CallFacts D) → IsCall same elect m call (reply_then m.life m (Calls call)) (next_then m.life m (Calls call))
   unfolding IsCall
   call_made m call = call_answered m.life m call
 
-  work_made : (m : MemberFacts K L D G) (call : WorkCall D) → IsWork same elect signature_of m call (reply_then m.life m (Works call)) (next_then m.life m (Works call))
+  work_made : (m : MemberFacts K L D) (call : WorkCall D) → IsWork same elect m call (reply_then m.life m (Works call)) (next_then m.life m (Works call))
   unfolding IsWork
   work_made m call = work_answered m.life m call
 
-  goes_on : (m : MemberFacts K L D G) (start : StartFacts K L D) → recover_error same start.fresh start.floor start.now m.entries ≡ None → GoesOnFrom same elect m start m.entries (Ok tt) (new_life same elect m start m.entries)
+  goes_on : (m : MemberFacts K L D) (start : StartFacts K L D) → recover_error same start.fresh start.floor start.now m.entries ≡ None → GoesOnFrom same elect m start m.entries (Ok tt) (new_life same elect m start m.entries)
   goes_on m start none = rw none (refl, refl)
 
-  restart_made : (m : MemberFacts K L D G) (r : RestartFacts K L D) → retention_grows m r.prune r.start.fresh.settings.view_retention ≡ false → IsNonDecreasingBy entry_view (cut m r.drop r.prune).entries → recover_error same r.start.fresh r.start.floor r.start.now (cut m r.drop r.prune).entries ≡ None → IsRestart same elect m r (Ok tt) (next_then m.life m (Restarts r))
+  restart_made : (m : MemberFacts K L D) (r : RestartFacts K L D) → retention_grows m r.prune r.start.fresh.settings.view_retention ≡ false → IsNonDecreasingBy entry_view (cut m r.drop r.prune).entries → recover_error same r.start.fresh r.start.floor r.start.now (cut m r.drop r.prune).entries ≡ None → IsRestart same elect m r (Ok tt) (next_then m.life m (Restarts r))
   unfolding IsRestart
   restart_made m r grows rising none =
       let n = cut m r.drop r.prune in
       subst (λ (b : Bool). IsRestartWhere same elect b m r (Ok tt) (new_life same elect n r.start n.entries)) (sym grows)
       (inr (n.entries, record { rising = rising; of_each_view = λ v. refl }, goes_on n r.start none))
 
-  pub fits_run : (m : MemberFacts K L D G) (steps : List (StepFacts K L D)) → Fits m steps → IsRun same elect signature_of m steps (replies_from m steps) (end_from m steps)
+  pub fits_run : (m : MemberFacts K L D) (steps : List (StepFacts K L D)) → Fits m steps → IsRun same elect m steps (replies_from m steps) (end_from m steps)
   fits_run m [] fits = refl
   fits_run m (Calls call ∷ steps) fits = (next_then m.life m (Calls call), call_made m call, fits_run (next_then m.life m (Calls call)) steps fits)
   fits_run m (Works call ∷ steps) fits = (next_then m.life m (Works call), work_made m call, fits_run (next_then m.life m (Works call)) steps fits)
   fits_run m (Restarts r ∷ steps) fits = (next_then m.life m (Restarts r), (Ok tt, restart_made m r fits.0 fits.1 fits.2, refl), fits_run (next_then m.life m (Restarts r)) steps fits.3)
 
-  abbrev pub begun : StartFacts K L D → MemberFacts K L D G
+  abbrev pub begun : StartFacts K L D → MemberFacts K L D
   begun start = started same elect start.fresh start.floor start.now
 
-  pub fits_run_from : (s : Story K L D G) → recover_error {G = G} same s.start.fresh s.start.floor s.start.now [] ≡ None → Fits (begun s.start) s.steps → replies_from (begun s.start) s.steps ≡ s.replies → IsRunFrom same elect signature_of s.start s.steps s.replies
+  pub fits_run_from : (s : Story K L D) → recover_error same s.start.fresh s.start.floor s.start.now [] ≡ None → Fits (begun s.start) s.steps → replies_from (begun s.start) s.steps ≡ s.replies → IsRunFrom same elect s.start s.steps s.replies
   unfolding IsRunFrom
-  fits_run_from s none fits is = (none, end_from (begun s.start) s.steps, subst (λ (told : List (Told K D G)). IsRun same elect signature_of (begun s.start) s.steps told (end_from (begun s.start) s.steps)) is (fits_run (begun s.start) s.steps fits))
+  fits_run_from s none fits is = (none, end_from (begun s.start) s.steps, subst (λ (told : List (Told K D)). IsRun same elect (begun s.start) s.steps told (end_from (begun s.start) s.steps)) is (fits_run (begun s.start) s.steps fits))
 
 -- the numbers of the items rise
 abbrev pub rises_from : {X : Type 0} → (X → ℕ) → ℕ → List X → Bool
@@ -151,61 +151,61 @@ each_begins {K} {L} {D} term_length i (Restarts q ∷ steps) all r h = elim (Con
 begins : (term_length me : ℕ) (floor : FloorFacts ℕ) → 0 < term_length → BeginsAs term_length me (start_at term_length floor me).fresh
 begins term_length me floor some = record { fresh = record { fresh = refl; terms = refl; some = some }; signs_as = inl refl }
 
-module _ (signature_of : ℕ → Subject ℕ → ℕ) where
-  abbrev from_start : Story ℕ ℕ ℕ ℕ → List (Told ℕ ℕ ℕ)
-  from_start s = replies_from nat_eq leader signature_of (begun nat_eq leader signature_of s.start) s.steps
+module _ where
+  abbrev from_start : Story ℕ ℕ ℕ → List (Told ℕ ℕ)
+  from_start s = replies_from nat_eq leader (begun nat_eq leader s.start) s.steps
 
-  impatient_told : from_start (impatient signature_of) ≡ (impatient signature_of).replies
+  impatient_told : from_start impatient ≡ impatient.replies
   unfolding spans payload_for first_gap explicit_payload in_window is_admitted binding_matches parent_payload may_notarize may_nullify may_finalize is_gated required_parent
   impatient_told = refl
 
-  patient_told_1 : from_start (patient signature_of 1) ≡ (patient signature_of 1).replies
+  patient_told_1 : from_start (patient 1) ≡ (patient 1).replies
   unfolding standing spans payload_for first_gap explicit_payload in_window is_admitted binding_matches parent_payload may_notarize may_nullify may_finalize is_gated required_parent
   patient_told_1 = refl
 
   -- what is left of the record at the restart of the third member
-  abbrev kept : List (ArtifactFacts ℕ ℕ)
-  kept = NotarizeVote one 2 (signature_of 2 (subject.Notarize one)) ∷ Accepted (Notarized (certificate one)) ∷ Verdict (round 1) true ∷ FinalizeVote one 2 (signature_of 2 (subject.Finalize one)) ∷ []
+  abbrev kept : List (ArtifactFacts ℕ)
+  kept = NotarizeVote one 2 ∷ Accepted (Notarized (certificate one)) ∷ Verdict (round 1) true ∷ FinalizeVote one 2 ∷ []
 
-  forgetful_told : from_start (forgetful signature_of) ≡ (forgetful signature_of).replies
+  forgetful_told : from_start (forgetful) ≡ (forgetful).replies
   unfolding recovered taken may_drop pruned standing spans payload_for first_gap explicit_payload in_window is_admitted binding_matches parent_payload may_notarize may_nullify may_finalize is_gated required_parent
   forgetful_told = refl
 
-  forgetful_fits : Fits nat_eq leader signature_of (begun nat_eq leader signature_of (forgetful signature_of).start) (forgetful signature_of).steps
+  forgetful_fits : Fits nat_eq leader (begun nat_eq leader (forgetful).start) (forgetful).steps
   unfolding first_broken_rule recovered taken may_drop pruned standing spans payload_for first_gap explicit_payload in_window is_admitted binding_matches parent_payload may_notarize may_nullify may_finalize is_gated required_parent
   forgetful_fits = (refl, rises entry_view 0 kept refl, refl, tt)
 
-  pub forgetful_ran : Ran nat_eq leader signature_of 5 2 (forgetful signature_of)
+  pub forgetful_ran : Ran nat_eq leader 5 2 (forgetful)
   unfolding first_broken_rule
   forgetful_ran = record {
-    lives = record { first = begins 5 2 (Genesis 0) (omega arith); later = each_begins 5 2 (forgetful signature_of).steps (begins 5 2 (Genesis 0) (omega arith), tt) };
-    run = fits_run_from nat_eq leader signature_of (forgetful signature_of) refl forgetful_fits forgetful_told;
+    lives = record { first = begins 5 2 (Genesis 0) (omega arith); later = each_begins 5 2 (forgetful).steps (begins 5 2 (Genesis 0) (omega arith), tt) };
+    run = fits_run_from nat_eq leader (forgetful) refl forgetful_fits forgetful_told;
   }
 
-  skipping_told_0 : from_start (skipping signature_of 0) ≡ (skipping signature_of 0).replies
+  skipping_told_0 : from_start (skipping 0) ≡ (skipping 0).replies
   unfolding standing spans payload_for first_gap explicit_payload in_window is_admitted binding_matches parent_payload may_notarize may_nullify may_finalize is_gated required_parent
   skipping_told_0 = refl
 
-  skipping_told_1 : from_start (skipping signature_of 1) ≡ (skipping signature_of 1).replies
+  skipping_told_1 : from_start (skipping 1) ≡ (skipping 1).replies
   unfolding standing spans payload_for first_gap explicit_payload in_window is_admitted binding_matches parent_payload may_notarize may_nullify may_finalize is_gated required_parent
   skipping_told_1 = refl
 
-  skipping_told_2 : from_start (skipping signature_of 2) ≡ (skipping signature_of 2).replies
+  skipping_told_2 : from_start (skipping 2) ≡ (skipping 2).replies
   unfolding standing spans payload_for first_gap explicit_payload in_window is_admitted binding_matches parent_payload may_notarize may_nullify may_finalize is_gated required_parent
   skipping_told_2 = refl
 
   -- what is left of the record at the first restart, and at each later one
-  abbrev once : List (ArtifactFacts ℕ ℕ)
-  once = Accepted (Notarized (certificate one)) ∷ Verdict (round 1) true ∷ FinalizeVote one 1 (signature_of 1 (subject.Finalize one)) ∷ []
+  abbrev once : List (ArtifactFacts ℕ)
+  once = Accepted (Notarized (certificate one)) ∷ Verdict (round 1) true ∷ FinalizeVote one 1 ∷ []
 
-  abbrev twice : List (ArtifactFacts ℕ ℕ)
-  twice = Accepted (Notarized (certificate two)) ∷ Verdict (round 2) true ∷ FinalizeVote two 1 (signature_of 1 (subject.Finalize two)) ∷ Accepted (CertifiedFinal (certificate (proposal 3 2))) ∷ []
+  abbrev twice : List (ArtifactFacts ℕ)
+  twice = Accepted (Notarized (certificate two)) ∷ Verdict (round 2) true ∷ FinalizeVote two 1 ∷ Accepted (CertifiedFinal (certificate (proposal 3 2))) ∷ []
 
-  restarting_told : from_start (restarting signature_of) ≡ (restarting signature_of).replies
+  restarting_told : from_start restarting ≡ restarting.replies
   unfolding recovered taken may_drop pruned standing spans payload_for first_gap explicit_payload in_window is_admitted binding_matches parent_payload may_notarize may_nullify may_finalize is_gated required_parent
   restarting_told = refl
 
-  restarting_fits : Fits nat_eq leader signature_of (begun nat_eq leader signature_of (restarting signature_of).start) (restarting signature_of).steps
+  restarting_fits : Fits nat_eq leader (begun nat_eq leader restarting.start) restarting.steps
   unfolding first_broken_rule recovered taken may_drop pruned standing spans payload_for first_gap explicit_payload in_window is_admitted binding_matches parent_payload may_notarize may_nullify may_finalize is_gated required_parent
   restarting_fits = (
     refl,
@@ -224,52 +224,52 @@ module _ (signature_of : ℕ → Subject ℕ → ℕ) where
     ),
   )
 
-  pub impatient_ran : Ran nat_eq leader signature_of 5 0 (impatient signature_of)
+  pub impatient_ran : Ran nat_eq leader 5 0 impatient
   unfolding first_broken_rule
   impatient_ran = record {
-    lives = record { first = begins 5 0 (Genesis 0) (omega arith); later = each_begins 5 0 (impatient signature_of).steps tt };
-    run = fits_run_from nat_eq leader signature_of (impatient signature_of) refl tt impatient_told;
+    lives = record { first = begins 5 0 (Genesis 0) (omega arith); later = each_begins 5 0 impatient.steps tt };
+    run = fits_run_from nat_eq leader impatient refl tt impatient_told;
   }
 
-  patient_ran : (me : ℕ) → from_start (patient signature_of me) ≡ (patient signature_of me).replies → Ran nat_eq leader signature_of 5 me (patient signature_of me)
+  patient_ran : (me : ℕ) → from_start (patient me) ≡ (patient me).replies → Ran nat_eq leader 5 me (patient me)
   unfolding first_broken_rule
   patient_ran me told = record {
-    lives = record { first = begins 5 me (Genesis 0) (omega arith); later = each_begins 5 me (patient signature_of me).steps tt };
-    run = fits_run_from nat_eq leader signature_of (patient signature_of me) refl tt told;
+    lives = record { first = begins 5 me (Genesis 0) (omega arith); later = each_begins 5 me (patient me).steps tt };
+    run = fits_run_from nat_eq leader (patient me) refl tt told;
   }
 
-  skipping_ran : (me : ℕ) → from_start (skipping signature_of me) ≡ (skipping signature_of me).replies → Ran nat_eq leader signature_of 1 me (skipping signature_of me)
+  skipping_ran : (me : ℕ) → from_start (skipping me) ≡ (skipping me).replies → Ran nat_eq leader 1 me (skipping me)
   unfolding first_broken_rule
   skipping_ran me told = record {
-    lives = record { first = begins 1 me (Genesis 0) (omega arith); later = each_begins 1 me (skipping signature_of me).steps tt };
-    run = fits_run_from nat_eq leader signature_of (skipping signature_of me) refl tt told;
+    lives = record { first = begins 1 me (Genesis 0) (omega arith); later = each_begins 1 me (skipping me).steps tt };
+    run = fits_run_from nat_eq leader (skipping me) refl tt told;
   }
 
-  pub restarting_ran : Ran nat_eq leader signature_of 5 1 (restarting signature_of)
+  pub restarting_ran : Ran nat_eq leader 5 1 restarting
   unfolding first_broken_rule
   restarting_ran = record {
-    lives = record { first = begins 5 1 (Genesis 0) (omega arith); later = each_begins 5 1 (restarting signature_of).steps (begins 5 1 (Genesis 0) (omega arith), (begins 5 1 (Genesis 0) (omega arith), (begins 5 1 (Finalized (certificate (proposal 4 3))) (omega arith), tt))) };
-    run = fits_run_from nat_eq leader signature_of (restarting signature_of) refl restarting_fits restarting_told;
+    lives = record { first = begins 5 1 (Genesis 0) (omega arith); later = each_begins 5 1 restarting.steps (begins 5 1 (Genesis 0) (omega arith), (begins 5 1 (Genesis 0) (omega arith), (begins 5 1 (Finalized (certificate (proposal 4 3))) (omega arith), tt))) };
+    run = fits_run_from nat_eq leader restarting refl restarting_fits restarting_told;
   }
 
   -- the networks
 
-  notarized_one : Backed signature_of (four signature_of) (subject.Notarize one)
+  notarized_one : Backed four (subject.Notarize one)
   notarized_one = inr (inl ((0, omega arith, refl), inl ((0, omega arith, refl), inl (tt, tt))))
 
-  pub finalized_one : Backed signature_of (four signature_of) (subject.Finalize one)
+  pub finalized_one : Backed four (subject.Finalize one)
   finalized_one = inr (inl ((2, omega arith, refl), inl ((2, omega arith, refl), inl (tt, tt))))
 
-  notarized_two : Backed signature_of (four signature_of) (subject.Notarize two)
+  notarized_two : Backed four (subject.Notarize two)
   notarized_two = inr (inl ((3, omega arith, refl), inl ((5, omega arith, refl), inl (tt, tt))))
 
-  pub finalized_two : Backed signature_of (four signature_of) (subject.Finalize two)
+  pub finalized_two : Backed four (subject.Finalize two)
   finalized_two = inl ((4, omega arith, refl), inl ((5, omega arith, refl), inl ((7, omega arith, refl), tt)))
 
   abbrev FourBack : Subject ℕ → Type 0
-  FourBack c = Backed signature_of (four signature_of) c
+  FourBack c = Backed four c
 
-  impatient_accepts : (c : Subject ℕ) → Contains (deeds_of (impatient signature_of)) (Accepts c) → FourBack c
+  impatient_accepts : (c : Subject ℕ) → Contains (deeds_of impatient) (Accepts c) → FourBack c
   impatient_accepts c (zero, less, same) = absurd (cc)
   impatient_accepts c (suc zero, less, same) = (let e : subject.Notarize one ≡ c = cc in subst FourBack e notarized_one)
   impatient_accepts c (suc (suc zero), less, same) = (let e : subject.Notarize two ≡ c = cc in subst FourBack e notarized_two)
@@ -277,7 +277,7 @@ module _ (signature_of : ℕ → Subject ℕ → ℕ) where
   impatient_accepts c (suc (suc (suc (suc zero))), less, same) = absurd (cc)
   impatient_accepts c (suc (suc (suc (suc (suc k)))), less, same) = absurd (omega arith)
 
-  patient_accepts : (me : ℕ) (c : Subject ℕ) → Contains (deeds_of (patient signature_of me)) (Accepts c) → FourBack c
+  patient_accepts : (me : ℕ) (c : Subject ℕ) → Contains (deeds_of (patient me)) (Accepts c) → FourBack c
   patient_accepts me c (zero, less, same) = absurd (cc)
   patient_accepts me c (suc zero, less, same) = (let e : subject.Notarize one ≡ c = cc in subst FourBack e notarized_one)
   patient_accepts me c (suc (suc zero), less, same) = absurd (cc)
@@ -286,7 +286,7 @@ module _ (signature_of : ℕ → Subject ℕ → ℕ) where
   patient_accepts me c (suc (suc (suc (suc (suc zero)))), less, same) = absurd (cc)
   patient_accepts me c (suc (suc (suc (suc (suc (suc k))))), less, same) = absurd (omega arith)
 
-  forgetful_accepts : (c : Subject ℕ) → Contains (deeds_of (forgetful signature_of)) (Accepts c) → FourBack c
+  forgetful_accepts : (c : Subject ℕ) → Contains (deeds_of (forgetful)) (Accepts c) → FourBack c
   forgetful_accepts c (zero, less, same) = absurd (cc)
   forgetful_accepts c (suc zero, less, same) = (let e : subject.Notarize one ≡ c = cc in subst FourBack e notarized_one)
   forgetful_accepts c (suc (suc zero), less, same) = absurd (cc)
@@ -298,22 +298,22 @@ module _ (signature_of : ℕ → Subject ℕ → ℕ) where
   forgetful_accepts c (suc (suc (suc (suc (suc (suc (suc (suc k))))))), less, same) = absurd (omega arith)
 
   -- what holds of each honest place holds of the story at it
-  four_places : (P : ℕ → Story ℕ ℕ ℕ ℕ → Type 0) → P 0 (impatient signature_of) → P 1 (patient signature_of 1) → P 2 (forgetful signature_of) → (i : ℕ) (s : Story ℕ ℕ ℕ ℕ) → slice_get (four signature_of) i ≡ Some (Honest s) → P i s
-  four_places P a b c zero s is = (let e : impatient signature_of ≡ s = cc in subst (λ t. P 0 t) e a)
-  four_places P a b c (suc zero) s is = (let e : patient signature_of 1 ≡ s = cc in subst (λ t. P 1 t) e b)
-  four_places P a b c (suc (suc zero)) s is = (let e : forgetful signature_of ≡ s = cc in subst (λ t. P 2 t) e c)
+  four_places : (P : ℕ → Story ℕ ℕ ℕ → Type 0) → P 0 impatient → P 1 (patient 1) → P 2 (forgetful) → (i : ℕ) (s : Story ℕ ℕ ℕ) → slice_get four i ≡ Some (Honest s) → P i s
+  four_places P a b c zero s is = (let e : impatient ≡ s = cc in subst (λ t. P 0 t) e a)
+  four_places P a b c (suc zero) s is = (let e : patient 1 ≡ s = cc in subst (λ t. P 1 t) e b)
+  four_places P a b c (suc (suc zero)) s is = (let e : forgetful ≡ s = cc in subst (λ t. P 2 t) e c)
   four_places P a b c (suc (suc (suc zero))) s is = absurd (cc)
   four_places P a b c (suc (suc (suc (suc k)))) s is = absurd (cc)
 
-  pub four_network : IsNetworkOf nat_eq leader signature_of 5 (four signature_of)
+  pub four_network : IsNetworkOf nat_eq leader 5 four
   four_network = record {
     few_faulty = inl (omega arith, omega arith);
-    honest = four_places (λ i s. Ran nat_eq leader signature_of 5 i s) impatient_ran (patient_ran 1 patient_told_1) forgetful_ran;
+    honest = four_places (λ i s. Ran nat_eq leader 5 i s) impatient_ran (patient_ran 1 patient_told_1) forgetful_ran;
     backed = λ i s c at h. four_places (λ j t. (d : Subject ℕ) → Contains (deeds_of t) (Accepts d) → FourBack d) impatient_accepts (patient_accepts 1) forgetful_accepts i s at c h;
   }
 
   abbrev FiveBack : Subject ℕ → Type 0
-  FiveBack c = Backed signature_of (five signature_of) c
+  FiveBack c = Backed five c
 
   pub five_notarize_one : FiveBack (subject.Notarize one)
   five_notarize_one = inl ((0, omega arith, refl), inl ((0, omega arith, refl), inl ((0, omega arith, refl), inl (tt, tt))))
@@ -327,7 +327,7 @@ module _ (signature_of : ℕ → Subject ℕ → ℕ) where
   pub five_finalize_three : FiveBack (subject.Finalize (proposal 3 1))
   five_finalize_three = inl ((6, omega arith, refl), inl ((6, omega arith, refl), inl ((6, omega arith, refl), inl (tt, tt))))
 
-  skipping_accepts : (me : ℕ) (c : Subject ℕ) → Contains (deeds_of (skipping signature_of me)) (Accepts c) → FiveBack c
+  skipping_accepts : (me : ℕ) (c : Subject ℕ) → Contains (deeds_of (skipping me)) (Accepts c) → FiveBack c
   skipping_accepts me c (zero, less, same) = absurd (cc)
   skipping_accepts me c (suc zero, less, same) = (let e : subject.Notarize one ≡ c = cc in subst FiveBack e five_notarize_one)
   skipping_accepts me c (suc (suc zero), less, same) = absurd (cc)
@@ -337,17 +337,17 @@ module _ (signature_of : ℕ → Subject ℕ → ℕ) where
   skipping_accepts me c (suc (suc (suc (suc (suc (suc zero))))), less, same) = absurd (cc)
   skipping_accepts me c (suc (suc (suc (suc (suc (suc (suc k)))))), less, same) = absurd (omega arith)
 
-  five_places : (P : ℕ → Story ℕ ℕ ℕ ℕ → Type 0) → P 0 (skipping signature_of 0) → P 1 (skipping signature_of 1) → P 2 (skipping signature_of 2) → (i : ℕ) (s : Story ℕ ℕ ℕ ℕ) → slice_get (five signature_of) i ≡ Some (Honest s) → P i s
-  five_places P a b c zero s is = (let e : skipping signature_of 0 ≡ s = cc in subst (λ t. P 0 t) e a)
-  five_places P a b c (suc zero) s is = (let e : skipping signature_of 1 ≡ s = cc in subst (λ t. P 1 t) e b)
-  five_places P a b c (suc (suc zero)) s is = (let e : skipping signature_of 2 ≡ s = cc in subst (λ t. P 2 t) e c)
+  five_places : (P : ℕ → Story ℕ ℕ ℕ → Type 0) → P 0 (skipping 0) → P 1 (skipping 1) → P 2 (skipping 2) → (i : ℕ) (s : Story ℕ ℕ ℕ) → slice_get five i ≡ Some (Honest s) → P i s
+  five_places P a b c zero s is = (let e : skipping 0 ≡ s = cc in subst (λ t. P 0 t) e a)
+  five_places P a b c (suc zero) s is = (let e : skipping 1 ≡ s = cc in subst (λ t. P 1 t) e b)
+  five_places P a b c (suc (suc zero)) s is = (let e : skipping 2 ≡ s = cc in subst (λ t. P 2 t) e c)
   five_places P a b c (suc (suc (suc zero))) s is = absurd (cc)
   five_places P a b c (suc (suc (suc (suc zero)))) s is = absurd (cc)
   five_places P a b c (suc (suc (suc (suc (suc k))))) s is = absurd (cc)
 
-  pub five_network : IsNetworkOf nat_eq leader signature_of 1 (five signature_of)
+  pub five_network : IsNetworkOf nat_eq leader 1 five
   five_network = record {
     few_faulty = inr (omega arith);
-    honest = five_places (λ i s. Ran nat_eq leader signature_of 1 i s) (skipping_ran 0 skipping_told_0) (skipping_ran 1 skipping_told_1) (skipping_ran 2 skipping_told_2);
+    honest = five_places (λ i s. Ran nat_eq leader 1 i s) (skipping_ran 0 skipping_told_0) (skipping_ran 1 skipping_told_1) (skipping_ran 2 skipping_told_2);
     backed = λ i s c at h. five_places (λ j t. (d : Subject ℕ) → Contains (deeds_of t) (Accepts d) → FiveBack d) (skipping_accepts 0) (skipping_accepts 1) (skipping_accepts 2) i s at c h;
   }

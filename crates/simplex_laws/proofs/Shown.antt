@@ -56,7 +56,7 @@ module _ {S D K G C : Type 0} (bytes_of : C → List ℕ) where
   certificates_shown call.GetBestCertificate = refl
   certificates_shown call.Prune = refl
 
-  floor_shown : (f : Floor S D K G C) → floor_in f ≡ of_floor {G = G} (floor_facts bytes_of f)
+  floor_shown : (f : Floor S D K G C) → floor_in f ≡ of_floor (floor_facts bytes_of f)
   floor_shown (floor.Genesis payload) = refl
   floor_shown (floor.Finalized f) = refl
 
@@ -132,9 +132,9 @@ module _ {S L D K G C : Type 0} (me : S → Option ℕ) (members : S → List K)
   pub lives_as : (term_length i : ℕ) (start : Start S L D K G C) (steps : List (Step S L D K G C)) → AreSetUpAs me terms term_length i start steps → LivesAs term_length i (start_facts me members terms elects_early bytes_of start) (steps_of me members terms elects_early bytes_of steps)
   lives_as term_length i start steps holds = record { first = begins_as term_length i start holds.first; later = restarts_as term_length i steps holds.later }
 
-  pub restart_shown : (r : Restart S L D K G C) (result : Result (Unit {0}) RecoverError) → deeds_at (Restarts (restart_facts me members terms elects_early bytes_of r)) (restart_told {K = K} {D = D} {G = G} result) ≡ begun_by r.start result
+  pub restart_shown : (r : Restart S L D K G C) (result : Result (Unit {0}) RecoverError) → deeds_at (Restarts (restart_facts me members terms elects_early bytes_of r)) (restart_told {K = K} {D = D} result) ≡ begun_by r.start result
   restart_shown r (Ok done) = append-nil (of_floor (floor_facts bytes_of r.start.floor)) ∙ sym (floor_shown bytes_of r.start.floor)
   restart_shown r (Err e) = refl
 
-  pub start_shown : (start : Start S L D K G C) → of_floor {G = G} (floor_facts bytes_of start.floor) ≡ floor_in start.floor
+  pub start_shown : (start : Start S L D K G C) → of_floor (floor_facts bytes_of start.floor) ≡ floor_in start.floor
   start_shown start = sym (floor_shown bytes_of start.floor)

@@ -19,8 +19,8 @@ use Rattle.simplex_laws.proofs.Leaving.{known_of}
 use Rattle.simplex_laws.proofs.ShownWork.{told_finalize, decided_further, stalled_further, done_further, first_further, last_further, known_further}
 use Rattle.simplex_laws.proofs.Worked.{work_of, timed, decides, adds_work}
 
-module _ {K L D G : Type 0} (same : D → D → Bool) (elect : Elect L) (history : History K L D G) (x : Facts K L D) (facts : x ≡ facts_after same elect history.fresh history.events) (settings : x.settings ≡ history.fresh.settings) (terms : x.terms ≡ history.fresh.terms) (e : Event K D G) (y : Facts K L D) (v : ℕ) (earlier : round_of x v ≡ round_in same elect history v) (known : known_of (round_of y v) ≡ adds same elect x e v (known_of (round_of x v))) (work : work_of y v ≡ adds_work same elect x e v (work_of x v)) where
-  abbrev pub later : History K L D G
+module _ {K L D : Type 0} (same : D → D → Bool) (elect : Elect L) (history : History K L D) (x : Facts K L D) (facts : x ≡ facts_after same elect history.fresh history.events) (settings : x.settings ≡ history.fresh.settings) (terms : x.terms ≡ history.fresh.terms) (e : Event K D) (y : Facts K L D) (v : ℕ) (earlier : round_of x v ≡ round_in same elect history v) (known : known_of (round_of y v) ≡ adds same elect x e v (known_of (round_of x v))) (work : work_of y v ≡ adds_work same elect x e v (work_of x v)) where
+  abbrev pub later : History K L D
   later = with_event history e
 
   -- the decision, and the deadlines that go with it

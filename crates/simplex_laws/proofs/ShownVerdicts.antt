@@ -28,8 +28,8 @@ use Rattle.simplex_laws.proofs.Lasting.{brings_kept}
 use Rattle.simplex_laws.proofs.Steps.{notarization_by, verdict_by}
 use Rattle.simplex_laws.proofs.Verdicts.{Shows, given_so, event_shows, verdict_stands}
 
-module _ {K L D G : Type 0} (entries : List (ArtifactFacts D G)) where
-  pub shows_more : (new : List (ArtifactFacts D G)) (x : Facts K L D) → HasNoVerdict new → Shows entries x → Shows (entries ++ new) x
+module _ {K L D : Type 0} (entries : List (ArtifactFacts D)) where
+  pub shows_more : (new : List (ArtifactFacts D)) (x : Facts K L D) → HasNoVerdict new → Shows entries x → Shows (entries ++ new) x
   shows_more new x silent shows = record {
     notarized = λ v is. (let c = shows.notarized v is in (c.0, Contains-append_left entries new (Accepted (Notarized c.0)) c.1, c.2));
     judged = λ round success h known. elim (Contains-append_cases entries new (Verdict round success) h) [
@@ -56,25 +56,25 @@ module _ {K L D : Type 0} (x : Facts K L D) (v : ℕ) (success : Bool) where
       by_round (Some r) none = absurd (false≢true (sym none))
 
 -- the record's verdicts stay in order, and the state shows them
-pub record Tells {K L D G : Type 0} (deeds : List (Deed D G)) (entries : List (ArtifactFacts D G)) (x : Facts K L D) : Type 0 where
+pub record Tells {K L D : Type 0} (deeds : List (Deed D)) (entries : List (ArtifactFacts D)) (x : Facts K L D) : Type 0 where
   pub own : OwnRecord deeds entries
   pub shows : Shows entries x
 
-module _ {K L D G : Type 0} (same : D → D → Bool) (elect : Elect L) (deeds : List (Deed D G)) (entries : List (ArtifactFacts D G)) (x : Facts K L D) (ordered : InOrder x) (tells : Tells deeds entries x) where
+module _ {K L D : Type 0} (same : D → D → Bool) (elect : Elect L) (deeds : List (Deed D)) (entries : List (ArtifactFacts D)) (x : Facts K L D) (ordered : InOrder x) (tells : Tells deeds entries x) where
   -- an event that brings neither notarization nor verdict, where none is recorded
-  pub quiet_shows : (new : List (ArtifactFacts D G)) (e : Event K D G) → IsEvent x e → notarization_by e ≡ None → verdict_by e ≡ None → HasNoVerdict new → Shows (entries ++ new) (after_event same elect x e)
+  pub quiet_shows : (new : List (ArtifactFacts D)) (e : Event K D) → IsEvent x e → notarization_by e ≡ None → verdict_by e ≡ None → HasNoVerdict new → Shows (entries ++ new) (after_event same elect x e)
   quiet_shows new e takes no_notarization no_judgement silent =
       event_shows same elect x e (λ v token is. takes) entries (entries ++ new) ordered (λ c is. absurd (cc)) (λ round given success h is. absurd (cc)) (λ a h. Contains-append_left entries new a h) (λ c is none. absurd (cc))
       (λ round success h. elim (Contains-append_cases entries new (Verdict round success) h) [ inl old ↦ inl old | inr late ↦ absurd (silent round success late) ]) tells.shows
 
-  pub quiet_told : (more : List (Deed D G)) (new : List (ArtifactFacts D G)) (e : Event K D G) → IsEvent x e → notarization_by e ≡ None → verdict_by e ≡ None → AreQuiet new → Tells (deeds ++ more) (entries ++ new) (after_event same elect x e)
+  pub quiet_told : (more : List (Deed D)) (new : List (ArtifactFacts D)) (e : Event K D) → IsEvent x e → notarization_by e ≡ None → verdict_by e ≡ None → AreQuiet new → Tells (deeds ++ more) (entries ++ new) (after_event same elect x e)
   quiet_told more new e takes no_notarization no_judgement quiet = record { own = own_quiet deeds entries tells.own more new quiet; shows = quiet_shows new e takes no_notarization no_judgement (no_verdict new quiet) }
 
-  notarization_told : (more : List (Deed D G)) (c : ProposalFacts D) → takes_proposal_certificate x c ≡ true → Tells (deeds ++ more) (entries ++ newly (notarization_added same elect x c).0 (Accepted (Notarized c))) (after_add_notarization same elect x c)
+  notarization_told : (more : List (Deed D)) (c : ProposalFacts D) → takes_proposal_certificate x c ≡ true → Tells (deeds ++ more) (entries ++ newly (notarization_added same elect x c).0 (Accepted (Notarized c))) (after_add_notarization same elect x c)
   notarization_told more c takes =
       let is_new = (notarization_added same elect x c).0 in
-      let entry : ArtifactFacts D G = Accepted (Notarized c) in
-      let e : Event K D G = event.AddNotarization c in
+      let entry : ArtifactFacts D = Accepted (Notarized c) in
+      let e : Event K D = event.AddNotarization c in
       let quiet = quiet_newly is_new entry refl in
       record {
         own = own_quiet deeds entries tells.own more (newly is_new entry) quiet;
@@ -83,13 +83,13 @@ module _ {K L D G : Type 0} (same : D → D → Bool) (elect : Elect L) (deeds :
             (λ round success h. elim (Contains-append_cases entries (newly is_new entry) (Verdict round success) h) [ inl old ↦ inl old | inr late ↦ absurd (no_verdict (newly is_new entry) quiet round success late) ]) tells.shows;
       }
 
-  verdict_told : (more : List (Deed D G)) (v : ℕ) (success : Bool) (now : ℕ) → takes_verdict x v success ≡ true → Tells (deeds ++ more) (entries ++ newly (is_first_verdict x v) (Verdict (round_number x v) success)) (after_certified elect x v success now)
+  verdict_told : (more : List (Deed D)) (v : ℕ) (success : Bool) (now : ℕ) → takes_verdict x v success ≡ true → Tells (deeds ++ more) (entries ++ newly (is_first_verdict x v) (Verdict (round_number x v) success)) (after_certified elect x v success now)
   verdict_told more v success now takes = by_tracked (is_tracked x v) refl
     where
-      entry : ArtifactFacts D G
+      entry : ArtifactFacts D
       entry = Verdict (round_number x v) success
 
-      e : Event K D G
+      e : Event K D
       e = event.Certified v success now
 
       agree : is_tracked x v ≡ true → (round : Round) (given : Bool) → Contains entries (Verdict round given) → round.view ≡ v → given ≡ success
@@ -101,7 +101,7 @@ module _ {K L D G : Type 0} (same : D → D → Bool) (elect : Elect L) (deeds :
       same_verdict_as : (round : Round) (given : Bool) → Contains (entry ∷ []) (Verdict round given) → (round_number x v ≡ round) × (success ≡ given)
       same_verdict_as round given h = let e = only_one entry (Verdict round given) h in (cc, cc)
 
-      shown : is_tracked x v ≡ true → (new : List (ArtifactFacts D G)) → ((round : Round) (given : Bool) → Contains new (Verdict round given) → (round_number x v ≡ round) × (success ≡ given)) → Shows (entries ++ new) (after_certified elect x v success now)
+      shown : is_tracked x v ≡ true → (new : List (ArtifactFacts D)) → ((round : Round) (given : Bool) → Contains new (Verdict round given) → (round_number x v ≡ round) × (success ≡ given)) → Shows (entries ++ new) (after_certified elect x v success now)
       shown tracked new only =
           event_shows same elect x e (λ w token is. takes) entries (entries ++ new) ordered (λ c is. absurd (cc))
           (λ round given other h says. (let pair : (v, success) ≡ (round.view, other) = cc in agree tracked round given h (ap (λ (p : ℕ × Bool). p.0) (sym pair)) ∙ ap (λ (p : ℕ × Bool). p.1) pair))
@@ -112,7 +112,7 @@ module _ {K L D G : Type 0} (same : D → D → Bool) (elect : Elect L) (deeds :
                 let one = only round given late in
                 let at : v ≡ round.view = ap (λ (r : Round). r.view) one.0 in
                 subst (λ u. is_judged given (round_of (after_certified elect x v success now) u).certification ≡ true) at
-                (subst (λ b. is_judged b (round_of (after_certified elect x v success now) v).certification ≡ true) one.1 (verdict_stands G same elect x v success now ordered tracked)))
+                (subst (λ b. is_judged b (round_of (after_certified elect x v success now) v).certification ≡ true) one.1 (verdict_stands same elect x v success now ordered tracked)))
           ]) tells.shows
 
       by_first : is_tracked x v ≡ true → (b : Bool) → Tells (deeds ++ more) (entries ++ newly b entry) (after_certified elect x v success now)
@@ -127,29 +127,29 @@ module _ {K L D G : Type 0} (same : D → D → Bool) (elect : Elect L) (deeds :
           let later = untracked_later x v success untracked in
           rw (later, untracked) (record { own = own_quiet deeds entries tells.own more [] quiet_none; shows = shows_more entries [] (at_moment x now) (no_verdict [] quiet_none) (record { notarized = tells.shows.notarized; judged = tells.shows.judged }) })
 
-module _ {K L D G : Type 0} (same : D → D → Bool) (elect : Elect L) (signature_of : ℕ → Subject D → G) (deeds : List (Deed D G)) (entries : List (ArtifactFacts D G)) (x : Facts K L D) (ordered : InOrder x) (tells : Tells deeds entries x) where
-  quiet_nullify : (v : ℕ) → AreQuiet (first_vote (nullify_vote signature_of x v))
+module _ {K L D : Type 0} (same : D → D → Bool) (elect : Elect L) (deeds : List (Deed D)) (entries : List (ArtifactFacts D)) (x : Facts K L D) (ordered : InOrder x) (tells : Tells deeds entries x) where
+  quiet_nullify : (v : ℕ) → AreQuiet (first_vote (nullify_vote x v))
   quiet_nullify v = by_key x.me (nullify_answer x v)
     where
-      by_key : (o : Option ℕ) (a : Option Bool) → AreQuiet {D = D} {G = G} (first_vote (option_and_then (λ m. option_map (λ repeat. (repeat, NullifyVote (round_number x v) m (signature_of m (subject.Nullify (round_number x v))))) a) o))
+      by_key : (o : Option ℕ) (a : Option Bool) → AreQuiet {D = D} (first_vote (option_and_then (λ m. option_map (λ repeat. (repeat, NullifyVote (round_number x v) m)) a) o))
       by_key None a = quiet_none
       by_key (Some m) None = quiet_none
       by_key (Some m) (Some true) = quiet_none
-      by_key (Some m) (Some false) = quiet_newly true (NullifyVote (round_number x v) m (signature_of m (subject.Nullify (round_number x v)))) refl
+      by_key (Some m) (Some false) = quiet_newly true (NullifyVote (round_number x v) m) refl
 
-  quiet_finalize : (v : ℕ) → AreQuiet (vote_entry (finalize_vote elect signature_of x v))
+  quiet_finalize : (v : ℕ) → AreQuiet (vote_entry (finalize_vote elect x v))
   quiet_finalize v = by_key x.me (finalize_answer elect x v)
     where
-      by_key : (o : Option ℕ) (a : Option (Proposal D)) → AreQuiet (vote_entry (option_and_then (λ m. option_map (λ p. FinalizeVote p m (signature_of m (subject.Finalize p))) a) o))
+      by_key : (o : Option ℕ) (a : Option (Proposal D)) → AreQuiet (vote_entry (option_and_then (λ m. option_map (λ p. FinalizeVote p m) a) o))
       by_key None a = quiet_none
       by_key (Some m) None = quiet_none
-      by_key (Some m) (Some p) = quiet_newly true (FinalizeVote p m (signature_of m (subject.Finalize p))) refl
+      by_key (Some m) (Some p) = quiet_newly true (FinalizeVote p m) refl
 
-  told : (more : List (Deed D G)) (new : List (ArtifactFacts D G)) (e : Event K D G) → IsEvent x e → notarization_by e ≡ None → verdict_by e ≡ None → AreQuiet new → Tells (deeds ++ more) (entries ++ new) (after_event same elect x e)
+  told : (more : List (Deed D)) (new : List (ArtifactFacts D)) (e : Event K D) → IsEvent x e → notarization_by e ≡ None → verdict_by e ≡ None → AreQuiet new → Tells (deeds ++ more) (entries ++ new) (after_event same elect x e)
   told = quiet_told same elect deeds entries x ordered tells
 
   -- each call that is allowed and not refused
-  pub call_told : (call : CallFacts D) → is_allowed x call ≡ true → Tells (deeds ++ deeds_of_call call (answer same elect signature_of x call)) (entries ++ recorded_by same elect signature_of x call) (after_call same elect signature_of x call)
+  pub call_told : (call : CallFacts D) → is_allowed x call ≡ true → Tells (deeds ++ deeds_of_call call (answer same elect x call)) (entries ++ recorded_by same elect x call) (after_call same elect x call)
   call_told (AddNotarization c) allowed = notarization_told same elect deeds entries x ordered tells _ c allowed
   call_told (AddNullification c now) allowed = told _ _ (event.AddNullification c now) allowed refl refl (quiet_newly (nullification_added x c) (Accepted (Nullified c)) refl)
   call_told (AddFinalization c now) allowed = told _ _ (event.AddFinalization c now) allowed refl refl (quiet_newly (finalization_added same elect x c).0 (Accepted (Finalized c)) refl)

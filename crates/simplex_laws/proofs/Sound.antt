@@ -47,22 +47,22 @@ entered_reaches x v now = enters (nat_lt x.current v) refl
     enters true is = rw is (omega arith)
     enters false is = rw is (grind (arith, nat_tests))
 
-module _ {K L D G : Type 0} (same : D → D → Bool) (elect : Elect L) (x : Facts K L D) where
+module _ {K L D : Type 0} (same : D → D → Bool) (elect : Elect L) (x : Facts K L D) where
   -- a floor and a finalization enter a view above
-  event_passes : (e : Event K D G) → ((is_floor e ≡ false) × (finalized_by e ≡ 0)) ⊎ (finalized_by e < (after_event same elect x e).current)
+  event_passes : (e : Event K D) → ((is_floor e ≡ false) × (finalized_by e ≡ 0)) ⊎ (finalized_by e < (after_event same elect x e).current)
   event_passes (event.AddFinalization c now) = inr (passes (event.AddFinalization c now) refl)
     where
-      passes : (e : Event K D G) → finalization_by e ≡ Some c → c.proposal.round.view < (after_add_finalization same elect x c now).current
+      passes : (e : Event K D) → finalization_by e ≡ Some c → c.proposal.round.view < (after_add_finalization same elect x c now).current
       passes e says = omega (arith, (goes_along same elect x e 0 _ _ (from_entry c now says (omega arith) Still)).current, entered_reaches (raised (at_moment x now) c.proposal.round.view) (c.proposal.round.view + 1) now)
   event_passes (event.SetFloor (FinalizedFloor c) now) = inr (passes (event.SetFloor (FinalizedFloor c) now) refl)
     where
-      passes : (e : Event K D G) → finalization_by e ≡ Some c → c.proposal.round.view < (after_add_finalization same elect x c now).current
+      passes : (e : Event K D) → finalization_by e ≡ Some c → c.proposal.round.view < (after_add_finalization same elect x c now).current
       passes e says = omega (arith, (goes_along same elect x e 0 _ _ (from_entry c now says (omega arith) Still)).current, entered_reaches (raised (at_moment x now) c.proposal.round.view) (c.proposal.round.view + 1) now)
   event_passes (event.SetFloor (Genesis payload) now) =
-      inr (omega (arith, (goes_along {G = G} same elect x (event.SetFloor (Genesis payload) now) 0 _ _ (from_first_entry payload now (omega arith) Still)).current, entered_reaches (record (at_moment x now) { genesis = Some payload }) 1 now))
+      inr (omega (arith, (goes_along same elect x (event.SetFloor (Genesis payload) now) 0 _ _ (from_first_entry payload now (omega arith) Still)).current, entered_reaches (record (at_moment x now) { genesis = Some payload }) 1 now))
   event_passes _ = inl (refl, refl)
 
-  pub event_ahead : (e : Event K D G) → IsAhead x ⊎ ((x.finalized ≡ 0) × (is_floor e ≡ true)) → IsAhead (after_event same elect x e)
+  pub event_ahead : (e : Event K D) → IsAhead x ⊎ ((x.finalized ≡ 0) × (is_floor e ≡ true)) → IsAhead (after_event same elect x e)
   event_ahead e (inl ahead) =
       let goes = event_goes same elect x e in
       let finalizes = event_finalizes same elect x e in
@@ -83,8 +83,8 @@ module _ {K L D : Type 0} where
   pub nothing_stands : (y : Facts K L D) (v : ℕ) → round_at y v ≡ None → (kind : Kind) → standing_view kind (round_of y v) ≡ None
   nothing_stands y v untracked kind = ap (λ o. standing_view kind (unwrap_or o (new_round y.me y.members (round_number y v)))) untracked ∙ none_at_first D kind y.me y.members (round_number y v)
 
-module _ {K L D G : Type 0} (same : D → D → Bool) (elect : Elect L) (x : Facts K L D) where
-  event_placed : (e : Event K D G) → InOrder x → IsPlaced x → IsPlaced (after_event same elect x e)
+module _ {K L D : Type 0} (same : D → D → Bool) (elect : Elect L) (x : Facts K L D) where
+  event_placed : (e : Event K D) → InOrder x → IsPlaced x → IsPlaced (after_event same elect x e)
   event_placed e ordered placed = record { views = λ kind v u is. stood kind v u is (event_lasts same elect x e 0 (brings_any e) ordered v) }
     where
       y : Facts K L D
@@ -99,8 +99,8 @@ module _ {K L D G : Type 0} (same : D → D → Bool) (elect : Elect L) (x : Fac
 
 -- soundness
 
-module _ {K L D G : Type 0} (same : D → D → Bool) (elect : Elect L) (term_length : ℕ) where
-  pub event_sound : (x : Facts K L D) (e : Event K D G) → IsSound term_length x → IsSound term_length (after_event same elect x e)
+module _ {K L D : Type 0} (same : D → D → Bool) (elect : Elect L) (term_length : ℕ) where
+  pub event_sound : (x : Facts K L D) (e : Event K D) → IsSound term_length x → IsSound term_length (after_event same elect x e)
   event_sound x e sound = record {
     terms = ap (λ t. t.term_length) (event_goes same elect x e).terms ∙ sound.terms;
     ahead = event_ahead same elect x e (inl sound.ahead);
@@ -108,11 +108,11 @@ module _ {K L D G : Type 0} (same : D → D → Bool) (elect : Elect L) (term_le
     in_order = event_in_order same elect x e sound.in_order;
   }
 
-module _ {K L D : Type 0} (G : Type 0) (same : D → D → Bool) (elect : Elect L) (term_length : ℕ) where
+module _ {K L D : Type 0} (same : D → D → Bool) (elect : Elect L) (term_length : ℕ) where
   new_sound : (settings : Settings) (me : Option ℕ) (members : List K) (elector : L) (terms : Terms) (early : Bool) (floor : FloorFacts D) (now : ℕ) → terms.term_length ≡ term_length → IsSound term_length (after_set_floor same elect (new_facts settings me members elector terms early) floor now)
   new_sound settings me members elector terms early floor now length =
       let x : Facts K L D = new_facts settings me members elector terms early in
-      let e : Event K D G = event.SetFloor floor now in
+      let e : Event K D = event.SetFloor floor now in
       record {
         terms = ap (λ t. t.term_length) (event_goes same elect x e).terms ∙ length;
         ahead = event_ahead same elect x e (inr (refl, refl));
@@ -124,7 +124,7 @@ module _ {K L D : Type 0} (G : Type 0) (same : D → D → Bool) (elect : Elect 
   pub floor_sound : (x : Facts K L D) (floor : FloorFacts D) (now : ℕ) → IsFresh term_length x → IsSound term_length (after_set_floor same elect x floor now)
   floor_sound x floor now fresh = subst (λ y. IsSound term_length (after_set_floor same elect y floor now)) (sym fresh.fresh) (new_sound x.settings x.me x.members x.elector x.terms x.elects_early floor now fresh.terms)
 
-module _ {K L D G : Type 0} (same : D → D → Bool) (elect : Elect L) (term_length : ℕ) where
+module _ {K L D : Type 0} (same : D → D → Bool) (elect : Elect L) (term_length : ℕ) where
   -- and takes a record
-  pub recovered_sound : (x : Facts K L D) (floor : FloorFacts D) (now : ℕ) (entries : List (ArtifactFacts D G)) → IsFresh term_length x → IsSound term_length (recovered same elect x floor now entries)
-  recovered_sound x floor now entries fresh = floor_then_all_keep same elect (IsSound term_length) (λ y e. event_sound same elect term_length y e) now x floor entries (floor_sound G same elect term_length x floor now fresh)
+  pub recovered_sound : (x : Facts K L D) (floor : FloorFacts D) (now : ℕ) (entries : List (ArtifactFacts D)) → IsFresh term_length x → IsSound term_length (recovered same elect x floor now entries)
+  recovered_sound x floor now entries fresh = floor_then_all_keep same elect (IsSound term_length) (λ y e. event_sound same elect term_length y e) now x floor entries (floor_sound same elect term_length x floor now fresh)

@@ -16,7 +16,7 @@ use Rattle.simplex_laws.proofs.Signed.{signed_push}
 use Rattle.simplex_laws.proofs.Rounds.{round_put}
 
 -- a round of view v, where the current view is to be `reached`
-pub record RoundStands {K D G : Type 0} (deeds : List (Deed D G)) (reached finalized v : ℕ) (r : RoundFacts K D) : Type 0 where
+pub record RoundStands {K D : Type 0} (deeds : List (Deed D)) (reached finalized v : ℕ) (r : RoundFacts K D) : Type 0 where
   -- its notarization was accepted, and is of this view
   pub notarized : (c : ProposalFacts D) → r.notarization ≡ Some c → (c.proposal.round.view ≡ v) × Contains deeds (Accepts (subject.Notarize c.proposal))
   -- it is of the held proposal, unless another was seen
@@ -27,7 +27,7 @@ pub record RoundStands {K D G : Type 0} (deeds : List (Deed D G)) (reached final
   pub nullify_decided : (round : Round) → HasSigned deeds (subject.Nullify round) → round.view ≡ v → (is_nullify r.decision ≡ true) ⊎ (v ≤ finalized)
   pub finalize_decided : (p : Proposal D) → HasSigned deeds (subject.Finalize p) → p.round.view ≡ v → (is_finalize r.decision ≡ true) ⊎ (v ≤ finalized)
 
-pub record Stands {K L D G : Type 0} (term_length : ℕ) (deeds : List (Deed D G)) (reached : ℕ) (x : Facts K L D) : Type 0 where
+pub record Stands {K L D : Type 0} (term_length : ℕ) (deeds : List (Deed D)) (reached : ℕ) (x : Facts K L D) : Type 0 where
   pub terms : x.terms.term_length ≡ term_length
   pub rounds : (v : ℕ) → RoundStands deeds reached x.finalized v (round_of x v)
   -- each view that was voted to be finalized is passed
@@ -36,29 +36,29 @@ pub record Stands {K L D G : Type 0} (term_length : ℕ) (deeds : List (Deed D G
   pub noted : (round : Round) → HasSigned deeds (subject.Nullify round) → (1 ≤ round.view) × (Contains x.nullify_votes round.view ⊎ (round.view ≤ x.finalized))
 
 -- a view is genesis, or its finalization was accepted
-abbrev pub HasFinal : {D G : Type 0} → List (Deed D G) → ℕ → Type 0
+abbrev pub HasFinal : {D : Type 0} → List (Deed D) → ℕ → Type 0
 HasFinal {D} deeds v = (v ≡ 0) ⊎ ((final : Proposal D) × Contains deeds (Accepts (subject.Finalize final)) × (final.round.view ≡ v))
 
 -- what a state's facts keep in a life, with each call
-pub record Stays {K L D G : Type 0} (term_length : ℕ) (deeds : List (Deed D G)) (x : Facts K L D) : Type 0 where
+pub record Stays {K L D : Type 0} (term_length : ℕ) (deeds : List (Deed D)) (x : Facts K L D) : Type 0 where
   pub stands : Stands term_length deeds x.current x
   pub ahead : x.finalized < x.current
   pub final : HasFinal deeds x.finalized
 
-pub not_vote : {D G : Type 0} (deeds : List (Deed D G)) (certificate vote : Subject D) → HasSigned (deeds ++ Accepts certificate ∷ []) vote → HasSigned deeds vote
+pub not_vote : {D : Type 0} (deeds : List (Deed D)) (certificate vote : Subject D) → HasSigned (deeds ++ Accepts certificate ∷ []) vote → HasSigned deeds vote
 not_vote deeds certificate vote h = elim (signed_push deeds (Accepts certificate) vote h) [ inl old ↦ old | inr new ↦ absurd (cc) ]
 
-pub still : {D G : Type 0} (deeds : List (Deed D G)) (new deed : Deed D G) → Contains deeds deed → Contains (deeds ++ new ∷ []) deed
+pub still : {D : Type 0} (deeds : List (Deed D)) (new deed : Deed D) → Contains deeds deed → Contains (deeds ++ new ∷ []) deed
 still deeds new deed h = Contains-append_left deeds (new ∷ []) deed h
 
-pub latest : {D G : Type 0} (deeds : List (Deed D G)) (new : Deed D G) → Contains (deeds ++ new ∷ []) new
+pub latest : {D : Type 0} (deeds : List (Deed D)) (new : Deed D) → Contains (deeds ++ new ∷ []) new
 latest deeds new = Contains-append_right deeds (new ∷ []) new (0, omega arith, refl)
 
-pub final_still : {D G : Type 0} (deeds : List (Deed D G)) (new : Deed D G) (v : ℕ) → HasFinal deeds v → HasFinal (deeds ++ new ∷ []) v
+pub final_still : {D : Type 0} (deeds : List (Deed D)) (new : Deed D) (v : ℕ) → HasFinal deeds v → HasFinal (deeds ++ new ∷ []) v
 final_still deeds new v (inl genesis) = inl genesis
 final_still deeds new v (inr (p, h, at)) = inr (p, still deeds new (Accepts (subject.Finalize p)) h, at)
 
-module _ {K D G : Type 0} (deeds : List (Deed D G)) where
+module _ {K D : Type 0} (deeds : List (Deed D)) where
   pub round_later : (reached further finalized higher v : ℕ) (r : RoundFacts K D) → reached ≤ further → finalized ≤ higher → RoundStands deeds reached finalized v r → RoundStands deeds further higher v r
   round_later reached further finalized higher v r later raised stands = record {
     notarized = stands.notarized;
@@ -77,7 +77,7 @@ module _ {K D G : Type 0} (deeds : List (Deed D G)) where
     finalize_decided = λ p h. stands.finalize_decided p (not_vote deeds certificate (subject.Finalize p) h);
   }
 
-module _ {K L D G : Type 0} (term_length : ℕ) (deeds : List (Deed D G)) where
+module _ {K L D : Type 0} (term_length : ℕ) (deeds : List (Deed D)) where
   pub stands_later : (reached further : ℕ) (x : Facts K L D) → reached ≤ further → Stands term_length deeds reached x → Stands term_length deeds further x
   stands_later reached further x later stands = record {
     terms = stands.terms;

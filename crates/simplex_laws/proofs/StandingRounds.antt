@@ -71,7 +71,7 @@ module _ {D : Type 0} (same : D → D → Bool) where
       ]
 
 -- nothing is known of a view whose votes are no higher than a finalization
-pub fresh_stands : {K D G : Type 0} (deeds : List (Deed D G)) (reached finalized v : ℕ) (me : Option ℕ) (members : List K) (round : Round) → v ≤ finalized → RoundStands deeds reached finalized v (new_round me members round)
+pub fresh_stands : {K D : Type 0} (deeds : List (Deed D)) (reached finalized v : ℕ) (me : Option ℕ) (members : List K) (round : Round) → v ≤ finalized → RoundStands deeds reached finalized v (new_round me members round)
 fresh_stands deeds reached finalized v me members round below = record {
   notarized = λ c is. absurd (cc);
   held = λ c is. absurd (cc);

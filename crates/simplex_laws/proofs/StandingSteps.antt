@@ -32,14 +32,14 @@ use Rattle.simplex_laws.proofs.Steps.{RoundStep, Step, Puts, Notes, Raises, Stra
 
 -- what has to be known of an event: what it brings was accepted, a view that it judges to be true is passed, and a vote that
 -- it decides is allowed, or stands against no vote of the other kind
-pub record Suits {K L D G : Type 0} (deeds : List (Deed D G)) (reached : ℕ) (x : Facts K L D) (e : Event K D G) : Type 0 where
+pub record Suits {K L D : Type 0} (deeds : List (Deed D)) (reached : ℕ) (x : Facts K L D) (e : Event K D) : Type 0 where
   pub notarized : (c : ProposalFacts D) → notarization_by e ≡ Some c → Contains deeds (Accepts (subject.Notarize c.proposal))
   pub finalized : HasFinal deeds (finalized_by e)
   pub enters : (v : ℕ) → verdict_by e ≡ Some (v, true) → v < reached
   pub nullifies : (v : ℕ) → nullify_by e ≡ Some v → IsEvent x e ⊎ ((p : Proposal D) → HasSigned deeds (subject.Finalize p) → v ≢ p.round.view)
   pub finalizes : (v : ℕ) → finalize_by e ≡ Some v → IsEvent x e ⊎ ((round : Round) → HasSigned deeds (subject.Nullify round) → round.view ≢ v)
 
-module _ {K L D G : Type 0} (deeds : List (Deed D G)) (reached : ℕ) (x : Facts K L D) (e : Event K D G) where
+module _ {K L D : Type 0} (deeds : List (Deed D)) (reached : ℕ) (x : Facts K L D) (e : Event K D) where
   -- an event that brings no notarization and no finalization and decides no vote
   pub plain_suits : notarization_by e ≡ None → finalized_by e ≡ 0 → nullify_by e ≡ None → finalize_by e ≡ None → ((v : ℕ) → verdict_by e ≡ Some (v, true) → v < reached) → Suits deeds reached x e
   plain_suits notarization final nullify finalize enters = record {
@@ -53,7 +53,7 @@ module _ {K L D G : Type 0} (deeds : List (Deed D G)) (reached : ℕ) (x : Facts
   pub silent_suits : IsSilent e → Suits deeds reached x e
   silent_suits silent = plain_suits silent.notarization silent.final silent.nullify silent.finalize (λ v says. absurd (let none = silent.verdict in cc))
 
-prune_finalizes_none : {K D G : Type 0} (e : Event K D G) → is_prune e ≡ true → finalized_by e ≡ 0
+prune_finalizes_none : {K D : Type 0} (e : Event K D) → is_prune e ≡ true → finalized_by e ≡ 0
 prune_finalizes_none event.Prune is = refl
 prune_finalizes_none _ is = absurd (false≢true is)
 
@@ -62,7 +62,7 @@ passed_by : (a : Bool) (P : Type 0) → a ≡ false → (a ≡ true) ⊎ P → (
 passed_by a P isnt (inl is) b = absurd (false≢true (sym isnt ∙ is))
 passed_by a P isnt (inr p) b = inr p
 
-module _ {K L D G : Type 0} (same : D → D → Bool) (decides : (d e : D) → same d e ≡ true → d ≡ e) (elect : Elect L) (term_length : ℕ) (deeds : List (Deed D G)) (reached : ℕ) (x : Facts K L D) (e : Event K D G) (suits : Suits deeds reached x e) (ordered : InOrder x) where
+module _ {K L D : Type 0} (same : D → D → Bool) (decides : (d e : D) → same d e ≡ true → d ≡ e) (elect : Elect L) (term_length : ℕ) (deeds : List (Deed D)) (reached : ℕ) (x : Facts K L D) (e : Event K D) (suits : Suits deeds reached x e) (ordered : InOrder x) where
   change_stands : (finalized : ℕ) (y : Facts K L D) (v : ℕ) (r s : RoundFacts K D) → RoundStep same elect x e y v r s → RoundStands deeds reached finalized v r → RoundStands deeds reached finalized v s
   change_stands finalized y v r s (step.Notarized c says at none) p = record {
     notarized = λ d is. (let alike : c ≡ d = cc in subst (λ (f : ProposalFacts D). (f.proposal.round.view ≡ v) × Contains deeds (Accepts (subject.Notarize f.proposal))) alike (at, suits.notarized c says));
@@ -134,7 +134,7 @@ module _ {K L D G : Type 0} (same : D → D → Bool) (decides : (d e : D) → s
   pub event_final : HasFinal deeds x.finalized → HasFinal deeds (after_event same elect x e).finalized
   event_final p = along same elect x e 0 (λ y. HasFinal deeds y.finalized) step_final x (after_event same elect x e) (event_path same elect 0 x e (omega arith) (asked_of_all x e)) p
 
-module _ {K L D G : Type 0} (same : D → D → Bool) (decides : (d e : D) → same d e ≡ true → d ≡ e) (elect : Elect L) (term_length : ℕ) (deeds : List (Deed D G)) (x : Facts K L D) (e : Event K D G) (suits : Suits deeds (after_event same elect x e).current x e) (ordered : InOrder x) where
+module _ {K L D : Type 0} (same : D → D → Bool) (decides : (d e : D) → same d e ≡ true → d ≡ e) (elect : Elect L) (term_length : ℕ) (deeds : List (Deed D)) (x : Facts K L D) (e : Event K D) (suits : Suits deeds (after_event same elect x e).current x e) (ordered : InOrder x) where
   -- an event, also the floor of a new state
   pub event_stays : IsAhead x ⊎ ((x.finalized ≡ 0) × (is_floor e ≡ true)) → Stands term_length deeds (after_event same elect x e).current x → HasFinal deeds x.finalized → Stays term_length deeds (after_event same elect x e)
   event_stays ahead stands final = record {

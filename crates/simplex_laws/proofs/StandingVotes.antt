@@ -40,7 +40,7 @@ uncovered length u view below = rw (lt-leb u view below) refl
 some_proposal : {D : Type 0} (p q : Proposal D) → Some p ≡ Some q → p ≡ q
 some_proposal p q e = cc
 
-module _ {K D G : Type 0} (deeds : List (Deed D G)) (reached finalized v : ℕ) (r : RoundFacts K D) (stands : RoundStands deeds reached finalized v r) where
+module _ {K D : Type 0} (deeds : List (Deed D)) (reached finalized v : ℕ) (r : RoundFacts K D) (stands : RoundStands deeds reached finalized v r) where
   nullify_round : is_finalize r.decision ≡ false → RoundStands deeds reached finalized v (after_nullify r)
   nullify_round undecided = rw undecided
       (record {
@@ -71,12 +71,12 @@ module _ {K D G : Type 0} (deeds : List (Deed D G)) (reached finalized v : ℕ) 
         | inr here ↦ subst (λ p. (p.round.view ≡ v) × Contains deeds (Accepts (subject.Notarize p))) (some_proposal c.proposal h (sym here ∙ holds)) (stands.notarized c is)
       ]
 
-module _ {K L D G : Type 0} (term_length : ℕ) (deeds : List (Deed D G)) where
+module _ {K L D : Type 0} (term_length : ℕ) (deeds : List (Deed D)) where
   -- a vote that is decided and noted is cast
 
-  pub nullify_cast_stands : (reached : ℕ) (x : Facts K L D) (round : Round) (m : ℕ) (signature : G) → 1 ≤ round.view → Contains x.nullify_votes round.view ⊎ (round.view ≤ x.finalized) → (is_nullify (round_of x round.view).decision ≡ true) ⊎ (round.view ≤ x.finalized) → Stands term_length deeds reached x → Stands term_length (deeds ++ Signs m (subject.Nullify round) signature ∷ []) reached x
-  nullify_cast_stands reached x round m signature one noted decided stands =
-      let new = Signs m (subject.Nullify round) signature in
+  pub nullify_cast_stands : (reached : ℕ) (x : Facts K L D) (round : Round) (m : ℕ) → 1 ≤ round.view → Contains x.nullify_votes round.view ⊎ (round.view ≤ x.finalized) → (is_nullify (round_of x round.view).decision ≡ true) ⊎ (round.view ≤ x.finalized) → Stands term_length deeds reached x → Stands term_length (deeds ++ Signs m (subject.Nullify round) ∷ []) reached x
+  nullify_cast_stands reached x round m one noted decided stands =
+      let new = Signs m (subject.Nullify round) in
       record {
         terms = stands.terms;
         rounds = λ v. (let old = stands.rounds v in
@@ -100,9 +100,9 @@ module _ {K L D G : Type 0} (term_length : ℕ) (deeds : List (Deed D G)) where
         ];
       }
 
-  pub finalize_cast_stands : (reached : ℕ) (x : Facts K L D) (p : Proposal D) (m : ℕ) (signature : G) → p.round.view < reached → (is_finalize (round_of x p.round.view).decision ≡ true) ⊎ (p.round.view ≤ x.finalized) → Stands term_length deeds reached x → Stands term_length (deeds ++ Signs m (subject.Finalize p) signature ∷ []) reached x
-  finalize_cast_stands reached x p m signature passed decided stands =
-      let new = Signs m (subject.Finalize p) signature in
+  pub finalize_cast_stands : (reached : ℕ) (x : Facts K L D) (p : Proposal D) (m : ℕ) → p.round.view < reached → (is_finalize (round_of x p.round.view).decision ≡ true) ⊎ (p.round.view ≤ x.finalized) → Stands term_length deeds reached x → Stands term_length (deeds ++ Signs m (subject.Finalize p) ∷ []) reached x
+  finalize_cast_stands reached x p m passed decided stands =
+      let new = Signs m (subject.Finalize p) in
       record {
         terms = stands.terms;
         rounds = λ v. (let old = stands.rounds v in
@@ -134,7 +134,7 @@ module _ {K L D G : Type 0} (term_length : ℕ) (deeds : List (Deed D G)) where
     noted = λ round h. ((stands.noted round h).0, elim (stands.noted round h).1 [ inl noted ↦ inl (noted_old v round.view x.nullify_votes noted) | inr below ↦ inr below ]);
   }
 
-module _ {K L D G : Type 0} (term_length : ℕ) (deeds : List (Deed D G)) (x : Facts K L D) (v : ℕ) (keeps : Stays term_length deeds x) where
+module _ {K L D : Type 0} (term_length : ℕ) (deeds : List (Deed D)) (x : Facts K L D) (v : ℕ) (keeps : Stays term_length deeds x) where
   -- a vote to nullify the current view follows no vote to finalize one from there on
 
   pub nullify_allowed : NullifyRule x v → AllowsNullify term_length deeds (round_number x v)
@@ -150,15 +150,15 @@ module _ {K L D G : Type 0} (term_length : ℕ) (deeds : List (Deed D G)) (x : F
     final = keeps.final;
   }
 
-  pub nullify_voted : (m : ℕ) (signature : G) → NullifyRule x v → Stays term_length (deeds ++ Signs m (subject.Nullify (round_number x v)) signature ∷ []) (record (with_round x v (after_nullify (round_of x v))) { nullify_votes = insert_key nat_cmp x.nullify_votes v })
-  nullify_voted m signature rule =
+  pub nullify_voted : (m : ℕ) → NullifyRule x v → Stays term_length (deeds ++ Signs m (subject.Nullify (round_number x v)) ∷ []) (record (with_round x v (after_nullify (round_of x v))) { nullify_votes = insert_key nat_cmp x.nullify_votes v })
+  nullify_voted m rule =
       let y = with_round x v (after_nullify (round_of x v)) in
       let z : Facts K L D = record y { nullify_votes = insert_key nat_cmp x.nullify_votes v } in
       let decided : is_nullify (round_of z v).decision ≡ true = ap (λ r. is_nullify r.decision) (round_put x v (after_nullify (round_of x v))) ∙ rw (rule.no_finalize) refl in
       record {
-        stands = nullify_cast_stands term_length deeds x.current z (round_number x v) m signature (omega (arith, rule.current, keeps.ahead)) (inl (noted_new v x.nullify_votes)) (inl decided) (noted_stands term_length deeds x.current y v (nullify_decided rule).stands);
+        stands = nullify_cast_stands term_length deeds x.current z (round_number x v) m (omega (arith, rule.current, keeps.ahead)) (inl (noted_new v x.nullify_votes)) (inl decided) (noted_stands term_length deeds x.current y v (nullify_decided rule).stands);
         ahead = keeps.ahead;
-        final = final_still deeds (Signs m (subject.Nullify (round_number x v)) signature) x.finalized keeps.final;
+        final = final_still deeds (Signs m (subject.Nullify (round_number x v))) x.finalized keeps.final;
       }
 
   -- a vote to finalize
@@ -200,15 +200,15 @@ module _ {K L D G : Type 0} (term_length : ℕ) (deeds : List (Deed D G)) (x : F
     final = keeps.final;
   }
 
-  pub finalize_voted : (elect : Elect L) (h : Proposal D) (m : ℕ) (signature : G) → FinalizeRule elect x v → (round_of x v).slot.held ≡ Some h → Stays term_length (deeds ++ Signs m (subject.Finalize h) signature ∷ []) (with_round x v (record (round_of x v) { decision = decision.Finalize }))
-  finalize_voted elect h m signature rule holds =
+  pub finalize_voted : (elect : Elect L) (h : Proposal D) (m : ℕ) → FinalizeRule elect x v → (round_of x v).slot.held ≡ Some h → Stays term_length (deeds ++ Signs m (subject.Finalize h) ∷ []) (with_round x v (record (round_of x v) { decision = decision.Finalize }))
+  finalize_voted elect h m rule holds =
       let s : RoundFacts K D = record (round_of x v) { decision = decision.Finalize } in
       let y = with_round x v s in
       let stands = keeps.stands.rounds v in
       let named = held_notarized deeds x.current x.finalized v (round_of x v) stands h rule.unequivocated rule.notarized holds in
       let decided : is_finalize (round_of y v).decision ≡ true = ap (λ r. is_finalize r.decision) (round_put x v s) in
       record {
-        stands = finalize_cast_stands term_length deeds x.current y h m signature (omega (arith, named.0, stands.entered rule.certified)) (inl (subst (λ u. is_finalize (round_of y u).decision ≡ true) (sym named.0) decided)) (finalize_decided elect rule).stands;
+        stands = finalize_cast_stands term_length deeds x.current y h m (omega (arith, named.0, stands.entered rule.certified)) (inl (subst (λ u. is_finalize (round_of y u).decision ≡ true) (sym named.0) decided)) (finalize_decided elect rule).stands;
         ahead = keeps.ahead;
-        final = final_still deeds (Signs m (subject.Finalize h) signature) x.finalized keeps.final;
+        final = final_still deeds (Signs m (subject.Finalize h)) x.finalized keeps.final;
       }

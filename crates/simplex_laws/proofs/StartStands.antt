@@ -18,13 +18,13 @@ use Rattle.simplex_laws.proofs.Standing.{RoundStands, Stands, HasFinal, Stays}
 use Rattle.simplex_laws.proofs.StandingSteps.{Suits, event_stays}
 
 -- a floor is no vote
-pub floor_unsigned : {D G : Type 0} (floor : FloorFacts D) (vote : Subject D) → HasSigned {G = G} (of_floor floor) vote → ⊥
+pub floor_unsigned : {D : Type 0} (floor : FloorFacts D) (vote : Subject D) → HasSigned (of_floor floor) vote → ⊥
 floor_unsigned (Genesis _) vote h = absurd (signed_none vote h)
 floor_unsigned (Finalized c) vote h = absurd (let e = only_signed (Accepts (subject.Finalize c.proposal)) vote h in cc)
 
-module _ {K L D : Type 0} (G : Type 0) (same : D → D → Bool) (decides : (d e : D) → same d e ≡ true → d ≡ e) (elect : Elect L) (settings : Settings) (me : Option ℕ) (members : List K) (elector : L) (terms : Terms) (early : Bool) (floor : FloorFacts D) where
+module _ {K L D : Type 0} (same : D → D → Bool) (decides : (d e : D) → same d e ≡ true → d ≡ e) (elect : Elect L) (settings : Settings) (me : Option ℕ) (members : List K) (elector : L) (terms : Terms) (early : Bool) (floor : FloorFacts D) where
   -- before the floor is set
-  unvoted : (reached v : ℕ) → RoundStands {K = K} {G = G} (of_floor floor) reached 0 v (new_round me members (record { epoch = settings.epoch; view = v }))
+  unvoted : (reached v : ℕ) → RoundStands {K = K} (of_floor floor) reached 0 v (new_round me members (record { epoch = settings.epoch; view = v }))
   unvoted reached v = record {
     notarized = λ c is. absurd (cc);
     held = λ c is. absurd (cc);
@@ -33,7 +33,7 @@ module _ {K L D : Type 0} (G : Type 0) (same : D → D → Bool) (decides : (d e
     finalize_decided = λ p h at. absurd (floor_unsigned floor (subject.Finalize p) h);
   }
 
-  new_stands : (reached : ℕ) → Stands {G = G} terms.term_length (of_floor floor) reached (new_facts settings me members elector terms early)
+  new_stands : (reached : ℕ) → Stands terms.term_length (of_floor floor) reached (new_facts settings me members elector terms early)
   new_stands reached = record {
     terms = refl;
     rounds = λ v. unvoted reached v;
@@ -41,17 +41,17 @@ module _ {K L D : Type 0} (G : Type 0) (same : D → D → Bool) (decides : (d e
     noted = λ round h. absurd (floor_unsigned floor (subject.Nullify round) h);
   }
 
-  floor_final : (now : ℕ) → HasFinal {G = G} (of_floor floor) (finalized_by {K = K} {D = D} {G = G} (event.SetFloor floor now))
+  floor_final : (now : ℕ) → HasFinal (of_floor floor) (finalized_by {K = K} {D = D} (event.SetFloor floor now))
   floor_final now = by_floor floor
     where
-      by_floor : (f : FloorFacts D) → HasFinal {G = G} (of_floor f) (finalized_by {K = K} {D = D} {G = G} (event.SetFloor f now))
+      by_floor : (f : FloorFacts D) → HasFinal (of_floor f) (finalized_by {K = K} {D = D} (event.SetFloor f now))
       by_floor (Genesis payload) = inl refl
       by_floor (Finalized c) = inr (c.proposal, (0, omega arith, refl), refl)
 
-  pub start_stays : (now : ℕ) → Stays {G = G} terms.term_length (of_floor floor) (after_set_floor same elect (new_facts settings me members elector terms early) floor now)
+  pub start_stays : (now : ℕ) → Stays terms.term_length (of_floor floor) (after_set_floor same elect (new_facts settings me members elector terms early) floor now)
   start_stays now =
       let x : Facts K L D = new_facts settings me members elector terms early in
-      let e : Event K D G = event.SetFloor floor now in
+      let e : Event K D = event.SetFloor floor now in
       let y = after_set_floor same elect x floor now in
       let suits : Suits (of_floor floor) y.current x e = record {
         notarized = λ c says. absurd (cc);

@@ -30,53 +30,53 @@ use Rattle.simplex_laws.specs.Sums.{covers_from, finalized_by, is_prune}
 
 -- what an event brings
 
-module _ {K D G : Type 0} where
-  abbrev pub notarization_by : Event K D G → Option (ProposalFacts D)
+module _ {K D : Type 0} where
+  abbrev pub notarization_by : Event K D → Option (ProposalFacts D)
   notarization_by (AddNotarization c) = Some c
   notarization_by _ = None
 
-  abbrev pub nullification_by : Event K D G → Option NullificationFacts
+  abbrev pub nullification_by : Event K D → Option NullificationFacts
   nullification_by (AddNullification c _) = Some c
   nullification_by _ = None
 
-  abbrev pub finalization_by : Event K D G → Option (ProposalFacts D)
+  abbrev pub finalization_by : Event K D → Option (ProposalFacts D)
   finalization_by (AddFinalization c _) = Some c
   finalization_by (SetFloor (FinalizedFloor c) _) = Some c
   finalization_by _ = None
 
-  abbrev pub verdict_by : Event K D G → Option (ℕ × Bool)
+  abbrev pub verdict_by : Event K D → Option (ℕ × Bool)
   verdict_by (Certified v success _) = Some (v, success)
   verdict_by (Replay (Verdict round success)) = Some (round.view, success)
   verdict_by _ = None
 
   -- a proposal that is heard of, with its view, and one that was voted for before
-  abbrev pub proposal_by : Event K D G → Option (ℕ × Proposal D)
+  abbrev pub proposal_by : Event K D → Option (ℕ × Proposal D)
   proposal_by (SetProposal v p) = Some (v, p)
   proposal_by _ = None
 
-  abbrev pub note_by : Event K D G → Option (Proposal D)
-  note_by (Replay (NotarizeVote p _ _)) = Some p
+  abbrev pub note_by : Event K D → Option (Proposal D)
+  note_by (Replay (NotarizeVote p _)) = Some p
   note_by _ = None
 
   -- the view whose vote is decided, now or before it is replayed
-  abbrev pub nullify_by : Event K D G → Option ℕ
+  abbrev pub nullify_by : Event K D → Option ℕ
   nullify_by (ConstructNullify v) = Some v
-  nullify_by (Replay (NullifyVote round _ _)) = Some round.view
+  nullify_by (Replay (NullifyVote round _)) = Some round.view
   nullify_by _ = None
 
-  abbrev pub finalize_by : Event K D G → Option ℕ
+  abbrev pub finalize_by : Event K D → Option ℕ
   finalize_by (ConstructFinalize v) = Some v
-  finalize_by (Replay (FinalizeVote p _ _)) = Some p.round.view
+  finalize_by (Replay (FinalizeVote p _)) = Some p.round.view
   finalize_by _ = None
 
   -- a verification ends
-  abbrev pub is_answer : Event K D G → Bool
+  abbrev pub is_answer : Event K D → Bool
   is_answer (Verified _) = true
   is_answer (VerificationFailed _ _ _) = true
   is_answer _ = false
 
 -- the event brings no certificate, verdict or vote but one to notarize, replays nothing and drops nothing
-pub record IsSilent {K D G : Type 0} (e : Event K D G) : Type 0 where
+pub record IsSilent {K D : Type 0} (e : Event K D) : Type 0 where
   pub notarization : notarization_by e ≡ None
   pub nullification : nullification_by e ≡ None
   pub finalization : finalization_by e ≡ None
@@ -87,7 +87,7 @@ pub record IsSilent {K D G : Type 0} (e : Event K D G) : Type 0 where
   pub final : finalized_by e ≡ 0
   pub prune : is_prune e ≡ false
 
-module _ {K L D G : Type 0} (same : D → D → Bool) (elect : Elect L) (begun : Facts K L D) (e : Event K D G) where
+module _ {K L D : Type 0} (same : D → D → Bool) (elect : Elect L) (begun : Facts K L D) (e : Event K D) where
   -- a change of one round, by an event at the facts `begun`; x are the facts just before
   pub data RoundStep (x : Facts K L D) (v : ℕ) (r : RoundFacts K D) : RoundFacts K D → Type 0 where
     -- the view comes to be tracked

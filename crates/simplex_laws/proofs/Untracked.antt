@@ -39,7 +39,7 @@ use Rattle.simplex_laws.proofs.Steps.{Step, Puts, Raises, Strays, Prunes, along}
 pub record IsClear {K L D : Type 0} (low : ℕ) (x : Facts K L D) : Type 0 where
   pub views : (v : ℕ) → v < low → is_tracked x v ≡ false
 
-module _ {K L D G : Type 0} (same : D → D → Bool) (elect : Elect L) (low : ℕ) (x : Facts K L D) (e : Event K D G) where
+module _ {K L D : Type 0} (same : D → D → Bool) (elect : Elect L) (low : ℕ) (x : Facts K L D) (e : Event K D) where
   put_out : (y : Facts K L D) (u : ℕ) (r : RoundFacts K D) (v : ℕ) → v ≢ u → is_tracked y v ≡ false → is_tracked (with_round y u r) v ≡ false
   put_out y u r v apart gone = ap is_some (find-put nat_cmp nat_cmp_total v u r y.rounds ∙ ap (λ b. cond b (Some r) (find nat_cmp v y.rounds)) (is_eq-nat_cmp v u ∙ ne_eqb v u apart)) ∙ gone
 
@@ -78,13 +78,13 @@ module _ {K L D : Type 0} (x : Facts K L D) where
       let kept : nat_le (min_active x) round.view ≡ true = parts.1 in
       (grind (arith, nat_tests, one), grind (arith, nat_tests, kept))
 
-module _ {K L D G : Type 0} (x : Facts K L D) where
-  kept_entry : (e : ArtifactFacts D G) → takes_round x (artifact_round (as_artifact {K = K} e)) ≡ true → min_active x ≤ entry_view e
-  kept_entry (NotarizeVote p m signature) takes = (kept_view x p.round takes).1
+module _ {K L D : Type 0} (x : Facts K L D) where
+  kept_entry : (e : ArtifactFacts D) → takes_round x (artifact_round (as_artifact {K = K} e)) ≡ true → min_active x ≤ entry_view e
+  kept_entry (NotarizeVote p m) takes = (kept_view x p.round takes).1
   kept_entry (Accepted (Notarized c)) takes = (kept_view x c.proposal.round takes).1
   kept_entry _ takes = (kept_view x _ takes).1
 
-  pub asked_in_life : (low : ℕ) (e : Event K D G) → low ≤ min_active x → low ≤ x.current → 0 < x.terms.term_length → IsClear low x → IsEvent x e → AskedFrom low x e
+  pub asked_in_life : (low : ℕ) (e : Event K D) → low ≤ min_active x → low ≤ x.current → 0 < x.terms.term_length → IsClear low x → IsEvent x e → AskedFrom low x e
   asked_in_life low (event.SetFloor (Genesis payload) now) under reached some clear takes = (let new = eqb-true x.current 0 takes in omega (arith, new, reached))
   asked_in_life low (event.SetFloor (FinalizedFloor c) now) under reached some clear takes = (let new = eqb-true x.current 0 (and_parts _ _ (and_parts _ _ takes).0).0 in omega (arith, new, reached))
   asked_in_life low (event.AddNotarization c) under reached some clear takes = (let kept = kept_view x c.proposal.round takes in omega (arith, kept.1, under))
@@ -102,16 +102,16 @@ module _ {K L D G : Type 0} (x : Facts K L D) where
   asked_in_life low (event.Replay e) under reached some clear takes = (let kept = kept_entry e takes.kept in omega (arith, kept, under))
   asked_in_life low _ under reached some clear takes = tt
 
-module _ {K L D G : Type 0} (same : D → D → Bool) (elect : Elect L) (low : ℕ) (x : Facts K L D) (under : low ≤ min_active x) (reached : low ≤ x.current) (some : 0 < x.terms.term_length) (clear : IsClear low x) where
-  pub event_clear : (e : Event K D G) → IsEvent x e → IsClear low (after_event same elect x e)
+module _ {K L D : Type 0} (same : D → D → Bool) (elect : Elect L) (low : ℕ) (x : Facts K L D) (under : low ≤ min_active x) (reached : low ≤ x.current) (some : 0 < x.terms.term_length) (clear : IsClear low x) where
+  pub event_clear : (e : Event K D) → IsEvent x e → IsClear low (after_event same elect x e)
   event_clear e takes = clear_along same elect low x e reached (asked_in_life x low e under reached some clear takes) clear
 
-  pub call_clear : (signature_of : ℕ → Subject D → G) (call : CallFacts D) → is_allowed x call ≡ true → IsClear low (after_call same elect signature_of x call)
-  call_clear signature_of call allowed = call_by_event G same elect x signature_of (λ es y. IsClear low y) clear (λ e rest takes none. event_clear e takes) call allowed
+  pub call_clear : (call : CallFacts D) → is_allowed x call ≡ true → IsClear low (after_call same elect x call)
+  call_clear call allowed = call_by_event same elect x (λ es y. IsClear low y) clear (λ e rest takes none. event_clear e takes) call allowed
 
 module _ {K L D : Type 0} (same : D → D → Bool) (elect : Elect L) (low : ℕ) (x : Facts K L D) (under : low ≤ min_active x) (reached : low ≤ x.current) (some : 0 < x.terms.term_length) (clear : IsClear low x) where
   pub work_clear : (o : Openings K D) (call : WorkCall D) → work_allowed x o call ≡ true → IsClear low (after_work same elect x o call)
-  work_clear o call allowed = work_by_event (Unit {0}) same elect x o (λ es y. IsClear low y) clear (λ e rest takes none. event_clear same elect low x under reached some clear e takes) call allowed
+  work_clear o call allowed = work_by_event same elect x o (λ es y. IsClear low y) clear (λ e rest takes none. event_clear same elect low x under reached some clear e takes) call allowed
 
 -- prunes
 
@@ -127,17 +127,17 @@ key_passes test v (e ∷ es) h =
       | false ↦ λ fails g. key_passes test v es g
     ]) refl h
 
-module _ {K L D G : Type 0} (same : D → D → Bool) (elect : Elect L) (x : Facts K L D) where
+module _ {K L D : Type 0} (same : D → D → Bool) (elect : Elect L) (x : Facts K L D) where
   -- what an event drops
-  pub event_dropped : (e : Event K D G) (v : ℕ) → v < (if is_prune e then min_active x else 0) → is_tracked (after_event same elect x e) v ≡ false
+  pub event_dropped : (e : Event K D) (v : ℕ) → v < (if is_prune e then min_active x else 0) → is_tracked (after_event same elect x e) v ≡ false
   event_dropped event.Prune v below = (let test : nat_le (min_active x) v ≡ false = grind (arith, nat_tests) in ap is_some (pruned_view x v ∙ ap (λ b. cond b (round_at x v) None) test))
   event_dropped _ v below = absurd (omega (arith, below))
 
   -- only a prune is told what was dropped
-  pub call_drops : (signature_of : ℕ → Subject D → G) (call : CallFacts D) (views : List ℕ) (v : ℕ) → answer same elect signature_of x call ≡ Dropped views → Contains views v → (v < min_active x) × IsClear (min_active x) (after_call same elect signature_of x call)
-  call_drops signature_of Prune views v tells among =
+  pub call_drops : (call : CallFacts D) (views : List ℕ) (v : ℕ) → answer same elect x call ≡ Dropped views → Contains views v → (v < min_active x) × IsClear (min_active x) (after_call same elect x call)
+  call_drops Prune views v tells among =
       let same_views : prune_answer x ≡ views = cc in
       let under = key_passes (λ u. nat_lt u (min_active x)) v x.rounds (subst (λ vs. Contains vs v) (sym same_views) among) in
       let below : v < min_active x = grind (arith, nat_tests) in
       (below, record { views = λ u under. event_dropped event.Prune u under })
-  call_drops signature_of _ views v tells among = absurd (cc)
+  call_drops _ views v tells among = absurd (cc)

@@ -23,7 +23,7 @@ use Rattle.simplex_laws.proofs.Steps.{RoundStep, notarization_by, verdict_by}
 
 -- a notarization that is held stands in the record, and a verdict in the record stands in each view that is kept or holds its
 -- notarization
-pub record Shows {K L D G : Type 0} (entries : List (ArtifactFacts D G)) (x : Facts K L D) : Type 0 where
+pub record Shows {K L D : Type 0} (entries : List (ArtifactFacts D)) (x : Facts K L D) : Type 0 where
   pub notarized : (v : ℕ) → is_some (round_of x v).notarization ≡ true → (c : ProposalFacts D) × Contains entries (Accepted (Notarized c)) × (c.proposal.round.view ≡ v)
   pub judged : (round : Round) (success : Bool) → Contains entries (Verdict round success) → (min_active x ≤ round.view) ⊎ (is_some (round_of x round.view).notarization ≡ true) → is_judged success (round_of x round.view).certification ≡ true
 
@@ -45,11 +45,11 @@ aborted_judged success (certification.Judged _) is = is
 aborted_judged success certification.Aborted is = absurd (false≢true is)
 
 -- a notarization is old or the event's, and a verdict stays or is replaced by the event's
-pub record Weighs {K D G : Type 0} (e : Event K D G) (v : ℕ) (r s : RoundFacts K D) : Type 0 where
+pub record Weighs {K D : Type 0} (e : Event K D) (v : ℕ) (r s : RoundFacts K D) : Type 0 where
   pub notarized : is_some s.notarization ≡ true → (is_some r.notarization ≡ true) ⊎ ((c : ProposalFacts D) × (notarization_by e ≡ Some c) × (c.proposal.round.view ≡ v))
   pub judged : (given : Bool) → is_judged given r.certification ≡ true → (is_judged given s.certification ≡ true) ⊎ ((success : Bool) × (verdict_by e ≡ Some (v, success)) × (is_judged success s.certification ≡ true))
 
-module _ {K L D G : Type 0} (same : D → D → Bool) (elect : Elect L) (x : Facts K L D) (e : Event K D G) (handles : (v token : ℕ) → e ≡ event.SetCertifyHandle v token → IsEvent x e) where
+module _ {K L D : Type 0} (same : D → D → Bool) (elect : Elect L) (x : Facts K L D) (e : Event K D) (handles : (v token : ℕ) → e ≡ event.SetCertifyHandle v token → IsEvent x e) where
   weighs_on : (v : ℕ) (r s t : RoundFacts K D) → Weighs e v r s → Weighs e v s t → Weighs e v r t
   weighs_on v r s t p q = record {
     notarized = λ is. elim (q.notarized is) [ inl before ↦ p.notarized before | inr new ↦ inr new ];
@@ -70,7 +70,7 @@ module _ {K L D G : Type 0} (same : D → D → Bool) (elect : Elect L) (x : Fac
   event_weighs ordered = rounds_or_gone same elect x e ordered 0 (Weighs e) weighs_on weighs (event_path same elect 0 x e (omega arith) (asked_of_all x e))
 
   -- a record that has the event's notarization, and whose new verdicts stand
-  pub event_shows : (entries more : List (ArtifactFacts D G)) → InOrder x → ((c : ProposalFacts D) → notarization_by e ≡ Some c → min_active x ≤ c.proposal.round.view) → ((round : Round) (given success : Bool) → Contains entries (Verdict round given) → verdict_by e ≡ Some (round.view, success) → given ≡ success) → ((a : ArtifactFacts D G) → Contains entries a → Contains more a) → ((c : ProposalFacts D) → notarization_by e ≡ Some c → is_some (round_of x c.proposal.round.view).notarization ≡ false → Contains more (Accepted (Notarized c))) → ((round : Round) (success : Bool) → Contains more (Verdict round success) → Contains entries (Verdict round success) ⊎ (is_judged success (round_of (after_event same elect x e) round.view).certification ≡ true)) → Shows entries x → Shows more (after_event same elect x e)
+  pub event_shows : (entries more : List (ArtifactFacts D)) → InOrder x → ((c : ProposalFacts D) → notarization_by e ≡ Some c → min_active x ≤ c.proposal.round.view) → ((round : Round) (given success : Bool) → Contains entries (Verdict round given) → verdict_by e ≡ Some (round.view, success) → given ≡ success) → ((a : ArtifactFacts D) → Contains entries a → Contains more a) → ((c : ProposalFacts D) → notarization_by e ≡ Some c → is_some (round_of x c.proposal.round.view).notarization ≡ false → Contains more (Accepted (Notarized c))) → ((round : Round) (success : Bool) → Contains more (Verdict round success) → Contains entries (Verdict round success) ⊎ (is_judged success (round_of (after_event same elect x e) round.view).certification ≡ true)) → Shows entries x → Shows more (after_event same elect x e)
   event_shows entries more ordered kept agree keeps noted given shows = record { notarized = notarized; judged = judged }
     where
       y : Facts K L D
@@ -114,13 +114,13 @@ module _ {K L D G : Type 0} (same : D → D → Bool) (elect : Elect L) (x : Fac
       judged : (round : Round) (success : Bool) → Contains more (Verdict round success) → (min_active y ≤ round.view) ⊎ (is_some (round_of y round.view).notarization ≡ true) → is_judged success (round_of y round.view).certification ≡ true
       judged round success h known = elim (given round success h) [ inl before ↦ stays round success before known | inr stands ↦ stands ]
 
-module _ {K L D : Type 0} (G : Type 0) (same : D → D → Bool) (elect : Elect L) (x : Facts K L D) where
+module _ {K L D : Type 0} (same : D → D → Bool) (elect : Elect L) (x : Facts K L D) where
   -- a verdict that is given for a tracked view stands then
   pub verdict_stands : (v : ℕ) (success : Bool) (now : ℕ) → InOrder x → is_tracked x v ≡ true → is_judged success (round_of (after_certified elect x v success now) v).certification ≡ true
   verdict_stands v success now ordered tracked =
       let m = at_moment x now in
       let j = judged m v success in
-      let e : Event K D G = event.Certified v success now in
+      let e : Event K D = event.Certified v success now in
       let handles : (w token : ℕ) → e ≡ event.SetCertifyHandle w token → IsEvent x e = λ w token is. absurd (cc) in
       let change = rounds_along same elect x e ordered 0 (Weighs e) (weighs_on same elect x e handles) (weighs same elect x e handles) refl j (verdict_taken elect m v success now) (from_judged v success now) v in
       let given : is_judged success (round_of j v).certification ≡ true = ap (λ (r : RoundFacts K D). is_judged success r.certification) (round_put m v _) ∙ judged_so success in

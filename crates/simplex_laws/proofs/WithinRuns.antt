@@ -26,27 +26,27 @@ use Rattle.simplex_laws.proofs.RunsKeep.{HoldsIn, run_induction}
 use Rattle.simplex_laws.proofs.WithinLives.{InOrderly, alive_still, alive_joined, each_call, call_outcome}
 
 -- where no view below one that is kept is tracked none comes to be, also where views are dropped on the way
-pub record Away {K L D G : Type 0} (replies : List (Told K D G)) (x y : Facts K L D) : Type 0 where
+pub record Away {K L D : Type 0} (replies : List (Told K D)) (x y : Facts K L D) : Type 0 where
   pub floor : min_active x ≤ min_active y
   pub clear : (low : ℕ) → low ≤ min_active x → IsClear low x → IsClear low y
   pub dropped : (v : ℕ) → IsDropped replies v → (low : ℕ) × (v < low) × (low ≤ min_active y) × IsClear low y
 
 -- from a sound state on
-abbrev pub SoundlyAway : {K L D G : Type 0} → ℕ → List (Told K D G) → Facts K L D → Facts K L D → Type 0
+abbrev pub SoundlyAway : {K L D : Type 0} → ℕ → List (Told K D) → Facts K L D → Facts K L D → Type 0
 SoundlyAway term_length replies x y = IsSound term_length x → IsSound term_length y × Away replies x y
 
-module _ {K L D G : Type 0} where
-  nothing_away : (told : Told K D G) (x : Facts K L D) → ((views : List ℕ) → told ≡ Dropped views → ⊥) → Away (told ∷ []) x x
+module _ {K L D : Type 0} where
+  nothing_away : (told : Told K D) (x : Facts K L D) → ((views : List ℕ) → told ≡ Dropped views → ⊥) → Away (told ∷ []) x x
   nothing_away told x none = record {
     floor = omega arith;
     clear = λ low under clear. clear;
     dropped = λ v is. absurd (none is.0 (only_one told (Dropped is.0) is.1));
   }
 
-  away_still : (x : Facts K L D) → Away {G = G} [] x x
+  away_still : (x : Facts K L D) → Away [] x x
   away_still x = record { floor = omega arith; clear = λ low under clear. clear; dropped = λ v is. absurd (omega (arith, is.1.1)) }
 
-  away_on : (told : Told K D G) (replies : List (Told K D G)) (x y z : Facts K L D) → Away (told ∷ []) x y → Away replies y z → Away (told ∷ replies) x z
+  away_on : (told : Told K D) (replies : List (Told K D)) (x y z : Facts K L D) → Away (told ∷ []) x y → Away replies y z → Away (told ∷ replies) x z
   away_on told replies x y z p q = record {
     floor = omega (arith, p.floor, q.floor);
     clear = λ low under clear. q.clear low (omega (arith, under, p.floor)) (p.clear low under clear);
@@ -59,35 +59,35 @@ module _ {K L D G : Type 0} where
         | inr later ↦ q.dropped v (views, later, among)
       ]
 
-module _ {K L D G : Type 0} (same : D → D → Bool) (elect : Elect L) (signature_of : ℕ → Subject D → G) (term_length : ℕ) where
-  call_sound : (call : CallFacts D) (x : Facts K L D) → IsSound term_length x → IsSound term_length (after_call same elect signature_of x call)
-  call_sound call x sound = call_by_any G same elect x signature_of (IsSound term_length) sound (λ e. event_sound same elect term_length x e sound) call
+module _ {K L D : Type 0} (same : D → D → Bool) (elect : Elect L) (term_length : ℕ) where
+  call_sound : (call : CallFacts D) (x : Facts K L D) → IsSound term_length x → IsSound term_length (after_call same elect x call)
+  call_sound call x sound = call_by_any same elect x (IsSound term_length) sound (λ e. event_sound same elect term_length x e sound) call
 
   work_sound : (call : WorkCall D) (x : Facts K L D) (o : Openings K D) → IsSound term_length x → IsSound term_length (after_work same elect x o call)
-  work_sound call x o sound = work_by_any G same elect x o (IsSound term_length) sound (λ e. event_sound same elect term_length x e sound) call
+  work_sound call x o sound = work_by_any same elect x o (IsSound term_length) sound (λ e. event_sound same elect term_length x e sound) call
 
   -- a call on the work of a view is told of no drop
-  work_drops : (x : Facts K L D) (o : Openings K D) (call : WorkCall D) (views : List ℕ) → work_answer same elect signature_of x o call ≡ Dropped views → ⊥
+  work_drops : (x : Facts K L D) (o : Openings K D) (call : WorkCall D) (views : List ℕ) → work_answer same elect x o call ≡ Dropped views → ⊥
   work_drops x o TryPropose views is = cc
   work_drops x o _ views is = cc
 
-  call_away : 0 < term_length → (call : CallFacts D) (x : Facts K L D) → is_allowed x call ≡ true → SoundlyAway term_length (answer same elect signature_of x call ∷ []) x (after_call same elect signature_of x call)
+  call_away : 0 < term_length → (call : CallFacts D) (x : Facts K L D) → is_allowed x call ≡ true → SoundlyAway term_length (answer same elect x call ∷ []) x (after_call same elect x call)
   call_away some call x allowed sound =
-      let floor = floor_goes x _ (call_goes same elect x signature_of call) in (
+      let floor = floor_goes x _ (call_goes same elect x call) in (
         call_sound call x sound,
         record {
           floor = floor;
-          clear = λ low under clear. call_clear same elect low x under (omega (arith, under, sound.ahead)) (omega (arith, some, sound.terms)) clear signature_of call allowed;
+          clear = λ low under clear. call_clear same elect low x under (omega (arith, under, sound.ahead)) (omega (arith, some, sound.terms)) clear call allowed;
           dropped = λ v is. (
-              let gone = call_drops same elect x signature_of call is.0 v (only_one (answer same elect signature_of x call) (Dropped is.0) is.1) is.2 in
+              let gone = call_drops same elect x call is.0 v (only_one (answer same elect x call) (Dropped is.0) is.1) is.2 in
               (min_active x, gone.0, floor, gone.1)
               );
         },
       )
 
-  work_away : 0 < term_length → (call : WorkCall D) (x : Facts K L D) (o : Openings K D) → work_allowed x o call ≡ true → SoundlyAway term_length (work_answer same elect signature_of x o call ∷ []) x (after_work same elect x o call)
+  work_away : 0 < term_length → (call : WorkCall D) (x : Facts K L D) (o : Openings K D) → work_allowed x o call ≡ true → SoundlyAway term_length (work_answer same elect x o call ∷ []) x (after_work same elect x o call)
   work_away some call x o allowed sound =
-      let told = work_answer same elect signature_of x o call in (
+      let told = work_answer same elect x o call in (
         work_sound call x o sound,
         record {
           floor = floor_goes x _ (work_goes same elect x o call);
@@ -96,16 +96,16 @@ module _ {K L D G : Type 0} (same : D → D → Bool) (elect : Elect L) (signatu
         },
       )
 
-  told_away : 0 < term_length → (m : MemberFacts K L D G) (call : LifeCall D) (told : Told K D G) (left : MemberFacts K L D G) → IsStep same elect signature_of m (as_step call) told left → WhileAlive (SoundlyAway term_length (told ∷ [])) m.life left.life
+  told_away : 0 < term_length → (m : MemberFacts K L D) (call : LifeCall D) (told : Told K D) (left : MemberFacts K L D) → IsStep same elect m (as_step call) told left → WhileAlive (SoundlyAway term_length (told ∷ [])) m.life left.life
   told_away some =
-      each_call same elect signature_of (λ call told. SoundlyAway term_length (told ∷ []))
+      each_call same elect (λ call told. SoundlyAway term_length (told ∷ []))
       (λ call fault x sound. (sound, nothing_away (Refused fault) x (λ views is. absurd (cc))))
       (λ call x sound. (sound, nothing_away NotAllowed x (λ views is. absurd (cc))))
       (λ call x allowed. call_away some call x allowed)
       (λ call x o allowed. work_away some call x o allowed)
 
-  life_away : 0 < term_length → (m end : MemberFacts K L D G) (calls : List (LifeCall D)) (replies : List (Told K D G)) → IsLife same elect signature_of m calls replies end → WhileAlive (SoundlyAway term_length replies) m.life end.life
-  life_away some m end [] [] life = subst (λ n. WhileAlive (SoundlyAway {G = G} term_length []) m.life n.life) life (alive_still (SoundlyAway {G = G} term_length []) m.life (λ x sound. (sound, away_still x)))
+  life_away : 0 < term_length → (m end : MemberFacts K L D) (calls : List (LifeCall D)) (replies : List (Told K D)) → IsLife same elect m calls replies end → WhileAlive (SoundlyAway term_length replies) m.life end.life
+  life_away some m end [] [] life = subst (λ n. WhileAlive (SoundlyAway term_length []) m.life n.life) life (alive_still (SoundlyAway term_length []) m.life (λ x sound. (sound, away_still x)))
   life_away some m end [] (told ∷ replies) life = absurd life
   life_away some m end (call ∷ calls) [] life = absurd life
   life_away some m end (call ∷ calls) (told ∷ replies) (next, is_call, rest) =
@@ -118,65 +118,65 @@ module _ {K L D G : Type 0} (same : D → D → Bool) (elect : Elect L) (signatu
 abbrev pub IsSoundIn : {K L D : Type 0} → ℕ → Option (Facts K L D) → Type 0
 IsSoundIn term_length life = HoldsIn (IsSound term_length) life
 
-module _ {K L D G : Type 0} (same : D → D → Bool) (elect : Elect L) (signature_of : ℕ → Subject D → G) (term_length : ℕ) where
+module _ {K L D : Type 0} (same : D → D → Bool) (elect : Elect L) (term_length : ℕ) where
   -- a life of a run begins with a sound state
-  pub life_sound : (start : StartFacts K L D) (steps : List (StepFacts K L D)) (told : List (Told K D G)) (m end : MemberFacts K L D G) (calls : List (LifeCall D)) (replies : List (Told K D G)) → IsFresh term_length start.fresh → BeginFresh term_length steps → IsLifeOfRun same elect signature_of start steps told m calls replies end → IsSoundIn term_length m.life
+  pub life_sound : (start : StartFacts K L D) (steps : List (StepFacts K L D)) (told : List (Told K D)) (m end : MemberFacts K L D) (calls : List (LifeCall D)) (replies : List (Told K D)) → IsFresh term_length start.fresh → BeginFresh term_length steps → IsLifeOfRun same elect start steps told m calls replies end → IsSoundIn term_length m.life
   life_sound start steps told m end calls replies begins fresh of_run =
-      run_induction same elect signature_of term_length (IsSound term_length) (λ x floor now new. floor_sound G same elect term_length x floor now new) (λ x e sound. event_sound same elect term_length x e sound) start steps told m begins fresh of_run.reached
+      run_induction same elect term_length (IsSound term_length) (λ x floor now new. floor_sound same elect term_length x floor now new) (λ x e sound. event_sound same elect term_length x e sound) start steps told m begins fresh of_run.reached
 
-  for_good : (replies : List (Told K D G)) (first last : Option (Facts K L D)) → IsSoundIn term_length first → WhileAlive (SoundlyAway term_length replies) first last → WhileAlive (DroppedForGood replies) first last
+  for_good : (replies : List (Told K D)) (first last : Option (Facts K L D)) → IsSoundIn term_length first → WhileAlive (SoundlyAway term_length replies) first last → WhileAlive (DroppedForGood replies) first last
   for_good replies first None sound away = tt
   for_good replies None (Some y) sound away = absurd away
   for_good replies (Some x) (Some y) sound away = λ v is. (let gone = (away sound).1.dropped v is in gone.3.views v gone.1)
 
-  pub life_drops_for_good : (start : StartFacts K L D) (steps : List (StepFacts K L D)) (told : List (Told K D G)) (m end : MemberFacts K L D G) (calls : List (LifeCall D)) (replies : List (Told K D G)) → IsFresh term_length start.fresh → BeginFresh term_length steps → IsLifeOfRun same elect signature_of start steps told m calls replies end → WhileAlive (DroppedForGood replies) m.life end.life
+  pub life_drops_for_good : (start : StartFacts K L D) (steps : List (StepFacts K L D)) (told : List (Told K D)) (m end : MemberFacts K L D) (calls : List (LifeCall D)) (replies : List (Told K D)) → IsFresh term_length start.fresh → BeginFresh term_length steps → IsLifeOfRun same elect start steps told m calls replies end → WhileAlive (DroppedForGood replies) m.life end.life
   life_drops_for_good start steps told m end calls replies begins fresh of_run =
-      for_good replies m.life end.life (life_sound start steps told m end calls replies begins fresh of_run) (life_away same elect signature_of term_length begins.some m end calls replies of_run.life)
+      for_good replies m.life end.life (life_sound start steps told m end calls replies begins fresh of_run) (life_away same elect term_length begins.some m end calls replies of_run.life)
 
-  stay_in : (replies : List (Told K D G)) (first last : Option (Facts K L D)) → IsSoundIn term_length first → WhileAlive (InOrderly (Keeps replies)) first last → WhileAlive (ConflictsStay replies) first last
+  stay_in : (replies : List (Told K D)) (first last : Option (Facts K L D)) → IsSoundIn term_length first → WhileAlive (InOrderly (Keeps replies)) first last → WhileAlive (ConflictsStay replies) first last
   stay_in replies first None sound keeps = tt
   stay_in replies None (Some y) sound keeps = absurd keeps
   stay_in replies (Some x) (Some y) sound keeps = (keeps sound.in_order).1.conflicts
 
-  pub life_conflicts : (start : StartFacts K L D) (steps : List (StepFacts K L D)) (told : List (Told K D G)) (m end : MemberFacts K L D G) (calls : List (LifeCall D)) (replies : List (Told K D G)) → IsFresh term_length start.fresh → BeginFresh term_length steps → IsLifeOfRun same elect signature_of start steps told m calls replies end → WhileAlive (ConflictsStay replies) m.life end.life
+  pub life_conflicts : (start : StartFacts K L D) (steps : List (StepFacts K L D)) (told : List (Told K D)) (m end : MemberFacts K L D) (calls : List (LifeCall D)) (replies : List (Told K D)) → IsFresh term_length start.fresh → BeginFresh term_length steps → IsLifeOfRun same elect start steps told m calls replies end → WhileAlive (ConflictsStay replies) m.life end.life
   life_conflicts start steps told m end calls replies begins fresh of_run =
-      stay_in replies m.life end.life (life_sound start steps told m end calls replies begins fresh of_run) (life_keeps same elect signature_of m end calls replies of_run.life)
+      stay_in replies m.life end.life (life_sound start steps told m end calls replies begins fresh of_run) (life_keeps same elect m end calls replies of_run.life)
 
   ordered_in : (life : Option (Facts K L D)) → IsSoundIn term_length life → IsOrdered life
   ordered_in None sound = tt
   ordered_in (Some x) sound = sound.in_order
 
-  pub life_hands_out_once : (start : StartFacts K L D) (steps : List (StepFacts K L D)) (told : List (Told K D G)) (m end : MemberFacts K L D G) (calls : List (LifeCall D)) (replies : List (Told K D G)) → IsFresh term_length start.fresh → BeginFresh term_length steps → IsLifeOfRun same elect signature_of start steps told m calls replies end → HandedOnce calls replies
+  pub life_hands_out_once : (start : StartFacts K L D) (steps : List (StepFacts K L D)) (told : List (Told K D)) (m end : MemberFacts K L D) (calls : List (LifeCall D)) (replies : List (Told K D)) → IsFresh term_length start.fresh → BeginFresh term_length steps → IsLifeOfRun same elect start steps told m calls replies end → HandedOnce calls replies
   life_hands_out_once start steps told m end calls replies begins fresh of_run =
-      life_hands_once same elect signature_of m end calls replies (ordered_in m.life (life_sound start steps told m end calls replies begins fresh of_run)) of_run.life
+      life_hands_once same elect m end calls replies (ordered_in m.life (life_sound start steps told m end calls replies begins fresh of_run)) of_run.life
 
 -- what a call is told is as asked
-abbrev pub RightlyTold : {K D G : Type 0} → LifeCall D → Told K D G → Type 0
+abbrev pub RightlyTold : {K D : Type 0} → LifeCall D → Told K D → Type 0
 RightlyTold (Calling call) told = IsAsAsked call told
 RightlyTold (Working call) told = Unit {0}
 
-module _ (K : Type 0) {D : Type 0} (G : Type 0) where
-  refused_rightly : (call : LifeCall D) (fault : Fault) → RightlyTold {K = K} {G = G} call (Refused fault)
+module _ (K : Type 0) {D : Type 0} where
+  refused_rightly : (call : LifeCall D) (fault : Fault) → RightlyTold {K = K} call (Refused fault)
   refused_rightly (Calling call) fault = λ kind v d asks tells. absurd (cc)
   refused_rightly (Working call) fault = tt
 
-  not_allowed_rightly : (call : LifeCall D) → RightlyTold {K = K} {G = G} call NotAllowed
+  not_allowed_rightly : (call : LifeCall D) → RightlyTold {K = K} call NotAllowed
   not_allowed_rightly (Calling call) = λ kind v d asks tells. absurd (cc)
   not_allowed_rightly (Working call) = tt
 
-module _ {K L D G : Type 0} (same : D → D → Bool) (elect : Elect L) (signature_of : ℕ → Subject D → G) (term_length : ℕ) where
+module _ {K L D : Type 0} (same : D → D → Bool) (elect : Elect L) (term_length : ℕ) where
   -- so it is of each call from a sound state on
-  told_as_asked : (m : MemberFacts K L D G) (call : LifeCall D) (told : Told K D G) (left : MemberFacts K L D G) → IsStep same elect signature_of m (as_step call) told left → IsSoundIn term_length m.life → RightlyTold call told × IsSoundIn term_length left.life
+  told_as_asked : (m : MemberFacts K L D) (call : LifeCall D) (told : Told K D) (left : MemberFacts K L D) → IsStep same elect m (as_step call) told left → IsSoundIn term_length m.life → RightlyTold call told × IsSoundIn term_length left.life
   told_as_asked m call told left is_step sound =
-      elim (call_outcome same elect signature_of (λ c t x y. IsSound term_length x → RightlyTold c t × IsSound term_length y)
-      (λ c f x s. (refused_rightly K G c f, s)) (λ c x s. (not_allowed_rightly K G c, s))
-      (λ c x allowed s. (call_as_asked same elect signature_of x c s.placed, call_sound same elect signature_of term_length c x s))
-      (λ c x o allowed s. (tt, work_sound same elect signature_of term_length c x o s)) m call told left is_step) [
-        | inl (fault, refuses, dies) ↦ (subst (RightlyTold call) (sym refuses) (refused_rightly K G call fault), subst (IsSoundIn term_length) (sym dies) tt)
+      elim (call_outcome same elect (λ c t x y. IsSound term_length x → RightlyTold c t × IsSound term_length y)
+      (λ c f x s. (refused_rightly K c f, s)) (λ c x s. (not_allowed_rightly K c, s))
+      (λ c x allowed s. (call_as_asked same elect x c s.placed, call_sound same elect term_length c x s))
+      (λ c x o allowed s. (tt, work_sound same elect term_length c x o s)) m call told left is_step) [
+        | inl (fault, refuses, dies) ↦ (subst (RightlyTold call) (sym refuses) (refused_rightly K call fault), subst (IsSoundIn term_length) (sym dies) tt)
         | inr (x, y, alive, lives, keeps) ↦ (let kept = keeps (subst (IsSoundIn term_length) alive sound) in (kept.0, subst (IsSoundIn term_length) (sym lives) kept.1))
       ]
 
-  life_as_asked : (m end : MemberFacts K L D G) (calls : List (LifeCall D)) (replies : List (Told K D G)) → IsSoundIn term_length m.life → IsLife same elect signature_of m calls replies end → HandedAsAsked calls replies
+  life_as_asked : (m end : MemberFacts K L D) (calls : List (LifeCall D)) (replies : List (Told K D)) → IsSoundIn term_length m.life → IsLife same elect m calls replies end → HandedAsAsked calls replies
   life_as_asked m end [] [] sound life = tt
   life_as_asked m end [] (told ∷ replies) sound life = absurd life
   life_as_asked m end (call ∷ calls) [] sound life = absurd life
@@ -186,13 +186,13 @@ module _ {K L D G : Type 0} (same : D → D → Bool) (elect : Elect L) (signatu
   life_as_asked m end (Working call ∷ calls) (told ∷ replies) sound (next, is_call, rest) =
       life_as_asked next end calls replies (told_as_asked m (Working call) told next is_call sound).1 rest
 
-  pub life_hands_as_asked : (start : StartFacts K L D) (steps : List (StepFacts K L D)) (told : List (Told K D G)) (m end : MemberFacts K L D G) (calls : List (LifeCall D)) (replies : List (Told K D G)) → IsFresh term_length start.fresh → BeginFresh term_length steps → IsLifeOfRun same elect signature_of start steps told m calls replies end → HandedAsAsked calls replies
+  pub life_hands_as_asked : (start : StartFacts K L D) (steps : List (StepFacts K L D)) (told : List (Told K D)) (m end : MemberFacts K L D) (calls : List (LifeCall D)) (replies : List (Told K D)) → IsFresh term_length start.fresh → BeginFresh term_length steps → IsLifeOfRun same elect start steps told m calls replies end → HandedAsAsked calls replies
   life_hands_as_asked start steps told m end calls replies begins fresh of_run =
-      life_as_asked m end calls replies (life_sound same elect signature_of term_length start steps told m end calls replies begins fresh of_run) of_run.life
+      life_as_asked m end calls replies (life_sound same elect term_length start steps told m end calls replies begins fresh of_run) of_run.life
 
-module _ {K L D G : Type 0} (same : D → D → Bool) (elect : Elect L) (signature_of : ℕ → Subject D → G) where
+module _ {K L D : Type 0} (same : D → D → Bool) (elect : Elect L) where
   -- a run comes apart between its steps
-  run_apart : (steps after : List (StepFacts K L D)) (told rest : List (Told K D G)) (m end : MemberFacts K L D G) → length steps ≡ length told → IsRun same elect signature_of m (steps ++ after) (told ++ rest) end → (middle : MemberFacts K L D G) × IsRun same elect signature_of m steps told middle × IsRun same elect signature_of middle after rest end
+  run_apart : (steps after : List (StepFacts K L D)) (told rest : List (Told K D)) (m end : MemberFacts K L D) → length steps ≡ length told → IsRun same elect m (steps ++ after) (told ++ rest) end → (middle : MemberFacts K L D) × IsRun same elect m steps told middle × IsRun same elect middle after rest end
   run_apart [] after [] rest m end as_many run = (m, refl, run)
   run_apart [] after (reply ∷ told) rest m end as_many run = absurd (omega (arith, as_many))
   run_apart (step ∷ steps) after [] rest m end as_many run = absurd (omega (arith, as_many))
@@ -201,7 +201,7 @@ module _ {K L D G : Type 0} (same : D → D → Bool) (elect : Elect L) (signatu
       (parts.0, (next, is_step, parts.1), parts.2)
 
   -- calls of a run without a restart among them go on from a member that the run leads to
-  pub stretch_is_life : (start : StartFacts K L D) (steps after : List (StepFacts K L D)) (calls : List (LifeCall D)) (told replies rest : List (Told K D G)) → length steps ≡ length told → length calls ≡ length replies → IsRunFrom same elect signature_of start (steps ++ (as_steps calls ++ after)) (told ++ (replies ++ rest)) → (m end : MemberFacts K L D G) × IsLifeOfRun same elect signature_of start steps told m calls replies end
+  pub stretch_is_life : (start : StartFacts K L D) (steps after : List (StepFacts K L D)) (calls : List (LifeCall D)) (told replies rest : List (Told K D)) → length steps ≡ length told → length calls ≡ length replies → IsRunFrom same elect start (steps ++ (as_steps calls ++ after)) (told ++ (replies ++ rest)) → (m end : MemberFacts K L D) × IsLifeOfRun same elect start steps told m calls replies end
   unfolding IsRunFrom
   stretch_is_life start steps after calls told replies rest as_many as_told (accepted, last, run) =
       let first = run_apart steps (as_steps calls ++ after) told (replies ++ rest) (started same elect start.fresh start.floor start.now) last as_many run in

@@ -36,8 +36,8 @@ no_entry : (b : Bool) → if◌then◌else◌ {A = Option ℕ} b None None ≡ N
 no_entry true = refl
 no_entry false = refl
 
-module _ {K L D G : Type 0} (same : D → D → Bool) (elect : Elect L) (x : Facts K L D) (c : ProposalFacts D) where
-  notarization_says : (v : ℕ) → Says {G = G} same elect x (AddNotarization c) v (proposal_said same elect x c (is_none (round_of x c.proposal.round.view).notarization) None None v)
+module _ {K L D : Type 0} (same : D → D → Bool) (elect : Elect L) (x : Facts K L D) (c : ProposalFacts D) where
+  notarization_says : (v : ℕ) → Says same elect x (AddNotarization c) v (proposal_said same elect x c (is_none (round_of x c.proposal.round.view).notarization) None None v)
   notarization_says v =
       let settled = settled_by c (is_none (round_of x c.proposal.round.view).notarization) v in
       record {
@@ -57,7 +57,7 @@ module _ {K L D G : Type 0} (same : D → D → Bool) (elect : Elect L) (x : Fac
         bound = refl;
       }
 
-  pub notarization_works : WorkFollows {G = G} same elect (AddNotarization c) x (after_add_notarization same elect x c)
+  pub notarization_works : WorkFollows same elect (AddNotarization c) x (after_add_notarization same elect x c)
   notarization_works =
       said_follows same elect x (AddNotarization c) (after_add_notarization same elect x c) (proposal_said same elect x c (is_none standing) None None) steady waiting notarization_says
       (λ v. proposal_work same elect x c x (λ w. None) (λ w. None) refl (λ w. without_entry x (work_of x w)) standing z (named_also z u) (named_steady z u ∙ kept) settled (λ w. named_work z u w) v)
@@ -88,7 +88,7 @@ module _ {K L D G : Type 0} (same : D → D → Bool) (elect : Elect L) (x : Fac
       only : OnlyRounds x d
       only = elected_only elect x (u + 1) (Some c.bytes)
 
-      waiting : (v : ℕ) → is_among (after_add_notarization same elect x c).named v ≡ unwrap_or (names {G = G} elect v x (AddNotarization c)) (is_among x.named v)
+      waiting : (v : ℕ) → is_among (after_add_notarization same elect x c).named v ≡ unwrap_or (names elect v x (AddNotarization c)) (is_among x.named v)
       waiting v = first standing
         where
           first : (o : Option (ProposalFacts D)) → is_among (if is_some o then z else slid (named_also z u) u).named v ≡ unwrap_or (if eqb v u && is_none o && nat_lt x.finalized u then Some true else None) (is_among x.named v)
@@ -99,8 +99,8 @@ module _ {K L D G : Type 0} (same : D → D → Bool) (elect : Elect L) (x : Fac
 
 -- nullifications, and the floor at genesis
 
-module _ {K L D G : Type 0} (same : D → D → Bool) (elect : Elect L) (x : Facts K L D) where
-  pub nullification_works : (c : NullificationFacts) (now : ℕ) → WorkFollows {G = G} same elect (AddNullification c now) x (after_add_nullification elect x c now)
+module _ {K L D : Type 0} (same : D → D → Bool) (elect : Elect L) (x : Facts K L D) where
+  pub nullification_works : (c : NullificationFacts) (now : ℕ) → WorkFollows same elect (AddNullification c now) x (after_add_nullification elect x c now)
   nullification_works c now =
       said_follows same elect x (AddNullification c now) (after_add_nullification elect x c now) (λ v. entry_said elect x (eqb v u) next now (Some c.bytes) v) steady
       (λ v. ap (λ (a : Facts K L D). is_among a.named v) (elected_only elect e next (Some c.bytes)) ∙ ap (λ views. is_among views v) (entered_named (at_moment x now) next now))
@@ -119,7 +119,7 @@ module _ {K L D G : Type 0} (same : D → D → Bool) (elect : Elect L) (x : Fac
       steady : Steady x (after_add_nullification elect x c now)
       steady = elected_steady elect e next (Some c.bytes) ∙ entered_steady (at_moment x now) next now
 
-      says : (v : ℕ) → Says {G = G} same elect x (AddNullification c now) v (entry_said elect x (eqb v u) next now (Some c.bytes) v)
+      says : (v : ℕ) → Says same elect x (AddNullification c now) v (entry_said elect x (eqb v u) next now (Some c.bytes) v)
       says v = record {
         entered = refl;
         tracked = sym (or-false (eqb v u || eqb v next));
@@ -137,7 +137,7 @@ module _ {K L D G : Type 0} (same : D → D → Bool) (elect : Elect L) (x : Fac
         bound = refl;
       }
 
-  pub genesis_works : (payload : D) (now : ℕ) → WorkFollows {G = G} same elect (SetFloor (Genesis payload) now) x (after_set_floor same elect x (Genesis payload) now)
+  pub genesis_works : (payload : D) (now : ℕ) → WorkFollows same elect (SetFloor (Genesis payload) now) x (after_set_floor same elect x (Genesis payload) now)
   genesis_works payload now =
       said_follows same elect x (SetFloor (Genesis payload) now) (after_set_floor same elect x (Genesis payload) now) (entry_said elect x false 1 now None) steady
       (λ v. ap (λ (y : Facts K L D). is_among y.named v) (elected_only elect e 1 None) ∙ ap (λ views. is_among views v) (entered_named a 1 now))
@@ -153,7 +153,7 @@ module _ {K L D G : Type 0} (same : D → D → Bool) (elect : Elect L) (x : Fac
       steady : Steady x (after_set_floor same elect x (Genesis payload) now)
       steady = elected_steady elect e 1 None ∙ entered_steady a 1 now
 
-      says : (v : ℕ) → Says {G = G} same elect x (SetFloor (Genesis payload) now) v (entry_said elect x false 1 now None v)
+      says : (v : ℕ) → Says same elect x (SetFloor (Genesis payload) now) v (entry_said elect x false 1 now None v)
       says v = record {
         entered = refl;
         tracked = sym (or-false (eqb v 1));
@@ -178,8 +178,8 @@ named_later : (wakes : Bool) (dropped : Option Bool) (old : Bool) → unwrap_or 
 named_later true dropped old = refl
 named_later false dropped old = refl
 
-module _ {K L D G : Type 0} (same : D → D → Bool) (elect : Elect L) (x : Facts K L D) (c : ProposalFacts D) (now : ℕ) where
-  finalization_says : (v : ℕ) → Says {G = G} same elect x (AddFinalization c now) v (proposal_said same elect x c (is_none (round_of x c.proposal.round.view).finalization) (entry_at x (c.proposal.round.view + 1) now v) (ends v x c.proposal.round.view) v)
+module _ {K L D : Type 0} (same : D → D → Bool) (elect : Elect L) (x : Facts K L D) (c : ProposalFacts D) (now : ℕ) where
+  finalization_says : (v : ℕ) → Says same elect x (AddFinalization c now) v (proposal_said same elect x c (is_none (round_of x c.proposal.round.view).finalization) (entry_at x (c.proposal.round.view + 1) now v) (ends v x c.proposal.round.view) v)
   finalization_says v =
       let settled = settled_by c (is_none (round_of x c.proposal.round.view).finalization) v in
       record {
@@ -199,7 +199,7 @@ module _ {K L D G : Type 0} (same : D → D → Bool) (elect : Elect L) (x : Fac
         bound = refl;
       }
 
-  pub finalization_works : WorkFollows {G = G} same elect (AddFinalization c now) x (after_add_finalization same elect x c now)
+  pub finalization_works : WorkFollows same elect (AddFinalization c now) x (after_add_finalization same elect x c now)
   finalization_works =
       said_follows same elect x (AddFinalization c now) (after_add_finalization same elect x c now) (λ v. proposal_said same elect x c (is_none standing) (entry_at x (u + 1) now v) (ends v x u) v) steady waiting finalization_says
       (λ v. proposal_work same elect x c e (entry_at x (u + 1) now) (λ w. ends w x u) entering before standing z (woken elect z u) (woken_steady elect z u ∙ kept) settled (λ w. woken_work elect z u w) v)
@@ -266,7 +266,7 @@ module _ {K L D G : Type 0} (same : D → D → Bool) (elect : Elect L) (x : Fac
           by_view (inl here) = rw here (λ i. eqb (u + 1) (u + 1) && nat_lt (finalized i) (u + 1) && waits_alike elect x z u (wakings_steady x z kept) untouched i)
           by_view (inr apart) = rw (ne_eqb v (u + 1) apart) refl
 
-      waiting : (v : ℕ) → is_among (after_add_finalization same elect x c now).named v ≡ unwrap_or (names {G = G} elect v x (AddFinalization c now)) (is_among x.named v)
+      waiting : (v : ℕ) → is_among (after_add_finalization same elect x c now).named v ≡ unwrap_or (names elect v x (AddFinalization c now)) (is_among x.named v)
       waiting v = first standing
         where
           gone : Option Bool
@@ -280,7 +280,7 @@ module _ {K L D G : Type 0} (same : D → D → Bool) (elect : Elect L) (x : Fac
           first (Some s) = dropped v
 
   -- the floor's finalization says what a finalization says, and is handed out
-  pub floor_finalization_works : WorkFollows {G = G} same elect (SetFloor (Finalized c) now) x (after_set_floor same elect x (Finalized c) now)
+  pub floor_finalization_works : WorkFollows same elect (SetFloor (Finalized c) now) x (after_set_floor same elect x (Finalized c) now)
   floor_finalization_works = record {
     me = f.me;
     members = f.members;
@@ -291,7 +291,7 @@ module _ {K L D G : Type 0} (same : D → D → Bool) (elect : Elect L) (x : Fac
     work = λ v left. handed v (cases_eq v u) ∙ f.work v left;
   }
     where
-      f : WorkFollows {G = G} same elect (AddFinalization c now) x (after_add_finalization same elect x c now)
+      f : WorkFollows same elect (AddFinalization c now) x (after_add_finalization same elect x c now)
       f = finalization_works
 
       u : ℕ

@@ -34,9 +34,9 @@ module _ {K L D : Type 0} (x : Facts K L D) (v : ℕ) (tracked : is_tracked x v 
       by_view (inl here) = rw (here, tracked, eq-eqb v v refl) (work_put a v (certified_round (round_of x v) success))
       by_view (inr apart) = rw (ne_eqb w v apart) (work_elsewhere a v w (certified_round (round_of x v) success) (ne_eqb w v apart))
 
-module _ {K L D G : Type 0} (same : D → D → Bool) (elect : Elect L) (x : Facts K L D) (v now : ℕ) where
+module _ {K L D : Type 0} (same : D → D → Bool) (elect : Elect L) (x : Facts K L D) (v now : ℕ) where
   -- a true verdict enters the next view, and wakes what waited for this one
-  true_works : is_tracked x v ≡ true → WorkFollows {G = G} same elect (Certified v true now) x (verdict_taken elect (at_moment x now) v true now)
+  true_works : is_tracked x v ≡ true → WorkFollows same elect (Certified v true now) x (verdict_taken elect (at_moment x now) v true now)
   true_works tracked = record {
     me = ap (λ (z : Facts K L D). z.me) steady;
     members = ap (λ (z : Facts K L D). z.members) steady;
@@ -78,14 +78,14 @@ module _ {K L D G : Type 0} (same : D → D → Bool) (elect : Elect L) (x : Fac
       names w (inl here) = subst Named (sym here) (λ i. unwrap_or (if eqb (v + 1) (v + 1) && nat_lt (entering.0 i) (v + 1) && waits_alike elect x y v (wakings_steady x y (entered_steady j (v + 1) now)) next i then Some true else None) (is_among (entering.1 i) (v + 1)))
       names w (inr apart) = rw (ne_eqb w (v + 1) apart) (ap (λ views. is_among views w) entering.1)
 
-      said : (w : ℕ) → adds_work {G = G} same elect x (Certified v true now) w (work_of x w) ≡ with_entry j (entry_at j (v + 1) now w) (record (work_of x w) { certification = unwrap_or (if is_at x w v then Some (Judged true) else None) (work_of x w).certification })
+      said : (w : ℕ) → adds_work same elect x (Certified v true now) w (work_of x w) ≡ with_entry j (entry_at j (v + 1) now w) (record (work_of x w) { certification = unwrap_or (if is_at x w v then Some (Judged true) else None) (work_of x w).certification })
       said w = rw tracked refl
 
   -- a false one times the view out
-  false_works : is_tracked x v ≡ true → WorkFollows {G = G} same elect (Certified v false now) x (verdict_taken elect (at_moment x now) v false now)
+  false_works : is_tracked x v ≡ true → WorkFollows same elect (Certified v false now) x (verdict_taken elect (at_moment x now) v false now)
   false_works tracked = shared_follows same elect x e (λ w. refl) (triggered j v FailedCertification now) (shared_triggered j v FailedCertification now) (λ w _. work_triggered j v FailedCertification now x.settings w ∙ ap (timed_out w) (judged_work x v tracked now false w) ∙ sym (said w))
     where
-      e : Event K D G
+      e : Event K D
       e = Certified v false now
 
       j : Facts K L D
@@ -105,20 +105,20 @@ module _ {K L D G : Type 0} (same : D → D → Bool) (elect : Elect L) (x : Fac
       test : (w : ℕ) → (is_at x w v && nat_le x.current v) ≡ (eqb w v && triggers j v FailedCertification)
       test w = rw (tracked, here) (twice (eqb w v) (nat_le x.current v))
 
-      said : (w : ℕ) → adds_work {G = G} same elect x e w (work_of x w) ≡ timed_out w (record (work_of x w) { certification = unwrap_or (if is_at x w v then Some (Judged false) else None) (work_of x w).certification })
+      said : (w : ℕ) → adds_work same elect x e w (work_of x w) ≡ timed_out w (record (work_of x w) { certification = unwrap_or (if is_at x w v then Some (Judged false) else None) (work_of x w).certification })
       said w = rw (unentered x e w refl, test w) refl
 
   -- a verdict on a view that isn't tracked says nothing
-  pub verdict_works : (success : Bool) → WorkFollows {G = G} same elect (Certified v success now) x (after_certified elect x v success now)
+  pub verdict_works : (success : Bool) → WorkFollows same elect (Certified v success now) x (after_certified elect x v success now)
   verdict_works success = by_tracked (is_tracked x v) refl success
     where
       a : Facts K L D
       a = at_moment x now
 
-      e : Bool → Event K D G
+      e : Bool → Event K D
       e s = Certified v s now
 
-      by_tracked : (b : Bool) → is_tracked x v ≡ b → (s : Bool) → WorkFollows {G = G} same elect (Certified v s now) x (if b then verdict_taken elect a v s now else a)
+      by_tracked : (b : Bool) → is_tracked x v ≡ b → (s : Bool) → WorkFollows same elect (Certified v s now) x (if b then verdict_taken elect a v s now else a)
       by_tracked true tracked true = true_works tracked
       by_tracked true tracked false = false_works tracked
       by_tracked false untracked s = idle_follows same elect x (Certified v s now) (unnamed s) a refl (λ w _. refl) (idle s)
@@ -127,6 +127,6 @@ module _ {K L D G : Type 0} (same : D → D → Bool) (elect : Elect L) (x : Fac
           unnamed true w = rw untracked refl
           unnamed false w = refl
 
-          idle : (s : Bool) (w : ℕ) → IsIdle {G = G} same elect x (Certified v s now) w
+          idle : (s : Bool) (w : ℕ) → IsIdle same elect x (Certified v s now) w
           idle true w k = rw (unentered x (e true) w (ap (λ b. if b then v + 1 else 0) untracked), untracked, and-false (eqb w v), untimed x.settings k.decision) refl
           idle false w k = rw (unentered x (e false) w refl, untracked, and-false (eqb w v), untimed x.settings k.decision) refl

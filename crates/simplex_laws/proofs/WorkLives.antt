@@ -34,19 +34,19 @@ use Rattle.simplex_laws.proofs.NotarizeVotes.{notarize_silent, notarize_told, no
 use Rattle.simplex_laws.proofs.NewLives.{Living, high_more, within_more}
 
 -- a vote to notarize is recorded
-grows_notarize : {D G : Type 0} (deeds : List (Deed D G)) (entries : List (ArtifactFacts D G)) (p : Proposal D) (m : ℕ) (signature : G) → Grows deeds (Signs m (subject.Notarize p) signature ∷ []) entries (NotarizeVote p m signature ∷ [])
-grows_notarize deeds entries p m signature = record {
-  accepted = λ c h. absurd (let e = only_one (NotarizeVote p m signature) (Accepted c) h in cc);
-  nullify_cast = λ r n s h. absurd (let e = only_one (NotarizeVote p m signature) (NullifyVote r n s) h in cc);
-  finalize_cast = λ q n s h. absurd (let e = only_one (NotarizeVote p m signature) (FinalizeVote q n s) h in cc);
-  nullify_kept = λ r h. absurd (let e = only_signed (Signs m (subject.Notarize p) signature) (subject.Nullify r) h in cc);
-  finalize_kept = λ q h. absurd (let e = only_signed (Signs m (subject.Notarize p) signature) (subject.Finalize q) h in cc);
-  judged = λ before after q n s split. absurd (let e = single_split before after (NotarizeVote p m signature) (FinalizeVote q n s) split in cc);
+grows_notarize : {D : Type 0} (deeds : List (Deed D)) (entries : List (ArtifactFacts D)) (p : Proposal D) (m : ℕ) → Grows deeds (Signs m (subject.Notarize p) ∷ []) entries (NotarizeVote p m ∷ [])
+grows_notarize deeds entries p m = record {
+  accepted = λ c h. absurd (let e = only_one (NotarizeVote p m) (Accepted c) h in cc);
+  nullify_cast = λ r n h. absurd (let e = only_one (NotarizeVote p m) (NullifyVote r n) h in cc);
+  finalize_cast = λ q n h. absurd (let e = only_one (NotarizeVote p m) (FinalizeVote q n) h in cc);
+  nullify_kept = λ r h. absurd (let e = only_signed (Signs m (subject.Notarize p)) (subject.Nullify r) h in cc);
+  finalize_kept = λ q h. absurd (let e = only_signed (Signs m (subject.Notarize p)) (subject.Finalize q) h in cc);
+  judged = λ before after q n split. absurd (let e = single_split before after (NotarizeVote p m) (FinalizeVote q n) split in cc);
 }
 
-module _ {K L D G : Type 0} (same : D → D → Bool) (elect : Elect L) (signature_of : ℕ → Subject D → G) (x : Facts K L D) (o : Openings K D) where
+module _ {K L D : Type 0} (same : D → D → Bool) (elect : Elect L) (x : Facts K L D) (o : Openings K D) where
   -- a call that is no vote to notarize is no deed, and records nothing
-  pub silent_deeds : (call : WorkCall D) → is_silent call ≡ true → signed_in (work_answer same elect signature_of x o call) ≡ []
+  pub silent_deeds : (call : WorkCall D) → is_silent call ≡ true → signed_in (work_answer same elect x o call) ≡ []
   silent_deeds (SetProposal v p) silent = refl
   silent_deeds TryPropose silent = refl
   silent_deeds (Proposed v payload now) silent = refl
@@ -62,7 +62,7 @@ module _ {K L D G : Type 0} (same : D → D → Bool) (elect : Elect L) (signatu
   silent_deeds (TriggerTimeout v reason now) silent = refl
   silent_deeds (NextTimeout now) silent = refl
 
-  pub silent_record : (call : WorkCall D) → is_silent call ≡ true → recorded_by_work same elect signature_of x call ≡ []
+  pub silent_record : (call : WorkCall D) → is_silent call ≡ true → recorded_by_work same elect x call ≡ []
   silent_record (SetProposal v p) silent = refl
   silent_record TryPropose silent = refl
   silent_record (Proposed v payload now) silent = refl
@@ -78,7 +78,7 @@ module _ {K L D G : Type 0} (same : D → D → Bool) (elect : Elect L) (signatu
   silent_record (TriggerTimeout v reason now) silent = refl
   silent_record (NextTimeout now) silent = refl
 
-module _ {K L D G : Type 0} (same : D → D → Bool) (decides : (d e : D) → same d e ≡ true → d ≡ e) (elect : Elect L) (signature_of : ℕ → Subject D → G) (term_length : ℕ) (some : 0 < term_length) (deeds : List (Deed D G)) (closed kept : ℕ) (entries : List (ArtifactFacts D G)) (o : Openings K D) (x : Facts K L D) (living : Living term_length deeds closed kept entries o x) where
+module _ {K L D : Type 0} (same : D → D → Bool) (decides : (d e : D) → same d e ≡ true → d ≡ e) (elect : Elect L) (term_length : ℕ) (some : 0 < term_length) (deeds : List (Deed D)) (closed kept : ℕ) (entries : List (ArtifactFacts D)) (o : Openings K D) (x : Facts K L D) (living : Living term_length deeds closed kept entries o x) where
   -- with no deed and nothing recorded
   nothing_done : (next : Openings K D) (y : Facts K L D) → Living term_length deeds closed kept entries next y → Living term_length (deeds ++ []) closed kept (entries ++ []) next y
   nothing_done next y lives = subst (λ a. Living term_length a closed kept (entries ++ []) next y) (sym (append-nil deeds)) (subst (λ es. Living term_length deeds closed kept es next y) (sym (append-nil entries)) lives)
@@ -87,13 +87,13 @@ module _ {K L D G : Type 0} (same : D → D → Bool) (decides : (d e : D) → s
 
   stays_worked : (call : WorkCall D) → work_allowed x o call ≡ true → Stays term_length deeds (after_work same elect x o call)
   stays_worked call allowed =
-      work_by_event G same elect x o (λ es y. AreSilent G es → Stays term_length deeds y) (λ silent. living.keeps.stays)
-      (λ e rest takes floor silent. stays_on same decides elect term_length deeds x e (silent_suits deeds _ x e silent.0) living.in_order living.keeps.stays) call allowed (work_silent G o call)
+      work_by_event same elect x o (λ es y. AreSilent es → Stays term_length deeds y) (λ silent. living.keeps.stays)
+      (λ e rest takes floor silent. stays_on same decides elect term_length deeds x e (silent_suits deeds _ x e silent.0) living.in_order living.keeps.stays) call allowed (work_silent o call)
 
   marked_worked : (call : WorkCall D) → work_allowed x o call ≡ true → Marked entries (after_work same elect x o call)
   marked_worked call allowed =
-      work_by_event G same elect x o (λ es y. AreSilent G es → Marked entries y) (λ silent. living.follows.marked)
-      (λ e rest takes floor silent. quiet_marked same elect x e entries living.in_order silent.0.verdict silent.0.nullify living.follows.marked) call allowed (work_silent G o call)
+      work_by_event same elect x o (λ es y. AreSilent es → Marked entries y) (λ silent. living.follows.marked)
+      (λ e rest takes floor silent. quiet_marked same elect x e entries living.in_order silent.0.verdict silent.0.nullify living.follows.marked) call allowed (work_silent o call)
 
   silent_lives : (call : WorkCall D) → work_allowed x o call ≡ true → is_silent call ≡ true → Living term_length deeds closed kept entries (openings_after same elect x o call) (after_work same elect x o call)
   silent_lives call allowed silent =
@@ -123,60 +123,60 @@ module _ {K L D G : Type 0} (same : D → D → Bool) (decides : (d e : D) → s
         within = living.within;
       }
 
-  cast_lives : (v m : ℕ) (h : Proposal D) (signature : G) → may_notarize same elect x v ≡ true → (round_of x v).slot.held ≡ Some h → Living term_length (deeds ++ Signs m (subject.Notarize h) signature ∷ []) closed kept (entries ++ NotarizeVote h m signature ∷ []) o (after_construct_notarize same elect x v)
-  cast_lives v m h signature may holds =
+  cast_lives : (v m : ℕ) (h : Proposal D) → may_notarize same elect x v ≡ true → (round_of x v).slot.held ≡ Some h → Living term_length (deeds ++ Signs m (subject.Notarize h) ∷ []) closed kept (entries ++ NotarizeVote h m ∷ []) o (after_construct_notarize same elect x v)
+  cast_lives v m h may holds =
       let y = after_construct_notarize same elect x v in
-      let vote : ArtifactFacts D G = NotarizeVote h m signature in
+      let vote : ArtifactFacts D = NotarizeVote h m in
       let noted = living.noted in
       let positive : 0 < x.terms.term_length = omega (arith, some, living.keeps.stays.stands.terms) in
       let terms = living.keeps.stays.stands.terms in
       record {
         keeps = record {
-          lawful = lawful_push term_length deeds (Signs m (subject.Notarize h) signature) living.keeps.lawful (notarize_allowed same decides elect term_length noted.0 noted.1 deeds o x positive terms noted.2 v may h holds);
-          stays = notarize_cast_stays term_length deeds y (stays_worked (ConstructNotarize v) refl) h m signature;
+          lawful = lawful_push term_length deeds (Signs m (subject.Notarize h)) living.keeps.lawful (notarize_allowed same decides elect term_length noted.0 noted.1 deeds o x positive terms noted.2 v may h holds);
+          stays = notarize_cast_stays term_length deeds y (stays_worked (ConstructNotarize v) refl) h m;
         };
         follows = record {
-          remembers = remembers_more deeds entries kept (Signs m (subject.Notarize h) signature ∷ []) (vote ∷ []) (grows_notarize deeds entries h m signature) living.follows.remembers;
+          remembers = remembers_more deeds entries kept (Signs m (subject.Notarize h) ∷ []) (vote ∷ []) (grows_notarize deeds entries h m) living.follows.remembers;
           marked = marked_more entries (vote ∷ []) y (marked_worked (ConstructNotarize v) refl);
         };
         in_order = order_work same elect x o living.in_order (ConstructNotarize v);
-        notes = notes_cast deeds kept entries h m signature living.notes;
-        noted = (noted.0, noted.1, rw may (notarize_noted same decides elect term_length noted.0 noted.1 deeds o x positive terms noted.2 v may h m signature holds));
+        notes = notes_cast deeds kept entries h m living.notes;
+        noted = (noted.0, noted.1, rw may (notarize_noted same decides elect term_length noted.0 noted.1 deeds o x positive terms noted.2 v may h m holds));
         high = high_more closed kept entries (vote ∷ []) living.high;
         within = within_more closed entries (vote ∷ []) living.within;
       }
 
-  abbrev pub ToldLives : ℕ → Option (ArtifactFacts D G) → Type 0
+  abbrev pub ToldLives : ℕ → Option (ArtifactFacts D) → Type 0
   ToldLives v vote = Living term_length (deeds ++ signed_in {K = K} (Notarize vote)) closed kept (entries ++ vote_entry vote) o (after_construct_notarize same elect x v)
 
-  notarize_lives : (v : ℕ) → ToldLives v (notarize_vote same elect signature_of x v)
+  notarize_lives : (v : ℕ) → ToldLives v (notarize_vote same elect x v)
   notarize_lives v = by_rule (may_notarize same elect x v) refl
     where
-      untold : (base low : ℕ) → NotesStand base low deeds o (after_construct_notarize same elect x v) → notarize_vote same elect signature_of x v ≡ None → ToldLives v (notarize_vote same elect signature_of x v)
+      untold : (base low : ℕ) → NotesStand base low deeds o (after_construct_notarize same elect x v) → notarize_vote same elect x v ≡ None → ToldLives v (notarize_vote same elect x v)
       untold base low noted silent = subst (ToldLives v) (sym silent) (nothing_done o (after_construct_notarize same elect x v) (decided_lives v base low noted))
 
-      by_held : (m : ℕ) (q : Option (Proposal D)) → (round_of x v).slot.held ≡ q → x.me ≡ Some m → may_notarize same elect x v ≡ true → ToldLives v (notarize_vote same elect signature_of x v)
+      by_held : (m : ℕ) (q : Option (Proposal D)) → (round_of x v).slot.held ≡ q → x.me ≡ Some m → may_notarize same elect x v ≡ true → ToldLives v (notarize_vote same elect x v)
       by_held m None holds me may =
           let verified = (notarize_parts same elect x v may).verified in
           let slot = (and_parts (is_unequivocated (round_of x v).slot) (round_of x v).slot.verified verified).0 in
           absurd (false≢true (sym (ap is_some holds) ∙ (and_parts (is_some (round_of x v).slot.held) (not (round_of x v).slot.conflict) slot).0))
-      by_held m (Some h) holds me may = subst (ToldLives v) (sym (notarize_told same elect signature_of x v m h me may holds)) (cast_lives v m h (signature_of m (subject.Notarize h)) may holds)
+      by_held m (Some h) holds me may = subst (ToldLives v) (sym (notarize_told same elect x v m h me may holds)) (cast_lives v m h may holds)
 
-      by_key : (k : Option ℕ) → x.me ≡ k → may_notarize same elect x v ≡ true → ToldLives v (notarize_vote same elect signature_of x v)
+      by_key : (k : Option ℕ) → x.me ≡ k → may_notarize same elect x v ≡ true → ToldLives v (notarize_vote same elect x v)
       by_key None me may =
           let noted = living.noted in
           let positive : 0 < x.terms.term_length = omega (arith, some, living.keeps.stays.stands.terms) in
           let tracked = voted_tracked same decides elect term_length noted.0 noted.1 deeds o x positive living.keeps.stays.stands.terms noted.2 v may in
-          untold noted.0 noted.1 (rw may (decided_notes same decides elect noted.0 noted.1 deeds o x noted.2 v may tracked)) (notarize_silent same elect signature_of x v (no_key (may_notarize same elect x v) x.me me))
+          untold noted.0 noted.1 (rw may (decided_notes same decides elect noted.0 noted.1 deeds o x noted.2 v may tracked)) (notarize_silent same elect x v (no_key (may_notarize same elect x v) x.me me))
       by_key (Some m) me may = by_held m (round_of x v).slot.held refl me may
 
-      by_rule : (b : Bool) → may_notarize same elect x v ≡ b → ToldLives v (notarize_vote same elect signature_of x v)
+      by_rule : (b : Bool) → may_notarize same elect x v ≡ b → ToldLives v (notarize_vote same elect x v)
       by_rule true may = by_key x.me refl may
-      by_rule false may = (let noted = living.noted in untold noted.0 noted.1 (rw may noted.2) (notarize_silent same elect signature_of x v (no_rule (may_notarize same elect x v) x.me may)))
+      by_rule false may = (let noted = living.noted in untold noted.0 noted.1 (rw may noted.2) (notarize_silent same elect x v (no_rule (may_notarize same elect x v) x.me may)))
 
   -- a call that is allowed and not refused
   abbrev pub WorkLives : WorkCall D → Type 0
-  WorkLives call = Living term_length (deeds ++ signed_in (work_answer same elect signature_of x o call)) closed kept (entries ++ recorded_by_work same elect signature_of x call) (openings_after same elect x o call) (after_work same elect x o call)
+  WorkLives call = Living term_length (deeds ++ signed_in (work_answer same elect x o call)) closed kept (entries ++ recorded_by_work same elect x call) (openings_after same elect x o call) (after_work same elect x o call)
 
   pub work_lives : (call : WorkCall D) → work_allowed x o call ≡ true → WorkLives call
   work_lives call allowed = by_kind (is_silent call) refl
@@ -185,8 +185,8 @@ module _ {K L D G : Type 0} (same : D → D → Bool) (decides : (d e : D) → s
       quiet silent =
           let next = openings_after same elect x o call in
           let y = after_work same elect x o call in
-          subst (λ a. Living term_length (deeds ++ a) closed kept (entries ++ recorded_by_work same elect signature_of x call) next y) (sym (silent_deeds same elect signature_of x o call silent))
-          (subst (λ es. Living term_length (deeds ++ []) closed kept (entries ++ es) next y) (sym (silent_record same elect signature_of x o call silent))
+          subst (λ a. Living term_length (deeds ++ a) closed kept (entries ++ recorded_by_work same elect x call) next y) (sym (silent_deeds same elect x o call silent))
+          (subst (λ es. Living term_length (deeds ++ []) closed kept (entries ++ es) next y) (sym (silent_record same elect x o call silent))
           (nothing_done next y (silent_lives call allowed silent)))
 
       voting : (w : WorkCall D) → is_silent w ≡ false → WorkLives w

@@ -50,7 +50,7 @@ module _ {K L D : Type 0} where
   round_in_order x e ordered h = ap (λ o. unwrap_or o (new_round x.me x.members (round_number x e.0))) (found_in_order x.rounds e ordered h)
 
 -- one round changes, and all else is left as it was
-module _ {K L D G : Type 0} (base low : ℕ) (deeds : List (Deed D G)) (o o' : Openings K D) (x : Facts K L D) (v : ℕ) (r : RoundFacts K D) (notes : NotesStand base low deeds o x) where
+module _ {K L D : Type 0} (base low : ℕ) (deeds : List (Deed D)) (o o' : Openings K D) (x : Facts K L D) (v : ℕ) (r : RoundFacts K D) (notes : NotesStand base low deeds o x) where
   notes_put : is_tracked x v ≡ true
       → Grown v (round_of x v) r
       → Tidy (is_verifying o' v) (is_some (context_at o' v)) r
@@ -184,7 +184,7 @@ module _ {K L D : Type 0} (x : Facts K L D) where
       by_test true so is = ((and_parts (is_admitted x e.0) (should_propose e.1) so).1, on_parent (preferred_parent same elect x e.0) is)
       by_test false other is = absurd (false≢true (ap is_some is))
 
-module _ {K L D G : Type 0} (same : D → D → Bool) (decides : (d e : D) → same d e ≡ true → d ≡ e) (elect : Elect L) (base low : ℕ) (deeds : List (Deed D G)) (o : Openings K D) (x : Facts K L D) (notes : NotesStand base low deeds o x) where
+module _ {K L D : Type 0} (same : D → D → Bool) (decides : (d e : D) → same d e ≡ true → d ≡ e) (elect : Elect L) (base low : ℕ) (deeds : List (Deed D)) (o : Openings K D) (x : Facts K L D) (notes : NotesStand base low deeds o x) where
   -- with nothing more open
 
   left_notes : (y : Facts K L D) → CalmOn base x y → NotesStand base low deeds o y
@@ -412,7 +412,7 @@ pub record Stand {K L D : Type 0} (low : ℕ) (es : List (ℕ × RoundFacts K D)
   pub tracked : (e : ℕ × RoundFacts K D) → Contains es e → is_tracked y e.0 ≡ true
   pub high : (e : ℕ × RoundFacts K D) → Contains es e → low ≤ e.0
 
-module _ {K L D G : Type 0} (same : D → D → Bool) (elect : Elect L) (base low : ℕ) (deeds : List (Deed D G)) (o : Openings K D) (x : Facts K L D) where
+module _ {K L D : Type 0} (same : D → D → Bool) (elect : Elect L) (base low : ℕ) (deeds : List (Deed D)) (o : Openings K D) (x : Facts K L D) where
   -- behind a change at the first
   stand_rest : (e : ℕ × RoundFacts K D) (es : List (ℕ × RoundFacts K D)) (y : Facts K L D) (r : RoundFacts K D) → T (is_sorted nat_cmp (e ∷ es)) → Stand low (e ∷ es) y → Stand low es (with_round y e.0 r)
   stand_rest e es y r sorted stand = record {
@@ -514,7 +514,7 @@ is_silent (ConstructNotarize v) = false
 is_silent _ = true
 
 -- all calls but a vote to notarize
-module _ {K L D G : Type 0} (same : D → D → Bool) (decides : (d e : D) → same d e ≡ true → d ≡ e) (elect : Elect L) (base low : ℕ) (deeds : List (Deed D G)) (o : Openings K D) (x : Facts K L D) (notes : NotesStand base low deeds o x) where
+module _ {K L D : Type 0} (same : D → D → Bool) (decides : (d e : D) → same d e ≡ true → d ≡ e) (elect : Elect L) (base low : ℕ) (deeds : List (Deed D)) (o : Openings K D) (x : Facts K L D) (notes : NotesStand base low deeds o x) where
   pub decided_notes : (v : ℕ) → may_notarize same elect x v ≡ true → is_tracked x v ≡ true → NotesStand base low deeds o (prepared elect (with_round x v (record (round_of x v) { notarize_decided = true })) v)
   decided_notes v may tracked =
       let y = with_round x v (record (round_of x v) { notarize_decided = true }) in

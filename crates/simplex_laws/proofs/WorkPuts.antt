@@ -25,9 +25,9 @@ pub record Shared (K L : Type 0) : Type 0 where
 abbrev pub shared_of : {K L D : Type 0} → Facts K L D → Shared K L
 shared_of x = record { me = x.me; members = x.members; elector = x.elector; elects_early = x.elects_early; failed = x.failed; named = x.named }
 
-module _ {K L D G : Type 0} (x : Facts K L D) where
+module _ {K L D : Type 0} (x : Facts K L D) where
   -- an event that enters no view
-  pub unentered : (e : Event K D G) (v : ℕ) → entered_by x.terms.term_length (is_tracked x) e ≡ 0 → enters v x e ≡ None
+  pub unentered : (e : Event K D) (v : ℕ) → entered_by x.terms.term_length (is_tracked x) e ≡ 0 → enters v x e ≡ None
   unentered e v none =
       let low : (eqb v 0 && nat_lt x.current v) ≡ false = grind (arith, nat_tests) in
       rw (none, low) refl
@@ -51,7 +51,7 @@ module _ {K L D : Type 0} (x : Facts K L D) where
       ]
       by_tracked false = rw (and-false (eqb w v)) refl
 
-module _ {K L D G : Type 0} (same : D → D → Bool) (elect : Elect L) (x : Facts K L D) (e : Event K D G) (unnamed : (v : ℕ) → names elect v x e ≡ None) where
+module _ {K L D : Type 0} (same : D → D → Bool) (elect : Elect L) (x : Facts K L D) (e : Event K D) (unnamed : (v : ℕ) → names elect v x e ≡ None) where
   -- an event that changes nothing that all views share
   pub shared_follows : (y : Facts K L D) → shared_of y ≡ shared_of x → ((v : ℕ) → left_from x e ≤ v → work_of y v ≡ adds_work same elect x e v (work_of x v)) → WorkFollows same elect e x y
   shared_follows y shared work = record {

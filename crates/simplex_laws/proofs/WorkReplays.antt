@@ -43,12 +43,12 @@ module _ {K D : Type 0} (r : RoundFacts K D) where
   bound_decided None = refl
   bound_decided (Some bound) = refl
 
-module _ {K L D G : Type 0} (same : D → D → Bool) (elect : Elect L) (x : Facts K L D) where
-  unmoved : (e : ArtifactFacts D G) → IsUnmoved same elect x (Replay e)
+module _ {K L D : Type 0} (same : D → D → Bool) (elect : Elect L) (x : Facts K L D) where
+  unmoved : (e : ArtifactFacts D) → IsUnmoved same elect x (Replay e)
   unmoved e = record { moment = refl; proposed = λ _. refl; latched = λ _. refl; repeated = λ _. refl; asked = λ _. refl }
 
   -- a round is put, and views are noted
-  put_works : (e : ArtifactFacts D G) (v : ℕ) (r : RoundFacts K D) (nullified nullify_votes : List ℕ) → work_in true r ≡ adds_unmoved same elect x (Replay e) v (work_of x v) → ((u : ℕ) → eqb u v ≡ false → adds_unmoved same elect x (Replay e) u (work_of x u) ≡ work_of x u) → WorkFollows same elect (Replay e) x (record (with_round x v r) { nullified = nullified; nullify_votes = nullify_votes })
+  put_works : (e : ArtifactFacts D) (v : ℕ) (r : RoundFacts K D) (nullified nullify_votes : List ℕ) → work_in true r ≡ adds_unmoved same elect x (Replay e) v (work_of x v) → ((u : ℕ) → eqb u v ≡ false → adds_unmoved same elect x (Replay e) u (work_of x u) ≡ work_of x u) → WorkFollows same elect (Replay e) x (record (with_round x v r) { nullified = nullified; nullify_votes = nullify_votes })
   put_works e v r nullified nullify_votes added elsewhere =
       record {
         me = refl;
@@ -60,8 +60,8 @@ module _ {K L D G : Type 0} (same : D → D → Bool) (elect : Elect L) (x : Fac
         work = λ w _. put_work same elect x (Replay e) (unmoved e) v r added elsewhere w;
       }
 
-  replayed_notarize : (p : Proposal D) (signer : ℕ) (signature : G) → WorkFollows same elect (Replay (NotarizeVote p signer signature)) x (replayed same elect x (NotarizeVote p signer signature))
-  replayed_notarize p signer signature =
+  replayed_notarize : (p : Proposal D) (signer : ℕ) → WorkFollows same elect (Replay (NotarizeVote p signer)) x (replayed same elect x (NotarizeVote p signer))
+  replayed_notarize p signer =
       let only : OnlyRounds z (prepared elect z v) = prepared_only elect z v in
       record {
         me = ap (λ (y : Facts K L D). y.me) only;
@@ -70,7 +70,7 @@ module _ {K L D G : Type 0} (same : D → D → Bool) (elect : Elect L) (x : Fac
         elects_early = ap (λ (y : Facts K L D). y.elects_early) only;
         failed = ap (λ (y : Facts K L D). y.failed) only;
         named = λ w. ap (λ (y : Facts K L D). is_among y.named w) only;
-        work = λ w _. readied w ∙ put w (cases_eq w v) ∙ sym (unmoved_adds same elect x (Replay (NotarizeVote p signer signature)) (unmoved (NotarizeVote p signer signature)) w (work_of x w));
+        work = λ w _. readied w ∙ put w (cases_eq w v) ∙ sym (unmoved_adds same elect x (Replay (NotarizeVote p signer)) (unmoved (NotarizeVote p signer)) w (work_of x w));
       }
     where
       v : ℕ
@@ -98,23 +98,23 @@ module _ {K L D G : Type 0} (same : D → D → Bool) (elect : Elect L) (x : Fac
       leader : Option (Leader K)
       leader = leads_after elect x true v v
 
-      own : (b : Bool) → holds_or_empty (same_proposal same) r.slot p ≡ b → with_leader tracked leader (record (work_in true voted) { binding = unwrap_or (option_map (λ bound. Some bound) (restored_binding x p)) r.binding }) ≡ adds_unmoved same elect x (Replay (NotarizeVote p signer signature)) v (work_of x v)
+      own : (b : Bool) → holds_or_empty (same_proposal same) r.slot p ≡ b → with_leader tracked leader (record (work_in true voted) { binding = unwrap_or (option_map (λ bound. Some bound) (restored_binding x p)) r.binding }) ≡ adds_unmoved same elect x (Replay (NotarizeVote p signer)) v (work_of x v)
       own true is = rw (eq-eqb v v refl, is, or-true tracked) refl
       own false is = rw (eq-eqb v v refl, is, or-true tracked) refl
 
-      put : (w : ℕ) → ((w ≡ v) ⊎ (w ≡ v → ⊥)) → with_leader (tracks_after elect x true v w) (leads_after elect x true v w) (work_of z w) ≡ adds_unmoved same elect x (Replay (NotarizeVote p signer signature)) w (work_of x w)
+      put : (w : ℕ) → ((w ≡ v) ⊎ (w ≡ v → ⊥)) → with_leader (tracks_after elect x true v w) (leads_after elect x true v w) (work_of z w) ≡ adds_unmoved same elect x (Replay (NotarizeVote p signer)) w (work_of x w)
       put w (inl here) = rw here (ap (with_leader tracked leader) (work_put x v bound ∙ bound_work voted (restored_binding x p)) ∙ own (holds_or_empty (same_proposal same) r.slot p) refl)
       put w (inr apart) = ap (with_leader (tracks_after elect x true v w) (leads_after elect x true v w)) (work_elsewhere x v w bound (ne_eqb w v apart)) ∙ rw (ne_eqb w v apart) refl
 
   -- each artifact
-  pub replay_works : (e : ArtifactFacts D G) → WorkFollows same elect (Replay e) x (replayed same elect x e)
-  replay_works (NotarizeVote p signer signature) = replayed_notarize p signer signature
-  replay_works (NullifyVote round signer signature) =
+  pub replay_works : (e : ArtifactFacts D) → WorkFollows same elect (Replay e) x (replayed same elect x e)
+  replay_works (NotarizeVote p signer) = replayed_notarize p signer
+  replay_works (NullifyVote round signer) =
       let v = round.view in
-      put_works (NullifyVote round signer signature) v (record (round_of x v) { decision = Nullify None }) x.nullified (insert_key nat_cmp x.nullify_votes v) (rw (eq-eqb v v refl) refl) (λ u apart. rw apart refl)
-  replay_works (FinalizeVote p signer signature) =
+      put_works (NullifyVote round signer) v (record (round_of x v) { decision = Nullify None }) x.nullified (insert_key nat_cmp x.nullify_votes v) (rw (eq-eqb v v refl) refl) (λ u apart. rw apart refl)
+  replay_works (FinalizeVote p signer) =
       let v = p.round.view in
-      put_works (FinalizeVote p signer signature) v (record (round_of x v) { decision = Finalize }) x.nullified x.nullify_votes (rw (eq-eqb v v refl) refl) (λ u apart. rw apart refl)
+      put_works (FinalizeVote p signer) v (record (round_of x v) { decision = Finalize }) x.nullified x.nullify_votes (rw (eq-eqb v v refl) refl) (λ u apart. rw apart refl)
   replay_works (Verdict round success) =
       let v = round.view in
       put_works (Verdict round success) v (certified_round (round_of x v) success) x.nullified x.nullify_votes (rw (eq-eqb v v refl) refl) (λ u apart. rw apart refl)

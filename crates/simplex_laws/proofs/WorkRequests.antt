@@ -28,13 +28,13 @@ use Rattle.simplex_laws.proofs.WorkPuts.{unentered, idle_follows, tracked_follow
 
 -- requests for proposals
 
-module _ {K L D G : Type 0} (same : D → D → Bool) (elect : Elect L) (x : Facts K L D) where
+module _ {K L D : Type 0} (same : D → D → Bool) (elect : Elect L) (x : Facts K L D) where
   -- an event says of one tracked view whether a proposal is asked for, and nothing else
-  abbrev AsksAt : Event K D G → ℕ → Bool → Type 0
+  abbrev AsksAt : Event K D → ℕ → Bool → Type 0
   AsksAt e v requested =
       (w : ℕ) (k : Worked K D) → adds_work same elect x e w k ≡ record k { build_requested = unwrap_or (if is_at x w v then Some requested else None) k.build_requested }
 
-  asked_works : (e : Event K D G) (v : ℕ) (requested : Bool) → ((w : ℕ) → names elect w x e ≡ None) → AsksAt e v requested → WorkFollows same elect e x (with_build x v requested)
+  asked_works : (e : Event K D) (v : ℕ) (requested : Bool) → ((w : ℕ) → names elect w x e ≡ None) → AsksAt e v requested → WorkFollows same elect e x (with_build x v requested)
   asked_works e v requested unnamed asks = tracked_follows same elect x e unnamed x.moment v (record r { slot = build_requested requested r.slot }) said idle
     where
       r : RoundFacts K D
@@ -46,16 +46,16 @@ module _ {K L D G : Type 0} (same : D → D → Bool) (elect : Elect L) (x : Fac
       idle : (w : ℕ) → is_at x w v ≡ false → IsIdle same elect x e w
       idle w apart k = rw (asks w k, apart) refl
 
-  pub release_works : (v : ℕ) → WorkFollows {G = G} same elect (Release v) x (after_release x v)
+  pub release_works : (v : ℕ) → WorkFollows same elect (Release v) x (after_release x v)
   release_works v = asked_works e v false (λ w. refl) (λ w k. rw (unentered x e w refl, untimed x.settings k.decision) refl)
     where
-      e : Event K D G
+      e : Event K D
       e = Release v
 
-  pub supersede_works : (context : Context D K) → WorkFollows {G = G} same elect (Supersede context) x (after_supersede same elect x context)
+  pub supersede_works : (context : Context D K) → WorkFollows same elect (Supersede context) x (after_supersede same elect x context)
   supersede_works context = by_answer (supersede_answer same elect x context) refl
     where
-      e : Event K D G
+      e : Event K D
       e = Supersede context
 
       v : ℕ
@@ -65,10 +65,10 @@ module _ {K L D G : Type 0} (same : D → D → Bool) (elect : Elect L) (x : Fac
       by_answer true is = asked_works e v false (λ w. refl) (λ w k. rw (unentered x e w refl, untimed x.settings k.decision, is, and-true (is_at x w v)) refl)
       by_answer false is = idle_follows same elect x e (λ w. refl) x refl (λ w _. refl) (λ w k. rw (unentered x e w refl, untimed x.settings k.decision, is, and-false (is_at x w v)) refl)
 
-  pub try_propose_works : WorkFollows {G = G} same elect TryPropose x (after_try_propose same elect x)
+  pub try_propose_works : WorkFollows same elect TryPropose x (after_try_propose same elect x)
   try_propose_works = by_answer (propose_answer same elect x) refl
     where
-      e : Event K D G
+      e : Event K D
       e = TryPropose
 
       by_answer : (o : Option (Request K D)) → propose_answer same elect x ≡ o → WorkFollows same elect e x (option_map_or (λ request. with_build x (request_context request).round.view true) o x)
@@ -93,11 +93,11 @@ module _ {K L D : Type 0} (same : D → D → Bool) (elect : Elect L) (x : Facts
   proposed_held fresh (Some r) is = (and_parts _ _ is).1
   proposed_held fresh None is = absurd (true≢false (sym is))
 
-module _ {K L D G : Type 0} (same : D → D → Bool) (elect : Elect L) (x : Facts K L D) where
-  pub proposed_works : (context : Context D K) (payload : D) (now : ℕ) → WorkFollows {G = G} same elect (Proposed context payload now) x (after_proposed same elect x context payload now)
+module _ {K L D : Type 0} (same : D → D → Bool) (elect : Elect L) (x : Facts K L D) where
+  pub proposed_works : (context : Context D K) (payload : D) (now : ℕ) → WorkFollows same elect (Proposed context payload now) x (after_proposed same elect x context payload now)
   proposed_works context payload now = by_answer (proposed_answer same elect x context payload) refl
     where
-      e : Event K D G
+      e : Event K D
       e = Proposed context payload now
 
       v : ℕ
@@ -131,10 +131,10 @@ module _ {K L D G : Type 0} (same : D → D → Bool) (elect : Elect L) (x : Fac
 
   -- verifications
 
-  pub verified_works : (v : ℕ) → WorkFollows {G = G} same elect (Verified v) x (after_verified same elect x v)
+  pub verified_works : (v : ℕ) → WorkFollows same elect (Verified v) x (after_verified same elect x v)
   verified_works v = by_binding (binding_matches same elect x v) refl
     where
-      e : Event K D G
+      e : Event K D
       e = Verified v
 
       r : RoundFacts K D
@@ -156,10 +156,10 @@ module _ {K L D G : Type 0} (same : D → D → Bool) (elect : Elect L) (x : Fac
 
   -- certifications
 
-  pub handle_works : (v token : ℕ) → WorkFollows {G = G} same elect (SetCertifyHandle v token) x (after_set_certify_handle x v token)
+  pub handle_works : (v token : ℕ) → WorkFollows same elect (SetCertifyHandle v token) x (after_set_certify_handle x v token)
   handle_works v token = tracked_follows same elect x e (λ w. refl) x.moment v s said idle
     where
-      e : Event K D G
+      e : Event K D
       e = SetCertifyHandle v token
 
       s : RoundFacts K D
@@ -172,10 +172,10 @@ module _ {K L D G : Type 0} (same : D → D → Bool) (elect : Elect L) (x : Fac
       idle w apart k = rw (unentered x e w refl, untimed x.settings k.decision, apart) refl
 
   -- no view waits for certification once the candidates were handed out
-  pub candidates_works : WorkFollows {G = G} same elect CertifyCandidates x (after_candidates x)
+  pub candidates_works : WorkFollows same elect CertifyCandidates x (after_candidates x)
   candidates_works = record { me = refl; members = refl; elector = refl; elects_early = refl; failed = refl; named = λ v. refl; work = λ v _. sym (idle v (work_of x v)) }
     where
-      e : Event K D G
+      e : Event K D
       e = CertifyCandidates
 
       idle : (v : ℕ) → IsIdle same elect x e v
@@ -184,25 +184,25 @@ module _ {K L D G : Type 0} (same : D → D → Bool) (elect : Elect L) (x : Fac
   -- broadcasts
 
   -- an event that says nothing puts a round on which the work is the same
-  handed_works : (e : Event K D G) (v : ℕ) (s : RoundFacts K D) → ((w : ℕ) → names elect w x e ≡ None) → work_in true s ≡ work_in true (round_of x v) → ((w : ℕ) → IsIdle same elect x e w) → WorkFollows same elect e x (with_tracked x v s)
+  handed_works : (e : Event K D) (v : ℕ) (s : RoundFacts K D) → ((w : ℕ) → names elect w x e ≡ None) → work_in true s ≡ work_in true (round_of x v) → ((w : ℕ) → IsIdle same elect x e w) → WorkFollows same elect e x (with_tracked x v s)
   handed_works e v s unnamed alike idle = tracked_follows same elect x e unnamed x.moment v s (λ tracked. alike ∙ sym (idle v (work_in true (round_of x v)))) (λ w apart. idle w)
 
-  pub broadcast_notarization_works : (v : ℕ) → WorkFollows {G = G} same elect (BroadcastNotarization v) x (after_broadcast_notarization x v)
+  pub broadcast_notarization_works : (v : ℕ) → WorkFollows same elect (BroadcastNotarization v) x (after_broadcast_notarization x v)
   broadcast_notarization_works v = handed_works e v _ (λ w. refl) refl (λ w k. rw (unentered x e w refl, untimed x.settings k.decision) refl)
     where
-      e : Event K D G
+      e : Event K D
       e = BroadcastNotarization v
 
-  pub broadcast_nullification_works : (v : ℕ) → WorkFollows {G = G} same elect (BroadcastNullification v) x (after_broadcast_nullification x v)
+  pub broadcast_nullification_works : (v : ℕ) → WorkFollows same elect (BroadcastNullification v) x (after_broadcast_nullification x v)
   broadcast_nullification_works v = handed_works e v _ (λ w. refl) refl (λ w k. rw (unentered x e w refl, untimed x.settings k.decision) refl)
     where
-      e : Event K D G
+      e : Event K D
       e = BroadcastNullification v
 
-  pub broadcast_finalization_works : (v : ℕ) → WorkFollows {G = G} same elect (BroadcastFinalization v) x (after_broadcast_finalization x v)
+  pub broadcast_finalization_works : (v : ℕ) → WorkFollows same elect (BroadcastFinalization v) x (after_broadcast_finalization x v)
   broadcast_finalization_works v = handed_works e v _ (λ w. refl) refl (λ w k. rw (unentered x e w refl, untimed x.settings k.decision) refl)
     where
-      e : Event K D G
+      e : Event K D
       e = BroadcastFinalization v
 
 -- the views that a prune leaves
@@ -214,11 +214,11 @@ module _ {K L D : Type 0} (x : Facts K L D) where
       let found : round_at (after_prune x) v ≡ cond (nat_le (min_active x) v) (round_at x v) None = find-where_key nat_cmp (λ u. nat_le (min_active x) u) v (λ u alike. ap (nat_le (min_active x)) (sym (tied v u alike))) x.rounds in
       found ∙ ap (λ b. cond b (round_at x v) None) test
 
-module _ {K L D G : Type 0} (same : D → D → Bool) (elect : Elect L) (x : Facts K L D) where
-  pub prune_works : WorkFollows {G = G} same elect Prune x (after_prune x)
+module _ {K L D : Type 0} (same : D → D → Bool) (elect : Elect L) (x : Facts K L D) where
+  pub prune_works : WorkFollows same elect Prune x (after_prune x)
   prune_works = idle_follows same elect x e (λ v. refl) (after_prune x) refl stays (λ v k. rw (unentered x e v refl, untimed x.settings k.decision) refl)
     where
-      e : Event K D G
+      e : Event K D
       e = Prune
 
       stays : (v : ℕ) → min_active x ≤ v → work_of (after_prune x) v ≡ work_of x v

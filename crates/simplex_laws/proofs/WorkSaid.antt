@@ -34,7 +34,7 @@ abbrev pub with_said : {K L D : Type 0} → Facts K L D → Said K → Worked K 
 with_said x s k = with_leader s.opened s.inherited (with_settled s.here s.overruled (with_leader s.next s.chosen (with_entry x s.entry (with_certification s.from k))))
 
 -- this is what the event says of the view
-pub record Says {K L D G : Type 0} (same : D → D → Bool) (elect : Elect L) (x : Facts K L D) (e : Event K D G) (v : ℕ) (s : Said K) : Type 0 where
+pub record Says {K L D : Type 0} (same : D → D → Bool) (elect : Elect L) (x : Facts K L D) (e : Event K D) (v : ℕ) (s : Said K) : Type 0 where
   pub entered : enters v x e ≡ s.entry
   pub tracked : tracks same elect v x e ≡ (s.here || s.next || s.opened)
   pub led : leads same elect v x e ≡ option_or s.chosen s.inherited
@@ -78,7 +78,7 @@ true_or : (b old : Bool) → unwrap_or (if b then Some true else None) old ≡ (
 true_or true old = refl
 true_or false old = refl
 
-module _ {K L D G : Type 0} (same : D → D → Bool) (elect : Elect L) (x : Facts K L D) (e : Event K D G) where
+module _ {K L D : Type 0} (same : D → D → Bool) (elect : Elect L) (x : Facts K L D) (e : Event K D) where
   said_added : (v : ℕ) (s : Said K) → Says same elect x e v s → (k : Worked K D) → with_said x s k ≡ adds_work same elect x e v k
   said_added v s a k = sym ((λ i. record k {
     tracked = is_some (a.entered i) || (a.tracked i || k.tracked);

@@ -130,11 +130,11 @@ module _ {K L D : Type 0} (same : D → D → Bool) (elect : Elect L) (x : Facts
   scanned_rise : is_sorted nat_cmp x.rounds ≡ true → Rises (scanned same elect x)
   scanned_rise ordered = rises_through _ (views_ahead x) (rises_filtered _ x.rounds (rises x.rounds ordered))
 
-module _ {K L D G : Type 0} (same : D → D → Bool) (elect : Elect L) (x : Facts K L D) where
-  pub try_verify_works : is_sorted nat_cmp x.rounds ≡ true → WorkFollows {G = G} same elect TryVerify x (after_try_verify same elect x)
+module _ {K L D : Type 0} (same : D → D → Bool) (elect : Elect L) (x : Facts K L D) where
+  pub try_verify_works : is_sorted nat_cmp x.rounds ≡ true → WorkFollows same elect TryVerify x (after_try_verify same elect x)
   try_verify_works ordered = shared_follows same elect x e (λ v. refl) (after_try_verify same elect x) (scan_shared same elect x (scanned same elect x) x) (λ v _. by_scan v (is_in (scanned same elect x) v) refl)
     where
-      e : Event K D G
+      e : Event K D
       e = TryVerify
 
       by_scan : (v : ℕ) (b : Bool) → is_in (scanned same elect x) v ≡ b → work_of (after_try_verify same elect x) v ≡ adds_work same elect x e v (work_of x v)

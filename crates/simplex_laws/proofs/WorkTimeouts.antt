@@ -59,21 +59,21 @@ module _ {K L D : Type 0} (x : Facts K L D) (v : ℕ) (reason : TimeoutReason) (
         | inr apart ↦ rw (ne_eqb w v apart, untimed settings (round_of x w).decision) (work_elsewhere x v w s (ne_eqb w v apart))
       ]
 
-module _ {K L D G : Type 0} (same : D → D → Bool) (elect : Elect L) (x : Facts K L D) where
-  pub trigger_works : (v : ℕ) (reason : TimeoutReason) (now : ℕ) → WorkFollows {G = G} same elect (TriggerTimeout v reason now) x (after_trigger_timeout x v reason now)
+module _ {K L D : Type 0} (same : D → D → Bool) (elect : Elect L) (x : Facts K L D) where
+  pub trigger_works : (v : ℕ) (reason : TimeoutReason) (now : ℕ) → WorkFollows same elect (TriggerTimeout v reason now) x (after_trigger_timeout x v reason now)
   trigger_works v reason now = shared_follows same elect x e (λ w. refl) (after_trigger_timeout x v reason now) (shared_triggered (at_moment x now) v reason now) (λ w _. work_triggered (at_moment x now) v reason now x.settings w ∙ rw (unentered x e w refl) refl)
     where
-      e : Event K D G
+      e : Event K D
       e = TriggerTimeout v reason now
 
   -- a failed verification times the view out, or takes a binding away
-  pub failed_works : (v : ℕ) (reason : TimeoutReason) (now : ℕ) → WorkFollows {G = G} same elect (VerificationFailed v reason now) x (after_verification_failed same elect x v reason now)
+  pub failed_works : (v : ℕ) (reason : TimeoutReason) (now : ℕ) → WorkFollows same elect (VerificationFailed v reason now) x (after_verification_failed same elect x v reason now)
   failed_works v reason now = by_binding (binding_matches same elect x v) refl
     where
       a : Facts K L D
       a = at_moment x now
 
-      e : Event K D G
+      e : Event K D
       e = VerificationFailed v reason now
 
       s : RoundFacts K D
@@ -90,10 +90,10 @@ module _ {K L D G : Type 0} (same : D → D → Bool) (elect : Elect L) (x : Fac
           idle w apart k = rw (unentered x e w refl, fails, apart, and-false (eqb w v), untimed x.settings k.decision) refl
 
   -- the first poll of the current view that finds a vote to nullify decided gives its repeat a moment
-  pub next_timeout_works : (now : ℕ) → WorkFollows {G = G} same elect (NextTimeout now) x (after_next_timeout x now)
+  pub next_timeout_works : (now : ℕ) → WorkFollows same elect (NextTimeout now) x (after_next_timeout x now)
   next_timeout_works now = tracked_follows same elect x e (λ w. refl) now x.current s (λ tracked. by_retry tracked (awaits_retry r) refl) idle
     where
-      e : Event K D G
+      e : Event K D
       e = NextTimeout now
 
       r : RoundFacts K D

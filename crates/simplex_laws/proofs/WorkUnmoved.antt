@@ -12,7 +12,7 @@ use Rattle.simplex_laws.specs.Sums.{or_new, entered_by, moment_by}
 use Rattle.simplex_laws.specs.Timing.{enters, proposes, latches, retries}
 use Rattle.simplex_laws.proofs.Worked.{Worked, work_in, work_of, adds_work, work_put, work_elsewhere, untimed}
 
-module _ {K L D G : Type 0} (same : D → D → Bool) (elect : Elect L) (x : Facts K L D) (e : Event K D G) where
+module _ {K L D : Type 0} (same : D → D → Bool) (elect : Elect L) (x : Facts K L D) (e : Event K D) where
   -- an event carries no moment, triggers no timeout and asks for no certificate
   pub record IsUnmoved : Type 0 where
     pub moment : moment_by e ≡ None

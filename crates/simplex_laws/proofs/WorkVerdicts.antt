@@ -23,48 +23,48 @@ use Rattle.simplex_laws.proofs.CallsMake.{AreSilent, work_silent, work_by_event}
 use Rattle.simplex_laws.proofs.ShownVerdicts.{Tells, shows_more, quiet_shows}
 use Rattle.simplex_laws.proofs.Verdicts.{Shows}
 
-module _ {K L D G : Type 0} (same : D → D → Bool) (elect : Elect L) (signature_of : ℕ → Subject D → G) (deeds : List (Deed D G)) (entries : List (ArtifactFacts D G)) (x : Facts K L D) (o : Openings K D) (ordered : InOrder x) (tells : Tells deeds entries x) where
+module _ {K L D : Type 0} (same : D → D → Bool) (elect : Elect L) (deeds : List (Deed D)) (entries : List (ArtifactFacts D)) (x : Facts K L D) (o : Openings K D) (ordered : InOrder x) (tells : Tells deeds entries x) where
   -- what is shown after a call, whatever it records but a verdict
   abbrev pub Left : Facts K L D → Type 0
-  Left y = (new : List (ArtifactFacts D G)) → HasNoVerdict new → Shows (entries ++ new) y
+  Left y = (new : List (ArtifactFacts D)) → HasNoVerdict new → Shows (entries ++ new) y
 
   work_left : (call : WorkCall D) → work_allowed x o call ≡ true → Left (after_work same elect x o call)
   work_left call allowed =
-      work_by_event G same elect x o (λ es y. AreSilent G es → Left y) (λ silent new none. shows_more entries new x none tells.shows)
-      (λ e rest takes none silent new nothing. quiet_shows same elect deeds entries x ordered tells new e takes silent.0.notarization silent.0.verdict nothing) call allowed (work_silent G o call)
+      work_by_event same elect x o (λ es y. AreSilent es → Left y) (λ silent new none. shows_more entries new x none tells.shows)
+      (λ e rest takes none silent new nothing. quiet_shows same elect deeds entries x ordered tells new e takes silent.0.notarization silent.0.verdict nothing) call allowed (work_silent o call)
 
   -- what a vote to notarize records is cast
-  notarize_told : (call : WorkCall D) (vote : Option (ArtifactFacts D G)) → Left (after_work same elect x o call) → ((e : ArtifactFacts D G) → vote ≡ Some e → (p : Proposal D) × (m : ℕ) × (signature : G) × (e ≡ NotarizeVote p m signature)) → Tells (deeds ++ signed_in {K = K} (Notarize vote)) (entries ++ vote_entry vote) (after_work same elect x o call)
+  notarize_told : (call : WorkCall D) (vote : Option (ArtifactFacts D)) → Left (after_work same elect x o call) → ((e : ArtifactFacts D) → vote ≡ Some e → (p : Proposal D) × (m : ℕ) × (e ≡ NotarizeVote p m)) → Tells (deeds ++ signed_in {K = K} (Notarize vote)) (entries ++ vote_entry vote) (after_work same elect x o call)
   notarize_told call None left is = record {
     own = own_quiet deeds entries tells.own [] [] quiet_none;
     shows = left [] (no_verdict [] quiet_none);
   }
   notarize_told call (Some e) left is =
       let one = is e refl in
-      subst (λ f. Tells (deeds ++ signed_in {K = K} (Notarize (Some f))) (entries ++ f ∷ []) (after_work same elect x o call)) (sym one.3) (recorded one.0 one.1 one.2)
+      subst (λ f. Tells (deeds ++ signed_in {K = K} (Notarize (Some f))) (entries ++ f ∷ []) (after_work same elect x o call)) (sym one.2) (recorded one.0 one.1)
     where
-      recorded : (p : Proposal D) (m : ℕ) (signature : G) → Tells (deeds ++ Signs m (subject.Notarize p) signature ∷ []) (entries ++ NotarizeVote p m signature ∷ []) (after_work same elect x o call)
-      recorded p m signature =
-          let new : List (ArtifactFacts D G) = NotarizeVote p m signature ∷ [] in
-          let silent : HasNoVerdict new = λ round success h. (let f = only_one (NotarizeVote p m signature) (Verdict round success) h in cc) in
+      recorded : (p : Proposal D) (m : ℕ) → Tells (deeds ++ Signs m (subject.Notarize p) ∷ []) (entries ++ NotarizeVote p m ∷ []) (after_work same elect x o call)
+      recorded p m =
+          let new : List (ArtifactFacts D) = NotarizeVote p m ∷ [] in
+          let silent : HasNoVerdict new = λ round success h. (let f = only_one (NotarizeVote p m) (Verdict round success) h in cc) in
           record {
-            own = own_silent deeds entries tells.own (Signs m (subject.Notarize p) signature ∷ []) new silent (λ q n g h.
-                (let f = only_one (NotarizeVote p m signature) (NotarizeVote q n g) h in
+            own = own_silent deeds entries tells.own (Signs m (subject.Notarize p) ∷ []) new silent (λ q n h.
+                (let f = only_one (NotarizeVote p m) (NotarizeVote q n) h in
                 let same_proposal_cast : p ≡ q = cc in
-                subst (λ (k : Proposal D). HasSigned (deeds ++ Signs m (subject.Notarize p) signature ∷ []) (subject.Notarize k)) same_proposal_cast (signed_last deeds m (subject.Notarize p) signature)));
+                subst (λ (k : Proposal D). HasSigned (deeds ++ Signs m (subject.Notarize p) ∷ []) (subject.Notarize k)) same_proposal_cast (signed_last deeds m (subject.Notarize p))));
             shows = left new silent;
           }
 
-  is_notarize : (v : ℕ) (e : ArtifactFacts D G) → notarize_vote same elect signature_of x v ≡ Some e → (p : Proposal D) × (m : ℕ) × (signature : G) × (e ≡ NotarizeVote p m signature)
+  is_notarize : (v : ℕ) (e : ArtifactFacts D) → notarize_vote same elect x v ≡ Some e → (p : Proposal D) × (m : ℕ) × (e ≡ NotarizeVote p m)
   is_notarize v e is = by_key x.me (notarize_answer same elect x v) is
     where
-      by_key : (k : Option ℕ) (a : Option (Proposal D)) → option_and_then (λ m. option_map (λ p. NotarizeVote p m (signature_of m (subject.Notarize p))) a) k ≡ Some e → (p : Proposal D) × (m : ℕ) × (signature : G) × (e ≡ NotarizeVote p m signature)
+      by_key : (k : Option ℕ) (a : Option (Proposal D)) → option_and_then (λ m. option_map (λ p. NotarizeVote p m) a) k ≡ Some e → (p : Proposal D) × (m : ℕ) × (e ≡ NotarizeVote p m)
       by_key None a none = absurd (false≢true (ap is_some none))
       by_key (Some m) None none = absurd (false≢true (ap is_some none))
-      by_key (Some m) (Some p) told = (p, m, signature_of m (subject.Notarize p), sym (ap (λ f. unwrap_or f e) told))
+      by_key (Some m) (Some p) told = (p, m, sym (ap (λ f. unwrap_or f e) told))
 
   abbrev pub WorkTells : WorkCall D → Type 0
-  WorkTells call = Tells (deeds ++ signed_in (work_answer same elect signature_of x o call)) (entries ++ recorded_by_work same elect signature_of x call) (after_work same elect x o call)
+  WorkTells call = Tells (deeds ++ signed_in (work_answer same elect x o call)) (entries ++ recorded_by_work same elect x call) (after_work same elect x o call)
 
   -- each call on the work of a view that is allowed and not refused
   pub work_told : (call : WorkCall D) → work_allowed x o call ≡ true → WorkTells call
@@ -73,8 +73,8 @@ module _ {K L D G : Type 0} (same : D → D → Bool) (elect : Elect L) (signatu
       by_kind : (w : WorkCall D) (b : Bool) → is_silent w ≡ b → Left (after_work same elect x o w) → WorkTells w
       by_kind w true silent left =
           let y = after_work same elect x o w in
-          subst (λ a. Tells (deeds ++ a) (entries ++ recorded_by_work same elect signature_of x w) y) (sym (silent_deeds same elect signature_of x o w silent))
-          (subst (λ es. Tells (deeds ++ []) (entries ++ es) y) (sym (silent_record same elect signature_of x o w silent))
+          subst (λ a. Tells (deeds ++ a) (entries ++ recorded_by_work same elect x w) y) (sym (silent_deeds same elect x o w silent))
+          (subst (λ es. Tells (deeds ++ []) (entries ++ es) y) (sym (silent_record same elect x o w silent))
           (record { own = own_quiet deeds entries tells.own [] [] quiet_none; shows = left [] (no_verdict [] quiet_none) }))
-      by_kind (ConstructNotarize v) false voting left = notarize_told (ConstructNotarize v) (notarize_vote same elect signature_of x v) left (is_notarize v)
+      by_kind (ConstructNotarize v) false voting left = notarize_told (ConstructNotarize v) (notarize_vote same elect x v) left (is_notarize v)
       by_kind _ false voting left = absurd (false≢true (sym voting))

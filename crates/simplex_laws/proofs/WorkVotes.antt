@@ -53,8 +53,8 @@ module _ {D : Type 0} (same : D → D → Bool) (s : SlotFacts D) (p : Proposal 
   heard_verify None = refl
   heard_verify (Some h) = refl
 
-module _ {K L D G : Type 0} (same : D → D → Bool) (elect : Elect L) (x : Facts K L D) (v : ℕ) where
-  pub nullify_works : WorkFollows {G = G} same elect (ConstructNullify v) x (after_construct_nullify x v)
+module _ {K L D : Type 0} (same : D → D → Bool) (elect : Elect L) (x : Facts K L D) (v : ℕ) where
+  pub nullify_works : WorkFollows same elect (ConstructNullify v) x (after_construct_nullify x v)
   nullify_works = by_rule (may_nullify x v) refl
     where
       r : RoundFacts K D
@@ -63,42 +63,42 @@ module _ {K L D G : Type 0} (same : D → D → Bool) (elect : Elect L) (x : Fac
       z : Facts K L D
       z = with_round x v (after_nullify r)
 
-      unmoved : IsUnmoved {G = G} same elect x (ConstructNullify v)
+      unmoved : IsUnmoved same elect x (ConstructNullify v)
       unmoved = record { moment = refl; proposed = λ _. refl; latched = λ _. refl; repeated = λ _. refl; asked = λ _. refl }
 
-      decided : may_nullify x v ≡ true → work_in true (after_nullify r) ≡ adds_unmoved {G = G} same elect x (ConstructNullify v) v (work_of x v)
+      decided : may_nullify x v ≡ true → work_in true (after_nullify r) ≡ adds_unmoved same elect x (ConstructNullify v) v (work_of x v)
       decided may =
           let open_vote : is_finalize r.decision ≡ false = (nullify_parts x v may).no_finalize in
           rw (may, open_vote, eq-eqb v v refl) refl
 
-      voted : may_nullify x v ≡ true → (w : ℕ) → work_of z w ≡ adds_work {G = G} same elect x (ConstructNullify v) w (work_of x w)
-      voted may = put_work {G = G} same elect x (ConstructNullify v) unmoved v (after_nullify r) (decided may) (λ u apart. rw apart refl)
+      voted : may_nullify x v ≡ true → (w : ℕ) → work_of z w ≡ adds_work same elect x (ConstructNullify v) w (work_of x w)
+      voted may = put_work same elect x (ConstructNullify v) unmoved v (after_nullify r) (decided may) (λ u apart. rw apart refl)
 
-      cast : (b : Bool) → may_nullify x v ≡ true → WorkFollows {G = G} same elect (ConstructNullify v) x (if b then record z { nullify_votes = insert_key nat_cmp x.nullify_votes v } else z)
+      cast : (b : Bool) → may_nullify x v ≡ true → WorkFollows same elect (ConstructNullify v) x (if b then record z { nullify_votes = insert_key nat_cmp x.nullify_votes v } else z)
       cast true may = record { me = refl; members = refl; elector = refl; elects_early = refl; failed = refl; named = λ _. refl; work = λ w _. voted may w }
       cast false may = record { me = refl; members = refl; elector = refl; elects_early = refl; failed = refl; named = λ _. refl; work = λ w _. voted may w }
 
-      by_rule : (b : Bool) → may_nullify x v ≡ b → WorkFollows {G = G} same elect (ConstructNullify v) x (if b then nullify_cast z v else x)
+      by_rule : (b : Bool) → may_nullify x v ≡ b → WorkFollows same elect (ConstructNullify v) x (if b then nullify_cast z v else x)
       by_rule true may = cast (is_some x.me) may
-      by_rule false barred = record { me = refl; members = refl; elector = refl; elects_early = refl; failed = refl; named = λ _. refl; work = λ w _. sym (unmoved_adds {G = G} same elect x (ConstructNullify v) unmoved w (work_of x w) ∙ rw (barred, and_false (eqb w v)) refl) }
+      by_rule false barred = record { me = refl; members = refl; elector = refl; elects_early = refl; failed = refl; named = λ _. refl; work = λ w _. sym (unmoved_adds same elect x (ConstructNullify v) unmoved w (work_of x w) ∙ rw (barred, and_false (eqb w v)) refl) }
 
-  pub finalize_works : WorkFollows {G = G} same elect (ConstructFinalize v) x (after_construct_finalize elect x v)
+  pub finalize_works : WorkFollows same elect (ConstructFinalize v) x (after_construct_finalize elect x v)
   finalize_works = by_rule (may_finalize elect x v) refl
     where
       r : RoundFacts K D
       r = record (round_of x v) { decision = Finalize }
 
-      unmoved : IsUnmoved {G = G} same elect x (ConstructFinalize v)
+      unmoved : IsUnmoved same elect x (ConstructFinalize v)
       unmoved = record { moment = refl; proposed = λ _. refl; latched = λ _. refl; repeated = λ _. refl; asked = λ _. refl }
 
-      decided : may_finalize elect x v ≡ true → work_in true r ≡ adds_unmoved {G = G} same elect x (ConstructFinalize v) v (work_of x v)
+      decided : may_finalize elect x v ≡ true → work_in true r ≡ adds_unmoved same elect x (ConstructFinalize v) v (work_of x v)
       decided may = rw (may, eq-eqb v v refl) refl
 
-      by_rule : (b : Bool) → may_finalize elect x v ≡ b → WorkFollows {G = G} same elect (ConstructFinalize v) x (if b then finalize_cast x v else x)
-      by_rule true may = record { me = refl; members = refl; elector = refl; elects_early = refl; failed = refl; named = λ _. refl; work = λ w _. put_work {G = G} same elect x (ConstructFinalize v) unmoved v r (decided may) (λ u apart. rw apart refl) w }
-      by_rule false barred = record { me = refl; members = refl; elector = refl; elects_early = refl; failed = refl; named = λ _. refl; work = λ w _. sym (unmoved_adds {G = G} same elect x (ConstructFinalize v) unmoved w (work_of x w) ∙ rw (barred, and_false (eqb w v)) refl) }
+      by_rule : (b : Bool) → may_finalize elect x v ≡ b → WorkFollows same elect (ConstructFinalize v) x (if b then finalize_cast x v else x)
+      by_rule true may = record { me = refl; members = refl; elector = refl; elects_early = refl; failed = refl; named = λ _. refl; work = λ w _. put_work same elect x (ConstructFinalize v) unmoved v r (decided may) (λ u apart. rw apart refl) w }
+      by_rule false barred = record { me = refl; members = refl; elector = refl; elects_early = refl; failed = refl; named = λ _. refl; work = λ w _. sym (unmoved_adds same elect x (ConstructFinalize v) unmoved w (work_of x w) ∙ rw (barred, and_false (eqb w v)) refl) }
 
-  pub notarize_works : WorkFollows {G = G} same elect (ConstructNotarize v) x (after_construct_notarize same elect x v)
+  pub notarize_works : WorkFollows same elect (ConstructNotarize v) x (after_construct_notarize same elect x v)
   notarize_works = by_rule (may_notarize same elect x v) refl
     where
       r : RoundFacts K D
@@ -107,7 +107,7 @@ module _ {K L D G : Type 0} (same : D → D → Bool) (elect : Elect L) (x : Fac
       z : Facts K L D
       z = with_round x v r
 
-      unmoved : IsUnmoved {G = G} same elect x (ConstructNotarize v)
+      unmoved : IsUnmoved same elect x (ConstructNotarize v)
       unmoved = record { moment = refl; proposed = λ _. refl; latched = λ _. refl; repeated = λ _. refl; asked = λ _. refl }
 
       -- the vote tracks its view, and readies the one above
@@ -115,13 +115,13 @@ module _ {K L D G : Type 0} (same : D → D → Bool) (elect : Elect L) (x : Fac
       voted tracked leader w (inl here) = rw here (ap (with_leader tracked leader) (work_put x v r) ∙ rw (eq-eqb v v refl, or-true tracked) refl)
       voted tracked leader w (inr apart) = ap (with_leader tracked leader) (work_elsewhere x v w r (ne_eqb w v apart)) ∙ rw (ne_eqb w v apart) refl
 
-      readied : may_notarize same elect x v ≡ true → (w : ℕ) → work_of (prepared elect z v) w ≡ adds_unmoved {G = G} same elect x (ConstructNotarize v) w (work_of x w)
+      readied : may_notarize same elect x v ≡ true → (w : ℕ) → work_of (prepared elect z v) w ≡ adds_unmoved same elect x (ConstructNotarize v) w (work_of x w)
       readied may w =
           readied_work elect x v r refl refl refl w
           ∙ voted (tracks_after elect x true v w) (leads_after elect x true v w) w (cases_eq w v)
           ∙ rw may refl
 
-      by_rule : (b : Bool) → may_notarize same elect x v ≡ b → WorkFollows {G = G} same elect (ConstructNotarize v) x (if b then prepared elect z v else x)
+      by_rule : (b : Bool) → may_notarize same elect x v ≡ b → WorkFollows same elect (ConstructNotarize v) x (if b then prepared elect z v else x)
       by_rule true may =
           let only : OnlyRounds z (prepared elect z v) = prepared_only elect z v in
           record {
@@ -131,11 +131,11 @@ module _ {K L D G : Type 0} (same : D → D → Bool) (elect : Elect L) (x : Fac
             elects_early = ap (λ y. y.elects_early) only;
             failed = ap (λ y. y.failed) only;
             named = λ w. ap (λ y. is_among y.named w) only;
-            work = λ w _. readied may w ∙ sym (unmoved_adds {G = G} same elect x (ConstructNotarize v) unmoved w (work_of x w));
+            work = λ w _. readied may w ∙ sym (unmoved_adds same elect x (ConstructNotarize v) unmoved w (work_of x w));
           }
-      by_rule false barred = record { me = refl; members = refl; elector = refl; elects_early = refl; failed = refl; named = λ _. refl; work = λ w _. sym (unmoved_adds {G = G} same elect x (ConstructNotarize v) unmoved w (work_of x w) ∙ rw barred refl) }
+      by_rule false barred = record { me = refl; members = refl; elector = refl; elects_early = refl; failed = refl; named = λ _. refl; work = λ w _. sym (unmoved_adds same elect x (ConstructNotarize v) unmoved w (work_of x w) ∙ rw barred refl) }
 
-  pub proposal_works : (p : Proposal D) → WorkFollows {G = G} same elect (SetProposal v p) x (after_set_proposal same elect x v p)
+  pub proposal_works : (p : Proposal D) → WorkFollows same elect (SetProposal v p) x (after_set_proposal same elect x v p)
   proposal_works p =
       let only : OnlyRounds x y = prepared_only elect x v in
       record {
@@ -145,7 +145,7 @@ module _ {K L D G : Type 0} (same : D → D → Bool) (elect : Elect L) (x : Fac
         elects_early = ap (λ (z : Facts K L D). z.elects_early) only;
         failed = ap (λ (z : Facts K L D). z.failed) only;
         named = λ w. ap (λ (z : Facts K L D). is_among z.named w) only;
-        work = λ w _. put w (cases_eq w v) ∙ sym (unmoved_adds {G = G} same elect x (SetProposal v p) unmoved w (work_of x w));
+        work = λ w _. put w (cases_eq w v) ∙ sym (unmoved_adds same elect x (SetProposal v p) unmoved w (work_of x w));
       }
     where
       y : Facts K L D
@@ -154,7 +154,7 @@ module _ {K L D G : Type 0} (same : D → D → Bool) (elect : Elect L) (x : Fac
       r : RoundFacts K D
       r = round_of x v
 
-      unmoved : IsUnmoved {G = G} same elect x (SetProposal v p)
+      unmoved : IsUnmoved same elect x (SetProposal v p)
       unmoved = record { moment = refl; proposed = λ _. refl; latched = λ _. refl; repeated = λ _. refl; asked = λ _. refl }
 
       -- the round is readied first
@@ -164,10 +164,10 @@ module _ {K L D G : Type 0} (same : D → D → Bool) (elect : Elect L) (x : Fac
       readied_is : round_of y v ≡ readied
       readied_is = prepared_leaders elect x v v ∙ ap (λ leader. record r { leader = leader }) (ap (λ (k : Worked K D). k.leader) (prepared_work elect x v v))
 
-      heard : (b : Bool) → is_nullify r.decision ≡ b → work_in true (if b then readied else record readied { slot = after_vote (same_proposal same) r.slot p }) ≡ adds_unmoved {G = G} same elect x (SetProposal v p) v (work_of x v)
+      heard : (b : Bool) → is_nullify r.decision ≡ b → work_in true (if b then readied else record readied { slot = after_vote (same_proposal same) r.slot p }) ≡ adds_unmoved same elect x (SetProposal v p) v (work_of x v)
       heard true is = rw (is, eq-eqb v v refl) refl
       heard false is = rw (is, eq-eqb v v refl) (λ i. record (work_in true readied) { verified = heard_verified same r.slot p r.slot.held i; build_requested = heard_build same r.slot p r.slot.held i; verify_requested = heard_verify same r.slot p r.slot.held i })
 
-      put : (w : ℕ) → ((w ≡ v) ⊎ (w ≡ v → ⊥)) → work_of (with_round y v (with_proposal same (round_of y v) p)) w ≡ adds_unmoved {G = G} same elect x (SetProposal v p) w (work_of x w)
+      put : (w : ℕ) → ((w ≡ v) ⊎ (w ≡ v → ⊥)) → work_of (with_round y v (with_proposal same (round_of y v) p)) w ≡ adds_unmoved same elect x (SetProposal v p) w (work_of x w)
       put w (inl here) = rw here (work_put y v (with_proposal same (round_of y v) p) ∙ ap (λ s. work_in true (with_proposal same s p)) readied_is ∙ heard (is_nullify r.decision) refl)
       put w (inr apart) = work_elsewhere y v w (with_proposal same (round_of y v) p) (ne_eqb w v apart) ∙ prepared_work elect x v w ∙ rw (ne_eqb w v apart) refl

@@ -80,15 +80,15 @@ untimed settings (Pending leader certification first) = refl
 untimed settings (Nullify again) = refl
 untimed settings Finalize = refl
 
-module _ {K L D G : Type 0} (same : D → D → Bool) (elect : Elect L) where
-  abbrev pub decides : Facts K L D → Event K D G → ℕ → Decision → Decision
+module _ {K L D : Type 0} (same : D → D → Bool) (elect : Elect L) where
+  abbrev pub decides : Facts K L D → Event K D → ℕ → Decision → Decision
   decides x e v d =
       if decides_finalize same elect v x e
       then Finalize
       else (if decides_nullify v x e then Nullify None else timed x.settings (enters v x e) (latches same elect v x e) (retries v x e) d)
 
   -- what is known of the work on a view, with what an event says of it
-  abbrev pub adds_work : Facts K L D → Event K D G → ℕ → Worked K D → Worked K D
+  abbrev pub adds_work : Facts K L D → Event K D → ℕ → Worked K D → Worked K D
   adds_work x e v k = record k {
     tracked = is_some (enters v x e) || (tracks same elect v x e || k.tracked);
     entered_at = or_new k.entered_at (enters v x e);
@@ -105,7 +105,7 @@ module _ {K L D G : Type 0} (same : D → D → Bool) (elect : Elect L) where
   }
 
   -- the facts after an event are those before with what it says
-  pub record WorkFollows (e : Event K D G) (x y : Facts K L D) : Type 0 where
+  pub record WorkFollows (e : Event K D) (x y : Facts K L D) : Type 0 where
     pub me : y.me ≡ x.me
     pub members : y.members ≡ x.members
     pub elector : y.elector ≡ x.elector
@@ -115,7 +115,7 @@ module _ {K L D G : Type 0} (same : D → D → Bool) (elect : Elect L) where
     pub work : (v : ℕ) → left_from x e ≤ v → work_of y v ≡ adds_work x e v (work_of x v)
 
   -- an event says nothing of the work on a view
-  abbrev pub IsIdle : Facts K L D → Event K D G → ℕ → Type 0
+  abbrev pub IsIdle : Facts K L D → Event K D → ℕ → Type 0
   IsIdle x e v = (k : Worked K D) → adds_work x e v k ≡ k
 
 module _ {K L D : Type 0} where

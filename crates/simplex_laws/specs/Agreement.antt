@@ -7,10 +7,10 @@ use Rattle.simplex_types.specs.declared.types.messages.Subject.TheVariants as su
 use Rattle.simplex_types.specs.declared.types.numbers.Round.{Round}
 use Rattle.simplex_laws.specs.Places.{Place, Backed}
 
-module _ {K L D G : Type 0} (signature_of : ℕ → Subject D → G) (network : List (Place K L D G)) where
+module _ {K L D : Type 0} (network : List (Place K L D)) where
   -- a certificate of the proposal may exist
   abbrev pub Certified : Proposal D → Type 0
-  Certified p = Backed signature_of network (subject.Notarize p) ⊎ Backed signature_of network (subject.Finalize p)
+  Certified p = Backed network (subject.Notarize p) ⊎ Backed network (subject.Finalize p)
 
   -- no view gets certificates for two proposals
   abbrev pub OneProposal : Type 0
@@ -19,24 +19,24 @@ module _ {K L D G : Type 0} (signature_of : ℕ → Subject D → G) (network : 
   -- no finalized view is covered by a nullification
   abbrev pub FinalizedUncovered : ℕ → Type 0
   FinalizedUncovered term_length =
-      (final : Proposal D) (round : Round) → Backed signature_of network (subject.Finalize final) → Backed signature_of network (subject.Nullify round) → covers term_length round.view final.round.view ≡ false
+      (final : Proposal D) (round : Round) → Backed network (subject.Finalize final) → Backed network (subject.Nullify round) → covers term_length round.view final.round.view ≡ false
 
   -- no notarized proposal above a finalized view names a parent below it
   abbrev pub ParentNotBelow : Type 0
   ParentNotBelow =
-      (final p : Proposal D) → Backed signature_of network (subject.Finalize final) → Backed signature_of network (subject.Notarize p) → final.round.view < p.round.view → final.round.view ≤ p.parent
+      (final p : Proposal D) → Backed network (subject.Finalize final) → Backed network (subject.Notarize p) → final.round.view < p.round.view → final.round.view ≤ p.parent
 
   -- a finalized proposal is notarized
   abbrev pub FinalizedNotarized : Type 0
-  FinalizedNotarized = (final : Proposal D) → Backed signature_of network (subject.Finalize final) → Backed signature_of network (subject.Notarize final)
+  FinalizedNotarized = (final : Proposal D) → Backed network (subject.Finalize final) → Backed network (subject.Notarize final)
 
   -- notarized proposals from the newest down, each naming the next one's view as its parent
   abbrev pub Chain : List (Proposal D) → Type 0
   Chain [] = ⊤
-  Chain (p ∷ []) = Backed signature_of network (subject.Notarize p)
-  Chain (p ∷ (q ∷ rest)) = Backed signature_of network (subject.Notarize p) × (p.parent ≡ q.round.view) × Chain (q ∷ rest)
+  Chain (p ∷ []) = Backed network (subject.Notarize p)
+  Chain (p ∷ (q ∷ rest)) = Backed network (subject.Notarize p) × (p.parent ≡ q.round.view) × Chain (q ∷ rest)
 
   -- a chain from above a finalized view down to it or below holds the finalized proposal
   abbrev pub ChainHoldsFinalized : Type 0
   ChainHoldsFinalized =
-      (final high low : Proposal D) (chain : List (Proposal D)) → Backed signature_of network (subject.Finalize final) → Chain chain → Contains chain high → Contains chain low → final.round.view < high.round.view → low.round.view ≤ final.round.view → Contains chain final
+      (final high low : Proposal D) (chain : List (Proposal D)) → Backed network (subject.Finalize final) → Chain chain → Contains chain high → Contains chain low → final.round.view < high.round.view → low.round.view ≤ final.round.view → Contains chain final

@@ -8,58 +8,58 @@ use Rattle.simplex_member.specs.Calls.{CallFacts, AddNotarization, AddNullificat
 use Rattle.simplex_member.specs.Runs.{StepFacts, Calls, Works, Restarts}
 
 -- a certificate was accepted, or a vote was signed by this member of the network; each is named by what it is about
-pub data Deed (D G : Type 0) : Type 0 where
-  Accepts : (certificate : Subject D) → Deed D G
-  Signs : (signer : ℕ) → (vote : Subject D) → (signature : G) → Deed D G
+pub data Deed (D : Type 0) : Type 0 where
+  Accepts : (certificate : Subject D) → Deed D
+  Signs : (signer : ℕ) → (vote : Subject D) → Deed D
 
-module _ {D G : Type 0} where
+module _ {D : Type 0} where
   -- the certificate that a call hands in
-  abbrev pub handed_in : CallFacts D → List (Deed D G)
+  abbrev pub handed_in : CallFacts D → List (Deed D)
   handed_in (AddNotarization c) = Accepts (subject.Notarize c.proposal) ∷ []
   handed_in (AddNullification c _) = Accepts (subject.Nullify c.round) ∷ []
   handed_in (AddFinalization c _) = Accepts (subject.Finalize c.proposal) ∷ []
   handed_in _ = []
 
   -- the finalization of a floor
-  abbrev pub of_floor : FloorFacts D → List (Deed D G)
+  abbrev pub of_floor : FloorFacts D → List (Deed D)
   of_floor (Genesis _) = []
   of_floor (Finalized c) = Accepts (subject.Finalize c.proposal) ∷ []
 
   -- the vote of an entry
-  abbrev pub of_vote : ArtifactFacts D G → List (Deed D G)
-  of_vote (NotarizeVote p signer signature) = Signs signer (subject.Notarize p) signature ∷ []
-  of_vote (NullifyVote round signer signature) = Signs signer (subject.Nullify round) signature ∷ []
-  of_vote (FinalizeVote p signer signature) = Signs signer (subject.Finalize p) signature ∷ []
+  abbrev pub of_vote : ArtifactFacts D → List (Deed D)
+  of_vote (NotarizeVote p signer) = Signs signer (subject.Notarize p) ∷ []
+  of_vote (NullifyVote round signer) = Signs signer (subject.Nullify round) ∷ []
+  of_vote (FinalizeVote p signer) = Signs signer (subject.Finalize p) ∷ []
   of_vote _ = []
 
-module _ {K D G : Type 0} where
+module _ {K D : Type 0} where
   -- the vote that a reply has
-  abbrev pub signed_in : Told K D G → List (Deed D G)
+  abbrev pub signed_in : Told K D → List (Deed D)
   signed_in (Nullify (Some (_, vote))) = of_vote vote
   signed_in (Finalize (Some vote)) = of_vote vote
   signed_in (Notarize (Some vote)) = of_vote vote
   signed_in _ = []
 
   -- a certificate is accepted by a call that is told whether it is new
-  abbrev pub accepted_by : CallFacts D → Told K D G → List (Deed D G)
+  abbrev pub accepted_by : CallFacts D → Told K D → List (Deed D)
   accepted_by call (Added _ _) = handed_in call
   accepted_by call _ = []
 
-  abbrev pub deeds_of_call : CallFacts D → Told K D G → List (Deed D G)
+  abbrev pub deeds_of_call : CallFacts D → Told K D → List (Deed D)
   deeds_of_call call told = accepted_by call told ++ signed_in told
 
-module _ {K L D G : Type 0} where
+module _ {K L D : Type 0} where
   -- a restart that succeeds accepts its floor's finalization
-  abbrev pub accepted_at : StepFacts K L D → Told K D G → List (Deed D G)
+  abbrev pub accepted_at : StepFacts K L D → Told K D → List (Deed D)
   accepted_at (Calls call) told = accepted_by call told
   accepted_at (Works call) told = []
   accepted_at (Restarts r) Restarted = of_floor r.start.floor
   accepted_at (Restarts r) _ = []
 
-  abbrev pub deeds_at : StepFacts K L D → Told K D G → List (Deed D G)
+  abbrev pub deeds_at : StepFacts K L D → Told K D → List (Deed D)
   deeds_at step told = accepted_at step told ++ signed_in told
 
   -- of the steps in turn, each with its reply
-  abbrev pub deeds_of_steps : List (StepFacts K L D) → List (Told K D G) → List (Deed D G)
+  abbrev pub deeds_of_steps : List (StepFacts K L D) → List (Told K D) → List (Deed D)
   deeds_of_steps (step ∷ steps) (told ∷ replies) = deeds_at step told ++ deeds_of_steps steps replies
   deeds_of_steps _ _ = []

@@ -20,36 +20,36 @@ use Rattle.simplex_member.specs.Recovery.{as_artifact, replayed}
 
 -- what happens to a state, with each certificate by its facts; the last number of an event that carries a moment is that
 -- moment, in milliseconds
-pub data Event (K D G : Type 0) : Type 0 where
-  SetFloor : FloorFacts D → ℕ → Event K D G
-  AddNotarization : ProposalFacts D → Event K D G
-  AddNullification : NullificationFacts → ℕ → Event K D G
-  AddFinalization : ProposalFacts D → ℕ → Event K D G
-  Certified : ℕ → Bool → ℕ → Event K D G
-  ConstructNotarize : ℕ → Event K D G
-  ConstructNullify : ℕ → Event K D G
-  ConstructFinalize : ℕ → Event K D G
-  SetProposal : ℕ → Proposal D → Event K D G
-  TryPropose : Event K D G
-  Proposed : Context D K → D → ℕ → Event K D G
-  Supersede : Context D K → Event K D G
-  Release : ℕ → Event K D G
-  TryVerify : Event K D G
-  Verified : ℕ → Event K D G
-  VerificationFailed : ℕ → TimeoutReason → ℕ → Event K D G
-  CertifyCandidates : Event K D G
-  SetCertifyHandle : ℕ → (token : ℕ) → Event K D G
-  TriggerTimeout : ℕ → TimeoutReason → ℕ → Event K D G
-  NextTimeout : ℕ → Event K D G
-  BroadcastNotarization : ℕ → Event K D G
-  BroadcastNullification : ℕ → Event K D G
-  BroadcastFinalization : ℕ → Event K D G
-  Prune : Event K D G
-  Replay : ArtifactFacts D G → Event K D G
+pub data Event (K D : Type 0) : Type 0 where
+  SetFloor : FloorFacts D → ℕ → Event K D
+  AddNotarization : ProposalFacts D → Event K D
+  AddNullification : NullificationFacts → ℕ → Event K D
+  AddFinalization : ProposalFacts D → ℕ → Event K D
+  Certified : ℕ → Bool → ℕ → Event K D
+  ConstructNotarize : ℕ → Event K D
+  ConstructNullify : ℕ → Event K D
+  ConstructFinalize : ℕ → Event K D
+  SetProposal : ℕ → Proposal D → Event K D
+  TryPropose : Event K D
+  Proposed : Context D K → D → ℕ → Event K D
+  Supersede : Context D K → Event K D
+  Release : ℕ → Event K D
+  TryVerify : Event K D
+  Verified : ℕ → Event K D
+  VerificationFailed : ℕ → TimeoutReason → ℕ → Event K D
+  CertifyCandidates : Event K D
+  SetCertifyHandle : ℕ → (token : ℕ) → Event K D
+  TriggerTimeout : ℕ → TimeoutReason → ℕ → Event K D
+  NextTimeout : ℕ → Event K D
+  BroadcastNotarization : ℕ → Event K D
+  BroadcastNullification : ℕ → Event K D
+  BroadcastFinalization : ℕ → Event K D
+  Prune : Event K D
+  Replay : ArtifactFacts D → Event K D
 
-module _ {K L D G : Type 0} where
+module _ {K L D : Type 0} where
   -- what an event asks of its caller, apart from a floor
-  abbrev pub IsEvent : Facts K L D → Event K D G → Type 0
+  abbrev pub IsEvent : Facts K L D → Event K D → Type 0
   IsEvent x (SetFloor floor _) = takes_floor x floor ≡ true
   IsEvent x (AddNotarization c) = takes_proposal_certificate x c ≡ true
   IsEvent x (AddNullification c _) = takes_nullification x c ≡ true
@@ -60,9 +60,9 @@ module _ {K L D G : Type 0} where
   IsEvent x (Replay e) = TakesReplay x (as_artifact {K = K} e)
   IsEvent x _ = Unit {0}
 
-module _ {K L D G : Type 0} (same : D → D → Bool) (elect : Elect L) where
+module _ {K L D : Type 0} (same : D → D → Bool) (elect : Elect L) where
   -- the facts after an event
-  abbrev pub after_event : Facts K L D → Event K D G → Facts K L D
+  abbrev pub after_event : Facts K L D → Event K D → Facts K L D
   after_event x (SetFloor floor now) = after_set_floor same elect x floor now
   after_event x (AddNotarization c) = after_add_notarization same elect x c
   after_event x (AddNullification c now) = after_add_nullification elect x c now
@@ -90,16 +90,16 @@ module _ {K L D G : Type 0} (same : D → D → Bool) (elect : Elect L) where
   after_event x (Replay e) = replayed same elect x e
 
 -- a history: what a new state knew, and what has happened to it since, the latest event first
-pub record History (K L D G : Type 0) : Type 0 where
+pub record History (K L D : Type 0) : Type 0 where
   pub fresh : Facts K L D
-  pub events : List (Event K D G)
+  pub events : List (Event K D)
 
 -- one more event
-abbrev pub with_event : {K L D G : Type 0} → History K L D G → Event K D G → History K L D G
+abbrev pub with_event : {K L D : Type 0} → History K L D → Event K D → History K L D
 with_event history e = record history { events = e ∷ history.events }
 
 -- the events of a call of a member: one, but for a call that changes nothing
-abbrev pub events_of : {K D G : Type 0} → CallFacts D → List (Event K D G)
+abbrev pub events_of : {K D : Type 0} → CallFacts D → List (Event K D)
 events_of (calls.AddNotarization c) = AddNotarization c ∷ []
 events_of (calls.AddNullification c now) = AddNullification c now ∷ []
 events_of (calls.AddFinalization c now) = AddFinalization c now ∷ []

@@ -13,38 +13,38 @@ use Rattle.simplex_member.specs.Work.{ConstructNotarize}
 use Rattle.simplex_laws.specs.Deeds.{Deed, Signs, signed_in}
 use Rattle.simplex_laws.specs.Stories.{Story}
 
-abbrev pub is_refused : {K D G : Type 0} → Told K D G → Bool
+abbrev pub is_refused : {K D : Type 0} → Told K D → Bool
 is_refused (Refused fault) = true
 is_refused _ = false
 
-module _ {D G : Type 0} (signature_of : ℕ → Subject D → G) where
-  -- the vote on this, with the key's signature on just that
-  abbrev pub IsSignedFor : Option ℕ → Option (Subject D) → Deed D G → Type 0
-  IsSignedFor me about d = (i : ℕ) × (vote : Subject D) × (me ≡ Some i) × (about ≡ Some vote) × (d ≡ Signs i vote (signature_of i vote))
+module _ {D : Type 0} where
+  -- the vote on this, by the member that the scheme signs as
+  abbrev pub IsSignedFor : Option ℕ → Option (Subject D) → Deed D → Type 0
+  IsSignedFor me about d = (i : ℕ) × (vote : Subject D) × (me ≡ Some i) × (about ≡ Some vote) × (d ≡ Signs i vote)
 
-module _ {K D G : Type 0} (signature_of : ℕ → Subject D → G) where
+module _ {K D : Type 0} where
   -- a vote is told only where its rule holds, and so signed; and where the rule holds and there is a key it is told, unless
   -- the call is refused
-  pub record IsExact (Rule : Type 0) (me : Option ℕ) (about : Option (Subject D)) (told : Told K D G) : Type 0 where
-    pub only : (d : Deed D G) → Contains (signed_in told) d → Rule × IsSignedFor signature_of me about d
-    pub due : (d : Deed D G) → is_refused told ≡ false → Rule → IsSignedFor signature_of me about d → signed_in told ≡ d ∷ []
+  pub record IsExact (Rule : Type 0) (me : Option ℕ) (about : Option (Subject D)) (told : Told K D) : Type 0 where
+    pub only : (d : Deed D) → Contains (signed_in told) d → Rule × IsSignedFor me about d
+    pub due : (d : Deed D) → is_refused told ≡ false → Rule → IsSignedFor me about d → signed_in told ≡ d ∷ []
 
 -- the proposal that is held of a view
 abbrev pub held : {K L D : Type 0} → Facts K L D → ℕ → Option (Proposal D)
 held x v = (round_of x v).slot.held
 
-module _ {K L D G : Type 0} (same : D → D → Bool) (elect : Elect L) (signature_of : ℕ → Subject D → G) where
+module _ {K L D : Type 0} (same : D → D → Bool) (elect : Elect L) where
   -- of what the state knows before a step: each request for a vote is answered exactly by its rule, and nothing else by a vote
-  abbrev pub ExactAt : Option (Facts K L D) → StepFacts K L D → Told K D G → Type 0
+  abbrev pub ExactAt : Option (Facts K L D) → StepFacts K L D → Told K D → Type 0
   ExactAt None step told = signed_in told ≡ []
-  ExactAt (Some x) (Calls (ConstructNullify v)) told = IsExact signature_of (NullifyRule x v) x.me (Some (subject.Nullify (round_number x v))) told
-  ExactAt (Some x) (Calls (ConstructFinalize v)) told = IsExact signature_of (FinalizeRule elect x v) x.me (option_map subject.Finalize (held x v)) told
-  ExactAt (Some x) (Works (ConstructNotarize v)) told = IsExact signature_of (NotarizeRule same elect x v) x.me (option_map subject.Notarize (held x v)) told
+  ExactAt (Some x) (Calls (ConstructNullify v)) told = IsExact (NullifyRule x v) x.me (Some (subject.Nullify (round_number x v))) told
+  ExactAt (Some x) (Calls (ConstructFinalize v)) told = IsExact (FinalizeRule elect x v) x.me (option_map subject.Finalize (held x v)) told
+  ExactAt (Some x) (Works (ConstructNotarize v)) told = IsExact (NotarizeRule same elect x v) x.me (option_map subject.Notarize (held x v)) told
   ExactAt (Some x) _ told = signed_in told ≡ []
 
   -- so it is at each step, of the member that the steps before it lead to
-  abbrev pub SignsExactly : Story K L D G → Type 0
+  abbrev pub SignsExactly : Story K L D → Type 0
   SignsExactly s =
-      (before after : List (StepFacts K L D)) (step : StepFacts K L D) (heard rest : List (Told K D G)) (told : Told K D G)
+      (before after : List (StepFacts K L D)) (step : StepFacts K L D) (heard rest : List (Told K D)) (told : Told K D)
       → s.steps ≡ before ++ step ∷ after → s.replies ≡ heard ++ told ∷ rest → length before ≡ length heard
-      → (m : MemberFacts K L D G) × IsRun same elect signature_of (started same elect s.start.fresh s.start.floor s.start.now) before heard m × ExactAt m.life step told
+      → (m : MemberFacts K L D) × IsRun same elect (started same elect s.start.fresh s.start.floor s.start.now) before heard m × ExactAt m.life step told

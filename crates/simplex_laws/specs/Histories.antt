@@ -20,7 +20,7 @@ use Rattle.simplex_member.specs.Start.{StartFacts, started}
 use Rattle.simplex_laws.specs.Sums.{finalized_in}
 
 -- an entry is taken again: a certificate is added before it is replayed, and a verdict is given after that
-abbrev pub retaken_events : {K D G : Type 0} → ℕ → ArtifactFacts D G → List (Event K D G)
+abbrev pub retaken_events : {K D : Type 0} → ℕ → ArtifactFacts D → List (Event K D)
 retaken_events now (Accepted (Notarized c)) = Replay (Accepted (Notarized c)) ∷ AddNotarization c ∷ []
 retaken_events now (Accepted (Nullified c)) = Replay (Accepted (Nullified c)) ∷ AddNullification c now ∷ []
 retaken_events now (Accepted (Finalized c)) = Replay (Accepted (Finalized c)) ∷ AddFinalization c now ∷ []
@@ -28,12 +28,12 @@ retaken_events now (Verdict round success) = Certified round.view success now �
 retaken_events now vote = Replay vote ∷ []
 
 -- the event of what a call does in a context, where one is open
-abbrev pub in_context : {K D G : Type 0} → (Context D K → Event K D G) → Option (Context D K) → List (Event K D G)
+abbrev pub in_context : {K D : Type 0} → (Context D K → Event K D) → Option (Context D K) → List (Event K D)
 in_context event None = []
 in_context event (Some context) = event context ∷ []
 
 -- the event of a call on the work of a view, with what is open then
-abbrev pub work_events : {K D G : Type 0} → Openings K D → WorkCall D → List (Event K D G)
+abbrev pub work_events : {K D : Type 0} → Openings K D → WorkCall D → List (Event K D)
 work_events o (work.SetProposal v p) = SetProposal v p ∷ []
 work_events o work.TryPropose = TryPropose ∷ []
 work_events o (work.Proposed v payload now) = in_context (λ context. Proposed context payload now) (context_at o v)
@@ -49,42 +49,42 @@ work_events o (work.SetCertifyHandle v token) = SetCertifyHandle v token ∷ []
 work_events o (work.TriggerTimeout v reason now) = TriggerTimeout v reason now ∷ []
 work_events o (work.NextTimeout now) = NextTimeout now ∷ []
 
-module _ {K L D G : Type 0} where
+module _ {K L D : Type 0} where
   -- with these events more, the latest first
-  abbrev pub with_events : History K L D G → List (Event K D G) → History K L D G
+  abbrev pub with_events : History K L D → List (Event K D) → History K L D
   with_events history new = record history { events = new ++ history.events }
 
   -- with the call, unless it is refused
-  abbrev pub with_call : History K L D G → CallFacts D → Told K D G → History K L D G
+  abbrev pub with_call : History K L D → CallFacts D → Told K D → History K L D
   with_call history call (Refused _) = history
   with_call history call NotAllowed = history
   with_call history call _ = with_events history (events_of call)
 
   -- with the call on the work of a view, unless it is refused
-  abbrev pub with_work : History K L D G → Openings K D → WorkCall D → Told K D G → History K L D G
+  abbrev pub with_work : History K L D → Openings K D → WorkCall D → Told K D → History K L D
   with_work history o call (Refused _) = history
   with_work history o call NotAllowed = history
   with_work history o call _ = with_events history (work_events o call)
 
   -- with an entry that is taken again; one below the views that are kept is passed over
-  abbrev pub with_entry : History K L D G → ℕ → ArtifactFacts D G → History K L D G
+  abbrev pub with_entry : History K L D → ℕ → ArtifactFacts D → History K L D
   with_entry history now e =
       if nat_lt (entry_view e) (finalized_in history.events - history.fresh.settings.view_retention)
       then history
       else with_events history (retaken_events now e)
 
-  abbrev pub with_entries : History K L D G → ℕ → List (ArtifactFacts D G) → History K L D G
+  abbrev pub with_entries : History K L D → ℕ → List (ArtifactFacts D) → History K L D
   with_entries history now [] = history
   with_entries history now (e ∷ rest) = with_entries (with_entry history now e) now rest
 
   -- the history of a life that begins with a floor and a record
-  abbrev pub recovery : StartFacts K L D → List (ArtifactFacts D G) → History K L D G
+  abbrev pub recovery : StartFacts K L D → List (ArtifactFacts D) → History K L D
   recovery start entries =
       with_entries (record { fresh = start.fresh; events = SetFloor start.floor start.now ∷ [] }) start.now entries
 
   -- how steps and what they are told lead from one history to another: a call with what was open then; a restart that is
   -- not refused takes again some order of what is left of the record
-  abbrev pub LeadsTo : History K L D G → List (StepFacts K L D) → List (Told K D G) → History K L D G → Type 0
+  abbrev pub LeadsTo : History K L D → List (StepFacts K L D) → List (Told K D) → History K L D → Type 0
   LeadsTo history [] [] last = last ≡ history
   LeadsTo history [] (told ∷ rest) last = ⊥
   LeadsTo history (step ∷ steps) [] last = ⊥
@@ -92,33 +92,33 @@ module _ {K L D G : Type 0} where
   LeadsTo history (Works call ∷ steps) (told ∷ rest) last = (o : Openings K D) × LeadsTo (with_work history o call told) steps rest last
   LeadsTo history (Restarts r ∷ steps) (NotRestarted _ ∷ rest) last = LeadsTo history steps rest last
   LeadsTo history (Restarts r ∷ steps) (told ∷ rest) last =
-      (copy : List (ArtifactFacts D G)) × LeadsTo (recovery r.start copy) steps rest last
+      (copy : List (ArtifactFacts D)) × LeadsTo (recovery r.start copy) steps rest last
 
-module _ {K L D G : Type 0} (same : D → D → Bool) (elect : Elect L) where
+module _ {K L D : Type 0} (same : D → D → Bool) (elect : Elect L) where
   -- while the member lives, its state knows what the history says
-  abbrev pub IsShown : History K L D G → MemberFacts K L D G → Type 0
+  abbrev pub IsShown : History K L D → MemberFacts K L D → Type 0
   IsShown history m = MatchOption m.life (Unit {0}) (Shows same elect history)
 
-module _ (K : Type 0) {L D G : Type 0} (same : D → D → Bool) (elect : Elect L) (signature_of : ℕ → Subject D → G) where
+module _ (K : Type 0) {L D : Type 0} (same : D → D → Bool) (elect : Elect L) where
   -- of a new state nothing was said
   abbrev pub NothingSaid : Type 0
-  NothingSaid = (term_length : ℕ) (x : Facts K L D) → IsFresh term_length x → Shows {G = G} same elect (record { fresh = x; events = [] }) x
+  NothingSaid = (term_length : ℕ) (x : Facts K L D) → IsFresh term_length x → Shows same elect (record { fresh = x; events = [] }) x
 
   -- an event that the state allows is the last of the history then
   abbrev pub EventsAreShown : Type 0
   EventsAreShown =
-      (history : History K L D G) (x : Facts K L D) (e : Event K D G) → Shows same elect history x → IsEvent x e → Shows same elect (with_event history e) (after_event same elect x e)
+      (history : History K L D) (x : Facts K L D) (e : Event K D) → Shows same elect history x → IsEvent x e → Shows same elect (with_event history e) (after_event same elect x e)
 
   abbrev pub CallsAreShown : Type 0
   CallsAreShown =
-      (history : History K L D G) (m left : MemberFacts K L D G) (call : CallFacts D) (told : Told K D G)
+      (history : History K L D) (m left : MemberFacts K L D) (call : CallFacts D) (told : Told K D)
       → IsShown same elect history m
-      → IsCall same elect signature_of m call told left
+      → IsCall same elect m call told left
       → IsShown same elect (with_call history call told) left
 
   abbrev pub RecoveriesAreShown : Type 0
   RecoveriesAreShown =
-      (term_length : ℕ) (start : StartFacts K L D) (entries : List (ArtifactFacts D G))
+      (term_length : ℕ) (start : StartFacts K L D) (entries : List (ArtifactFacts D))
       → IsFresh term_length start.fresh
       → recover_error same start.fresh start.floor start.now entries ≡ None
       → Shows same elect (recovery start entries) (recovered same elect start.fresh start.floor start.now entries)
@@ -126,17 +126,17 @@ module _ (K : Type 0) {L D G : Type 0} (same : D → D → Bool) (elect : Elect 
   -- of some order by view of what is left of the record
   abbrev pub RestartsAreShown : Type 0
   RestartsAreShown =
-      (term_length : ℕ) (m left : MemberFacts K L D G) (r : RestartFacts K L D)
+      (term_length : ℕ) (m left : MemberFacts K L D) (r : RestartFacts K L D)
       → IsFresh term_length r.start.fresh
       → IsRestart same elect m r (Ok tt) left
-      → (copy : List (ArtifactFacts D G)) × IsByView (cut m r.drop r.prune).entries copy × IsShown same elect (recovery r.start copy) left
+      → (copy : List (ArtifactFacts D)) × IsByView (cut m r.drop r.prune).entries copy × IsShown same elect (recovery r.start copy) left
 
   -- of the history that the run's steps lead to
   abbrev pub RunsAreShown : Type 0
   RunsAreShown =
-      (term_length : ℕ) (start : StartFacts K L D) (steps : List (StepFacts K L D)) (replies : List (Told K D G)) (end : MemberFacts K L D G)
+      (term_length : ℕ) (start : StartFacts K L D) (steps : List (StepFacts K L D)) (replies : List (Told K D)) (end : MemberFacts K L D)
       → IsFresh term_length start.fresh
       → BeginFresh term_length steps
-      → recover_error {G = G} same start.fresh start.floor start.now [] ≡ None
-      → IsRun same elect signature_of (started same elect start.fresh start.floor start.now) steps replies end
-      → (last : History K L D G) × LeadsTo (recovery start []) steps replies last × IsShown same elect last end
+      → recover_error same start.fresh start.floor start.now [] ≡ None
+      → IsRun same elect (started same elect start.fresh start.floor start.now) steps replies end
+      → (last : History K L D) × LeadsTo (recovery start []) steps replies last × IsShown same elect last end

@@ -68,9 +68,9 @@ module _ {K L D : Type 0} (elect : Elect L) where
   tracks_after x voted w v =
       v == w + 1 && (if in_window x (w + 1) then is_some (round_of x w).leader else takes_over x voted (w + 1))
 
-module _ {K L D G : Type 0} (same : D → D → Bool) (elect : Elect L) where
+module _ {K L D : Type 0} (same : D → D → Bool) (elect : Elect L) where
   -- the leader that an event gives a view that has none
-  abbrev pub leads : ℕ → Facts K L D → Event K D G → Option (Leader K)
+  abbrev pub leads : ℕ → Facts K L D → Event K D → Option (Leader K)
   leads v x (SetFloor (Genesis _) _) = chosen elect x v 1 None
   leads v x (SetFloor (Finalized c) _) = leads_by elect x (is_none (round_of x c.proposal.round.view).finalization) v c
   leads v x (AddNotarization c) = leads_by elect x (is_none (round_of x c.proposal.round.view).notarization) v c
@@ -78,11 +78,11 @@ module _ {K L D G : Type 0} (same : D → D → Bool) (elect : Elect L) where
   leads v x (AddFinalization c _) = leads_by elect x (is_none (round_of x c.proposal.round.view).finalization) v c
   leads v x (ConstructNotarize w) = if may_notarize same elect x w then leads_after elect x true w v else None
   leads v x (SetProposal w _) = leads_after elect x (round_of x w).notarize_decided w v
-  leads v x (Replay (NotarizeVote p _ _)) = leads_after elect x true p.round.view v
+  leads v x (Replay (NotarizeVote p _)) = leads_after elect x true p.round.view v
   leads v x _ = None
 
   -- an event speaks of a view: a certificate, a proposal, a vote, or one that stands in the record; or it readies or leads it
-  abbrev pub tracks : ℕ → Facts K L D → Event K D G → Bool
+  abbrev pub tracks : ℕ → Facts K L D → Event K D → Bool
   tracks v x (SetFloor (Genesis _) _) = v == 1
   tracks v x (SetFloor (Finalized c) _) = tracks_by elect x (is_none (round_of x c.proposal.round.view).finalization) v c
   tracks v x (AddNotarization c) = tracks_by elect x (is_none (round_of x c.proposal.round.view).notarization) v c
@@ -92,6 +92,6 @@ module _ {K L D G : Type 0} (same : D → D → Bool) (elect : Elect L) where
   tracks v x (ConstructNullify w) = v == w && may_nullify x w
   tracks v x (ConstructFinalize w) = v == w && may_finalize elect x w
   tracks v x (SetProposal w _) = v == w || tracks_after elect x (round_of x w).notarize_decided w v
-  tracks v x (Replay (NotarizeVote p _ _)) = v == p.round.view || tracks_after elect x true p.round.view v
+  tracks v x (Replay (NotarizeVote p _)) = v == p.round.view || tracks_after elect x true p.round.view v
   tracks v x (Replay e) = v == entry_view e
   tracks v x _ = false

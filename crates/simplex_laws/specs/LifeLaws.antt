@@ -28,15 +28,15 @@ module _ {K L D : Type 0} where
   abbrev pub as_steps : List (LifeCall D) → List (StepFacts K L D)
   as_steps calls = map (λ call. as_step call) calls
 
-module _ {K L D G : Type 0} (same : D → D → Bool) (elect : Elect L) (signature_of : ℕ → Subject D → G) where
+module _ {K L D : Type 0} (same : D → D → Bool) (elect : Elect L) where
   -- calls within one life, one reply a call: a run without a restart
-  abbrev pub IsLife : MemberFacts K L D G → List (LifeCall D) → List (Told K D G) → MemberFacts K L D G → Type 0
-  IsLife m calls replies end = IsRun same elect signature_of m (as_steps calls) replies end
+  abbrev pub IsLife : MemberFacts K L D → List (LifeCall D) → List (Told K D) → MemberFacts K L D → Type 0
+  IsLife m calls replies end = IsRun same elect m (as_steps calls) replies end
 
   -- a run from a start leads to a member, and these calls go on from there within its life
-  pub record IsLifeOfRun (start : StartFacts K L D) (steps : List (StepFacts K L D)) (told : List (Told K D G)) (m : MemberFacts K L D G) (calls : List (LifeCall D)) (replies : List (Told K D G)) (end : MemberFacts K L D G) : Type 0 where
-    pub accepted : recover_error {G = G} same start.fresh start.floor start.now [] ≡ None
-    pub reached : IsRun same elect signature_of (started same elect start.fresh start.floor start.now) steps told m
+  pub record IsLifeOfRun (start : StartFacts K L D) (steps : List (StepFacts K L D)) (told : List (Told K D)) (m : MemberFacts K L D) (calls : List (LifeCall D)) (replies : List (Told K D)) (end : MemberFacts K L D) : Type 0 where
+    pub accepted : recover_error same start.fresh start.floor start.now [] ≡ None
+    pub reached : IsRun same elect (started same elect start.fresh start.floor start.now) steps told m
     pub life : IsLife m calls replies end
 
 -- this holds of the first state and the last one, unless the member has failed by then; no state comes after a failure
@@ -55,20 +55,20 @@ abbrev pub is_conflicted : {K L D : Type 0} → Facts K L D → ℕ → Bool
 is_conflicted x v = (round_of x v).slot.conflict
 
 -- a call was told that it dropped the view
-abbrev pub IsDropped : {K D G : Type 0} → List (Told K D G) → ℕ → Type 0
+abbrev pub IsDropped : {K D : Type 0} → List (Told K D) → ℕ → Type 0
 IsDropped replies v = (views : List ℕ) × Contains replies (Dropped views) × Contains views v
 
 -- the view was dropped, and lies below what is kept
-pub record IsPruned {K L D G : Type 0} (replies : List (Told K D G)) (last : Facts K L D) (v : ℕ) : Type 0 where
+pub record IsPruned {K L D : Type 0} (replies : List (Told K D)) (last : Facts K L D) (v : ℕ) : Type 0 where
   pub dropped : IsDropped replies v
   pub below : v < min_active last
 
 -- a conflict of a view stays until the view is pruned
-abbrev pub ConflictsStay : {K L D G : Type 0} → List (Told K D G) → Facts K L D → Facts K L D → Type 0
+abbrev pub ConflictsStay : {K L D : Type 0} → List (Told K D) → Facts K L D → Facts K L D → Type 0
 ConflictsStay replies first last = (v : ℕ) → is_conflicted first v ≡ true → (is_conflicted last v ≡ true) ⊎ IsPruned replies last v
 
 -- what was dropped isn't tracked again
-abbrev pub DroppedForGood : {K L D G : Type 0} → List (Told K D G) → Facts K L D → Facts K L D → Type 0
+abbrev pub DroppedForGood : {K L D : Type 0} → List (Told K D) → Facts K L D → Facts K L D → Type 0
 DroppedForGood replies first last = (v : ℕ) → IsDropped replies v → is_tracked last v ≡ false
 
 -- the kinds of certificates
@@ -85,20 +85,20 @@ module _ {D : Type 0} where
   asked_by Finalization (BroadcastFinalization v) = v ∷ []
   asked_by kind _ = []
 
-module _ {K D G : Type 0} where
+module _ {K D : Type 0} where
   -- that view, where the call is told a certificate
-  abbrev pub handed_by : Kind → LifeCall D → Told K D G → List ℕ
+  abbrev pub handed_by : Kind → LifeCall D → Told K D → List ℕ
   handed_by kind (Calling call) (Handed (Some _)) = asked_by kind call
   handed_by kind (Calling call) _ = []
   handed_by kind (Working call) _ = []
 
   -- the views whose certificates of this kind are handed out to broadcast, in turn
-  abbrev pub handed_in : Kind → List (LifeCall D) → List (Told K D G) → List ℕ
+  abbrev pub handed_in : Kind → List (LifeCall D) → List (Told K D) → List ℕ
   handed_in kind (call ∷ calls) (told ∷ replies) = handed_by kind call told ++ handed_in kind calls replies
   handed_in kind _ _ = []
 
   -- none is handed out twice
-  abbrev pub HandedOnce : List (LifeCall D) → List (Told K D G) → Type 0
+  abbrev pub HandedOnce : List (LifeCall D) → List (Told K D) → Type 0
   HandedOnce calls replies = (kind : Kind) → IsDistinct nat_eq (handed_in kind calls replies)
 
 module _ {D : Type 0} where
@@ -107,38 +107,38 @@ module _ {D : Type 0} where
   kind_of (Nullified _) = Nullification
   kind_of (Finalized _) = Finalization
 
-module _ {K D G : Type 0} where
+module _ {K D : Type 0} where
   -- the certificate that a call is told is of the kind and the view that it asks for
-  abbrev pub IsAsAsked : CallFacts D → Told K D G → Type 0
+  abbrev pub IsAsAsked : CallFacts D → Told K D → Type 0
   IsAsAsked call told =
       (kind : Kind) (v : ℕ) (c : CertificateFacts D) → asked_by kind call ≡ v ∷ [] → told ≡ Handed (Some c) → (kind_of c ≡ kind) × ((certificate_round c).view ≡ v)
 
   -- so it is of each call
-  abbrev pub HandedAsAsked : List (LifeCall D) → List (Told K D G) → Type 0
+  abbrev pub HandedAsAsked : List (LifeCall D) → List (Told K D) → Type 0
   HandedAsAsked (Calling call ∷ calls) (told ∷ replies) = IsAsAsked call told × HandedAsAsked calls replies
   HandedAsAsked (Working call ∷ calls) (told ∷ replies) = HandedAsAsked calls replies
   HandedAsAsked _ _ = Unit {0}
 
-module _ (K : Type 0) {L D G : Type 0} (same : D → D → Bool) (elect : Elect L) (signature_of : ℕ → Subject D → G) where
+module _ (K : Type 0) {L D : Type 0} (same : D → D → Bool) (elect : Elect L) where
   -- of each life, of whatever member
-  abbrev pub OfEachLife : (MemberFacts K L D G → List (LifeCall D) → List (Told K D G) → MemberFacts K L D G → Type 0) → Type 0
+  abbrev pub OfEachLife : (MemberFacts K L D → List (LifeCall D) → List (Told K D) → MemberFacts K L D → Type 0) → Type 0
   OfEachLife Holds =
-      (m end : MemberFacts K L D G) (calls : List (LifeCall D)) (replies : List (Told K D G)) → IsLife same elect signature_of m calls replies end → Holds m calls replies end
+      (m end : MemberFacts K L D) (calls : List (LifeCall D)) (replies : List (Told K D)) → IsLife same elect m calls replies end → Holds m calls replies end
 
   -- of each stretch of a life that a run leads to, where each life begins freshly
-  abbrev pub OfEachStretch : (MemberFacts K L D G → List (LifeCall D) → List (Told K D G) → MemberFacts K L D G → Type 0) → Type 0
+  abbrev pub OfEachStretch : (MemberFacts K L D → List (LifeCall D) → List (Told K D) → MemberFacts K L D → Type 0) → Type 0
   OfEachStretch Holds =
-      (term_length : ℕ) (start : StartFacts K L D) (before : List (StepFacts K L D)) (told : List (Told K D G)) (m end : MemberFacts K L D G) (calls : List (LifeCall D)) (replies : List (Told K D G))
+      (term_length : ℕ) (start : StartFacts K L D) (before : List (StepFacts K L D)) (told : List (Told K D)) (m end : MemberFacts K L D) (calls : List (LifeCall D)) (replies : List (Told K D))
       → IsFresh term_length start.fresh
       → BeginFresh term_length before
-      → IsLifeOfRun same elect signature_of start before told m calls replies end
+      → IsLifeOfRun same elect start before told m calls replies end
       → Holds m calls replies end
 
   -- calls of a run with no restart among them are such a stretch
   abbrev pub StretchesAreLives : Type 0
   StretchesAreLives =
-      (start : StartFacts K L D) (before after : List (StepFacts K L D)) (calls : List (LifeCall D)) (told replies rest : List (Told K D G))
+      (start : StartFacts K L D) (before after : List (StepFacts K L D)) (calls : List (LifeCall D)) (told replies rest : List (Told K D))
       → length before ≡ length told
       → length calls ≡ length replies
-      → IsRunFrom same elect signature_of start (before ++ (as_steps calls ++ after)) (told ++ (replies ++ rest))
-      → (m end : MemberFacts K L D G) × IsLifeOfRun same elect signature_of start before told m calls replies end
+      → IsRunFrom same elect start (before ++ (as_steps calls ++ after)) (told ++ (replies ++ rest))
+      → (m end : MemberFacts K L D) × IsLifeOfRun same elect start before told m calls replies end

@@ -28,28 +28,28 @@ IsFromOutside _ = ⊥
 abbrev pub IsExcused : RecoverError → Type 0
 IsExcused found = IsFromOutside found ⊎ (found ≡ error.RetentionGrown) ⊎ (found ≡ error.OutOfMemory)
 
-module _ (K : Type 0) {L D G : Type 0} (same : D → D → Bool) (elect : Elect L) (signature_of : ℕ → Subject D → G) where
+module _ (K : Type 0) {L D : Type 0} (same : D → D → Bool) (elect : Elect L) where
   -- of each member that a run leads to, where each life begins freshly
-  abbrev pub OfEachEnd : (MemberFacts K L D G → Type 0) → Type 0
+  abbrev pub OfEachEnd : (MemberFacts K L D → Type 0) → Type 0
   OfEachEnd Holds =
-      (term_length : ℕ) (start : StartFacts K L D) (steps : List (StepFacts K L D)) (replies : List (Told K D G)) (end : MemberFacts K L D G)
+      (term_length : ℕ) (start : StartFacts K L D) (steps : List (StepFacts K L D)) (replies : List (Told K D)) (end : MemberFacts K L D)
       → IsFresh term_length start.fresh
       → BeginFresh term_length steps
-      → IsRun same elect signature_of (started same elect start.fresh start.floor start.now) steps replies end
+      → IsRun same elect (started same elect start.fresh start.floor start.now) steps replies end
       → Holds end
 
   -- whatever restart comes next: what it leaves of the record, by view, is refused only for what comes from outside
-  abbrev pub RecordIsTaken : MemberFacts K L D G → Type 0
+  abbrev pub RecordIsTaken : MemberFacts K L D → Type 0
   RecordIsTaken end =
-      (next : RestartFacts K L D) (copy : List (ArtifactFacts D G)) (found : RecoverError)
+      (next : RestartFacts K L D) (copy : List (ArtifactFacts D)) (found : RecoverError)
       → IsByView (cut end next.drop next.prune).entries copy
       → recover_error same next.start.fresh next.start.floor next.start.now copy ≡ Some found
       → IsFromOutside found
 
   -- and the restart itself for no other reason than an excuse
-  abbrev pub RestartIsExcused : MemberFacts K L D G → Type 0
+  abbrev pub RestartIsExcused : MemberFacts K L D → Type 0
   RestartIsExcused end =
-      (left : MemberFacts K L D G) (next : RestartFacts K L D) (found : RecoverError) → IsRestart same elect end next (Err found) left → IsExcused found
+      (left : MemberFacts K L D) (next : RestartFacts K L D) (found : RecoverError) → IsRestart same elect end next (Err found) left → IsExcused found
 
   -- so is a run, at its start or at one of its restarts
   abbrev pub RunsAreExcused : Type 0
@@ -57,5 +57,5 @@ module _ (K : Type 0) {L D G : Type 0} (same : D → D → Bool) (elect : Elect 
       (term_length : ℕ) (start : StartFacts K L D) (steps : List (StepFacts K L D)) (found : RecoverError)
       → IsFresh term_length start.fresh
       → BeginFresh term_length steps
-      → EndsRunFrom {K = K} {G = G} same elect signature_of start steps found
+      → EndsRunFrom {K = K} same elect start steps found
       → IsExcused found

@@ -15,20 +15,20 @@ abbrev pub quorum : ℕ → ℕ
 quorum n = n - max_faults n
 
 -- a faulty member may send anything; of an honest one all is given that came to it and that it answered
-pub data Place (K L D G : Type 0) : Type 0 where
-  Faulty : Place K L D G
-  Honest : Story K L D G → Place K L D G
+pub data Place (K L D : Type 0) : Type 0 where
+  Faulty : Place K L D
+  Honest : Story K L D → Place K L D
 
-module _ {K L D G : Type 0} where
-  abbrev pub is_faulty : Place K L D G → Bool
+module _ {K L D : Type 0} where
+  abbrev pub is_faulty : Place K L D → Bool
   is_faulty Faulty = true
   is_faulty (Honest s) = false
 
-  abbrev pub faults : List (Place K L D G) → ℕ
+  abbrev pub faults : List (Place K L D) → ℕ
   faults network = count_by is_faulty network
 
   -- at most f are faulty, or else fewer than n - 2f, so that two quorums share an honest one
-  abbrev pub FewFaulty : List (Place K L D G) → Type 0
+  abbrev pub FewFaulty : List (Place K L D) → Type 0
   FewFaulty network =
       ((1 ≤ length network) × (faults network ≤ max_faults (length network)))
       ⊎ (faults network < length network - 2 * max_faults (length network))
@@ -39,25 +39,25 @@ AtLeastFrom i zero P xs = ⊤
 AtLeastFrom i (suc count) P [] = ⊥
 AtLeastFrom i (suc count) P (x ∷ xs) = (P i x × AtLeastFrom (suc i) count P xs) ⊎ AtLeastFrom (suc i) (suc count) P xs
 
-module _ {K L D G : Type 0} (signature_of : ℕ → Subject D → G) where
+module _ {K L D : Type 0} where
   -- the member at place `i` is faulty or signed this vote, as `i`
-  abbrev pub MayHaveSigned : Subject D → ℕ → Place K L D G → Type 0
+  abbrev pub MayHaveSigned : Subject D → ℕ → Place K L D → Type 0
   MayHaveSigned vote i Faulty = ⊤
-  MayHaveSigned vote i (Honest s) = Contains (deeds_of s) (Signs i vote (signature_of i vote))
+  MayHaveSigned vote i (Honest s) = Contains (deeds_of s) (Signs i vote)
 
   -- n - f members may have signed it: a certificate of it may exist
-  abbrev pub Backed : List (Place K L D G) → Subject D → Type 0
+  abbrev pub Backed : List (Place K L D) → Subject D → Type 0
   Backed network vote = AtLeastFrom 0 (quorum (length network)) (MayHaveSigned vote) network
 
-module _ {K L D G : Type 0} (same : D → D → Bool) (elect : Elect L) (signature_of : ℕ → Subject D → G) where
+module _ {K L D : Type 0} (same : D → D → Bool) (elect : Elect L) where
   -- few are faulty, each other runs as its place says, and each certificate that one of these accepted is backed
-  pub record IsNetworkOf (term_length : ℕ) (network : List (Place K L D G)) : Type 0 where
+  pub record IsNetworkOf (term_length : ℕ) (network : List (Place K L D)) : Type 0 where
     pub few_faulty : FewFaulty network
-    pub honest : (i : ℕ) (s : Story K L D G) → slice_get network i ≡ Some (Honest s) → Ran same elect signature_of term_length i s
-    pub backed : (i : ℕ) (s : Story K L D G) (certificate : Subject D) → slice_get network i ≡ Some (Honest s) → Contains (deeds_of s) (Accepts certificate) → Backed signature_of network certificate
+    pub honest : (i : ℕ) (s : Story K L D) → slice_get network i ≡ Some (Honest s) → Ran same elect term_length i s
+    pub backed : (i : ℕ) (s : Story K L D) (certificate : Subject D) → slice_get network i ≡ Some (Honest s) → Contains (deeds_of s) (Accepts certificate) → Backed network certificate
 
-module _ (K : Type 0) {L D G : Type 0} (same : D → D → Bool) (elect : Elect L) (signature_of : ℕ → Subject D → G) where
+module _ (K : Type 0) {L D : Type 0} (same : D → D → Bool) (elect : Elect L) where
   -- of each such network, in terms of whatever length
-  abbrev pub OfEachNetwork : (ℕ → List (Place K L D G) → Type 0) → Type 0
+  abbrev pub OfEachNetwork : (ℕ → List (Place K L D) → Type 0) → Type 0
   OfEachNetwork Holds =
-      (term_length : ℕ) (network : List (Place K L D G)) → IsNetworkOf same elect signature_of term_length network → Holds term_length network
+      (term_length : ℕ) (network : List (Place K L D)) → IsNetworkOf same elect term_length network → Holds term_length network

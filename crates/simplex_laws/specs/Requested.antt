@@ -36,9 +36,9 @@ module _ {K L D : Type 0} (elect : Elect L) where
       then Some true
       else (if nat_lt x.finalized u && nat_le v u then Some false else None)
 
-module _ {K L D G : Type 0} (elect : Elect L) where
+module _ {K L D : Type 0} (elect : Elect L) where
   -- whether the view waits for certification from then on
-  abbrev pub names : ℕ → Facts K L D → Event K D G → Option Bool
+  abbrev pub names : ℕ → Facts K L D → Event K D → Option Bool
   names v x (SetFloor (Finalized c) _) = names_by elect x v c
   names v x (AddNotarization c) =
       let u = c.proposal.round.view in
@@ -56,9 +56,9 @@ module _ {K L D : Type 0} where
       then Some certification.Aborted
       else None
 
-module _ {K L D G : Type 0} where
+module _ {K L D : Type 0} where
   -- the certification of the view from then on
-  abbrev pub certifies : ℕ → Facts K L D → Event K D G → Option Certification
+  abbrev pub certifies : ℕ → Facts K L D → Event K D → Option Certification
   certifies v x (SetFloor (Finalized c) _) = ends v x c.proposal.round.view
   certifies v x (AddFinalization c _) = ends v x c.proposal.round.view
   certifies v x (Certified w success _) = if is_at x v w then Some (certification.Judged success) else None
@@ -86,23 +86,23 @@ abbrev pub bound_by : {D : Type 0} → Option (Proposal D) → Standing D → Op
 bound_by held (Ready d) = Some (option_map (λ p. (p, d)) held)
 bound_by held _ = None
 
-module _ {K L D G : Type 0} (same : D → D → Bool) (elect : Elect L) where
+module _ {K L D : Type 0} (same : D → D → Bool) (elect : Elect L) where
   -- how the proposal of the view stands where a scan for proposals to verify comes to it
-  abbrev pub stands : ℕ → Facts K L D → Event K D G → Standing D
+  abbrev pub stands : ℕ → Facts K L D → Event K D → Standing D
   stands v x TryVerify =
       if list_any (λ e. v == e.0) (scanned same elect x) then standing same elect x (v, round_of x v) else Passed
   stands v x _ = Passed
 
   -- this member's own proposal is taken: nothing else is held
-  abbrev pub takes_own : ℕ → Facts K L D → Event K D G → Bool
+  abbrev pub takes_own : ℕ → Facts K L D → Event K D → Bool
   takes_own v x e = option_map_or (holds_or_empty (same_proposal same) (round_of x v).slot) (owns same elect v x e) false
 
   -- a certificate settles the view against what is held
-  abbrev pub overrules : ℕ → Facts K L D → Event K D G → Bool
+  abbrev pub overrules : ℕ → Facts K L D → Event K D → Bool
   overrules v x e = contradicts same (round_of x v).slot.held (settles v x e)
 
   -- the held proposal is marked as verified
-  abbrev pub marks : ℕ → Facts K L D → Event K D G → Option Bool
+  abbrev pub marks : ℕ → Facts K L D → Event K D → Option Bool
   marks v x (Verified w) =
       if is_at x v w && binding_matches same elect x w && not (is_nullify (round_of x w).decision)
       then Some (is_unequivocated (round_of x w).slot)
@@ -110,14 +110,14 @@ module _ {K L D G : Type 0} (same : D → D → Bool) (elect : Elect L) where
   marks v x _ = None
 
   -- whether the held proposal is verified from then on: not where another one was seen; one's own is
-  abbrev pub verifies : ℕ → Facts K L D → Event K D G → Option Bool
+  abbrev pub verifies : ℕ → Facts K L D → Event K D → Option Bool
   verifies v x e =
       if contradicts same (round_of x v).slot.held (option_or (settles v x e) (hears v x e))
       then Some false
       else (if takes_own v x e then Some (not (round_of x v).slot.conflict) else marks v x e)
 
   -- whether a proposal is asked for
-  abbrev pub asks_to_build : ℕ → Facts K L D → Event K D G → Option Bool
+  abbrev pub asks_to_build : ℕ → Facts K L D → Event K D → Option Bool
   asks_to_build v x TryPropose =
       option_map_or (λ request. if is_at x v (request_context request).round.view then Some true else None) (propose_answer same elect x) None
   asks_to_build v x (Supersede context) =
@@ -126,21 +126,21 @@ module _ {K L D G : Type 0} (same : D → D → Bool) (elect : Elect L) where
   asks_to_build v x e = if overrules v x e || takes_own v x e then Some true else None
 
   -- a verification was asked for, or isn't needed
-  abbrev pub asks_to_verify : ℕ → Facts K L D → Event K D G → Bool
+  abbrev pub asks_to_verify : ℕ → Facts K L D → Event K D → Bool
   asks_to_verify v x e = overrules v x e || takes_own v x e || is_given_out (stands v x e)
 
   -- the view whose certificate peers are asked for
-  abbrev pub asks_for : ℕ → Facts K L D → Event K D G → Option ℕ
+  abbrev pub asks_for : ℕ → Facts K L D → Event K D → Option ℕ
   asks_for v x e = lacked (stands v x e)
 
   -- the held proposal is bound to its parent's payload where it is built, given out or replayed, until that no longer holds
-  abbrev pub binds : ℕ → Facts K L D → Event K D G → Option (Option (Proposal D × D))
+  abbrev pub binds : ℕ → Facts K L D → Event K D → Option (Option (Proposal D × D))
   binds v x (Proposed context payload _) =
       if v == context.round.view && proposed_answer same elect x context payload
       then Some (Some (proposal_of context payload, context.parent.1))
       else None
   binds v x (Verified w) = if is_at x v w && not (binding_matches same elect x w) then Some None else None
   binds v x (VerificationFailed w _ _) = if is_at x v w && not (binding_matches same elect x w) then Some None else None
-  binds v x (Replay (NotarizeVote p _ _)) =
+  binds v x (Replay (NotarizeVote p _)) =
       if v == p.round.view then option_map (λ bound. Some bound) (restored_binding x p) else None
   binds v x e = bound_by (round_of x v).slot.held (stands v x e)

@@ -54,219 +54,214 @@ two = proposal 2 1
 abbrev pub context : ℕ → ℕ → Context ℕ ℕ
 context view parent = record { round = round view; leader = 3; parent = (parent, parent) }
 
-module _ (signature_of : ℕ → Subject ℕ → ℕ) where
-  -- a member signs this
-  abbrev pub signed : ℕ → Subject ℕ → Deed ℕ ℕ
-  signed me vote = Signs me vote (signature_of me vote)
+abbrev pub nullify_vote : ℕ → ℕ → Told ℕ ℕ
+nullify_vote me view = Nullify (Some (false, NullifyVote (round view) me))
 
-  abbrev pub nullify_vote : ℕ → ℕ → Told ℕ ℕ ℕ
-  nullify_vote me view = Nullify (Some (false, NullifyVote (round view) me (signature_of me (subject.Nullify (round view)))))
+abbrev pub notarize_vote : ℕ → Proposal ℕ → Told ℕ ℕ
+notarize_vote me p = Notarize (Some (NotarizeVote p me))
 
-  abbrev pub notarize_vote : ℕ → Proposal ℕ → Told ℕ ℕ ℕ
-  notarize_vote me p = Notarize (Some (NotarizeVote p me (signature_of me (subject.Notarize p))))
+abbrev pub finalize_vote : ℕ → Proposal ℕ → Told ℕ ℕ
+finalize_vote me p = Finalize (Some (FinalizeVote p me))
 
-  abbrev pub finalize_vote : ℕ → Proposal ℕ → Told ℕ ℕ ℕ
-  finalize_vote me p = Finalize (Some (FinalizeVote p me (signature_of me (subject.Finalize p))))
+-- a term of five views: a member votes to nullify view 1 and may finalize neither it nor the next one, until it accepts the
+-- finalization of view 1
+abbrev pub impatient : Story ℕ ℕ ℕ
+impatient = record {
+  start = start_at 5 (Genesis 0) 0;
+  steps =
+      Calls (ConstructNullify 1)
+      ∷ Calls (AddNotarization (certificate one))
+      ∷ Calls (Certified 1 true 0)
+      ∷ Calls (ConstructFinalize 1)
+      ∷ Calls (AddNotarization (certificate two))
+      ∷ Calls (Certified 2 true 0)
+      ∷ Calls (ConstructFinalize 2)
+      ∷ Calls (AddFinalization (certificate one) 0)
+      ∷ Calls (ConstructFinalize 2)
+      ∷ [];
+  replies =
+      nullify_vote 0 1
+      ∷ Added true None
+      ∷ Judged (Some (certificate one))
+      ∷ Finalize None
+      ∷ Added true None
+      ∷ Judged (Some (certificate two))
+      ∷ Finalize None
+      ∷ Added true None
+      ∷ finalize_vote 0 two
+      ∷ [];
+}
 
-  -- a term of five views: a member votes to nullify view 1 and may finalize neither it nor the next one, until it accepts the
-  -- finalization of view 1
-  abbrev pub impatient : Story ℕ ℕ ℕ ℕ
-  impatient = record {
-    start = start_at 5 (Genesis 0) 0;
-    steps =
-        Calls (ConstructNullify 1)
-        ∷ Calls (AddNotarization (certificate one))
-        ∷ Calls (Certified 1 true 0)
-        ∷ Calls (ConstructFinalize 1)
-        ∷ Calls (AddNotarization (certificate two))
-        ∷ Calls (Certified 2 true 0)
-        ∷ Calls (ConstructFinalize 2)
-        ∷ Calls (AddFinalization (certificate one) 0)
-        ∷ Calls (ConstructFinalize 2)
-        ∷ [];
-    replies =
-        nullify_vote 0 1
-        ∷ Added true None
-        ∷ Judged (Some (certificate one))
-        ∷ Finalize None
-        ∷ Added true None
-        ∷ Judged (Some (certificate two))
-        ∷ Finalize None
-        ∷ Added true None
-        ∷ finalize_vote 0 two
-        ∷ [];
-  }
+-- another one verifies both proposals and votes for each to the end
+abbrev pub patient : ℕ → Story ℕ ℕ ℕ
+patient me = record {
+  start = start_at 5 (Genesis 0) me;
+  steps =
+      Works (SetProposal 1 one)
+      ∷ Works TryVerify
+      ∷ Works (Verified 1)
+      ∷ Works (ConstructNotarize 1)
+      ∷ Calls (AddNotarization (certificate one))
+      ∷ Calls (Certified 1 true 0)
+      ∷ Calls (ConstructFinalize 1)
+      ∷ Works (SetProposal 2 two)
+      ∷ Works TryVerify
+      ∷ Works (Verified 2)
+      ∷ Works (ConstructNotarize 2)
+      ∷ Calls (AddNotarization (certificate two))
+      ∷ Calls (Certified 2 true 0)
+      ∷ Calls (ConstructFinalize 2)
+      ∷ [];
+  replies =
+      Answered true
+      ∷ Standing (Verify (context 1 0) one)
+      ∷ Answered true
+      ∷ notarize_vote me one
+      ∷ Added true None
+      ∷ Judged (Some (certificate one))
+      ∷ finalize_vote me one
+      ∷ Answered true
+      ∷ Standing (Verify (context 2 1) two)
+      ∷ Answered true
+      ∷ notarize_vote me two
+      ∷ Added true None
+      ∷ Judged (Some (certificate two))
+      ∷ finalize_vote me two
+      ∷ [];
+}
 
-  -- another one verifies both proposals and votes for each to the end
-  abbrev pub patient : ℕ → Story ℕ ℕ ℕ ℕ
-  patient me = record {
-    start = start_at 5 (Genesis 0) me;
-    steps =
-        Works (SetProposal 1 one)
-        ∷ Works TryVerify
-        ∷ Works (Verified 1)
-        ∷ Works (ConstructNotarize 1)
-        ∷ Calls (AddNotarization (certificate one))
-        ∷ Calls (Certified 1 true 0)
-        ∷ Calls (ConstructFinalize 1)
-        ∷ Works (SetProposal 2 two)
-        ∷ Works TryVerify
-        ∷ Works (Verified 2)
-        ∷ Works (ConstructNotarize 2)
-        ∷ Calls (AddNotarization (certificate two))
-        ∷ Calls (Certified 2 true 0)
-        ∷ Calls (ConstructFinalize 2)
-        ∷ [];
-    replies =
-        Answered true
-        ∷ Standing (Verify (context 1 0) one)
-        ∷ Answered true
-        ∷ notarize_vote me one
-        ∷ Added true None
-        ∷ Judged (Some (certificate one))
-        ∷ finalize_vote me one
-        ∷ Answered true
-        ∷ Standing (Verify (context 2 1) two)
-        ∷ Answered true
-        ∷ notarize_vote me two
-        ∷ Added true None
-        ∷ Judged (Some (certificate two))
-        ∷ finalize_vote me two
-        ∷ [];
-  }
+-- a third one does the same, and restarts between the two: the finalization that came after its last vote is dropped, so that
+-- it is new again, but not the vote; and its record is pruned
+abbrev pub forgetful : Story ℕ ℕ ℕ
+forgetful = record {
+  start = start_at 5 (Genesis 0) 2;
+  steps =
+      Works (SetProposal 1 one)
+      ∷ Works TryVerify
+      ∷ Works (Verified 1)
+      ∷ Works (ConstructNotarize 1)
+      ∷ Calls (AddNotarization (certificate one))
+      ∷ Calls (Certified 1 true 0)
+      ∷ Calls (ConstructFinalize 1)
+      ∷ Calls (AddFinalization (certificate one) 0)
+      ∷ Restarts (record { drop = 5; prune = true; start = start_at 5 (Genesis 0) 2 })
+      ∷ Calls (ConstructFinalize 1)
+      ∷ Calls (AddFinalization (certificate one) 0)
+      ∷ Works (SetProposal 2 two)
+      ∷ Works TryVerify
+      ∷ Works (Verified 2)
+      ∷ Works (ConstructNotarize 2)
+      ∷ Calls (AddNotarization (certificate two))
+      ∷ Calls (Certified 2 true 0)
+      ∷ Calls (ConstructFinalize 2)
+      ∷ [];
+  replies =
+      Answered true
+      ∷ Standing (Verify (context 1 0) one)
+      ∷ Answered true
+      ∷ notarize_vote 2 one
+      ∷ Added true None
+      ∷ Judged (Some (certificate one))
+      ∷ finalize_vote 2 one
+      ∷ Added true None
+      ∷ Restarted
+      ∷ Finalize None
+      ∷ Added true None
+      ∷ Answered true
+      ∷ Standing (Verify (context 2 1) two)
+      ∷ Answered true
+      ∷ notarize_vote 2 two
+      ∷ Added true None
+      ∷ Judged (Some (certificate two))
+      ∷ finalize_vote 2 two
+      ∷ [];
+}
 
-  -- a third one does the same, and restarts between the two: the finalization that came after its last vote is dropped, so that
-  -- it is new again, but not the vote; and its record is pruned
-  abbrev pub forgetful : Story ℕ ℕ ℕ ℕ
-  forgetful = record {
-    start = start_at 5 (Genesis 0) 2;
-    steps =
-        Works (SetProposal 1 one)
-        ∷ Works TryVerify
-        ∷ Works (Verified 1)
-        ∷ Works (ConstructNotarize 1)
-        ∷ Calls (AddNotarization (certificate one))
-        ∷ Calls (Certified 1 true 0)
-        ∷ Calls (ConstructFinalize 1)
-        ∷ Calls (AddFinalization (certificate one) 0)
-        ∷ Restarts (record { drop = 5; prune = true; start = start_at 5 (Genesis 0) 2 })
-        ∷ Calls (ConstructFinalize 1)
-        ∷ Calls (AddFinalization (certificate one) 0)
-        ∷ Works (SetProposal 2 two)
-        ∷ Works TryVerify
-        ∷ Works (Verified 2)
-        ∷ Works (ConstructNotarize 2)
-        ∷ Calls (AddNotarization (certificate two))
-        ∷ Calls (Certified 2 true 0)
-        ∷ Calls (ConstructFinalize 2)
-        ∷ [];
-    replies =
-        Answered true
-        ∷ Standing (Verify (context 1 0) one)
-        ∷ Answered true
-        ∷ notarize_vote 2 one
-        ∷ Added true None
-        ∷ Judged (Some (certificate one))
-        ∷ finalize_vote 2 one
-        ∷ Added true None
-        ∷ Restarted
-        ∷ Finalize None
-        ∷ Added true None
-        ∷ Answered true
-        ∷ Standing (Verify (context 2 1) two)
-        ∷ Answered true
-        ∷ notarize_vote 2 two
-        ∷ Added true None
-        ∷ Judged (Some (certificate two))
-        ∷ finalize_vote 2 two
-        ∷ [];
-  }
+-- four members, of which the leader is faulty
+abbrev pub four : List (Place ℕ ℕ ℕ)
+four = Honest impatient ∷ Honest (patient 1) ∷ Honest forgetful ∷ Faulty ∷ []
 
-  -- four members, of which the leader is faulty
-  abbrev pub four : List (Place ℕ ℕ ℕ ℕ)
-  four = Honest impatient ∷ Honest (patient 1) ∷ Honest forgetful ∷ Faulty ∷ []
+-- a member restarts three times: first the notarization that came after its last vote is dropped, so that it is new again,
+-- but not the vote; then its record is pruned; then it starts at a finalized floor
+abbrev pub restarting : Story ℕ ℕ ℕ
+restarting = record {
+  start = start_at 5 (Genesis 0) 1;
+  steps =
+      Calls (AddNotarization (certificate one))
+      ∷ Calls (Certified 1 true 0)
+      ∷ Calls (ConstructFinalize 1)
+      ∷ Calls (AddNotarization (certificate two))
+      ∷ Restarts (record { drop = 5; prune = false; start = start_at 5 (Genesis 0) 1 })
+      ∷ Calls (ConstructFinalize 1)
+      ∷ Calls (AddNotarization (certificate two))
+      ∷ Calls (Certified 2 true 0)
+      ∷ Calls (ConstructFinalize 2)
+      ∷ Calls (AddFinalization (certificate (proposal 3 2)) 0)
+      ∷ Restarts (record { drop = 0; prune = true; start = start_at 5 (Genesis 0) 1 })
+      ∷ Calls (ConstructFinalize 1)
+      ∷ Calls (ConstructFinalize 2)
+      ∷ Restarts (record { drop = 0; prune = false; start = start_at 5 (Finalized (certificate (proposal 4 3))) 1 })
+      ∷ Calls (ConstructNullify 5)
+      ∷ [];
+  replies =
+      Added true None
+      ∷ Judged (Some (certificate one))
+      ∷ finalize_vote 1 one
+      ∷ Added true None
+      ∷ Restarted
+      ∷ Finalize None
+      ∷ Added true None
+      ∷ Judged (Some (certificate two))
+      ∷ finalize_vote 1 two
+      ∷ Added true None
+      ∷ Restarted
+      ∷ Finalize None
+      ∷ Finalize None
+      ∷ Restarted
+      ∷ nullify_vote 1 5
+      ∷ [];
+}
 
-  -- a member restarts three times: first the notarization that came after its last vote is dropped, so that it is new again,
-  -- but not the vote; then its record is pruned; then it starts at a finalized floor
-  abbrev pub restarting : Story ℕ ℕ ℕ ℕ
-  restarting = record {
-    start = start_at 5 (Genesis 0) 1;
-    steps =
-        Calls (AddNotarization (certificate one))
-        ∷ Calls (Certified 1 true 0)
-        ∷ Calls (ConstructFinalize 1)
-        ∷ Calls (AddNotarization (certificate two))
-        ∷ Restarts (record { drop = 5; prune = false; start = start_at 5 (Genesis 0) 1 })
-        ∷ Calls (ConstructFinalize 1)
-        ∷ Calls (AddNotarization (certificate two))
-        ∷ Calls (Certified 2 true 0)
-        ∷ Calls (ConstructFinalize 2)
-        ∷ Calls (AddFinalization (certificate (proposal 3 2)) 0)
-        ∷ Restarts (record { drop = 0; prune = true; start = start_at 5 (Genesis 0) 1 })
-        ∷ Calls (ConstructFinalize 1)
-        ∷ Calls (ConstructFinalize 2)
-        ∷ Restarts (record { drop = 0; prune = false; start = start_at 5 (Finalized (certificate (proposal 4 3))) 1 })
-        ∷ Calls (ConstructNullify 5)
-        ∷ [];
-    replies =
-        Added true None
-        ∷ Judged (Some (certificate one))
-        ∷ finalize_vote 1 one
-        ∷ Added true None
-        ∷ Restarted
-        ∷ Finalize None
-        ∷ Added true None
-        ∷ Judged (Some (certificate two))
-        ∷ finalize_vote 1 two
-        ∷ Added true None
-        ∷ Restarted
-        ∷ Finalize None
-        ∷ Finalize None
-        ∷ Restarted
-        ∷ nullify_vote 1 5
-        ∷ [];
-  }
+-- terms of one view: view 3 is built on view 1, over view 2, for which there is a nullification
+abbrev pub skipping : ℕ → Story ℕ ℕ ℕ
+skipping me = record {
+  start = start_at 1 (Genesis 0) me;
+  steps =
+      Works (SetProposal 1 one)
+      ∷ Works TryVerify
+      ∷ Works (Verified 1)
+      ∷ Works (ConstructNotarize 1)
+      ∷ Calls (AddNotarization (certificate one))
+      ∷ Calls (Certified 1 true 0)
+      ∷ Calls (ConstructNullify 2)
+      ∷ Calls (AddNullification (nullification 2) 0)
+      ∷ Works (SetProposal 3 (proposal 3 1))
+      ∷ Works TryVerify
+      ∷ Works (Verified 3)
+      ∷ Works (ConstructNotarize 3)
+      ∷ Calls (AddNotarization (certificate (proposal 3 1)))
+      ∷ Calls (Certified 3 true 0)
+      ∷ Calls (ConstructFinalize 3)
+      ∷ [];
+  replies =
+      Answered true
+      ∷ Standing (Verify (context 1 0) one)
+      ∷ Answered true
+      ∷ notarize_vote me one
+      ∷ Added true None
+      ∷ Judged (Some (certificate one))
+      ∷ nullify_vote me 2
+      ∷ Added true None
+      ∷ Answered true
+      ∷ Standing (Verify (context 3 1) (proposal 3 1))
+      ∷ Answered true
+      ∷ notarize_vote me (proposal 3 1)
+      ∷ Added true None
+      ∷ Judged (Some (certificate (proposal 3 1)))
+      ∷ finalize_vote me (proposal 3 1)
+      ∷ [];
+}
 
-  -- terms of one view: view 3 is built on view 1, over view 2, for which there is a nullification
-  abbrev pub skipping : ℕ → Story ℕ ℕ ℕ ℕ
-  skipping me = record {
-    start = start_at 1 (Genesis 0) me;
-    steps =
-        Works (SetProposal 1 one)
-        ∷ Works TryVerify
-        ∷ Works (Verified 1)
-        ∷ Works (ConstructNotarize 1)
-        ∷ Calls (AddNotarization (certificate one))
-        ∷ Calls (Certified 1 true 0)
-        ∷ Calls (ConstructNullify 2)
-        ∷ Calls (AddNullification (nullification 2) 0)
-        ∷ Works (SetProposal 3 (proposal 3 1))
-        ∷ Works TryVerify
-        ∷ Works (Verified 3)
-        ∷ Works (ConstructNotarize 3)
-        ∷ Calls (AddNotarization (certificate (proposal 3 1)))
-        ∷ Calls (Certified 3 true 0)
-        ∷ Calls (ConstructFinalize 3)
-        ∷ [];
-    replies =
-        Answered true
-        ∷ Standing (Verify (context 1 0) one)
-        ∷ Answered true
-        ∷ notarize_vote me one
-        ∷ Added true None
-        ∷ Judged (Some (certificate one))
-        ∷ nullify_vote me 2
-        ∷ Added true None
-        ∷ Answered true
-        ∷ Standing (Verify (context 3 1) (proposal 3 1))
-        ∷ Answered true
-        ∷ notarize_vote me (proposal 3 1)
-        ∷ Added true None
-        ∷ Judged (Some (certificate (proposal 3 1)))
-        ∷ finalize_vote me (proposal 3 1)
-        ∷ [];
-  }
-
-  -- five members, of which two are faulty: more than f = 1, but fewer than n - 2f = 3
-  abbrev pub five : List (Place ℕ ℕ ℕ ℕ)
-  five = Honest (skipping 0) ∷ Honest (skipping 1) ∷ Honest (skipping 2) ∷ Faulty ∷ Faulty ∷ []
+-- five members, of which two are faulty: more than f = 1, but fewer than n - 2f = 3
+abbrev pub five : List (Place ℕ ℕ ℕ)
+five = Honest (skipping 0) ∷ Honest (skipping 1) ∷ Honest (skipping 2) ∷ Faulty ∷ Faulty ∷ []

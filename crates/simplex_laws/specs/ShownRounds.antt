@@ -10,8 +10,8 @@ use Rattle.simplex_laws.specs.Requested.{verifies, asks_to_build, asks_to_verify
 use Rattle.simplex_laws.specs.Sums.{notarization_in, nullification_in, finalization_in}
 use Rattle.simplex_laws.specs.Timing.{enters, proposes, decision_in}
 
-module _ {K L D G : Type 0} (same : D → D → Bool) (elect : Elect L) where
-  abbrev pub round_in : History K L D G → ℕ → RoundFacts K D
+module _ {K L D : Type 0} (same : D → D → Bool) (elect : Elect L) where
+  abbrev pub round_in : History K L D → ℕ → RoundFacts K D
   round_in history v =
       let fresh = history.fresh in
       let events = history.events in

@@ -20,16 +20,16 @@ verdict_of (Judged verdict) = Some verdict
 verdict_of Aborted = None
 
 -- the lowest view that the prunes of a history left
-abbrev pub kept_of : {K L D G : Type 0} → History K L D G → ℕ
+abbrev pub kept_of : {K L D : Type 0} → History K L D → ℕ
 kept_of history = kept_in history.fresh.settings.view_retention history.events
 
 -- the view is tracked from an event on: it enters the view, or speaks of it
-abbrev pub comes_up : {K L D G : Type 0} → (D → D → Bool) → Elect L → ℕ → Facts K L D → Event K D G → Bool
+abbrev pub comes_up : {K L D : Type 0} → (D → D → Bool) → Elect L → ℕ → Facts K L D → Event K D → Bool
 comes_up same elect v x e = is_some (enters v x e) || tracks same elect v x e
 
 -- what a state knows is what its history says: how it was set up, numbers, which views wait for certification, and of each
 -- view that no prune has dropped whether it is tracked and its whole round. A view that a prune dropped isn't known again.
-pub record Shows {K L D G : Type 0} (same : D → D → Bool) (elect : Elect L) (history : History K L D G) (x : Facts K L D) : Type 0 where
+pub record Shows {K L D : Type 0} (same : D → D → Bool) (elect : Elect L) (history : History K L D) (x : Facts K L D) : Type 0 where
   pub facts : x ≡ facts_after same elect history.fresh history.events
   -- how it was set up stays, and no event fails it
   pub settings : x.settings ≡ history.fresh.settings

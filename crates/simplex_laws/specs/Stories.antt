@@ -10,13 +10,13 @@ use Rattle.simplex_laws.specs.Fresh.{IsFresh, BeginFresh}
 use Rattle.simplex_laws.specs.Lawful.{IsLawful}
 
 -- a start, then steps, each with its reply: calls, calls on the work of a view, restarts
-pub record Story (K L D G : Type 0) : Type 0 where
+pub record Story (K L D : Type 0) : Type 0 where
   pub start : StartFacts K L D
   pub steps : List (StepFacts K L D)
-  pub replies : List (Told K D G)
+  pub replies : List (Told K D)
 
 -- all that a member accepts and signs, oldest first
-abbrev pub deeds_of : {K L D G : Type 0} → Story K L D G → List (Deed D G)
+abbrev pub deeds_of : {K L D : Type 0} → Story K L D → List (Deed D)
 deeds_of s = of_floor s.start.floor ++ deeds_of_steps s.steps s.replies
 
 module _ {K L D : Type 0} where
@@ -30,22 +30,22 @@ module _ {K L D : Type 0} where
     pub first : BeginsAs term_length i start.fresh
     pub later : (r : _) → Contains steps (Restarts r) → BeginsAs term_length i r.start.fresh
 
-module _ {K L D G : Type 0} (same : D → D → Bool) (elect : Elect L) (signature_of : ℕ → Subject D → G) where
+module _ {K L D : Type 0} (same : D → D → Bool) (elect : Elect L) where
   -- what member `i` of a network does, whatever comes to it
-  pub record Ran (term_length i : ℕ) (s : Story K L D G) : Type 0 where
+  pub record Ran (term_length i : ℕ) (s : Story K L D) : Type 0 where
     pub lives : LivesAs term_length i s.start s.steps
-    pub run : IsRunFrom same elect signature_of s.start s.steps s.replies
+    pub run : IsRunFrom same elect s.start s.steps s.replies
 
-module _ (K : Type 0) {L D G : Type 0} (same : D → D → Bool) (elect : Elect L) (signature_of : ℕ → Subject D → G) where
+module _ (K : Type 0) {L D : Type 0} (same : D → D → Bool) (elect : Elect L) where
   -- of all that a member of a network may do, in terms of whatever length
-  abbrev pub OfEachMember : (ℕ → Story K L D G → Type 0) → Type 0
-  OfEachMember Holds = (term_length i : ℕ) (s : Story K L D G) → Ran same elect signature_of term_length i s → Holds term_length s
+  abbrev pub OfEachMember : (ℕ → Story K L D → Type 0) → Type 0
+  OfEachMember Holds = (term_length i : ℕ) (s : Story K L D) → Ran same elect term_length i s → Holds term_length s
 
   -- the deeds of a run keep the voting rules, whatever each of its lives signs as
   abbrev pub RunsAreLawful : Type 0
   RunsAreLawful =
-      (term_length : ℕ) (s : Story K L D G)
+      (term_length : ℕ) (s : Story K L D)
       → IsFresh term_length s.start.fresh
       → BeginFresh term_length s.steps
-      → IsRunFrom same elect signature_of s.start s.steps s.replies
+      → IsRunFrom same elect s.start s.steps s.replies
       → IsLawful term_length (deeds_of s)

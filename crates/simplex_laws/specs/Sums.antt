@@ -35,47 +35,47 @@ is_among views v = list_any (λ u. v == u) views
 
 -- what one event says
 
-module _ {K D G : Type 0} where
+module _ {K D : Type 0} where
   -- of a view
 
-  abbrev pub notarizes : ℕ → Event K D G → Option (ProposalFacts D)
+  abbrev pub notarizes : ℕ → Event K D → Option (ProposalFacts D)
   notarizes v (AddNotarization c) = at v c.proposal.round.view c
   notarizes v _ = None
 
-  abbrev pub nullifies : ℕ → Event K D G → Option NullificationFacts
+  abbrev pub nullifies : ℕ → Event K D → Option NullificationFacts
   nullifies v (AddNullification c _) = at v c.round.view c
   nullifies v _ = None
 
-  abbrev pub finalizes : ℕ → Event K D G → Option (ProposalFacts D)
+  abbrev pub finalizes : ℕ → Event K D → Option (ProposalFacts D)
   finalizes v (AddFinalization c _) = at v c.proposal.round.view c
   finalizes v (SetFloor (Finalized c) _) = at v c.proposal.round.view c
   finalizes v _ = None
 
   -- a verdict, unless it is given for a view without a notarization
-  abbrev pub judges : (ℕ → Bool) → ℕ → Event K D G → Option Bool
+  abbrev pub judges : (ℕ → Bool) → ℕ → Event K D → Option Bool
   judges is_notarized v (Certified w success _) = if v == w && is_notarized w then Some success else None
   judges is_notarized v (Replay (Verdict round success)) = at v round.view success
   judges is_notarized v _ = None
 
   -- a nullification of the view is handed in or replayed
-  abbrev pub covers_from : ℕ → Event K D G → Bool
+  abbrev pub covers_from : ℕ → Event K D → Bool
   covers_from v (AddNullification c _) = v == c.round.view
   covers_from v (Replay (Accepted (Nullified c))) = v == c.round.view
   covers_from v _ = false
 
   -- of the state
 
-  abbrev pub sets_genesis : Event K D G → Option D
+  abbrev pub sets_genesis : Event K D → Option D
   sets_genesis (SetFloor (Genesis payload) _) = Some payload
   sets_genesis _ = None
 
-  abbrev pub finalized_by : Event K D G → ℕ
+  abbrev pub finalized_by : Event K D → ℕ
   finalized_by (AddFinalization c _) = c.proposal.round.view
   finalized_by (SetFloor (Finalized c) _) = c.proposal.round.view
   finalized_by _ = 0
 
   -- a true verdict enters the next view, unless it is given for a view without a notarization
-  abbrev pub entered_by : ℕ → (ℕ → Bool) → Event K D G → ℕ
+  abbrev pub entered_by : ℕ → (ℕ → Bool) → Event K D → ℕ
   entered_by term_length is_notarized (SetFloor (Genesis _) _) = 1
   entered_by term_length is_notarized (SetFloor (Finalized c) _) = c.proposal.round.view + 1
   entered_by term_length is_notarized (AddFinalization c _) = c.proposal.round.view + 1
@@ -83,7 +83,7 @@ module _ {K D G : Type 0} where
   entered_by term_length is_notarized (Certified v true _) = if is_notarized v then v + 1 else 0
   entered_by term_length is_notarized _ = 0
 
-  abbrev pub moment_by : Event K D G → Option ℕ
+  abbrev pub moment_by : Event K D → Option ℕ
   moment_by (SetFloor _ now) = Some now
   moment_by (AddNullification _ now) = Some now
   moment_by (AddFinalization _ now) = Some now
@@ -94,47 +94,47 @@ module _ {K D G : Type 0} where
   moment_by (NextTimeout now) = Some now
   moment_by _ = None
 
-  abbrev pub is_prune : Event K D G → Bool
+  abbrev pub is_prune : Event K D → Bool
   is_prune Prune = true
   is_prune _ = false
 
 -- what the list says
 
-module _ {K D G : Type 0} where
-  abbrev pub notarization_in : ℕ → List (Event K D G) → Option (ProposalFacts D)
+module _ {K D : Type 0} where
+  abbrev pub notarization_in : ℕ → List (Event K D) → Option (ProposalFacts D)
   notarization_in v history = earliest (notarizes v) history
 
-  abbrev pub nullification_in : ℕ → List (Event K D G) → Option NullificationFacts
+  abbrev pub nullification_in : ℕ → List (Event K D) → Option NullificationFacts
   nullification_in v history = earliest (nullifies v) history
 
-  abbrev pub finalization_in : ℕ → List (Event K D G) → Option (ProposalFacts D)
+  abbrev pub finalization_in : ℕ → List (Event K D) → Option (ProposalFacts D)
   finalization_in v history = earliest (finalizes v) history
 
-  abbrev pub is_notarized_in : List (Event K D G) → ℕ → Bool
+  abbrev pub is_notarized_in : List (Event K D) → ℕ → Bool
   is_notarized_in history v = is_some (notarization_in v history)
 
-  abbrev pub verdict_in : ℕ → List (Event K D G) → Option Bool
+  abbrev pub verdict_in : ℕ → List (Event K D) → Option Bool
   verdict_in v [] = None
   verdict_in v (e ∷ before) = or_new (verdict_in v before) (judges (is_notarized_in before) v e)
 
-  abbrev pub is_nullified_in : ℕ → List (Event K D G) → Bool
+  abbrev pub is_nullified_in : ℕ → List (Event K D) → Bool
   is_nullified_in v history = list_any (covers_from v) history
 
-  abbrev pub genesis_in : List (Event K D G) → Option D
+  abbrev pub genesis_in : List (Event K D) → Option D
   genesis_in history = latest sets_genesis history
 
-  abbrev pub moment_in : List (Event K D G) → ℕ
+  abbrev pub moment_in : List (Event K D) → ℕ
   moment_in history = unwrap_or (latest moment_by history) 0
 
   -- the greatest finalized view, and the greatest view that was entered, in terms of this length
-  abbrev pub finalized_in : List (Event K D G) → ℕ
+  abbrev pub finalized_in : List (Event K D) → ℕ
   finalized_in history = greatest finalized_by history
 
-  abbrev pub current_in : ℕ → List (Event K D G) → ℕ
+  abbrev pub current_in : ℕ → List (Event K D) → ℕ
   current_in term_length [] = 0
   current_in term_length (e ∷ before) = max (current_in term_length before) (entered_by term_length (is_notarized_in before) e)
 
   -- the lowest view that the prunes left, where so many views below the last finalized one are kept
-  abbrev pub kept_in : ℕ → List (Event K D G) → ℕ
+  abbrev pub kept_in : ℕ → List (Event K D) → ℕ
   kept_in retention [] = 0
   kept_in retention (e ∷ before) = max (kept_in retention before) (if is_prune e then finalized_in before - retention else 0)

@@ -56,7 +56,7 @@ module _ {K L D : Type 0} where
       by_round None is = rw is refl
       by_round (Some r) is = rw is (both_so (is_some r.notarization) (is_judged (not success) r.certification) (rw is at notarized) (rw is at none))
 
-module _ {S K D G C : Type 0} (bytes_of : C → List ℕ) (same : D → D → Bool) (epoch : ℕ) (signs : Option ℕ) (lowest : ℕ) (before : List (ArtifactFacts D G)) where
+module _ {S K D G C : Type 0} (bytes_of : C → List ℕ) (same : D → D → Bool) (epoch : ℕ) (signs : Option ℕ) (lowest : ℕ) (before : List (ArtifactFacts D)) where
   -- the round of its view takes an entry that is allowed
   round_takes : (a : Artifact S D K G C) (r : RoundFacts K D) → Allowed same epoch signs before (artifact_facts bytes_of a) → Bears signs lowest before (entry_view (artifact_facts bytes_of a)) r → TakesArtifact r a
   round_takes (artifact.Notarize vote) r ok b = b.me ∙ ok.own
@@ -67,9 +67,9 @@ module _ {S K D G C : Type 0} (bytes_of : C → List ℕ) (same : D → D → Bo
   round_takes (artifact.Nullification _) r ok b = tt
   round_takes (artifact.Finalization _) r ok b = tt
 
-module _ {K L D G : Type 0} (same : D → D → Bool) (elect : Elect L) (now : ℕ) where
+module _ {K L D : Type 0} (same : D → D → Bool) (elect : Elect L) (now : ℕ) where
   -- a verdict may be given once it stands again
-  may_give : (before : List (ArtifactFacts D G)) (x : Facts K L D) (e : ArtifactFacts D G) → is_started x ≡ true → min_active x ≤ entry_view e → BearsAll before x → Allowed same x.settings.epoch x.me before e → GivesVerdict (replayed same elect (added same elect x now e) e) e
+  may_give : (before : List (ArtifactFacts D)) (x : Facts K L D) (e : ArtifactFacts D) → is_started x ≡ true → min_active x ≤ entry_view e → BearsAll before x → Allowed same x.settings.epoch x.me before e → GivesVerdict (replayed same elect (added same elect x now e) e) e
   may_give before x (Verdict r success) started kept bears ok =
       let v = r.view in
       let b = bears v in
@@ -81,14 +81,14 @@ module _ {K L D G : Type 0} (same : D → D → Bool) (elect : Elect L) (now : �
       no_other : (success : Bool) → is_judged (not success) (certified_round (round_of x r.view) success).certification ≡ false
       no_other true = refl
       no_other false = refl
-  may_give before x (NotarizeVote p m g) started kept bears ok = tt
-  may_give before x (NullifyVote r m g) started kept bears ok = tt
-  may_give before x (FinalizeVote p m g) started kept bears ok = tt
+  may_give before x (NotarizeVote p m) started kept bears ok = tt
+  may_give before x (NullifyVote r m) started kept bears ok = tt
+  may_give before x (FinalizeVote p m) started kept bears ok = tt
   may_give before x (Accepted c) started kept bears ok = tt
 
 module _ {S K L D G C : Type 0} (bytes_of : C → List ℕ) (same : D → D → Bool) (elect : Elect L) (now : ℕ) where
   -- an allowed entry of a view that is kept
-  takes_entry : (before : List (ArtifactFacts D G)) (x : Facts K L D) (a : Artifact S D K G C) → is_started x ≡ true → min_active x ≤ entry_view (artifact_facts bytes_of a) → BearsAll before x → Allowed same x.settings.epoch x.me before (artifact_facts bytes_of a) → TakesEntry bytes_of same elect x now a
+  takes_entry : (before : List (ArtifactFacts D)) (x : Facts K L D) (a : Artifact S D K G C) → is_started x ≡ true → min_active x ≤ entry_view (artifact_facts bytes_of a) → BearsAll before x → Allowed same x.settings.epoch x.me before (artifact_facts bytes_of a) → TakesEntry bytes_of same elect x now a
   takes_entry before x a started kept bears ok =
       let e = artifact_facts bytes_of a in
       let y = added same elect x now e in
@@ -105,22 +105,22 @@ module _ {S K L D G C : Type 0} (bytes_of : C → List ℕ) (same : D → D → 
         gives = may_give same elect now before x e started kept bears ok;
       }
 
-  takes_next : (before : List (ArtifactFacts D G)) (x : Facts K L D) (a : Artifact S D K G C) → is_started x ≡ true → BearsAll before x → Allowed same x.settings.epoch x.me before (artifact_facts bytes_of a) → TakesNext bytes_of same elect x now a
+  takes_next : (before : List (ArtifactFacts D)) (x : Facts K L D) (a : Artifact S D K G C) → is_started x ≡ true → BearsAll before x → Allowed same x.settings.epoch x.me before (artifact_facts bytes_of a) → TakesNext bytes_of same elect x now a
   takes_next before x a started bears ok = record {
     small = small_entry bytes_of x.settings.epoch a ok.good;
     taken = λ above. takes_entry before x a started (not_below (entry_view (artifact_facts bytes_of a)) (min_active x) (rw (view_of_entry bytes_of a) at above)) bears ok;
   }
 
-module _ {K L D G : Type 0} (same : D → D → Bool) (elect : Elect L) where
+module _ {K L D : Type 0} (same : D → D → Bool) (elect : Elect L) where
   -- after an entry was taken, or passed over
-  taken_bears : (before : List (ArtifactFacts D G)) (x : Facts K L D) (now : ℕ) (e : ArtifactFacts D G) → BearsAll before x → BearsAll (e ∷ before) (taken same elect x now e)
+  taken_bears : (before : List (ArtifactFacts D)) (x : Facts K L D) (now : ℕ) (e : ArtifactFacts D) → BearsAll before x → BearsAll (e ∷ before) (taken same elect x now e)
   unfolding taken
   taken_bears before x now e bears =
       cond_both (nat_lt (entry_view e) (min_active x)) x (retaken same elect x now e) (BearsAll (e ∷ before))
       (λ below. bears_on before e x (λ kept _. absurd (left_out (entry_view e) (min_active x) below kept)) bears)
       (λ _. let y = added same elect x now e in given_bears elect before (replayed same elect y e) now e (replayed_bears same elect before y e (added_bears same elect before x now e bears)))
 
-  taken_me : (x : Facts K L D) (now : ℕ) (e : ArtifactFacts D G) → (taken same elect x now e).me ≡ x.me
+  taken_me : (x : Facts K L D) (now : ℕ) (e : ArtifactFacts D) → (taken same elect x now e).me ≡ x.me
   unfolding taken
   taken_me x now e =
       let y = added same elect x now e in
@@ -130,7 +130,7 @@ module _ {K L D G : Type 0} (same : D → D → Bool) (elect : Elect L) where
 
 module _ {S K L D G C : Type 0} (bytes_of : C → List ℕ) (same : D → D → Bool) (elect : Elect L) (now : ℕ) where
   -- entries that break no rule behind those that were taken
-  pub takes_entries : (entries : List (Artifact S D K G C)) (before : List (ArtifactFacts D G)) (x : Facts K L D) → is_started x ≡ true → BearsAll before x → first_broken_after same x.settings.epoch x.me before (entries_of bytes_of entries) ≡ None → TakesEntries bytes_of same elect x now entries
+  pub takes_entries : (entries : List (Artifact S D K G C)) (before : List (ArtifactFacts D)) (x : Facts K L D) → is_started x ≡ true → BearsAll before x → first_broken_after same x.settings.epoch x.me before (entries_of bytes_of entries) ≡ None → TakesEntries bytes_of same elect x now entries
   takes_entries [] before x started bears unbroken = tt
   takes_entries (a ∷ rest) before x started bears unbroken =
       let e = artifact_facts bytes_of a in
@@ -144,7 +144,7 @@ module _ {S K L D G C : Type 0} (bytes_of : C → List ℕ) (same : D → D → 
       )
 
 -- a new state
-pub new_bears : {K L D G : Type 0} (settings : Settings) (me : Option ℕ) (members : List K) (elector : L) (terms : Terms) (early : Bool) → BearsAll {G = G} [] (new_facts {D = D} settings me members elector terms early)
+pub new_bears : {K L D : Type 0} (settings : Settings) (me : Option ℕ) (members : List K) (elector : L) (terms : Terms) (early : Bool) → BearsAll [] (new_facts {D = D} settings me members elector terms early)
 new_bears settings me members elector terms early v = record {
   me = refl;
   notarized = λ low is. absurd cc;

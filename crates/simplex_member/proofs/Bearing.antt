@@ -27,31 +27,31 @@ both_true : (a b : Bool) → (a && b) ≡ true → (a ≡ true) × (b ≡ true)
 both_true true b h = (refl, h)
 both_true false b h = absurd cc
 
-module _ {D G : Type 0} where
+module _ {D : Type 0} where
   -- an entry of a kind stands from then on
-  stands_here : (k : ArtifactFacts D G → Bool) (e : ArtifactFacts D G) (before : List (ArtifactFacts D G)) → k e ≡ true → stands (entry_view e) k (e ∷ before) ≡ true
+  stands_here : (k : ArtifactFacts D → Bool) (e : ArtifactFacts D) (before : List (ArtifactFacts D)) → k e ≡ true → stands (entry_view e) k (e ∷ before) ≡ true
   stands_here k e before is = rw (eq-eqb (entry_view e) (entry_view e) refl, is) refl
 
-  stands_on : (v : ℕ) (k : ArtifactFacts D G → Bool) (e : ArtifactFacts D G) (before : List (ArtifactFacts D G)) → stands v k before ≡ true → stands v k (e ∷ before) ≡ true
+  stands_on : (v : ℕ) (k : ArtifactFacts D → Bool) (e : ArtifactFacts D) (before : List (ArtifactFacts D)) → stands v k before ≡ true → stands v k (e ∷ before) ≡ true
   stands_on v k e before there = or_right (entry_view e == v && k e) (stands v k before) there
 
   -- it is the newest, or stood before
-  stands_where : (v : ℕ) (k : ArtifactFacts D G → Bool) (e : ArtifactFacts D G) (before : List (ArtifactFacts D G)) → stands v k (e ∷ before) ≡ true → ((v ≡ entry_view e) × (k e ≡ true)) ⊎ (stands v k before ≡ true)
+  stands_where : (v : ℕ) (k : ArtifactFacts D → Bool) (e : ArtifactFacts D) (before : List (ArtifactFacts D)) → stands v k (e ∷ before) ≡ true → ((v ≡ entry_view e) × (k e ≡ true)) ⊎ (stands v k before ≡ true)
   stands_where v k e before there = elim (or_cases (entry_view e == v && k e) (stands v k before) there) [
     | inl here ↦ let both = both_true (entry_view e == v) (k e) here in inl (sym (eqb-true (entry_view e) v both.0), both.1)
     | inr behind ↦ inr behind
   ]
 
-module _ {K D G : Type 0} where
+module _ {K D : Type 0} where
   -- a view's round and the entries of that view; a notarization may be missing where the view is no longer kept
-  pub record Bears (signs : Option ℕ) (lowest : ℕ) (before : List (ArtifactFacts D G)) (v : ℕ) (r : RoundFacts K D) : Type 0 where
+  pub record Bears (signs : Option ℕ) (lowest : ℕ) (before : List (ArtifactFacts D)) (v : ℕ) (r : RoundFacts K D) : Type 0 where
     pub me : r.me ≡ signs
     pub notarized : lowest ≤ v → stands v is_notarization before ≡ true → is_some r.notarization ≡ true
     pub judged : (b : Bool) → is_judged b r.certification ≡ true → stands v (is_verdict b) before ≡ true
     pub nullified : is_nullify r.decision ≡ true → stands v nullifies before ≡ true
     pub finalized : is_finalize r.decision ≡ true → stands v finalizes before ≡ true
 
-  bears_grown : (signs : Option ℕ) (lowest : ℕ) (before : List (ArtifactFacts D G)) (v : ℕ) (r s : RoundFacts K D) → Grows r s → Bears signs lowest before v r → Bears signs lowest before v s
+  bears_grown : (signs : Option ℕ) (lowest : ℕ) (before : List (ArtifactFacts D)) (v : ℕ) (r s : RoundFacts K D) → Grows r s → Bears signs lowest before v r → Bears signs lowest before v s
   bears_grown signs lowest before v r s g b = record {
     me = g.me ∙ b.me;
     notarized = λ low there. g.notarized (b.notarized low there);
@@ -60,26 +60,26 @@ module _ {K D G : Type 0} where
     finalized = λ is. b.finalized (sym g.finalized ∙ is);
   }
 
-module _ {K L D G : Type 0} where
+module _ {K L D : Type 0} where
   -- of every view
-  abbrev pub BearsAll : List (ArtifactFacts D G) → Facts K L D → Type 0
+  abbrev pub BearsAll : List (ArtifactFacts D) → Facts K L D → Type 0
   BearsAll before x = (v : ℕ) → Bears x.me (min_active x) before v (round_of x v)
 
   -- what a state keeps bears the same entries
-  pub bears_kept : (u : ℕ) (before : List (ArtifactFacts D G)) (x y : Facts K L D) → Keeps u x y → BearsAll before x → BearsAll before y
+  pub bears_kept : (u : ℕ) (before : List (ArtifactFacts D)) (x y : Facts K L D) → Keeps u x y → BearsAll before x → BearsAll before y
   bears_kept u before x y k bears v =
       let b = bears_grown x.me (min_active x) before v (round_of x v) (round_of y v) (k.rounds v) (bears v) in
       record { me = b.me ∙ sym k.me; notarized = λ low there. b.notarized (omega (arith, k.rises)) there; judged = b.judged; nullified = b.nullified; finalized = b.finalized }
 
   -- another round at a view
-  bears_put : (before : List (ArtifactFacts D G)) (x : Facts K L D) (w : ℕ) (r : RoundFacts K D) → BearsAll before x → Bears x.me (min_active x) before w r → BearsAll before (with_round x w r)
+  bears_put : (before : List (ArtifactFacts D)) (x : Facts K L D) (w : ℕ) (r : RoundFacts K D) → BearsAll before x → Bears x.me (min_active x) before w r → BearsAll before (with_round x w r)
   bears_put before x w r bears b v = elim (cases_eq v w) [
     | inl at ↦ rw (at, round_of-same x w r) b
     | inr apart ↦ rw (round_of-put x v w r, ne_eqb v w apart) (bears v)
   ]
 
   -- an entry that is passed over, or no notarization
-  pub bears_on : (before : List (ArtifactFacts D G)) (e : ArtifactFacts D G) (x : Facts K L D) → (min_active x ≤ entry_view e → is_notarization e ≡ true → is_some (round_of x (entry_view e)).notarization ≡ true) → BearsAll before x → BearsAll (e ∷ before) x
+  pub bears_on : (before : List (ArtifactFacts D)) (e : ArtifactFacts D) (x : Facts K L D) → (min_active x ≤ entry_view e → is_notarization e ≡ true → is_some (round_of x (entry_view e)).notarization ≡ true) → BearsAll before x → BearsAll (e ∷ before) x
   bears_on before e x here bears v =
       let b = bears v in
       record {
@@ -93,7 +93,7 @@ module _ {K L D G : Type 0} where
         finalized = λ is. stands_on v finalizes e before (b.finalized is);
       }
 
-module _ {K D G : Type 0} (signs : Option ℕ) (lowest : ℕ) (before : List (ArtifactFacts D G)) (round : Round) (success : Bool) where
+module _ {K D : Type 0} (signs : Option ℕ) (lowest : ℕ) (before : List (ArtifactFacts D)) (round : Round) (success : Bool) where
   -- the verdict of the newest entry
   verdict_borne : (r : RoundFacts K D) → Bears signs lowest (Verdict round success ∷ before) round.view r → Bears signs lowest (Verdict round success ∷ before) round.view (certified_round r success)
   verdict_borne r b = record {
@@ -110,9 +110,9 @@ module _ {K D G : Type 0} (signs : Option ℕ) (lowest : ℕ) (before : List (Ar
       is_this false true is = absurd cc
       is_this false false is = stands_here (is_verdict false) (Verdict round false) before refl
 
-module _ {K L D G : Type 0} (same : D → D → Bool) (elect : Elect L) where
+module _ {K L D : Type 0} (same : D → D → Bool) (elect : Elect L) where
   -- a notarization that is added stands
-  added_notarized : (x : Facts K L D) (now : ℕ) (e : ArtifactFacts D G) → is_notarization e ≡ true → is_some (round_of (added same elect x now e) (entry_view e)).notarization ≡ true
+  added_notarized : (x : Facts K L D) (now : ℕ) (e : ArtifactFacts D) → is_notarization e ≡ true → is_some (round_of (added same elect x now e) (entry_view e)).notarization ≡ true
   added_notarized x now (Accepted (Notarized c)) is =
       let v = c.proposal.round.view in
       let y = elected elect x (v + 1) (Some c.bytes) in
@@ -121,30 +121,30 @@ module _ {K L D G : Type 0} (same : D → D → Bool) (elect : Elect L) where
       ((notarized_kept same elect v x z c).rounds v).notarized here
   added_notarized x now (Accepted (Nullified c)) is = absurd cc
   added_notarized x now (Accepted (Finalized c)) is = absurd cc
-  added_notarized x now (NotarizeVote p m g) is = absurd cc
-  added_notarized x now (NullifyVote r m g) is = absurd cc
-  added_notarized x now (FinalizeVote p m g) is = absurd cc
+  added_notarized x now (NotarizeVote p m) is = absurd cc
+  added_notarized x now (NullifyVote r m) is = absurd cc
+  added_notarized x now (FinalizeVote p m) is = absurd cc
   added_notarized x now (Verdict r success) is = absurd cc
 
-  pub added_bears : (before : List (ArtifactFacts D G)) (x : Facts K L D) (now : ℕ) (e : ArtifactFacts D G) → BearsAll before x → BearsAll (e ∷ before) (added same elect x now e)
+  pub added_bears : (before : List (ArtifactFacts D)) (x : Facts K L D) (now : ℕ) (e : ArtifactFacts D) → BearsAll before x → BearsAll (e ∷ before) (added same elect x now e)
   added_bears before x now e bears =
       bears_on before e (added same elect x now e) (λ _. added_notarized x now e) (bears_kept (entry_view e) before x (added same elect x now e) (added_kept same elect x now e) bears)
 
-  pub replayed_bears : (before : List (ArtifactFacts D G)) (x : Facts K L D) (e : ArtifactFacts D G) → BearsAll (e ∷ before) x → BearsAll (e ∷ before) (replayed same elect x e)
-  replayed_bears before x (NotarizeVote p m g) bears =
-      let e : ArtifactFacts D G = NotarizeVote p m g in
-      let a : Artifact (Unit {0}) D K G (List ℕ) = as_artifact e in
+  pub replayed_bears : (before : List (ArtifactFacts D)) (x : Facts K L D) (e : ArtifactFacts D) → BearsAll (e ∷ before) x → BearsAll (e ∷ before) (replayed same elect x e)
+  replayed_bears before x (NotarizeVote p m) bears =
+      let e : ArtifactFacts D = NotarizeVote p m in
+      let a : Artifact (Unit {0}) D K (Unit {0}) (List ℕ) = as_artifact e in
       let v = p.round.view in
       let y = with_round x v (replayed_round same x a) in
       let voted : Grows (round_of x v) (after_replay (same_proposal same) (round_of x v) a) = record { me = refl; notarized = λ h. h; judged = λ b. refl; nullified = refl; finalized = refl } in
       bears_kept v (e ∷ before) x (prepared elect y v) (kept_on v x y (prepared elect y v) (put_kept v x v (replayed_round same x a) (bound_grows (round_of x v) (option_and_then (restored_binding x) (Some p)) voted)) (prepared_kept v elect y v)) bears
-  replayed_bears before x (NullifyVote r m g) bears =
-      let e : ArtifactFacts D G = NullifyVote r m g in
+  replayed_bears before x (NullifyVote r m) bears =
+      let e : ArtifactFacts D = NullifyVote r m in
       let b = bears r.view in
       bears_put (e ∷ before) (replayed_sets x (as_artifact {K = K} e)) r.view (record (round_of x r.view) { decision = Nullify None }) bears
       (record { me = b.me; notarized = b.notarized; judged = b.judged; nullified = λ _. stands_here nullifies e before refl; finalized = λ is. absurd cc })
-  replayed_bears before x (FinalizeVote p m g) bears =
-      let e : ArtifactFacts D G = FinalizeVote p m g in
+  replayed_bears before x (FinalizeVote p m) bears =
+      let e : ArtifactFacts D = FinalizeVote p m in
       let b = bears p.round.view in
       bears_put (e ∷ before) x p.round.view (record (round_of x p.round.view) { decision = Finalize }) bears
       (record { me = b.me; notarized = b.notarized; judged = b.judged; nullified = λ is. absurd cc; finalized = λ _. stands_here finalizes e before refl })
@@ -154,15 +154,15 @@ module _ {K L D G : Type 0} (same : D → D → Bool) (elect : Elect L) where
       let b = bears c.proposal.round.view in
       bears_put (Accepted (Notarized c) ∷ before) x c.proposal.round.view _ bears (record { me = b.me; notarized = b.notarized; judged = b.judged; nullified = b.nullified; finalized = b.finalized })
   replayed_bears before x (Accepted (Nullified c)) bears =
-      let e : ArtifactFacts D G = Accepted (Nullified c) in
+      let e : ArtifactFacts D = Accepted (Nullified c) in
       let b = bears c.round.view in
       bears_put (e ∷ before) (replayed_sets x (as_artifact {K = K} e)) c.round.view _ bears (record { me = b.me; notarized = b.notarized; judged = b.judged; nullified = b.nullified; finalized = b.finalized })
   replayed_bears before x (Accepted (Finalized c)) bears =
       let b = bears c.proposal.round.view in
       bears_put (Accepted (Finalized c) ∷ before) x c.proposal.round.view _ bears (record { me = b.me; notarized = b.notarized; judged = b.judged; nullified = b.nullified; finalized = b.finalized })
 
-module _ {K L D G : Type 0} (elect : Elect L) where
-  given_verdict : (before : List (ArtifactFacts D G)) (x : Facts K L D) (now : ℕ) (r : Round) (success : Bool) → BearsAll (Verdict r success ∷ before) (judged x r.view success) → BearsAll (Verdict r success ∷ before) (verdict_taken elect x r.view success now)
+module _ {K L D : Type 0} (elect : Elect L) where
+  given_verdict : (before : List (ArtifactFacts D)) (x : Facts K L D) (now : ℕ) (r : Round) (success : Bool) → BearsAll (Verdict r success ∷ before) (judged x r.view success) → BearsAll (Verdict r success ∷ before) (verdict_taken elect x r.view success now)
   given_verdict before x now r true bears =
       let v = r.view in
       let y = judged x v true in
@@ -172,12 +172,12 @@ module _ {K L D G : Type 0} (elect : Elect L) where
       let y = judged x r.view false in
       bears_kept r.view (Verdict r false ∷ before) y (triggered y r.view FailedCertification now) (triggered_kept r.view y r.view FailedCertification now) bears
 
-  pub given_bears : (before : List (ArtifactFacts D G)) (x : Facts K L D) (now : ℕ) (e : ArtifactFacts D G) → BearsAll (e ∷ before) x → BearsAll (e ∷ before) (given elect x now e)
+  pub given_bears : (before : List (ArtifactFacts D)) (x : Facts K L D) (now : ℕ) (e : ArtifactFacts D) → BearsAll (e ∷ before) x → BearsAll (e ∷ before) (given elect x now e)
   given_bears before x now (Verdict r success) bears = elim (is_tracked x r.view) as (λ t. BearsAll (Verdict r success ∷ before) (cond t (verdict_taken elect (at_moment x now) r.view success now) (at_moment x now))) [
     | true ↦ given_verdict before (at_moment x now) now r success (bears_put (Verdict r success ∷ before) (at_moment x now) r.view (certified_round (round_of x r.view) success) bears (verdict_borne x.me (min_active x) before r success (round_of x r.view) (bears r.view)))
     | false ↦ bears
   ]
-  given_bears before x now (NotarizeVote p m g) bears = bears
-  given_bears before x now (NullifyVote r m g) bears = bears
-  given_bears before x now (FinalizeVote p m g) bears = bears
+  given_bears before x now (NotarizeVote p m) bears = bears
+  given_bears before x now (NullifyVote r m) bears = bears
+  given_bears before x now (FinalizeVote p m) bears = bears
   given_bears before x now (Accepted c) bears = bears

@@ -24,12 +24,12 @@ ord_max_is a b = ordered _ refl
 max_again : (a b c : ℕ) → max (max a b) c ≡ max a (max b c)
 max_again a b c = omega arith
 
-module _ {D G : Type 0} where
-  pub one_dropped : (closed n : ℕ) (entries : List (ArtifactFacts D G)) → may_drop closed entries ≡ true → 0 < n → without_last closed (n - 1) (take (length entries - 1) entries) ≡ without_last closed n entries
+module _ {D : Type 0} where
+  pub one_dropped : (closed n : ℕ) (entries : List (ArtifactFacts D)) → may_drop closed entries ≡ true → 0 < n → without_last closed (n - 1) (take (length entries - 1) entries) ≡ without_last closed n entries
   one_dropped closed zero entries may some = absurd (omega arith)
   one_dropped closed (suc n) entries may some = let e : suc n - 1 ≡ n = omega arith in rw (e, may) refl
 
-  pub none_dropped : (closed n : ℕ) (entries : List (ArtifactFacts D G)) → may_drop closed entries ≡ false → without_last closed n entries ≡ entries
+  pub none_dropped : (closed n : ℕ) (entries : List (ArtifactFacts D)) → may_drop closed entries ≡ false → without_last closed n entries ≡ entries
   none_dropped closed zero entries may = refl
   none_dropped closed (suc n) entries may = rw may refl
 

@@ -60,46 +60,46 @@ vote_signer epoch me signer p kept =
     signer_is me signer (from_not_false (signs_as me signer) (unbroken (not (signs_as me signer)) error.ForeignSigner ((nat_le p.round.view p.parent, error.ParentNotBelow) ∷ []) own))
 
 -- whose vote the entry is
-abbrev pub IsOwn : {D G : Type 0} → Option ℕ → ArtifactFacts D G → Type 0
-IsOwn me (NotarizeVote _ signer _) = me ≡ Some signer
-IsOwn me (NullifyVote _ signer _) = me ≡ Some signer
-IsOwn me (FinalizeVote _ signer _) = me ≡ Some signer
+abbrev pub IsOwn : {D : Type 0} → Option ℕ → ArtifactFacts D → Type 0
+IsOwn me (NotarizeVote _ signer) = me ≡ Some signer
+IsOwn me (NullifyVote _ signer) = me ≡ Some signer
+IsOwn me (FinalizeVote _ signer) = me ≡ Some signer
 IsOwn me (Verdict _ _) = Unit {0}
 IsOwn me (Accepted _) = Unit {0}
 
-abbrev pub entry_parent : {D G : Type 0} → ArtifactFacts D G → Option ℕ
-entry_parent (NotarizeVote p _ _) = Some p.parent
-entry_parent (NullifyVote _ _ _) = None
-entry_parent (FinalizeVote p _ _) = Some p.parent
+abbrev pub entry_parent : {D : Type 0} → ArtifactFacts D → Option ℕ
+entry_parent (NotarizeVote p _) = Some p.parent
+entry_parent (NullifyVote _ _) = None
+entry_parent (FinalizeVote p _) = Some p.parent
 entry_parent (Verdict _ _) = None
 entry_parent (Accepted c) = certificate_parent c
 
-module _ {D G : Type 0} (epoch : ℕ) (me : Option ℕ) where
-  entry_good : (e : ArtifactFacts D G) → first_error (own_rules epoch me e) ≡ None → GoodRound epoch (entry_round e) (entry_parent e)
-  entry_good (NotarizeVote p m g) kept = good_round epoch p.round (Some p.parent) (first_kept (round_rules epoch p.round (Some p.parent)) (proposal_rules me m p) kept)
-  entry_good (NullifyVote r m g) kept = good_round epoch r None (first_kept (round_rules epoch r None) (signer_rule me m) kept)
-  entry_good (FinalizeVote p m g) kept = good_round epoch p.round (Some p.parent) (first_kept (round_rules epoch p.round (Some p.parent)) (proposal_rules me m p) kept)
+module _ {D : Type 0} (epoch : ℕ) (me : Option ℕ) where
+  entry_good : (e : ArtifactFacts D) → first_error (own_rules epoch me e) ≡ None → GoodRound epoch (entry_round e) (entry_parent e)
+  entry_good (NotarizeVote p m) kept = good_round epoch p.round (Some p.parent) (first_kept (round_rules epoch p.round (Some p.parent)) (proposal_rules me m p) kept)
+  entry_good (NullifyVote r m) kept = good_round epoch r None (first_kept (round_rules epoch r None) (signer_rule me m) kept)
+  entry_good (FinalizeVote p m) kept = good_round epoch p.round (Some p.parent) (first_kept (round_rules epoch p.round (Some p.parent)) (proposal_rules me m p) kept)
   entry_good (Verdict r success) kept = good_round epoch r None kept
   entry_good (Accepted c) kept = good_round epoch (certificate_round c) (certificate_parent c) kept
 
-  entry_own : (e : ArtifactFacts D G) → first_error (own_rules epoch me e) ≡ None → IsOwn me e
-  entry_own (NotarizeVote p m g) kept = vote_signer epoch me m p kept
-  entry_own (NullifyVote r m g) kept =
+  entry_own : (e : ArtifactFacts D) → first_error (own_rules epoch me e) ≡ None → IsOwn me e
+  entry_own (NotarizeVote p m) kept = vote_signer epoch me m p kept
+  entry_own (NullifyVote r m) kept =
       signer_is me m (from_not_false (signs_as me m) (unbroken (not (signs_as me m)) error.ForeignSigner [] (rest_kept (round_rules epoch r None) (signer_rule me m) kept)))
-  entry_own (FinalizeVote p m g) kept = vote_signer epoch me m p kept
+  entry_own (FinalizeVote p m) kept = vote_signer epoch me m p kept
   entry_own (Verdict r success) kept = tt
   entry_own (Accepted c) kept = tt
 
-module _ {D G : Type 0} (same : D → D → Bool) (epoch : ℕ) (me : Option ℕ) where
+module _ {D : Type 0} (same : D → D → Bool) (epoch : ℕ) (me : Option ℕ) where
   -- an entry that the rules allow behind others
-  pub record Allowed (before : List (ArtifactFacts D G)) (e : ArtifactFacts D G) : Type 0 where
+  pub record Allowed (before : List (ArtifactFacts D)) (e : ArtifactFacts D) : Type 0 where
     pub good : GoodRound epoch (entry_round e) (entry_parent e)
     pub own : IsOwn me e
     pub notarized : lacks_notarization before e ≡ false
     pub verdict : contradicts_verdict before e ≡ false
     pub votes : meets_opposite before e ≡ false
 
-  pub allowed : (before : List (ArtifactFacts D G)) (e : ArtifactFacts D G) → first_error (entry_rules same epoch me before e) ≡ None → Allowed before e
+  pub allowed : (before : List (ArtifactFacts D)) (e : ArtifactFacts D) → first_error (entry_rules same epoch me before e) ≡ None → Allowed before e
   allowed before e kept =
       let mine = rest_unbroken _ error.OutOfOrder (own_rules epoch me e ++ beside_rules same before e) kept in
       let alone = first_kept (own_rules epoch me e) (beside_rules same before e) mine in

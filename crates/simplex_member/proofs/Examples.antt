@@ -1,4 +1,4 @@
--- Records: the first rule that each breaks, and what is cut from it; in epoch 1, for member 0 unless said. Payloads and signatures are numbers.
+-- Records: the first rule that each breaks, and what is cut from it; in epoch 1, for member 0 unless said. Payloads are numbers.
 use Rattle.std.proofs.Common.{◌≡◌, refl, ℕ, ◌-◌, ◌^◌, Bool, true, false, List, [], ◌∷◌, Option, Some, None, nat_eq}
 use Rattle.simplex_types.specs.Certificates.{Notarized, Nullified, Finalized, ArtifactFacts, NotarizeVote, NullifyVote, FinalizeVote, Verdict, Accepted}
 use Rattle.simplex_types.specs.Config.{FloorFacts, Genesis, Finalized as FinalizedFloor}
@@ -10,7 +10,7 @@ use Rattle.simplex_member.specs.Check.{first_broken_rule}
 use Rattle.simplex_member.specs.Cuts.{may_drop, without_last, pruned}
 
 abbrev pub Entry : Type 0
-Entry = ArtifactFacts ℕ ℕ
+Entry = ArtifactFacts ℕ
 
 abbrev pub round : ℕ → Round
 round v = record { epoch = 1; view = v }
@@ -31,13 +31,13 @@ abbrev pub verdict : ℕ → Bool → Entry
 verdict v success = Verdict (round v) success
 
 abbrev notarize : ℕ → ℕ → ℕ → Entry
-notarize v parent payload = NotarizeVote (proposal v parent payload) 0 0
+notarize v parent payload = NotarizeVote (proposal v parent payload) 0
 
 abbrev pub nullify : ℕ → Entry
-nullify v = NullifyVote (round v) 0 0
+nullify v = NullifyVote (round v) 0
 
 abbrev pub finalize : ℕ → Entry
-finalize v = FinalizeVote (proposal v (v - 1) 0) 0 0
+finalize v = FinalizeVote (proposal v (v - 1) 0) 0
 
 abbrev pub floor_at : ℕ → ℕ → FloorFacts ℕ
 floor_at epoch v = FinalizedFloor (record { proposal = record { round = record { epoch = epoch; view = v }; parent = v - 1; payload = 0 }; bytes = [] })
@@ -49,7 +49,7 @@ out_of_order : broken (nullification 3 ∷ nullification 2 ∷ []) ≡ Some erro
 unfolding first_broken_rule
 out_of_order = refl
 
-other_epoch : broken (NotarizeVote (record { round = record { epoch = 2; view = 3 }; parent = 3; payload = 0 }) 0 0 ∷ []) ≡ Some error.OtherEpoch
+other_epoch : broken (NotarizeVote (record { round = record { epoch = 2; view = 3 }; parent = 3; payload = 0 }) 0 ∷ []) ≡ Some error.OtherEpoch
 unfolding first_broken_rule
 other_epoch = refl
 
@@ -65,7 +65,7 @@ parent_too_large : broken (notarize 3 (2 ^ 63) 0 ∷ []) ≡ Some error.ViewTooL
 unfolding first_broken_rule
 parent_too_large = refl
 
-foreign_signer : broken (NullifyVote (round 3) 2 0 ∷ []) ≡ Some error.ForeignSigner
+foreign_signer : broken (NullifyVote (round 3) 2 ∷ []) ≡ Some error.ForeignSigner
 unfolding first_broken_rule
 foreign_signer = refl
 
@@ -73,7 +73,7 @@ vote_without_a_key : first_broken_rule nat_eq 1 None (Genesis 0) (nullify 3 ∷ 
 unfolding first_broken_rule
 vote_without_a_key = refl
 
-parent_not_below : broken (FinalizeVote (proposal 3 3 0) 0 0 ∷ []) ≡ Some error.ParentNotBelow
+parent_not_below : broken (FinalizeVote (proposal 3 3 0) 0 ∷ []) ≡ Some error.ParentNotBelow
 unfolding first_broken_rule
 parent_not_below = refl
 

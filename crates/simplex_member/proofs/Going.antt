@@ -186,8 +186,8 @@ module _ {K L D : Type 0} (same : D → D → Bool) (elect : Elect L) where
       (g.failed ∙ (entered_goes noted 1 now).failed ∙ going, g.started (reached noted 1 now (omega arith)))
   floor_goes x (Finalized c) now going = ((finalization_goes same elect x c now).failed ∙ going, finalization_starts x c now)
 
-module _ {K L D G : Type 0} (same : D → D → Bool) (elect : Elect L) (signature_of : ℕ → Subject D → G) where
-  pub goes : (x : Facts K L D) (call : CallFacts D) → Goes x (after_call same elect signature_of x call)
+module _ {K L D : Type 0} (same : D → D → Bool) (elect : Elect L) where
+  pub goes : (x : Facts K L D) (call : CallFacts D) → Goes x (after_call same elect x call)
   goes x (AddNotarization c) = notarization_goes same elect x c
   goes x (AddNullification c now) = nullification_goes elect x c now
   goes x (AddFinalization c now) = finalization_goes same elect x c now
@@ -200,5 +200,5 @@ module _ {K L D G : Type 0} (same : D → D → Bool) (elect : Elect L) (signatu
   goes x GetBestCertificate = stays x
   goes x Prune = record { failed = refl; settings = refl; terms = refl; started = λ h. h }
 
-  pub goes_on : (x : Facts K L D) (call : CallFacts D) (y : Facts K L D) → y ≡ after_call same elect signature_of x call → x.failed ≡ false → is_started x ≡ true → (y.failed ≡ false) × (is_started y ≡ true)
+  pub goes_on : (x : Facts K L D) (call : CallFacts D) (y : Facts K L D) → y ≡ after_call same elect x call → x.failed ≡ false → is_started x ≡ true → (y.failed ≡ false) × (is_started y ≡ true)
   goes_on x call y made failed started = let g = goes x call in (ap (λ z. z.failed) made ∙ g.failed ∙ failed, ap is_started made ∙ g.started started)

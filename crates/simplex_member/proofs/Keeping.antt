@@ -157,13 +157,13 @@ module _ {K L D : Type 0} (same : D → D → Bool) (elect : Elect L) where
       (kept_on v x awake (slid awake v) (kept_on v x w awake k (woken_kept v elect w v)) (slid_kept v awake v))
 
   -- a certificate that is added, and a floor that is set
-  pub added_kept : {G : Type 0} (x : Facts K L D) (now : ℕ) (e : ArtifactFacts D G) → Keeps (entry_view e) x (added same elect x now e)
+  pub added_kept : (x : Facts K L D) (now : ℕ) (e : ArtifactFacts D) → Keeps (entry_view e) x (added same elect x now e)
   added_kept x now (Accepted (Notarized c)) = notarization_kept c.proposal.round.view x c
   added_kept x now (Accepted (Nullified c)) = nullification_kept c.round.view elect x c now
   added_kept x now (Accepted (FinalizedView c)) = finalization_kept x c now
-  added_kept x now (NotarizeVote p _ _) = keeps_all p.round.view x
-  added_kept x now (NullifyVote round _ _) = keeps_all round.view x
-  added_kept x now (FinalizeVote p _ _) = keeps_all p.round.view x
+  added_kept x now (NotarizeVote p _) = keeps_all p.round.view x
+  added_kept x now (NullifyVote round _) = keeps_all round.view x
+  added_kept x now (FinalizeVote p _) = keeps_all p.round.view x
   added_kept x now (Verdict round _) = keeps_all round.view x
 
   pub floor_kept : (x : Facts K L D) (floor : FloorFacts D) (now : ℕ) → Keeps (floor_view floor) x (after_set_floor same elect x floor now)
@@ -178,13 +178,13 @@ module _ {K L D : Type 0} (same : D → D → Bool) (elect : Elect L) where
       kept_on v x y (with_finalization_broadcast y v) (finalization_kept x c now)
       (put_kept v y v _ (record { me = refl; notarized = λ h. h; judged = λ b. refl; nullified = refl; finalized = refl }))
 
-module _ {K L D G : Type 0} (same : D → D → Bool) (elect : Elect L) where
-  pub replayed_me : (x : Facts K L D) (e : ArtifactFacts D G) → (replayed same elect x e).me ≡ x.me
-  replayed_me x (NotarizeVote p m g) =
-      let a : Artifact (Unit {0}) D K G (List ℕ) = as_artifact (NotarizeVote p m g) in
+module _ {K L D : Type 0} (same : D → D → Bool) (elect : Elect L) where
+  pub replayed_me : (x : Facts K L D) (e : ArtifactFacts D) → (replayed same elect x e).me ≡ x.me
+  replayed_me x (NotarizeVote p m) =
+      let a : Artifact (Unit {0}) D K (Unit {0}) (List ℕ) = as_artifact (NotarizeVote p m) in
       (prepared_kept p.round.view elect (with_round x p.round.view (replayed_round same x a)) p.round.view).me
-  replayed_me x (NullifyVote _ _ _) = refl
-  replayed_me x (FinalizeVote _ _ _) = refl
+  replayed_me x (NullifyVote _ _) = refl
+  replayed_me x (FinalizeVote _ _) = refl
   replayed_me x (Verdict _ _) = refl
   replayed_me x (Accepted (Notarized _)) = refl
   replayed_me x (Accepted (Nullified _)) = refl
@@ -195,11 +195,11 @@ module _ {K L D : Type 0} (elect : Elect L) where
   verdict_me x v true now = let y = judged x v true in (woken_kept v elect (entered y (v + 1) now) v).me ∙ (entered_kept v y (v + 1) now).me
   verdict_me x v false now = (triggered_kept v (judged x v false) v FailedCertification now).me
 
-  pub given_me : {G : Type 0} (x : Facts K L D) (now : ℕ) (e : ArtifactFacts D G) → (given elect x now e).me ≡ x.me
+  pub given_me : (x : Facts K L D) (now : ℕ) (e : ArtifactFacts D) → (given elect x now e).me ≡ x.me
   given_me x now (Verdict r success) =
       let y = at_moment x now in
       cond_both (is_tracked x r.view) (verdict_taken elect y r.view success now) y (λ (z : Facts K L D). z.me ≡ x.me) (λ _. verdict_me y r.view success now) (λ _. refl)
-  given_me x now (NotarizeVote _ _ _) = refl
-  given_me x now (NullifyVote _ _ _) = refl
-  given_me x now (FinalizeVote _ _ _) = refl
+  given_me x now (NotarizeVote _ _) = refl
+  given_me x now (NullifyVote _ _) = refl
+  given_me x now (FinalizeVote _ _) = refl
   given_me x now (Accepted _) = refl

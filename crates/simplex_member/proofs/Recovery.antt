@@ -27,20 +27,20 @@ module _ {K L D : Type 0} (elect : Elect L) where
       let own = (round_of x v).notarize_decided && is_elected_early elect x (v + 1) in
       where_so x (in_window x (v + 1)) (inherited x v (v + 1)) _ (inherited_goes x v (v + 1)) (where_so x own later x (elected_goes elect x (v + 1) None) (stays x))
 
-module _ {K L D G : Type 0} (same : D → D → Bool) (elect : Elect L) where
-  pub added_goes : (x : Facts K L D) (now : ℕ) (e : ArtifactFacts D G) → Goes x (added same elect x now e)
+module _ {K L D : Type 0} (same : D → D → Bool) (elect : Elect L) where
+  pub added_goes : (x : Facts K L D) (now : ℕ) (e : ArtifactFacts D) → Goes x (added same elect x now e)
   added_goes x now (Accepted (Notarized c)) = notarization_goes same elect x c
   added_goes x now (Accepted (Nullified c)) = nullification_goes elect x c now
   added_goes x now (Accepted (Finalized c)) = finalization_goes same elect x c now
   added_goes x now _ = stays x
 
-  pub replayed_goes : (x : Facts K L D) (e : ArtifactFacts D G) → Goes x (replayed same elect x e)
-  replayed_goes x (NotarizeVote p m g) =
-      let a : Artifact (Unit {0}) D K G (List ℕ) = as_artifact (NotarizeVote p m g) in
+  pub replayed_goes : (x : Facts K L D) (e : ArtifactFacts D) → Goes x (replayed same elect x e)
+  replayed_goes x (NotarizeVote p m) =
+      let a : Artifact (Unit {0}) D K (Unit {0}) (List ℕ) = as_artifact (NotarizeVote p m) in
       let y = with_round x p.round.view (replayed_round same x a) in
       joined x y (prepared elect y p.round.view) (with_round_goes x p.round.view _) (prepared_goes elect y p.round.view)
-  replayed_goes x (NullifyVote _ _ _) = record { failed = refl; settings = refl; terms = refl; started = λ h. h }
-  replayed_goes x (FinalizeVote _ _ _) = record { failed = refl; settings = refl; terms = refl; started = λ h. h }
+  replayed_goes x (NullifyVote _ _) = record { failed = refl; settings = refl; terms = refl; started = λ h. h }
+  replayed_goes x (FinalizeVote _ _) = record { failed = refl; settings = refl; terms = refl; started = λ h. h }
   replayed_goes x (Verdict _ _) = record { failed = refl; settings = refl; terms = refl; started = λ h. h }
   replayed_goes x (Accepted (Notarized _)) = record { failed = refl; settings = refl; terms = refl; started = λ h. h }
   replayed_goes x (Accepted (Nullified _)) = record { failed = refl; settings = refl; terms = refl; started = λ h. h }

@@ -13,7 +13,7 @@ use Rattle.simplex_member.proofs.Examples.{Entry, notarization, nullification, f
 use Rattle.simplex_member.proofs.RecoveryExamples.{in_turn, settings}
 
 abbrev Member : Type 0
-Member = MemberFacts ℕ ℕ ℕ ℕ
+Member = MemberFacts ℕ ℕ ℕ
 
 -- a member that failed, whose record was not pruned yet
 abbrev member : List Entry → Member

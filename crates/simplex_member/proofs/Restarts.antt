@@ -58,28 +58,28 @@ module _ {S D K G C : Type 0} (bytes_of : C → List ℕ) where
   }
 
   -- a finalization whose view is finalized in the record
-  pub recorded_before : (entries : List (ArtifactFacts D G)) (o : Option (Finalization S D K G C)) (f : Finalization S D K G C) → o ≡ Some f → stands f.proposal.round.view is_finalization entries ≡ true → entries ≡ with_finalization entries (option_map (finalization_facts bytes_of) o)
+  pub recorded_before : (entries : List (ArtifactFacts D)) (o : Option (Finalization S D K G C)) (f : Finalization S D K G C) → o ≡ Some f → stands f.proposal.round.view is_finalization entries ≡ true → entries ≡ with_finalization entries (option_map (finalization_facts bytes_of) o)
   recorded_before entries o f is found = rw (is, found) refl
 
-  pub recorded_now : (entries : List (ArtifactFacts D G)) (o : Option (Finalization S D K G C)) (f : Finalization S D K G C) → o ≡ Some f → stands f.proposal.round.view is_finalization entries ≡ false → entries ++ Accepted (Finalized (finalization_facts bytes_of f)) ∷ [] ≡ with_finalization entries (option_map (finalization_facts bytes_of) o)
+  pub recorded_now : (entries : List (ArtifactFacts D)) (o : Option (Finalization S D K G C)) (f : Finalization S D K G C) → o ≡ Some f → stands f.proposal.round.view is_finalization entries ≡ false → entries ++ Accepted (Finalized (finalization_facts bytes_of f)) ∷ [] ≡ with_finalization entries (option_map (finalization_facts bytes_of) o)
   recorded_now entries o f is none = rw (is, none) refl
 
 -- an error for a copy of the record by view, or want of memory
-pub refused_by : {K L D G : Type 0} (same : D → D → Bool) (start : StartFacts K L D) (entries copy : List (ArtifactFacts D G)) (found : RecoverError) → IsByView entries copy → IsDue (recover_error same start.fresh start.floor start.now copy) found → (found ≡ error.OutOfMemory) ⊎ IsRefusedBy same start entries found
+pub refused_by : {K L D : Type 0} (same : D → D → Bool) (start : StartFacts K L D) (entries copy : List (ArtifactFacts D)) (found : RecoverError) → IsByView entries copy → IsDue (recover_error same start.fresh start.floor start.now copy) found → (found ≡ error.OutOfMemory) ⊎ IsRefusedBy same start entries found
 refused_by same start entries copy found by_view due = told (recover_error same start.fresh start.floor start.now copy) refl due
   where
     told : (due : Option RecoverError) → recover_error same start.fresh start.floor start.now copy ≡ due → IsDue due found → (found ≡ error.OutOfMemory) ⊎ IsRefusedBy same start entries found
     told None is memory = inl memory
     told (Some e) is same_error = inr (copy, by_view, is ∙ ap Some (sym same_error))
 
-module _ {K L D G : Type 0} (same : D → D → Bool) (elect : Elect L) (m : MemberFacts K L D G) (start : StartFacts K L D) where
+module _ {K L D : Type 0} (same : D → D → Bool) (elect : Elect L) (m : MemberFacts K L D) (start : StartFacts K L D) where
   -- a member whose new state is refused
   pub not_gone_on : (found : RecoverError) → (found ≡ error.OutOfMemory) ⊎ IsRefusedBy same start m.entries found → GoesOn same elect m start (Err found) (fallen m)
   not_gone_on found (inl memory) = inl (ap Err memory, refl)
   not_gone_on found (inr (copy, by_view, due)) = inr (copy, by_view, rw due (refl, refl))
 
   -- one whose new state is made
-  pub gone_on : (x : Facts K L D) (entries : List (ArtifactFacts D G)) → IsRemadeBy same elect start m.entries x → entries ≡ with_floor m.entries start.floor
+  pub gone_on : (x : Facts K L D) (entries : List (ArtifactFacts D)) → IsRemadeBy same elect start m.entries x → entries ≡ with_floor m.entries start.floor
       → GoesOn same elect m start (Ok tt) (record m { life = Some x; openings = no_openings; entries = entries; retention = start.fresh.settings.view_retention; least_retention = min m.least_retention start.fresh.settings.view_retention })
   gone_on x entries (copy, by_view, accepted, is) kept = inr (copy, by_view, rw (accepted, is, kept) (refl, refl))
 

@@ -29,18 +29,18 @@ replies_answer bytes_of reply.Restarted = refl
 replies_answer bytes_of (reply.Fault fault) = refl
 replies_answer bytes_of reply.NotAllowed = refl
 
-module _ {K L D G : Type 0} (same : D → D → Bool) (elect : Elect L) (signature_of : ℕ → Subject D → G) where
+module _ {K L D : Type 0} (same : D → D → Bool) (elect : Elect L) where
   -- one more step
-  pub run_extends : (m : MemberFacts K L D G) (steps : List (StepFacts K L D)) (replies : List (Told K D G)) (e : MemberFacts K L D G) (step : StepFacts K L D) (told : Told K D G) (next : MemberFacts K L D G)
-      → IsRun same elect signature_of m steps replies e → IsStep same elect signature_of e step told next → IsRun same elect signature_of m (steps ++ step ∷ []) (replies ++ told ∷ []) next
+  pub run_extends : (m : MemberFacts K L D) (steps : List (StepFacts K L D)) (replies : List (Told K D)) (e : MemberFacts K L D) (step : StepFacts K L D) (told : Told K D) (next : MemberFacts K L D)
+      → IsRun same elect m steps replies e → IsStep same elect e step told next → IsRun same elect m (steps ++ step ∷ []) (replies ++ told ∷ []) next
   run_extends m [] [] e step told next is taken = (next, rw is taken, refl)
   run_extends m [] (r ∷ replies) e step told next is taken = absurd is
   run_extends m (s ∷ steps) [] e step told next is taken = absurd is
   run_extends m (s ∷ steps) (r ∷ replies) e step told next is taken = (is.0, is.1, run_extends is.0 steps replies e step told next is.2 taken)
 
   -- a step that is refused behind those that were answered, whatever comes after it
-  pub run_ends : {R : Type 0} (told_of : R → Told K D G) (m : MemberFacts K L D G) (steps : List (StepFacts K L D)) (replies : List R) (e : MemberFacts K L D G) (step : StepFacts K L D) (rest : List (StepFacts K L D)) (found : RecoverError)
-      → ((r : R) → is_refusal (told_of r) ≡ false) → IsRun same elect signature_of m steps (map told_of replies) e → IsRefused same elect signature_of e step found → EndsRun same elect signature_of m (steps ++ step ∷ rest) found
+  pub run_ends : {R : Type 0} (told_of : R → Told K D) (m : MemberFacts K L D) (steps : List (StepFacts K L D)) (replies : List R) (e : MemberFacts K L D) (step : StepFacts K L D) (rest : List (StepFacts K L D)) (found : RecoverError)
+      → ((r : R) → is_refusal (told_of r) ≡ false) → IsRun same elect m steps (map told_of replies) e → IsRefused same elect e step found → EndsRun same elect m (steps ++ step ∷ rest) found
   run_ends told_of m [] [] e step rest found answers is refused = inl (rw is refused)
   run_ends told_of m [] (r ∷ replies) e step rest found answers is refused = absurd is
   run_ends told_of m (s ∷ steps) [] e step rest found answers is refused = absurd is
@@ -48,19 +48,19 @@ module _ {K L D G : Type 0} (same : D → D → Bool) (elect : Elect L) (signatu
 
   module _ (start : StartFacts K L D) (steps : List (StepFacts K L D)) where
     -- a member that started, and took all steps
-    pub run_from : (m : MemberFacts K L D G) (replies : List (Told K D G)) (e : MemberFacts K L D G) → m ≡ started same elect start.fresh start.floor start.now → recover_error {G = G} same start.fresh start.floor start.now [] ≡ None
-        → IsRun same elect signature_of m steps replies e → IsRunFrom same elect signature_of start steps replies
+    pub run_from : (m : MemberFacts K L D) (replies : List (Told K D)) (e : MemberFacts K L D) → m ≡ started same elect start.fresh start.floor start.now → recover_error same start.fresh start.floor start.now [] ≡ None
+        → IsRun same elect m steps replies e → IsRunFrom same elect start steps replies
     unfolding IsRunFrom
     run_from m replies e begun accepted is = (accepted, e, rw begun at is)
 
     -- one that was refused a later life
-    pub ends_later : (m : MemberFacts K L D G) (found : RecoverError) → m ≡ started same elect start.fresh start.floor start.now → (found ≡ error.OutOfMemory) ⊎ EndsRun same elect signature_of m steps found → EndsRunFrom same elect signature_of start steps found
+    pub ends_later : (m : MemberFacts K L D) (found : RecoverError) → m ≡ started same elect start.fresh start.floor start.now → (found ≡ error.OutOfMemory) ⊎ EndsRun same elect m steps found → EndsRunFrom same elect start steps found
     unfolding EndsRunFrom
     ends_later m found begun (inl memory) = inl memory
     ends_later m found begun (inr is) = inr (inr (rw begun at is))
 
     -- one that could not start
-    pub ends_at_once : (due : Option RecoverError) (found : RecoverError) → recover_error {G = G} same start.fresh start.floor start.now [] ≡ due → IsDue due found → EndsRunFrom same elect signature_of start steps found
+    pub ends_at_once : (due : Option RecoverError) (found : RecoverError) → recover_error same start.fresh start.floor start.now [] ≡ due → IsDue due found → EndsRunFrom same elect start steps found
     unfolding EndsRunFrom
     ends_at_once None found is memory = inl memory
     ends_at_once (Some e) found is refused = inr (inl (is ∙ ap Some (sym refused)))

@@ -29,34 +29,34 @@ right_false true b h = absurd cc
 not_above : (n v w : ℕ) (b : Bool) → n < v → nat_lt n w ≡ false → (w == v && b) ≡ false
 not_above n v w b above most = let other : (w == v) ≡ false = grind (arith, nat_tests) in rw other refl
 
-module _ {D G : Type 0} where
+module _ {D : Type 0} where
   -- no entry stands above the view
-  abbrev pub AtMost : ℕ → List (ArtifactFacts D G) → Type 0
+  abbrev pub AtMost : ℕ → List (ArtifactFacts D) → Type 0
   AtMost n before = list_any (λ e. nat_lt n (entry_view e)) before ≡ false
 
-  none_above : (n v : ℕ) (is_kind : ArtifactFacts D G → Bool) → n < v → (before : List (ArtifactFacts D G)) → AtMost n before → stands v is_kind before ≡ false
+  none_above : (n v : ℕ) (is_kind : ArtifactFacts D → Bool) → n < v → (before : List (ArtifactFacts D)) → AtMost n before → stands v is_kind before ≡ false
   none_above n v is_kind above [] most = refl
   none_above n v is_kind above (e ∷ before) most =
       rw (not_above n v (entry_view e) (is_kind e) above (left_false (nat_lt n (entry_view e)) (list_any (λ b. nat_lt n (entry_view b)) before) most), none_above n v is_kind above before (right_false (nat_lt n (entry_view e)) _ most)) refl
 
-  at_most_above : (n v : ℕ) → n < v → (before : List (ArtifactFacts D G)) → AtMost n before → AtMost v before
+  at_most_above : (n v : ℕ) → n < v → (before : List (ArtifactFacts D)) → AtMost n before → AtMost v before
   at_most_above n v above [] most = refl
   at_most_above n v above (e ∷ before) most =
       let first : nat_lt v (entry_view e) ≡ false = grind (arith, nat_tests, left_false (nat_lt n (entry_view e)) _ most) in
       rw (first, at_most_above n v above before (right_false (nat_lt n (entry_view e)) (list_any (λ b. nat_lt n (entry_view b)) before) most)) refl
 
   -- the newest entry is of the view
-  first_at : (e : ArtifactFacts D G) (v : ℕ) → entry_view e ≡ v → (entry_view e == v) ≡ true
+  first_at : (e : ArtifactFacts D) (v : ℕ) → entry_view e ≡ v → (entry_view e == v) ≡ true
   first_at e v at = grind (arith, nat_tests)
 
-module _ {D G : Type 0} where
-  level : (k : ArtifactFacts D G → Bool) (before : List (ArtifactFacts D G)) (v w : ℕ) → v ≡ w → stands v k before ≡ stands w k before
+module _ {D : Type 0} where
+  level : (k : ArtifactFacts D → Bool) (before : List (ArtifactFacts D)) (v w : ℕ) → v ≡ w → stands v k before ≡ stands w k before
   level k before v w at = ap (λ u. stands u k before) at
 
-  more : (k : ArtifactFacts D G → Bool) (e : ArtifactFacts D G) (v : ℕ) (before : List (ArtifactFacts D G)) → entry_view e ≡ v → stands v k (e ∷ before) ≡ (k e || stands v k before)
+  more : (k : ArtifactFacts D → Bool) (e : ArtifactFacts D) (v : ℕ) (before : List (ArtifactFacts D)) → entry_view e ≡ v → stands v k (e ∷ before) ≡ (k e || stands v k before)
   more k e v before at = rw (first_at e v at) refl
 
-  at_most_more : (e : ArtifactFacts D G) (v : ℕ) (before : List (ArtifactFacts D G)) → entry_view e ≡ v → AtMost v before → AtMost v (e ∷ before)
+  at_most_more : (e : ArtifactFacts D) (v : ℕ) (before : List (ArtifactFacts D)) → entry_view e ≡ v → AtMost v before → AtMost v (e ∷ before)
   at_most_more e v before at most = let level : nat_lt v (entry_view e) ≡ false = grind (arith, nat_tests) in rw (level, most) refl
 
 or_false : (b : Bool) → (b || false) ≡ b
@@ -96,8 +96,8 @@ module _ {D : Type 0} (same : D → D → Bool) (alike : (d e : D) → same d e 
       let they : r ≡ p = same_proposal-true same alike r p (from_not_false _ one) in
       rw they (or_itself (not (same_proposal same p q)))
 
-module _ {D G : Type 0} (same : D → D → Bool) where
-  pub record Shows (before : List (ArtifactFacts D G)) (s : Seen D) : Type 0 where
+module _ {D : Type 0} (same : D → D → Bool) where
+  pub record Shows (before : List (ArtifactFacts D)) (s : Seen D) : Type 0 where
     pub at_most : AtMost s.view before
     pub notarized : stands s.view is_notarization before ≡ s.notarized
     pub verdict : (success : Bool) → stands s.view (is_verdict success) before ≡ is_given success s.verdict
@@ -107,7 +107,7 @@ module _ {D G : Type 0} (same : D → D → Bool) where
     pub finalize : (p : Proposal D) → stands s.view (finalizes_other same p) before ≡ is_other same s.finalize p
 
   -- a view that begins
-  pub shows_turned : (before : List (ArtifactFacts D G)) (s : Seen D) (v : ℕ) → Shows before s → Shows before (turned_to s v)
+  pub shows_turned : (before : List (ArtifactFacts D)) (s : Seen D) (v : ℕ) → Shows before s → Shows before (turned_to s v)
   shows_turned before s v shows = turned _ refl
     where
       turned : (b : Bool) → nat_lt s.view v ≡ b → Shows before (turned_to s v)
@@ -124,11 +124,11 @@ module _ {D G : Type 0} (same : D → D → Bool) where
             finalize = λ p. none_above s.view v _ up before shows.at_most;
           })
 
-module _ {D G : Type 0} (same : D → D → Bool) (alike : (d e : D) → same d e ≡ true → d ≡ e) where
+module _ {D : Type 0} (same : D → D → Bool) (alike : (d e : D) → same d e ≡ true → d ≡ e) where
   -- an entry that the rules allow
-  pub shows_entry : (before : List (ArtifactFacts D G)) (s : Seen D) (e : ArtifactFacts D G) → entry_view e ≡ s.view → Shows same before s → first_error (seen_rules same s e) ≡ None → Shows same (e ∷ before) (with_entry s e)
-  shows_entry before s (NotarizeVote p m g) at shows allowed =
-      let e : ArtifactFacts D G = NotarizeVote p m g in
+  pub shows_entry : (before : List (ArtifactFacts D)) (s : Seen D) (e : ArtifactFacts D) → entry_view e ≡ s.view → Shows same before s → first_error (seen_rules same s e) ≡ None → Shows same (e ∷ before) (with_entry s e)
+  shows_entry before s (NotarizeVote p m) at shows allowed =
+      let e : ArtifactFacts D = NotarizeVote p m in
       record {
         at_most = at_most_more e s.view before at shows.at_most;
         notarized = more is_notarization e s.view before at ∙ shows.notarized;
@@ -140,8 +140,8 @@ module _ {D G : Type 0} (same : D → D → Bool) (alike : (d e : D) → same d 
             ∙ rw (shows.notarize q) (one_more same alike s.notarize p q (unbroken (is_other same s.notarize p) error.ContradictingVotes [] allowed));
         finalize = λ q. more (finalizes_other same q) e s.view before at ∙ shows.finalize q;
       }
-  shows_entry before s (NullifyVote r m g) at shows allowed =
-      let e : ArtifactFacts D G = NullifyVote r m g in
+  shows_entry before s (NullifyVote r m) at shows allowed =
+      let e : ArtifactFacts D = NullifyVote r m in
       record {
         at_most = at_most_more e s.view before at shows.at_most;
         notarized = more is_notarization e s.view before at ∙ shows.notarized;
@@ -151,8 +151,8 @@ module _ {D G : Type 0} (same : D → D → Bool) (alike : (d e : D) → same d 
         notarize = λ q. more (notarizes_other same q) e s.view before at ∙ shows.notarize q;
         finalize = λ q. more (finalizes_other same q) e s.view before at ∙ shows.finalize q;
       }
-  shows_entry before s (FinalizeVote p m g) at shows allowed =
-      let e : ArtifactFacts D G = FinalizeVote p m g in
+  shows_entry before s (FinalizeVote p m) at shows allowed =
+      let e : ArtifactFacts D = FinalizeVote p m in
       record {
         at_most = at_most_more e s.view before at shows.at_most;
         notarized = more is_notarization e s.view before at ∙ shows.notarized;
@@ -165,7 +165,7 @@ module _ {D G : Type 0} (same : D → D → Bool) (alike : (d e : D) → same d 
             ∙ rw (shows.finalize q) (one_more same alike s.finalize p q (unbroken (is_other same s.finalize p) error.ContradictingVotes ((not (is_given true s.verdict), error.FinalizeWithoutVerdict) ∷ []) (rest_unbroken s.nullified error.NullifyBesideFinalize ((is_other same s.finalize p, error.ContradictingVotes) ∷ (not (is_given true s.verdict), error.FinalizeWithoutVerdict) ∷ []) allowed)));
       }
   shows_entry before s (Verdict r success) at shows allowed =
-      let e : ArtifactFacts D G = Verdict r success in
+      let e : ArtifactFacts D = Verdict r success in
       record {
         at_most = at_most_more e s.view before at shows.at_most;
         notarized = more is_notarization e s.view before at ∙ shows.notarized;
@@ -178,7 +178,7 @@ module _ {D G : Type 0} (same : D → D → Bool) (alike : (d e : D) → same d 
         finalize = λ q. more (finalizes_other same q) e s.view before at ∙ shows.finalize q;
       }
   shows_entry before s (Accepted (Notarized c)) at shows allowed =
-      let e : ArtifactFacts D G = Accepted (Notarized c) in
+      let e : ArtifactFacts D = Accepted (Notarized c) in
       record {
         at_most = at_most_more e s.view before at shows.at_most;
         notarized = more is_notarization e s.view before at;
@@ -189,7 +189,7 @@ module _ {D G : Type 0} (same : D → D → Bool) (alike : (d e : D) → same d 
         finalize = λ q. more (finalizes_other same q) e s.view before at ∙ shows.finalize q;
       }
   shows_entry before s (Accepted (Nullified c)) at shows allowed =
-      let e : ArtifactFacts D G = Accepted (Nullified c) in
+      let e : ArtifactFacts D = Accepted (Nullified c) in
       record {
         at_most = at_most_more e s.view before at shows.at_most;
         notarized = more is_notarization e s.view before at ∙ shows.notarized;
@@ -200,7 +200,7 @@ module _ {D G : Type 0} (same : D → D → Bool) (alike : (d e : D) → same d 
         finalize = λ q. more (finalizes_other same q) e s.view before at ∙ shows.finalize q;
       }
   shows_entry before s (Accepted (Finalized c)) at shows allowed =
-      let e : ArtifactFacts D G = Accepted (Finalized c) in
+      let e : ArtifactFacts D = Accepted (Finalized c) in
       record {
         at_most = at_most_more e s.view before at shows.at_most;
         notarized = more is_notarization e s.view before at ∙ shows.notarized;
@@ -211,12 +211,12 @@ module _ {D G : Type 0} (same : D → D → Bool) (alike : (d e : D) → same d 
         finalize = λ q. more (finalizes_other same q) e s.view before at ∙ shows.finalize q;
       }
 
-module _ {D G : Type 0} (same : D → D → Bool) where
+module _ {D : Type 0} (same : D → D → Bool) where
   -- what an entry breaks is told by what was seen of its view
-  pub beside_seen : (before : List (ArtifactFacts D G)) (s : Seen D) (e : ArtifactFacts D G) → entry_view e ≡ s.view → Shows same before s → first_error (beside_rules same before e) ≡ first_error (seen_rules same s e)
-  beside_seen before s (NotarizeVote p m g) at shows = rw (level (notarizes_other same p) before _ _ at ∙ shows.notarize p) refl
-  beside_seen before s (NullifyVote r m g) at shows = rw (level is_finalize before _ _ at ∙ shows.finalized) refl
-  beside_seen before s (FinalizeVote p m g) at shows =
+  pub beside_seen : (before : List (ArtifactFacts D)) (s : Seen D) (e : ArtifactFacts D) → entry_view e ≡ s.view → Shows same before s → first_error (beside_rules same before e) ≡ first_error (seen_rules same s e)
+  beside_seen before s (NotarizeVote p m) at shows = rw (level (notarizes_other same p) before _ _ at ∙ shows.notarize p) refl
+  beside_seen before s (NullifyVote r m) at shows = rw (level is_finalize before _ _ at ∙ shows.finalized) refl
+  beside_seen before s (FinalizeVote p m) at shows =
       rw (level is_nullify before _ _ at ∙ shows.nullified, level (finalizes_other same p) before _ _ at ∙ shows.finalize p, level (is_verdict true) before _ _ at ∙ shows.verdict true) refl
   beside_seen before s (Verdict r success) at shows =
       rw (level is_notarization before _ _ at ∙ shows.notarized, level (is_verdict (not success)) before _ _ at ∙ shows.verdict (not success)) refl
@@ -234,7 +234,7 @@ first_error-append ((true, e) ∷ xs) ys = refl
 first_error-append ((false, e) ∷ xs) ys = first_error-append xs ys
 
 module _ {D : Type 0} where
-  with_entry_view : {G : Type 0} (s : Seen D) (e : ArtifactFacts D G) → (with_entry s e).view ≡ s.view
+  with_entry_view : (s : Seen D) (e : ArtifactFacts D) → (with_entry s e).view ≡ s.view
   with_entry_view s (Accepted (Notarized c)) = refl
   with_entry_view s _ = refl
 
@@ -246,15 +246,15 @@ module _ {D : Type 0} where
       turned true above = rw above refl
       turned false kept = rw kept (grind (arith, nat_tests))
 
-module _ {D G : Type 0} (same : D → D → Bool) (epoch : ℕ) (me : Option ℕ) where
+module _ {D : Type 0} (same : D → D → Bool) (epoch : ℕ) (me : Option ℕ) where
   -- of all entries the rest is to be tested, by what was seen
-  pub record Tested (all rest : List (ArtifactFacts D G)) (s : Seen D) : Type 0 where
-    pub before : List (ArtifactFacts D G)
+  pub record Tested (all rest : List (ArtifactFacts D)) (s : Seen D) : Type 0 where
+    pub before : List (ArtifactFacts D)
     pub shows : Shows same before s
     pub last : last_view before ≡ s.view
     pub left : first_broken_after same epoch me before rest ≡ first_broken_after same epoch me [] all
 
-  pub tested_none : (all : List (ArtifactFacts D G)) → Tested all all (nothing_seen 0)
+  pub tested_none : (all : List (ArtifactFacts D)) → Tested all all (nothing_seen 0)
   tested_none all = record {
     before = [];
     shows = record {
@@ -271,7 +271,7 @@ module _ {D G : Type 0} (same : D → D → Bool) (epoch : ℕ) (me : Option ℕ
   }
 
   -- what an entry breaks by all before it is what it breaks by what was seen
-  rules_seen : (all rest : List (ArtifactFacts D G)) (s : Seen D) (e : ArtifactFacts D G) (tested : Tested all (e ∷ rest) s) → first_error (entry_rules same epoch me tested.before e) ≡ first_error (next_rules same epoch me s e)
+  rules_seen : (all rest : List (ArtifactFacts D)) (s : Seen D) (e : ArtifactFacts D) (tested : Tested all (e ∷ rest) s) → first_error (entry_rules same epoch me tested.before e) ≡ first_error (next_rules same epoch me s e)
   rules_seen all rest s e tested = ordered _ refl
     where
       ordered : (b : Bool) → nat_lt (entry_view e) s.view ≡ b → first_error (entry_rules same epoch me tested.before e) ≡ first_error (next_rules same epoch me s e)
@@ -282,16 +282,16 @@ module _ {D G : Type 0} (same : D → D → Bool) (epoch : ℕ) (me : Option ℕ
           rw (tested.last, in_order, first_error-append (own_rules epoch me e) (beside_rules same tested.before e), first_error-append (own_rules epoch me e) (seen_rules same (turned_to s (entry_view e)) e), beside) refl
 
   -- an entry that breaks a rule
-  pub stopped : (all rest : List (ArtifactFacts D G)) (s : Seen D) (e : ArtifactFacts D G) (x : RecoverError) → Tested all (e ∷ rest) s → first_error (next_rules same epoch me s e) ≡ Some x → first_broken_after same epoch me [] all ≡ Some x
+  pub stopped : (all rest : List (ArtifactFacts D)) (s : Seen D) (e : ArtifactFacts D) (x : RecoverError) → Tested all (e ∷ rest) s → first_error (next_rules same epoch me s e) ≡ Some x → first_broken_after same epoch me [] all ≡ Some x
   stopped all rest s e x tested broken = sym tested.left ∙ rw (rules_seen all rest s e tested, broken) refl
 
 pub none_left : (a b : Option RecoverError) → option_or a b ≡ None → b ≡ None
 none_left None b h = h
 none_left (Some x) b h = absurd cc
 
-module _ {D G : Type 0} (same : D → D → Bool) (alike : (d e : D) → same d e ≡ true → d ≡ e) (epoch : ℕ) (me : Option ℕ) where
+module _ {D : Type 0} (same : D → D → Bool) (alike : (d e : D) → same d e ≡ true → d ≡ e) (epoch : ℕ) (me : Option ℕ) where
   -- an entry that breaks none
-  pub tested_next : (all rest : List (ArtifactFacts D G)) (s : Seen D) (e : ArtifactFacts D G) → Tested same epoch me all (e ∷ rest) s → first_error (next_rules same epoch me s e) ≡ None → Tested same epoch me all rest (with_entry (turned_to s (entry_view e)) e)
+  pub tested_next : (all rest : List (ArtifactFacts D)) (s : Seen D) (e : ArtifactFacts D) → Tested same epoch me all (e ∷ rest) s → first_error (next_rules same epoch me s e) ≡ None → Tested same epoch me all rest (with_entry (turned_to s (entry_view e)) e)
   tested_next all rest s e tested allowed =
       let beside = seen_rules same (turned_to s (entry_view e)) e in
       let at = turned_view s (entry_view e) (unbroken (nat_lt (entry_view e) s.view) error.OutOfOrder (own_rules epoch me e ++ beside) allowed) in
@@ -314,7 +314,7 @@ view_of_entry bytes_of (artifact.Nullification _) = refl
 view_of_entry bytes_of (artifact.Finalize _) = refl
 view_of_entry bytes_of (artifact.Finalization _) = refl
 
-module _ {D G : Type 0} (same : D → D → Bool) (epoch : ℕ) (me : Option ℕ) (s : Seen D) (e : ArtifactFacts D G) (x : RecoverError) where
+module _ {D : Type 0} (same : D → D → Bool) (epoch : ℕ) (me : Option ℕ) (s : Seen D) (e : ArtifactFacts D) (x : RecoverError) where
   pub breaks_alone : nat_lt (entry_view e) s.view ≡ false → first_error (own_rules epoch me e) ≡ Some x → first_error (next_rules same epoch me s e) ≡ Some x
   breaks_alone in_order broken = rw (in_order, first_error-append (own_rules epoch me e) (seen_rules same (turned_to s (entry_view e)) e), broken) refl
 

@@ -41,15 +41,15 @@ module _ {K L D : Type 0} (x : Facts K L D) (new : x.current ≡ 0) where
       let ahead : nat_lt 0 (r.view + 1) ≡ true = grind (arith, nat_tests) in
       rw (going, new, ahead) (late_only (is_too_large r.view || is_too_large c.proposal.parent) (has_late_deadline x now) small)
 
-module _ {K L D : Type 0} (G : Type 0) (same : D → D → Bool) (x : Facts K L D) (floor : FloorFacts D) (now : ℕ) where
-  error_alone : recover_error {G = G} same x floor now [] ≡ option_or (first_error (floor_rules x.settings.epoch floor)) (if has_late_deadline x now then Some error.TimeOverflow else None)
+module _ {K L D : Type 0} (same : D → D → Bool) (x : Facts K L D) (floor : FloorFacts D) (now : ℕ) where
+  error_alone : recover_error same x floor now [] ≡ option_or (first_error (floor_rules x.settings.epoch floor)) (if has_late_deadline x now then Some error.TimeOverflow else None)
   unfolding first_broken_rule
   error_alone = ap (λ o. option_or o (if has_late_deadline x now then Some error.TimeOverflow else None)) (option_or_none (first_error (floor_rules x.settings.epoch floor)))
 
-  pub bad_floor : (e : RecoverError) → first_error (floor_rules x.settings.epoch floor) ≡ Some e → IsDue (recover_error {G = G} same x floor now []) e
+  pub bad_floor : (e : RecoverError) → first_error (floor_rules x.settings.epoch floor) ≡ Some e → IsDue (recover_error same x floor now []) e
   bad_floor e broken = rw (error_alone, broken) refl
 
-  pub floor_error : x.current ≡ 0 → x.failed ≡ false → first_error (floor_rules x.settings.epoch floor) ≡ None → recover_error {G = G} same x floor now [] ≡ option_map error_of (floor_refusal x floor now)
+  pub floor_error : x.current ≡ 0 → x.failed ≡ false → first_error (floor_rules x.settings.epoch floor) ≡ None → recover_error same x floor now [] ≡ option_map error_of (floor_refusal x floor now)
   floor_error new going good = error_alone ∙ rw (good, floor_due x new floor now going good) (lates (has_late_deadline x now))
     where
       lates : (late : Bool) → (if late then Some error.TimeOverflow else None) ≡ option_map error_of (if late then Some fault.TimeOverflow else None)

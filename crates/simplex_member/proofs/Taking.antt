@@ -15,26 +15,26 @@ use Rattle.simplex_member.specs.Recovery.{added, replayed, given, retaken, taken
 use Rattle.simplex_member.proofs.Going.{Goes, stays, joined, where_so, with_round_goes, entered_goes, elected_goes, finalization_goes, certified_goes, still_in_time}
 use Rattle.simplex_member.proofs.Recovery.{added_goes, replayed_goes}
 
-module _ {K L D G : Type 0} (elect : Elect L) where
-  given_goes : (x : Facts K L D) (now : ℕ) (e : ArtifactFacts D G) → Goes x (given elect x now e)
+module _ {K L D : Type 0} (elect : Elect L) where
+  given_goes : (x : Facts K L D) (now : ℕ) (e : ArtifactFacts D) → Goes x (given elect x now e)
   given_goes x now (Verdict round success) = certified_goes elect x round.view success now
-  given_goes x now (NotarizeVote _ _ _) = stays x
-  given_goes x now (NullifyVote _ _ _) = stays x
-  given_goes x now (FinalizeVote _ _ _) = stays x
+  given_goes x now (NotarizeVote _ _) = stays x
+  given_goes x now (NullifyVote _ _) = stays x
+  given_goes x now (FinalizeVote _ _) = stays x
   given_goes x now (Accepted _) = stays x
 
-module _ {K L D G : Type 0} (same : D → D → Bool) (elect : Elect L) where
-  retaken_goes : (x : Facts K L D) (now : ℕ) (e : ArtifactFacts D G) → Goes x (retaken same elect x now e)
+module _ {K L D : Type 0} (same : D → D → Bool) (elect : Elect L) where
+  retaken_goes : (x : Facts K L D) (now : ℕ) (e : ArtifactFacts D) → Goes x (retaken same elect x now e)
   retaken_goes x now e =
       let y = added same elect x now e in
       let z = replayed same elect y e in
       joined x z (given elect z now e) (joined x y z (added_goes same elect x now e) (replayed_goes same elect y e)) (given_goes elect z now e)
 
-  pub taken_goes : (x : Facts K L D) (now : ℕ) (e : ArtifactFacts D G) → Goes x (taken same elect x now e)
+  pub taken_goes : (x : Facts K L D) (now : ℕ) (e : ArtifactFacts D) → Goes x (taken same elect x now e)
   unfolding taken
   taken_goes x now e = where_so x (nat_lt (entry_view e) (min_active x)) x (retaken same elect x now e) (stays x) (retaken_goes x now e)
 
-  pub all_taken_goes : (x : Facts K L D) (now : ℕ) (entries : List (ArtifactFacts D G)) → Goes x (all_taken same elect x now entries)
+  pub all_taken_goes : (x : Facts K L D) (now : ℕ) (entries : List (ArtifactFacts D)) → Goes x (all_taken same elect x now entries)
   all_taken_goes x now [] = stays x
   all_taken_goes x now (e ∷ rest) = let y = taken same elect x now e in joined x y (all_taken same elect y now rest) (taken_goes x now e) (all_taken_goes y now rest)
 

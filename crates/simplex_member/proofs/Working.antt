@@ -35,8 +35,8 @@ module _ {K L D : Type 0} (same : D → D → Bool) (elect : Elect L) (x : Facts
   pub work_goes_on : (work : Work D) (y : Facts K L D) → y ≡ after_work same elect x no_openings (work_facts work) → x.failed ≡ false → is_started x ≡ true → (y.failed ≡ false) × (is_started y ≡ true)
   work_goes_on work y is going started = rw is ((work_goes work).failed ∙ going, (work_goes work).started started)
 
-module _ {K L D G : Type 0} (same : D → D → Bool) (elect : Elect L) (signature_of : ℕ → Subject D → G) (x : Facts K L D) where
-  unrecorded : (work : Work D) → recorded_by_work {G = G} same elect signature_of x (work_facts work) ≡ []
+module _ {K L D : Type 0} (same : D → D → Bool) (elect : Elect L) (x : Facts K L D) where
+  unrecorded : (work : Work D) → recorded_by_work same elect x (work_facts work) ≡ []
   unrecorded (SetProposal v p) = refl
   unrecorded (ReleaseProposalRequest v) = refl
   unrecorded (TriggerTimeout v reason now) = refl
@@ -49,11 +49,11 @@ module _ {K L D G : Type 0} (same : D → D → Bool) (elect : Elect L) (signatu
   unopened (NextTimeout now) = refl
 
   -- a member that has nothing open answers, and nothing of it changes but its state
-  pub work_answered : (m : MemberFacts K L D G) (work : Work D) (told : Told K D G) (y : Facts K L D) → m.life ≡ Some x → m.openings ≡ no_openings → work_allowed x no_openings (work_facts work) ≡ true → work_fault x (work_facts work) ≡ None → told ≡ work_answer same elect signature_of x no_openings (work_facts work) → y ≡ after_work same elect x no_openings (work_facts work) → IsWork same elect signature_of m (work_facts work) told (record m { life = Some y })
+  pub work_answered : (m : MemberFacts K L D) (work : Work D) (told : Told K D) (y : Facts K L D) → m.life ≡ Some x → m.openings ≡ no_openings → work_allowed x no_openings (work_facts work) ≡ true → work_fault x (work_facts work) ≡ None → told ≡ work_answer same elect x no_openings (work_facts work) → y ≡ after_work same elect x no_openings (work_facts work) → IsWork same elect m (work_facts work) told (record m { life = Some y })
   unfolding IsWork
   work_answered m work told y alive none_open allowed no_fault answer after = rw (alive, none_open, allowed, no_fault) (inl (answer, left))
     where
-      left : (record m { life = Some y; openings = no_openings }) ≡ record m { life = Some (after_work same elect x no_openings (work_facts work)); openings = openings_after same elect x no_openings (work_facts work); entries = m.entries ++ recorded_by_work same elect signature_of x (work_facts work) }
+      left : (record m { life = Some y; openings = no_openings }) ≡ record m { life = Some (after_work same elect x no_openings (work_facts work)); openings = openings_after same elect x no_openings (work_facts work); entries = m.entries ++ recorded_by_work same elect x (work_facts work) }
       left = λ i. record m {
         life = Some (after i);
         openings = sym (unopened work) i;

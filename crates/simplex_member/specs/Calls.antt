@@ -53,37 +53,37 @@ call_facts bytes_of call.Prune = Prune
 
 -- what a reply tells, with votes as the entries that they are recorded as; and what no reply tells yet: what those calls on the
 -- work of a view are told that no member makes, and why a restart was refused
-pub data Told (K D G : Type 0) : Type 0 where
-  Added : Bool → Option K → Told K D G
-  Judged : Option (ProposalFacts D) → Told K D G
-  Nullify : Option (Bool × ArtifactFacts D G) → Told K D G
-  Finalize : Option (ArtifactFacts D G) → Told K D G
-  Notarize : Option (ArtifactFacts D G) → Told K D G
-  Handed : Option (CertificateFacts D) → Told K D G
-  Dropped : List ℕ → Told K D G
-  Requested : Option (Request K D) → Told K D G
-  Standing : Verification K D → Told K D G
-  Answered : Bool → Told K D G
-  Abandoned : Option HandoffAbandonedReason → Told K D G
-  Candidates : List (Proposal D) → List CertificateFetch → Told K D G
-  TimesOut : Option (ℕ × TimeoutReason) → Told K D G
-  Done : Told K D G
-  Restarted : Told K D G
-  NotRestarted : RecoverError → Told K D G
-  Refused : Fault → Told K D G
-  NotAllowed : Told K D G
+pub data Told (K D : Type 0) : Type 0 where
+  Added : Bool → Option K → Told K D
+  Judged : Option (ProposalFacts D) → Told K D
+  Nullify : Option (Bool × ArtifactFacts D) → Told K D
+  Finalize : Option (ArtifactFacts D) → Told K D
+  Notarize : Option (ArtifactFacts D) → Told K D
+  Handed : Option (CertificateFacts D) → Told K D
+  Dropped : List ℕ → Told K D
+  Requested : Option (Request K D) → Told K D
+  Standing : Verification K D → Told K D
+  Answered : Bool → Told K D
+  Abandoned : Option HandoffAbandonedReason → Told K D
+  Candidates : List (Proposal D) → List CertificateFetch → Told K D
+  TimesOut : Option (ℕ × TimeoutReason) → Told K D
+  Done : Told K D
+  Restarted : Told K D
+  NotRestarted : RecoverError → Told K D
+  Refused : Fault → Told K D
+  NotAllowed : Told K D
 
 module _ {S D K G C : Type 0} where
   -- a vote as the entry that it is recorded as
 
-  abbrev pub told_nullify : Option (Bool × vote.Nullify S K G C) → Option (Bool × ArtifactFacts D G)
-  told_nullify vote = option_map (λ v. (v.0, NullifyVote v.1.round v.1.signer v.1.signature)) vote
+  abbrev pub told_nullify : Option (Bool × vote.Nullify S K G C) → Option (Bool × ArtifactFacts D)
+  told_nullify vote = option_map (λ v. (v.0, NullifyVote v.1.round v.1.signer)) vote
 
-  abbrev pub told_finalize : Option (final.Finalize S D K G C) → Option (ArtifactFacts D G)
-  told_finalize vote = option_map (λ v. FinalizeVote v.proposal v.signer v.signature) vote
+  abbrev pub told_finalize : Option (final.Finalize S D K G C) → Option (ArtifactFacts D)
+  told_finalize vote = option_map (λ v. FinalizeVote v.proposal v.signer) vote
 
 module _ {S D K G C : Type 0} (bytes_of : C → List ℕ) where
-  abbrev pub told : Reply S D K G C → Told K D G
+  abbrev pub told : Reply S D K G C → Told K D
   told (reply.Added newly leader) = Added newly leader
   told (reply.Certified notarization) = Judged (option_map (notarization_facts bytes_of) notarization)
   told (reply.Nullify vote) = Nullify (told_nullify vote)
@@ -114,46 +114,46 @@ module _ {K L D : Type 0} where
   fault_of x (Certified v success now) = certified_refusal x v success now
   fault_of x _ = plain_refusal x
 
-module _ {K L D G : Type 0} (signature_of : ℕ → Subject D → G) where
+module _ {K L D : Type 0} where
   -- the vote to nullify a view that is answered, with whether it is a repeat
-  abbrev pub nullify_vote : Facts K L D → ℕ → Option (Bool × ArtifactFacts D G)
+  abbrev pub nullify_vote : Facts K L D → ℕ → Option (Bool × ArtifactFacts D)
   nullify_vote x v =
       option_and_then
       (λ m. option_map
-      (λ retry. (retry, NullifyVote (round_number x v) m (signature_of m (subject.Nullify (round_number x v)))))
+      (λ retry. (retry, NullifyVote (round_number x v) m))
       (nullify_answer x v))
       x.me
 
-module _ {K L D G : Type 0} (elect : Elect L) (signature_of : ℕ → Subject D → G) where
+module _ {K L D : Type 0} (elect : Elect L) where
   -- the vote to finalize a view that is answered
-  abbrev pub finalize_vote : Facts K L D → ℕ → Option (ArtifactFacts D G)
+  abbrev pub finalize_vote : Facts K L D → ℕ → Option (ArtifactFacts D)
   finalize_vote x v =
       option_and_then
-      (λ m. option_map (λ p. FinalizeVote p m (signature_of m (subject.Finalize p))) (finalize_answer elect x v))
+      (λ m. option_map (λ p. FinalizeVote p m) (finalize_answer elect x v))
       x.me
 
 -- what is newly there
-abbrev pub newly : {D G : Type 0} → Bool → ArtifactFacts D G → List (ArtifactFacts D G)
+abbrev pub newly : {D : Type 0} → Bool → ArtifactFacts D → List (ArtifactFacts D)
 newly is_new e = if is_new then e ∷ [] else []
 
 -- a vote that is no repeat
-abbrev pub first_vote : {D G : Type 0} → Option (Bool × ArtifactFacts D G) → List (ArtifactFacts D G)
+abbrev pub first_vote : {D : Type 0} → Option (Bool × ArtifactFacts D) → List (ArtifactFacts D)
 first_vote None = []
 first_vote (Some (retry, vote)) = if retry then [] else vote ∷ []
 
-abbrev pub vote_entry : {D G : Type 0} → Option (ArtifactFacts D G) → List (ArtifactFacts D G)
+abbrev pub vote_entry : {D : Type 0} → Option (ArtifactFacts D) → List (ArtifactFacts D)
 vote_entry None = []
 vote_entry (Some vote) = vote ∷ []
 
-module _ {K L D G : Type 0} (same : D → D → Bool) (elect : Elect L) (signature_of : ℕ → Subject D → G) where
+module _ {K L D : Type 0} (same : D → D → Bool) (elect : Elect L) where
   -- what a call is told that is allowed and not refused
-  abbrev pub answer : Facts K L D → CallFacts D → Told K D G
+  abbrev pub answer : Facts K L D → CallFacts D → Told K D
   answer x (AddNotarization c) = Added (notarization_added same elect x c).0 (notarization_added same elect x c).1
   answer x (AddNullification c _) = Added (nullification_added x c) None
   answer x (AddFinalization c _) = Added (finalization_added same elect x c).0 (finalization_added same elect x c).1
   answer x (Certified v _ _) = Judged (certified_answer x v)
-  answer x (ConstructNullify v) = Nullify (nullify_vote signature_of x v)
-  answer x (ConstructFinalize v) = Finalize (finalize_vote elect signature_of x v)
+  answer x (ConstructNullify v) = Nullify (nullify_vote x v)
+  answer x (ConstructFinalize v) = Finalize (finalize_vote elect x v)
   answer x (BroadcastNotarization v) = Handed (option_map Notarized (broadcast_notarization_answer x v))
   answer x (BroadcastNullification v) = Handed (option_map Nullified (broadcast_nullification_answer x v))
   answer x (BroadcastFinalization v) = Handed (option_map Finalized (broadcast_finalization_answer x v))
@@ -175,11 +175,11 @@ module _ {K L D G : Type 0} (same : D → D → Bool) (elect : Elect L) (signatu
   after_call x Prune = after_prune x
 
   -- what the record grows by: certificates that are newly added, a view's first verdict, votes that are no repeat
-  abbrev pub recorded_by : Facts K L D → CallFacts D → List (ArtifactFacts D G)
+  abbrev pub recorded_by : Facts K L D → CallFacts D → List (ArtifactFacts D)
   recorded_by x (AddNotarization c) = newly (notarization_added same elect x c).0 (Accepted (Notarized c))
   recorded_by x (AddNullification c _) = newly (nullification_added x c) (Accepted (Nullified c))
   recorded_by x (AddFinalization c _) = newly (finalization_added same elect x c).0 (Accepted (Finalized c))
   recorded_by x (Certified v success _) = newly (is_first_verdict x v) (Verdict (round_number x v) success)
-  recorded_by x (ConstructNullify v) = first_vote (nullify_vote signature_of x v)
-  recorded_by x (ConstructFinalize v) = vote_entry (finalize_vote elect signature_of x v)
+  recorded_by x (ConstructNullify v) = first_vote (nullify_vote x v)
+  recorded_by x (ConstructFinalize v) = vote_entry (finalize_vote elect x v)
   recorded_by x _ = []

@@ -22,72 +22,72 @@ first_error (rule ∷ rules) = if rule.0 then Some rule.1 else first_error rules
 abbrev pub agrees : Bool → Bool → Bool
 agrees success given = if success then given else not given
 
-module _ {D G : Type 0} where
+module _ {D : Type 0} where
   -- an entry of the view, of this kind, is among the entries
-  abbrev pub stands : ℕ → (ArtifactFacts D G → Bool) → List (ArtifactFacts D G) → Bool
+  abbrev pub stands : ℕ → (ArtifactFacts D → Bool) → List (ArtifactFacts D) → Bool
   stands v is_kind entries = list_any (λ e. entry_view e == v && is_kind e) entries
 
-  abbrev pub is_notarization : ArtifactFacts D G → Bool
+  abbrev pub is_notarization : ArtifactFacts D → Bool
   is_notarization (Accepted (Notarized _)) = true
   is_notarization _ = false
 
-  abbrev pub is_verdict : Bool → ArtifactFacts D G → Bool
+  abbrev pub is_verdict : Bool → ArtifactFacts D → Bool
   is_verdict success (Verdict _ given) = agrees success given
   is_verdict success _ = false
 
-  abbrev pub is_nullify : ArtifactFacts D G → Bool
-  is_nullify (NullifyVote _ _ _) = true
+  abbrev pub is_nullify : ArtifactFacts D → Bool
+  is_nullify (NullifyVote _ _) = true
   is_nullify _ = false
 
-  abbrev pub is_finalize : ArtifactFacts D G → Bool
-  is_finalize (FinalizeVote _ _ _) = true
+  abbrev pub is_finalize : ArtifactFacts D → Bool
+  is_finalize (FinalizeVote _ _) = true
   is_finalize _ = false
 
   -- the view of the newest entry
-  abbrev pub last_view : List (ArtifactFacts D G) → ℕ
+  abbrev pub last_view : List (ArtifactFacts D) → ℕ
   last_view [] = 0
   last_view (e ∷ _) = entry_view e
 
   -- a verdict without a notarization of its view
-  abbrev pub lacks_notarization : List (ArtifactFacts D G) → ArtifactFacts D G → Bool
+  abbrev pub lacks_notarization : List (ArtifactFacts D) → ArtifactFacts D → Bool
   lacks_notarization before (Verdict round _) = not (stands round.view is_notarization before)
   lacks_notarization before _ = false
 
   -- a verdict beside the other one
-  abbrev pub contradicts_verdict : List (ArtifactFacts D G) → ArtifactFacts D G → Bool
+  abbrev pub contradicts_verdict : List (ArtifactFacts D) → ArtifactFacts D → Bool
   contradicts_verdict before (Verdict round success) = stands round.view (is_verdict (not success)) before
   contradicts_verdict before _ = false
 
   -- a vote to nullify beside one to finalize, or the other way round
-  abbrev pub meets_opposite : List (ArtifactFacts D G) → ArtifactFacts D G → Bool
-  meets_opposite before (NullifyVote round _ _) = stands round.view is_finalize before
-  meets_opposite before (FinalizeVote p _ _) = stands p.round.view is_nullify before
+  abbrev pub meets_opposite : List (ArtifactFacts D) → ArtifactFacts D → Bool
+  meets_opposite before (NullifyVote round _) = stands round.view is_finalize before
+  meets_opposite before (FinalizeVote p _) = stands p.round.view is_nullify before
   meets_opposite before _ = false
 
   -- a vote to finalize without a true verdict of its view
-  abbrev pub lacks_true_verdict : List (ArtifactFacts D G) → ArtifactFacts D G → Bool
-  lacks_true_verdict before (FinalizeVote p _ _) = not (stands p.round.view (is_verdict true) before)
+  abbrev pub lacks_true_verdict : List (ArtifactFacts D) → ArtifactFacts D → Bool
+  lacks_true_verdict before (FinalizeVote p _) = not (stands p.round.view (is_verdict true) before)
   lacks_true_verdict before _ = false
 
-module _ {D G : Type 0} (same : D → D → Bool) where
+module _ {D : Type 0} (same : D → D → Bool) where
   -- a vote of this kind for another proposal
 
-  abbrev pub notarizes_other : Proposal D → ArtifactFacts D G → Bool
-  notarizes_other p (NotarizeVote q _ _) = not (same_proposal same q p)
+  abbrev pub notarizes_other : Proposal D → ArtifactFacts D → Bool
+  notarizes_other p (NotarizeVote q _) = not (same_proposal same q p)
   notarizes_other p _ = false
 
-  abbrev pub finalizes_other : Proposal D → ArtifactFacts D G → Bool
-  finalizes_other p (FinalizeVote q _ _) = not (same_proposal same q p)
+  abbrev pub finalizes_other : Proposal D → ArtifactFacts D → Bool
+  finalizes_other p (FinalizeVote q _) = not (same_proposal same q p)
   finalizes_other p _ = false
 
   -- a vote beside one of its kind and view for another proposal
-  abbrev pub contradicts_vote : List (ArtifactFacts D G) → ArtifactFacts D G → Bool
-  contradicts_vote before (NotarizeVote p _ _) = stands p.round.view (notarizes_other p) before
-  contradicts_vote before (FinalizeVote p _ _) = stands p.round.view (finalizes_other p) before
+  abbrev pub contradicts_vote : List (ArtifactFacts D) → ArtifactFacts D → Bool
+  contradicts_vote before (NotarizeVote p _) = stands p.round.view (notarizes_other p) before
+  contradicts_vote before (FinalizeVote p _) = stands p.round.view (finalizes_other p) before
   contradicts_vote before _ = false
 
   -- what an entry has to be, by the entries before it
-  abbrev pub beside_rules : List (ArtifactFacts D G) → ArtifactFacts D G → List (Bool × RecoverError)
+  abbrev pub beside_rules : List (ArtifactFacts D) → ArtifactFacts D → List (Bool × RecoverError)
   beside_rules before e =
       (lacks_notarization before e, error.VerdictWithoutNotarization)
       ∷ (contradicts_verdict before e, error.ContradictingVerdicts)
@@ -113,10 +113,10 @@ vote_rules epoch me signer p =
     ∷ []
 
 -- what an entry has to be by itself
-abbrev pub own_rules : {D G : Type 0} → ℕ → Option ℕ → ArtifactFacts D G → List (Bool × RecoverError)
-own_rules epoch me (NotarizeVote p signer _) = vote_rules epoch me signer p
-own_rules epoch me (FinalizeVote p signer _) = vote_rules epoch me signer p
-own_rules epoch me (NullifyVote round signer _) = round_rules epoch round None ++ (not (signs_as me signer), error.ForeignSigner) ∷ []
+abbrev pub own_rules : {D : Type 0} → ℕ → Option ℕ → ArtifactFacts D → List (Bool × RecoverError)
+own_rules epoch me (NotarizeVote p signer) = vote_rules epoch me signer p
+own_rules epoch me (FinalizeVote p signer) = vote_rules epoch me signer p
+own_rules epoch me (NullifyVote round signer) = round_rules epoch round None ++ (not (signs_as me signer), error.ForeignSigner) ∷ []
 own_rules epoch me (Verdict round _) = round_rules epoch round None
 own_rules epoch me (Accepted c) = round_rules epoch (certificate_round c) (certificate_parent c)
 
@@ -125,17 +125,17 @@ abbrev pub floor_rules : {D : Type 0} → ℕ → FloorFacts D → List (Bool ×
 floor_rules epoch (Genesis _) = []
 floor_rules epoch (Finalized c) = round_rules epoch c.proposal.round (Some c.proposal.parent)
 
-module _ {D G : Type 0} (same : D → D → Bool) (epoch : ℕ) (me : Option ℕ) where
+module _ {D : Type 0} (same : D → D → Bool) (epoch : ℕ) (me : Option ℕ) where
   -- all rules of an entry, in order
-  abbrev pub entry_rules : List (ArtifactFacts D G) → ArtifactFacts D G → List (Bool × RecoverError)
+  abbrev pub entry_rules : List (ArtifactFacts D) → ArtifactFacts D → List (Bool × RecoverError)
   entry_rules before e =
       (nat_lt (entry_view e) (last_view before), error.OutOfOrder) ∷ own_rules epoch me e ++ beside_rules same before e
 
   -- the first rule that the entries break one after another, behind those before them
-  abbrev pub first_broken_after : List (ArtifactFacts D G) → List (ArtifactFacts D G) → Option RecoverError
+  abbrev pub first_broken_after : List (ArtifactFacts D) → List (ArtifactFacts D) → Option RecoverError
   first_broken_after before [] = None
   first_broken_after before (e ∷ rest) = option_or (first_error (entry_rules before e)) (first_broken_after (e ∷ before) rest)
 
   -- the first rule that the floor breaks, or else the record, oldest entry first
-  unfoldable pub first_broken_rule : FloorFacts D → List (ArtifactFacts D G) → Option RecoverError
+  unfoldable pub first_broken_rule : FloorFacts D → List (ArtifactFacts D) → Option RecoverError
   first_broken_rule floor record_entries = option_or (first_error (floor_rules epoch floor)) (first_broken_after [] record_entries)

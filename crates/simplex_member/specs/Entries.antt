@@ -1,11 +1,11 @@
--- What the entries of a record are about. An entry is an artifact by its facts; G are the signatures.
+-- What the entries of a record are about. An entry is an artifact by its facts.
 use Rattle.std.specs.Prelude.{ℕ, List, Option, Some, None, map}
 use Rattle.simplex_types.specs.Certificates.{CertificateFacts, Notarized, Nullified, Finalized, ArtifactFacts, NotarizeVote, NullifyVote, FinalizeVote, Verdict, Accepted, artifact_facts}
 use Rattle.simplex_types.specs.declared.types.messages.Artifact.{Artifact}
 use Rattle.simplex_types.specs.declared.types.numbers.Round.{Round}
 
 -- the entries of a record, oldest first
-abbrev pub entries_of : {S D K G C : Type 0} → (C → List ℕ) → List (Artifact S D K G C) → List (ArtifactFacts D G)
+abbrev pub entries_of : {S D K G C : Type 0} → (C → List ℕ) → List (Artifact S D K G C) → List (ArtifactFacts D)
 entries_of bytes_of artifacts = map (artifact_facts bytes_of) artifacts
 
 module _ {D : Type 0} where
@@ -20,13 +20,13 @@ module _ {D : Type 0} where
   certificate_parent (Nullified _) = None
   certificate_parent (Finalized c) = Some c.proposal.parent
 
-module _ {D G : Type 0} where
-  abbrev pub entry_round : ArtifactFacts D G → Round
-  entry_round (NotarizeVote p _ _) = p.round
-  entry_round (NullifyVote round _ _) = round
-  entry_round (FinalizeVote p _ _) = p.round
+module _ {D : Type 0} where
+  abbrev pub entry_round : ArtifactFacts D → Round
+  entry_round (NotarizeVote p _) = p.round
+  entry_round (NullifyVote round _) = round
+  entry_round (FinalizeVote p _) = p.round
   entry_round (Verdict round _) = round
   entry_round (Accepted c) = certificate_round c
 
-  abbrev pub entry_view : ArtifactFacts D G → ℕ
+  abbrev pub entry_view : ArtifactFacts D → ℕ
   entry_view e = (entry_round e).view

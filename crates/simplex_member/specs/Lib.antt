@@ -5,6 +5,7 @@ pub mod Seen
 pub mod Cuts
 pub mod Recovery
 pub mod Calls
+pub mod Signed
 pub mod Made
 pub mod Openings
 pub mod Lives

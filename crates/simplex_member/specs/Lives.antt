@@ -8,13 +8,13 @@ use Rattle.simplex_voter.specs.Facts.{Facts, Elect}
 use Rattle.simplex_member.specs.Openings.{Openings}
 use Rattle.simplex_member.specs.Calls.{CallFacts, Certified, Told, Refused, NotAllowed, is_allowed, fault_of, answer, after_call, recorded_by}
 
-pub record MemberFacts (K L D G : Type 0) : Type 0 where
+pub record MemberFacts (K L D : Type 0) : Type 0 where
   -- what its state knows; none while the member has failed
   pub life : Option (Facts K L D)
   -- what it has open of its state's answers
   pub openings : Openings K D
   -- its record, oldest entry first
-  pub entries : List (ArtifactFacts D G)
+  pub entries : List (ArtifactFacts D)
   -- how many of its first entries no later drop takes
   pub closed : ℕ
   -- its record was pruned
@@ -35,50 +35,50 @@ is_verdict_of _ v = false
 abbrev pub closed_by : {K D : Type 0} → Openings K D → CallFacts D → Openings K D
 closed_by o call = record o { offered = filter (λ v. not (is_verdict_of call v)) o.offered }
 
-module _ {K D G : Type 0} where
+module _ {K D : Type 0} where
   -- told, unless a fault is due
-  abbrev pub unless_refused : Option Fault → Told K D G → Told K D G
+  abbrev pub unless_refused : Option Fault → Told K D → Told K D
   unless_refused None told = told
   unless_refused (Some fault) told = Refused fault
 
-module _ {K L D G : Type 0} where
+module _ {K L D : Type 0} where
   -- the record stays, and nothing else
-  abbrev pub fallen : MemberFacts K L D G → MemberFacts K L D G
+  abbrev pub fallen : MemberFacts K L D → MemberFacts K L D
   fallen m = record m { life = None }
 
   -- left, unless a fault is due
-  abbrev pub unless_kept : Option Fault → MemberFacts K L D G → MemberFacts K L D G → MemberFacts K L D G
+  abbrev pub unless_kept : Option Fault → MemberFacts K L D → MemberFacts K L D → MemberFacts K L D
   unless_kept None m next = next
   unless_kept (Some fault) m next = m
 
-module _ {K L D G : Type 0} (same : D → D → Bool) (elect : Elect L) (signature_of : ℕ → Subject D → G) where
+module _ {K L D : Type 0} (same : D → D → Bool) (elect : Elect L) where
   -- what a living member tells
-  abbrev pub reply_of : Facts K L D → CallFacts D → Told K D G
+  abbrev pub reply_of : Facts K L D → CallFacts D → Told K D
   reply_of x call =
-      if is_allowed x call then unless_refused (fault_of x call) (answer same elect signature_of x call) else NotAllowed
+      if is_allowed x call then unless_refused (fault_of x call) (answer same elect x call) else NotAllowed
 
   -- with what a call makes of the state and of what is open, and with what the record grows by
-  abbrev pub with_call : Facts K L D → MemberFacts K L D G → CallFacts D → MemberFacts K L D G
+  abbrev pub with_call : Facts K L D → MemberFacts K L D → CallFacts D → MemberFacts K L D
   with_call x m call = record m {
-    life = Some (after_call same elect signature_of x call);
+    life = Some (after_call same elect x call);
     openings = closed_by m.openings call;
-    entries = m.entries ++ recorded_by same elect signature_of x call;
+    entries = m.entries ++ recorded_by same elect x call;
   }
 
   -- what is left of a living member
-  abbrev pub left_of : Facts K L D → MemberFacts K L D G → CallFacts D → MemberFacts K L D G
+  abbrev pub left_of : Facts K L D → MemberFacts K L D → CallFacts D → MemberFacts K L D
   left_of x m call = if is_allowed x call then unless_kept (fault_of x call) m (with_call x m call) else m
 
   -- a living member answers by the definitions; or a growth was refused, and nothing has changed or the member has failed
-  abbrev pub Answers : Facts K L D → MemberFacts K L D G → CallFacts D → Told K D G → MemberFacts K L D G → Type 0
+  abbrev pub Answers : Facts K L D → MemberFacts K L D → CallFacts D → Told K D → MemberFacts K L D → Type 0
   Answers x m call told left =
       ((told ≡ reply_of x call) × (left ≡ left_of x m call))
       ⊎ ((is_allowed x call ≡ true) × (told ≡ Refused fault.OutOfMemory) × ((left ≡ m) ⊎ (left ≡ fallen m)))
 
-  abbrev pub AnswersAlive : Option (Facts K L D) → MemberFacts K L D G → CallFacts D → Told K D G → MemberFacts K L D G → Type 0
+  abbrev pub AnswersAlive : Option (Facts K L D) → MemberFacts K L D → CallFacts D → Told K D → MemberFacts K L D → Type 0
   AnswersAlive None m call told left = (told ≡ Refused fault.Failed) × (left ≡ m)
   AnswersAlive (Some x) m call told left = Answers x m call told left
 
   -- a call of a member, what it tells and what is left of the member
-  unfoldable pub IsCall : MemberFacts K L D G → CallFacts D → Told K D G → MemberFacts K L D G → Type 0
+  unfoldable pub IsCall : MemberFacts K L D → CallFacts D → Told K D → MemberFacts K L D → Type 0
   IsCall m call told left = AnswersAlive m.life m call told left

@@ -19,77 +19,77 @@ use Rattle.simplex_member.specs.Entries.{entry_view}
 use Rattle.simplex_member.specs.Check.{stands, first_broken_rule}
 
 -- an entry as an artifact whose certificates are their bytes
-abbrev pub as_artifact : {K D G : Type 0} → ArtifactFacts D G → Artifact (Unit {0}) D K G (List ℕ)
-as_artifact (NotarizeVote p signer signature) = artifact.Notarize (record { proposal = p; signer = signer; signature = signature })
-as_artifact (NullifyVote round signer signature) = artifact.Nullify (record { round = round; signer = signer; signature = signature })
-as_artifact (FinalizeVote p signer signature) = artifact.Finalize (record { proposal = p; signer = signer; signature = signature })
+abbrev pub as_artifact : {K D : Type 0} → ArtifactFacts D → Artifact (Unit {0}) D K (Unit {0}) (List ℕ)
+as_artifact (NotarizeVote p signer) = artifact.Notarize (record { proposal = p; signer = signer; signature = tt })
+as_artifact (NullifyVote round signer) = artifact.Nullify (record { round = round; signer = signer; signature = tt })
+as_artifact (FinalizeVote p signer) = artifact.Finalize (record { proposal = p; signer = signer; signature = tt })
 as_artifact (Verdict round success) = artifact.Certification round success
 as_artifact (Accepted (Notarized c)) = artifact.Notarization (record { proposal = c.proposal; certificate = c.bytes })
 as_artifact (Accepted (Nullified c)) = artifact.Nullification (record { round = c.round; certificate = c.bytes })
 as_artifact (Accepted (Finalized c)) = artifact.Finalization (record { proposal = c.proposal; certificate = c.bytes })
 
-module _ {K L D G : Type 0} (same : D → D → Bool) (elect : Elect L) where
+module _ {K L D : Type 0} (same : D → D → Bool) (elect : Elect L) where
   -- a certificate is added before it is replayed
-  abbrev pub added : Facts K L D → ℕ → ArtifactFacts D G → Facts K L D
+  abbrev pub added : Facts K L D → ℕ → ArtifactFacts D → Facts K L D
   added x now (Accepted (Notarized c)) = after_add_notarization same elect x c
   added x now (Accepted (Nullified c)) = after_add_nullification elect x c now
   added x now (Accepted (Finalized c)) = after_add_finalization same elect x c now
   added x now _ = x
 
   -- an entry is replayed
-  abbrev pub replayed : Facts K L D → ArtifactFacts D G → Facts K L D
+  abbrev pub replayed : Facts K L D → ArtifactFacts D → Facts K L D
   replayed x e = after_replayed same elect x (as_artifact e)
 
-module _ {K L D G : Type 0} (elect : Elect L) where
+module _ {K L D : Type 0} (elect : Elect L) where
   -- a verdict is given after it was replayed
-  abbrev pub given : Facts K L D → ℕ → ArtifactFacts D G → Facts K L D
+  abbrev pub given : Facts K L D → ℕ → ArtifactFacts D → Facts K L D
   given x now (Verdict round success) = after_certified elect x round.view success now
   given x now _ = x
 
-module _ {K L D G : Type 0} (same : D → D → Bool) (elect : Elect L) where
+module _ {K L D : Type 0} (same : D → D → Bool) (elect : Elect L) where
   -- an entry is taken again
-  abbrev pub retaken : Facts K L D → ℕ → ArtifactFacts D G → Facts K L D
+  abbrev pub retaken : Facts K L D → ℕ → ArtifactFacts D → Facts K L D
   retaken x now e = given elect (replayed same elect (added same elect x now e) e) now e
 
   -- but one below the views that are kept is passed over
-  unfoldable pub taken : Facts K L D → ℕ → ArtifactFacts D G → Facts K L D
+  unfoldable pub taken : Facts K L D → ℕ → ArtifactFacts D → Facts K L D
   taken x now e = if nat_lt (entry_view e) (min_active x) then x else retaken x now e
 
   -- the entries are taken in order
-  abbrev pub all_taken : Facts K L D → ℕ → List (ArtifactFacts D G) → Facts K L D
+  abbrev pub all_taken : Facts K L D → ℕ → List (ArtifactFacts D) → Facts K L D
   all_taken x now [] = x
   all_taken x now (e ∷ rest) = all_taken (taken x now e) now rest
 
   -- a state that knows nothing yet sets the floor, and takes the record
-  unfoldable pub recovered : Facts K L D → FloorFacts D → ℕ → List (ArtifactFacts D G) → Facts K L D
+  unfoldable pub recovered : Facts K L D → FloorFacts D → ℕ → List (ArtifactFacts D) → Facts K L D
   recovered x floor now entries = all_taken (after_set_floor same elect x floor now) now entries
 
-module _ {K L D G : Type 0} (same : D → D → Bool) where
+module _ {K L D : Type 0} (same : D → D → Bool) where
   -- why no state is made, but for want of memory: the first broken rule, or else a deadline that passes 64 bits
-  abbrev pub recover_error : Facts K L D → FloorFacts D → ℕ → List (ArtifactFacts D G) → Option RecoverError
+  abbrev pub recover_error : Facts K L D → FloorFacts D → ℕ → List (ArtifactFacts D) → Option RecoverError
   recover_error x floor now entries =
       option_or
       (first_broken_rule same x.settings.epoch x.me floor entries)
       (if has_late_deadline x now then Some error.TimeOverflow else None)
 
-module _ {D G : Type 0} where
-  abbrev pub is_finalization : ArtifactFacts D G → Bool
+module _ {D : Type 0} where
+  abbrev pub is_finalization : ArtifactFacts D → Bool
   is_finalization (Accepted (Finalized _)) = true
   is_finalization _ = false
 
   -- a finalization is recorded, unless one of its view stands there
-  abbrev pub with_finalization : List (ArtifactFacts D G) → Option (ProposalFacts D) → List (ArtifactFacts D G)
+  abbrev pub with_finalization : List (ArtifactFacts D) → Option (ProposalFacts D) → List (ArtifactFacts D)
   with_finalization entries None = entries
   with_finalization entries (Some c) =
       if stands c.proposal.round.view is_finalization entries then entries else entries ++ Accepted (Finalized c) ∷ []
 
   -- the floor's finalization is
-  abbrev pub with_floor : List (ArtifactFacts D G) → FloorFacts D → List (ArtifactFacts D G)
+  abbrev pub with_floor : List (ArtifactFacts D) → FloorFacts D → List (ArtifactFacts D)
   with_floor entries floor = with_finalization entries (floor_answer floor)
 
 module _ {K L D : Type 0} where
   -- if it is a verdict, it may be given
-  abbrev pub GivesVerdict : {G : Type 0} → Facts K L D → ArtifactFacts D G → Type 0
+  abbrev pub GivesVerdict : Facts K L D → ArtifactFacts D → Type 0
   GivesVerdict x (Verdict round success) = takes_verdict x round.view success ≡ true
   GivesVerdict x _ = Unit {0}
 

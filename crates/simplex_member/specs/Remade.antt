@@ -7,19 +7,19 @@ use Rattle.simplex_member.specs.Recovery.{recovered, recover_error}
 use Rattle.simplex_member.specs.Restarts.{IsByView}
 use Rattle.simplex_member.specs.Start.{StartFacts}
 
-module _ {K L D G : Type 0} (same : D → D → Bool) where
+module _ {K L D : Type 0} (same : D → D → Bool) where
   -- no state is made, by the error that is due for a copy of the entries by view
-  abbrev pub IsRefusedBy : StartFacts K L D → List (ArtifactFacts D G) → RecoverError → Type 0
+  abbrev pub IsRefusedBy : StartFacts K L D → List (ArtifactFacts D) → RecoverError → Type 0
   IsRefusedBy start entries error =
-      (copy : List (ArtifactFacts D G))
+      (copy : List (ArtifactFacts D))
       × IsByView entries copy
       × (recover_error same start.fresh start.floor start.now copy ≡ Some error)
 
-module _ {K L D G : Type 0} (same : D → D → Bool) (elect : Elect L) where
+module _ {K L D : Type 0} (same : D → D → Bool) (elect : Elect L) where
   -- a state is made from a copy of the entries by view
-  abbrev pub IsRemadeBy : StartFacts K L D → List (ArtifactFacts D G) → Facts K L D → Type 0
+  abbrev pub IsRemadeBy : StartFacts K L D → List (ArtifactFacts D) → Facts K L D → Type 0
   IsRemadeBy start entries x =
-      (copy : List (ArtifactFacts D G))
+      (copy : List (ArtifactFacts D))
       × IsByView entries copy
       × (recover_error same start.fresh start.floor start.now copy ≡ None)
       × (x ≡ recovered same elect start.fresh start.floor start.now copy)

@@ -29,28 +29,28 @@ restart_facts me members terms elects_early bytes_of restart = record {
 }
 
 -- the entries by rising view, those of one view in the order of the record
-pub record IsByView {D G : Type 0} (entries copy : List (ArtifactFacts D G)) : Type 0 where
+pub record IsByView {D : Type 0} (entries copy : List (ArtifactFacts D)) : Type 0 where
   pub rising : IsNonDecreasingBy entry_view copy
   pub of_each_view : (v : ℕ) → filter (λ e. entry_view e == v) copy ≡ filter (λ e. entry_view e == v) entries
 
-module _ {K L D G : Type 0} where
+module _ {K L D : Type 0} where
   -- more views are to be kept than in a life before, of a record that is pruned now or was pruned
-  abbrev pub retention_grows : MemberFacts K L D G → Bool → ℕ → Bool
+  abbrev pub retention_grows : MemberFacts K L D → Bool → ℕ → Bool
   retention_grows m prune retention = (prune || m.is_pruned) && nat_lt m.least_retention retention
 
   -- the record pruned by the retention of the last life, and closed
-  abbrev pub closed_at : MemberFacts K L D G → List (ArtifactFacts D G) → MemberFacts K L D G
+  abbrev pub closed_at : MemberFacts K L D → List (ArtifactFacts D) → MemberFacts K L D
   closed_at m entries = record m { entries = entries; closed = length entries; is_pruned = true }
 
   -- what a restart leaves of the record, before a state is made from it
-  abbrev pub cut : MemberFacts K L D G → ℕ → Bool → MemberFacts K L D G
+  abbrev pub cut : MemberFacts K L D → ℕ → Bool → MemberFacts K L D
   cut m drop prune =
       let left = without_last m.closed drop m.entries in
       if prune then closed_at m (pruned m.retention left) else record m { entries = left }
 
-module _ {K L D G : Type 0} (same : D → D → Bool) (elect : Elect L) where
+module _ {K L D : Type 0} (same : D → D → Bool) (elect : Elect L) where
   -- a new life from a copy of the record, with the floor's finalization in the record
-  abbrev pub new_life : MemberFacts K L D G → StartFacts K L D → List (ArtifactFacts D G) → MemberFacts K L D G
+  abbrev pub new_life : MemberFacts K L D → StartFacts K L D → List (ArtifactFacts D) → MemberFacts K L D
   new_life m start copy = record m {
     life = Some (recovered same elect start.fresh start.floor start.now copy);
     openings = no_openings;
@@ -60,7 +60,7 @@ module _ {K L D G : Type 0} (same : D → D → Bool) (elect : Elect L) where
   }
 
   -- how a member goes on from a copy of its record: refused by the error that is due, or else in a new life
-  abbrev pub GoesOnFrom : MemberFacts K L D G → StartFacts K L D → List (ArtifactFacts D G) → Result (Unit {0}) RecoverError → MemberFacts K L D G → Type 0
+  abbrev pub GoesOnFrom : MemberFacts K L D → StartFacts K L D → List (ArtifactFacts D) → Result (Unit {0}) RecoverError → MemberFacts K L D → Type 0
   GoesOnFrom m start copy result left =
       MatchOption
       (recover_error same start.fresh start.floor start.now copy)
@@ -68,17 +68,17 @@ module _ {K L D G : Type 0} (same : D → D → Bool) (elect : Elect L) where
       (λ e. (result ≡ Err e) × (left ≡ fallen m))
 
   -- how it goes on from its record by view; or a growth was refused
-  abbrev pub GoesOn : MemberFacts K L D G → StartFacts K L D → Result (Unit {0}) RecoverError → MemberFacts K L D G → Type 0
+  abbrev pub GoesOn : MemberFacts K L D → StartFacts K L D → Result (Unit {0}) RecoverError → MemberFacts K L D → Type 0
   GoesOn m start result left =
       ((result ≡ Err error.OutOfMemory) × (left ≡ fallen m))
-      ⊎ ((copy : List (ArtifactFacts D G)) × IsByView m.entries copy × GoesOnFrom m start copy result left)
+      ⊎ ((copy : List (ArtifactFacts D)) × IsByView m.entries copy × GoesOnFrom m start copy result left)
 
   -- refused at once, with nothing changed, where more views are to be kept of a pruned record; else it goes on from what
   -- is left of its record
-  abbrev pub IsRestartWhere : Bool → MemberFacts K L D G → RestartFacts K L D → Result (Unit {0}) RecoverError → MemberFacts K L D G → Type 0
+  abbrev pub IsRestartWhere : Bool → MemberFacts K L D → RestartFacts K L D → Result (Unit {0}) RecoverError → MemberFacts K L D → Type 0
   IsRestartWhere true m r result left = (result ≡ Err error.RetentionGrown) × (left ≡ m)
   IsRestartWhere false m r result left = GoesOn (cut m r.drop r.prune) r.start result left
 
   -- a restart of a member, what it answers and what is left of the member
-  unfoldable pub IsRestart : MemberFacts K L D G → RestartFacts K L D → Result (Unit {0}) RecoverError → MemberFacts K L D G → Type 0
+  unfoldable pub IsRestart : MemberFacts K L D → RestartFacts K L D → Result (Unit {0}) RecoverError → MemberFacts K L D → Type 0
   IsRestart m r result left = IsRestartWhere (retention_grows m r.prune r.start.fresh.settings.view_retention) m r result left

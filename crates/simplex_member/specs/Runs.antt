@@ -38,60 +38,60 @@ abbrev pub AreSetUp : {S L D K G C : Type 0} → (S → List K) → (L → ℕ) 
 AreSetUp participants members [] = Unit {0}
 AreSetUp participants members (step ∷ steps) = IsSetUp participants members step × AreSetUp participants members steps
 
-module _ {K D G : Type 0} where
+module _ {K D : Type 0} where
   -- what a restart is told
-  abbrev pub restart_told : Result (Unit {0}) RecoverError → Told K D G
+  abbrev pub restart_told : Result (Unit {0}) RecoverError → Told K D
   restart_told (Ok _) = Restarted
   restart_told (Err e) = NotRestarted e
 
   -- a restart is told that it was refused
-  abbrev pub is_refusal : Told K D G → Bool
+  abbrev pub is_refusal : Told K D → Bool
   is_refusal (NotRestarted _) = true
   is_refusal _ = false
 
-module _ {K L D G : Type 0} (same : D → D → Bool) (elect : Elect L) (signature_of : ℕ → Subject D → G) where
+module _ {K L D : Type 0} (same : D → D → Bool) (elect : Elect L) where
   -- a call is answered, and a restart succeeds or is refused
-  abbrev pub IsStep : MemberFacts K L D G → StepFacts K L D → Told K D G → MemberFacts K L D G → Type 0
-  IsStep m (Calls call) told next = IsCall same elect signature_of m call told next
-  IsStep m (Works call) told next = IsWork same elect signature_of m call told next
+  abbrev pub IsStep : MemberFacts K L D → StepFacts K L D → Told K D → MemberFacts K L D → Type 0
+  IsStep m (Calls call) told next = IsCall same elect m call told next
+  IsStep m (Works call) told next = IsWork same elect m call told next
   IsStep m (Restarts r) told next =
       (result : Result (Unit {0}) RecoverError) × IsRestart same elect m r result next × (told ≡ restart_told result)
 
   -- each step is told something, by what the steps before it left
-  abbrev pub IsRun : MemberFacts K L D G → List (StepFacts K L D) → List (Told K D G) → MemberFacts K L D G → Type 0
+  abbrev pub IsRun : MemberFacts K L D → List (StepFacts K L D) → List (Told K D) → MemberFacts K L D → Type 0
   IsRun m [] [] end = m ≡ end
   IsRun m [] (told ∷ rest) end = ⊥
   IsRun m (step ∷ steps) [] end = ⊥
   IsRun m (step ∷ steps) (told ∷ rest) end =
-      (next : MemberFacts K L D G) × IsStep m step told next × IsRun next steps rest end
+      (next : MemberFacts K L D) × IsStep m step told next × IsRun next steps rest end
 
   -- a step is a restart that is refused by this error
-  abbrev pub IsRefused : MemberFacts K L D G → StepFacts K L D → RecoverError → Type 0
+  abbrev pub IsRefused : MemberFacts K L D → StepFacts K L D → RecoverError → Type 0
   IsRefused m (Calls call) found = ⊥
   IsRefused m (Works call) found = ⊥
-  IsRefused m (Restarts r) found = (left : MemberFacts K L D G) × IsRestart same elect m r (Err found) left
+  IsRefused m (Restarts r) found = (left : MemberFacts K L D) × IsRestart same elect m r (Err found) left
 
   -- some step is, and none before it
-  abbrev pub EndsRun : MemberFacts K L D G → List (StepFacts K L D) → RecoverError → Type 0
+  abbrev pub EndsRun : MemberFacts K L D → List (StepFacts K L D) → RecoverError → Type 0
   EndsRun m [] found = ⊥
   EndsRun m (step ∷ steps) found =
       IsRefused m step found
-      ⊎ ((told : Told K D G)
-      × (next : MemberFacts K L D G)
+      ⊎ ((told : Told K D)
+      × (next : MemberFacts K L D)
       × IsStep m step told next
       × (is_refusal told ≡ false)
       × EndsRun next steps found)
 
   -- a member starts, and takes the steps
-  unfoldable pub IsRunFrom : StartFacts K L D → List (StepFacts K L D) → List (Told K D G) → Type 0
+  unfoldable pub IsRunFrom : StartFacts K L D → List (StepFacts K L D) → List (Told K D) → Type 0
   IsRunFrom start steps replies =
-      (recover_error {G = G} same start.fresh start.floor start.now [] ≡ None)
-      × (end : MemberFacts K L D G)
+      (recover_error same start.fresh start.floor start.now [] ≡ None)
+      × (end : MemberFacts K L D)
       × IsRun (started same elect start.fresh start.floor start.now) steps replies end
 
   -- the start is refused, or a restart; or there was no memory
   unfoldable pub EndsRunFrom : StartFacts K L D → List (StepFacts K L D) → RecoverError → Type 0
   EndsRunFrom start steps found =
       (found ≡ error.OutOfMemory)
-      ⊎ (recover_error {G = G} same start.fresh start.floor start.now [] ≡ Some found)
+      ⊎ (recover_error same start.fresh start.floor start.now [] ≡ Some found)
       ⊎ EndsRun (started same elect start.fresh start.floor start.now) steps found

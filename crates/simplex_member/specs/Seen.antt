@@ -26,12 +26,12 @@ nothing_seen v = record { view = v; notarized = false; verdict = None; nullified
 abbrev pub turned_to : {D : Type 0} → Seen D → ℕ → Seen D
 turned_to s v = if nat_lt s.view v then nothing_seen v else s
 
-module _ {D G : Type 0} where
+module _ {D : Type 0} where
   -- with an entry of the view
-  abbrev pub with_entry : Seen D → ArtifactFacts D G → Seen D
-  with_entry s (NotarizeVote p _ _) = record s { notarize = Some p }
-  with_entry s (NullifyVote _ _ _) = record s { nullified = true }
-  with_entry s (FinalizeVote p _ _) = record s { finalize = Some p }
+  abbrev pub with_entry : Seen D → ArtifactFacts D → Seen D
+  with_entry s (NotarizeVote p _) = record s { notarize = Some p }
+  with_entry s (NullifyVote _ _) = record s { nullified = true }
+  with_entry s (FinalizeVote p _) = record s { finalize = Some p }
   with_entry s (Verdict _ success) = record s { verdict = Some success }
   with_entry s (Accepted (Notarized _)) = record s { notarized = true }
   with_entry s (Accepted (Nullified _)) = s
@@ -53,17 +53,17 @@ verdict_rules s success =
     ∷ (is_given (not success) s.verdict, error.ContradictingVerdicts)
     ∷ []
 
-module _ {D G : Type 0} (same : D → D → Bool) where
+module _ {D : Type 0} (same : D → D → Bool) where
   -- what an entry breaks
-  abbrev pub seen_rules : Seen D → ArtifactFacts D G → List (Bool × RecoverError)
-  seen_rules s (NotarizeVote p _ _) = (is_other same s.notarize p, error.ContradictingVotes) ∷ []
-  seen_rules s (NullifyVote _ _ _) = (is_some s.finalize, error.NullifyBesideFinalize) ∷ []
-  seen_rules s (FinalizeVote p _ _) = finalize_rules same s p
+  abbrev pub seen_rules : Seen D → ArtifactFacts D → List (Bool × RecoverError)
+  seen_rules s (NotarizeVote p _) = (is_other same s.notarize p, error.ContradictingVotes) ∷ []
+  seen_rules s (NullifyVote _ _) = (is_some s.finalize, error.NullifyBesideFinalize) ∷ []
+  seen_rules s (FinalizeVote p _) = finalize_rules same s p
   seen_rules s (Verdict _ success) = verdict_rules s success
   seen_rules s (Accepted _) = []
 
-module _ {D G : Type 0} (same : D → D → Bool) (epoch : ℕ) (me : Option ℕ) where
+module _ {D : Type 0} (same : D → D → Bool) (epoch : ℕ) (me : Option ℕ) where
   -- all that the next entry breaks
-  abbrev pub next_rules : Seen D → ArtifactFacts D G → List (Bool × RecoverError)
+  abbrev pub next_rules : Seen D → ArtifactFacts D → List (Bool × RecoverError)
   next_rules s e =
       (nat_lt (entry_view e) s.view, error.OutOfOrder) ∷ own_rules epoch me e ++ seen_rules same (turned_to s (entry_view e)) e

@@ -34,7 +34,7 @@ start_facts me members terms elects_early bytes_of start = record {
 }
 
 -- a member whose state sets the floor, and whose record is the floor's finalization
-abbrev pub started : {K L D G : Type 0} → (D → D → Bool) → Elect L → Facts K L D → FloorFacts D → ℕ → MemberFacts K L D G
+abbrev pub started : {K L D : Type 0} → (D → D → Bool) → Elect L → Facts K L D → FloorFacts D → ℕ → MemberFacts K L D
 started same elect x floor now = record {
   life = Some (after_set_floor same elect x floor now);
   openings = no_openings;

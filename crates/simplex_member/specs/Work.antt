@@ -66,21 +66,21 @@ module _ {K L D : Type 0} where
   work_fault x (NextTimeout now) = next_timeout_refusal x now
   work_fault x _ = plain_refusal x
 
-module _ {K L D G : Type 0} (same : D → D → Bool) (elect : Elect L) (signature_of : ℕ → Subject D → G) where
+module _ {K L D : Type 0} (same : D → D → Bool) (elect : Elect L) where
   -- the vote to notarize a view that is answered
-  abbrev pub notarize_vote : Facts K L D → ℕ → Option (ArtifactFacts D G)
+  abbrev pub notarize_vote : Facts K L D → ℕ → Option (ArtifactFacts D)
   notarize_vote x v =
       option_and_then
-      (λ m. option_map (λ p. NotarizeVote p m (signature_of m (subject.Notarize p))) (notarize_answer same elect x v))
+      (λ m. option_map (λ p. NotarizeVote p m) (notarize_answer same elect x v))
       x.me
 
   -- what the record grows by
-  abbrev pub recorded_by_work : Facts K L D → WorkCall D → List (ArtifactFacts D G)
+  abbrev pub recorded_by_work : Facts K L D → WorkCall D → List (ArtifactFacts D)
   recorded_by_work x (ConstructNotarize v) = vote_entry (notarize_vote x v)
   recorded_by_work x _ = []
 
   -- what a call is told that is allowed and not refused
-  abbrev pub work_answer : Facts K L D → Openings K D → WorkCall D → Told K D G
+  abbrev pub work_answer : Facts K L D → Openings K D → WorkCall D → Told K D
   work_answer x o (SetProposal v p) = Answered (set_proposal_answer x v)
   work_answer x o TryPropose = Requested (propose_answer same elect x)
   work_answer x o (Proposed v payload _) = Answered (option_map_or (λ context. proposed_answer same elect x context payload) (context_at o v) false)
@@ -138,30 +138,30 @@ takes_memory CertifyCandidates = true
 takes_memory (SetCertifyHandle _ _) = true
 takes_memory _ = false
 
-module _ {K L D G : Type 0} (same : D → D → Bool) (elect : Elect L) (signature_of : ℕ → Subject D → G) where
+module _ {K L D : Type 0} (same : D → D → Bool) (elect : Elect L) where
   -- what a living member tells
-  abbrev pub work_reply : Facts K L D → Openings K D → WorkCall D → Told K D G
-  work_reply x o call = if work_allowed x o call then unless_refused (work_fault x call) (work_answer same elect signature_of x o call) else NotAllowed
+  abbrev pub work_reply : Facts K L D → Openings K D → WorkCall D → Told K D
+  work_reply x o call = if work_allowed x o call then unless_refused (work_fault x call) (work_answer same elect x o call) else NotAllowed
 
   -- with what a call makes of the state and of what is open, and with what the record grows by
-  abbrev pub with_work : Facts K L D → MemberFacts K L D G → WorkCall D → MemberFacts K L D G
+  abbrev pub with_work : Facts K L D → MemberFacts K L D → WorkCall D → MemberFacts K L D
   with_work x m call = record m {
     life = Some (after_work same elect x m.openings call);
     openings = openings_after same elect x m.openings call;
-    entries = m.entries ++ recorded_by_work same elect signature_of x call;
+    entries = m.entries ++ recorded_by_work same elect x call;
   }
 
   -- what is left of a living member
-  abbrev pub left_of_work : Facts K L D → MemberFacts K L D G → WorkCall D → MemberFacts K L D G
+  abbrev pub left_of_work : Facts K L D → MemberFacts K L D → WorkCall D → MemberFacts K L D
   left_of_work x m call = if work_allowed x m.openings call then unless_kept (work_fault x call) m (with_work x m call) else m
 
   -- a living member answers by the definitions; or a growth was refused, and nothing has changed or the member has failed
-  abbrev pub IsWorkOf : Option (Facts K L D) → MemberFacts K L D G → WorkCall D → Told K D G → MemberFacts K L D G → Type 0
+  abbrev pub IsWorkOf : Option (Facts K L D) → MemberFacts K L D → WorkCall D → Told K D → MemberFacts K L D → Type 0
   IsWorkOf None m call told left = (told ≡ Refused fault.Failed) × (left ≡ m)
   IsWorkOf (Some x) m call told left =
       ((told ≡ work_reply x m.openings call) × (left ≡ left_of_work x m call))
       ⊎ ((takes_memory call && work_allowed x m.openings call ≡ true) × (told ≡ Refused fault.OutOfMemory) × ((left ≡ m) ⊎ (left ≡ fallen m)))
 
   -- a call on the work of a view, what it tells and what is left of the member
-  unfoldable pub IsWork : MemberFacts K L D G → WorkCall D → Told K D G → MemberFacts K L D G → Type 0
+  unfoldable pub IsWork : MemberFacts K L D → WorkCall D → Told K D → MemberFacts K L D → Type 0
   IsWork m call told left = IsWorkOf m.life m call told left

@@ -4,6 +4,8 @@ use Rattle.std.specs.Prelude.{◌≡◌, ℕ, ◌<◌, ◌^◌, List, ◌∷◌,
 use Rattle.std.specs.Int.{w64, to_be_bytes}
 use Rattle.simplex_types.specs.declared.types.numbers.Round.{Round}
 use Rattle.simplex_types.specs.declared.types.messages.Proposal.{Proposal}
+use Rattle.simplex_types.specs.declared.types.messages.Subject.{Subject}
+use Rattle.simplex_types.specs.declared.types.messages.Subject.TheVariants as subject
 use Rattle.simplex_types.specs.Certificates.{CertificateFacts, Notarized, Nullified, Finalized}
 
 -- the epoch and the view
@@ -19,6 +21,12 @@ abbrev pub encoding : {D : Type 0} → (D → List ℕ) → CertificateFacts D �
 encoding payload_bytes (Notarized c) = 0 ∷ (proposal_bytes payload_bytes c.proposal ++ c.bytes)
 encoding payload_bytes (Nullified c) = 1 ∷ (round_bytes c.round ++ c.bytes)
 encoding payload_bytes (Finalized c) = 2 ∷ (proposal_bytes payload_bytes c.proposal ++ c.bytes)
+
+-- what a vote signs: its kind, by the certificate that it counts for, and what it is on
+abbrev pub subject_bytes : {D : Type 0} → (D → List ℕ) → Subject D → List ℕ
+subject_bytes payload_bytes (subject.Notarize p) = 0 ∷ proposal_bytes payload_bytes p
+subject_bytes payload_bytes (subject.Nullify r) = 1 ∷ round_bytes r
+subject_bytes payload_bytes (subject.Finalize p) = 2 ∷ proposal_bytes payload_bytes p
 
 -- the numbers of a round fit eight bytes each, as those of each `Round` of the program do
 abbrev pub IsEncodableRound : Round → Type 0

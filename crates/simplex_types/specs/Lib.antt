@@ -10,4 +10,5 @@ pub mod Reasons
 pub mod Config
 pub mod Fault
 pub mod Encoding
+pub mod Signing
 pub mod Viewed

@@ -3,7 +3,9 @@ ghost use Rattle.std.specs.Option.{ForSome};
 
 use crate::config::{Config, ConfigError, Floor, ForwardPolicy, SkipBudget, SkipPolicy};
 use crate::reasons::{Ask, FetchReason, HandoffAbandonedReason, Kind, TimeoutReason, Until};
-use crate::types::plain::{PlainCertificate, PlainDigest, PlainElector, PlainKey, PlainScheme};
+use crate::types::plain::{
+    PlainCertificate, PlainDigest, PlainElector, PlainKey, PlainScheme, PlainSignature,
+};
 use crate::types::{
     Artifact, Certificate, CertificateScheme, Digest, Elector, Epoch, Fault, Finalization,
     Finalize, Lookahead, Notarization, Notarize, Nullification, Nullify, Participant, Proposal,
@@ -106,24 +108,27 @@ fn a_copy_is_encoded_alike(rt: HostRuntime) -> Result<(), Fail> {
 #[test]
 fn artifacts_are_copied_with_their_view(rt: HostRuntime) -> Result<(), Fail> {
     let signer = Participant::new(2);
+    let key = PlainKey(2);
+    let voted = proposal(1, 3, 2, 7);
+    let nullify: Subject<PlainDigest> = Subject::Nullify(voted.round);
     let artifacts: [Artifact<PlainScheme, PlainDigest>; 7] = [
         Artifact::Notarize(Notarize {
-            proposal: proposal(1, 3, 2, 7),
+            proposal: voted,
             signer,
-            signature: (),
+            signature: PlainSignature::new(rt.alloc(), key, &Subject::Notarize(voted))?,
         }),
         Artifact::Notarization(notarization(3)),
         Artifact::Certification(round(1, 3), true),
         Artifact::Nullify(Nullify {
             round: round(1, 3),
             signer,
-            signature: (),
+            signature: PlainSignature::new(rt.alloc(), key, &nullify)?,
         }),
         Artifact::Nullification(nullification(1, 3)),
         Artifact::Finalize(Finalize {
-            proposal: proposal(1, 3, 2, 7),
+            proposal: voted,
             signer,
-            signature: (),
+            signature: PlainSignature::new(rt.alloc(), key, &Subject::Finalize(voted))?,
         }),
         Artifact::Finalization(finalization(1, 3, true)),
     ];
@@ -144,10 +149,31 @@ fn a_scheme_signs_exactly_with_a_key(rt: HostRuntime) -> Result<(), Fail> {
     );
     let subject: Subject<PlainDigest> = Subject::Nullify(round(1, 3));
     assert_eq!(rt; subject.view(), View::new(3));
-    assert_eq!(rt; copy.sign(rt.alloc(), &subject)?, Some(()));
+    let signed = copy.sign(rt.alloc(), &subject)?.ok_or("no signature")?;
+    assert_eq!(rt; signed.key, PlainKey(3));
     let watcher = PlainScheme::new(rt.alloc(), 4, None)?;
-    assert_eq!(rt; watcher.sign(rt.alloc(), &subject)?, None);
+    assert!(rt; watcher.sign(rt.alloc(), &subject)?.is_none());
     assert!(rt; Scheme::<PlainDigest>::verify(&watcher, &subject, &good()));
+    Ok(())
+}
+
+#[test]
+fn a_signature_is_on_one_subject(rt: HostRuntime) -> Result<(), Fail> {
+    let voted = proposal(1, 3, 2, 7);
+    let key = PlainKey(3);
+    let finalize = PlainSignature::new(rt.alloc(), key, &Subject::Finalize(voted))?;
+    let again = PlainScheme::copy_signature(rt.alloc(), &finalize)?;
+    assert!(rt; again.key == finalize.key && again.text == finalize.text);
+    for other in [
+        Subject::Notarize(voted),
+        Subject::Nullify(voted.round),
+        Subject::Finalize(proposal(1, 3, 2, 8)),
+        Subject::Finalize(proposal(1, 3, 1, 7)),
+        Subject::Finalize(proposal(2, 3, 2, 7)),
+    ] {
+        let signature = PlainSignature::new(rt.alloc(), key, &other)?;
+        assert!(rt; signature.text != finalize.text);
+    }
     Ok(())
 }
 

@@ -9,20 +9,21 @@ use Rattle.simplex_types.specs.declared.types.messages.Nullify.{Nullify}
 use Rattle.simplex_types.specs.declared.types.messages.Finalize as message
 use Rattle.simplex_types.specs.declared.types.messages.Subject.{Subject}
 use Rattle.simplex_types.specs.declared.types.messages.Subject.TheVariants as subject
+use Rattle.simplex_types.specs.Signing.{IsSignedAs}
 use Rattle.simplex_voter.specs.Facts.{Facts, Elect, round_number, round_of, with_round}
 use Rattle.simplex_voter.specs.Leaders.{prepared}
 use Rattle.simplex_voter.specs.Rules.{may_notarize, may_nullify, may_finalize}
 
 -- the vote is this member's, for this view of its epoch, with its signature on just that
-pub record IsSignedNullify {S L D K G C : Type 0} (signature_of : ℕ → Subject D → G) (x : Facts K L D) (v : ℕ) (vote : Nullify S K G C) : Type 0 where
+pub record IsSignedNullify {S L D K G C : Type 0} (is_signature : K → Subject D → G → Type 0) (x : Facts K L D) (v : ℕ) (vote : Nullify S K G C) : Type 0 where
   pub round : vote.round ≡ round_number x v
   pub signer : x.me ≡ Some vote.signer
-  pub signature : vote.signature ≡ signature_of vote.signer (subject.Nullify vote.round)
+  pub signed : IsSignedAs is_signature x.me x.members (subject.Nullify vote.round) vote.signature
 
 -- the vote is this member's, with its signature on just its proposal
-pub record IsSignedFinalize {S L D K G C : Type 0} (signature_of : ℕ → Subject D → G) (x : Facts K L D) (vote : message.Finalize S D K G C) : Type 0 where
+pub record IsSignedFinalize {S L D K G C : Type 0} (is_signature : K → Subject D → G → Type 0) (x : Facts K L D) (vote : message.Finalize S D K G C) : Type 0 where
   pub signer : x.me ≡ Some vote.signer
-  pub signature : vote.signature ≡ signature_of vote.signer (subject.Finalize vote.proposal)
+  pub signed : IsSignedAs is_signature x.me x.members (subject.Finalize vote.proposal) vote.signature
 
 module _ {K L D : Type 0} where
   -- this member's nullify vote for the view is out, where it has a key

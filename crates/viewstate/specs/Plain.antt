@@ -1,8 +1,7 @@
--- How the plain parts compare payloads, elect, sign and write certificates.
+-- How the plain parts compare payloads, elect and write certificates.
 use Rattle.std.specs.Prelude.{ℕ, Bool, List, [], ◌∷◌, Option, if◌then◌else◌}
 use Rattle.std.specs.Str.{bytes_eq}
 use Rattle.simplex_types.specs.declared.types.numbers.Round.{Round}
-use Rattle.simplex_types.specs.declared.types.messages.Subject.{Subject}
 use Rattle.simplex_types.specs.declared.types.plain.PlainCertificate.{PlainCertificate}
 use Rattle.simplex_types.specs.declared.types.plain.PlainDigest.{PlainDigest}
 use Rattle.simplex_types.specs.declared.types.plain.PlainElector.{PlainElector}
@@ -16,12 +15,9 @@ same_payload d e = bytes_eq (digest_bytes d) (digest_bytes e)
 abbrev pub plain_leader : PlainElector → Round → Option (List ℕ) → ℕ
 plain_leader e round seed = leader_in_turn e round.view
 
-abbrev pub plain_signature : ℕ → Subject PlainDigest → Unit {0}
-plain_signature signer subject = tt
-
 abbrev pub plain_bytes : PlainCertificate → List ℕ
 plain_bytes c = (if c.good then 1 else 0) ∷ []
 
 -- a member of plain parts
 abbrev pub PlainMember : Type 0
-PlainMember = MemberFacts PlainKey PlainElector PlainDigest (Unit {0})
+PlainMember = MemberFacts PlainKey PlainElector PlainDigest

@@ -20,7 +20,7 @@ use Rattle.viewstate.specs.declared.voter_line.VoterLine.{VoterLine}
 use Rattle.viewstate.specs.declared.voter_line.VoterLine.TheVariants.{Notarization, Nullification, Finalization, Verdict, Nullify, Finalize, Broadcast, Best, Prune, Proposal as ProposalOf, Release, Trigger, Timeout, Restart, RestartPruned, Record, Views}
 use Rattle.viewstate.specs.declared.voter.VoterAnswer.{VoterAnswer}
 use Rattle.viewstate.specs.declared.voter.VoterAnswer.TheVariants as answer
-use Rattle.viewstate.specs.Plain.{PlainMember, same_payload, plain_leader, plain_signature, plain_bytes}
+use Rattle.viewstate.specs.Plain.{PlainMember, same_payload, plain_leader, plain_bytes}
 use Rattle.viewstate.specs.Setup.{IsGenesisStart}
 
 -- the round and the proposal that the numbers of a line stand for
@@ -72,13 +72,13 @@ views_of (Some x) = answer.Views x.current x.finalized (min_active x)
 -- the reply to a call, and what it leaves
 abbrev pub IsReplied : PlainMember → VoterLine → CallFacts PlainDigest → VoterAnswer → PlainMember → Type 0
 IsReplied m line call (answer.Reply said reply) left =
-    (said ≡ line) × IsCall same_payload plain_leader plain_signature m call (told plain_bytes reply) left
+    (said ≡ line) × IsCall same_payload plain_leader m call (told plain_bytes reply) left
 IsReplied _ _ _ _ _ = ⊥
 
 -- the reply to a call on the work of a view, and what it leaves
 abbrev pub IsWorkReplied : PlainMember → VoterLine → WorkCall PlainDigest → VoterAnswer → PlainMember → Type 0
 IsWorkReplied m line work (answer.Reply said reply) left =
-    (said ≡ line) × IsWork same_payload plain_leader plain_signature m work (told plain_bytes reply) left
+    (said ≡ line) × IsWork same_payload plain_leader m work (told plain_bytes reply) left
 IsWorkReplied _ _ _ _ _ = ⊥
 
 -- what a restart of the network's member answers, and what it leaves; the record is cut as asked, and pruned or not

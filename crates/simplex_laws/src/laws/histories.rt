@@ -13,10 +13,10 @@ use simplex_types::types::{Digest, Elector, Scheme};
 /// - `restarted`: so does the state that a restart makes, from an order by view of what is left of the record.
 /// - `ran`: and so, whatever the calls and restarts of a run, does the state at its end.
 pub fn histories_are_shown<S: Scheme<D>, L: Elector<S>, D: Digest>()
-    ensures begun { NothingSaid S.PublicKey D.eq L.elect S.signature_of }
-    ensures kept { EventsAreShown S.PublicKey D.eq L.elect S.signature_of }
-    ensures called { CallsAreShown S.PublicKey D.eq L.elect S.signature_of }
-    ensures recovered { RecoveriesAreShown S.PublicKey D.eq L.elect S.signature_of }
-    ensures restarted { RestartsAreShown S.PublicKey D.eq L.elect S.signature_of }
-    ensures ran { RunsAreShown S.PublicKey D.eq L.elect S.signature_of }
+    ensures begun { NothingSaid S.PublicKey D.eq L.elect }
+    ensures kept { EventsAreShown S.PublicKey D.eq L.elect }
+    ensures called { CallsAreShown S.PublicKey D.eq L.elect }
+    ensures recovered { RecoveriesAreShown S.PublicKey D.eq L.elect }
+    ensures restarted { RestartsAreShown S.PublicKey D.eq L.elect }
+    ensures ran { RunsAreShown S.PublicKey D.eq L.elect }
 {}

@@ -8,7 +8,7 @@ use simplex_types::types::{Digest, Elector, Scheme};
 ///
 /// - `never_falls`: neither the current view nor the last finalized one falls. A member that has failed stays so.
 pub fn lives_keep_order<S: Scheme<D>, L: Elector<S>, D: Digest>()
-    ensures never_falls { OfEachLife S.PublicKey D.eq L.elect S.signature_of (λ m calls replies end. WhileAlive NeverFalls m.life end.life) }
+    ensures never_falls { OfEachLife S.PublicKey D.eq L.elect (λ m calls replies end. WhileAlive NeverFalls m.life end.life) }
 {}
 
 /// The lives of a run, from a start on and with restarts in whatever number. It does nothing: its contract is the law.
@@ -21,11 +21,11 @@ pub fn lives_keep_order<S: Scheme<D>, L: Elector<S>, D: Digest>()
 /// - `dropped_for_good`: a view that was dropped isn't tracked again in that life.
 /// - `handed_as_asked`: a certificate that is handed out to broadcast is of the kind and the view that were asked for.
 pub fn runs_keep_order<S: Scheme<D>, L: Elector<S>, D: Digest>()
-    ensures stretches { StretchesAreLives S.PublicKey D.eq L.elect S.signature_of }
-    ensures conflicts_stay { OfEachStretch S.PublicKey D.eq L.elect S.signature_of
+    ensures stretches { StretchesAreLives S.PublicKey D.eq L.elect }
+    ensures conflicts_stay { OfEachStretch S.PublicKey D.eq L.elect
         (λ m calls replies end. WhileAlive (ConflictsStay replies) m.life end.life) }
-    ensures handed_once { OfEachStretch S.PublicKey D.eq L.elect S.signature_of (λ m calls replies end. HandedOnce calls replies) }
-    ensures dropped_for_good { OfEachStretch S.PublicKey D.eq L.elect S.signature_of
+    ensures handed_once { OfEachStretch S.PublicKey D.eq L.elect (λ m calls replies end. HandedOnce calls replies) }
+    ensures dropped_for_good { OfEachStretch S.PublicKey D.eq L.elect
         (λ m calls replies end. WhileAlive (DroppedForGood replies) m.life end.life) }
-    ensures handed_as_asked { OfEachStretch S.PublicKey D.eq L.elect S.signature_of (λ m calls replies end. HandedAsAsked calls replies) }
+    ensures handed_as_asked { OfEachStretch S.PublicKey D.eq L.elect (λ m calls replies end. HandedAsAsked calls replies) }
 {}

@@ -1,6 +1,6 @@
 //! Members whose deeds so far keep the laws: a whole run, and one that goes on.
 
-ghost use Rattle.std.specs.Prelude.{◌≡◌, ℕ, IfOk, IfErr, length};
+ghost use Rattle.std.specs.Prelude.{◌≡◌, ℕ, IfOk, IfErr, IfSome, length};
 ghost use Rattle.simplex_member.specs.Runs.{AreSetUp, EndsRunFrom, steps_of};
 ghost use Rattle.simplex_member.specs.Start.{start_facts};
 ghost use Rattle.simplex_laws.specs.Exactly.{SignsExactly};
@@ -30,17 +30,17 @@ pub fn run_lawfully<S: Scheme<D>, L: Elector<S>, D: Digest>(
     requires started { L.members start.settings.elector ≡ length (S.participants start.settings.scheme) }
     requires restarted { AreSetUp S.participants L.members steps.items }
     ensures exact { IfOk result (λ replies.
-        SignsExactly D.eq L.elect S.signature_of
+        SignsExactly D.eq L.elect
         (story_of S.me S.participants L.terms L.elects_early S.certificate_bytes start steps.items replies.items)) }
     ensures ran { IfOk result (λ replies. (term_length i : ℕ) → AreSetUpAs S.me L.terms term_length i start steps.items
-        → Ran D.eq L.elect S.signature_of term_length i
+        → Ran D.eq L.elect term_length i
         (story_of S.me S.participants L.terms L.elects_early S.certificate_bytes start steps.items replies.items)) }
     ensures shows { IfOk result (λ replies.
         deeds_of (story_of S.me S.participants L.terms L.elects_early S.certificate_bytes start steps.items replies.items)
         ≡ shown start steps.items replies.items) }
     ensures lawful { IfOk result (λ replies. (term_length i : ℕ) → AreSetUpAs S.me L.terms term_length i start steps.items
         → IsLawful term_length (shown start steps.items replies.items)) }
-    ensures ended { IfErr result (EndsRunFrom D.eq L.elect S.signature_of
+    ensures ended { IfErr result (EndsRunFrom D.eq L.elect
         (start_facts S.me S.participants L.terms L.elects_early S.certificate_bytes start)
         (steps_of S.me S.participants L.terms L.elects_early S.certificate_bytes steps.items)) }
 {
@@ -56,7 +56,7 @@ pub struct LawfulMember<S: CertificateScheme, L: Elector<S>, D: Digest> {
 impl<S: CertificateScheme, L: Elector<S>, D: Digest> Model for LawfulMember<S, L, D> {
     ghost use Rattle.simplex_member.specs.Lives.{MemberFacts};
 
-    ghost Value = { MemberFacts S.PublicKey L D S.Signature };
+    ghost Value = { MemberFacts S.PublicKey L D };
 
     ghost view = { λ m. m.member };
 }
@@ -67,6 +67,7 @@ impl<S: Scheme<D>, L: Elector<S>, D: Digest> LawfulMember<S, L, D> {
     ghost use Rattle.simplex_member.specs.Calls.{call_facts, told};
     ghost use Rattle.simplex_member.specs.Runs.{Calls, Works};
     ghost use Rattle.simplex_member.specs.Lives.{IsCall};
+    ghost use Rattle.simplex_member.specs.Signed.{IsSignedReply};
     ghost use Rattle.simplex_member.specs.Recovery.{recover_error};
     ghost use Rattle.simplex_member.specs.Restarts.{restart_facts, IsRestart};
     ghost use Rattle.simplex_member.specs.Start.{set_up, started, IsDue};
@@ -87,10 +88,10 @@ impl<S: Scheme<D>, L: Elector<S>, D: Digest> LawfulMember<S, L, D> {
         ensures started { IfOk result (λ member. member ≡ started D.eq L.elect
             (set_up S.me S.participants L.terms L.elects_early start.settings)
             (floor_facts S.certificate_bytes start.floor) start.now) }
-        ensures refused { IfErr result (IsDue (recover_error {G = S.Signature} D.eq
+        ensures refused { IfErr result (IsDue (recover_error D.eq
             (set_up S.me S.participants L.terms L.elects_early start.settings)
             (floor_facts S.certificate_bytes start.floor) start.now [])) }
-        ensures begins { IfOk result (HasBegun D.eq L.elect S.signature_of S.me L.terms start) }
+        ensures begins { IfOk result (HasBegun D.eq L.elect S.me L.terms start) }
     {
         Ok(LawfulMember {
             member: Member::start(alloc, start)?,
@@ -100,18 +101,19 @@ impl<S: Scheme<D>, L: Elector<S>, D: Digest> LawfulMember<S, L, D> {
     /// Makes a call of the state. A vote is told exactly where its rule holds; what the member has done grows by the
     /// certificate that it accepts and the vote that it is told.
     pub fn call(&mut self, call: Call<S, D>) -> Reply<S, D>
-        ensures answered { IsCall D.eq L.elect S.signature_of self.old (call_facts S.certificate_bytes call) (told S.certificate_bytes result) self.new }
-        ensures exact { ExactAt D.eq L.elect S.signature_of self.old.life (Calls (call_facts S.certificate_bytes call)) (told S.certificate_bytes result) }
-        ensures goes_on { DoesMore D.eq L.elect S.signature_of self.old (taken_by call result ++ votes_in result) self.new }
+        ensures answered { IsCall D.eq L.elect self.old (call_facts S.certificate_bytes call) (told S.certificate_bytes result) self.new }
+        ensures signed { IfSome self.old.life (IsSignedReply S.IsSignature result) }
+        ensures exact { ExactAt D.eq L.elect self.old.life (Calls (call_facts S.certificate_bytes call)) (told S.certificate_bytes result) }
+        ensures goes_on { DoesMore D.eq L.elect self.old (taken_by call result ++ votes_in result) self.new }
     {
         self.member.call(call)
     }
 
     /// Makes a call on the work of a view. What the member has done grows by the vote that it is told.
     pub fn work(&mut self, work: Work<D>) -> Reply<S, D>
-        ensures answered { IsWork D.eq L.elect S.signature_of self.old (work_facts work) (told S.certificate_bytes result) self.new }
-        ensures exact { ExactAt D.eq L.elect S.signature_of self.old.life (Works (work_facts work)) (told S.certificate_bytes result) }
-        ensures goes_on { DoesMore D.eq L.elect S.signature_of self.old (votes_in result) self.new }
+        ensures answered { IsWork D.eq L.elect self.old (work_facts work) (told S.certificate_bytes result) self.new }
+        ensures exact { ExactAt D.eq L.elect self.old.life (Works (work_facts work)) (told S.certificate_bytes result) }
+        ensures goes_on { DoesMore D.eq L.elect self.old (votes_in result) self.new }
     {
         self.member.work(work)
     }
@@ -122,7 +124,7 @@ impl<S: Scheme<D>, L: Elector<S>, D: Digest> LawfulMember<S, L, D> {
         requires { L.members restart.start.settings.elector ≡ length (S.participants restart.start.settings.scheme) }
         ensures restarted { IsRestart D.eq L.elect self.old
             (restart_facts S.me S.participants L.terms L.elects_early S.certificate_bytes restart) result self.new }
-        ensures goes_on { HasBegunAgain D.eq L.elect S.signature_of S.me L.terms self.old restart.start result self.new }
+        ensures goes_on { HasBegunAgain D.eq L.elect S.me L.terms self.old restart.start result self.new }
     {
         self.member.restart(restart)
     }
@@ -130,7 +132,7 @@ impl<S: Scheme<D>, L: Elector<S>, D: Digest> LawfulMember<S, L, D> {
     /// All that the member has done so far keeps the voting rules, and a network may have it as member `i`. It does nothing:
     /// its contract is the law.
     pub fn keeps_the_laws(&self)
-        ensures lawful { OfAllDone D.eq L.elect S.signature_of self.now (λ term_length i all. IsLawful term_length all) }
-        ensures ran { OfAllDone D.eq L.elect S.signature_of self.now (MayBeDoneBy S.PublicKey D.eq L.elect S.signature_of) }
+        ensures lawful { OfAllDone D.eq L.elect self.now (λ term_length i all. IsLawful term_length all) }
+        ensures ran { OfAllDone D.eq L.elect self.now (MayBeDoneBy S.PublicKey D.eq L.elect) }
     {}
 }

@@ -34,14 +34,14 @@ use simplex_types::types::{Digest, Elector, Scheme};
 /// - `chain_holds_finalized`: a chain of notarized proposals, each naming the next one's view as its parent, that holds one
 ///   above a finalized view and one at or below it holds the finalized proposal.
 pub fn agreement<S: Scheme<D>, L: Elector<S>, D: Digest>()
-    ensures exact { OfEachMember S.PublicKey D.eq L.elect S.signature_of (λ term_length s. SignsExactly D.eq L.elect S.signature_of s) }
-    ensures lawful { OfEachMember S.PublicKey D.eq L.elect S.signature_of (λ term_length s. IsLawful term_length (deeds_of s)) }
-    ensures one_proposal { OfEachNetwork S.PublicKey D.eq L.elect S.signature_of (λ term_length. OneProposal S.signature_of) }
-    ensures finalized_uncovered { OfEachNetwork S.PublicKey D.eq L.elect S.signature_of
-        (λ term_length network. FinalizedUncovered S.signature_of network term_length) }
-    ensures parent_not_below { OfEachNetwork S.PublicKey D.eq L.elect S.signature_of (λ term_length. ParentNotBelow S.signature_of) }
-    ensures finalized_notarized { OfEachNetwork S.PublicKey D.eq L.elect S.signature_of (λ term_length. FinalizedNotarized S.signature_of) }
-    ensures chain_holds_finalized { OfEachNetwork S.PublicKey D.eq L.elect S.signature_of (λ term_length. ChainHoldsFinalized S.signature_of) }
+    ensures exact { OfEachMember S.PublicKey D.eq L.elect (λ term_length s. SignsExactly D.eq L.elect s) }
+    ensures lawful { OfEachMember S.PublicKey D.eq L.elect (λ term_length s. IsLawful term_length (deeds_of s)) }
+    ensures one_proposal { OfEachNetwork S.PublicKey D.eq L.elect (λ term_length. OneProposal) }
+    ensures finalized_uncovered { OfEachNetwork S.PublicKey D.eq L.elect
+        (λ term_length network. FinalizedUncovered network term_length) }
+    ensures parent_not_below { OfEachNetwork S.PublicKey D.eq L.elect (λ term_length. ParentNotBelow) }
+    ensures finalized_notarized { OfEachNetwork S.PublicKey D.eq L.elect (λ term_length. FinalizedNotarized) }
+    ensures chain_holds_finalized { OfEachNetwork S.PublicKey D.eq L.elect (λ term_length. ChainHoldsFinalized) }
 {}
 
 /// What a member does over all its lives keeps the voting rules, whatever keys its lives sign with. It does nothing: its
@@ -51,5 +51,5 @@ pub fn agreement<S: Scheme<D>, L: Elector<S>, D: Digest>()
 /// another floor, may drop the last entries of the record and may prune it. Only the length of the terms, which is not 0, is
 /// the same in each life, and each begins with a state that knows nothing but how it was set up, `IsFresh`.
 pub fn votes_are_lawful<S: Scheme<D>, L: Elector<S>, D: Digest>()
-    ensures { RunsAreLawful S.PublicKey D.eq L.elect S.signature_of }
+    ensures { RunsAreLawful S.PublicKey D.eq L.elect }
 {}

@@ -16,7 +16,7 @@ use simplex_types::types::{Digest, Elector, Scheme};
 ///   memory.
 /// - `run`: so is a run, at its start or at one of its restarts.
 pub fn own_record_is_taken<S: Scheme<D>, L: Elector<S>, D: Digest>()
-    ensures record { OfEachEnd S.PublicKey D.eq L.elect S.signature_of (RecordIsTaken S.PublicKey D.eq L.elect S.signature_of) }
-    ensures restart { OfEachEnd S.PublicKey D.eq L.elect S.signature_of (RestartIsExcused S.PublicKey D.eq L.elect S.signature_of) }
-    ensures run { RunsAreExcused S.PublicKey D.eq L.elect S.signature_of }
+    ensures record { OfEachEnd S.PublicKey D.eq L.elect (RecordIsTaken S.PublicKey D.eq L.elect) }
+    ensures restart { OfEachEnd S.PublicKey D.eq L.elect (RestartIsExcused S.PublicKey D.eq L.elect) }
+    ensures run { RunsAreExcused S.PublicKey D.eq L.elect }
 {}

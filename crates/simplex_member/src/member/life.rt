@@ -1,6 +1,6 @@
 //! A member: its state, and the record from which a state can be made again.
 
-ghost use Rattle.std.specs.Prelude.{◌≡◌, [], None, IfOk, IfErr, OnOk, length};
+ghost use Rattle.std.specs.Prelude.{◌≡◌, [], None, IfOk, IfErr, IfSome, OnOk, length};
 ghost use Rattle.std.specs.Option.{option_copied};
 
 use super::call_error::CallError;
@@ -42,7 +42,7 @@ impl<S: CertificateScheme, L: Elector<S>, D: Digest> Model for Member<S, L, D> {
     ghost use Rattle.simplex_member.specs.Lives.{MemberFacts, living};
     ghost use Rattle.simplex_member.specs.Openings.{no_openings};
 
-    ghost Value = { MemberFacts S.PublicKey L D S.Signature };
+    ghost Value = { MemberFacts S.PublicKey L D };
 
     ghost view = { λ m. record { life = living m.failed m.state; openings = no_openings; entries = entries_of S.certificate_bytes m.artifacts.items; closed = m.closed; is_pruned = m.is_pruned; retention = m.retention; least_retention = m.least_retention } };
 
@@ -53,6 +53,7 @@ impl<S: CertificateScheme, L: Elector<S>, D: Digest> Member<S, L, D> {
     ghost use Rattle.simplex_member.specs.Entries.{entries_of};
     ghost use Rattle.simplex_member.specs.Calls.{call_facts, told};
     ghost use Rattle.simplex_member.specs.Lives.{IsCall};
+    ghost use Rattle.simplex_member.specs.Signed.{IsSignedReply};
     ghost use Rattle.simplex_member.specs.Recovery.{recover_error};
     ghost use Rattle.simplex_member.specs.Start.{set_up, started, IsDue};
     ghost use Rattle.simplex_types.specs.Config.{floor_facts};
@@ -65,8 +66,8 @@ impl<S: CertificateScheme, L: Elector<S>, D: Digest> Member<S, L, D> {
     pub fn start(alloc: Global, start: Start<S, L, D>) -> Result<Member<S, L, D>, RecoverError>
         requires { L.members start.settings.elector ≡ length (S.participants start.settings.scheme) }
         ensures started { IfOk result (λ member. member ≡ started D.eq L.elect (set_up S.me S.participants L.terms L.elects_early start.settings) (floor_facts S.certificate_bytes start.floor) start.now) }
-        ensures accepted { OnOk result (recover_error {G = S.Signature} D.eq (set_up S.me S.participants L.terms L.elects_early start.settings) (floor_facts S.certificate_bytes start.floor) start.now [] ≡ None) }
-        ensures refused { IfErr result (IsDue (recover_error {G = S.Signature} D.eq (set_up S.me S.participants L.terms L.elects_early start.settings) (floor_facts S.certificate_bytes start.floor) start.now [])) }
+        ensures accepted { OnOk result (recover_error D.eq (set_up S.me S.participants L.terms L.elects_early start.settings) (floor_facts S.certificate_bytes start.floor) start.now [] ≡ None) }
+        ensures refused { IfErr result (IsDue (recover_error D.eq (set_up S.me S.participants L.terms L.elects_early start.settings) (floor_facts S.certificate_bytes start.floor) start.now [])) }
     {
         let retention = retention_of(&start.settings);
         let (state, finalization) = begin(alloc, start.settings, start.floor, start.now)?;
@@ -111,7 +112,8 @@ impl<S: CertificateScheme, L: Elector<S>, D: Digest> Member<S, L, D> {
     pub fn call(&mut self, call: Call<S, D>) -> Reply<S, D>
     where
         S: Scheme<D>,
-        ensures { IsCall D.eq L.elect S.signature_of self.old (call_facts S.certificate_bytes call) (told S.certificate_bytes result) self.new }
+        ensures made { IsCall D.eq L.elect self.old (call_facts S.certificate_bytes call) (told S.certificate_bytes result) self.new }
+        ensures signed { IfSome self.old.life (IsSignedReply S.IsSignature result) }
     {
         if self.failed {
             return Reply::Fault(Fault::Failed);

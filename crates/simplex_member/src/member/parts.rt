@@ -3,13 +3,14 @@
 //! Each makes room in the record before it calls the state, so that nothing has changed where there is none.
 
 ghost use Rattle.std.specs.Prelude.{◌≡◌, ◌<◌, ◌++◌, ◌∷◌, [], Option, Some, None, Bool, true, false, IfOk, IfErr, OnOk, OnErr, vec_len, vec_capacity, option_map};
-ghost use Rattle.simplex_types.specs.Certificates.{notarization_facts, nullification_facts, finalization_facts, artifact_facts, Notarized, Nullified, Finalized, Verdict, Accepted};
+ghost use Rattle.simplex_types.specs.Certificates.{notarization_facts, nullification_facts, finalization_facts, artifact_facts, signature_in, Notarized, Nullified, Finalized, Verdict, Accepted};
 ghost use Rattle.simplex_member.specs.Entries.{entries_of};
 ghost use Rattle.simplex_voter.specs.Acceptance.{takes_proposal_certificate, takes_nullification, notarization_refusal, nullification_refusal, finalization_refusal, notarization_added, nullification_added, finalization_added, after_add_notarization, after_add_nullification, after_add_finalization};
 ghost use Rattle.simplex_voter.specs.Certification.{takes_verdict, is_first_verdict, certified_refusal, certified_answer, after_certified};
 ghost use Rattle.simplex_voter.specs.Facts.{round_number};
 ghost use Rattle.simplex_member.specs.Calls.{newly};
 ghost use Rattle.simplex_member.specs.Made.{EndsBy};
+ghost use Rattle.simplex_member.specs.Signed.{signatures_of};
 
 use super::call_error::CallError;
 use simplex_types::types::{
@@ -25,7 +26,8 @@ pub(super) fn keep<S: CertificateScheme, D: Digest>(
     artifact: Artifact<S, D>,
 )
     requires { vec_len artifacts.old < vec_capacity artifacts.old }
-    ensures { entries_of S.certificate_bytes artifacts.new.items ≡ entries_of S.certificate_bytes artifacts.old.items ++ artifact_facts S.certificate_bytes artifact ∷ [] }
+    ensures kept { entries_of S.certificate_bytes artifacts.new.items ≡ entries_of S.certificate_bytes artifacts.old.items ++ artifact_facts S.certificate_bytes artifact ∷ [] }
+    ensures signature { signatures_of artifacts.new.items ≡ signatures_of artifacts.old.items ++ signature_in artifact ∷ [] }
 {
     match artifacts.push(artifact) {
         Ok(()) => {}

@@ -35,8 +35,8 @@ pub fn run<S: Scheme<D>, L: Elector<S>, D: Digest>(
 ) -> Result<Vec<Reply<S, D>>, RecoverError>
     requires started { L.members start.settings.elector ≡ length (S.participants start.settings.scheme) }
     requires restarted { AreSetUp S.participants L.members steps.items }
-    ensures whole { IfOk result (λ replies. IsRunFrom D.eq L.elect S.signature_of (start_facts S.me S.participants L.terms L.elects_early S.certificate_bytes start) (steps_of S.me S.participants L.terms L.elects_early S.certificate_bytes steps.items) (map (told S.certificate_bytes) replies.items)) }
-    ensures ended { IfErr result (EndsRunFrom D.eq L.elect S.signature_of (start_facts S.me S.participants L.terms L.elects_early S.certificate_bytes start) (steps_of S.me S.participants L.terms L.elects_early S.certificate_bytes steps.items)) }
+    ensures whole { IfOk result (λ replies. IsRunFrom D.eq L.elect (start_facts S.me S.participants L.terms L.elects_early S.certificate_bytes start) (steps_of S.me S.participants L.terms L.elects_early S.certificate_bytes steps.items) (map (told S.certificate_bytes) replies.items)) }
+    ensures ended { IfErr result (EndsRunFrom D.eq L.elect (start_facts S.me S.participants L.terms L.elects_early S.certificate_bytes start) (steps_of S.me S.participants L.terms L.elects_early S.certificate_bytes steps.items)) }
 {
     let mut member = Member::start(alloc, start)?;
     take_steps(alloc, &mut member, steps)
@@ -49,8 +49,8 @@ fn take_steps<S: Scheme<D>, L: Elector<S>, D: Digest>(
     steps: Vec<Step<S, L, D>>,
 ) -> Result<Vec<Reply<S, D>>, RecoverError>
     requires { AreSetUp S.participants L.members steps.items }
-    ensures whole { IfOk result (λ replies. IsRun D.eq L.elect S.signature_of member.old (steps_of S.me S.participants L.terms L.elects_early S.certificate_bytes steps.items) (map (told S.certificate_bytes) replies.items) member.new) }
-    ensures ended { IfErr result (λ error. (error ≡ OutOfMemory) ⊎ EndsRun D.eq L.elect S.signature_of member.old (steps_of S.me S.participants L.terms L.elects_early S.certificate_bytes steps.items) error) }
+    ensures whole { IfOk result (λ replies. IsRun D.eq L.elect member.old (steps_of S.me S.participants L.terms L.elects_early S.certificate_bytes steps.items) (map (told S.certificate_bytes) replies.items) member.new) }
+    ensures ended { IfErr result (λ error. (error ≡ OutOfMemory) ⊎ EndsRun D.eq L.elect member.old (steps_of S.me S.participants L.terms L.elects_early S.certificate_bytes steps.items) error) }
 {
     let mut replies = Vec::new(alloc);
     for step in steps {
@@ -78,8 +78,8 @@ fn take_step<S: Scheme<D>, L: Elector<S>, D: Digest>(
     step: Step<S, L, D>,
 ) -> Result<Reply<S, D>, RecoverError>
     requires { IsSetUp S.participants L.members step }
-    ensures taken { IfOk result (λ reply. IsStep D.eq L.elect S.signature_of member.old (step_facts S.me S.participants L.terms L.elects_early S.certificate_bytes step) (told S.certificate_bytes reply) member.new) }
-    ensures refused { IfErr result (λ error. IsRefused D.eq L.elect S.signature_of member.old (step_facts S.me S.participants L.terms L.elects_early S.certificate_bytes step) error) }
+    ensures taken { IfOk result (λ reply. IsStep D.eq L.elect member.old (step_facts S.me S.participants L.terms L.elects_early S.certificate_bytes step) (told S.certificate_bytes reply) member.new) }
+    ensures refused { IfErr result (λ error. IsRefused D.eq L.elect member.old (step_facts S.me S.participants L.terms L.elects_early S.certificate_bytes step) error) }
 {
     match step {
         Step::Call(call) => Ok(member.call(call)),

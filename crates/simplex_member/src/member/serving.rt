@@ -6,6 +6,7 @@ ghost use Rattle.simplex_voter.specs.Refusals.{is_started};
 ghost use Rattle.simplex_member.specs.Entries.{entries_of};
 ghost use Rattle.simplex_member.specs.Calls.{call_facts, told, is_allowed, fault_of, answer, after_call, recorded_by};
 ghost use Rattle.simplex_member.specs.Made.{EndsBy, takes_in, hands_out};
+ghost use Rattle.simplex_member.specs.Signed.{IsSignedReply};
 
 use super::call_error::CallError;
 use super::calls::{Call, Reply};
@@ -41,9 +42,10 @@ pub(super) fn serve<S: Scheme<D>, L: Elector<S>, D: Digest>(
     requires begun { is_started state.old ≡ true }
     requires allowed { is_allowed state.old (call_facts S.certificate_bytes call) ≡ true }
     ensures due { OnOk result (fault_of state.old (call_facts S.certificate_bytes call) ≡ None) }
-    ensures answer { IfOk result (λ reply. told S.certificate_bytes reply ≡ answer D.eq L.elect S.signature_of state.old (call_facts S.certificate_bytes call)) }
-    ensures after { OnOk result (state.new ≡ after_call D.eq L.elect S.signature_of state.old (call_facts S.certificate_bytes call)) }
-    ensures recorded { OnOk result (entries_of S.certificate_bytes artifacts.new.items ≡ entries_of S.certificate_bytes artifacts.old.items ++ recorded_by D.eq L.elect S.signature_of state.old (call_facts S.certificate_bytes call)) }
+    ensures answer { IfOk result (λ reply. told S.certificate_bytes reply ≡ answer D.eq L.elect state.old (call_facts S.certificate_bytes call)) }
+    ensures signed { IfOk result (λ reply. IsSignedReply S.IsSignature reply state.old) }
+    ensures after { OnOk result (state.new ≡ after_call D.eq L.elect state.old (call_facts S.certificate_bytes call)) }
+    ensures recorded { OnOk result (entries_of S.certificate_bytes artifacts.new.items ≡ entries_of S.certificate_bytes artifacts.old.items ++ recorded_by D.eq L.elect state.old (call_facts S.certificate_bytes call)) }
     ensures refused { IfErr result (EndsBy (fault_of state.old (call_facts S.certificate_bytes call)) state.old state.new) }
     ensures same_record { OnErr result (entries_of S.certificate_bytes artifacts.new.items ≡ entries_of S.certificate_bytes artifacts.old.items) }
 {
@@ -79,9 +81,10 @@ fn serve_own<S: Scheme<D>, L: Elector<S>, D: Digest>(
     requires begun { is_started state.old ≡ true }
     requires own { takes_in (call_facts S.certificate_bytes call) ≡ false }
     ensures due { OnOk result (fault_of state.old (call_facts S.certificate_bytes call) ≡ None) }
-    ensures answer { IfOk result (λ reply. told S.certificate_bytes reply ≡ answer D.eq L.elect S.signature_of state.old (call_facts S.certificate_bytes call)) }
-    ensures after { OnOk result (state.new ≡ after_call D.eq L.elect S.signature_of state.old (call_facts S.certificate_bytes call)) }
-    ensures recorded { OnOk result (entries_of S.certificate_bytes artifacts.new.items ≡ entries_of S.certificate_bytes artifacts.old.items ++ recorded_by D.eq L.elect S.signature_of state.old (call_facts S.certificate_bytes call)) }
+    ensures answer { IfOk result (λ reply. told S.certificate_bytes reply ≡ answer D.eq L.elect state.old (call_facts S.certificate_bytes call)) }
+    ensures signed { IfOk result (λ reply. IsSignedReply S.IsSignature reply state.old) }
+    ensures after { OnOk result (state.new ≡ after_call D.eq L.elect state.old (call_facts S.certificate_bytes call)) }
+    ensures recorded { OnOk result (entries_of S.certificate_bytes artifacts.new.items ≡ entries_of S.certificate_bytes artifacts.old.items ++ recorded_by D.eq L.elect state.old (call_facts S.certificate_bytes call)) }
     ensures refused { IfErr result (EndsBy (fault_of state.old (call_facts S.certificate_bytes call)) state.old state.new) }
     ensures same_record { OnErr result (entries_of S.certificate_bytes artifacts.new.items ≡ entries_of S.certificate_bytes artifacts.old.items) }
 {
@@ -107,9 +110,10 @@ fn hand_out<S: Scheme<D>, L: Elector<S>, D: Digest>(
     requires begun { is_started state.old ≡ true }
     requires kept { hands_out (call_facts S.certificate_bytes call) ≡ true }
     ensures due { OnOk result (fault_of state.old (call_facts S.certificate_bytes call) ≡ None) }
-    ensures answer { IfOk result (λ reply. told S.certificate_bytes reply ≡ answer D.eq L.elect S.signature_of state.old (call_facts S.certificate_bytes call)) }
-    ensures after { OnOk result (state.new ≡ after_call D.eq L.elect S.signature_of state.old (call_facts S.certificate_bytes call)) }
-    ensures unrecorded { recorded_by D.eq L.elect S.signature_of state.old (call_facts S.certificate_bytes call) ≡ [] }
+    ensures answer { IfOk result (λ reply. told S.certificate_bytes reply ≡ answer D.eq L.elect state.old (call_facts S.certificate_bytes call)) }
+    ensures signed { IfOk result (λ reply. IsSignedReply S.IsSignature reply state.old) }
+    ensures after { OnOk result (state.new ≡ after_call D.eq L.elect state.old (call_facts S.certificate_bytes call)) }
+    ensures unrecorded { recorded_by D.eq L.elect state.old (call_facts S.certificate_bytes call) ≡ [] }
     ensures refused { IfErr result (EndsBy (fault_of state.old (call_facts S.certificate_bytes call)) state.old state.new) }
 {
     match call {

@@ -42,8 +42,8 @@ pub(super) fn begin<S: CertificateScheme, L: Elector<S>, D: Digest>(
     requires { L.members settings.elector ≡ length (S.participants settings.scheme) }
     ensures begun { IfOk result (λ begun. begun.0 ≡ after_set_floor D.eq L.elect (set_up S.me S.participants L.terms L.elects_early settings) (floor_facts S.certificate_bytes floor) now) }
     ensures floor { IfOk result (λ begun. option_map (finalization_facts S.certificate_bytes) begun.1 ≡ floor_answer (floor_facts S.certificate_bytes floor)) }
-    ensures accepted { OnOk result (recover_error {G = S.Signature} D.eq (set_up S.me S.participants L.terms L.elects_early settings) (floor_facts S.certificate_bytes floor) now [] ≡ None) }
-    ensures refused { IfErr result (IsDue (recover_error {G = S.Signature} D.eq (set_up S.me S.participants L.terms L.elects_early settings) (floor_facts S.certificate_bytes floor) now [])) }
+    ensures accepted { OnOk result (recover_error D.eq (set_up S.me S.participants L.terms L.elects_early settings) (floor_facts S.certificate_bytes floor) now [] ≡ None) }
+    ensures refused { IfErr result (IsDue (recover_error D.eq (set_up S.me S.participants L.terms L.elects_early settings) (floor_facts S.certificate_bytes floor) now [])) }
 {
     check_floor(settings.epoch, &floor)?;
     let mut state = State::new(alloc, settings);

@@ -2,13 +2,16 @@
 //!
 //! A vote is recorded before it is handed out: the state counts as lost until it is.
 
-ghost use Rattle.std.specs.Prelude.{◌≡◌, ◌<◌, ◌++◌, Option, Some, None, Bool, true, false, IfOk, IfErr, OnOk, OnErr, vec_len, vec_capacity};
+ghost use Rattle.std.specs.Prelude.{◌≡◌, ◌<◌, ◌++◌, Option, Some, None, Bool, true, false, IfOk, IfErr, OnOk, OnErr, IfSome, vec_len, vec_capacity};
 ghost use Rattle.simplex_types.specs.declared.types.fault.Fault.TheVariants.{OutOfMemory};
 ghost use Rattle.simplex_voter.specs.Refusals.{plain_refusal, is_started};
 ghost use Rattle.simplex_voter.specs.Votes.{after_construct_nullify, after_construct_finalize};
 ghost use Rattle.simplex_member.specs.Entries.{entries_of};
 ghost use Rattle.simplex_member.specs.Calls.{told_nullify, told_finalize, nullify_vote, finalize_vote, first_vote, vote_entry};
 ghost use Rattle.simplex_member.specs.Made.{EndsBy};
+ghost use Rattle.simplex_member.specs.Signed.{signatures_of, nullify_signature, finalize_signature};
+ghost use Rattle.simplex_types.specs.Signing.{IsSignedAs};
+ghost use Rattle.simplex_types.specs.declared.types.messages.Subject.TheVariants as Subject;
 
 use super::call_error::CallError;
 use super::parts::keep;
@@ -27,6 +30,7 @@ fn keep_nullify<S: CertificateScheme, D: Digest>(
 ) -> Result<(), Fault>
     requires { vec_len artifacts.old < vec_capacity artifacts.old }
     ensures kept { OnOk result (entries_of S.certificate_bytes artifacts.new.items ≡ entries_of S.certificate_bytes artifacts.old.items ++ first_vote (told_nullify vote.now)) }
+    ensures signature { OnOk result (signatures_of artifacts.new.items ≡ signatures_of artifacts.old.items ++ nullify_signature vote.now) }
     ensures same_record { OnErr result (entries_of S.certificate_bytes artifacts.new.items ≡ entries_of S.certificate_bytes artifacts.old.items) }
     ensures out_of_memory { IfErr result (λ fault. fault ≡ OutOfMemory) }
 {
@@ -48,6 +52,7 @@ fn keep_finalize<S: CertificateScheme, D: Digest>(
 ) -> Result<(), Fault>
     requires { vec_len artifacts.old < vec_capacity artifacts.old }
     ensures kept { OnOk result (entries_of S.certificate_bytes artifacts.new.items ≡ entries_of S.certificate_bytes artifacts.old.items ++ vote_entry (told_finalize vote.now)) }
+    ensures signature { OnOk result (signatures_of artifacts.new.items ≡ signatures_of artifacts.old.items ++ finalize_signature vote.now) }
     ensures same_record { OnErr result (entries_of S.certificate_bytes artifacts.new.items ≡ entries_of S.certificate_bytes artifacts.old.items) }
     ensures out_of_memory { IfErr result (λ fault. fault ≡ OutOfMemory) }
 {
@@ -71,9 +76,11 @@ pub(super) fn construct_nullify<S: Scheme<D>, L: Elector<S>, D: Digest>(
 ) -> Result<Option<(bool, Nullify<S>)>, CallError>
     requires going_on { state.old.failed ≡ false }
     requires begun { is_started state.old ≡ true }
-    ensures answer { IfOk result (λ vote. told_nullify vote ≡ nullify_vote S.signature_of state.old view) }
+    ensures answer { IfOk result (λ vote. told_nullify vote ≡ nullify_vote state.old view) }
+    ensures signed { IfOk result (λ vote. IfSome vote (λ v. IsSignedAs S.IsSignature state.old.me state.old.members (Subject.Nullify v.1.round) v.1.signature)) }
+    ensures copied { IfOk result (λ vote. signatures_of artifacts.new.items ≡ signatures_of artifacts.old.items ++ nullify_signature vote) }
     ensures after { OnOk result (state.new ≡ after_construct_nullify state.old view) }
-    ensures recorded { OnOk result (entries_of S.certificate_bytes artifacts.new.items ≡ entries_of S.certificate_bytes artifacts.old.items ++ first_vote (nullify_vote S.signature_of state.old view)) }
+    ensures recorded { OnOk result (entries_of S.certificate_bytes artifacts.new.items ≡ entries_of S.certificate_bytes artifacts.old.items ++ first_vote (nullify_vote state.old view)) }
     ensures refused { IfErr result (EndsBy (plain_refusal state.old) state.old state.new) }
     ensures same_record { OnErr result (entries_of S.certificate_bytes artifacts.new.items ≡ entries_of S.certificate_bytes artifacts.old.items) }
 {
@@ -94,9 +101,11 @@ pub(super) fn construct_finalize<S: Scheme<D>, L: Elector<S>, D: Digest>(
 ) -> Result<Option<Finalize<S, D>>, CallError>
     requires going_on { state.old.failed ≡ false }
     requires begun { is_started state.old ≡ true }
-    ensures answer { IfOk result (λ vote. told_finalize vote ≡ finalize_vote L.elect S.signature_of state.old view) }
+    ensures answer { IfOk result (λ vote. told_finalize vote ≡ finalize_vote L.elect state.old view) }
+    ensures signed { IfOk result (λ vote. IfSome vote (λ v. IsSignedAs S.IsSignature state.old.me state.old.members (Subject.Finalize v.proposal) v.signature)) }
+    ensures copied { IfOk result (λ vote. signatures_of artifacts.new.items ≡ signatures_of artifacts.old.items ++ finalize_signature vote) }
     ensures after { OnOk result (state.new ≡ after_construct_finalize L.elect state.old view) }
-    ensures recorded { OnOk result (entries_of S.certificate_bytes artifacts.new.items ≡ entries_of S.certificate_bytes artifacts.old.items ++ vote_entry (finalize_vote L.elect S.signature_of state.old view)) }
+    ensures recorded { OnOk result (entries_of S.certificate_bytes artifacts.new.items ≡ entries_of S.certificate_bytes artifacts.old.items ++ vote_entry (finalize_vote L.elect state.old view)) }
     ensures refused { IfErr result (EndsBy (plain_refusal state.old) state.old state.new) }
     ensures same_record { OnErr result (entries_of S.certificate_bytes artifacts.new.items ≡ entries_of S.certificate_bytes artifacts.old.items) }
 {

@@ -51,7 +51,7 @@ fn serve<S: Scheme<D>, L: Elector<S>, D: Digest>(
     requires begun { is_started state.old ≡ true }
     requires allowed { work_allowed state.old no_openings (work_facts work) ≡ true }
     ensures due { OnOk result (work_fault state.old (work_facts work) ≡ None) }
-    ensures answer { IfOk result (λ reply. told S.certificate_bytes reply ≡ work_answer D.eq L.elect S.signature_of state.old no_openings (work_facts work)) }
+    ensures answer { IfOk result (λ reply. told S.certificate_bytes reply ≡ work_answer D.eq L.elect state.old no_openings (work_facts work)) }
     ensures after { OnOk result (state.new ≡ after_work D.eq L.elect state.old no_openings (work_facts work)) }
     ensures refused { IfErr result (WorkEndsBy (work_facts work) state.old state.new) }
 {
@@ -92,7 +92,7 @@ impl<S: CertificateScheme, L: Elector<S>, D: Digest> Member<S, L, D> {
     pub fn work(&mut self, work: Work<D>) -> Reply<S, D>
     where
         S: Scheme<D>,
-        ensures { IsWork D.eq L.elect S.signature_of self.old (work_facts work) (told S.certificate_bytes result) self.new }
+        ensures { IsWork D.eq L.elect self.old (work_facts work) (told S.certificate_bytes result) self.new }
     {
         if self.failed {
             return Reply::Fault(Fault::Failed);

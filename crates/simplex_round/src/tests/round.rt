@@ -6,10 +6,12 @@ use self::rows::ROWS;
 use super::{first_round, proposal, proposal_of};
 use crate::round::{Certification, Decision, Round};
 use simplex_types::reasons::TimeoutReason;
-use simplex_types::types::plain::{PlainCertificate, PlainDigest, PlainKey, PlainScheme};
+use simplex_types::types::plain::{
+    PlainCertificate, PlainDigest, PlainKey, PlainScheme, PlainSignature,
+};
 use simplex_types::types::{
     Artifact, Fault, Finalization, Finalize, Notarization, Notarize, Nullification, Nullify,
-    Participant, View,
+    Participant, Subject, View,
 };
 use std::alloc::Global;
 use std::test::Fail;
@@ -262,12 +264,9 @@ fn meets_votes(round: &mut PlainRound, step: Step) -> bool {
     }
 }
 
-/// Whether the round takes a replayed artifact; its votes are of member 0.
+/// Whether the round takes a replayed artifact that is no vote.
 fn meets_replay(round: &mut PlainRound, step: Step) -> bool {
     match step {
-        Step::ReplayNotarize(_) | Step::ReplayNullify | Step::ReplayFinalize(_) => {
-            replay_vote(round, step)
-        }
         Step::ReplayVerdict(success) => match round.certification() {
             Certification::Ready => {
                 round.replay(&Artifact::Certification(first_round(), success));
@@ -292,43 +291,52 @@ fn meets_replay(round: &mut PlainRound, step: Step) -> bool {
     }
 }
 
-fn replay_vote(round: &mut PlainRound, step: Step) -> bool {
+/// Member 0's signature on a subject.
+fn signature(alloc: Global, subject: Subject<PlainDigest>) -> Result<PlainSignature, Fault> {
+    Ok(PlainSignature::new(alloc, PlainKey(0), &subject)?)
+}
+
+/// Whether the round takes a replayed vote, which is of member 0.
+fn replay_vote(alloc: Global, round: &mut PlainRound, step: Step) -> Result<bool, Fault> {
     let signer = Participant::new(0);
     if !round.is_signer(signer) {
-        return false;
+        return Ok(false);
     }
     match (step, round.decision()) {
         (Step::ReplayNotarize(payload), _) => {
             round.replay(&Artifact::Notarize(Notarize {
                 proposal: proposal(payload),
                 signer,
-                signature: (),
+                signature: signature(alloc, Subject::Notarize(proposal(payload)))?,
             }));
-            true
+            Ok(true)
         }
         (Step::ReplayNullify, Decision::Pending { .. } | Decision::Nullify { .. }) => {
             round.replay(&Artifact::Nullify(Nullify {
                 round: first_round(),
                 signer,
-                signature: (),
+                signature: signature(alloc, Subject::Nullify(first_round()))?,
             }));
-            true
+            Ok(true)
         }
         (Step::ReplayFinalize(payload), Decision::Pending { .. } | Decision::Finalize) => {
             round.replay(&Artifact::Finalize(Finalize {
                 proposal: proposal(payload),
                 signer,
-                signature: (),
+                signature: signature(alloc, Subject::Finalize(proposal(payload)))?,
             }));
-            true
+            Ok(true)
         }
-        _ => false,
+        _ => Ok(false),
     }
 }
 
 /// Whether the round does and answers what the step wants.
 fn meets(alloc: Global, round: &mut PlainRound, step: Step) -> Result<bool, Fault> {
     let met = match step {
+        Step::ReplayNotarize(_) | Step::ReplayNullify | Step::ReplayFinalize(_) => {
+            replay_vote(alloc, round, step)?
+        }
         Step::AddNotarization(payload, added, equivocator) => {
             round.add_notarization(notarization(payload)) == (added, key_of(equivocator))
         }

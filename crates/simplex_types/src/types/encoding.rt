@@ -3,16 +3,16 @@
 ghost use Rattle.std.specs.Prelude.{◌≡◌, ◌++◌, OnOk, IfOk, IsOkUnless};
 ghost use Rattle.std.specs.Int.{w64, to_be_bytes};
 ghost use Rattle.simplex_types.specs.Certificates.{certificate_facts};
-ghost use Rattle.simplex_types.specs.Encoding.{encoding, round_bytes, proposal_bytes, EncodingTellsApart};
+ghost use Rattle.simplex_types.specs.Encoding.{encoding, subject_bytes, round_bytes, proposal_bytes, EncodingTellsApart};
 
 use crate::types::Fault;
-use crate::types::messages::{Certificate, Proposal};
+use crate::types::messages::{Certificate, Proposal, Subject};
 use crate::types::numbers::Round;
 use crate::types::scheme::{CertificateScheme, Digest};
 use bytes::{BufMut, Bytes, BytesMut};
 use std::alloc::{AllocError, Global};
 
-/// The first byte of an encoded notarization.
+/// The first byte of an encoded notarization, and of what a vote to notarize signs; likewise below.
 const NOTARIZATION: u8 = 0;
 /// The first byte of an encoded nullification.
 const NULLIFICATION: u8 = 1;
@@ -44,6 +44,30 @@ impl<S: CertificateScheme, D: Digest> Certificate<S, D> {
                 out.put_u8(FINALIZATION)?;
                 put_proposal(&mut out, &finalization.proposal)?;
                 out.put_slice(S::certificate_bytes(&finalization.certificate))?;
+            }
+        }
+        Ok(out.freeze()?)
+    }
+}
+
+impl<D: Digest> Subject<D> {
+    /// The bytes that a vote on the subject signs: what kind of vote it is, then the round or the whole proposal.
+    pub fn encode(&self, alloc: Global) -> Result<Bytes, AllocError>
+        ensures { IfOk result (λ bytes. bytes ≡ subject_bytes D.bytes self.now) }
+    {
+        let mut out = BytesMut::new(alloc);
+        match self {
+            Subject::Notarize(proposal) => {
+                out.put_u8(NOTARIZATION)?;
+                put_proposal(&mut out, proposal)?;
+            }
+            Subject::Nullify(round) => {
+                out.put_u8(NULLIFICATION)?;
+                put_round(&mut out, *round)?;
+            }
+            Subject::Finalize(proposal) => {
+                out.put_u8(FINALIZATION)?;
+                put_proposal(&mut out, proposal)?;
             }
         }
         Ok(out.freeze()?)

@@ -8,6 +8,7 @@ use crate::types::messages::Subject;
 use crate::types::numbers::{Participant, Round};
 use crate::types::scheme::{CertificateScheme, Digest, Elector, PublicKey, Scheme};
 use crate::types::window::Terms;
+use bytes::Bytes;
 use std::alloc::{AllocError, Global};
 
 /// A digest of eight bytes.
@@ -65,6 +66,29 @@ pub struct PlainKey(pub u32);
 
 impl PublicKey for PlainKey {}
 
+/// A signature: whose key it was made with, and the bytes that were signed.
+#[derive(Drop)]
+pub struct PlainSignature {
+    pub key: PlainKey,
+    pub text: Bytes,
+}
+
+impl PlainSignature {
+    ghost use Rattle.simplex_types.specs.Plain.{IsPlainSignature};
+
+    /// A member's signature on a subject.
+    pub fn new<D: Digest>(
+        alloc: Global,
+        key: PlainKey,
+        subject: &Subject<D>,
+    ) -> Result<PlainSignature, AllocError>
+        ensures { IfOk result (IsPlainSignature D.bytes key subject.now) }
+    {
+        let text = subject.encode(alloc)?;
+        Ok(PlainSignature { key, text })
+    }
+}
+
 /// A certificate that is good or not.
 #[derive(Drop)]
 pub struct PlainCertificate {
@@ -103,7 +127,7 @@ impl PlainScheme {
 impl CertificateScheme for PlainScheme {
     type PublicKey = PlainKey;
 
-    type Signature = ();
+    type Signature = PlainSignature;
 
     type Certificate = PlainCertificate;
 
@@ -125,8 +149,14 @@ impl CertificateScheme for PlainScheme {
         })
     }
 
-    fn copy_signature(_alloc: Global, _signature: &()) -> Result<(), AllocError> {
-        Ok(())
+    fn copy_signature(
+        _alloc: Global,
+        signature: &PlainSignature,
+    ) -> Result<PlainSignature, AllocError> {
+        Ok(PlainSignature {
+            key: signature.key,
+            text: signature.text.clone()?,
+        })
     }
 
     fn copy_certificate(
@@ -154,12 +184,22 @@ impl CertificateScheme for PlainScheme {
 }
 
 impl<D: Digest> Scheme<D> for PlainScheme {
-    ghost signature_of = { λ _ _. tt };
+    ghost use Rattle.simplex_types.specs.Plain.{IsPlainSignature};
+
+    ghost IsSignature = { IsPlainSignature D.bytes };
 
     ghost accepts = { λ _ _ c. c.good };
 
-    fn sign(&self, _alloc: Global, _subject: &Subject<D>) -> Result<Option<()>, AllocError> {
-        Ok(self.signer.map(|_| ()))
+    fn sign(
+        &self,
+        alloc: Global,
+        subject: &Subject<D>,
+    ) -> Result<Option<PlainSignature>, AllocError> {
+        let Some(signer) = self.signer else {
+            return Ok(None);
+        };
+        let key = self.keys[signer.get() as usize];
+        Ok(Some(PlainSignature::new(alloc, key, subject)?))
     }
 
     fn verify(&self, _subject: &Subject<D>, certificate: &PlainCertificate) -> bool {

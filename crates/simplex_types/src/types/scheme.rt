@@ -1,10 +1,11 @@
 //! What the protocol asks of digests, keys, schemes and electors.
 
-ghost use Rattle.std.specs.Prelude.{◌≡◌, ◌<◌, ◌↔◌, ℕ, Bool, true, List, Option, Some, None, length, IsTrue, IsSome, IfOk, option_map};
+ghost use Rattle.std.specs.Prelude.{◌≡◌, ◌<◌, ◌↔◌, ℕ, Bool, true, List, Option, Some, None, length, IsTrue, IsSome, IfOk, IfSome, is_some, option_map};
 ghost use Rattle.std.specs.Option.{option_copied, ForSome};
 ghost use Rattle.simplex_types.specs.declared.types.numbers.Round.{Round};
 ghost use Rattle.simplex_types.specs.declared.types.messages.Subject.{Subject};
 ghost use Rattle.simplex_types.specs.declared.types.window.Terms.{Terms};
+ghost use Rattle.simplex_types.specs.Signing.{IsSignedAs};
 
 use crate::types::messages::Subject;
 use crate::types::numbers::{Participant, Round};
@@ -91,19 +92,20 @@ pub trait CertificateScheme: Drop {
 
 /// How votes on proposals of `D` are signed and certificates tested.
 pub trait Scheme<D: Digest>: CertificateScheme {
-    /// The signature of a member on a subject.
-    ghost signature_of: { ℕ → Subject D → Self.Signature };
+    /// The signature is one on the subject, under the key. There may be several of one subject and key.
+    ghost IsSignature: { Self.PublicKey → Subject D → Self.Signature → Type 0 };
 
     /// Whether a certificate is good for a subject.
     ghost accepts: { Self → Subject D → Self.Certificate → Bool };
 
-    /// The signature of this scheme's member on a subject; none exactly where the scheme has no key.
+    /// A signature on a subject under the key of this scheme's member; none exactly where the scheme signs for no one.
     fn sign(
         &self,
         alloc: Global,
         subject: &Subject<D>,
     ) -> Result<Option<Self::Signature>, AllocError>
-        ensures { IfOk result (λ s. s ≡ option_map (λ m. signature_of m subject.now) (Self.me self.now)) };
+        ensures signs { IfOk result (λ s. is_some s ≡ is_some (Self.me self.now)) }
+        ensures signed { IfOk result (λ s. IfSome s (IsSignedAs IsSignature (Self.me self.now) (Self.participants self.now) subject.now)) };
 
     /// Whether the certificate is good for the subject.
     fn verify(&self, subject: &Subject<D>, certificate: &Self::Certificate) -> bool

@@ -38,7 +38,7 @@ impl<S: CertificateScheme, L: Elector<S>, D: Digest> State<S, L, D> {
         requires { is_started self.old ≡ true }
         ensures refused { IfSome (plain_refusal self.old) (λ fault. (result ≡ Err fault) × (self.new ≡ self.old)) }
         ensures vote { IfOk result (λ vote. option_map (λ v. v.0) vote ≡ nullify_answer self.old view) }
-        ensures signed { IfOk result (λ vote. IfSome vote (λ v. IsSignedNullify S.signature_of self.old view v.1)) }
+        ensures signed { IfOk result (λ vote. IfSome vote (λ v. IsSignedNullify S.IsSignature self.old view v.1)) }
         ensures after { OnOk result (self.new ≡ after_construct_nullify self.old view) }
         ensures out_of_memory { plain_refusal self.old ≡ None → IfErr result (λ fault. (fault ≡ OutOfMemory) × HasFailed self.old self.new) }
     {
@@ -65,7 +65,7 @@ impl<S: CertificateScheme, L: Elector<S>, D: Digest> State<S, L, D> {
         requires { 1 ≤ view }
         ensures cast { OnOk result (self.new ≡ nullify_cast (with_round self.old view (after_nullify (round_of self.old view))) view) }
         ensures keyed { IfOk result (λ vote. is_some vote ≡ is_some self.old.me) }
-        ensures signed { IfOk result (λ vote. IfSome vote (IsSignedNullify S.signature_of self.old view)) }
+        ensures signed { IfOk result (λ vote. IfSome vote (IsSignedNullify S.IsSignature self.old view)) }
         ensures refused { IfErr result (λ fault. fault ≡ OutOfMemory) }
         ensures setup { HasSameSetup self.old self.new }
     {
@@ -133,7 +133,7 @@ impl<S: CertificateScheme, L: Elector<S>, D: Digest> State<S, L, D> {
         requires { is_started self.old ≡ true }
         ensures refused { IfSome (plain_refusal self.old) (λ fault. (result ≡ Err fault) × (self.new ≡ self.old)) }
         ensures vote { IfOk result (λ vote. option_map (λ v. v.proposal) vote ≡ finalize_answer L.elect self.old view) }
-        ensures signed { IfOk result (λ vote. IfSome vote (IsSignedFinalize S.signature_of self.old)) }
+        ensures signed { IfOk result (λ vote. IfSome vote (IsSignedFinalize S.IsSignature self.old)) }
         ensures after { OnOk result (self.new ≡ after_construct_finalize L.elect self.old view) }
         ensures out_of_memory { plain_refusal self.old ≡ None → IfErr result (λ fault. (fault ≡ OutOfMemory) × HasFailed self.old self.new) }
     {
@@ -159,7 +159,7 @@ impl<S: CertificateScheme, L: Elector<S>, D: Digest> State<S, L, D> {
         requires { can_finalize (round_of self.old view) ≡ true }
         ensures cast { OnOk result (self.new ≡ finalize_cast self.old view) }
         ensures vote { IfOk result (λ vote. option_map (λ v. v.proposal) vote ≡ signed_proposal self.old view) }
-        ensures signed { IfOk result (λ vote. IfSome vote (IsSignedFinalize S.signature_of self.old)) }
+        ensures signed { IfOk result (λ vote. IfSome vote (IsSignedFinalize S.IsSignature self.old)) }
         ensures refused { IfErr result (λ fault. fault ≡ OutOfMemory) }
         ensures setup { HasSameSetup self.old self.new }
     {

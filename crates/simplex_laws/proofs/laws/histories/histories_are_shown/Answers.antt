@@ -13,7 +13,7 @@ returns-clause-kept g c history x e shows allowed =
 
 pub returns-clause-called : goal.returns-clause-called
 returns-clause-called g c history m left call told shown is_call =
-    called_shown g.D.PartialEq.eq g.met.D.Digest.equal_is_same g.L.Elector.elect g.S.Scheme.signature_of m history left call told shown is_call
+    called_shown g.D.PartialEq.eq g.met.D.Digest.equal_is_same g.L.Elector.elect m history left call told shown is_call
 
 pub returns-clause-recovered : goal.returns-clause-recovered
 returns-clause-recovered g c term_length start entries fresh none =
@@ -21,8 +21,8 @@ returns-clause-recovered g c term_length start entries fresh none =
 
 pub returns-clause-restarted : goal.returns-clause-restarted
 returns-clause-restarted g c term_length m left r fresh restarts =
-    restarted_shown g.D.PartialEq.eq g.met.D.Digest.equal_is_same g.L.Elector.elect g.S.Scheme.signature_of m term_length left r (Ok tt) refl fresh restarts
+    restarted_shown g.D.PartialEq.eq g.met.D.Digest.equal_is_same g.L.Elector.elect m term_length left r (Ok tt) refl fresh restarts
 
 pub returns-clause-ran : goal.returns-clause-ran
 returns-clause-ran g c term_length start steps replies end begins fresh good run =
-    ran_shown g.D.PartialEq.eq g.met.D.Digest.equal_is_same g.L.Elector.elect g.S.Scheme.signature_of term_length start steps replies end begins fresh good run
+    ran_shown g.D.PartialEq.eq g.met.D.Digest.equal_is_same g.L.Elector.elect term_length start steps replies end begins fresh good run

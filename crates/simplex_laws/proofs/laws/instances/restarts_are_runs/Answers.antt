@@ -6,4 +6,4 @@ pub returns-clause-ran : goal.returns-clause-ran
 returns-clause-ran c = restarting_ran
 
 pub returns-clause-does : goal.returns-clause-does
-returns-clause-does c signature_of = refl
+returns-clause-does c = refl

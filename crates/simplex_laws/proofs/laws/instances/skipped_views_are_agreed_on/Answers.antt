@@ -6,10 +6,10 @@ pub returns-clause-network : goal.returns-clause-network
 returns-clause-network c = five_network
 
 pub returns-clause-few : goal.returns-clause-few
-returns-clause-few c signature_of = (refl, refl)
+returns-clause-few c = (refl, refl)
 
 pub returns-clause-does : goal.returns-clause-does
-returns-clause-does c signature_of me = refl
+returns-clause-does c me = refl
 
 pub returns-clause-backs : goal.returns-clause-backs
-returns-clause-backs c signature_of = (five_notarize_one signature_of, five_nullify_two signature_of, five_finalize_three signature_of)
+returns-clause-backs c = (five_notarize_one, five_nullify_two, five_finalize_three)

@@ -6,13 +6,13 @@ pub returns-clause-network : goal.returns-clause-network
 returns-clause-network c = four_network
 
 pub returns-clause-few : goal.returns-clause-few
-returns-clause-few c signature_of = (refl, refl)
+returns-clause-few c = (refl, refl)
 
 pub returns-clause-covered : goal.returns-clause-covered
 returns-clause-covered c = refl
 
 pub returns-clause-does : goal.returns-clause-does
-returns-clause-does c signature_of = refl
+returns-clause-does c = refl
 
 pub returns-clause-finalizes : goal.returns-clause-finalizes
-returns-clause-finalizes c signature_of = (finalized_one signature_of, finalized_two signature_of)
+returns-clause-finalizes c = (finalized_one, finalized_two)

@@ -4,4 +4,4 @@ use Rattle.simplex_laws.proofs.laws.network.votes_are_lawful.Goals as goal
 
 pub returns : goal.returns
 returns g c term_length s begins fresh run =
-    run_from_lawful g.D.PartialEq.eq g.met.D.Digest.equal_is_same g.L.Elector.elect g.S.Scheme.signature_of term_length s.start begins s.steps s.replies fresh run
+    run_from_lawful g.D.PartialEq.eq g.met.D.Digest.equal_is_same g.L.Elector.elect term_length s.start begins s.steps s.replies fresh run

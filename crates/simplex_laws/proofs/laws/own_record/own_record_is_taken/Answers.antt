@@ -4,12 +4,12 @@ use Rattle.simplex_laws.proofs.laws.own_record.own_record_is_taken.Goals as goal
 
 pub returns-clause-record : goal.returns-clause-record
 returns-clause-record g c term_length start steps replies end begins fresh run next copy found by_view refused =
-    own_record_outside g.D.PartialEq.eq g.met.D.Digest.equal_is_same g.met.D.Digest.same_is_equal g.L.Elector.elect g.S.Scheme.signature_of term_length start begins steps fresh replies end next copy found run by_view refused
+    own_record_outside g.D.PartialEq.eq g.met.D.Digest.equal_is_same g.met.D.Digest.same_is_equal g.L.Elector.elect term_length start begins steps fresh replies end next copy found run by_view refused
 
 pub returns-clause-restart : goal.returns-clause-restart
 returns-clause-restart g c term_length start steps replies end begins fresh run left next found refused =
-    own_restart_excused g.D.PartialEq.eq g.met.D.Digest.equal_is_same g.met.D.Digest.same_is_equal g.L.Elector.elect g.S.Scheme.signature_of term_length start begins steps fresh replies end left next found run refused
+    own_restart_excused g.D.PartialEq.eq g.met.D.Digest.equal_is_same g.met.D.Digest.same_is_equal g.L.Elector.elect term_length start begins steps fresh replies end left next found run refused
 
 pub returns-clause-run : goal.returns-clause-run
 returns-clause-run g c term_length start steps found begins fresh refused =
-    own_run_excused g.D.PartialEq.eq g.met.D.Digest.equal_is_same g.met.D.Digest.same_is_equal g.L.Elector.elect g.S.Scheme.signature_of term_length start begins steps fresh found refused
+    own_run_excused g.D.PartialEq.eq g.met.D.Digest.equal_is_same g.met.D.Digest.same_is_equal g.L.Elector.elect term_length start begins steps fresh found refused

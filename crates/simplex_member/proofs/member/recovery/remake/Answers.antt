@@ -20,7 +20,7 @@ returns-in_err-state-clause-refused g c =
     let bytes_of = g.S.CertificateScheme.certificate_bytes in
     let p = err_from_is_err_and c.from_residual-in_err-state.result c.from_residual-in_err-state.ensures.1 in
     let kept = none_broken _ _ _ c.in_ok-check_record.ensures in
-    rw (p.1, p.2, refused_alike _ g.D.PartialEq.eq x (floor_facts bytes_of c.args.start.floor) c.args.start.now (entries_of bytes_of c.args.entries.now) kept) c.in_err-state.ensures.refused
+    rw (p.1, p.2, refused_alike g.D.PartialEq.eq x (floor_facts bytes_of c.args.start.floor) c.args.start.now (entries_of bytes_of c.args.entries.now) kept) c.in_err-state.ensures.refused
 
 pub take_all-requires-clause-going_on : goal.take_all-requires-clause-going_on
 take_all-requires-clause-going_on g c =
@@ -31,7 +31,7 @@ pub take_all-requires-clause-in_time : goal.take_all-requires-clause-in_time
 take_all-requires-clause-in_time g c =
     let x = set_up g.S.CertificateScheme.me g.S.CertificateScheme.participants g.L.Elector.terms g.L.Elector.elects_early c.args.start.settings in
     let floor = floor_facts g.S.CertificateScheme.certificate_bytes c.args.start.floor in
-    rw c.in_ok-state.ensures.begun (set_in_time g.D.PartialEq.eq g.L.Elector.elect x floor c.args.start.now (accepted_in_time _ g.D.PartialEq.eq x floor c.args.start.now c.in_ok-state.ensures.accepted))
+    rw c.in_ok-state.ensures.begun (set_in_time g.D.PartialEq.eq g.L.Elector.elect x floor c.args.start.now (accepted_in_time g.D.PartialEq.eq x floor c.args.start.now c.in_ok-state.ensures.accepted))
 
 pub take_all-requires-clause-each : goal.take_all-requires-clause-each
 take_all-requires-clause-each g c =
@@ -66,11 +66,11 @@ returns-in-Ok-clause-accepted g c =
     let x = set_up g.S.CertificateScheme.me g.S.CertificateScheme.participants g.L.Elector.terms g.L.Elector.elects_early c.args.start.settings in
     let bytes_of = g.S.CertificateScheme.certificate_bytes in
     let kept = none_broken _ _ _ c.in_ok-check_record.ensures in
-    refused_alike _ g.D.PartialEq.eq x (floor_facts bytes_of c.args.start.floor) c.args.start.now (entries_of bytes_of c.args.entries.now) kept ∙ c.in_ok-state.ensures.accepted
+    refused_alike g.D.PartialEq.eq x (floor_facts bytes_of c.args.start.floor) c.args.start.now (entries_of bytes_of c.args.entries.now) kept ∙ c.in_ok-state.ensures.accepted
 
 pub returns-in-Err-clause-refused : goal.returns-in-Err-clause-refused
 returns-in-Err-clause-refused g c =
     let x = set_up g.S.CertificateScheme.me g.S.CertificateScheme.participants g.L.Elector.terms g.L.Elector.elects_early c.args.start.settings in
     let bytes_of = g.S.CertificateScheme.certificate_bytes in
     let kept = none_broken _ _ _ c.in_ok-check_record.ensures in
-    rw (refused_alike _ g.D.PartialEq.eq x (floor_facts bytes_of c.args.start.floor) c.args.start.now (entries_of bytes_of c.args.entries.now) kept, c.in_ok-state.ensures.accepted) refl
+    rw (refused_alike g.D.PartialEq.eq x (floor_facts bytes_of c.args.start.floor) c.args.start.now (entries_of bytes_of c.args.entries.now) kept, c.in_ok-state.ensures.accepted) refl

@@ -20,4 +20,4 @@ returns-clause-kept g c =
     let entries = entries_of bytes_of c.deref.result.now in
     let none : stands c.in-Some.finalization.proposal.round.view is_finalization entries ≡ false =
     ap (λ v. stands v is_finalization entries) (sym c.view.ensures) ∙ sym c.is_finalized_in.ensures ∙ c.if-is_finalized_in.false in
-    c.keep.ensures ∙ rw (c.reserve.ensures.items, ← c.deref.ensures.value) (recorded_now bytes_of entries c.args.finalization c.in-Some.finalization c.in-Some.is none)
+    c.keep.ensures.kept ∙ rw (c.reserve.ensures.items, ← c.deref.ensures.value) (recorded_now bytes_of entries c.args.finalization c.in-Some.finalization c.in-Some.is none)

@@ -12,7 +12,7 @@ returns-in_err-member-clause-ended g c =
     let start = start_facts g.S.CertificateScheme.me g.S.CertificateScheme.participants g.L.Elector.terms g.L.Elector.elects_early bytes_of c.args.start in
     let steps = steps_of g.S.CertificateScheme.me g.S.CertificateScheme.participants g.L.Elector.terms g.L.Elector.elects_early bytes_of c.args.steps.items in
     let p = err_from_is_err_and c.from_residual.result c.from_residual.ensures.1 in
-    rw (p.1, p.2) (ends_at_once g.D.PartialEq.eq g.L.Elector.elect g.S.Scheme.signature_of start steps _ c.in_err-member.field-0.0 refl c.in_err-member.ensures.refused)
+    rw (p.1, p.2) (ends_at_once g.D.PartialEq.eq g.L.Elector.elect start steps _ c.in_err-member.field-0.0 refl c.in_err-member.ensures.refused)
 
 pub returns-clause-whole : goal.returns-clause-whole
 returns-clause-whole g c =
@@ -20,7 +20,7 @@ returns-clause-whole g c =
     let start = start_facts g.S.CertificateScheme.me g.S.CertificateScheme.participants g.L.Elector.terms g.L.Elector.elects_early bytes_of c.args.start in
     let steps = steps_of g.S.CertificateScheme.me g.S.CertificateScheme.participants g.L.Elector.terms g.L.Elector.elects_early bytes_of c.args.steps.items in
     IfOk-weaker c.take_steps.result _ _
-    (λ replies is. run_from g.D.PartialEq.eq g.L.Elector.elect g.S.Scheme.signature_of start steps c.in_ok-member.member (map (told bytes_of) replies.items) c.take_steps.new.member c.in_ok-member.ensures.started c.in_ok-member.ensures.accepted is)
+    (λ replies is. run_from g.D.PartialEq.eq g.L.Elector.elect start steps c.in_ok-member.member (map (told bytes_of) replies.items) c.take_steps.new.member c.in_ok-member.ensures.started c.in_ok-member.ensures.accepted is)
     c.take_steps.ensures.whole
 
 pub returns-clause-ended : goal.returns-clause-ended
@@ -29,5 +29,5 @@ returns-clause-ended g c =
     let start = start_facts g.S.CertificateScheme.me g.S.CertificateScheme.participants g.L.Elector.terms g.L.Elector.elects_early bytes_of c.args.start in
     let steps = steps_of g.S.CertificateScheme.me g.S.CertificateScheme.participants g.L.Elector.terms g.L.Elector.elects_early bytes_of c.args.steps.items in
     IfErr-weaker c.take_steps.result _ _
-    (λ found is. ends_later g.D.PartialEq.eq g.L.Elector.elect g.S.Scheme.signature_of start steps c.in_ok-member.member found c.in_ok-member.ensures.started is)
+    (λ found is. ends_later g.D.PartialEq.eq g.L.Elector.elect start steps c.in_ok-member.member found c.in_ok-member.ensures.started is)
     c.take_steps.ensures.ended

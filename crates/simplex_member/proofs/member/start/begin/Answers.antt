@@ -10,7 +10,7 @@ pub returns-in_err-check_floor-clause-refused : goal.returns-in_err-check_floor-
 returns-in_err-check_floor-clause-refused g c =
     let x = set_up g.S.CertificateScheme.me g.S.CertificateScheme.participants g.L.Elector.terms g.L.Elector.elects_early c.args.settings in
     let p = err_from_is_err_and c.from_residual.result c.from_residual.ensures.1 in
-    rw (p.1, p.2) (bad_floor _ g.D.PartialEq.eq x (floor_facts g.S.CertificateScheme.certificate_bytes c.args.floor) c.args.now _ c.in_err-check_floor.ensures.broken)
+    rw (p.1, p.2) (bad_floor g.D.PartialEq.eq x (floor_facts g.S.CertificateScheme.certificate_bytes c.args.floor) c.args.now _ c.in_err-check_floor.ensures.broken)
 
 pub set_floor-requires : goal.set_floor-requires
 set_floor-requires g c =
@@ -22,12 +22,12 @@ returns-in-Ok-clause-accepted g c =
     let x = set_up g.S.CertificateScheme.me g.S.CertificateScheme.participants g.L.Elector.terms g.L.Elector.elects_early c.args.settings in
     let floor = floor_facts g.S.CertificateScheme.certificate_bytes c.args.floor in
     let none = not_refused (floor_refusal c.new-state.result floor c.args.now) _ _ c.in-Ok.ensures.refused in
-    floor_error _ g.D.PartialEq.eq x floor c.args.now refl refl c.in_ok-check_floor.ensures.kept
+    floor_error g.D.PartialEq.eq x floor c.args.now refl refl c.in_ok-check_floor.ensures.kept
     ∙ ap (option_map error_of) (ap (λ y. floor_refusal y floor c.args.now) (sym c.new-state.ensures) ∙ none)
 
 pub returns-in-Err-clause-refused : goal.returns-in-Err-clause-refused
 returns-in-Err-clause-refused g c =
     let x = set_up g.S.CertificateScheme.me g.S.CertificateScheme.participants g.L.Elector.terms g.L.Elector.elects_early c.args.settings in
     let floor = floor_facts g.S.CertificateScheme.certificate_bytes c.args.floor in
-    rw (c.error_of.ensures, floor_error _ g.D.PartialEq.eq x floor c.args.now refl refl c.in_ok-check_floor.ensures.kept, ← c.new-state.ensures)
+    rw (c.error_of.ensures, floor_error g.D.PartialEq.eq x floor c.args.now refl refl c.in_ok-check_floor.ensures.kept, ← c.new-state.ensures)
     (due_error _ (floor_refusal c.new-state.result floor c.args.now) _ c.new-state.result _ c.in-Err.ensures.refused c.in-Err.ensures.out_of_memory)

@@ -8,10 +8,10 @@ use Rattle.simplex_laws.proofs.Shown.{made_shown}
 use Rattle.simplex_laws.proofs.laws.living.LawfulMember.call.Goals as goal
 
 pub returns-clause-answered : goal.returns-clause-answered
-returns-clause-answered g c = rw (← c.self.view_is) c.call.ensures
+returns-clause-answered g c = rw (← c.self.view_is) c.call.ensures.made
 
 pub returns-clause-exact : goal.returns-clause-exact
-returns-clause-exact g c = rw (← c.self.view_is) (call_exact g.D.PartialEq.eq g.L.Elector.elect g.S.Scheme.signature_of c.self.inside.member c.call.new.self (call_facts g.S.CertificateScheme.certificate_bytes c.args.call) (told g.S.CertificateScheme.certificate_bytes c.call.result) c.call.ensures)
+returns-clause-exact g c = rw (← c.self.view_is) (call_exact g.D.PartialEq.eq g.L.Elector.elect c.self.inside.member c.call.new.self (call_facts g.S.CertificateScheme.certificate_bytes c.args.call) (told g.S.CertificateScheme.certificate_bytes c.call.result) c.call.ensures.made)
 
 pub returns-clause-goes_on : goal.returns-clause-goes_on
-returns-clause-goes_on g c term_length i all done = call_done g.D.PartialEq.eq g.L.Elector.elect g.S.Scheme.signature_of term_length i c.self.inside.member c.call.new.self (call_facts g.S.CertificateScheme.certificate_bytes c.args.call) (told g.S.CertificateScheme.certificate_bytes c.call.result) all (taken_by c.args.call c.call.result ++ votes_in c.call.result) c.call.ensures (made_shown g.row.L.Denot g.S.CertificateScheme.certificate_bytes c.args.call c.call.result) (rw c.self.view_is done)
+returns-clause-goes_on g c term_length i all done = call_done g.D.PartialEq.eq g.L.Elector.elect term_length i c.self.inside.member c.call.new.self (call_facts g.S.CertificateScheme.certificate_bytes c.args.call) (told g.S.CertificateScheme.certificate_bytes c.call.result) all (taken_by c.args.call c.call.result ++ votes_in c.call.result) c.call.ensures.made (made_shown g.row.L.Denot g.S.CertificateScheme.certificate_bytes c.args.call c.call.result) (rw c.self.view_is done)

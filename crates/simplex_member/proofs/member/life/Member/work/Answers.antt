@@ -21,5 +21,5 @@ pub returns-in-Ok : goal.returns-in-Ok
 returns-in-Ok g c =
     let bytes_of = g.S.CertificateScheme.certificate_bytes in
     let i = c.self.inside in
-    let m : MemberFacts _ _ _ _ = record { life = living i.failed i.state; openings = no_openings; entries = entries_of bytes_of i.artifacts.items; closed = i.closed; is_pruned = i.is_pruned; retention = i.retention; least_retention = i.least_retention } in
-    rw (← c.self.view_is) (work_answered g.D.PartialEq.eq g.L.Elector.elect g.S.Scheme.signature_of i.state m c.args.work _ c.serve.new.state (rw c.if-self.false refl) refl (sym c.is_allowed.ensures ∙ c.if-not-is_allowed.false) c.in-Ok.ensures.due c.in-Ok.ensures.answer c.in-Ok.ensures.after)
+    let m : MemberFacts _ _ _ = record { life = living i.failed i.state; openings = no_openings; entries = entries_of bytes_of i.artifacts.items; closed = i.closed; is_pruned = i.is_pruned; retention = i.retention; least_retention = i.least_retention } in
+    rw (← c.self.view_is) (work_answered g.D.PartialEq.eq g.L.Elector.elect i.state m c.args.work _ c.serve.new.state (rw c.if-self.false refl) refl (sym c.is_allowed.ensures ∙ c.if-not-is_allowed.false) c.in-Ok.ensures.due c.in-Ok.ensures.answer c.in-Ok.ensures.after)
