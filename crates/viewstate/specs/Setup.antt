@@ -6,6 +6,7 @@ use Rattle.simplex_types.specs.declared.types.plain.PlainDigest.{PlainDigest}
 use Rattle.simplex_types.specs.declared.types.plain.PlainElector.{PlainElector}
 use Rattle.simplex_types.specs.declared.types.plain.PlainKey.{PlainKey}
 use Rattle.simplex_types.specs.declared.types.plain.PlainScheme.{PlainScheme}
+use Rattle.simplex_types.specs.declared.types.plain.PlainSignature.{PlainSignature}
 use Rattle.simplex_types.specs.declared.types.window.Terms.{Terms}
 use Rattle.simplex_types.specs.Config.{Genesis}
 use Rattle.simplex_types.specs.Plain.{digest_bytes, members_of, terms_of, keys_below, signer_of, keys_of}
@@ -59,7 +60,7 @@ IsGenesisStart n now start =
     (e : PlainElector) × (payload : PlainDigest) × IsGenesis n e payload × (start ≡ genesis_start n e payload now)
 
 -- a start of plain parts, as facts
-abbrev pub plain_start : Start PlainScheme PlainElector PlainDigest PlainKey (Unit {0}) PlainCertificate → StartFacts PlainKey PlainElector PlainDigest
+abbrev pub plain_start : Start PlainScheme PlainElector PlainDigest PlainKey PlainSignature PlainCertificate → StartFacts PlainKey PlainElector PlainDigest
 plain_start start = start_facts signer_of keys_of terms_of (λ _. true) plain_bytes start
 
 -- a member that has started at genesis of the network, at moment 0
