@@ -48,7 +48,7 @@ impl<V> ByTerm<V> {
     pub fn covering(&self, view: View) -> Option<(View, &V)>
         ensures { option_map (λ entry. (entry.0, entry.1.now)) result ≡ covering self.now view }
     {
-        let term = self.terms.get(start_of(view, self.term_length))?;
+        let term = self.terms.get(view.term_start(self.term_length))?;
         term.last_at(view)
     }
 
@@ -56,7 +56,7 @@ impl<V> ByTerm<V> {
     pub fn covering_below(&self, view: View) -> Option<(View, &V)>
         ensures { option_map (λ entry. (entry.0, entry.1.now)) result ≡ covering_below self.now view }
     {
-        let term = self.terms.get(start_of(view, self.term_length))?;
+        let term = self.terms.get(view.term_start(self.term_length))?;
         term.last_below(view)
     }
 
@@ -64,7 +64,7 @@ impl<V> ByTerm<V> {
     pub fn get(&self, view: View) -> Option<&V>
         ensures { option_copied result ≡ map.get self.now.by_view view }
     {
-        let term = self.terms.get(start_of(view, self.term_length))?;
+        let term = self.terms.get(view.term_start(self.term_length))?;
         term.get(view)
     }
 }
@@ -74,7 +74,6 @@ impl<V> ByTerm<V> {
     ///
     /// It goes by one search for the first term, and then from each term to the next.
     pub fn first_uncovered(&self, after: View, before: View) -> Option<View>
-        requires { before ≤ 2 ^ 64 - 2 ^ 33 }
         ensures { MatchOption result (Gapless self.now after before) (IsFirstGap self.now after before) }
     {
         first_uncovered_in(&self.terms, self.term_length, after, before)
@@ -91,7 +90,7 @@ impl<V: Drop> ByTerm<V> {
         ensures refused_only_new { OnErr result (map.get self.old.by_view view ≡ None) }
         ensures after { self.new ≡ record self.old { by_view = after_insert self.old.by_view view value result } }
     {
-        let start = start_of(view, self.term_length);
+        let start = view.term_start(self.term_length);
         if self.terms.insert(start, Tracked::new(self.alloc)).is_err() {
             return Err(AllocFailed { value });
         }
@@ -116,21 +115,13 @@ impl<V: Drop> ByTerm<V> {
     pub fn drop_below(&mut self, view: View)
         ensures { self.new ≡ record self.old { by_view = at_or_above self.old.by_view view } }
     {
-        let start = start_of(view, self.term_length);
+        let start = view.term_start(self.term_length);
         self.terms.drop_below(start);
         let Some(term) = self.terms.get_mut(start) else {
             return;
         };
         term.drop_below(view);
     }
-}
-
-/// The first view of a view's term, at any view: view 0 counts to the first term, where nothing stands at it.
-fn start_of(view: View, length: TermLength) -> View
-    ensures { result ≡ term_start length view }
-{
-    let length = u64::from(length.get().get());
-    View::new(view.get().saturating_sub(1) / length * length + 1)
 }
 
 /// The first view strictly between two others that no view of the terms covers.
@@ -140,8 +131,7 @@ fn first_uncovered_in<V>(
     after: View,
     before: View,
 ) -> Option<View>
-    requires below_limit { before ≤ 2 ^ 64 - 2 ^ 33 }
-    requires by_term { IsByTerm length terms.now }
+    requires { IsByTerm length terms.now }
     ensures { MatchOption result (Gapless (map_of_terms length terms.now) after before) (IsFirstGap (map_of_terms length terms.now) after before) }
 {
     if before <= after {
@@ -151,7 +141,7 @@ fn first_uncovered_in<V>(
     if cursor >= before {
         return None;
     }
-    let _views = length.get();
+    let views = u64::from(length.get().get());
     let rest = terms.at_or_above(cursor.term_start(length));
     for term in rest {
         if cursor >= before {
@@ -167,7 +157,10 @@ fn first_uncovered_in<V>(
         if term.1.last_below(cursor.next()).is_none() {
             return Some(cursor);
         }
-        cursor = cursor.next_term_start(length);
+        if before.get() - start.get() <= views {
+            return None;
+        }
+        cursor = View::new(start.get() + views);
     }
     if cursor < before { Some(cursor) } else { None }
 }

@@ -117,17 +117,15 @@ impl View {
         Some(View { number })
     }
 
-    /// The number of the term that the view stands in, from 0. Genesis stands in none.
+    /// The number of the term that the view stands in, from 0. Genesis counts to the first.
     pub fn term_index(self, length: TermLength) -> u64
-        requires { HasTerm self }
         ensures { result ≡ term_index length self }
     {
-        (self.number - 1) / u64::from(length.views)
+        self.number.saturating_sub(1) / u64::from(length.views)
     }
 
-    /// The first view of the view's term.
+    /// The first view of the view's term; of the first term for genesis.
     pub fn term_start(self, length: TermLength) -> View
-        requires { HasTerm self }
         ensures { result ≡ term_start length self }
     {
         let index = self.term_index(length);
@@ -158,9 +156,8 @@ impl View {
         }
     }
 
-    /// The views whose nullifications cover this one: from its term's start to itself.
+    /// The views whose nullifications cover this one: from its term's start to itself; none for genesis.
     pub fn covering_range(self, length: TermLength) -> RangeInclusive<View>
-        requires { HasTerm self }
         ensures start { range_inclusive_start result ≡ term_start length self }
         ensures end { range_inclusive_end result ≡ self }
         ensures whole { range_inclusive_exhausted result ≡ false }
@@ -168,9 +165,8 @@ impl View {
         self.term_start(length)..=self
     }
 
-    /// Whether the view is the first of its term.
+    /// Whether the view is the first of its term. Genesis is not.
     pub fn is_term_start(self, length: TermLength) -> bool
-        requires { HasTerm self }
         ensures { IsTrue result ↔ (self ≡ term_start length self) }
     {
         self == self.term_start(length)

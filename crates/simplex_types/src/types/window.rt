@@ -41,7 +41,6 @@ impl Lookahead {
     ///
     /// None for genesis, for the first view of a term, and where no view is voted for ahead.
     pub fn issuance_floor(&self, view: View) -> Option<View>
-        requires { view ≤ 2 ^ 64 - 2 ^ 33 }
         ensures { result ≡ issuance_floor self.now.term_length self.now.optimistic_views view }
     {
         if view.is_zero() || self.optimistic_views == 0 {
