@@ -14,7 +14,7 @@ use Rattle.simplex_types.proofs.Maps.{entries-retain_keys}
 use Rattle.simplex_round.specs.Round.{RoundFacts, is_judged}
 use Rattle.simplex_voter.specs.Facts.{Facts}
 use Rattle.simplex_voter.specs.Gaps.{is_covered, IsGapless, IsFirstGap, first_gap}
-use Rattle.simplex_voter.specs.Payloads.{has_failed}
+use Rattle.simplex_voter.specs.Rounds.{is_refused_between}
 use Rattle.simplex_voter.proofs.Gaps.{first_gap-is}
 use Rattle.simplex_voter.proofs.Between.{any-filter}
 
@@ -62,15 +62,13 @@ moved false false false d = refl
 up_to : (u v : ℕ) → ltb u (v + 1) ≡ leb u v
 up_to u v = grind (arith, nat_tests)
 
-module _ {K L D : Type 0} (x : Facts K L D) (m : fin.FinMap nat_cmp (RoundFacts K D)) (shown : x.rounds ≡ fin.entries m) where
-  -- a round that was certified false, of a view in the term and above the last finalized one
-  pub failed_shown : (start v next : ℕ) → start ≡ term_start x.terms.term_length v → next ≡ v + 1 → list_any (failed_above x.finalized) (fin.entries (at_or_above (below m next) start)) ≡ has_failed x v
-  failed_shown start v next starts after =
-      let test : ℕ × RoundFacts K D → Bool = failed_above x.finalized in
-      ap (list_any test) (entries-retain_keys (below m next) (λ u. leb start u))
-      ∙ any-filter (λ e. leb start e.0) test (fin.entries (below m next))
-      ∙ ap (list_any (λ e. leb start e.0 && test e)) (entries-retain_keys m (λ u. ltb u next))
-      ∙ any-filter (λ e. ltb e.0 next) (λ e. leb start e.0 && test e) (fin.entries m)
-      ∙ rw (starts, after, shown) (
-      (λ i. list_any (λ (e : ℕ × RoundFacts K D). up_to e.0 v i && (leb (term_start x.terms.term_length v) e.0 && test e)) (fin.entries m))
-      ∙ (λ i. list_any (λ (e : ℕ × RoundFacts K D). moved (ltb x.finalized e.0) (leb (term_start x.terms.term_length v) e.0) (leb e.0 v) (is_judged false e.1.certification) i) (fin.entries m)))
+-- a round that was certified false, above a view, from another on and up to a third
+pub refused_between : {K D : Type 0} (m : fin.FinMap nat_cmp (RoundFacts K D)) (above from last : ℕ) → list_any (failed_above above) (fin.entries (at_or_above (below m (last + 1)) from)) ≡ list_any (is_refused_between above from last) (fin.entries m)
+refused_between {K} {D} m above from last =
+    let test : ℕ × RoundFacts K D → Bool = failed_above above in
+    ap (list_any test) (entries-retain_keys (below m (last + 1)) (λ u. leb from u))
+    ∙ any-filter (λ e. leb from e.0) test (fin.entries (below m (last + 1)))
+    ∙ ap (list_any (λ e. leb from e.0 && test e)) (entries-retain_keys m (λ u. ltb u (last + 1)))
+    ∙ any-filter (λ e. ltb e.0 (last + 1)) (λ e. leb from e.0 && test e) (fin.entries m)
+    ∙ (λ i. list_any (λ (e : ℕ × RoundFacts K D). up_to e.0 last i && (leb from e.0 && test e)) (fin.entries m))
+    ∙ (λ i. list_any (λ (e : ℕ × RoundFacts K D). moved (ltb above e.0) (leb from e.0) (leb e.0 last) (is_judged false e.1.certification) i) (fin.entries m))

@@ -1,12 +1,8 @@
 -- The search for the highest view with an explicit payload.
 use Rattle.std.proofs.Common.{◌≡◌, ℕ, true, false, List, [], ◌∷◌, ◌++◌, ltb, filter, length, arith, Option, Some, None, is_some, refl, ap, sym, ◌∙◌, inl, inr}
 use Rattle.std.specs.List.{filter_map, cons_option, last_or}
-use Rattle.std.specs.Ordering.{nat_cmp}
-use Rattle.std.specs.FinMap as map
 use Rattle.std.proofs.lemmas.Bool.{false≢true}
 use Rattle.std.proofs.lemmas.List.Elements.{filter_map-append}
-use Rattle.simplex_types.specs.Tracked.{below}
-use Rattle.simplex_types.proofs.Maps.{entries-retain_keys}
 use Rattle.simplex_round.specs.Round.{RoundFacts}
 use Rattle.simplex_voter.specs.Facts.{Facts}
 use Rattle.simplex_voter.specs.Parents.{at_view, explicit_at, explicit_below, highest_explicit}
@@ -55,12 +51,11 @@ module _ {K L D : Type 0} (x : Facts K L D) (v : ℕ) where
     | inr over ↦ rw over (explicit_kept es)
   ]
 
-  module _ (m : map.FinMap nat_cmp (RoundFacts K D)) (shown : x.rounds ≡ map.entries m) where
-    searched : filter_map (explicit_at x) (map.entries (below m v)) ≡ filter_map (explicit_below x v) x.rounds
-    searched = ap (filter_map (explicit_at x)) (entries-retain_keys m (λ u. ltb u v)) ∙ explicit_kept (map.entries m) ∙ ap (filter_map (explicit_below x v)) (sym shown)
+  searched : filter_map (explicit_at x) (filter (λ e. ltb e.0 v) x.rounds) ≡ filter_map (explicit_below x v) x.rounds
+  searched = explicit_kept x.rounds
 
-    pub highest_found : (found : ℕ × D) → Some found ≡ last_or None (filter_map (explicit_at x) (map.entries (below m v))) → Some found ≡ highest_explicit x v
-    highest_found found is = last-there (at_view 0 x.genesis) (filter_map (explicit_at x) (map.entries (below m v))) found is ∙ ap (last_or (at_view 0 x.genesis)) searched
+  pub highest_found : (found : ℕ × D) → Some found ≡ last_or None (filter_map (explicit_at x) (filter (λ e. ltb e.0 v) x.rounds)) → Some found ≡ highest_explicit x v
+  highest_found found is = last-there (at_view 0 x.genesis) (filter_map (explicit_at x) (filter (λ e. ltb e.0 v) x.rounds)) found is ∙ ap (last_or (at_view 0 x.genesis)) searched
 
-    pub none_explicit : (genesis : Option (ℕ × D)) → None ≡ last_or None (filter_map (explicit_at x) (map.entries (below m v))) → genesis ≡ at_view 0 x.genesis → genesis ≡ highest_explicit x v
-    none_explicit genesis is other = other ∙ last-absent (at_view 0 x.genesis) (filter_map (explicit_at x) (map.entries (below m v))) is ∙ ap (last_or (at_view 0 x.genesis)) searched
+  pub none_explicit : (genesis : Option (ℕ × D)) → None ≡ last_or None (filter_map (explicit_at x) (filter (λ e. ltb e.0 v) x.rounds)) → genesis ≡ at_view 0 x.genesis → genesis ≡ highest_explicit x v
+  none_explicit genesis is other = other ∙ last-absent (at_view 0 x.genesis) (filter_map (explicit_at x) (filter (λ e. ltb e.0 v) x.rounds)) is ∙ ap (last_or (at_view 0 x.genesis)) searched

@@ -1,5 +1,7 @@
 pub mod Examples
 pub mod RoundsKept
+pub mod Alike
+pub mod Changed
 pub mod Shown
 pub mod Faults
 pub mod Gaps
@@ -25,7 +27,6 @@ pub mod Proposals
 pub mod Requests
 pub mod Stalls
 pub mod Polling
-pub mod Handles
 pub mod Offers
 pub mod Covered
 pub mod Offered

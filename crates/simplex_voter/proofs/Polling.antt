@@ -1,57 +1,50 @@
 -- The first poll after a vote to nullify sets the moment of its repeat.
-use Rattle.std.proofs.Common.{◌≡◌, ℕ, ◌+◌, Bool, true, false, cond, ◌&&◌, Option, Some, None, Result, Ok, Err, OnOk, OnErr, unwrap_or, refl, ap, sym, ◌∙◌}
-use Rattle.std.specs.Prelude.{IfOk, IfErr, IsOkUnless, option_and_then}
-use Rattle.std.specs.Option.{option_map_or}
-use Rattle.std.specs.Ordering.{nat_cmp}
+use Rattle.std.proofs.Common.{◌≡◌, ◌≤◌, ℕ, ◌+◌, ◌^◌, Bool, true, false, cond, ◌&&◌, leb, Option, Some, None, Result, Ok, Err, OnErr, unwrap_or, refl, ap, sym, ◌∙◌, inl, inr, arith}
+use Rattle.std.specs.Prelude.{◌↔◌, IfOk, IfErr, IsOkUnless, is_err, option_and_then}
 use Rattle.std.specs.FinMap as map
+use Rattle.std.specs.Ordering.{nat_cmp}
+use Rattle.std.proofs.lemmas.Bool.{cases_lt, le-leb}
+use Rattle.std.proofs.lemmas.Bool.Decides.{nat_tests}
 use Rattle.simplex_types.specs.declared.types.fault.Fault.{Fault}
 use Rattle.simplex_types.specs.declared.types.fault.Fault.TheVariants.{TimeOverflow}
-use Rattle.simplex_round.specs.declared.round.Decision.TheVariants.{Nullify}
-use Rattle.simplex_round.specs.Round.{RoundFacts, awaits_retry, with_retry, round_timeout}
-use Rattle.simplex_voter.specs.Facts.{Facts, round_of, with_tracked}
-use Rattle.simplex_voter.specs.InPlace.{polled_rounds}
+use Rattle.simplex_round.specs.Round.{RoundFacts, new_round, awaits_retry, with_retry, round_timeout, RetryOverflows}
 use Rattle.simplex_voter.specs.Refusals.{is_past_u64}
-use Rattle.simplex_voter.specs.Rounds.{fresh_round}
-use Rattle.simplex_voter.proofs.RoundsKept.{IsAlike, alike_same, insert-same}
-use Rattle.simplex_voter.proofs.Shown.{origin, round_shown, in_place}
-
-module _ {K D : Type 0} where
-  retried_alike : (r : RoundFacts K D) (moment : ℕ) (b : Bool) → IsAlike r (cond b (record r { decision = Nullify (Some moment) }) r)
-  retried_alike r moment true = (refl, refl, refl, refl)
-  retried_alike r moment false = (refl, refl, refl, refl)
-
-  pub polled_alike : {A E : Type 0} (result : Result A E) (r s : RoundFacts K D) (now retry : ℕ) → OnErr result (s ≡ r) → OnOk result (s ≡ with_retry r now retry) → IsAlike r s
-  polled_alike (Ok a) r s now retry err ok = rw ok (retried_alike r (now + retry) (awaits_retry r))
-  polled_alike (Err e) r s now retry err ok = alike_same r s err
-
-  -- where no moment is set, nothing changes
-  pub poll_refused : {A : Type 0} (result : Result A Fault) (m : map.FinMap nat_cmp (RoundFacts K D)) (v : ℕ) (r s : RoundFacts K D) → Some r ≡ map.get m v → IsOkUnless result TimeOverflow → OnErr result (s ≡ r) → IfErr result (λ fault. (fault ≡ TimeOverflow) × (map.insert m v s ≡ m))
-  poll_refused (Ok a) m v r s here late same = tt
-  poll_refused (Err e) m v r s here late same = (late, ap (map.insert m v) same ∙ insert-same m v r (sym here))
+use Rattle.simplex_voter.specs.Rounds.{RoundsFacts, round_at, round_of, round_number}
+use Rattle.simplex_voter.proofs.RoundsKept.{insert-same}
+use Rattle.simplex_voter.proofs.Gaps.{cases_bool}
 
 -- an answer that is equal to one is equal to another
 pub answered : {A E : Type 0} (result : Result A E) (a b : A) → a ≡ b → IfOk result (λ answer. answer ≡ a) → IfOk result (λ answer. answer ≡ b)
 answered (Ok answer) a b same is = is ∙ same
 answered (Err e) a b same is = tt
 
-module _ {K L D : Type 0} (x : Facts K L D) (m : map.FinMap nat_cmp (RoundFacts K D)) (shown : x.rounds ≡ map.entries m) (v now retry : ℕ) where
-  -- what a poll of the rounds is, by the facts: whether it is too late, what it leaves and what it answers
-  pub late_shown : option_map_or (λ r. awaits_retry r && is_past_u64 (now + retry)) (map.get m v) false ≡ (awaits_retry (round_of x v) && is_past_u64 (now + retry))
-  late_shown = rw (round_shown x m shown v) (by_found (map.get m v))
-    where
-      by_found : (found : Option (RoundFacts K D)) → option_map_or (λ (r : RoundFacts K D). awaits_retry r && is_past_u64 (now + retry)) found false ≡ (awaits_retry (unwrap_or found (fresh_round (origin x) v)) && is_past_u64 (now + retry))
-      by_found None = refl
-      by_found (Some r) = refl
+past_not : (n : ℕ) → n + 1 ≤ 2 ^ 64 → is_past_u64 n ≡ false
+past_not n below = grind (arith, nat_tests)
 
-  pub polled_shown : (new : map.FinMap nat_cmp (RoundFacts K D)) → new ≡ polled_rounds m v now retry → record x { rounds = map.entries new } ≡ with_tracked x v (with_retry (round_of x v) now retry)
-  polled_shown new is =
-      ap (λ (n : map.FinMap nat_cmp (RoundFacts K D)). record x { rounds = map.entries n }) is
-      ∙ in_place x m shown v (λ r. with_retry r now retry)
+module _ {K D A : Type 0} where
+  -- a poll is too late exactly where it would set the moment of a repeat, and that is past 64 bits
+  pub late_is : (result : Result A Fault) (r : RoundFacts K D) (now retry : ℕ) → ((result ≡ Err TimeOverflow) ↔ RetryOverflows r now retry) → IsOkUnless result TimeOverflow → is_err result ≡ (awaits_retry r && is_past_u64 (now + retry))
+  late_is (Ok a) r now retry overflow unless = elim (cases_bool (awaits_retry r)) [
+    | inr set ↦ rw set refl
+    | inl waits ↦ elim (cases_lt (now + retry) (2 ^ 64)) [
+      | inl below ↦ rw (waits, past_not (now + retry) (omega (arith, below))) refl
+      | inr above ↦ let bad : Ok a ≡ Err TimeOverflow = overflow.1 (waits, above) in cc
+    ]
+  ]
+  late_is (Err e) r now retry overflow unless =
+      let both = overflow.0 (ap Err unless) in
+      rw (both.0, le-leb (2 ^ 64) (now + retry) both.1) refl
 
-  pub answer_shown : (allow : Bool) → option_and_then (λ r. round_timeout (with_retry r now retry) allow) (map.get m v) ≡ round_timeout (with_retry (round_of x v) now retry) allow
-  answer_shown allow = rw (round_shown x m shown v) (by_found (map.get m v) allow)
-    where
-      by_found : (found : Option (RoundFacts K D)) (allow : Bool) → option_and_then (λ (r : RoundFacts K D). round_timeout (with_retry r now retry) allow) found ≡ round_timeout (with_retry (unwrap_or found (fresh_round (origin x) v)) now retry) allow
-      by_found None true = refl
-      by_found None false = refl
-      by_found (Some r) allow = refl
+  -- where no moment is set, nothing changes
+  pub poll_refused : (result : Result A Fault) (x : RoundsFacts K D) (m : map.FinMap nat_cmp (RoundFacts K D)) → x.by_view ≡ map.entries m → (v : ℕ) (r s : RoundFacts K D) → Some r ≡ map.get m v → IsOkUnless result TimeOverflow → OnErr result (s ≡ r) → IfErr result (λ fault. (fault ≡ TimeOverflow) × (record x { by_view = map.entries (map.insert m v s) } ≡ x))
+  poll_refused (Ok a) x m shown v r s here late same = tt
+  poll_refused (Err e) x m shown v r s here late same = (late, ap (λ n. record x { by_view = map.entries n }) (ap (map.insert m v) same ∙ insert-same m v r (sym here)) ∙ ap (λ es. record x { by_view = es }) (sym shown))
+
+pub late_untracked : {K D : Type 0} (x : RoundsFacts K D) (v now retry : ℕ) → None ≡ round_at x v → false ≡ (awaits_retry (round_of x v) && is_past_u64 (now + retry))
+late_untracked x v now retry none = ap (λ found. awaits_retry (unwrap_or found (new_round x.me x.members (round_number x v))) && is_past_u64 (now + retry)) none
+
+-- what a poll answers, by the round of the view
+pub answer_shown : {K D : Type 0} (found : Option (RoundFacts K D)) (fresh : RoundFacts K D) → fresh ≡ new_round fresh.me fresh.members fresh.round → (now retry : ℕ) (allow : Bool) → option_and_then (λ (r : RoundFacts K D). round_timeout (with_retry r now retry) allow) found ≡ round_timeout (with_retry (unwrap_or found fresh) now retry) allow
+answer_shown None fresh is now retry true = rw is refl
+answer_shown None fresh is now retry false = rw is refl
+answer_shown (Some r) fresh is now retry allow = refl

@@ -1,35 +1,13 @@
--- Proposals that views take, as changes of a state's facts.
+-- What readies the view above a proposal.
 use Rattle.std.proofs.Common.{◌≡◌, ℕ, ◌+◌, Bool, true, false, cond, ◌&&◌, Option, Some, None, refl, ap, ◌∙◌}
-use Rattle.std.specs.Ordering.{nat_cmp}
 use Rattle.std.specs.Option.{option_map_or}
-use Rattle.std.specs.FinMap as map
-use Rattle.simplex_types.specs.Proposal.{same_proposal}
-use Rattle.simplex_types.specs.declared.types.messages.Proposal.{Proposal}
 use Rattle.simplex_round.specs.declared.round.Leader.{Leader}
-use Rattle.simplex_round.specs.Round.{RoundFacts, is_nullify}
-use Rattle.simplex_round.specs.Slot.{after_vote}
+use Rattle.simplex_round.specs.Round.{RoundFacts}
 use Rattle.simplex_voter.specs.Facts.{Facts, Elect, round_of, with_round}
 use Rattle.simplex_voter.specs.Windows.{in_window}
 use Rattle.simplex_voter.specs.Payloads.{is_elected_early}
 use Rattle.simplex_voter.specs.Leaders.{led, inherited, elected, prepared}
-use Rattle.simplex_voter.specs.Verifying.{proposed_rounds, with_proposal}
-use Rattle.simplex_voter.proofs.RoundsKept.{IsAlike}
-use Rattle.simplex_voter.proofs.Shown.{origin, round_shown, put_shown}
 use Rattle.simplex_voter.proofs.Elsewhere.{round_of-led, round_of-elected, not_next}
-
-module _ {K D : Type 0} (same : D → D → Bool) where
-  pub proposal_alike : (r s : RoundFacts K D) (p : Proposal D) → s ≡ with_proposal same r p → IsAlike r s
-  proposal_alike r s p is = rw is (by_decision (is_nullify r.decision))
-    where
-      by_decision : (b : Bool) → IsAlike r (cond b r (record r { slot = after_vote (same_proposal same) r.slot p }))
-      by_decision true = (refl, refl, refl, refl)
-      by_decision false = (refl, refl, refl, refl)
-
-module _ {K L D : Type 0} (same : D → D → Bool) (x : Facts K L D) (m : map.FinMap nat_cmp (RoundFacts K D)) (shown : x.rounds ≡ map.entries m) where
-  pub proposal_shown : (new : map.FinMap nat_cmp (RoundFacts K D)) (v : ℕ) (p : Proposal D) → new ≡ proposed_rounds same (origin x) m v p → record x { rounds = map.entries new } ≡ with_round x v (with_proposal same (round_of x v) p)
-  proposal_shown new v p is =
-      ap (λ (n : map.FinMap nat_cmp (RoundFacts K D)). record x { rounds = map.entries n }) is
-      ∙ rw (← round_shown x m shown v) (put_shown x m shown v (with_proposal same (round_of x v) p))
 
 -- what readies the view above leaves the round of a view
 module _ {K L D : Type 0} (elect : Elect L) (x : Facts K L D) (v : ℕ) where

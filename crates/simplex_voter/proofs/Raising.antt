@@ -1,5 +1,5 @@
 -- A raised finalized view, as a change of a state's facts.
-use Rattle.std.proofs.Common.{◌≡◌, ℕ, ◌+◌, Bool, true, false, cond, ltb, leb, filter, List, Option, Some, None, refl, ap, sym, ◌∙◌, arith}
+use Rattle.std.proofs.Common.{◌≡◌, ℕ, ◌+◌, Bool, true, false, cond, ltb, leb, filter, List, Option, Some, None, refl, ap, sym, subst, ◌∙◌, arith}
 use Rattle.std.specs.Prelude.{map as map_list, option_map, is_some}
 use Rattle.std.specs.Ordering.{nat_cmp}
 use Rattle.std.specs.FinMap as map
@@ -8,9 +8,11 @@ use Rattle.simplex_types.specs.Tracked.{at_or_above}
 use Rattle.simplex_round.specs.Round.{RoundFacts, token_of, after_abort}
 use Rattle.simplex_voter.specs.Facts.{Facts}
 use Rattle.simplex_voter.specs.Certification.{without_token, raised}
-use Rattle.simplex_voter.specs.Rounds.{Origin, IsMadeBy, AreMadeBy}
-use Rattle.simplex_voter.proofs.RoundsKept.{keys-kept, IsAlike, alike_made, unwrapped}
-use Rattle.simplex_voter.proofs.Walked.{Walked}
+use Rattle.simplex_voter.specs.Rounds.{RoundsFacts, round_at, IsKept, AreKept}
+use Rattle.simplex_voter.proofs.RoundsKept.{keys-kept}
+use Rattle.simplex_voter.proofs.Alike.{token_alike}
+use Rattle.simplex_voter.proofs.Changed.{some_is, alike_kept}
+use Rattle.simplex_voter.proofs.Walked.{find-changed}
 
 next_below : (v w : ℕ) → leb (v + 1) w ≡ ltb v w
 next_below v w = grind (arith, nat_tests)
@@ -21,19 +23,17 @@ module _ {K L D : Type 0} where
       let left = keys-kept n (v + 1) ∙ ap (filter (λ w. leb (v + 1) w)) (sym shown) ∙ (λ i. filter (λ w. next_below v w i) x.named) in
       rw above ((λ i. record x { finalized = v; named = left i; rounds = is i }))
 
-module _ {K D : Type 0} where
-  token_alike : (r : RoundFacts K D) → IsAlike r (without_token r)
-  token_alike r = elim (is_some (token_of r.certification)) as (λ b. IsAlike r (cond b (record r { certification = after_abort r.certification }) r)) [
-    | true ↦ (refl, refl, refl, refl)
-    | false ↦ (refl, refl, refl, refl)
-  ]
+-- certifications that end change nothing that is kept of rounds
+pub ended_kept : {K D : Type 0} (x : RoundsFacts K D) (v : ℕ) (es : List (ℕ × RoundFacts K D)) → es ≡ map_list (λ e. (e.0, cond (leb e.0 v) (without_token e.1) e.1)) x.by_view → AreKept x → AreKept (record x { by_view = es })
+ended_kept {K} {D} x v es is kept = subst (λ (fs : List (ℕ × RoundFacts K D)). AreKept (record x { by_view = fs })) (sym is) (λ q r found. on q r (by_value q (round_at x q) refl r (sym (find-changed (λ u (s : RoundFacts K D). cond (leb u v) (without_token s) s) q x.by_view) ∙ found)))
+  where
+    on : (q : ℕ) (r : RoundFacts K D) → IsKept x q r → IsKept (record x { by_view = map_list (λ e. (e.0, cond (leb e.0 v) (without_token e.1) e.1)) x.by_view }) q r
+    on q r k = record { me = k.me; members = k.members; round = k.round; in_range = k.in_range; notarized = k.notarized; leader = k.leader }
 
-  -- a round whose certification is ended was made as before
-  pub walked_made : (o : Origin K) (a m : map.FinMap nat_cmp (RoundFacts K D)) (n : ℕ) → Walked a m without_token n → AreMadeBy o a → AreMadeBy o m
-  walked_made o a m n done made v r found = by_value (ltb v n) (map.get a v) refl (sym (done v) ∙ found)
-    where
-      by_value : (b : Bool) (s : Option (RoundFacts K D)) → map.get a v ≡ s → cond b (option_map without_token s) s ≡ Some r → IsMadeBy o v r
-      by_value true None is e = cc
-      by_value true (Some s) is e = rw (← unwrapped _ _ e) (alike_made o v s (without_token s) (made v s is) (token_alike s))
-      by_value false None is e = cc
-      by_value false (Some s) is e = made v r (is ∙ e)
+    by_test : (b : Bool) (q : ℕ) (s : RoundFacts K D) → IsKept x q s → IsKept x q (cond b (without_token s) s)
+    by_test true q s k = alike_kept x q s (without_token s) k (token_alike s)
+    by_test false q s k = k
+
+    by_value : (q : ℕ) (s : Option (RoundFacts K D)) → round_at x q ≡ s → (r : RoundFacts K D) → option_map (λ (t : RoundFacts K D). cond (leb q v) (without_token t) t) s ≡ Some r → IsKept x q r
+    by_value q None is r e = let bad : None ≡ Some r = e in cc
+    by_value q (Some s) is r e = rw (← some_is _ r e) (by_test (leb q v) q s (kept q s is))

@@ -2,16 +2,13 @@
 use Rattle.std.proofs.Common.{◌≡◌, ℕ, ◌+◌, ◌<◌, ◌≤◌, Bool, true, false, ◌&&◌, ltb, leb, List, [], ◌∷◌, filter, length, get_or, drop, Option, Some, None, slice_get, is_some, refl, ap, sym, ◌∙◌, inl, inr, arith}
 use Rattle.std.specs.Prelude.{option_and_then}
 use Rattle.std.specs.Ordering.{nat_cmp, ord_max}
-use Rattle.std.specs.FinMap as map
 use Rattle.std.proofs.lemmas.Bool.Decides.{nat_tests}
 use Rattle.std.proofs.lemmas.List.{drop_more, drop_all}
-use Rattle.simplex_types.specs.Tracked.{at_or_above}
 use Rattle.simplex_types.specs.Terms.{term_start}
 use Rattle.simplex_types.specs.declared.types.window.Terms.{Terms}
 use Rattle.simplex_round.specs.Round.{RoundFacts}
 use Rattle.simplex_voter.specs.Facts.{Facts}
 use Rattle.simplex_voter.specs.Timeouts.{is_entered_between, is_stalling, standing_deadline, stall_deadline}
-use Rattle.simplex_voter.proofs.Containers.{entries-kept}
 use Rattle.simplex_voter.proofs.Gaps.{cases_bool}
 
 -- a walk over a list for the first element that passes
@@ -41,7 +38,7 @@ from_higher : (start low high view : ℕ) (b : Bool) → (leb (ord_max nat_cmp s
 from_higher start low high view true = grind (arith, nat_tests)
 from_higher start low high view false = grind (arith, nat_tests)
 
-module _ {K L D : Type 0} (x : Facts K L D) (m : map.FinMap nat_cmp (RoundFacts K D)) (shown : x.rounds ≡ map.entries m) where
+module _ {K L D : Type 0} (x : Facts K L D) where
   abbrev Entries : Type 0
   Entries = List (ℕ × RoundFacts K D)
 
@@ -49,14 +46,12 @@ module _ {K L D : Type 0} (x : Facts K L D) (m : map.FinMap nat_cmp (RoundFacts 
   abbrev first_deadline : Entries → Option ℕ
   first_deadline es = option_and_then (λ e. standing_deadline e.1) (slice_get (filter (is_entered_between x.finalized x.current) es) 0)
 
-  from_later : (start low : ℕ) → start ≡ term_start x.terms.term_length x.current → low ≡ ord_max nat_cmp start x.finalized → first_deadline (map.entries (at_or_above m low)) ≡ stall_deadline x
+  from_later : (start low : ℕ) → start ≡ term_start x.terms.term_length x.current → low ≡ ord_max nat_cmp start x.finalized → first_deadline (filter (λ e. leb low e.0) x.rounds) ≡ stall_deadline x
   from_later start low begins is =
-      let late : Entries → Entries = filter (λ e. leb low e.0) in
-      let left : map.entries (at_or_above m low) ≡ late x.rounds = entries-kept m low ∙ ap late (sym shown) in
       let same = filter-filter (λ (e : ℕ × RoundFacts K D). leb low e.0) (is_entered_between x.finalized x.current) (is_stalling x) (λ e. rw (is, begins) (from_higher (term_start x.terms.term_length x.current) x.finalized x.current e.0 (is_some e.1.entered_at))) x.rounds in
-      ap first_deadline left ∙ ap (λ (es : Entries). option_and_then (λ (e : ℕ × RoundFacts K D). standing_deadline e.1) (slice_get es 0)) same
+      ap (λ (es : Entries). option_and_then (λ (e : ℕ × RoundFacts K D). standing_deadline e.1) (slice_get es 0)) same
 
   -- the deadline is looked up from the term's start and the last finalized view on
-  pub stall_shown : (finalized current start low : ℕ) (terms : Terms) (es : Entries) (answer : Option ℕ) → finalized ≡ x.finalized → current ≡ x.current → terms ≡ x.terms → start ≡ term_start terms.term_length current → low ≡ ord_max nat_cmp start finalized → es ≡ map.entries (at_or_above m low) → answer ≡ option_and_then (λ e. standing_deadline e.1) (slice_get (filter (is_entered_between finalized current) es) 0) → answer ≡ stall_deadline x
-  stall_shown finalized current start low terms es answer last now same begins is read found =
-      found ∙ rw (last, now, read) (from_later start low (begins ∙ rw (same, now) refl) (is ∙ ap (λ v. ord_max nat_cmp start v) last))
+  pub stall_shown : (z : Facts K L D) → x ≡ z → (start low : ℕ) (terms : Terms) (es : Entries) (answer : Option ℕ) → terms ≡ x.terms → start ≡ term_start terms.term_length x.current → low ≡ ord_max nat_cmp start x.finalized → es ≡ filter (λ e. leb low e.0) x.rounds → answer ≡ option_and_then (λ e. standing_deadline e.1) (slice_get (filter (is_entered_between x.finalized x.current) es) 0) → answer ≡ stall_deadline x
+  stall_shown z shown start low terms es answer same begins is read found =
+      found ∙ rw read (from_later start low (begins ∙ rw same refl) is)

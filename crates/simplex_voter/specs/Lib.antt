@@ -1,6 +1,6 @@
 pub mod Facts
 pub mod Rounds
-pub mod InPlace
+pub mod RoundsView
 pub mod StateView
 pub mod Setup
 pub mod Gaps

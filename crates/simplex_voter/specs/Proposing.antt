@@ -2,8 +2,6 @@
 use Rattle.std.specs.Prelude.{ℕ, Bool, true, false, ◌&&◌, ◌==◌, not, nat_le, List, Option, Some, None, is_some, option_map, option_and_then, if◌then◌else◌, filter, slice_get}
 use Rattle.std.specs.List.{filter_map, list_any}
 use Rattle.std.specs.Option.{option_map_or}
-use Rattle.std.specs.Ordering.{nat_cmp}
-use Rattle.std.specs.FinMap.{FinMap}
 use Rattle.simplex_types.specs.Terms.{next_term_start}
 use Rattle.simplex_types.specs.Proposal.{same_proposal}
 use Rattle.simplex_types.specs.declared.types.messages.Context.{Context}
@@ -14,7 +12,6 @@ use Rattle.simplex_round.specs.declared.round.Leader.{Leader}
 use Rattle.simplex_round.specs.Slot.{SlotFacts, after_own, holds_or_empty}
 use Rattle.simplex_round.specs.Round.{RoundFacts, is_nullify, should_propose}
 use Rattle.simplex_voter.specs.Facts.{Facts, Elect, round_at, round_of, round_number, with_round, with_tracked}
-use Rattle.simplex_voter.specs.InPlace.{changed_at}
 use Rattle.simplex_voter.specs.Windows.{is_start, is_admitted}
 use Rattle.simplex_voter.specs.Payloads.{explicit_payload}
 use Rattle.simplex_voter.specs.Parents.{is_payload, preferred_parent, may_stand}
@@ -39,10 +36,6 @@ proposal_of context payload = record { round = context.round; parent = context.p
 
 abbrev pub build_requested : {D : Type 0} → Bool → SlotFacts D → SlotFacts D
 build_requested requested s = record s { build_requested = requested }
-
--- the rounds with the request to build in a tracked view cleared
-abbrev pub released_rounds : {K D : Type 0} → FinMap nat_cmp (RoundFacts K D) → ℕ → FinMap nat_cmp (RoundFacts K D)
-released_rounds rounds v = changed_at (λ r. record r { slot = build_requested false r.slot }) rounds v
 
 -- the own proposal is held and bound to its parent's payload, and work on the view began at this moment
 abbrev pub proposed_round : {K D : Type 0} → (D → D → Bool) → RoundFacts K D → Context D K → D → ℕ → RoundFacts K D

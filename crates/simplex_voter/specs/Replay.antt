@@ -3,8 +3,6 @@ use Rattle.std.specs.Prelude.{◌≡◌, ℕ, Bool, true, false, ◌||◌, Optio
 use Rattle.std.specs.Option.{option_map_or}
 use Rattle.std.specs.Ordering.{nat_cmp}
 use Rattle.std.specs.BTreeSet.{insert_key}
-use Rattle.std.specs.FinMap.{FinMap, insert}
-use Rattle.simplex_voter.specs.Rounds.{Origin, round_in}
 use Rattle.simplex_types.specs.Proposal.{same_proposal}
 use Rattle.simplex_types.specs.Viewed.{artifact_view}
 use Rattle.simplex_types.specs.declared.types.fault.Fault.{Fault}
@@ -94,7 +92,3 @@ module _ {K L D : Type 0} (same : D → D → Bool) (elect : Elect L) where
   after_replayed x a =
       let restored = with_round (replayed_sets x a) (artifact_view a) (replayed_round same x a) in
       if is_some (voted_proposal a) then prepared elect restored (artifact_view a) else restored
-
--- the rounds with what an artifact restores of its view's, and its binding
-abbrev pub recalled_rounds : {K D S G C : Type 0} → (D → D → Bool) → Origin K → FinMap nat_cmp (RoundFacts K D) → ℕ → Artifact S D K G C → Option (Proposal D × D) → FinMap nat_cmp (RoundFacts K D)
-recalled_rounds same o rounds v a binding = insert rounds v (bound_again (after_replay (same_proposal same) (round_in o rounds v) a) binding)

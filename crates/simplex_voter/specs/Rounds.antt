@@ -1,80 +1,88 @@
--- The tracked views as the state keeps them: each round is of this member, these members and this epoch.
-use Rattle.std.specs.Prelude.{◌≡◌, ◌<◌, ◌^◌, ℕ, Bool, true, List, Option, Some, is_some, unwrap_or, ◌||◌, if◌then◌else◌}
+-- The rounds of the tracked views. Each is of one member, its members and one epoch.
+use Rattle.std.specs.Prelude.{◌≡◌, ◌<◌, ◌≤◌, ◌+◌, ◌^◌, ℕ, nat_lt, nat_le, Bool, true, false, ◌&&◌, List, [], Option, Some, IfSome, is_some, unwrap_or, if◌then◌else◌, length}
 use Rattle.std.specs.Option.{option_map_or}
+use Rattle.std.specs.FinMap.Entries.{find, put}
 use Rattle.std.specs.Ordering.{nat_cmp}
-use Rattle.std.specs.FinMap.{FinMap, get, insert}
-use Rattle.simplex_round.specs.Round.{RoundFacts, new_round, leader_at, with_deadlines, with_notarization, with_nullification, with_finalization, after_nullify}
-use Rattle.simplex_types.specs.Certificates.{ProposalFacts, NullificationFacts}
-use Rattle.simplex_types.specs.Proposal.{same_proposal}
+use Rattle.simplex_types.specs.declared.types.numbers.Round.{Round}
+use Rattle.simplex_round.specs.Round.{RoundFacts, new_round, leader_at, with_deadlines, is_judged}
 use Rattle.simplex_voter.specs.declared.voter.rounds.Deadlines.{Deadlines}
 
--- for whom and among whom rounds are made, and in which epoch
-pub record Origin (K : Type 0) : Type 0 where
+-- no view above this one is ever tracked: what a certificate names is below 2 ^ 63, what one enters or elects for at most a
+-- term above that, and a vote is cast at most a term above the current view, and readies the next one
+abbrev pub largest_tracked : ℕ
+largest_tracked = 2 ^ 63 + 2 ^ 33
+
+pub record RoundsFacts (K D : Type 0) : Type 0 where
+  -- as whom this member signs, all members' keys, and the epoch
   pub me : Option ℕ
   pub members : List K
   pub epoch : ℕ
+  -- what is known of each tracked view, by rising view
+  pub by_view : List (ℕ × RoundFacts K D)
 
-abbrev pub origin_of : {K : Type 0} → Option ℕ → List K → ℕ → Origin K
-origin_of me members epoch = record { me = me; members = members; epoch = epoch }
+module _ {K D : Type 0} where
+  abbrev pub no_rounds : Option ℕ → List K → ℕ → RoundsFacts K D
+  no_rounds me members epoch = record { me = me; members = members; epoch = epoch; by_view = [] }
 
-abbrev pub fresh_round : {K D : Type 0} → Origin K → ℕ → RoundFacts K D
-fresh_round o v = new_round o.me o.members (record { epoch = o.epoch; view = v })
+  abbrev pub round_at : RoundsFacts K D → ℕ → Option (RoundFacts K D)
+  round_at x v = find nat_cmp v x.by_view
 
--- a round was made so, at this view; a certificate of its proposal has a view of 63 bits
-pub record IsMadeBy {K D : Type 0} (o : Origin K) (v : ℕ) (r : RoundFacts K D) : Type 0 where
-  pub me : r.me ≡ o.me
-  pub members : r.members ≡ o.members
-  pub round : r.round ≡ record { epoch = o.epoch; view = v }
-  pub votable : is_some r.notarization ≡ true → v < 2 ^ 63
+  abbrev pub is_tracked : RoundsFacts K D → ℕ → Bool
+  is_tracked x v = is_some (round_at x v)
 
--- each tracked round was
-abbrev pub AreMadeBy : {K D : Type 0} → Origin K → FinMap nat_cmp (RoundFacts K D) → Type 0
-AreMadeBy {K} {D} o rounds = (v : ℕ) (r : RoundFacts K D) → get rounds v ≡ Some r → IsMadeBy o v r
+  abbrev pub round_number : RoundsFacts K D → ℕ → Round
+  round_number x v = record { epoch = x.epoch; view = v }
 
--- the round of a view, a fresh one where it isn't tracked
-abbrev pub round_in : {K D : Type 0} → Origin K → FinMap nat_cmp (RoundFacts K D) → ℕ → RoundFacts K D
-round_in o rounds v = unwrap_or (get rounds v) (fresh_round o v)
+  -- what is known of a view: nothing, where it isn't tracked
+  abbrev pub round_of : RoundsFacts K D → ℕ → RoundFacts K D
+  round_of x v = unwrap_or (round_at x v) (new_round x.me x.members (round_number x v))
 
--- the rounds with the first leader of a view
-abbrev pub led_rounds : {K D : Type 0} → Origin K → FinMap nat_cmp (RoundFacts K D) → ℕ → ℕ → FinMap nat_cmp (RoundFacts K D)
-led_rounds o rounds v member =
-    if is_some (round_in o rounds v).leader
-    then rounds
-    else insert rounds v (record (round_in o rounds v) { leader = leader_at o.members member })
+  -- the rounds with another one at a view, which is tracked from then on
+  abbrev pub with_round : RoundsFacts K D → ℕ → RoundFacts K D → RoundsFacts K D
+  with_round x v r = record x { by_view = put nat_cmp v r x.by_view }
 
--- the rounds with an entry of a view at a moment, and these deadlines
-abbrev pub entered_rounds : {K D : Type 0} → Origin K → FinMap nat_cmp (RoundFacts K D) → ℕ → ℕ → Deadlines → FinMap nat_cmp (RoundFacts K D)
-entered_rounds o rounds v now deadlines =
-    let r = round_in o rounds v in
-    insert rounds v (with_deadlines (record r { entered_at = Some (unwrap_or r.entered_at now) }) deadlines.leader deadlines.certification deadlines.stall)
+  -- the round of a view after a change, tracked from then on; and of a view that is tracked, while of another nothing changes
+  abbrev pub changed : RoundsFacts K D → ℕ → (RoundFacts K D → RoundFacts K D) → RoundsFacts K D
+  changed x v change = with_round x v (change (round_of x v))
 
--- the rounds with the first notarization of a view
-abbrev pub notarized_rounds : {K D : Type 0} → (D → D → Bool) → Origin K → FinMap nat_cmp (RoundFacts K D) → ℕ → ProposalFacts D → FinMap nat_cmp (RoundFacts K D)
-notarized_rounds same o rounds v c = insert rounds v (with_notarization (same_proposal same) (round_in o rounds v) c)
+  abbrev pub changed_in_place : RoundsFacts K D → ℕ → (RoundFacts K D → RoundFacts K D) → RoundsFacts K D
+  changed_in_place x v change = if is_tracked x v then changed x v change else x
 
--- the rounds with the first finalization of a view
-abbrev pub finalized_rounds : {K D : Type 0} → (D → D → Bool) → Origin K → FinMap nat_cmp (RoundFacts K D) → ℕ → ProposalFacts D → FinMap nat_cmp (RoundFacts K D)
-finalized_rounds same o rounds v c = insert rounds v (with_finalization (same_proposal same) (round_in o rounds v) c)
+  -- the member leads the view, unless a leader is set
+  abbrev pub led : RoundsFacts K D → ℕ → ℕ → RoundsFacts K D
+  led x v member =
+      if is_some (round_of x v).leader then x else changed x v (λ r. record r { leader = leader_at x.members member })
 
--- the rounds with the first nullification of a view
-abbrev pub nullified_rounds : {K D : Type 0} → Origin K → FinMap nat_cmp (RoundFacts K D) → ℕ → NullificationFacts → FinMap nat_cmp (RoundFacts K D)
-nullified_rounds o rounds v c = insert rounds v (with_nullification (round_in o rounds v) c)
+  -- the leader of one view goes to another
+  abbrev pub inherited : RoundsFacts K D → ℕ → ℕ → RoundsFacts K D
+  inherited x from to = option_map_or (λ l. led x to l.idx) (round_of x from).leader x
 
--- the rounds with the vote to nullify a view decided, unless it is decided to finalize it
-abbrev pub decided_rounds : {K D : Type 0} → Origin K → FinMap nat_cmp (RoundFacts K D) → ℕ → FinMap nat_cmp (RoundFacts K D)
-decided_rounds o rounds v = insert rounds v (after_nullify (round_in o rounds v))
+  -- they are of the same member, members and epoch
+  pub record HasSameOrigin (before after : RoundsFacts K D) : Type 0 where
+    pub me : after.me ≡ before.me
+    pub members : after.members ≡ before.members
+    pub epoch : after.epoch ≡ before.epoch
 
--- the notarization of a tracked view counts as handed out, where it is there
-abbrev pub with_notarization_handed_out : {K D : Type 0} → FinMap nat_cmp (RoundFacts K D) → ℕ → FinMap nat_cmp (RoundFacts K D)
-with_notarization_handed_out rounds v =
-    option_map_or (λ r. insert rounds v (record r { notarization_broadcast = r.notarization_broadcast || is_some r.notarization })) (get rounds v) rounds
+  -- the round of a tracked view is this member's, among its members and in its epoch; only a view that a certificate may
+  -- name is notarized; and its leader is a member
+  pub record IsKept (x : RoundsFacts K D) (v : ℕ) (r : RoundFacts K D) : Type 0 where
+    pub me : r.me ≡ x.me
+    pub members : r.members ≡ x.members
+    pub round : r.round ≡ round_number x v
+    pub in_range : v ≤ largest_tracked
+    pub notarized : is_some r.notarization ≡ true → v < 2 ^ 63
+    pub leader : IfSome r.leader (λ l. l.idx < length x.members)
 
--- the nullification of a tracked view counts as handed out, where it is there
-abbrev pub with_nullification_handed_out : {K D : Type 0} → FinMap nat_cmp (RoundFacts K D) → ℕ → FinMap nat_cmp (RoundFacts K D)
-with_nullification_handed_out rounds v =
-    option_map_or (λ r. insert rounds v (record r { nullification_broadcast = r.nullification_broadcast || is_some r.nullification })) (get rounds v) rounds
+  -- each tracked round is so
+  abbrev pub AreKept : RoundsFacts K D → Type 0
+  AreKept x = (v : ℕ) (r : RoundFacts K D) → round_at x v ≡ Some r → IsKept x v r
 
--- the finalization of a tracked view counts as handed out, where it is there
-abbrev pub with_finalization_handed_out : {K D : Type 0} → FinMap nat_cmp (RoundFacts K D) → ℕ → FinMap nat_cmp (RoundFacts K D)
-with_finalization_handed_out rounds v =
-    option_map_or (λ r. insert rounds v (record r { finalization_broadcast = r.finalization_broadcast || is_some r.finalization })) (get rounds v) rounds
+-- the first entry of a view is noted, and its deadlines count
+abbrev pub with_entry : {K D : Type 0} → RoundFacts K D → ℕ → Deadlines → RoundFacts K D
+with_entry r now deadlines =
+    with_deadlines (record r { entered_at = Some (unwrap_or r.entered_at now) }) deadlines.leader deadlines.certification deadlines.stall
+
+-- a view above one, from another on and up to a third, was certified false
+abbrev pub is_refused_between : {K D : Type 0} → (above from last : ℕ) → ℕ × RoundFacts K D → Bool
+is_refused_between above from last e =
+    nat_lt above e.0 && nat_le from e.0 && nat_le e.0 last && is_judged false e.1.certification

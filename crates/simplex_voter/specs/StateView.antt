@@ -1,45 +1,49 @@
 -- How a state's fields show its facts, and what it keeps of them.
-use Rattle.std.specs.Prelude.{◌≡◌, ℕ, Bool, List, Option, length}
-use Rattle.std.specs.FinMap.{entries, keys}
+use Rattle.std.specs.Prelude.{◌≡◌, ◌≤◌, ◌+◌, ◌^◌, ℕ, Bool, length}
+use Rattle.std.specs.FinMap.{keys}
 use Rattle.simplex_types.specs.declared.types.window.Terms.{Terms}
 use Rattle.simplex_voter.specs.declared.voter.state.Config.{Config}
 use Rattle.simplex_voter.specs.declared.voter.state.State.TheInside.{Inside}
 use Rattle.simplex_voter.specs.Facts.{Settings, Facts}
-use Rattle.simplex_voter.specs.Rounds.{origin_of, AreMadeBy}
 
-abbrev pub state_view : {S L D K G C : Type 0} → (S → Option ℕ) → (S → List K) → (L → Terms) → (L → Bool) → Inside S L D K G C → Facts K L D
-state_view me members terms elects_early s =
+abbrev pub state_view : {S L D K G C : Type 0} → (L → Terms) → (L → Bool) → Inside S L D K G C → Facts K L D
+state_view terms elects_early s =
     record {
       settings = record {
-        epoch = s.epoch;
+        epoch = s.rounds.epoch;
         view_retention = s.view_retention;
         leader_timeout = s.leader_timeout;
         certification_timeout = s.certification_timeout;
         timeout_retry = s.timeout_retry;
         skip_budget = s.skip_budget;
       };
-      me = me s.scheme;
-      members = members s.scheme;
+      me = s.rounds.me;
+      members = s.rounds.members;
       elector = s.elector;
       terms = terms s.elector;
       elects_early = elects_early s.elector;
       genesis = s.genesis;
       current = s.current;
       finalized = s.finalized;
-      moment = s.moment;
-      named = keys s.named;
+      moment = s.last_moment;
+      named = keys s.candidates;
       nullified = keys s.nullified.by_view;
       nullify_votes = keys s.nullify_votes.by_view;
-      rounds = entries s.rounds;
+      rounds = s.rounds.by_view;
       failed = s.failed;
     }
 
--- what each state keeps: rounds made for its member, sets of views by its terms, and an elector of its participants
-pub record IsKept {S L D K G C : Type 0} (me : S → Option ℕ) (members : S → List K) (terms : L → Terms) (count : L → ℕ) (s : Inside S L D K G C) : Type 0 where
-  pub rounds : AreMadeBy (origin_of (me s.scheme) (members s.scheme) s.epoch) s.rounds
+-- what a nullification of the greatest view that one may be of enters is not above this view, and other certificates and
+-- verdicts enter views below it
+abbrev pub largest_current : ℕ
+largest_current = 2 ^ 63 + 2 ^ 32
+
+-- what each state keeps: a bound of the current view, sets of views by its terms, and an elector of its members
+pub record IsKept {S L D K G C : Type 0} (terms : L → Terms) (count : L → ℕ) (s : Inside S L D K G C) : Type 0 where
+  pub in_range : s.current ≤ largest_current
   pub nullified : s.nullified.term_length ≡ (terms s.elector).term_length
   pub nullify_votes : s.nullify_votes.term_length ≡ (terms s.elector).term_length
-  pub elector : count s.elector ≡ length (members s.scheme)
+  pub elector : count s.elector ≡ length s.rounds.members
 
 -- how a configuration sets a state up
 abbrev pub settings_of : {S L K G C : Type 0} → Config S L K G C → Settings

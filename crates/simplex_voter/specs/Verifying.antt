@@ -2,8 +2,6 @@
 use Rattle.std.specs.Prelude.{ℕ, Bool, true, false, ◌&&◌, ◌==◌, not, List, [], ◌∷◌, Option, Some, None, is_none, option_map, option_and_then, if◌then◌else◌, slice_get, fold}
 use Rattle.std.specs.List.{filter_map}
 use Rattle.std.specs.Option.{option_map_or}
-use Rattle.std.specs.Ordering.{nat_cmp}
-use Rattle.std.specs.FinMap.{FinMap, insert}
 use Rattle.simplex_types.specs.Proposal.{same_proposal}
 use Rattle.simplex_types.specs.declared.types.messages.Context.{Context}
 use Rattle.simplex_types.specs.declared.types.messages.Proposal.{Proposal}
@@ -15,7 +13,6 @@ use Rattle.simplex_round.specs.declared.round.Leader.{Leader}
 use Rattle.simplex_round.specs.Slot.{after_vote, after_mark, is_unverified}
 use Rattle.simplex_round.specs.Round.{RoundFacts, is_nullify, pending_proposal, with_latch, is_last_request}
 use Rattle.simplex_voter.specs.Facts.{Facts, Elect, round_at, round_of, with_round, with_tracked}
-use Rattle.simplex_voter.specs.Rounds.{Origin, round_in}
 use Rattle.simplex_voter.specs.Gaps.{first_gap}
 use Rattle.simplex_voter.specs.Windows.{in_window, is_admitted}
 use Rattle.simplex_voter.specs.Parents.{spans, payload_for, binding_matches}
@@ -95,10 +92,6 @@ module _ {K L D : Type 0} where
 abbrev pub with_proposal : {K D : Type 0} → (D → D → Bool) → RoundFacts K D → Proposal D → RoundFacts K D
 with_proposal same r p =
     if is_nullify r.decision then r else record r { slot = after_vote (same_proposal same) r.slot p }
-
--- the rounds with a proposal that a view's round takes
-abbrev pub proposed_rounds : {K D : Type 0} → (D → D → Bool) → Origin K → FinMap nat_cmp (RoundFacts K D) → ℕ → Proposal D → FinMap nat_cmp (RoundFacts K D)
-proposed_rounds same o rounds v p = insert rounds v (with_proposal same (round_in o rounds v) p)
 
 abbrev pub with_mark : {K D : Type 0} → RoundFacts K D → RoundFacts K D
 with_mark r = if is_nullify r.decision then r else record r { slot = after_mark r.slot }

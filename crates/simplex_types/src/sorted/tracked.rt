@@ -184,6 +184,15 @@ impl<V> Tracked<V> {
         &self.below(to)[start..]
     }
 
+    /// The entries of the views from one view up to another, by rising view.
+    pub fn from_to(&self, from: View, last: View) -> &[(View, V)]
+        requires { from ≤ last + 1 }
+        ensures { result.now ≡ map.entries (at_or_above (below self.now (last + 1)) from) }
+    {
+        let (start, _) = self.find(from);
+        &self.up_to(last)[start..]
+    }
+
     /// The views below a view, rising.
     pub fn views_below(&self, alloc: Global, view: View) -> Result<Vec<View>, AllocError>
         ensures { IfOk result (λ views. views.items ≡ map.keys (below self.now view)) }

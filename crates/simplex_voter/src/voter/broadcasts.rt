@@ -4,7 +4,6 @@ ghost use Rattle.std.specs.Prelude.{◌≡◌, IfSome, IfOk, IfErr, OnOk, Err, N
 ghost use Rattle.simplex_types.specs.Certificates.{notarization_facts, nullification_facts, finalization_facts};
 ghost use Rattle.simplex_types.specs.declared.types.fault.Fault.TheVariants.{OutOfMemory};
 
-use super::rounds::{hand_out_finalization, hand_out_notarization, hand_out_nullification};
 use super::state::State;
 use simplex_types::types::{
     CertificateScheme, Digest, Elector, Fault, Finalization, Notarization, Nullification, View,
@@ -46,7 +45,7 @@ impl<S: CertificateScheme, L: Elector<S>, D: Digest> State<S, L, D> {
         ensures refused { IfErr result (λ fault. fault ≡ OutOfMemory) }
         ensures setup { HasSameSetup self.old self.new }
     {
-        hand_out_notarization(self.alloc, &mut self.rounds, view)
+        self.rounds.hand_out_notarization(view)
     }
 
     /// Hands out the nullification of a tracked view, if it is there and was not handed out or replayed before.
@@ -77,7 +76,7 @@ impl<S: CertificateScheme, L: Elector<S>, D: Digest> State<S, L, D> {
         ensures refused { IfErr result (λ fault. fault ≡ OutOfMemory) }
         ensures setup { HasSameSetup self.old self.new }
     {
-        hand_out_nullification(self.alloc, &mut self.rounds, view)
+        self.rounds.hand_out_nullification(view)
     }
 
     /// Hands out the finalization of a tracked view, if it is there and was not handed out or replayed before.
@@ -111,6 +110,6 @@ impl<S: CertificateScheme, L: Elector<S>, D: Digest> State<S, L, D> {
         ensures refused { IfErr result (λ fault. fault ≡ OutOfMemory) }
         ensures setup { HasSameSetup self.old self.new }
     {
-        hand_out_finalization(self.alloc, &mut self.rounds, view)
+        self.rounds.hand_out_finalization(view)
     }
 }

@@ -24,7 +24,7 @@ impl<S: CertificateScheme, L: Elector<S>, D: Digest> State<S, L, D> {
         if view <= self.finalized {
             return Ok(());
         }
-        name_view(&mut self.named, view)
+        name_view(&mut self.candidates, view)
     }
 
     /// The proposal of a view that is offered for certification: its parent lies below, and what it requires is certified.

@@ -5,7 +5,6 @@ ghost use Rattle.std.specs.Option.{option_map_or};
 ghost use Rattle.simplex_types.specs.Certificates.{notarization_facts};
 ghost use Rattle.simplex_types.specs.declared.types.fault.Fault.TheVariants.{OutOfMemory};
 
-use super::in_place::judge;
 use super::rounds::Deadlines;
 use super::state::State;
 use simplex_types::reasons::TimeoutReason;
@@ -99,12 +98,9 @@ impl<S: CertificateScheme, L: Elector<S>, D: Digest> State<S, L, D> {
     fn after_notarized(&self, view: View) -> View
         requires { is_some (certified_answer self.now view) ≡ true }
         ensures next { result ≡ view + 1 }
-        ensures in_range { view + 1 < 2 ^ 64 }
+        ensures in_range { view < 2 ^ 63 }
     {
-        match self.rounds.get(view) {
-            Some(_) => view.next(),
-            None => unreachable!(),
-        }
+        self.rounds.after_notarized(view)
     }
 
     /// A copy of the view's notarization, if it is there.
@@ -124,7 +120,7 @@ impl<S: CertificateScheme, L: Elector<S>, D: Digest> State<S, L, D> {
         requires tracked { is_tracked self.old view ≡ true }
         ensures { self.new ≡ judged self.old view success }
     {
-        judge(&mut self.rounds, view, success);
+        self.rounds.judge(view, success);
     }
 
     /// Once a view is certified or finalized, the view above it that waited for it is a candidate again.

@@ -75,7 +75,7 @@ impl<S: CertificateScheme, L: Elector<S>, D: Digest> State<S, L, D> {
     pub fn takes_round(&self, round: &types::Round) -> bool
         ensures { result ≡ takes_round self.now round.now }
     {
-        self.is_started() && round.epoch == self.epoch && self.admits_certificate(round.view)
+        self.is_started() && round.epoch == self.epoch() && self.admits_certificate(round.view)
     }
 
     /// Whether the verdict of a view's certification is taken: a floor was set, and where the view is tracked it has its
@@ -125,9 +125,9 @@ impl<S: CertificateScheme, L: Elector<S>, D: Digest> State<S, L, D> {
         ensures { IsTrue result ↔ TakesArtifact (new_round self.now.me self.now.members (artifact_round artifact.now)) artifact.now }
     {
         match artifact {
-            Artifact::Notarize(vote) => self.scheme.me() == Some(vote.signer),
-            Artifact::Nullify(vote) => self.scheme.me() == Some(vote.signer),
-            Artifact::Finalize(vote) => self.scheme.me() == Some(vote.signer),
+            Artifact::Notarize(vote) => self.is_me(vote.signer),
+            Artifact::Nullify(vote) => self.is_me(vote.signer),
+            Artifact::Finalize(vote) => self.is_me(vote.signer),
             Artifact::Notarization(_)
             | Artifact::Certification(_, _)
             | Artifact::Nullification(_)

@@ -5,7 +5,6 @@ ghost use Rattle.simplex_types.specs.Terms.{IsVotable};
 ghost use Rattle.simplex_types.specs.Certificates.{finalization_facts};
 ghost use Rattle.simplex_types.specs.declared.types.fault.Fault.TheVariants.{OutOfMemory};
 
-use super::kept::keep_finalization;
 use super::refusals::names_too_large;
 use super::rounds::Deadlines;
 use super::state::State;
@@ -99,19 +98,13 @@ impl<S: CertificateScheme, L: Elector<S>, D: Digest> State<S, L, D> {
         &mut self,
         finalization: Finalization<S, D>,
     ) -> Result<(bool, Option<S::PublicKey>), Fault>
+        requires { IsVotable finalization.proposal.round.view }
         ensures added { IfOk result (λ added. added ≡ finalization_added D.eq L.elect self.old (finalization_facts S.certificate_bytes finalization)) }
         ensures kept { OnOk result (self.new ≡ with_finalization_at D.eq L.elect self.old (finalization_facts S.certificate_bytes finalization)) }
         ensures refused { IfErr result (λ fault. fault ≡ OutOfMemory) }
         ensures setup { HasSameSetup self.old self.new }
     {
         let view = finalization.view();
-        keep_finalization(
-            self.alloc,
-            &mut self.rounds,
-            &self.scheme,
-            self.epoch,
-            view,
-            finalization,
-        )
+        self.rounds.keep_finalization(view, finalization)
     }
 }

@@ -1,6 +1,6 @@
 //! Which views nullifications cover, and where they leave a gap.
 
-ghost use Rattle.std.specs.Prelude.{◌≡◌, ◌≤◌, ◌-◌, ◌^◌};
+ghost use Rattle.std.specs.Prelude.{◌≡◌};
 
 use super::state::State;
 use simplex_types::types::{CertificateScheme, Digest, Elector, View};
@@ -17,7 +17,6 @@ impl<S: CertificateScheme, L: Elector<S>, D: Digest> State<S, L, D> {
 
     /// The lowest view strictly between two others that no nullification covers.
     pub(super) fn first_gap(&self, parent: View, view: View) -> Option<View>
-        requires { view ≤ 2 ^ 64 - 2 ^ 33 }
         ensures { result ≡ first_gap self.now parent view }
     {
         let _length = self.elector.terms().term_length.get();
@@ -26,7 +25,6 @@ impl<S: CertificateScheme, L: Elector<S>, D: Digest> State<S, L, D> {
 
     /// Whether nullifications cover each view strictly between two others.
     pub(super) fn is_gapless(&self, parent: View, view: View) -> bool
-        requires { view ≤ 2 ^ 64 - 2 ^ 33 }
         ensures { result ≡ is_gapless self.now parent view }
     {
         self.first_gap(parent, view).is_none()

@@ -19,7 +19,7 @@ impl<S: CertificateScheme, L: Elector<S>, D: Digest> State<S, L, D> {
     pub fn epoch(&self) -> Epoch
         ensures { result ≡ self.now.settings.epoch }
     {
-        self.epoch
+        self.rounds.epoch()
     }
 
     /// The current view: 0 until a floor is set.
@@ -72,7 +72,7 @@ impl<S: CertificateScheme, L: Elector<S>, D: Digest> State<S, L, D> {
     pub fn is_me(&self, member: Participant) -> bool
         ensures { result ≡ is_me self.now member }
     {
-        self.scheme.me() == Some(member)
+        self.rounds.scheme().me() == Some(member)
     }
 
     /// The index of the leader of a tracked view, once it is known.

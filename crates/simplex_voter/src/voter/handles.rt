@@ -3,27 +3,10 @@
 ghost use Rattle.std.specs.Prelude.{◌≡◌, ◌&&◌, IfSome, OnOk, Err, None, true, false, not};
 ghost use Rattle.std.specs.Result.{IsOk};
 ghost use Rattle.simplex_round.specs.Round.{is_judged};
-ghost use Rattle.simplex_voter.specs.InPlace.{handled_rounds};
-ghost use Rattle.simplex_voter.specs.Rounds.{AreMadeBy, Origin};
 
 use super::state::State;
 use simplex_round::round::{Certification, Round};
-use simplex_types::sorted::Tracked;
 use simplex_types::types::{CertificateScheme, Digest, Elector, Fault, View};
-
-/// Keeps the token of a tracked view's certification, in place of all before.
-fn set_handle<S: CertificateScheme, D: Digest>(
-    rounds: &mut Tracked<Round<S, D>>,
-    view: View,
-    token: u64,
-)
-    ensures made { (o : Origin S.PublicKey) → AreMadeBy o rounds.old → AreMadeBy o rounds.new }
-    ensures set { rounds.new ≡ handled_rounds rounds.old view token }
-{
-    if let Some(round) = rounds.get_mut(view) {
-        round.set_certify_handle(token);
-    }
-}
 
 /// Whether no verdict of the round's certification stands.
 fn has_no_verdict<S: CertificateScheme, D: Digest>(round: &Round<S, D>) -> bool
@@ -73,7 +56,7 @@ impl<S: CertificateScheme, L: Elector<S>, D: Digest> State<S, L, D> {
     fn set_handle(&mut self, view: View, token: u64)
         ensures { self.new ≡ after_set_certify_handle self.old view token }
     {
-        set_handle(&mut self.rounds, view, token);
+        self.rounds.set_certify_handle(view, token);
     }
 
     /// The token of a tracked view's certification, while that is under way.

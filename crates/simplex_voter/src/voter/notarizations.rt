@@ -5,7 +5,6 @@ ghost use Rattle.simplex_types.specs.Terms.{IsVotable};
 ghost use Rattle.simplex_types.specs.Certificates.{notarization_facts};
 ghost use Rattle.simplex_types.specs.declared.types.fault.Fault.TheVariants.{OutOfMemory};
 
-use super::kept::keep_notarization;
 use super::refusals::names_too_large;
 use super::state::State;
 use simplex_types::types::{CertificateScheme, Digest, Elector, Fault, Notarization, Viewable};
@@ -77,13 +76,6 @@ impl<S: CertificateScheme, L: Elector<S>, D: Digest> State<S, L, D> {
         ensures setup { HasSameSetup self.old self.new }
     {
         let view = notarization.view();
-        keep_notarization(
-            self.alloc,
-            &mut self.rounds,
-            &self.scheme,
-            self.epoch,
-            view,
-            notarization,
-        )
+        self.rounds.keep_notarization(view, notarization)
     }
 }

@@ -5,7 +5,7 @@ ghost use Rattle.simplex_types.specs.Terms.{IsVotable, next_term_start};
 ghost use Rattle.simplex_types.specs.Certificates.{nullification_facts};
 ghost use Rattle.simplex_types.specs.declared.types.fault.Fault.TheVariants.{OutOfMemory};
 
-use super::rounds::{Deadlines, keep_nullification};
+use super::rounds::Deadlines;
 use super::state::{LARGEST_VIEW, State};
 use super::views::note_view;
 use simplex_types::types::{
@@ -14,6 +14,7 @@ use simplex_types::types::{
 
 impl<S: CertificateScheme, L: Elector<S>, D: Digest> State<S, L, D> {
     ghost use Rattle.simplex_voter.specs.Setup.{HasSameSetup, deadlines_at};
+    ghost use Rattle.simplex_voter.specs.StateView.{largest_current};
     ghost use Rattle.simplex_voter.specs.Refusals.{HasFailed};
     ghost use Rattle.simplex_voter.specs.Acceptance.{takes_nullification, nullification_refusal, nullification_added, after_add_nullification, nullified_also, with_nullification_at};
 
@@ -40,7 +41,7 @@ impl<S: CertificateScheme, L: Elector<S>, D: Digest> State<S, L, D> {
         if view.get() > LARGEST_VIEW {
             return Err(Fault::ViewTooLarge);
         }
-        let next = view.next_term_start(self.elector.terms().term_length);
+        let next = self.next_term(view);
         let Some(deadlines) = self.deadlines_to(next, now) else {
             return Err(Fault::TimeOverflow);
         };
@@ -54,6 +55,17 @@ impl<S: CertificateScheme, L: Elector<S>, D: Digest> State<S, L, D> {
         }
     }
 
+    /// The first view of the term after a view's.
+    fn next_term(&self, view: View) -> View
+        requires { IsVotable view }
+        ensures start { result ≡ next_term_start self.now.terms.term_length view }
+        ensures in_range { result ≤ largest_current }
+    {
+        let length = self.elector.terms().term_length;
+        let _views = length.get();
+        view.next_term_start(length)
+    }
+
     fn accept_nullification(
         &mut self,
         nullification: Nullification<S>,
@@ -63,6 +75,7 @@ impl<S: CertificateScheme, L: Elector<S>, D: Digest> State<S, L, D> {
     ) -> Result<(), Fault>
         requires votable { IsVotable nullification.round.view }
         requires next { next ≡ next_term_start self.old.terms.term_length nullification.round.view }
+        requires in_range { next ≤ largest_current }
         requires deadlines { nat_lt self.old.current next ≡ true → deadlines.now ≡ deadlines_at self.old now }
         ensures accepted { OnOk result (self.new ≡ after_add_nullification L.elect self.old (nullification_facts S.certificate_bytes nullification) now) }
         ensures refused { IfErr result (λ fault. fault ≡ OutOfMemory) }
@@ -87,18 +100,12 @@ impl<S: CertificateScheme, L: Elector<S>, D: Digest> State<S, L, D> {
     }
 
     fn keep_nullification(&mut self, nullification: Nullification<S>) -> Result<(), Fault>
+        requires { IsVotable nullification.round.view }
         ensures kept { OnOk result (self.new ≡ with_nullification_at self.old (nullification_facts S.certificate_bytes nullification)) }
         ensures refused { IfErr result (λ fault. fault ≡ OutOfMemory) }
         ensures setup { HasSameSetup self.old self.new }
     {
         let view = nullification.view();
-        keep_nullification(
-            self.alloc,
-            &mut self.rounds,
-            &self.scheme,
-            self.epoch,
-            view,
-            nullification,
-        )
+        self.rounds.keep_nullification(view, nullification)
     }
 }

@@ -68,7 +68,7 @@ impl<S: CertificateScheme, L: Elector<S>, D: Digest> State<S, L, D> {
         ensures answer { IfOk result (λ answer. (answer.0.items, answer.1.items) ≡ candidates_answer D.eq L.elect self.now) }
         ensures refused { IfErr result (λ fault. fault ≡ OutOfMemory) }
     {
-        self.candidates_of(self.named.at_or_above(View::zero()))
+        self.candidates_of(self.candidates.at_or_above(View::zero()))
     }
 
     /// What is offered of these views, and what they have to fetch.
@@ -93,6 +93,6 @@ impl<S: CertificateScheme, L: Elector<S>, D: Digest> State<S, L, D> {
     fn forget_named(&mut self)
         ensures { self.new ≡ after_candidates self.old }
     {
-        self.named = Tracked::new(self.alloc);
+        self.candidates = Tracked::new(self.alloc);
     }
 }

@@ -1,6 +1,6 @@
 //! On which views a view may build.
 
-ghost use Rattle.std.specs.Prelude.{◌≡◌, ◌≤◌, ◌-◌, ◌+◌, ◌^◌, None};
+ghost use Rattle.std.specs.Prelude.{◌≡◌, None};
 ghost use Rattle.std.specs.List.{filter_map, last_or};
 ghost use Rattle.simplex_voter.specs.Parents.{is_payload, is_parent, at_view};
 
@@ -52,7 +52,6 @@ impl<S: CertificateScheme, L: Elector<S>, D: Digest> State<S, L, D> {
     /// The payload with which the parent is allowed.
     #[tactic(auto, unfolding(crate::specs::Parents::parent_payload))]
     pub(super) fn parent_payload(&self, view: View, parent: View) -> Option<D>
-        requires { view ≤ 2 ^ 64 - 2 ^ 33 }
         ensures { result ≡ parent_payload D.eq L.elect self.now view parent }
     {
         if !self.spans(view, parent) {
@@ -66,18 +65,17 @@ impl<S: CertificateScheme, L: Elector<S>, D: Digest> State<S, L, D> {
 
     /// The view before a term's start, with what it offers, where its term may be handed over to this member.
     fn handoff(&self, view: View) -> Option<(View, D)>
-        requires { view + 1 ≤ 2 ^ 64 - 2 ^ 33 }
         ensures { result ≡ handoff D.eq L.elect self.now view }
     {
-        if !self.is_handoff_parent(view) {
+        let payload = self.optimistic_payload(view)?;
+        if !self.is_handoff_parent(view, view.next()) {
             return None;
         }
-        at_view(view, self.optimistic_payload(view))
+        Some((view, payload))
     }
 
     /// At a term's start the highest explicit view below; where a gap lies above that, the view before.
     fn preferred_at_start(&self, view: View) -> Option<(View, D)>
-        requires { view ≤ 2 ^ 64 - 2 ^ 33 }
         ensures { result ≡ preferred_at_start D.eq L.elect self.now view }
     {
         let found = self.highest_explicit(view)?;
@@ -90,7 +88,6 @@ impl<S: CertificateScheme, L: Elector<S>, D: Digest> State<S, L, D> {
     /// The parent, with its payload, on which this member builds.
     #[tactic(auto, unfolding(crate::specs::Parents::preferred_parent))]
     pub(super) fn preferred_parent(&self, view: View) -> Option<(View, D)>
-        requires { view ≤ 2 ^ 64 - 2 ^ 33 }
         ensures { result ≡ preferred_parent D.eq L.elect self.now view }
     {
         if self.is_start(view) {
@@ -103,7 +100,6 @@ impl<S: CertificateScheme, L: Elector<S>, D: Digest> State<S, L, D> {
     /// Whether the parent is allowed, or preferred, with this payload.
     #[tactic(auto, unfolding(crate::specs::Parents::may_stand))]
     pub(super) fn may_stand(&self, view: View, parent: View, payload: D) -> bool
-        requires { view ≤ 2 ^ 64 - 2 ^ 33 }
         ensures { result ≡ may_stand D.eq L.elect self.now view parent payload }
     {
         is_parent(self.preferred_parent(view), parent, payload)
@@ -153,7 +149,6 @@ impl<S: CertificateScheme, L: Elector<S>, D: Digest> State<S, L, D> {
     /// Whether the bound proposal is held, and its parent is allowed with the bound payload, or preferred where this
     /// member leads.
     fn holds_binding(&self, view: View, round: &Round<S, D>, bound: &(Proposal<D>, D)) -> bool
-        requires { view ≤ 2 ^ 64 - 2 ^ 33 }
         ensures { result ≡ holds_binding D.eq L.elect self.now view round.now bound.now }
     {
         let Some(proposal) = round.proposal() else {
@@ -170,7 +165,6 @@ impl<S: CertificateScheme, L: Elector<S>, D: Digest> State<S, L, D> {
     /// Whether nothing is bound at the view, or what is still holds.
     #[tactic(auto, unfolding(crate::specs::Parents::binding_matches))]
     pub(super) fn binding_matches(&self, view: View) -> bool
-        requires { view ≤ 2 ^ 64 - 2 ^ 33 }
         ensures { result ≡ binding_matches D.eq L.elect self.now view }
     {
         let Some(round) = self.round_at(view) else {

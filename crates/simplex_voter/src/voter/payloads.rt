@@ -1,49 +1,12 @@
 //! Which payload a view offers to the views that build on it.
 
-ghost use Rattle.std.specs.Prelude.{◌≡◌, ◌≤◌, ◌<◌, ◌+◌, ◌-◌, ◌^◌, ◌&&◌, false, nat_lt, Some, None, option_and_then, if◌then◌else◌};
-ghost use Rattle.std.specs.List.{list_any};
-ghost use Rattle.simplex_round.specs.Round.{certificate_payload, is_judged};
+ghost use Rattle.std.specs.Prelude.{◌≡◌, ◌≤◌, ◌+◌, OnSome, Some, None, option_and_then, if◌then◌else◌};
+ghost use Rattle.simplex_round.specs.Round.{certificate_payload};
 ghost use Rattle.simplex_voter.specs.Payloads.{is_bound_to};
 
 use super::state::State;
-use super::terms::start_of;
-use simplex_round::round::{Certification, Round};
+use simplex_round::round::Round;
 use simplex_types::types::{CertificateScheme, Digest, Elector, Proposal, View};
-
-/// Whether the round was certified false.
-fn was_refused<S: CertificateScheme, D: Digest>(round: &Round<S, D>) -> bool
-    ensures { result ≡ is_judged false round.now.certification }
-{
-    match round.certification() {
-        Certification::Judged(verdict) => !verdict,
-        Certification::Ready | Certification::Outstanding(_) | Certification::Aborted => false,
-    }
-}
-
-/// Whether the entry's view is above another, and its round was certified false.
-fn was_refused_above<S: CertificateScheme, D: Digest>(
-    entry: &(View, Round<S, D>),
-    above: View,
-) -> bool
-    ensures { result ≡ (nat_lt above entry.now.0 && is_judged false entry.now.1.certification) }
-{
-    entry.0 > above && was_refused(&entry.1)
-}
-
-/// Whether one of the rounds above a view was certified false.
-fn has_refused<S: CertificateScheme, D: Digest>(
-    entries: &[(View, Round<S, D>)],
-    above: View,
-) -> bool
-    ensures { result ≡ list_any (λ e. nat_lt above e.0 && is_judged false e.1.certification) entries.now }
-{
-    for entry in entries {
-        if was_refused_above(entry, above) {
-            return true;
-        }
-    }
-    false
-}
 
 /// Whether the round's parent had this payload when the round was bound to one.
 fn is_bound_to<S: CertificateScheme, D: Digest>(round: &Round<S, D>, payload: D) -> bool
@@ -57,33 +20,33 @@ fn is_bound_to<S: CertificateScheme, D: Digest>(round: &Round<S, D>, payload: D)
 
 impl<S: CertificateScheme, L: Elector<S>, D: Digest> State<S, L, D> {
     ghost use Rattle.simplex_voter.specs.Payloads.{has_failed, is_handoff_parent, serves, follows, optimistic_payload};
+    ghost use Rattle.simplex_voter.specs.Rounds.{largest_tracked};
     ghost use Rattle.simplex_voter.specs.Parents.{payload_for};
 
     /// Whether the view, or one below it in its term, was certified false, and no finalization overrides that.
     fn has_failed(&self, view: View) -> bool
-        requires { view + 1 < 2 ^ 64 }
         ensures { result ≡ has_failed self.now view }
     {
-        let start = start_of(view, self.elector.terms().term_length);
-        has_refused(self.rounds.between(start, view.next()), self.finalized)
+        let start = view.term_start(self.elector.terms().term_length);
+        self.rounds.has_refused_between(self.finalized, start, view)
     }
 
-    /// Whether the term that the view ends may be handed over to this member.
+    /// Whether the term that the view ends may be handed over to this member; with the next view.
     #[tactic(auto, unfolding(crate::specs::Payloads::is_handoff_parent))]
-    pub(super) fn is_handoff_parent(&self, view: View) -> bool
-        requires { view + 1 < 2 ^ 64 }
+    pub(super) fn is_handoff_parent(&self, view: View, next: View) -> bool
+        requires { next ≡ view + 1 }
         ensures { result ≡ is_handoff_parent L.elect self.now view }
     {
-        self.is_elected_early(view.next()) && !self.is_covered(view)
+        self.is_elected_early(next) && !self.is_covered(view)
     }
 
-    /// Whether this member voted for what the view holds, where that may serve before any certificate.
+    /// Whether this member voted for what the view holds, where that may serve before any certificate; with the next view.
     #[tactic(auto, unfolding(crate::specs::Payloads::serves))]
-    fn serves(&self, view: View, round: &Round<S, D>) -> bool
-        requires { view + 1 ≤ 2 ^ 64 - 2 ^ 33 }
+    fn serves(&self, view: View, next: View, round: &Round<S, D>) -> bool
+        requires { next ≡ view + 1 }
         ensures { result ≡ serves L.elect self.now view round.now }
     {
-        (self.in_window(view.next()) || self.is_handoff_parent(view))
+        (self.in_window(next) || self.is_handoff_parent(view, next))
             && round.is_verified()
             && round.broadcast_notarize()
     }
@@ -91,7 +54,6 @@ impl<S: CertificateScheme, L: Elector<S>, D: Digest> State<S, L, D> {
     /// Whether a view that was voted for may stand on this parent.
     #[tactic(auto, unfolding(crate::specs::Payloads::follows))]
     fn follows(&self, view: View, parent: View) -> bool
-        requires { view ≤ 2 ^ 64 - 2 ^ 33 }
         ensures { result ≡ follows self.now view parent }
     {
         parent >= self.finalized && parent < view && self.is_gapless(parent, view)
@@ -101,8 +63,8 @@ impl<S: CertificateScheme, L: Elector<S>, D: Digest> State<S, L, D> {
     /// up to it; else that of a verified proposal that this member voted for, on a parent that offers what the vote was
     /// bound to.
     pub(super) fn optimistic_payload(&self, view: View) -> Option<D>
-        requires { view + 1 ≤ 2 ^ 64 - 2 ^ 33 }
-        ensures { result ≡ optimistic_payload D.eq L.elect self.now view }
+        ensures payload { result ≡ optimistic_payload D.eq L.elect self.now view }
+        ensures in_range { OnSome result (view ≤ largest_tracked) }
     {
         if view.is_zero() {
             return self.genesis;
@@ -111,7 +73,7 @@ impl<S: CertificateScheme, L: Elector<S>, D: Digest> State<S, L, D> {
         if round.is_directly_notarized() {
             return self.unrefused_payload(view, round);
         }
-        let proposal = self.served_proposal(view, round)?;
+        let proposal = self.served_proposal(view, view.next(), round)?;
         let below = self.optimistic_payload(proposal.parent)?;
         if !is_bound_to(round, below) {
             return None;
@@ -121,7 +83,6 @@ impl<S: CertificateScheme, L: Elector<S>, D: Digest> State<S, L, D> {
 
     /// The payload of the view's certificate, where no rejection stands in its term up to it.
     fn unrefused_payload(&self, view: View, round: &Round<S, D>) -> Option<D>
-        requires { view + 1 < 2 ^ 64 }
         ensures { result ≡ (if has_failed self.now view then None else certificate_payload round.now) }
     {
         if self.has_failed(view) {
@@ -130,12 +91,12 @@ impl<S: CertificateScheme, L: Elector<S>, D: Digest> State<S, L, D> {
         round.certificate_ancestry_payload().copied()
     }
 
-    /// The proposal that this member voted for, where that may serve and stands on its parent.
-    fn served_proposal(&self, view: View, round: &Round<S, D>) -> Option<Proposal<D>>
-        requires { view + 1 ≤ 2 ^ 64 - 2 ^ 33 }
+    /// The proposal that this member voted for, where that may serve and stands on its parent; with the next view.
+    fn served_proposal(&self, view: View, next: View, round: &Round<S, D>) -> Option<Proposal<D>>
+        requires { next ≡ view + 1 }
         ensures { result ≡ (if serves L.elect self.now view round.now then option_and_then (λ p. if follows self.now view p.parent then Some p else None) round.now.slot.held else None) }
     {
-        if !self.serves(view, round) {
+        if !self.serves(view, next, round) {
             return None;
         }
         let proposal = *round.proposal()?;
@@ -148,8 +109,6 @@ impl<S: CertificateScheme, L: Elector<S>, D: Digest> State<S, L, D> {
     /// The kind of payload that the view may build on: inside its window what the parent offers, else what is certified.
     #[tactic(auto, unfolding(crate::specs::Parents::payload_for))]
     pub(super) fn payload_for(&self, view: View, parent: View) -> Option<D>
-        requires view { view ≤ 2 ^ 64 - 2 ^ 33 }
-        requires parent { parent + 1 ≤ 2 ^ 64 - 2 ^ 33 }
         ensures { result ≡ payload_for D.eq L.elect self.now view parent }
     {
         if self.in_window(view) {

@@ -5,7 +5,6 @@ ghost use Rattle.simplex_round.specs.Round.{awaits_retry, round_timeout};
 ghost use Rattle.simplex_types.specs.declared.types.fault.Fault.TheVariants.{TimeOverflow};
 ghost use Rattle.simplex_voter.specs.Timeouts.{or_stalled};
 
-use super::in_place::poll;
 use super::state::State;
 use simplex_round::round::{Decision, Round};
 use simplex_types::reasons::TimeoutReason;
@@ -99,12 +98,7 @@ impl<S: CertificateScheme, L: Elector<S>, D: Digest> State<S, L, D> {
         ensures answer { IfOk result (λ timeout. timeout ≡ round_timeout (polled self.old now) (has_skip_budget self.old)) }
     {
         let allow_latched = self.has_skip_budget();
-        poll(
-            &mut self.rounds,
-            self.current,
-            now,
-            self.timeout_retry,
-            allow_latched,
-        )
+        self.rounds
+            .poll(self.current, now, self.timeout_retry, allow_latched)
     }
 }

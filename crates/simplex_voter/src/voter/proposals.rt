@@ -1,43 +1,16 @@
 //! Proposals of leaders, as their views take them.
 
-ghost use Rattle.std.specs.Prelude.{◌≡◌, IfSome, IfOk, IfErr, OnOk, Err, None, true};
+ghost use Rattle.std.specs.Prelude.{◌≡◌, ◌≤◌, IfSome, IfOk, IfErr, OnOk, Err, None, true};
 ghost use Rattle.simplex_types.specs.Terms.{IsVotable};
 ghost use Rattle.simplex_types.specs.declared.types.fault.Fault.TheVariants.{OutOfMemory};
-ghost use Rattle.simplex_voter.specs.Rounds.{AreMadeBy, origin_of, round_in};
-ghost use Rattle.simplex_voter.specs.Verifying.{is_new_proposal, proposed_rounds};
 
 use super::refusals::names_too_large;
-use super::rounds::track;
 use super::state::State;
-use simplex_round::round::Round;
-use simplex_types::sorted::Tracked;
-use simplex_types::types::{CertificateScheme, Digest, Elector, Epoch, Fault, Proposal, View};
-use std::alloc::Global;
-
-/// The round of a view takes a proposal, and answers whether it is to be verified. The view is tracked from then on.
-fn take_proposal<S: CertificateScheme, D: Digest>(
-    alloc: Global,
-    rounds: &mut Tracked<Round<S, D>>,
-    scheme: &S,
-    epoch: Epoch,
-    view: View,
-    proposal: &Proposal<D>,
-) -> Result<bool, Fault>
-    requires { AreMadeBy (origin_of (S.me scheme.now) (S.participants scheme.now) epoch) rounds.old }
-    ensures made { AreMadeBy (origin_of (S.me scheme.now) (S.participants scheme.now) epoch) rounds.new }
-    ensures first { IfOk result (λ first. first ≡ is_new_proposal (round_in (origin_of (S.me scheme.now) (S.participants scheme.now) epoch) rounds.old view)) }
-    ensures taken { OnOk result (rounds.new ≡ proposed_rounds D.eq (origin_of (S.me scheme.now) (S.participants scheme.now) epoch) rounds.old view proposal.now) }
-    ensures refused { IfErr result (λ fault. fault ≡ OutOfMemory) }
-{
-    track(alloc, rounds, scheme, epoch, view)?;
-    let Some(tracked) = rounds.get_mut(view) else {
-        unreachable!()
-    };
-    Ok(tracked.set_proposal(proposal))
-}
+use simplex_types::types::{CertificateScheme, Digest, Elector, Fault, Proposal, View};
 
 impl<S: CertificateScheme, L: Elector<S>, D: Digest> State<S, L, D> {
     ghost use Rattle.simplex_voter.specs.Setup.{HasSameSetup};
+    ghost use Rattle.simplex_voter.specs.Rounds.{largest_tracked};
     ghost use Rattle.simplex_voter.specs.Facts.{round_of, with_round};
     ghost use Rattle.simplex_voter.specs.Refusals.{HasFailed, proposal_refusal};
     ghost use Rattle.simplex_voter.specs.Verifying.{takes_proposal, set_proposal_answer, after_set_proposal, with_proposal};
@@ -91,18 +64,12 @@ impl<S: CertificateScheme, L: Elector<S>, D: Digest> State<S, L, D> {
 
     /// The round of a view takes a proposal, and answers whether it is to be verified.
     fn take_proposal(&mut self, view: View, proposal: &Proposal<D>) -> Result<bool, Fault>
+        requires { view ≤ largest_tracked }
         ensures answer { IfOk result (λ answer. answer ≡ set_proposal_answer self.old view) }
         ensures taken { OnOk result (self.new ≡ with_round self.old view (with_proposal D.eq (round_of self.old view) proposal.now)) }
         ensures refused { IfErr result (λ fault. fault ≡ OutOfMemory) }
         ensures setup { HasSameSetup self.old self.new }
     {
-        take_proposal(
-            self.alloc,
-            &mut self.rounds,
-            &self.scheme,
-            self.epoch,
-            view,
-            proposal,
-        )
+        self.rounds.take_proposal(view, proposal)
     }
 }

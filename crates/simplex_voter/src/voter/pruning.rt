@@ -44,7 +44,7 @@ impl<S: CertificateScheme, L: Elector<S>, D: Digest> State<S, L, D> {
         ensures views { IfOk result (λ views. views.items ≡ prune_answer self.now) }
         ensures refused { IfErr result (λ fault. fault ≡ OutOfMemory) }
     {
-        Ok(self.rounds.views_below(self.alloc, view)?)
+        self.rounds.views_below(view)
     }
 
     fn drop_below(&mut self, view: View)

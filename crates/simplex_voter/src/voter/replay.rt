@@ -79,7 +79,8 @@ impl<S: CertificateScheme, L: Elector<S>, D: Digest> State<S, L, D> {
 
     /// Restores what the artifact says of its view's round.
     fn restore_round(&mut self, artifact: &Artifact<S, D>) -> Result<(), Fault>
-        requires { TakesArtifact (round_of self.old (artifact_view artifact.now)) artifact.now }
+        requires taken { TakesArtifact (round_of self.old (artifact_view artifact.now)) artifact.now }
+        requires votable { IsVotable (artifact_view artifact.now) }
         ensures restored { OnOk result (self.new ≡ with_round self.old (artifact_view artifact.now) (replayed_round D.eq self.old artifact.now)) }
         ensures refused { IfErr result (λ fault. fault ≡ OutOfMemory) }
         ensures setup { HasSameSetup self.old self.new }

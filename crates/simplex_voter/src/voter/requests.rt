@@ -1,23 +1,9 @@
 //! Requests to build a proposal, and what they are asked on.
 
 ghost use Rattle.std.specs.Prelude.{◌≡◌, IfSome, OnOk, Err, None, true, IsOk};
-ghost use Rattle.simplex_voter.specs.Rounds.{AreMadeBy, Origin};
-ghost use Rattle.simplex_voter.specs.Proposing.{released_rounds};
 
 use super::state::State;
-use simplex_round::round::Round;
-use simplex_types::sorted::Tracked;
 use simplex_types::types::{CertificateScheme, Digest, Elector, Fault, View};
-
-/// Clears the request to build a proposal in a tracked view.
-fn release<S: CertificateScheme, D: Digest>(rounds: &mut Tracked<Round<S, D>>, view: View)
-    ensures made { (o : Origin S.PublicKey) → AreMadeBy o rounds.old → AreMadeBy o rounds.new }
-    ensures released { rounds.new ≡ released_rounds rounds.old view }
-{
-    if let Some(round) = rounds.get_mut(view) {
-        round.clear_proposal_request();
-    }
-}
 
 impl<S: CertificateScheme, L: Elector<S>, D: Digest> State<S, L, D> {
     ghost use Rattle.simplex_voter.specs.Refusals.{plain_refusal, is_started};
@@ -44,7 +30,7 @@ impl<S: CertificateScheme, L: Elector<S>, D: Digest> State<S, L, D> {
     pub(super) fn release(&mut self, view: View)
         ensures { self.new ≡ after_release self.old view }
     {
-        release(&mut self.rounds, view);
+        self.rounds.release(view);
     }
 
     /// Whether this member's vote to nullify the view is out.

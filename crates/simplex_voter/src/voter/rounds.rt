@@ -1,21 +1,16 @@
 //! The rounds of the tracked views.
 
-ghost use Rattle.std.specs.Prelude.{◌≡◌, ◌<◌, IfOk, IfErr, OnOk, option_map, option_and_then, length, is_some, None, false};
-ghost use Rattle.std.specs.Option.{option_map_or};
-ghost use Rattle.std.specs.FinMap as map;
+ghost use Rattle.std.specs.Prelude.{◌≡◌, ◌<◌, ◌≤◌, ◌+◌, ◌^◌, IfErr, IfSome, OnOk, OnSome, true, is_some, option_map, option_and_then, length};
+ghost use Rattle.simplex_round.specs.Round.{after_nullify};
+ghost use Rattle.std.specs.Option.{option_copied};
 ghost use Rattle.simplex_types.specs.declared.types.fault.Fault.TheVariants.{OutOfMemory};
-ghost use Rattle.simplex_voter.specs.Rounds.{AreMadeBy, origin_of, round_in, led_rounds, entered_rounds, nullified_rounds, decided_rounds, Origin, with_notarization_handed_out, with_nullification_handed_out, with_finalization_handed_out};
-ghost use Rattle.simplex_voter.specs.Serving.{once};
-ghost use Rattle.simplex_types.specs.Certificates.{notarization_facts, nullification_facts, finalization_facts};
 
 use simplex_round::round::Round;
 use simplex_types::sorted::Tracked;
 use simplex_types::types;
-use simplex_types::types::{
-    CertificateScheme, Digest, Epoch, Fault, Finalization, Notarization, Nullification,
-    Participant, View,
-};
+use simplex_types::types::{CertificateScheme, Digest, Epoch, Fault, Participant, View};
 use std::alloc::Global;
+use std::marker::Model;
 
 /// The moments, in milliseconds, at which a view that is entered times out.
 #[derive(Clone, Copy, PartialEq, Eq, Debug)]
@@ -38,173 +33,181 @@ impl Deadlines {
     }
 }
 
-/// Tracks a view from now on.
-pub fn track<S: CertificateScheme, D: Digest>(
-    alloc: Global,
-    rounds: &mut Tracked<Round<S, D>>,
-    scheme: &S,
+/// The rounds of the tracked views, each of this member, among its members and in its epoch.
+///
+/// Contracts see them as the record `RoundsFacts`. No view above 2^63 + 2^33 is tracked, only views up to 2^63 - 1 are
+/// notarized, and each leader is a member.
+#[derive(Drop)]
+pub struct Rounds<S: CertificateScheme, D: Digest> {
+    pub(super) alloc: Global,
+    // signs as the member whose rounds these are; each round has a copy
+    scheme: S,
     epoch: Epoch,
-    view: View,
-) -> Result<(), Fault>
-    requires { AreMadeBy (origin_of (S.me scheme.now) (S.participants scheme.now) epoch) rounds.old }
-    ensures made { AreMadeBy (origin_of (S.me scheme.now) (S.participants scheme.now) epoch) rounds.new }
-    ensures tracked { OnOk result (rounds.new ≡ map.insert rounds.old view (round_in (origin_of (S.me scheme.now) (S.participants scheme.now) epoch) rounds.old view)) }
-    ensures refused { IfErr result (λ fault. fault ≡ OutOfMemory) }
-{
-    if rounds.get(view).is_some() {
-        return Ok(());
-    }
-    let fresh = Round::new(scheme.copy(alloc)?, types::Round { epoch, view });
-    let _standing = rounds.insert(view, fresh)?;
-    Ok(())
+    pub(super) by_view: Tracked<Round<S, D>>,
 }
 
-/// Sets the leader of a view that has none.
-pub fn lead<S: CertificateScheme, D: Digest>(
-    alloc: Global,
-    rounds: &mut Tracked<Round<S, D>>,
-    scheme: &S,
-    epoch: Epoch,
-    view: View,
-    leader: Participant,
-) -> Result<(), Fault>
-    requires member { leader < length (S.participants scheme.now) }
-    requires made { AreMadeBy (origin_of (S.me scheme.now) (S.participants scheme.now) epoch) rounds.old }
-    ensures made { AreMadeBy (origin_of (S.me scheme.now) (S.participants scheme.now) epoch) rounds.new }
-    ensures led { OnOk result (rounds.new ≡ led_rounds (origin_of (S.me scheme.now) (S.participants scheme.now) epoch) rounds.old view leader) }
-    ensures refused { IfErr result (λ fault. fault ≡ OutOfMemory) }
-{
-    if has_leader(rounds, view) {
-        return Ok(());
-    }
-    track(alloc, rounds, scheme, epoch, view)?;
-    if let Some(tracked) = rounds.get_mut(view) {
-        tracked.set_leader(leader);
-    }
-    Ok(())
+impl<S: CertificateScheme, D: Digest> Model for Rounds<S, D> {
+    ghost use Rattle.simplex_voter.specs.Rounds.{RoundsFacts, AreKept};
+
+    ghost Value = { RoundsFacts S.PublicKey D };
+
+    ghost use Rattle.simplex_voter.specs.RoundsView.{rounds_view};
+
+    ghost view = { rounds_view S.me S.participants };
+
+    ghost invariant = { λ r. AreKept (rounds_view S.me S.participants r) };
 }
 
-/// Notes the entry of a view, the first one, and arms its deadlines.
-pub fn enter<S: CertificateScheme, D: Digest>(
-    alloc: Global,
-    rounds: &mut Tracked<Round<S, D>>,
-    scheme: &S,
-    epoch: Epoch,
-    view: View,
-    now: u64,
-    deadlines: &Deadlines,
-) -> Result<(), Fault>
-    requires { AreMadeBy (origin_of (S.me scheme.now) (S.participants scheme.now) epoch) rounds.old }
-    ensures made { AreMadeBy (origin_of (S.me scheme.now) (S.participants scheme.now) epoch) rounds.new }
-    ensures entered { OnOk result (rounds.new ≡ entered_rounds (origin_of (S.me scheme.now) (S.participants scheme.now) epoch) rounds.old view now deadlines.now) }
-    ensures refused { IfErr result (λ fault. fault ≡ OutOfMemory) }
-{
-    track(alloc, rounds, scheme, epoch, view)?;
-    if let Some(entered) = rounds.get_mut(view) {
-        entered.mark_entered(now);
-        entered.set_deadlines(deadlines.leader, deadlines.certification, deadlines.stall);
-    }
-    Ok(())
-}
+impl<S: CertificateScheme, D: Digest> Rounds<S, D> {
+    ghost use Rattle.simplex_voter.specs.Rounds.{no_rounds, round_at, round_of, with_round, changed, led, inherited, with_entry, largest_tracked, HasSameOrigin};
 
-/// Keeps the first nullification of a view.
-pub fn keep_nullification<S: CertificateScheme, D: Digest>(
-    alloc: Global,
-    rounds: &mut Tracked<Round<S, D>>,
-    scheme: &S,
-    epoch: Epoch,
-    view: View,
-    nullification: Nullification<S>,
-) -> Result<(), Fault>
-    requires { AreMadeBy (origin_of (S.me scheme.now) (S.participants scheme.now) epoch) rounds.old }
-    ensures made { AreMadeBy (origin_of (S.me scheme.now) (S.participants scheme.now) epoch) rounds.new }
-    ensures kept { OnOk result (rounds.new ≡ nullified_rounds (origin_of (S.me scheme.now) (S.participants scheme.now) epoch) rounds.old view (nullification_facts S.certificate_bytes nullification)) }
-    ensures refused { IfErr result (λ fault. fault ≡ OutOfMemory) }
-{
-    track(alloc, rounds, scheme, epoch, view)?;
-    if let Some(tracked) = rounds.get_mut(view) {
-        let _first = tracked.add_nullification(nullification);
+    /// No view is tracked.
+    pub fn new(alloc: Global, scheme: S, epoch: Epoch) -> Rounds<S, D>
+        ensures { result ≡ no_rounds (S.me scheme) (S.participants scheme) epoch }
+    {
+        Rounds {
+            alloc,
+            scheme,
+            epoch,
+            by_view: Tracked::new(alloc),
+        }
     }
-    Ok(())
-}
 
-/// Decides the vote to nullify a view, unless the vote to finalize it was decided.
-pub fn decide_nullify<S: CertificateScheme, D: Digest>(
-    alloc: Global,
-    rounds: &mut Tracked<Round<S, D>>,
-    scheme: &S,
-    epoch: Epoch,
-    view: View,
-) -> Result<(), Fault>
-    requires { AreMadeBy (origin_of (S.me scheme.now) (S.participants scheme.now) epoch) rounds.old }
-    ensures made { AreMadeBy (origin_of (S.me scheme.now) (S.participants scheme.now) epoch) rounds.new }
-    ensures decided { OnOk result (rounds.new ≡ decided_rounds (origin_of (S.me scheme.now) (S.participants scheme.now) epoch) rounds.old view) }
-    ensures refused { IfErr result (λ fault. fault ≡ OutOfMemory) }
-{
-    track(alloc, rounds, scheme, epoch, view)?;
-    if let Some(tracked) = rounds.get_mut(view) {
-        let _retry = tracked.construct_nullify();
+    /// What this member signs by.
+    pub fn scheme(&self) -> &S
+        ensures me { S.me result.now ≡ self.now.me }
+        ensures members { S.participants result.now ≡ self.now.members }
+    {
+        &self.scheme
     }
-    Ok(())
-}
 
-/// Hands out the notarization of a tracked view, once.
-pub fn hand_out_notarization<S: CertificateScheme, D: Digest>(
-    alloc: Global,
-    rounds: &mut Tracked<Round<S, D>>,
-    view: View,
-) -> Result<Option<Notarization<S, D>>, Fault>
-    ensures made { (o : Origin S.PublicKey) → AreMadeBy o rounds.old → AreMadeBy o rounds.new }
-    ensures answer { IfOk result (λ c. option_map (notarization_facts S.certificate_bytes) c ≡ option_and_then (λ r. once r.notarization_broadcast r.notarization) (map.get rounds.old view)) }
-    ensures handed_out { OnOk result (rounds.new ≡ with_notarization_handed_out rounds.old view) }
-    ensures refused { IfErr result (λ fault. fault ≡ OutOfMemory) }
-{
-    match rounds.get_mut(view) {
-        Some(round) => round.broadcast_notarization(alloc),
-        None => Ok(None),
+    /// The epoch that all rounds are of.
+    pub fn epoch(&self) -> Epoch
+        ensures { result ≡ self.now.epoch }
+    {
+        self.epoch
     }
-}
 
-/// Hands out the nullification of a tracked view, once.
-pub fn hand_out_nullification<S: CertificateScheme, D: Digest>(
-    alloc: Global,
-    rounds: &mut Tracked<Round<S, D>>,
-    view: View,
-) -> Result<Option<Nullification<S>>, Fault>
-    ensures made { (o : Origin S.PublicKey) → AreMadeBy o rounds.old → AreMadeBy o rounds.new }
-    ensures answer { IfOk result (λ c. option_map (nullification_facts S.certificate_bytes) c ≡ option_and_then (λ r. once r.nullification_broadcast r.nullification) (map.get rounds.old view)) }
-    ensures handed_out { OnOk result (rounds.new ≡ with_nullification_handed_out rounds.old view) }
-    ensures refused { IfErr result (λ fault. fault ≡ OutOfMemory) }
-{
-    match rounds.get_mut(view) {
-        Some(round) => round.broadcast_nullification(alloc),
-        None => Ok(None),
+    /// The round of a tracked view.
+    pub fn get(&self, view: View) -> Option<&Round<S, D>>
+        ensures round { option_copied result ≡ round_at self.now view }
+        ensures in_range { OnSome result (view ≤ largest_tracked) }
+    {
+        self.by_view.get(view)
     }
-}
 
-/// Hands out the finalization of a tracked view, once.
-pub fn hand_out_finalization<S: CertificateScheme, D: Digest>(
-    alloc: Global,
-    rounds: &mut Tracked<Round<S, D>>,
-    view: View,
-) -> Result<Option<Finalization<S, D>>, Fault>
-    ensures made { (o : Origin S.PublicKey) → AreMadeBy o rounds.old → AreMadeBy o rounds.new }
-    ensures answer { IfOk result (λ c. option_map (finalization_facts S.certificate_bytes) c ≡ option_and_then (λ r. once r.finalization_broadcast r.finalization) (map.get rounds.old view)) }
-    ensures handed_out { OnOk result (rounds.new ≡ with_finalization_handed_out rounds.old view) }
-    ensures refused { IfErr result (λ fault. fault ≡ OutOfMemory) }
-{
-    match rounds.get_mut(view) {
-        Some(round) => round.broadcast_finalization(alloc),
-        None => Ok(None),
+    /// Tracks a view from now on.
+    pub(super) fn track(&mut self, view: View) -> Result<(), Fault>
+        requires { view ≤ largest_tracked }
+        ensures tracked { OnOk result (self.new ≡ with_round self.old view (round_of self.old view)) }
+        ensures refused { IfErr result (λ fault. (fault ≡ OutOfMemory) × (self.new ≡ self.old)) }
+        ensures origin { HasSameOrigin self.old self.new }
+    {
+        if self.by_view.get(view).is_some() {
+            return Ok(());
+        }
+        let round = types::Round {
+            epoch: self.epoch,
+            view,
+        };
+        let fresh = Round::new(self.scheme.copy(self.alloc)?, round);
+        let _standing = self.by_view.insert(view, fresh)?;
+        Ok(())
     }
-}
 
-/// Whether a leader of the view is set.
-fn has_leader<S: CertificateScheme, D: Digest>(rounds: &Tracked<Round<S, D>>, view: View) -> bool
-    ensures { result ≡ option_map_or (λ r. is_some r.leader) (map.get rounds.now view) false }
-{
-    match rounds.get(view) {
-        Some(round) => round.leader().is_some(),
-        None => false,
+    /// Sets the leader of a view that has none.
+    pub fn lead(&mut self, view: View, leader: Participant) -> Result<(), Fault>
+        requires in_range { view ≤ largest_tracked }
+        requires member { leader < length self.old.members }
+        ensures led { OnOk result (self.new ≡ led self.old view leader) }
+        ensures refused { IfErr result (λ fault. fault ≡ OutOfMemory) }
+        ensures origin { HasSameOrigin self.old self.new }
+    {
+        if self.has_leader(view) {
+            return Ok(());
+        }
+        self.track(view)?;
+        let Some(round) = self.by_view.get_mut(view) else {
+            unreachable!()
+        };
+        round.set_leader(leader);
+        Ok(())
+    }
+
+    /// The leader of one view, where it is known, goes on to another that has none.
+    pub fn inherit(&mut self, from: View, to: View) -> Result<(), Fault>
+        requires { to ≤ largest_tracked }
+        ensures inherited { OnOk result (self.new ≡ inherited self.old from to) }
+        ensures refused { IfErr result (λ fault. fault ≡ OutOfMemory) }
+        ensures origin { HasSameOrigin self.old self.new }
+    {
+        let Some(leader) = self.leader(from) else {
+            return Ok(());
+        };
+        self.lead(to, leader)
+    }
+
+    /// The index of the leader of a view, once it is known.
+    fn leader(&self, view: View) -> Option<Participant>
+        ensures leader { result ≡ option_map (λ l. l.idx) (round_of self.now view).leader }
+        ensures member { IfSome result (λ leader. leader < length self.now.members) }
+    {
+        // that leaders are members is known of the fields
+        let _rounds = &self.by_view;
+        let leader = self.get(view)?.leader()?;
+        Some(leader.idx)
+    }
+
+    /// The view after a notarized one.
+    pub fn after_notarized(&self, view: View) -> View
+        requires { is_some (option_and_then (λ r. r.notarization) (round_at self.now view)) ≡ true }
+        ensures next { result ≡ view + 1 }
+        ensures in_range { view < 2 ^ 63 }
+    {
+        match self.by_view.get(view) {
+            Some(_) => view.next(),
+            None => unreachable!(),
+        }
+    }
+
+    /// Whether a leader of the view is set.
+    fn has_leader(&self, view: View) -> bool
+        ensures { result ≡ is_some (round_of self.now view).leader }
+    {
+        match self.get(view) {
+            Some(round) => round.leader().is_some(),
+            None => false,
+        }
+    }
+
+    /// Notes the entry of a view, the first one, and arms its deadlines.
+    pub fn enter(&mut self, view: View, now: u64, deadlines: &Deadlines) -> Result<(), Fault>
+        requires { view ≤ largest_tracked }
+        ensures entered { OnOk result (self.new ≡ changed self.old view (λ r. with_entry r now deadlines.now)) }
+        ensures refused { IfErr result (λ fault. fault ≡ OutOfMemory) }
+        ensures origin { HasSameOrigin self.old self.new }
+    {
+        self.track(view)?;
+        let Some(round) = self.by_view.get_mut(view) else {
+            unreachable!()
+        };
+        round.mark_entered(now);
+        round.set_deadlines(deadlines.leader, deadlines.certification, deadlines.stall);
+        Ok(())
+    }
+
+    /// Decides the vote to nullify a view, unless the vote to finalize it was decided.
+    pub fn decide_nullify(&mut self, view: View) -> Result<(), Fault>
+        requires { view ≤ largest_tracked }
+        ensures decided { OnOk result (self.new ≡ changed self.old view after_nullify) }
+        ensures refused { IfErr result (λ fault. fault ≡ OutOfMemory) }
+        ensures origin { HasSameOrigin self.old self.new }
+    {
+        self.track(view)?;
+        let Some(round) = self.by_view.get_mut(view) else {
+            unreachable!()
+        };
+        let _retry = round.construct_nullify();
+        Ok(())
     }
 }

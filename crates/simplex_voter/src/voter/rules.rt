@@ -4,7 +4,7 @@ ghost use Rattle.std.specs.Prelude.{◌≡◌};
 ghost use Rattle.std.specs.Option.{option_copied};
 
 use super::state::State;
-use super::terms::{admits_outbound, before, start_of};
+use super::terms::{admits_outbound, before};
 use simplex_round::round::Decision;
 use simplex_types::types::{CertificateScheme, Digest, Elector, Proposal, View};
 
@@ -27,7 +27,7 @@ impl<S: CertificateScheme, L: Elector<S>, D: Digest> State<S, L, D> {
     pub(super) fn is_start(&self, view: View) -> bool
         ensures { result ≡ is_start self.now view }
     {
-        view == start_of(view, self.elector.terms().term_length)
+        view.is_term_start(self.elector.terms().term_length)
     }
 
     /// Whether this member voted to nullify a view below in the term, above the last finalized view.

@@ -4,7 +4,6 @@ ghost use Rattle.std.specs.Prelude.{◌≡◌, is_some, option_and_then, filter,
 ghost use Rattle.simplex_voter.specs.Timeouts.{is_entered_between, standing_deadline};
 
 use super::state::State;
-use super::terms::start_of;
 use simplex_round::round::Round;
 use simplex_types::types::{CertificateScheme, Digest, Elector, View};
 
@@ -49,7 +48,7 @@ impl<S: CertificateScheme, L: Elector<S>, D: Digest> State<S, L, D> {
     pub(super) fn stall_deadline(&self) -> Option<u64>
         ensures { result ≡ stall_deadline self.now }
     {
-        let start = start_of(self.current, self.elector.terms().term_length);
+        let start = self.current.term_start(self.elector.terms().term_length);
         let entries = self.rounds.at_or_above(start.max(self.finalized));
         first_deadline(entries, self.finalized, self.current)
     }

@@ -1,10 +1,10 @@
 //! A member's state, its setup and its plain getters.
 
-ghost use Rattle.std.specs.Prelude.{◌≡◌, ◌<◌, ◌≤◌, ◌↔◌, IsTrue, IsNone, IfSome, IfErr, OnOk, Some, None, true, nat_lt, option_and_then, option_map, length};
+ghost use Rattle.std.specs.Prelude.{◌≡◌, ◌<◌, ◌≤◌, ◌↔◌, IsTrue, IsNone, IfSome, IfErr, OnOk, OnSome, Some, None, true, nat_lt, option_and_then, option_map, length};
 ghost use Rattle.std.specs.Option.{option_copied};
 ghost use Rattle.simplex_types.specs.declared.types.fault.Fault.TheVariants.{OutOfMemory};
 
-use super::rounds::{Deadlines, enter, lead};
+use super::rounds::{Deadlines, Rounds};
 use simplex_round::round::Round;
 use simplex_types::sorted::{ByTerm, Tracked};
 use simplex_types::types;
@@ -45,22 +45,31 @@ pub struct Config<S: CertificateScheme, L: Elector<S>> {
 #[derive(Drop)]
 pub struct State<S: CertificateScheme, L: Elector<S>, D: Digest> {
     pub(super) alloc: Global,
-    pub(super) scheme: S,
+    // who leads each view
     pub(super) elector: L,
-    pub(super) epoch: Epoch,
+    // how it was set up; see `Config`
     pub(super) view_retention: ViewDelta,
     leader_timeout: u64,
     certification_timeout: u64,
     pub(super) timeout_retry: u64,
     pub(super) skip_budget: u64,
+    // the payload of genesis, where the state starts there
     pub(super) genesis: Option<D>,
+    // the view that was entered last; 0 before the floor is set
     pub(super) current: View,
+    // the highest view whose finalization was handed in
     pub(super) finalized: View,
-    pub(super) moment: u64,
-    pub(super) named: Tracked<()>,
+    // the moment that the last call carried, in milliseconds
+    pub(super) last_moment: u64,
+    // the views that wait to be offered for certification
+    pub(super) candidates: Tracked<()>,
+    // the views with a nullification, handed in or replayed
     pub(super) nullified: ByTerm<()>,
+    // the views that this member cast a vote to nullify
     pub(super) nullify_votes: ByTerm<()>,
-    pub(super) rounds: Tracked<Round<S, D>>,
+    // what is known of each tracked view, with the scheme and the epoch
+    pub(super) rounds: Rounds<S, D>,
+    // a call found no memory
     pub(super) failed: bool,
 }
 
@@ -71,14 +80,15 @@ impl<S: CertificateScheme, L: Elector<S>, D: Digest> Model for State<S, L, D> {
 
     ghost use Rattle.simplex_voter.specs.StateView.{state_view, IsKept};
 
-    ghost view = { state_view S.me S.participants L.terms L.elects_early };
+    ghost view = { state_view L.terms L.elects_early };
 
-    ghost invariant = { IsKept S.me S.participants L.terms L.members };
+    ghost invariant = { IsKept L.terms L.members };
 }
 
 impl<S: CertificateScheme, L: Elector<S>, D: Digest> State<S, L, D> {
     ghost use Rattle.simplex_voter.specs.Facts.{new_facts, round_at, round_number};
-    ghost use Rattle.simplex_voter.specs.StateView.{settings_of};
+    ghost use Rattle.simplex_voter.specs.StateView.{settings_of, largest_current};
+    ghost use Rattle.simplex_voter.specs.Rounds.{largest_tracked};
     ghost use Rattle.simplex_voter.specs.Setup.{HasSameSetup, deadlines_at};
     ghost use Rattle.simplex_voter.specs.Refusals.{has_late_deadline, enters_late};
     ghost use Rattle.simplex_voter.specs.Entering.{at_moment, entered};
@@ -92,9 +102,7 @@ impl<S: CertificateScheme, L: Elector<S>, D: Digest> State<S, L, D> {
         let term_length = config.elector.terms().term_length;
         State {
             alloc,
-            scheme: config.scheme,
             elector: config.elector,
-            epoch: config.epoch,
             view_retention: config.view_retention,
             leader_timeout: config.leader_timeout,
             certification_timeout: config.certification_timeout,
@@ -103,11 +111,11 @@ impl<S: CertificateScheme, L: Elector<S>, D: Digest> State<S, L, D> {
             genesis: None,
             current: View::zero(),
             finalized: View::zero(),
-            moment: 0,
-            named: Tracked::new(alloc),
+            last_moment: 0,
+            candidates: Tracked::new(alloc),
             nullified: ByTerm::new(alloc, term_length),
             nullify_votes: ByTerm::new(alloc, term_length),
-            rounds: Tracked::new(alloc),
+            rounds: Rounds::new(alloc, config.scheme, config.epoch),
             failed: false,
         }
     }
@@ -117,14 +125,15 @@ impl<S: CertificateScheme, L: Elector<S>, D: Digest> State<S, L, D> {
         ensures { result ≡ round_number self.now view }
     {
         types::Round {
-            epoch: self.epoch,
+            epoch: self.epoch(),
             view,
         }
     }
 
     /// The round of a tracked view.
     pub(super) fn round_at(&self, view: View) -> Option<&Round<S, D>>
-        ensures { option_copied result ≡ round_at self.now view }
+        ensures round { option_copied result ≡ round_at self.now view }
+        ensures in_range { OnSome result (view ≤ largest_tracked) }
     {
         self.rounds.get(view)
     }
@@ -160,7 +169,8 @@ impl<S: CertificateScheme, L: Elector<S>, D: Digest> State<S, L, D> {
 
     /// Enters a view that is above the current one.
     pub(super) fn enter(&mut self, view: View, now: u64, deadlines: &Deadlines) -> Result<(), Fault>
-        requires { nat_lt self.old.current view ≡ true → deadlines.now ≡ deadlines_at self.old now }
+        requires in_range { view ≤ largest_current }
+        requires deadlines { nat_lt self.old.current view ≡ true → deadlines.now ≡ deadlines_at self.old now }
         ensures entered { OnOk result (self.new ≡ entered self.old view now) }
         ensures refused { IfErr result (λ fault. fault ≡ OutOfMemory) }
         ensures setup { HasSameSetup self.old self.new }
@@ -168,15 +178,7 @@ impl<S: CertificateScheme, L: Elector<S>, D: Digest> State<S, L, D> {
         if view <= self.current {
             return Ok(());
         }
-        enter(
-            self.alloc,
-            &mut self.rounds,
-            &self.scheme,
-            self.epoch,
-            view,
-            now,
-            deadlines,
-        )?;
+        self.rounds.enter(view, now, deadlines)?;
         self.current = view;
         Ok(())
     }
@@ -187,15 +189,12 @@ impl<S: CertificateScheme, L: Elector<S>, D: Digest> State<S, L, D> {
         view: View,
         certificate: Option<&S::Certificate>,
     ) -> Result<(), Fault>
+        requires { view ≤ largest_tracked }
         ensures elected { OnOk result (self.new ≡ elected L.elect self.old view (option_map S.certificate_bytes (option_copied certificate.entry))) }
         ensures refused { IfErr result (λ fault. fault ≡ OutOfMemory) }
         ensures setup { HasSameSetup self.old self.new }
     {
-        let round = types::Round {
-            epoch: self.epoch,
-            view,
-        };
-        let leader = self.elector.elect(round, certificate);
+        let leader = self.elector.elect(self.round_number(view), certificate);
         self.set_leader(view, leader)
     }
 
@@ -204,11 +203,8 @@ impl<S: CertificateScheme, L: Elector<S>, D: Digest> State<S, L, D> {
         ensures leader { result ≡ L.elect self.now.elector (round_number self.now view) None }
         ensures member { result < length self.now.members }
     {
-        let round = types::Round {
-            epoch: self.epoch,
-            view,
-        };
-        self.elector.elect(round, self.no_certificate())
+        self.elector
+            .elect(self.round_number(view), self.no_certificate())
     }
 
     fn no_certificate(&self) -> Option<&S::Certificate>
@@ -221,7 +217,7 @@ impl<S: CertificateScheme, L: Elector<S>, D: Digest> State<S, L, D> {
     pub(super) fn note_moment(&mut self, now: u64)
         ensures { self.new ≡ at_moment self.old now }
     {
-        self.moment = now;
+        self.last_moment = now;
     }
 
     pub(super) fn keep_genesis(&mut self, payload: D)
@@ -239,18 +235,12 @@ impl<S: CertificateScheme, L: Elector<S>, D: Digest> State<S, L, D> {
 
     /// Sets the leader of a view that has none.
     pub(super) fn set_leader(&mut self, view: View, leader: Participant) -> Result<(), Fault>
-        requires { leader < length self.old.members }
+        requires in_range { view ≤ largest_tracked }
+        requires member { leader < length self.old.members }
         ensures led { OnOk result (self.new ≡ led self.old view leader) }
         ensures refused { IfErr result (λ fault. fault ≡ OutOfMemory) }
         ensures setup { HasSameSetup self.old self.new }
     {
-        lead(
-            self.alloc,
-            &mut self.rounds,
-            &self.scheme,
-            self.epoch,
-            view,
-            leader,
-        )
+        self.rounds.lead(view, leader)
     }
 }

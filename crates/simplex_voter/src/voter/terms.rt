@@ -1,24 +1,15 @@
 //! The terms of views, at any view: also where the next term would start above 2^64 - 1.
 
 ghost use Rattle.std.specs.Prelude.{◌≡◌, ◌-◌};
-ghost use Rattle.simplex_types.specs.Terms.{term_start};
 ghost use Rattle.simplex_voter.specs.Windows.{admits_outbound};
 
-use simplex_types::types::{Lookahead, TermLength, View};
+use simplex_types::types::{Lookahead, View};
 
 /// The view before a view; genesis for genesis.
 pub fn before(view: View) -> View
     ensures { result ≡ view - 1 }
 {
     View::new(view.get().saturating_sub(1))
-}
-
-/// The first view of a view's term. Genesis counts to the first term.
-pub fn start_of(view: View, length: TermLength) -> View
-    ensures { result ≡ term_start length view }
-{
-    let length = u64::from(length.get().get());
-    View::new(view.get().saturating_sub(1) / length * length + 1)
 }
 
 /// Whether a member whose current view is `current` may send a vote for `view`.
@@ -29,7 +20,7 @@ pub fn admits_outbound(lookahead: &Lookahead, current: View, view: View) -> bool
         return !view.is_zero();
     }
     let length = u64::from(lookahead.term_length.get().get());
-    let start = start_of(current, lookahead.term_length);
+    let start = current.term_start(lookahead.term_length);
     let ahead = view.get().saturating_sub(current.get());
     let place = view.get().saturating_sub(start.get());
     if place < length {

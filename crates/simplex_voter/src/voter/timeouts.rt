@@ -2,7 +2,6 @@
 
 ghost use Rattle.std.specs.Prelude.{◌≡◌, IfSome, IsOk, OnOk, Err, None, true};
 
-use super::in_place::latch;
 use super::state::State;
 use simplex_types::reasons::TimeoutReason;
 use simplex_types::types::{CertificateScheme, Digest, Elector, Fault, View};
@@ -66,6 +65,6 @@ impl<S: CertificateScheme, L: Elector<S>, D: Digest> State<S, L, D> {
     fn latch(&mut self, view: View, reason: TimeoutReason, now: u64)
         ensures { self.new ≡ with_tracked self.old view (with_latch (round_of self.old view) now reason) }
     {
-        latch(&mut self.rounds, view, now, reason);
+        self.rounds.latch(view, now, reason);
     }
 }

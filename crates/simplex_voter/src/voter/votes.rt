@@ -3,8 +3,6 @@
 ghost use Rattle.std.specs.Prelude.{◌≡◌, ◌≤◌, IfSome, IfOk, IfErr, OnOk, OnSome, Err, None, Some, true, is_some, option_map, if◌then◌else◌};
 ghost use Rattle.simplex_types.specs.declared.types.fault.Fault.TheVariants.{OutOfMemory};
 
-use super::in_place::decide_finalize;
-use super::rounds::decide_nullify;
 use super::state::State;
 use super::views::note_view;
 use simplex_round::round::Decision;
@@ -16,6 +14,7 @@ use simplex_types::types::{
 impl<S: CertificateScheme, L: Elector<S>, D: Digest> State<S, L, D> {
     ghost use Rattle.simplex_voter.specs.Setup.{HasSameSetup};
     ghost use Rattle.simplex_voter.specs.Facts.{round_of, with_round};
+    ghost use Rattle.simplex_voter.specs.Rounds.{largest_tracked};
     ghost use Rattle.simplex_voter.specs.Rules.{may_nullify};
     ghost use Rattle.simplex_voter.specs.Votes.{nullify_answer, nullify_cast, after_construct_nullify, IsSignedNullify};
     ghost use Rattle.simplex_voter.specs.Votes.{finalize_answer, signed_proposal, finalize_cast, after_construct_finalize, IsSignedFinalize};
@@ -62,7 +61,8 @@ impl<S: CertificateScheme, L: Elector<S>, D: Digest> State<S, L, D> {
     fn cast_nullify(&mut self, view: View) -> Result<Option<Nullify<S>>, Fault>
     where
         S: Scheme<D>,
-        requires { 1 ≤ view }
+        requires first { 1 ≤ view }
+        requires in_range { view ≤ largest_tracked }
         ensures cast { OnOk result (self.new ≡ nullify_cast (with_round self.old view (after_nullify (round_of self.old view))) view) }
         ensures keyed { IfOk result (λ vote. is_some vote ≡ is_some self.old.me) }
         ensures signed { IfOk result (λ vote. IfSome vote (IsSignedNullify S.IsSignature self.old view)) }
@@ -70,11 +70,11 @@ impl<S: CertificateScheme, L: Elector<S>, D: Digest> State<S, L, D> {
         ensures setup { HasSameSetup self.old self.new }
     {
         self.decide_nullify(view)?;
-        let Some(signer) = self.scheme.me() else {
+        let Some(signer) = self.rounds.scheme().me() else {
             return Ok(None);
         };
         let subject = Subject::Nullify(self.round_number(view));
-        let Some(signature) = self.scheme.sign(self.alloc, &subject)? else {
+        let Some(signature) = self.rounds.scheme().sign(self.alloc, &subject)? else {
             unreachable!()
         };
         self.note_nullify_vote(view)?;
@@ -99,7 +99,7 @@ impl<S: CertificateScheme, L: Elector<S>, D: Digest> State<S, L, D> {
     #[tactic(auto, unfolding(crate::specs::Rules::may_nullify))]
     fn nullify_retry(&self, view: View) -> Option<bool>
         ensures retry { result ≡ (if may_nullify self.now view then Some (is_nullify (round_of self.now view).decision) else None) }
-        ensures current { OnSome result (view ≡ self.now.current) }
+        ensures current { OnSome result ((view ≡ self.now.current) × (view ≤ largest_tracked)) }
     {
         if view != self.current {
             return None;
@@ -116,11 +116,12 @@ impl<S: CertificateScheme, L: Elector<S>, D: Digest> State<S, L, D> {
 
     /// Decides the vote to nullify a view.
     fn decide_nullify(&mut self, view: View) -> Result<(), Fault>
+        requires { view ≤ largest_tracked }
         ensures decided { OnOk result (self.new ≡ with_round self.old view (after_nullify (round_of self.old view))) }
         ensures refused { IfErr result (λ fault. fault ≡ OutOfMemory) }
         ensures setup { HasSameSetup self.old self.new }
     {
-        decide_nullify(self.alloc, &mut self.rounds, &self.scheme, self.epoch, view)
+        self.rounds.decide_nullify(view)
     }
 
     /// Votes to finalize a view where the rule allows it: the decision is set, also without a key, and the vote is
@@ -166,11 +167,11 @@ impl<S: CertificateScheme, L: Elector<S>, D: Digest> State<S, L, D> {
         let Some(proposal) = self.decide_finalize(view) else {
             return Ok(None);
         };
-        let Some(signer) = self.scheme.me() else {
+        let Some(signer) = self.rounds.scheme().me() else {
             return Ok(None);
         };
         let subject = Subject::Finalize(proposal);
-        let Some(signature) = self.scheme.sign(self.alloc, &subject)? else {
+        let Some(signature) = self.rounds.scheme().sign(self.alloc, &subject)? else {
             unreachable!()
         };
         Ok(Some(Finalize {
@@ -186,6 +187,6 @@ impl<S: CertificateScheme, L: Elector<S>, D: Digest> State<S, L, D> {
         ensures decided { self.new ≡ finalize_cast self.old view }
         ensures vote { result ≡ (round_of self.old view).slot.held }
     {
-        decide_finalize(&mut self.rounds, view)
+        self.rounds.decide_finalize(view)
     }
 }

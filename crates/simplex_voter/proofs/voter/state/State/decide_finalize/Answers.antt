@@ -1,17 +1,20 @@
-use Rattle.std.proofs.Common.{ap, sym, ◌∙◌, refl}
-use Rattle.simplex_voter.proofs.Shown.{finalize_decided_shown, finalize_vote_shown}
+use Rattle.std.proofs.Common.{ap, sym, length, ◌∙◌}
+use Rattle.simplex_voter.proofs.Shown.{by_rounds}
 use Rattle.simplex_voter.proofs.voter.state.State.decide_finalize.Goals as goal
 
 pub invariant_of-self : goal.invariant_of-self
 invariant_of-self g c = record {
-  rounds = c.decide_finalize.ensures.made _ c.self.invariant.rounds;
+  in_range = c.self.invariant.in_range;
   nullified = c.self.invariant.nullified;
   nullify_votes = c.self.invariant.nullify_votes;
-  elector = c.self.invariant.elector;
+  elector = c.self.invariant.elector ∙ ap length (sym c.decide_finalize.ensures.origin.members);
 }
 
 pub returns-clause-decided : goal.returns-clause-decided
-returns-clause-decided g c = rw (← c.self.view_is) (finalize_decided_shown _ _ refl _ _ c.decide_finalize.ensures.decided (rw (← c.self.view_is) at c.requires))
+returns-clause-decided g c = rw (← c.self.view_is) (by_rounds _ _ c.self.view_is _ _ c.decide_finalize.ensures.decided)
+
+pub decide_finalize-requires : goal.decide_finalize-requires
+decide_finalize-requires g c = rw (← c.self.view_is) at c.requires
 
 pub returns-clause-vote : goal.returns-clause-vote
-returns-clause-vote g c = c.decide_finalize.ensures.vote ∙ finalize_vote_shown c.args.self.now c.self.inside.rounds (sym (ap (λ x. x.rounds) c.self.view_is)) c.args.view c.requires
+returns-clause-vote g c = rw (← c.self.view_is) c.decide_finalize.ensures.vote

@@ -1,8 +1,27 @@
-use Rattle.std.proofs.Common.{ap, sym, ◌∙◌, refl}
+use Rattle.std.proofs.Common.{length, ap, sym, refl, ◌∙◌}
 use Rattle.simplex_voter.specs.Setup.{deadlines_at}
-use Rattle.simplex_voter.proofs.Shown.{not_le, entered_shown}
+use Rattle.simplex_voter.proofs.Shown.{not_le, entered_by}
 use Rattle.simplex_voter.proofs.voter.state.State.enter.Goals as goal
+
+pub invariant_of-self : goal.invariant_of-self
+invariant_of-self g c = record {
+  in_range = c.self.invariant.in_range;
+  nullified = c.self.invariant.nullified;
+  nullify_votes = c.self.invariant.nullify_votes;
+  elector = c.self.invariant.elector ∙ ap length (sym c.enter.ensures.origin.members);
+}
+
+pub invariant_of-self-2 : goal.invariant_of-self-2
+invariant_of-self-2 g c = record {
+  in_range = c.requires.in_range;
+  nullified = c.self.invariant.nullified;
+  nullify_votes = c.self.invariant.nullify_votes;
+  elector = c.self.invariant.elector ∙ ap length (sym c.enter.ensures.origin.members);
+}
 
 pub returns-clause-entered : goal.returns-clause-entered
 returns-clause-entered g c =
-    rw (← c.self.view_is) (entered_shown _ _ refl _ _ _ _ (c.requires (rw (← c.self.view_is) (not_le _ _ c.if-le.ensures)) ∙ ap (λ x. deadlines_at x c.args.now) (sym c.self.view_is)) (not_le _ _ c.if-le.ensures) c.in_ok-enter.ensures.entered)
+    let above = not_le _ _ c.if-le.ensures in
+    rw (← c.self.view_is)
+    (entered_by _ _ c.self.view_is c.args.view c.args.now c.args.deadlines.now _ _ c.in_ok-enter.ensures.entered
+    (c.requires.deadlines (rw (← c.self.view_is) above) ∙ ap (λ x. deadlines_at x c.args.now) (sym c.self.view_is)) above (λ e. refl))

@@ -1,18 +1,21 @@
-use Rattle.std.proofs.Common.{refl}
-use Rattle.simplex_voter.proofs.RoundsKept.{find_entries}
-use Rattle.simplex_voter.proofs.Shown.{on_ok, finalization_handed_out_shown}
+use Rattle.std.proofs.Common.{refl, ap, sym, length, ◌∙◌}
+use Rattle.simplex_voter.proofs.Shown.{on_ok, where_true, same_setup}
+use Rattle.simplex_voter.specs.Rounds.{is_tracked}
 use Rattle.simplex_voter.proofs.voter.state.State.hand_out_finalization.Goals as goal
 
 pub invariant_of-self : goal.invariant_of-self
 invariant_of-self g c = record {
-  rounds = c.hand_out_finalization.ensures.made _ c.self.invariant.rounds;
+  in_range = c.self.invariant.in_range;
   nullified = c.self.invariant.nullified;
   nullify_votes = c.self.invariant.nullify_votes;
-  elector = c.self.invariant.elector;
+  elector = c.self.invariant.elector ∙ ap length (sym c.hand_out_finalization.ensures.origin.members);
 }
 
-pub returns-clause-answer : goal.returns-clause-answer
-returns-clause-answer g c = rw (← c.self.view_is, find_entries _ _) c.hand_out_finalization.ensures.answer
+pub returns-clause-setup : goal.returns-clause-setup
+returns-clause-setup g c = same_setup _ _ c.self.view_is _ c.hand_out_finalization.ensures.origin.me c.hand_out_finalization.ensures.origin.members c.hand_out_finalization.ensures.origin.epoch
 
 pub returns-clause-handed_out : goal.returns-clause-handed_out
-returns-clause-handed_out g c = rw (← c.self.view_is) (on_ok c.hand_out_finalization.result (finalization_handed_out_shown _ _ refl _ _) c.hand_out_finalization.ensures.handed_out)
+returns-clause-handed_out g c = rw (← c.self.view_is) (on_ok c.hand_out_finalization.result (λ is. where_true _ _ c.self.view_is (is_tracked c.self.inside.rounds c.args.view) _ _ c.self.inside.rounds is refl) c.hand_out_finalization.ensures.handed_out)
+
+pub returns-clause-answer : goal.returns-clause-answer
+returns-clause-answer g c = rw (← c.self.view_is) c.hand_out_finalization.ensures.answer

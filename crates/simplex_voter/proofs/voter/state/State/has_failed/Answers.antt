@@ -1,16 +1,11 @@
-use Rattle.std.proofs.Common.{ap, sym, ◌∙◌}
-use Rattle.std.specs.List.{list_any}
-use Rattle.std.specs.FinMap as map
-use Rattle.simplex_types.specs.Terms.{term_start}
-use Rattle.simplex_types.specs.Tracked.{at_or_above, below}
-use Rattle.simplex_voter.proofs.Covered.{failed_above, failed_shown}
+use Rattle.std.proofs.Common.{arith, ◌-◌}
+use Rattle.std.proofs.Math.Nat.{div-mul-le_self}
 use Rattle.simplex_voter.proofs.voter.state.State.has_failed.Goals as goal
 
+pub has_refused_between-requires : goal.has_refused_between-requires
+has_refused_between-requires g c =
+    let low = div-mul-le_self (c.args.view - 1) c.terms.result.term_length in
+    omega (arith, low, c.term_start-start.ensures)
+
 pub returns : goal.returns
-returns g c =
-    let shown = sym (ap (λ x. x.rounds) c.self.view_is) in
-    let starts = c.start_of-start.ensures ∙ ap (λ t. term_start t.term_length c.args.view) c.terms.ensures ∙ ap (λ x. term_start x.terms.term_length c.args.view) c.self.view_is in
-    c.has_refused.ensures
-    ∙ ap (list_any (failed_above c.self.inside.finalized)) c.between.ensures
-    ∙ ap (λ x. list_any (failed_above x.finalized) (map.entries (at_or_above (below c.self.inside.rounds c.next.result) c.start_of-start.result))) c.self.view_is
-    ∙ failed_shown c.args.self.now c.self.inside.rounds shown _ c.args.view _ starts c.next.ensures
+returns g c = rw (← c.self.view_is) (rw (c.term_start-start.ensures, c.terms.ensures) at c.has_refused_between.ensures)

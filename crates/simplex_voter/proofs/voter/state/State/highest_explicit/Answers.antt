@@ -1,4 +1,4 @@
-use Rattle.std.proofs.Common.{None, ap, sym, ◌∙◌}
+use Rattle.std.proofs.Common.{None, nat_lt, filter, ap, ◌∙◌}
 use Rattle.std.specs.List.{filter_map, last_or}
 use Rattle.simplex_voter.specs.Parents.{at_view, explicit_at}
 use Rattle.simplex_voter.proofs.Explicit.{highest_found, none_explicit}
@@ -6,13 +6,13 @@ use Rattle.simplex_voter.proofs.voter.state.State.highest_explicit.Goals as goal
 
 pub returns-in-Some : goal.returns-in-Some
 returns-in-Some g c =
-    let shown = sym (ap (λ x. x.rounds) c.self.view_is) in
-    highest_found c.args.self.now c.args.view c.self.inside.rounds shown c.in-Some.found
-    (c.in-Some.ensures ∙ ap (λ es. last_or None (filter_map (explicit_at c.args.self.now) es)) c.below.ensures)
+    let below = c.below.ensures ∙ ap (λ x. filter (λ e. nat_lt e.0 c.args.view) x.rounds) c.self.view_is in
+    highest_found c.args.self.now c.args.view c.in-Some.found
+    (c.in-Some.ensures ∙ ap (λ es. last_or None (filter_map (explicit_at c.args.self.now) es)) below)
 
 pub returns-in-None : goal.returns-in-None
 returns-in-None g c =
-    let shown = sym (ap (λ x. x.rounds) c.self.view_is) in
-    none_explicit c.args.self.now c.args.view c.self.inside.rounds shown c.at_view.result
-    (c.in-None.ensures ∙ ap (λ es. last_or None (filter_map (explicit_at c.args.self.now) es)) c.below.ensures)
+    let below = c.below.ensures ∙ ap (λ x. filter (λ e. nat_lt e.0 c.args.view) x.rounds) c.self.view_is in
+    none_explicit c.args.self.now c.args.view c.at_view.result
+    (c.in-None.ensures ∙ ap (λ es. last_or None (filter_map (explicit_at c.args.self.now) es)) below)
     (c.at_view.ensures ∙ ap (λ v. at_view v c.self.inside.genesis) c.zero.ensures ∙ ap (λ x. at_view 0 x.genesis) c.self.view_is)

@@ -1,18 +1,20 @@
-use Rattle.std.proofs.Common.{ap, sym, refl}
-use Rattle.simplex_voter.proofs.Shown.{judged_shown}
+use Rattle.std.proofs.Common.{refl, ap, sym, length, ◌∙◌}
+use Rattle.simplex_voter.proofs.Shown.{by_rounds}
 use Rattle.simplex_voter.proofs.Verdicts.{not_contradicted}
 use Rattle.simplex_voter.proofs.voter.state.State.judge.Goals as goal
 
 pub judge-requires : goal.judge-requires
-judge-requires g c = not_contradicted c.args.self.now c.args.view c.args.success c.requires.taken c.self.inside.rounds (sym (ap (λ x. x.rounds) c.self.view_is))
+judge-requires g c = rw (← c.self.view_is) at (not_contradicted c.args.self.now c.args.view c.args.success c.requires.taken)
 
 pub invariant_of-self : goal.invariant_of-self
 invariant_of-self g c = record {
-  rounds = c.judge.ensures.made _ c.self.invariant.rounds;
+  in_range = c.self.invariant.in_range;
   nullified = c.self.invariant.nullified;
   nullify_votes = c.self.invariant.nullify_votes;
-  elector = c.self.invariant.elector;
+  elector = c.self.invariant.elector ∙ ap length (sym c.judge.ensures.origin.members);
 }
 
 pub returns : goal.returns
-returns g c = rw (← c.self.view_is) (judged_shown _ _ refl _ _ _ c.judge.ensures.judged (rw (← c.self.view_is) at c.requires.tracked))
+returns g c =
+    let tracked = rw (← c.self.view_is) at c.requires.tracked in
+    rw (← c.self.view_is) (by_rounds _ _ c.self.view_is _ _ (c.judge.ensures.judged ∙ rw tracked refl))

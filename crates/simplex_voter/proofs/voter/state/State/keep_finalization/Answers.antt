@@ -1,14 +1,20 @@
-use Rattle.std.proofs.Common.{sym, refl}
-use Rattle.simplex_types.specs.Certificates.{finalization_facts}
-use Rattle.simplex_voter.proofs.RoundsKept.{find_entries}
-use Rattle.simplex_voter.proofs.Shown.{on_ok}
-use Rattle.simplex_voter.proofs.Kept.{finalization_shown}
+use Rattle.std.proofs.Common.{ap, sym, length, ◌∙◌}
+use Rattle.simplex_voter.proofs.Shown.{on_ok, by_rounds, same_setup}
 use Rattle.simplex_voter.proofs.voter.state.State.keep_finalization.Goals as goal
 
-pub returns-clause-added : goal.returns-clause-added
-returns-clause-added g c = rw (← c.self.view_is, find_entries _ _) (rw c.view-view.ensures at c.keep_finalization.ensures.added)
+pub invariant_of-self : goal.invariant_of-self
+invariant_of-self g c = record {
+  in_range = c.self.invariant.in_range;
+  nullified = c.self.invariant.nullified;
+  nullify_votes = c.self.invariant.nullify_votes;
+  elector = c.self.invariant.elector ∙ ap length (sym c.keep_finalization.ensures.origin.members);
+}
+
+pub returns-clause-setup : goal.returns-clause-setup
+returns-clause-setup g c = same_setup _ _ c.self.view_is _ c.keep_finalization.ensures.origin.me c.keep_finalization.ensures.origin.members c.keep_finalization.ensures.origin.epoch
 
 pub returns-clause-kept : goal.returns-clause-kept
-returns-clause-kept g c =
-    let facts = finalization_facts g.S.CertificateScheme.certificate_bytes c.args.finalization in
-    rw (← c.self.view_is) (on_ok c.keep_finalization.result (finalization_shown g.D.PartialEq.eq g.L.Elector.elect _ _ refl _ _ facts (sym c.view-view.ensures)) c.keep_finalization.ensures.kept)
+returns-clause-kept g c = rw (← c.self.view_is) (on_ok c.keep_finalization.result (by_rounds _ _ c.self.view_is _ _) (rw c.view-view.ensures at c.keep_finalization.ensures.kept))
+
+pub returns-clause-added : goal.returns-clause-added
+returns-clause-added g c = rw (← c.self.view_is) (rw c.view-view.ensures at c.keep_finalization.ensures.added)

@@ -1,14 +1,15 @@
-use Rattle.std.proofs.Common.{refl}
-use Rattle.simplex_voter.proofs.Shown.{latched_shown}
+use Rattle.std.proofs.Common.{refl, ap, sym, length, ◌∙◌}
+use Rattle.simplex_voter.proofs.Shown.{where_true}
+use Rattle.simplex_voter.specs.Rounds.{is_tracked}
 use Rattle.simplex_voter.proofs.voter.state.State.latch.Goals as goal
 
 pub invariant_of-self : goal.invariant_of-self
 invariant_of-self g c = record {
-  rounds = c.latch.ensures.made _ c.self.invariant.rounds;
+  in_range = c.self.invariant.in_range;
   nullified = c.self.invariant.nullified;
   nullify_votes = c.self.invariant.nullify_votes;
-  elector = c.self.invariant.elector;
+  elector = c.self.invariant.elector ∙ ap length (sym c.latch.ensures.origin.members);
 }
 
 pub returns : goal.returns
-returns g c = rw (← c.self.view_is) (latched_shown _ _ refl _ _ _ _ c.latch.ensures.latched)
+returns g c = rw (← c.self.view_is) (where_true _ _ c.self.view_is (is_tracked c.self.inside.rounds c.args.view) _ _ c.self.inside.rounds c.latch.ensures.latched refl)

@@ -1,13 +1,13 @@
-use Rattle.std.proofs.Common.{ap, ◌∙◌, refl}
-use Rattle.simplex_voter.proofs.RoundsKept.{none_made, entries_empty, keys_empty}
+use Rattle.std.proofs.Common.{ap, sym, length, ◌∙◌, refl, arith}
+use Rattle.simplex_voter.proofs.RoundsKept.{keys_empty}
 use Rattle.simplex_voter.proofs.voter.state.State.new.Goals as goal
 
 pub invariant_of-result : goal.invariant_of-result
 invariant_of-result g c = record {
-  rounds = none_made _ _ c.new-4.ensures;
+  in_range = omega (arith, c.zero.ensures);
   nullified = ap (λ m. m.term_length) c.new-2.ensures ∙ ap (λ t. t.term_length) c.terms-term_length.ensures;
   nullify_votes = ap (λ m. m.term_length) c.new-3.ensures ∙ ap (λ t. t.term_length) c.terms-term_length.ensures;
-  elector = c.requires;
+  elector = c.requires ∙ ap (λ r. length r.members) (sym c.new-4.ensures);
 }
 
 pub returns : goal.returns
@@ -17,5 +17,5 @@ returns g c = rw (
   keys_empty _ c.new.ensures,
   keys_empty _ (ap (λ m. m.by_view) c.new-2.ensures),
   keys_empty _ (ap (λ m. m.by_view) c.new-3.ensures),
-  entries_empty _ c.new-4.ensures,
+  c.new-4.ensures,
 ) refl

@@ -1,31 +1,30 @@
-use Rattle.std.proofs.Common.{ap, sym, refl, ◌∙◌}
+use Rattle.std.proofs.Common.{refl, ap, sym, length, ◌∙◌}
+use Rattle.simplex_voter.specs.Rounds.{is_tracked, round_at}
 use Rattle.simplex_voter.specs.Timeouts.{has_skip_budget}
-use Rattle.simplex_voter.proofs.Shown.{on_ok}
-use Rattle.simplex_voter.proofs.Polling.{late_shown, polled_shown, answer_shown, answered}
+use Rattle.simplex_voter.proofs.Shown.{on_ok, on_err, by_rounds, where_true}
+use Rattle.simplex_voter.proofs.Polling.{answered, answer_shown}
 use Rattle.simplex_voter.proofs.voter.state.State.poll.Goals as goal
 
 pub invariant_of-self : goal.invariant_of-self
 invariant_of-self g c = record {
-  rounds = c.poll.ensures.made _ c.self.invariant.rounds;
+  in_range = c.self.invariant.in_range;
   nullified = c.self.invariant.nullified;
   nullify_votes = c.self.invariant.nullify_votes;
-  elector = c.self.invariant.elector;
+  elector = c.self.invariant.elector ∙ ap length (sym c.poll.ensures.origin.members);
 }
 
 pub returns-clause-late : goal.returns-clause-late
-returns-clause-late g c =
-    let current = ap (λ x. x.current) c.self.view_is in
-    let retry = ap (λ x. x.settings.timeout_retry) c.self.view_is in
-    (rw (current, retry) at c.poll.ensures.late)
-    ∙ late_shown c.args.self.now c.self.inside.rounds (sym (ap (λ x. x.rounds) c.self.view_is)) c.args.self.now.current c.args.now c.args.self.now.settings.timeout_retry
+returns-clause-late g c = rw (← c.self.view_is) c.poll.ensures.late
+
+pub returns-clause-refused : goal.returns-clause-refused
+returns-clause-refused g c = rw (← c.self.view_is) (on_err c.poll.result (λ fault both. (both.0, by_rounds _ _ c.self.view_is _ c.self.inside.rounds both.1)) c.poll.ensures.refused)
 
 pub returns-clause-polled : goal.returns-clause-polled
-returns-clause-polled g c = rw (← c.self.view_is) (on_ok c.poll.result (polled_shown _ _ refl _ _ _ _) c.poll.ensures.polled)
+returns-clause-polled g c =
+    rw (← c.self.view_is) (on_ok c.poll.result (λ is. where_true _ _ c.self.view_is (is_tracked c.self.inside.rounds c.self.inside.current) _ _ c.self.inside.rounds is refl) c.poll.ensures.polled)
 
 pub returns-clause-answer : goal.returns-clause-answer
 returns-clause-answer g c =
-    let current = ap (λ x. x.current) c.self.view_is in
-    let retry = ap (λ x. x.settings.timeout_retry) c.self.view_is in
-    answered c.poll.result _ _
-    (answer_shown c.args.self.now c.self.inside.rounds (sym (ap (λ x. x.rounds) c.self.view_is)) c.args.self.now.current c.args.now c.args.self.now.settings.timeout_retry (has_skip_budget c.args.self.now))
-    (rw (current, retry, c.has_skip_budget-allow_latched.ensures) at c.poll.ensures.answer)
+    let allow = c.has_skip_budget-allow_latched.ensures ∙ ap has_skip_budget (sym c.self.view_is) in
+    rw (← c.self.view_is)
+    (answered c.poll.result _ _ (answer_shown (round_at c.self.inside.rounds c.self.inside.current) _ refl c.args.now c.self.inside.timeout_retry _) (rw allow at c.poll.ensures.answer))

@@ -1,11 +1,20 @@
-use Rattle.std.proofs.Common.{refl}
-use Rattle.simplex_voter.proofs.Shown.{on_ok}
-use Rattle.simplex_voter.proofs.Recalled.{recalled_shown, taken_shown}
+use Rattle.std.proofs.Common.{ap, sym, length, ◌∙◌}
+use Rattle.simplex_voter.proofs.Shown.{on_ok, by_rounds, same_setup}
 use Rattle.simplex_voter.proofs.voter.state.State.recall.Goals as goal
 
-pub recall-requires-clause-taken : goal.recall-requires-clause-taken
-recall-requires-clause-taken g c = taken_shown c.args.artifact.now c.args.self.now _ c.self.view_is c.self.inside.rounds refl c.args.view c.requires
+pub invariant_of-self : goal.invariant_of-self
+invariant_of-self g c = record {
+  in_range = c.self.invariant.in_range;
+  nullified = c.self.invariant.nullified;
+  nullify_votes = c.self.invariant.nullify_votes;
+  elector = c.self.invariant.elector ∙ ap length (sym c.recall.ensures.origin.members);
+}
+
+pub returns-clause-setup : goal.returns-clause-setup
+returns-clause-setup g c = same_setup _ _ c.self.view_is _ c.recall.ensures.origin.me c.recall.ensures.origin.members c.recall.ensures.origin.epoch
 
 pub returns-clause-recalled : goal.returns-clause-recalled
-returns-clause-recalled g c =
-    rw (← c.self.view_is) (on_ok c.recall.result (recalled_shown g.D.PartialEq.eq _ _ refl _ c.args.view c.args.artifact.now c.args.binding) c.recall.ensures.recalled)
+returns-clause-recalled g c = rw (← c.self.view_is) (on_ok c.recall.result (by_rounds _ _ c.self.view_is _ _) c.recall.ensures.recalled)
+
+pub recall-requires-clause-taken : goal.recall-requires-clause-taken
+recall-requires-clause-taken g c = rw (← c.self.view_is) at c.requires.taken

@@ -1,7 +1,6 @@
 use Rattle.std.proofs.Common.{ap, sym, ◌∙◌}
-use Rattle.simplex_voter.proofs.Shown.{dropped_shown}
+use Rattle.simplex_voter.specs.Windows.{min_active}
 use Rattle.simplex_voter.proofs.voter.state.State.views_below.Goals as goal
 
 pub returns-clause-views : goal.returns-clause-views
-returns-clause-views g c =
-    c.in_ok-views_below.ensures ∙ dropped_shown c.args.self.now c.self.inside.rounds c.args.view (sym (ap (λ x. x.rounds) c.self.view_is)) c.requires
+returns-clause-views g c = rw (← c.self.view_is) (rw (c.requires ∙ ap min_active (sym c.self.view_is)) at c.views_below.ensures.views)

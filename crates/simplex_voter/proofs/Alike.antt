@@ -1,0 +1,96 @@
+-- Changes of a round that keep for whom it was made, its notarization and its leader.
+use Rattle.std.proofs.Common.{◌≡◌, ℕ, ◌+◌, Bool, true, false, cond, ◌||◌, Option, Some, None, Result, Ok, Err, OnOk, OnErr, refl, ap}
+use Rattle.simplex_types.specs.Proposal.{same_proposal}
+use Rattle.simplex_types.specs.declared.types.messages.Proposal.{Proposal}
+use Rattle.simplex_types.specs.declared.types.messages.Artifact.{Artifact}
+use Rattle.simplex_types.specs.declared.types.messages.Artifact.TheVariants as artifact
+use Rattle.simplex_types.specs.Certificates.{ProposalFacts, NullificationFacts}
+use Rattle.simplex_round.specs.declared.round.Decision.TheVariants.{Nullify}
+use Rattle.simplex_round.specs.Slot.{after_vote}
+use Rattle.simplex_round.specs.Round.{RoundFacts, is_finalize, is_nullify, token_of, after_abort, awaits_retry, with_recovered, with_nullification, with_finalization, after_nullify, with_retry, after_replay}
+use Rattle.simplex_voter.specs.declared.voter.rounds.Deadlines.{Deadlines}
+use Rattle.simplex_voter.specs.Rounds.{with_entry}
+use Rattle.simplex_voter.specs.Certification.{without_token}
+use Rattle.simplex_voter.specs.Replay.{bound_again}
+use Rattle.simplex_voter.specs.Verifying.{with_proposal}
+
+module _ {K D : Type 0} where
+  pub record IsAlike (r s : RoundFacts K D) : Type 0 where
+    pub me : s.me ≡ r.me
+    pub members : s.members ≡ r.members
+    pub round : s.round ≡ r.round
+    pub notarization : s.notarization ≡ r.notarization
+    pub leader : s.leader ≡ r.leader
+
+  pub unchanged : (r : RoundFacts K D) → IsAlike r r
+  unchanged r = record { me = refl; members = refl; round = refl; notarization = refl; leader = refl }
+
+  pub alike_same : (r s : RoundFacts K D) → s ≡ r → IsAlike r s
+  alike_same r s same = rw same (unchanged r)
+
+  -- a call that is refused changes nothing
+  pub handed_out_alike : {A E : Type 0} (result : Result A E) (r s t : RoundFacts K D) → IsAlike r t → OnErr result (s ≡ r) → OnOk result (s ≡ t) → IsAlike r s
+  handed_out_alike (Ok a) r s t alike err ok = rw ok alike
+  handed_out_alike (Err e) r s t alike err ok = alike_same r s err
+
+  pub nullified_alike : (r s : RoundFacts K D) (c : NullificationFacts) → s ≡ with_nullification r c → IsAlike r s
+  nullified_alike r s c is = rw is (by_kept _)
+    where
+      by_kept : (b : Bool) → IsAlike r (cond b r (record r { nullification = Some c }))
+      by_kept true = unchanged r
+      by_kept false = record { me = refl; members = refl; round = refl; notarization = refl; leader = refl }
+
+  pub finalized_alike : (same : Proposal D → Proposal D → Bool) (r s : RoundFacts K D) (c : ProposalFacts D) → s ≡ with_finalization same r c → IsAlike r s
+  finalized_alike same r s c is = rw is (by_kept _)
+    where
+      by_kept : (b : Bool) → IsAlike r (cond b r (record (with_recovered same r c.proposal) { finalization = Some c }))
+      by_kept true = unchanged r
+      by_kept false = record { me = refl; members = refl; round = refl; notarization = refl; leader = refl }
+
+  pub entered_alike : (r s : RoundFacts K D) (now : ℕ) (deadlines : Deadlines) → s ≡ with_entry r now deadlines → IsAlike r s
+  entered_alike r s now deadlines is = rw is (record { me = refl; members = refl; round = refl; notarization = refl; leader = refl })
+
+  pub decided_alike : (r s : RoundFacts K D) → s ≡ after_nullify r → IsAlike r s
+  decided_alike r s is = rw is (by_decision (is_finalize r.decision))
+    where
+      by_decision : (b : Bool) → IsAlike r (cond b r (record r { decision = Nullify None }))
+      by_decision true = unchanged r
+      by_decision false = record { me = refl; members = refl; round = refl; notarization = refl; leader = refl }
+
+  pub polled_alike : {A E : Type 0} (result : Result A E) (r s : RoundFacts K D) (now retry : ℕ) → OnErr result (s ≡ r) → OnOk result (s ≡ with_retry r now retry) → IsAlike r s
+  polled_alike result r s now retry err ok = handed_out_alike result r s (with_retry r now retry) (by_test (awaits_retry r)) err ok
+    where
+      by_test : (b : Bool) → IsAlike r (cond b (record r { decision = Nullify (Some (now + retry)) }) r)
+      by_test true = record { me = refl; members = refl; round = refl; notarization = refl; leader = refl }
+      by_test false = unchanged r
+
+  pub proposed_alike : (same : D → D → Bool) (r s : RoundFacts K D) (p : Proposal D) → s ≡ with_proposal same r p → IsAlike r s
+  proposed_alike same r s p is = rw is (by_decision (is_nullify r.decision))
+    where
+      by_decision : (b : Bool) → IsAlike r (cond b r (record r { slot = after_vote (same_proposal same) r.slot p }))
+      by_decision true = unchanged r
+      by_decision false = record { me = refl; members = refl; round = refl; notarization = refl; leader = refl }
+
+  pub token_alike : (r : RoundFacts K D) → IsAlike r (without_token r)
+  token_alike r = by_test _
+    where
+      by_test : (b : Bool) → IsAlike r (cond b (record r { certification = after_abort r.certification }) r)
+      by_test true = record { me = refl; members = refl; round = refl; notarization = refl; leader = refl }
+      by_test false = unchanged r
+
+  bound_alike : (r s : RoundFacts K D) (binding : Option (Proposal D × D)) → IsAlike r s → IsAlike r (bound_again s binding)
+  bound_alike r s None alike = alike
+  bound_alike r s (Some bound) alike = record { me = alike.me; members = alike.members; round = alike.round; notarization = alike.notarization; leader = alike.leader }
+
+  module _ {S G C : Type 0} (same : Proposal D → Proposal D → Bool) where
+    kept_alike : (r : RoundFacts K D) (a : Artifact S D K G C) → IsAlike r (after_replay same r a)
+    kept_alike r (artifact.Notarize vote) = record { me = refl; members = refl; round = refl; notarization = refl; leader = refl }
+    kept_alike r (artifact.Notarization n) = record { me = refl; members = refl; round = refl; notarization = refl; leader = refl }
+    kept_alike r (artifact.Certification round success) = record { me = refl; members = refl; round = refl; notarization = refl; leader = refl }
+    kept_alike r (artifact.Nullify vote) = record { me = refl; members = refl; round = refl; notarization = refl; leader = refl }
+    kept_alike r (artifact.Nullification n) = record { me = refl; members = refl; round = refl; notarization = refl; leader = refl }
+    kept_alike r (artifact.Finalize vote) = record { me = refl; members = refl; round = refl; notarization = refl; leader = refl }
+    kept_alike r (artifact.Finalization f) = record { me = refl; members = refl; round = refl; notarization = refl; leader = refl }
+
+    pub recalled_alike : (r s : RoundFacts K D) (a : Artifact S D K G C) (binding : Option (Proposal D × D)) → s ≡ bound_again (after_replay same r a) binding → IsAlike r s
+    recalled_alike r s a binding is = rw is (bound_alike r (after_replay same r a) binding (kept_alike r a))

@@ -1,0 +1,7 @@
+use Rattle.std.proofs.Common.{ap, ◌∙◌, filter}
+use Rattle.std.specs.Prelude.{nat_le}
+use Rattle.simplex_voter.proofs.Containers.{entries-kept}
+use Rattle.simplex_voter.proofs.voter.rounds.Rounds.at_or_above.Goals as goal
+
+pub returns : goal.returns
+returns g c = c.at_or_above.ensures ∙ entries-kept _ c.args.view ∙ ap (λ x. filter (λ e. nat_le c.args.view e.0) x.by_view) c.self.view_is

@@ -1,0 +1,18 @@
+use Rattle.std.proofs.Common.{ap, sym, refl, ◌∙◌}
+use Rattle.simplex_round.specs.Round.{certified_round}
+use Rattle.simplex_voter.proofs.Changed.{found_at, kept_changed, changed_there, untouched}
+use Rattle.simplex_voter.proofs.voter.rounds.Rounds.judge.Goals as goal
+
+pub invariant_of-self-2 : goal.invariant_of-self-2
+invariant_of-self-2 g c = kept_changed _ _ refl c.self.invariant _ _ _ c.in-Some.ensures.value (rw c.certified.ensures (record { me = refl; members = refl; round = refl; notarization = refl; leader = refl }))
+
+pub returns-in_default-clause-judged : goal.returns-in_default-clause-judged
+returns-in_default-clause-judged g c = rw (← c.self.view_is) (untouched _ _ refl _ (λ r. certified_round r c.args.success) c.in_default.ensures.value)
+
+pub returns-clause-judged : goal.returns-clause-judged
+returns-clause-judged g c = rw (← c.self.view_is) (changed_there _ _ refl _ _ _ (λ r. certified_round r c.args.success) c.in-Some.ensures.value c.certified.ensures)
+
+pub certified-requires : goal.certified-requires
+certified-requires g c =
+    let here = c.in-Some.ensures.value ∙ sym (found_at c.args.self.now _ (sym (ap (λ x. x.by_view) c.self.view_is)) c.args.view) in
+    rw (← here) at c.requires

@@ -1,6 +1,0 @@
-use Rattle.simplex_voter.proofs.RoundsKept.{made_in_place, notarization_handed_out_alike}
-use Rattle.simplex_voter.proofs.voter.rounds.hand_out_notarization.Goals as goal
-
-pub returns-in-Some-clause-made : goal.returns-in-Some-clause-made
-returns-in-Some-clause-made g c = λ o made.
-    made_in_place o _ _ _ _ c.in-Some.ensures.value (notarization_handed_out_alike c.broadcast_notarization.result _ _ _ c.broadcast_notarization.ensures.unchanged c.broadcast_notarization.ensures.facts) made

@@ -1,0 +1,151 @@
+//! The tracked views of a range: what some of them hold, and which are dropped.
+
+ghost use Rattle.std.specs.Prelude.{◌≡◌, ◌≤◌, ◌<◌, ◌+◌, ◌^◌, ◌&&◌, IfErr, IfOk, false, filter, nat_le, nat_lt, map as map_list, if◌then◌else◌};
+ghost use Rattle.std.specs.List.{list_any};
+ghost use Rattle.std.specs.Option.{option_map_or};
+ghost use Rattle.std.specs.FinMap as map;
+ghost use Rattle.simplex_types.specs.declared.types.fault.Fault.TheVariants.{OutOfMemory};
+ghost use Rattle.simplex_round.specs.Round.{is_judged};
+ghost use Rattle.simplex_voter.specs.Windows.{is_notarized};
+ghost use Rattle.simplex_voter.specs.Certification.{without_token};
+
+use super::rounds::Rounds;
+use simplex_round::round::{Certification, Round};
+use simplex_types::sorted::Tracked;
+use simplex_types::types::{CertificateScheme, Digest, Fault, View};
+
+/// Whether one of the rounds is notarized or finalized.
+fn has_notarized<S: CertificateScheme, D: Digest>(entries: &[(View, Round<S, D>)]) -> bool
+    ensures { result ≡ list_any (λ e. is_notarized e.1) entries.now }
+{
+    for entry in entries {
+        if entry.1.is_directly_notarized() {
+            return true;
+        }
+    }
+    false
+}
+
+/// Whether the round was certified false.
+fn was_refused<S: CertificateScheme, D: Digest>(round: &Round<S, D>) -> bool
+    ensures { result ≡ is_judged false round.now.certification }
+{
+    match round.certification() {
+        Certification::Judged(verdict) => !verdict,
+        Certification::Ready | Certification::Outstanding(_) | Certification::Aborted => false,
+    }
+}
+
+/// Whether the entry's view is above another, and its round was certified false.
+fn was_refused_above<S: CertificateScheme, D: Digest>(
+    entry: &(View, Round<S, D>),
+    above: View,
+) -> bool
+    ensures { result ≡ (nat_lt above entry.now.0 && is_judged false entry.now.1.certification) }
+{
+    entry.0 > above && was_refused(&entry.1)
+}
+
+/// Whether one of the rounds above a view was certified false.
+fn has_refused<S: CertificateScheme, D: Digest>(
+    entries: &[(View, Round<S, D>)],
+    above: View,
+) -> bool
+    ensures { result ≡ list_any (λ e. nat_lt above e.0 && is_judged false e.1.certification) entries.now }
+{
+    for entry in entries {
+        if was_refused_above(entry, above) {
+            return true;
+        }
+    }
+    false
+}
+
+/// Ends the certifications that are under way at or below a view.
+fn end_certifications<S: CertificateScheme, D: Digest>(
+    rounds: &mut Tracked<Round<S, D>>,
+    view: View,
+)
+    requires { view < 2 ^ 63 }
+    ensures { map.entries rounds.new ≡ map_list (λ e. (e.0, if nat_le e.0 view then without_token e.1 else e.1)) (map.entries rounds.old) }
+{
+    let mut next = View::zero();
+    while let Some(entry) = rounds.first_at(next) {
+        let at = entry.0;
+        if at > view {
+            break;
+        }
+        end_certification(rounds, at);
+        next = at.next();
+    }
+}
+
+/// Ends the certification of a tracked view, if it is under way.
+fn end_certification<S: CertificateScheme, D: Digest>(rounds: &mut Tracked<Round<S, D>>, view: View)
+    ensures { rounds.new ≡ option_map_or (λ r. map.insert rounds.old view (without_token r)) (map.get rounds.old view) rounds.old }
+{
+    let Some(round) = rounds.get_mut(view) else {
+        return;
+    };
+    if round.certify_token().is_none() {
+        return;
+    }
+    round.abort_certify();
+}
+
+impl<S: CertificateScheme, D: Digest> Rounds<S, D> {
+    ghost use Rattle.simplex_voter.specs.Rounds.{is_refused_between};
+
+    /// The rounds of the tracked views below a view, by rising view.
+    pub fn below(&self, view: View) -> &[(View, Round<S, D>)]
+        ensures { result.now ≡ filter (λ e. nat_lt e.0 view) self.now.by_view }
+    {
+        self.by_view.below(view)
+    }
+
+    /// The rounds of the tracked views at or above a view, by rising view.
+    pub fn at_or_above(&self, view: View) -> &[(View, Round<S, D>)]
+        ensures { result.now ≡ filter (λ e. nat_le view e.0) self.now.by_view }
+    {
+        self.by_view.at_or_above(view)
+    }
+
+    /// Whether a view from one on and below another is notarized or finalized.
+    pub fn has_notarized_between(&self, from: View, to: View) -> bool
+        requires { from ≤ to }
+        ensures { result ≡ list_any (λ e. nat_le from e.0 && nat_lt e.0 to && is_notarized e.1) self.now.by_view }
+    {
+        has_notarized(self.by_view.between(from, to))
+    }
+
+    /// Whether a view above one, from another on and up to a third was certified false.
+    pub fn has_refused_between(&self, above: View, from: View, last: View) -> bool
+        requires { from ≤ last + 1 }
+        ensures { result ≡ list_any (is_refused_between above from last) self.now.by_view }
+    {
+        has_refused(self.by_view.from_to(from, last), above)
+    }
+
+    /// Ends the certifications that are under way at or below a view.
+    pub fn end_certifications(&mut self, view: View)
+        requires { view < 2 ^ 63 }
+        ensures { self.new ≡ record self.old { by_view = map_list (λ e. (e.0, if nat_le e.0 view then without_token e.1 else e.1)) self.old.by_view } }
+    {
+        end_certifications(&mut self.by_view, view);
+    }
+
+    /// The tracked views below a view, rising.
+    pub fn views_below(&self, view: View) -> Result<Vec<View>, Fault>
+        ensures views { IfOk result (λ views. views.items ≡ map_list (λ e. e.0) (filter (λ e. nat_lt e.0 view) self.now.by_view)) }
+        ensures refused { IfErr result (λ fault. fault ≡ OutOfMemory) }
+    {
+        Ok(self.by_view.views_below(self.alloc, view)?)
+    }
+
+    /// Drops the rounds of the views below a view.
+    pub fn drop_below(&mut self, view: View)
+        ensures { self.new ≡ record self.old { by_view = filter (λ e. nat_le view e.0) self.old.by_view } }
+    {
+        self.by_view.drop_below(view);
+    }
+}
