@@ -1,5 +1,5 @@
 -- Changes of a round that keep for whom it was made, its notarization and its leader.
-use Rattle.std.proofs.Common.{◌≡◌, ℕ, ◌+◌, Bool, true, false, cond, ◌||◌, Option, Some, None, Result, Ok, Err, OnOk, OnErr, refl, ap}
+use Rattle.std.proofs.Common.{◌≡◌, ℕ, ◌+◌, Bool, true, false, cond, Option, Some, None, Result, Ok, Err, OnOk, OnErr, refl}
 use Rattle.simplex_types.specs.Proposal.{same_proposal}
 use Rattle.simplex_types.specs.declared.types.messages.Proposal.{Proposal}
 use Rattle.simplex_types.specs.declared.types.messages.Artifact.{Artifact}
@@ -7,7 +7,7 @@ use Rattle.simplex_types.specs.declared.types.messages.Artifact.TheVariants as a
 use Rattle.simplex_types.specs.Certificates.{ProposalFacts, NullificationFacts}
 use Rattle.simplex_round.specs.declared.round.Decision.TheVariants.{Nullify}
 use Rattle.simplex_round.specs.Slot.{after_vote}
-use Rattle.simplex_round.specs.Round.{RoundFacts, is_finalize, is_nullify, token_of, after_abort, awaits_retry, with_recovered, with_nullification, with_finalization, after_nullify, with_retry, after_replay}
+use Rattle.simplex_round.specs.Round.{RoundFacts, is_finalize, is_nullify, after_abort, awaits_retry, with_recovered, with_nullification, with_finalization, after_nullify, with_retry, after_replay}
 use Rattle.simplex_voter.specs.declared.voter.rounds.Deadlines.{Deadlines}
 use Rattle.simplex_voter.specs.Rounds.{with_entry}
 use Rattle.simplex_voter.specs.Certification.{without_token}

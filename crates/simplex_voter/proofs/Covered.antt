@@ -6,7 +6,7 @@ use Rattle.std.specs.Ordering.{nat_cmp}
 use Rattle.std.specs.FinMap as fin
 use Rattle.std.proofs.lemmas.Bool.{cases_lt, false≢true}
 use Rattle.std.proofs.lemmas.Bool.Decides.{nat_tests}
-use Rattle.simplex_types.specs.Terms.{term_start, covers}
+use Rattle.simplex_types.specs.Terms.{covers}
 use Rattle.simplex_types.specs.Tracked.{at_or_above, below}
 use Rattle.simplex_types.specs.ByTerm as by
 use Rattle.simplex_types.proofs.Gaps.{any_last}

@@ -1,11 +1,11 @@
 -- A raised finalized view, as a change of a state's facts.
 use Rattle.std.proofs.Common.{◌≡◌, ℕ, ◌+◌, Bool, true, false, cond, ltb, leb, filter, List, Option, Some, None, refl, ap, sym, subst, ◌∙◌, arith}
-use Rattle.std.specs.Prelude.{map as map_list, option_map, is_some}
+use Rattle.std.specs.Prelude.{map as map_list, option_map}
 use Rattle.std.specs.Ordering.{nat_cmp}
 use Rattle.std.specs.FinMap as map
 use Rattle.std.proofs.lemmas.Bool.Decides.{nat_tests}
 use Rattle.simplex_types.specs.Tracked.{at_or_above}
-use Rattle.simplex_round.specs.Round.{RoundFacts, token_of, after_abort}
+use Rattle.simplex_round.specs.Round.{RoundFacts}
 use Rattle.simplex_voter.specs.Facts.{Facts}
 use Rattle.simplex_voter.specs.Certification.{without_token, raised}
 use Rattle.simplex_voter.specs.Rounds.{RoundsFacts, round_at, IsKept, AreKept}

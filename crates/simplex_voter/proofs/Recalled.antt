@@ -1,11 +1,11 @@
 -- Rounds that take an entry of the record, as changes of a state's facts.
-use Rattle.std.proofs.Common.{◌≡◌, ℕ, Bool, Option, Some, None, refl, ap, sym, subst, ◌∙◌}
+use Rattle.std.proofs.Common.{◌≡◌, ℕ, Bool, Option, ap, ◌∙◌}
 use Rattle.simplex_types.specs.Proposal.{same_proposal}
 use Rattle.simplex_types.specs.Viewed.{artifact_view}
 use Rattle.std.specs.Prelude.{option_and_then}
 use Rattle.simplex_types.specs.declared.types.messages.Proposal.{Proposal}
 use Rattle.simplex_types.specs.declared.types.messages.Artifact.{Artifact}
-use Rattle.simplex_round.specs.Round.{RoundFacts, after_replay}
+use Rattle.simplex_round.specs.Round.{after_replay}
 use Rattle.simplex_voter.specs.Facts.{Facts, round_of, with_round}
 use Rattle.simplex_voter.specs.Replay.{bound_again, restored_binding, replayed_round, voted_proposal}
 

@@ -1,14 +1,13 @@
 -- Maps from views and the lists of their entries, which facts hold.
-use Rattle.std.proofs.Common.{◌≡◌, ℕ, ◌<◌, ◌^◌, Bool, true, false, cond, leb, ltb, filter, List, [], ◌∷◌, Option, Some, None, Result, Ok, Err, is_some, OnOk, OnErr, Bor, refl, ap, sym, ◌∙◌, inl, inr, unwrap_or}
+use Rattle.std.proofs.Common.{◌≡◌, ℕ, Bool, true, false, cond, leb, ltb, filter, List, [], ◌∷◌, Option, Some, None, Ok, is_some, Bor, refl, ap, sym, ◌∙◌, inl, inr}
 use Rattle.std.specs.Option.{option_copied}
 use Rattle.std.specs.Ordering.{nat_cmp}
 use Rattle.std.specs.FinMap as map
 use Rattle.std.specs.FinMap.Entries.{find}
-use Rattle.std.proofs.lemmas.Bool.{cases_eq, eq-eqb, ne_eqb, false≢true}
+use Rattle.std.proofs.lemmas.Bool.{cases_eq, eq-eqb, ne_eqb}
 use Rattle.simplex_types.specs.Tracked.{after_insert, at_or_above, below}
 use Rattle.std.specs.Prelude.{map as map_list}
-use Rattle.simplex_types.proofs.Maps.{get-insert, get-kept, same_maps, made_empty, entries-retain_keys}
-use Rattle.std.specs.Option.{option_map_or}
+use Rattle.simplex_types.proofs.Maps.{get-insert, same_maps, made_empty, entries-retain_keys}
 
 module _ {V : Type 0} where
   pub find_entries : (m : map.FinMap nat_cmp V) (v : ℕ) → find nat_cmp v (map.entries m) ≡ map.get m v

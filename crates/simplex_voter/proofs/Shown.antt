@@ -1,12 +1,10 @@
 -- Changes of the rounds, as changes of a state's facts.
-use Rattle.std.proofs.Common.{◌≡◌, ℕ, Bool, true, false, cond, ◌||◌, ltb, leb, filter, Option, Some, None, Result, Ok, Err, OnOk, is_some, unwrap_or, inl, inr, arith, refl, ap, sym, ◌∙◌}
+use Rattle.std.proofs.Common.{◌≡◌, ℕ, Bool, true, false, cond, ltb, leb, filter, Option, Some, None, Result, Ok, Err, OnOk, inl, inr, arith, ap, sym, ◌∙◌}
 use Rattle.std.specs.Ordering.{nat_cmp, is_le}
-use Rattle.std.proofs.lemmas.Bool.{cases_lt, lt-ltb, false≢true}
+use Rattle.std.proofs.lemmas.Bool.{cases_lt, lt-ltb}
 use Rattle.std.proofs.lemmas.Bool.Decides.{nat_tests}
 use Rattle.std.specs.FinMap as map
-use Rattle.std.specs.FinMap.Entries.{find, put}
-use Rattle.simplex_round.specs.Round.{RoundFacts, leader_at, with_nullification, after_nullify, can_finalize, certified_round, with_latch}
-use Rattle.simplex_voter.specs.Certification.{judged}
+use Rattle.simplex_round.specs.Round.{RoundFacts}
 use Rattle.std.specs.Prelude.{IfErr}
 use Rattle.std.specs.Option.{option_map_or}
 use Rattle.simplex_voter.specs.Setup.{HasSameSetup, deadlines_at}
@@ -16,16 +14,13 @@ use Rattle.simplex_voter.specs.Entering.{entered}
 use Rattle.simplex_voter.specs.declared.voter.rounds.Deadlines.{Deadlines}
 use Rattle.simplex_voter.specs.Facts as facts
 use Rattle.simplex_voter.specs.Facts.{Facts}
-use Rattle.simplex_voter.specs.Serving.{prune_answer, after_prune, after_broadcast_notarization, after_broadcast_nullification, after_broadcast_finalization}
-use Rattle.simplex_voter.specs.Acceptance.{nullified_also, with_nullification_at}
+use Rattle.simplex_voter.specs.Serving.{after_prune}
+use Rattle.simplex_voter.specs.Acceptance.{nullified_also}
 use Rattle.simplex_types.specs.ByTerm.{TermMap}
 use Rattle.std.specs.BTreeSet.{insert_key}
-use Rattle.simplex_types.specs.Certificates.{NullificationFacts}
-use Rattle.simplex_voter.proofs.RoundsKept.{find_entries, keys-kept, keys-below}
-use Rattle.simplex_voter.proofs.Containers.{entries-insert, keys-insert}
-use Rattle.simplex_types.proofs.Maps.{entries-retain_keys}
+use Rattle.simplex_voter.proofs.RoundsKept.{keys-kept}
+use Rattle.simplex_voter.proofs.Containers.{keys-insert}
 use Rattle.simplex_types.specs.Tracked.{at_or_above, below}
-use Rattle.std.specs.Prelude.{map as map_list}
 use Rattle.simplex_voter.specs.Windows.{min_active}
 
 -- a view that is not at or below another is above it

@@ -1,7 +1,7 @@
-use Rattle.std.proofs.Common.{◌∙◌, ap, sym, subst, refl}
+use Rattle.std.proofs.Common.{◌∙◌, refl}
 use Rattle.simplex_round.specs.Round.{after_nullify}
 use Rattle.simplex_voter.proofs.Alike.{decided_alike}
-use Rattle.simplex_voter.proofs.Changed.{never_none, lent_tracked, kept_changed, changed_tracked}
+use Rattle.simplex_voter.proofs.Changed.{never_none, kept_changed, changed_tracked}
 use Rattle.simplex_voter.proofs.voter.rounds.Rounds.decide_nullify.Goals as goal
 
 pub unreachable-requires : goal.unreachable-requires

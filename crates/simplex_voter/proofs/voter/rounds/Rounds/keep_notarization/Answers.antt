@@ -1,8 +1,8 @@
-use Rattle.std.proofs.Common.{◌∙◌, ap, sym, subst, refl}
+use Rattle.std.proofs.Common.{◌∙◌, refl}
 use Rattle.simplex_types.specs.Proposal.{same_proposal}
 use Rattle.simplex_types.specs.Certificates.{notarization_facts}
 use Rattle.simplex_round.specs.Round.{with_notarization}
-use Rattle.simplex_voter.proofs.Changed.{never_none, lent_tracked, kept_at, kept_notarized, kept_led, changed_tracked}
+use Rattle.simplex_voter.proofs.Changed.{never_none, lent_tracked, kept_notarized, changed_tracked}
 use Rattle.simplex_voter.proofs.voter.rounds.Rounds.keep_notarization.Goals as goal
 
 pub unreachable-requires : goal.unreachable-requires

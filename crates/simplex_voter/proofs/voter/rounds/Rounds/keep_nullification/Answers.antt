@@ -1,8 +1,8 @@
-use Rattle.std.proofs.Common.{◌∙◌, ap, sym, subst, refl}
+use Rattle.std.proofs.Common.{◌∙◌, refl}
 use Rattle.simplex_types.specs.Certificates.{nullification_facts}
 use Rattle.simplex_round.specs.Round.{with_nullification}
 use Rattle.simplex_voter.proofs.Alike.{nullified_alike}
-use Rattle.simplex_voter.proofs.Changed.{never_none, lent_tracked, kept_changed, changed_tracked}
+use Rattle.simplex_voter.proofs.Changed.{never_none, kept_changed, changed_tracked}
 use Rattle.simplex_voter.proofs.voter.rounds.Rounds.keep_nullification.Goals as goal
 
 pub unreachable-requires : goal.unreachable-requires

@@ -1,4 +1,4 @@
-use Rattle.std.proofs.Common.{◌∙◌, ap, sym, subst, refl}
+use Rattle.std.proofs.Common.{◌∙◌, refl}
 use Rattle.simplex_voter.specs.Verifying.{with_proposal}
 use Rattle.simplex_voter.proofs.Alike.{proposed_alike}
 use Rattle.simplex_voter.proofs.Changed.{never_none, lent_tracked, kept_changed, changed_tracked}

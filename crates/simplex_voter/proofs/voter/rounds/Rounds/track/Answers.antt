@@ -1,7 +1,4 @@
-use Rattle.std.proofs.Common.{◌≡◌, refl, ap, sym, subst, ◌∙◌}
-use Rattle.std.specs.FinMap as map
-use Rattle.simplex_round.specs.Round.{new_round}
-use Rattle.simplex_voter.specs.Rounds.{with_round, round_of, AreKept}
+use Rattle.std.proofs.Common.{refl, ◌∙◌}
 use Rattle.simplex_voter.proofs.RoundsKept.{looked_up, inserted_new}
 use Rattle.simplex_voter.proofs.Changed.{stays, goes_in, kept_in}
 use Rattle.simplex_voter.proofs.voter.rounds.Rounds.track.Goals as goal
