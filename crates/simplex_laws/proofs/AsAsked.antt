@@ -5,7 +5,7 @@ use Rattle.simplex_types.specs.Certificates.{CertificateFacts, Notarized, Nullif
 use Rattle.simplex_types.specs.declared.types.messages.Subject.{Subject}
 use Rattle.simplex_voter.specs.Facts.{Facts, Elect}
 use Rattle.simplex_voter.specs.Serving.{broadcast_notarization_answer, broadcast_nullification_answer, broadcast_finalization_answer}
-use Rattle.simplex_member.specs.Calls.{CallFacts, AddNotarization, AddNullification, AddFinalization, Certified, ConstructNullify, ConstructFinalize, BroadcastNotarization, BroadcastNullification, BroadcastFinalization, GetBestCertificate, Prune, Told, Handed, answer}
+use Rattle.simplex_member.specs.Calls.{CallFacts, BroadcastNotarization, BroadcastNullification, BroadcastFinalization, GetBestCertificate, Told, Handed, answer}
 use Rattle.simplex_member.specs.Entries.{certificate_round}
 use Rattle.simplex_laws.specs.LifeLaws.{Kind, Notarization, Nullification, Finalization, kind_of, IsAsAsked}
 use Rattle.simplex_laws.proofs.Sound.{IsPlaced}
@@ -62,14 +62,8 @@ nothing_asked K told Finalization v c asks tells = absurd (cc)
 
 module _ {K L D : Type 0} (same : D → D → Bool) (elect : Elect L) where
   pub call_as_asked : (x : Facts K L D) (call : CallFacts D) → IsPlaced x → IsAsAsked call (answer same elect x call)
-  call_as_asked x (AddNotarization c) placed = λ kind v d asks tells. absurd (cc)
-  call_as_asked x (AddNullification c now) placed = λ kind v d asks tells. absurd (cc)
-  call_as_asked x (AddFinalization c now) placed = λ kind v d asks tells. absurd (cc)
-  call_as_asked x (Certified v success now) placed = λ kind w d asks tells. absurd (cc)
-  call_as_asked x (ConstructNullify v) placed = λ kind w d asks tells. absurd (cc)
-  call_as_asked x (ConstructFinalize v) placed = λ kind w d asks tells. absurd (cc)
   call_as_asked x (BroadcastNotarization v) placed = notarization_right x placed v
   call_as_asked x (BroadcastNullification v) placed = nullification_right x placed v
   call_as_asked x (BroadcastFinalization v) placed = finalization_right x placed v
   call_as_asked x GetBestCertificate placed = nothing_asked K _
-  call_as_asked x Prune placed = λ kind v d asks tells. absurd (cc)
+  call_as_asked x _ placed = λ kind v d asks tells. absurd (cc)

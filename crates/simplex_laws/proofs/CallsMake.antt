@@ -35,11 +35,11 @@ module _ {K L D : Type 0} (same : D → D → Bool) (elect : Elect L) (x : Facts
 
   abbrev pub IsOneTaken : List (Event K D) → Type 0
   IsOneTaken [] = Unit {0}
-  IsOneTaken (e ∷ _) = IsEvent x e × (is_floor e ≡ false)
+  IsOneTaken (e ∷ rest) = IsEvent x e × (is_floor e ≡ false) × (rest ≡ [])
 
-  by_one : (P : List (Event K D) → Facts K L D → Type 0) → P [] x → ((e : Event K D) (rest : List (Event K D)) → IsEvent x e → is_floor e ≡ false → P (e ∷ rest) (after_event same elect x e)) → (es : List (Event K D)) → IsOneTaken es → P es (after_one es)
+  by_one : (P : List (Event K D) → Facts K L D → Type 0) → P [] x → ((e : Event K D) → IsEvent x e → is_floor e ≡ false → P (e ∷ []) (after_event same elect x e)) → (es : List (Event K D)) → IsOneTaken es → P es (after_one es)
   by_one P still each [] taken = still
-  by_one P still each (e ∷ rest) taken = each e rest taken.0 taken.1
+  by_one P still each (e ∷ rest) taken = subst (λ es. P (e ∷ es) (after_event same elect x e)) (sym taken.2) (each e taken.0 taken.1)
 
   by_any : (P : Facts K L D → Type 0) → P x → ((e : Event K D) → P (after_event same elect x e)) → (es : List (Event K D)) → P (after_one es)
   by_any P still each [] = still
@@ -52,15 +52,15 @@ module _ {K L D : Type 0} (same : D → D → Bool) (elect : Elect L) (x : Facts
   call_is _ = refl
 
   call_taken : (call : CallFacts D) → is_allowed x call ≡ true → IsOneTaken (events_of call)
-  call_taken (calls.AddNotarization c) is = (is, refl)
-  call_taken (calls.AddNullification c now) is = (is, refl)
-  call_taken (calls.AddFinalization c now) is = (is, refl)
-  call_taken (calls.Certified v success now) is = (is, refl)
+  call_taken (calls.AddNotarization c) is = (is, refl, refl)
+  call_taken (calls.AddNullification c now) is = (is, refl, refl)
+  call_taken (calls.AddFinalization c now) is = (is, refl, refl)
+  call_taken (calls.Certified v success now) is = (is, refl, refl)
   call_taken calls.GetBestCertificate is = tt
-  call_taken _ is = (tt, refl)
+  call_taken _ is = (tt, refl, refl)
 
   -- what holds of no change and of each event that is taken holds of a call that is allowed
-  pub call_by_event : (P : List (Event K D) → Facts K L D → Type 0) → P [] x → ((e : Event K D) (rest : List (Event K D)) → IsEvent x e → is_floor e ≡ false → P (e ∷ rest) (after_event same elect x e)) → (call : CallFacts D) → is_allowed x call ≡ true → P (events_of call) (after_call same elect x call)
+  pub call_by_event : (P : List (Event K D) → Facts K L D → Type 0) → P [] x → ((e : Event K D) → IsEvent x e → is_floor e ≡ false → P (e ∷ []) (after_event same elect x e)) → (call : CallFacts D) → is_allowed x call ≡ true → P (events_of call) (after_call same elect x call)
   call_by_event P still each call allowed = subst (P (events_of call)) (sym (call_is call)) (by_one P still each (events_of call) (call_taken call allowed))
 
   -- and what holds of each event in any case, of each call
@@ -80,17 +80,17 @@ module _ {K L D : Type 0} (same : D → D → Bool) (elect : Elect L) (x : Facts
 
   in_context_taken : (event : Context D K → Event K D) → ((c : Context D K) → IsEvent x (event c) × (is_floor (event c) ≡ false)) → (context : Option (Context D K)) → IsOneTaken (in_context event context)
   in_context_taken event taken None = tt
-  in_context_taken event taken (Some c) = taken c
+  in_context_taken event taken (Some c) = ((taken c).0, (taken c).1, refl)
 
   work_taken : (o : Openings K D) (call : WorkCall D) → work_allowed x o call ≡ true → IsOneTaken (work_events o call)
-  work_taken o (work.SetProposal v p) is = (is, refl)
+  work_taken o (work.SetProposal v p) is = (is, refl, refl)
   work_taken o (work.Proposed v payload now) is = in_context_taken (λ c. Proposed c payload now) (λ c. (tt, refl)) (context_at o v)
   work_taken o (work.SupersedeProposalRequest v) is = in_context_taken Supersede (λ c. (tt, refl)) (context_at o v)
   work_taken o (work.PendingHandoffAbandonment v) is = tt
-  work_taken o (work.SetCertifyHandle v token) is = ((and_parts (is_offered o v) (takes_certify_handle x v) is).1, refl)
-  work_taken o _ is = (tt, refl)
+  work_taken o (work.SetCertifyHandle v token) is = ((and_parts (is_offered o v) (takes_certify_handle x v) is).1, refl, refl)
+  work_taken o _ is = (tt, refl, refl)
 
-  pub work_by_event : (o : Openings K D) (P : List (Event K D) → Facts K L D → Type 0) → P [] x → ((e : Event K D) (rest : List (Event K D)) → IsEvent x e → is_floor e ≡ false → P (e ∷ rest) (after_event same elect x e)) → (call : WorkCall D) → work_allowed x o call ≡ true → P (work_events o call) (after_work same elect x o call)
+  pub work_by_event : (o : Openings K D) (P : List (Event K D) → Facts K L D → Type 0) → P [] x → ((e : Event K D) → IsEvent x e → is_floor e ≡ false → P (e ∷ []) (after_event same elect x e)) → (call : WorkCall D) → work_allowed x o call ≡ true → P (work_events o call) (after_work same elect x o call)
   work_by_event o P still each call allowed = subst (P (work_events o call)) (sym (work_is o call)) (by_one P still each (work_events o call) (work_taken o call allowed))
 
   pub work_by_any : (o : Openings K D) (P : Facts K L D → Type 0) → P x → ((e : Event K D) → P (after_event same elect x e)) → (call : WorkCall D) → P (after_work same elect x o call)

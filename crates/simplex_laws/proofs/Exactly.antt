@@ -15,13 +15,13 @@ use Rattle.simplex_round.specs.Round.{is_nullify}
 use Rattle.simplex_voter.specs.Rules.{may_notarize, may_nullify, may_finalize, NotarizeRule, NullifyRule, FinalizeRule}
 use Rattle.simplex_voter.proofs.Rules.{nullify_parts, nullify_whole, finalize_parts, finalize_whole, notarize_parts, notarize_whole}
 use Rattle.simplex_member.specs.declared.member.error.RecoverError.{RecoverError}
-use Rattle.simplex_member.specs.Calls.{CallFacts, AddNotarization, AddNullification, AddFinalization, Certified, ConstructNullify, ConstructFinalize, BroadcastNotarization, BroadcastNullification, BroadcastFinalization, GetBestCertificate, Prune, Told, Nullify, Finalize, Notarize, Refused, NotAllowed, is_allowed, fault_of, answer}
+use Rattle.simplex_member.specs.Calls.{CallFacts, ConstructNullify, ConstructFinalize, Told, Nullify, Finalize, Notarize, Refused, NotAllowed, is_allowed, fault_of, answer}
 use Rattle.simplex_member.specs.Lives.{MemberFacts, IsCall, AnswersAlive, reply_of, unless_refused}
 use Rattle.simplex_member.specs.Openings.{Openings}
 use Rattle.simplex_member.specs.Runs.{StepFacts, Calls, Works, Restarts, restart_told, IsStep, IsRun, IsRunFrom}
 use Rattle.simplex_member.specs.Restarts.{RestartFacts}
 use Rattle.simplex_member.specs.Start.{started}
-use Rattle.simplex_member.specs.Work.{WorkCall, SetProposal, TryPropose, Proposed, SupersedeProposalRequest, PendingHandoffAbandonment, ReleaseProposalRequest, TryVerify, Verified, VerificationFailed, ConstructNotarize, CertifyCandidates, SetCertifyHandle, TriggerTimeout, NextTimeout, work_allowed, work_fault, work_answer, work_reply, IsWorkOf, IsWork}
+use Rattle.simplex_member.specs.Work.{WorkCall, ConstructNotarize, work_allowed, work_fault, work_answer, work_reply, IsWorkOf, IsWork}
 use Rattle.simplex_laws.specs.Exactly.{is_refused, IsSignedFor, IsExact, held, ExactAt, SignsExactly}
 use Rattle.simplex_laws.specs.Deeds.{Deed, Signs, signed_in}
 use Rattle.simplex_laws.specs.Stories.{Story}
@@ -98,15 +98,7 @@ module _ {K L D : Type 0} (same : D → D → Bool) (elect : Elect L) where
   call_refused : (x : Facts K L D) (call : CallFacts D) (f : Fault) → ExactAt same elect (Some x) (Calls call) (Refused f)
   call_refused x (ConstructNullify v) f = refused (NullifyRule x v) x.me (Some (subject.Nullify (round_number x v))) f
   call_refused x (ConstructFinalize v) f = refused (FinalizeRule elect x v) x.me (option_map subject.Finalize (held x v)) f
-  call_refused x (AddNotarization c) f = refl
-  call_refused x (AddNullification c now) f = refl
-  call_refused x (AddFinalization c now) f = refl
-  call_refused x (Certified v success now) f = refl
-  call_refused x (BroadcastNotarization v) f = refl
-  call_refused x (BroadcastNullification v) f = refl
-  call_refused x (BroadcastFinalization v) f = refl
-  call_refused x GetBestCertificate f = refl
-  call_refused x Prune f = refl
+  call_refused x _ f = refl
 
   call_told : (x : Facts K L D) (call : CallFacts D) → ExactAt same elect (Some x) (Calls call) (reply_of same elect x call)
   call_told x (ConstructNullify v) = by_fault (plain_refusal x)
@@ -119,15 +111,7 @@ module _ {K L D : Type 0} (same : D → D → Bool) (elect : Elect L) where
       by_fault : (f : Option Fault) → IsExact (FinalizeRule elect x v) x.me (option_map subject.Finalize (held x v)) (unless_refused f (answer same elect x (ConstructFinalize v)))
       by_fault (Some f) = call_refused x (ConstructFinalize v) f
       by_fault None = exact_finalize (FinalizeRule elect x v) (may_finalize elect x v) (finalize_whole elect x v) (finalize_parts elect x v) (may_finalize elect x v) refl x.me (held x v)
-  call_told x (AddNotarization c) = still_none (is_allowed x (AddNotarization c)) (fault_of x (AddNotarization c)) (answer same elect x (AddNotarization c)) refl
-  call_told x (AddNullification c now) = still_none (is_allowed x (AddNullification c now)) (fault_of x (AddNullification c now)) (answer same elect x (AddNullification c now)) refl
-  call_told x (AddFinalization c now) = still_none (is_allowed x (AddFinalization c now)) (fault_of x (AddFinalization c now)) (answer same elect x (AddFinalization c now)) refl
-  call_told x (Certified v success now) = still_none (is_allowed x (Certified v success now)) (fault_of x (Certified v success now)) (answer same elect x (Certified v success now)) refl
-  call_told x (BroadcastNotarization v) = still_none true (plain_refusal x) (answer same elect x (BroadcastNotarization v)) refl
-  call_told x (BroadcastNullification v) = still_none true (plain_refusal x) (answer same elect x (BroadcastNullification v)) refl
-  call_told x (BroadcastFinalization v) = still_none true (plain_refusal x) (answer same elect x (BroadcastFinalization v)) refl
-  call_told x GetBestCertificate = still_none true (plain_refusal x) (answer same elect x GetBestCertificate) refl
-  call_told x Prune = still_none true (plain_refusal x) (answer same elect x Prune) refl
+  call_told x call = still_none (is_allowed x call) (fault_of x call) (answer same elect x call) refl
 
   pub call_exact : (m next : MemberFacts K L D) (call : CallFacts D) (told : Told K D) → IsCall same elect m call told next → ExactAt same elect m.life (Calls call) told
   unfolding IsCall
@@ -140,19 +124,7 @@ module _ {K L D : Type 0} (same : D → D → Bool) (elect : Elect L) where
 
   work_refused : (x : Facts K L D) (call : WorkCall D) (f : Fault) → ExactAt same elect (Some x) (Works call) (Refused f)
   work_refused x (ConstructNotarize v) f = refused (NotarizeRule same elect x v) x.me (option_map subject.Notarize (held x v)) f
-  work_refused x (SetProposal v p) f = refl
-  work_refused x TryPropose f = refl
-  work_refused x (Proposed v payload now) f = refl
-  work_refused x (SupersedeProposalRequest v) f = refl
-  work_refused x (PendingHandoffAbandonment v) f = refl
-  work_refused x (ReleaseProposalRequest v) f = refl
-  work_refused x TryVerify f = refl
-  work_refused x (Verified v) f = refl
-  work_refused x (VerificationFailed v reason now) f = refl
-  work_refused x CertifyCandidates f = refl
-  work_refused x (SetCertifyHandle v token) f = refl
-  work_refused x (TriggerTimeout v reason now) f = refl
-  work_refused x (NextTimeout now) f = refl
+  work_refused x _ f = refl
 
   silent : (x : Facts K L D) (o : Openings K D) (call : WorkCall D) → signed_in (work_answer same elect x o call) ≡ [] → signed_in (work_reply same elect x o call) ≡ []
   silent x o call none = still_none (work_allowed x o call) (work_fault x call) (work_answer same elect x o call) none
@@ -163,19 +135,7 @@ module _ {K L D : Type 0} (same : D → D → Bool) (elect : Elect L) where
       by_fault : (f : Option Fault) → IsExact (NotarizeRule same elect x v) x.me (option_map subject.Notarize (held x v)) (unless_refused f (work_answer same elect x o (ConstructNotarize v)))
       by_fault (Some f) = work_refused x (ConstructNotarize v) f
       by_fault None = exact_notarize (NotarizeRule same elect x v) (may_notarize same elect x v) (notarize_whole same elect x v) (notarize_parts same elect x v) (may_notarize same elect x v) refl x.me (held x v)
-  work_told x o (SetProposal v p) = silent x o (SetProposal v p) refl
-  work_told x o TryPropose = silent x o TryPropose refl
-  work_told x o (Proposed v payload now) = silent x o (Proposed v payload now) refl
-  work_told x o (SupersedeProposalRequest v) = silent x o (SupersedeProposalRequest v) refl
-  work_told x o (PendingHandoffAbandonment v) = silent x o (PendingHandoffAbandonment v) refl
-  work_told x o (ReleaseProposalRequest v) = silent x o (ReleaseProposalRequest v) refl
-  work_told x o TryVerify = silent x o TryVerify refl
-  work_told x o (Verified v) = silent x o (Verified v) refl
-  work_told x o (VerificationFailed v reason now) = silent x o (VerificationFailed v reason now) refl
-  work_told x o CertifyCandidates = silent x o CertifyCandidates refl
-  work_told x o (SetCertifyHandle v token) = silent x o (SetCertifyHandle v token) refl
-  work_told x o (TriggerTimeout v reason now) = silent x o (TriggerTimeout v reason now) refl
-  work_told x o (NextTimeout now) = silent x o (NextTimeout now) refl
+  work_told x o call = silent x o call refl
 
   pub work_exact : (m next : MemberFacts K L D) (call : WorkCall D) (told : Told K D) → IsWork same elect m call told next → ExactAt same elect m.life (Works call) told
   unfolding IsWork

@@ -10,7 +10,7 @@ use Rattle.simplex_round.specs.Round.{RoundFacts, new_round}
 use Rattle.simplex_voter.specs.Facts.{Facts, Elect, round_at, round_of, round_number, is_tracked, with_round}
 use Rattle.simplex_voter.specs.Windows.{min_active}
 use Rattle.simplex_voter.specs.Serving.{once, broadcast_notarization_answer, after_broadcast_notarization, broadcast_nullification_answer, after_broadcast_nullification, broadcast_finalization_answer, after_broadcast_finalization, best_certificate}
-use Rattle.simplex_member.specs.Calls.{CallFacts, AddNotarization, AddNullification, AddFinalization, Certified, ConstructNullify, ConstructFinalize, BroadcastNotarization, BroadcastNullification, BroadcastFinalization, GetBestCertificate, Prune, Told, Handed, Refused, NotAllowed, is_allowed, answer, after_call}
+use Rattle.simplex_member.specs.Calls.{CallFacts, BroadcastNotarization, BroadcastNullification, BroadcastFinalization, GetBestCertificate, Told, Handed, Refused, NotAllowed, is_allowed, answer, after_call}
 use Rattle.simplex_laws.specs.LifeLaws.{LifeCall, Calling, Working, as_step, IsLife, Kind, Notarization, Nullification, Finalization, asked_by, handed_by, handed_in, HandedOnce}
 use Rattle.simplex_member.specs.Lives.{MemberFacts}
 use Rattle.simplex_member.specs.Openings.{Openings}
@@ -168,23 +168,17 @@ module _ {K L D : Type 0} (same : D → D → Bool) (elect : Elect L) where
       ]
 
   call_spends : (x : Facts K L D) → InOrder x → (call : CallFacts D) → is_allowed x call ≡ true → (kind : Kind) (v : ℕ) → IsSpent kind v x → IsSpent kind v (after_call same elect x call)
-  call_spends x ordered call allowed = call_by_event same elect x (λ es y. (kind : Kind) (v : ℕ) → IsSpent kind v x → IsSpent kind v y) (λ kind v spent. spent) (λ e rest. event_spends x ordered e) call allowed
+  call_spends x ordered call allowed = call_by_event same elect x (λ es y. (kind : Kind) (v : ℕ) → IsSpent kind v x → IsSpent kind v y) (λ kind v spent. spent) (λ e. event_spends x ordered e) call allowed
 
   call_hands : (x : Facts K L D) (call : CallFacts D) (kind : Kind) → Hands kind (handed_by kind (Calling call) (answer same elect x call)) x (after_call same elect x call)
-  call_hands x (AddNotarization c) kind = inl refl
-  call_hands x (AddNullification c now) kind = inl refl
-  call_hands x (AddFinalization c now) kind = inl refl
-  call_hands x (Certified v success now) kind = inl refl
-  call_hands x (ConstructNullify v) kind = inl refl
-  call_hands x (ConstructFinalize v) kind = inl refl
   call_hands x (BroadcastNotarization v) kind = hands_notarization x v kind
   call_hands x (BroadcastNullification v) kind = hands_nullification x v kind
   call_hands x (BroadcastFinalization v) kind = hands_finalization x v kind
   call_hands x GetBestCertificate kind = inl (best_unasked K kind (best_certificate x))
-  call_hands x Prune kind = inl refl
+  call_hands x _ kind = inl refl
 
   work_spends : (x : Facts K L D) → InOrder x → (o : Openings K D) (call : WorkCall D) → work_allowed x o call ≡ true → (kind : Kind) (v : ℕ) → IsSpent kind v x → IsSpent kind v (after_work same elect x o call)
-  work_spends x ordered o call allowed = work_by_event same elect x o (λ es y. (kind : Kind) (v : ℕ) → IsSpent kind v x → IsSpent kind v y) (λ kind v spent. spent) (λ e rest. event_spends x ordered e) call allowed
+  work_spends x ordered o call allowed = work_by_event same elect x o (λ es y. (kind : Kind) (v : ℕ) → IsSpent kind v x → IsSpent kind v y) (λ kind v spent. spent) (λ e. event_spends x ordered e) call allowed
 
   outcome : (m : MemberFacts K L D) (call : LifeCall D) (told : Told K D) (left : MemberFacts K L D) → IsStep same elect m (as_step call) told left → ((fault : Fault) × (told ≡ Refused fault) × (left.life ≡ None)) ⊎ ((x y : Facts K L D) × (m.life ≡ Some x) × (left.life ≡ Some y) × InOrderly (HandsOut call told) x y)
   outcome =

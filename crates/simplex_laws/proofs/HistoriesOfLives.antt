@@ -9,20 +9,15 @@ use Rattle.simplex_voter.specs.Facts.{Facts, Elect}
 use Rattle.simplex_voter.specs.Windows.{min_active}
 use Rattle.simplex_voter.specs.Acceptance.{after_set_floor, after_add_notarization, after_add_nullification, after_add_finalization}
 use Rattle.simplex_member.specs.declared.member.error.RecoverError.{RecoverError}
-use Rattle.std.specs.Option.{option_map_or}
-use Rattle.simplex_types.specs.declared.types.messages.Context.{Context}
-use Rattle.simplex_voter.specs.Proposing.{after_proposed, after_supersede}
-use Rattle.simplex_voter.specs.Certification.{takes_certify_handle}
-use Rattle.simplex_voter.proofs.Gaps.{and_parts}
-use Rattle.simplex_member.specs.Openings.{Openings, context_at, is_offered}
+use Rattle.simplex_member.specs.Openings.{Openings}
 use Rattle.simplex_member.specs.Work as work
 use Rattle.simplex_member.specs.Work.{WorkCall, work_allowed, work_fault, work_answer, after_work, work_reply, left_of_work, IsWorkOf, IsWork}
 use Rattle.simplex_member.specs.Calls as calls
 use Rattle.simplex_member.specs.Calls.{CallFacts, Told, Restarted, NotRestarted, is_allowed, fault_of, answer, after_call}
 use Rattle.simplex_member.specs.Check.{first_error, floor_rules, first_broken_after, first_broken_rule}
 use Rattle.simplex_member.specs.Entries.{entry_view, entries_of}
-use Rattle.simplex_laws.specs.Events.{Event, History, with_event, ConstructNotarize, SetProposal, TryPropose, Proposed, Supersede, Release, TryVerify, Verified, VerificationFailed, CertifyCandidates, SetCertifyHandle, TriggerTimeout, NextTimeout, SetFloor, AddNotarization, AddNullification, AddFinalization, Certified, ConstructNullify, ConstructFinalize, BroadcastNotarization, BroadcastNullification, BroadcastFinalization, Prune, Replay, events_of}
-use Rattle.simplex_laws.specs.Histories.{in_context, work_events, with_work, retaken_events, with_events, with_call, with_entry, with_entries, recovery, IsShown, LeadsTo}
+use Rattle.simplex_laws.specs.Events.{History, with_event, SetFloor, AddNotarization, AddNullification, AddFinalization, Certified, Replay, events_of}
+use Rattle.simplex_laws.specs.Histories.{work_events, with_work, retaken_events, with_events, with_call, with_entry, with_entries, recovery, IsShown, LeadsTo}
 use Rattle.simplex_member.specs.Lives.{MemberFacts, fallen, reply_of, left_of, AnswersAlive, IsCall}
 use Rattle.simplex_member.specs.Recovery.{as_artifact, replayed, retaken, taken, all_taken, recovered, recover_error, TakesEntry, TakesEntries}
 use Rattle.simplex_member.specs.Restarts.{RestartFacts, IsByView, IsRestart, IsRestartWhere, GoesOn, new_life, cut, retention_grows}
@@ -33,6 +28,7 @@ use Rattle.simplex_laws.specs.Sums.{finalized_in}
 use Rattle.simplex_member.proofs.Allowing.{new_bears}
 use Rattle.simplex_member.proofs.Bearing.{BearsAll}
 use Rattle.simplex_laws.specs.Fresh.{IsFresh, BeginFresh}
+use Rattle.simplex_laws.proofs.CallsMake.{call_by_event, work_by_event}
 use Rattle.simplex_laws.proofs.Histories.{event_shown}
 use Rattle.simplex_laws.proofs.NewLives.{first_none}
 use Rattle.simplex_member.proofs.Remaking.{set_takes}
@@ -82,70 +78,21 @@ module _ {K L D : Type 0} (same : D → D → Bool) (elect : Elect L) where
 
   -- what is answered is not refused
   told_events : (history : History K L D) (x : Facts K L D) (call : CallFacts D) → with_call history call (answer same elect x call) ≡ with_events history (events_of call)
-  told_events history x (calls.AddNotarization c) = refl
-  told_events history x (calls.AddNullification c now) = refl
-  told_events history x (calls.AddFinalization c now) = refl
-  told_events history x (calls.Certified v success now) = refl
-  told_events history x (calls.ConstructNullify v) = refl
-  told_events history x (calls.ConstructFinalize v) = refl
-  told_events history x (calls.BroadcastNotarization v) = refl
-  told_events history x (calls.BroadcastNullification v) = refl
-  told_events history x (calls.BroadcastFinalization v) = refl
   told_events history x calls.GetBestCertificate = refl
-  told_events history x calls.Prune = refl
+  told_events history x _ = refl
 
   told_work : (history : History K L D) (x : Facts K L D) (o : Openings K D) (call : WorkCall D) → with_work history o call (work_answer same elect x o call) ≡ with_events history (work_events o call)
-  told_work history x o (work.SetProposal v p) = refl
   told_work history x o work.TryPropose = refl
-  told_work history x o (work.Proposed v payload now) = refl
-  told_work history x o (work.SupersedeProposalRequest v) = refl
-  told_work history x o (work.PendingHandoffAbandonment v) = refl
-  told_work history x o (work.ReleaseProposalRequest v) = refl
-  told_work history x o work.TryVerify = refl
-  told_work history x o (work.Verified v) = refl
-  told_work history x o (work.VerificationFailed v reason now) = refl
-  told_work history x o (work.ConstructNotarize v) = refl
-  told_work history x o work.CertifyCandidates = refl
-  told_work history x o (work.SetCertifyHandle v token) = refl
-  told_work history x o (work.TriggerTimeout v reason now) = refl
-  told_work history x o (work.NextTimeout now) = refl
+  told_work history x o _ = refl
 
 module _ {K L D : Type 0} (same : D → D → Bool) (decides : (d e : D) → same d e ≡ true → d ≡ e) (elect : Elect L) (history : History K L D) (x : Facts K L D) (shows : Shows same elect history x) where
   -- a call makes of the facts what its events make of them
   call_shown : (call : CallFacts D) → is_allowed x call ≡ true → Shows same elect (with_events history (events_of call)) (after_call same elect x call)
-  call_shown (calls.AddNotarization c) allowed = event_shown same elect history x shows decides (AddNotarization c) allowed
-  call_shown (calls.AddNullification c now) allowed = event_shown same elect history x shows decides (AddNullification c now) allowed
-  call_shown (calls.AddFinalization c now) allowed = event_shown same elect history x shows decides (AddFinalization c now) allowed
-  call_shown (calls.Certified v success now) allowed = event_shown same elect history x shows decides (Certified v success now) allowed
-  call_shown (calls.ConstructNullify v) allowed = event_shown same elect history x shows decides (ConstructNullify v) tt
-  call_shown (calls.ConstructFinalize v) allowed = event_shown same elect history x shows decides (ConstructFinalize v) tt
-  call_shown (calls.BroadcastNotarization v) allowed = event_shown same elect history x shows decides (BroadcastNotarization v) tt
-  call_shown (calls.BroadcastNullification v) allowed = event_shown same elect history x shows decides (BroadcastNullification v) tt
-  call_shown (calls.BroadcastFinalization v) allowed = event_shown same elect history x shows decides (BroadcastFinalization v) tt
-  call_shown calls.GetBestCertificate allowed = shows
-  call_shown calls.Prune allowed = event_shown same elect history x shows decides Prune tt
+  call_shown call allowed = call_by_event same elect x (λ es y. Shows same elect (with_events history es) y) shows (λ e takes floor. event_shown same elect history x shows decides e takes) call allowed
 
   -- so does one on the work of a view
-
-  in_context_shown : (event : Context D K → Event K D) (after : Context D K → Facts K L D) → ((c : Context D K) → Shows same elect (with_event history (event c)) (after c)) → (context : Option (Context D K)) → Shows same elect (with_events history (in_context event context)) (option_map_or after context x)
-  in_context_shown event after shown None = shows
-  in_context_shown event after shown (Some c) = shown c
-
   work_shown : (o : Openings K D) (call : WorkCall D) → work_allowed x o call ≡ true → Shows same elect (with_events history (work_events o call)) (after_work same elect x o call)
-  work_shown o (work.SetProposal v p) allowed = event_shown same elect history x shows decides (SetProposal v p) allowed
-  work_shown o work.TryPropose allowed = event_shown same elect history x shows decides TryPropose tt
-  work_shown o (work.Proposed v payload now) allowed = in_context_shown (λ c. Proposed c payload now) (λ c. after_proposed same elect x c payload now) (λ c. event_shown same elect history x shows decides (Proposed c payload now) tt) (context_at o v)
-  work_shown o (work.SupersedeProposalRequest v) allowed = in_context_shown Supersede (λ c. after_supersede same elect x c) (λ c. event_shown same elect history x shows decides (Supersede c) tt) (context_at o v)
-  work_shown o (work.PendingHandoffAbandonment v) allowed = shows
-  work_shown o (work.ReleaseProposalRequest v) allowed = event_shown same elect history x shows decides (Release v) tt
-  work_shown o work.TryVerify allowed = event_shown same elect history x shows decides TryVerify tt
-  work_shown o (work.Verified v) allowed = event_shown same elect history x shows decides (Verified v) tt
-  work_shown o (work.VerificationFailed v reason now) allowed = event_shown same elect history x shows decides (VerificationFailed v reason now) tt
-  work_shown o (work.ConstructNotarize v) allowed = event_shown same elect history x shows decides (ConstructNotarize v) tt
-  work_shown o work.CertifyCandidates allowed = event_shown same elect history x shows decides CertifyCandidates tt
-  work_shown o (work.SetCertifyHandle v token) allowed = event_shown same elect history x shows decides (SetCertifyHandle v token) (and_parts (is_offered o v) (takes_certify_handle x v) allowed).1
-  work_shown o (work.TriggerTimeout v reason now) allowed = event_shown same elect history x shows decides (TriggerTimeout v reason now) tt
-  work_shown o (work.NextTimeout now) allowed = event_shown same elect history x shows decides (NextTimeout now) tt
+  work_shown o call allowed = work_by_event same elect x o (λ es y. Shows same elect (with_events history es) y) shows (λ e takes floor. event_shown same elect history x shows decides e takes) call allowed
 
   -- an entry that is taken again
 

@@ -213,8 +213,8 @@ none_lasts : {K L D : Type 0} (x : Facts K L D) → AllLast x [] x
 none_lasts x v = inl (still (min_active x) v (round_of x v))
 
 module _ {K L D : Type 0} (same : D → D → Bool) (elect : Elect L) (x : Facts K L D) (ordered : InOrder x) where
-  taken_lasts : (e : Event K D) (rest : List (Event K D)) → IsEvent x e → is_floor e ≡ false → AllLast x (e ∷ rest) (after_event same elect x e)
-  taken_lasts e rest takes none v = elim (event_lasts same elect x e (min_active x) (brings_kept x e takes none) ordered v) [ inl lasts ↦ inl lasts | inr (prunes, gone) ↦ inr (rw prunes refl, gone) ]
+  taken_lasts : (e : Event K D) → IsEvent x e → is_floor e ≡ false → AllLast x (e ∷ []) (after_event same elect x e)
+  taken_lasts e takes none v = elim (event_lasts same elect x e (min_active x) (brings_kept x e takes none) ordered v) [ inl lasts ↦ inl lasts | inr (prunes, gone) ↦ inr (rw prunes refl, gone) ]
 
   pub call_lasts : (call : CallFacts D) → is_allowed x call ≡ true → (v : ℕ) → RoundLasts (min_active x) v (round_of x v) (round_of (after_call same elect x call) v) ⊎ Drops x (after_call same elect x call) (answer same elect x call) v
   call_lasts call allowed v = elim (call_by_event same elect x (AllLast x) (none_lasts x) taken_lasts call allowed v) [
@@ -231,5 +231,5 @@ module _ {K L D : Type 0} (same : D → D → Bool) (elect : Elect L) (x : Facts
   work_lasts o call allowed =
       work_by_event same elect x o (λ es y. AreSilent es → (v : ℕ) → RoundLasts (min_active x) v (round_of x v) (round_of y v))
       (λ silent v. still (min_active x) v (round_of x v))
-      (λ e rest takes none silent v. elim (event_lasts same elect x e (min_active x) (brings_kept x e takes none) ordered v) [ inl lasts ↦ lasts | inr (prunes, gone) ↦ absurd (true≢false (sym prunes ∙ silent.0.prune)) ])
+      (λ e takes none silent v. elim (event_lasts same elect x e (min_active x) (brings_kept x e takes none) ordered v) [ inl lasts ↦ lasts | inr (prunes, gone) ↦ absurd (true≢false (sym prunes ∙ silent.0.prune)) ])
       call allowed (work_silent o call)

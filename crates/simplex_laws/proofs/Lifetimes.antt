@@ -4,7 +4,7 @@ use Rattle.std.specs.Option.{option_map_or}
 use Rattle.std.proofs.lemmas.Bool.{cases_Bool, cases_lt, false≢true, le-leb, ltb-true}
 use Rattle.std.proofs.lemmas.List.{append-nil, length-append}
 use Rattle.std.proofs.lemmas.List.Elements.{Contains-push_cases}
-use Rattle.simplex_types.specs.Certificates.{ProposalFacts, Notarized, Nullified, Finalized, ArtifactFacts, NotarizeVote, NullifyVote, FinalizeVote, Verdict, Accepted}
+use Rattle.simplex_types.specs.Certificates.{ProposalFacts, Finalized, ArtifactFacts, Accepted}
 use Rattle.simplex_voter.proofs.Gaps.{and_parts, not_true}
 use Rattle.simplex_member.specs.Cuts.{is_vote, may_drop, without_last, finalized_by, finalized_in, pruned}
 use Rattle.simplex_member.specs.Entries.{entry_view}
@@ -82,13 +82,9 @@ module _ {D : Type 0} where
   -- the highest finalized view
 
   by_kind : (e : ArtifactFacts D) → (finalized_by e ≡ 0) ⊎ ((c : ProposalFacts D) × (e ≡ Accepted (Finalized c)) × (c.proposal.round.view ≡ finalized_by e))
-  by_kind (NotarizeVote _ _) = inl refl
-  by_kind (NullifyVote _ _) = inl refl
-  by_kind (FinalizeVote _ _) = inl refl
-  by_kind (Verdict _ _) = inl refl
-  by_kind (Accepted (Notarized _)) = inl refl
-  by_kind (Accepted (Nullified _)) = inl refl
   by_kind (Accepted (Finalized c)) = inr (c, refl, refl)
+  by_kind (Accepted _) = inl refl
+  by_kind _ = inl refl
 
   is_highest : (entries : List (ArtifactFacts D)) (c : ProposalFacts D) → Contains entries (Accepted (Finalized c)) → c.proposal.round.view ≤ finalized_in entries
   is_highest [] c h = absurd (omega (arith, h.1))

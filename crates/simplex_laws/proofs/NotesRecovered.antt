@@ -1,10 +1,9 @@
 -- A state that is made again from a record shows its votes to notarize, and nothing else is open.
-use Rattle.std.proofs.Common.{◌≡◌, refl, ap, sym, ◌∙◌, subst, ℕ, ◌+◌, ◌≤◌, ◌<◌, ◌⊎◌, inl, inr, Bool, true, false, not, if◌then◌else◌, nat_lt, List, [], ◌∷◌, Contains, Ordering, Less, Equal, Greater, Option, Some, None, is_some, arith}
+use Rattle.std.proofs.Common.{◌≡◌, refl, ap, sym, ◌∙◌, subst, ℕ, ◌+◌, ◌≤◌, ◌<◌, ◌⊎◌, inl, inr, Bool, true, false, not, if◌then◌else◌, nat_lt, List, [], ◌∷◌, Contains, Ordering, Less, Equal, Greater, Option, Some, None, arith}
 use Rattle.std.specs.Prelude.{option_and_then}
 use Rattle.std.specs.Ordering.{nat_cmp, match_ordering}
 use Rattle.std.specs.BTreeSet.{insert_key}
 use Rattle.std.proofs.lemmas.Bool.{cases_eq, false≢true, ltb-true}
-use Rattle.std.proofs.lemmas.Bool.Decides.{nat_tests}
 use Rattle.simplex_types.specs.Terms.{next_term_start}
 use Rattle.simplex_types.specs.Proposal.{same_proposal}
 use Rattle.simplex_types.specs.Certificates.{ProposalFacts, NullificationFacts, Notarized, Nullified, Finalized, ArtifactFacts, NotarizeVote, NullifyVote, FinalizeVote, Verdict, Accepted}
@@ -19,19 +18,19 @@ use Rattle.simplex_round.specs.Round.{RoundFacts, certified_round}
 use Rattle.simplex_voter.specs.Facts.{Settings, Facts, Elect, new_facts, round_of, with_round}
 use Rattle.simplex_voter.specs.Windows.{min_active}
 use Rattle.simplex_voter.specs.Entering.{at_moment, entered}
-use Rattle.simplex_voter.specs.Leaders.{elected, slid, prepared}
-use Rattle.simplex_voter.specs.Certification.{raised, woken}
+use Rattle.simplex_voter.specs.Leaders.{elected, prepared}
 use Rattle.simplex_voter.specs.Replay.{bound_again, restored_binding}
-use Rattle.simplex_voter.specs.Acceptance.{nullified_also, with_nullification_at, with_finalization_at, after_add_notarization, after_add_finalization, after_set_floor}
+use Rattle.simplex_voter.specs.Acceptance.{nullified_also, with_nullification_at, after_add_notarization, after_add_finalization, after_set_floor}
 use Rattle.simplex_voter.proofs.Elsewhere.{round_of-with_round}
 use Rattle.simplex_member.specs.Entries.{entry_view}
 use Rattle.simplex_member.specs.Openings.{no_openings}
 use Rattle.simplex_member.specs.Recovery.{retaken, taken, all_taken, recovered}
 use Rattle.simplex_laws.specs.Deeds.{Deed, Accepts}
+use Rattle.simplex_laws.proofs.Rising.{finalization_passes}
 use Rattle.simplex_laws.proofs.Splits.{Contains-cases, Contains-cons_rest}
 use Rattle.simplex_laws.proofs.Rounds.{round_put}
 use Rattle.simplex_laws.proofs.Calm.{calm, calm_alike}
-use Rattle.simplex_laws.proofs.CalmOn.{CalmOn, on_joined, on_if, on_put, on_slid, on_elected, on_prepared, on_entered, on_woken, on_finalized, on_floor}
+use Rattle.simplex_laws.proofs.CalmOn.{CalmOn, on_joined, on_put, on_elected, on_prepared, on_entered, on_floor}
 use Rattle.simplex_laws.proofs.CalmCalls.{on_add_notarization, on_nullification_kept, on_add_finalization, on_certified}
 use Rattle.simplex_laws.proofs.Tidy.{Tidy, tidy_calm, opposite}
 use Rattle.simplex_laws.proofs.Notes.{NotesStand, RemembersNotes}
@@ -241,27 +240,6 @@ module _ {K L D : Type 0} (same : D → D → Bool) (elect : Elect L) (now : ℕ
     retaken_remakes (Accepted (Nullified c)) here = remakes_nullification c here
     retaken_remakes (Accepted (Finalized c)) here = remakes_finalization c
 
-    -- a finalization finalizes its view
-
-    raised_reaches : (v : ℕ) → v ≤ (raised x v).finalized
-    raised_reaches v = raises (nat_lt x.finalized v) refl
-      where
-        raises : (b : Bool) → nat_lt x.finalized v ≡ b → v ≤ (raised x v).finalized
-        raises true is = rw is (omega arith)
-        raises false is = (let stays : v ≤ x.finalized = grind (arith, nat_tests) in rw is stays)
-
-  finalization_reaches : (x : Facts K L D) (c : ProposalFacts D) → c.proposal.round.view ≤ (after_add_finalization same elect x c now).finalized
-  finalization_reaches x c =
-      let v = c.proposal.round.view in
-      let r = raised (at_moment x now) v in
-      let e = entered r (v + 1) now in
-      let y = elected elect e (v + 1) (Some c.bytes) in
-      let z = with_finalization_at same elect y c in
-      let w = woken elect z v in
-      let up : CalmOn 0 r z = on_joined 0 r e z (on_entered 0 r (v + 1) now (omega arith)) (on_joined 0 e y z (on_elected 0 elect e (v + 1) (Some c.bytes) (omega arith)) (on_finalized 0 same elect y c (omega arith))) in
-      let whole = on_if 0 r (is_some (round_of x v).finalization) z (slid w v) up (on_joined 0 r z (slid w v) up (on_joined 0 z w (slid w v) (on_woken 0 elect z v) (on_slid 0 w v (omega arith)))) in
-      omega (arith, raised_reaches (at_moment x now) v, whole.finalized)
-
   -- an entry is taken again, or passed over
 
   taken_remakes : (x : Facts K L D) (e : ArtifactFacts D) → Contains copy e → Remakes copy x (taken same elect x now e)
@@ -285,7 +263,7 @@ module _ {K L D : Type 0} (same : D → D → Bool) (elect : Elect L) (now : ℕ
     where
       by_view : (b : Bool) → nat_lt c.proposal.round.view (min_active x) ≡ b → c.proposal.round.view ≤ (if b then x else retaken same elect x now (Accepted (Finalized c))).finalized
       by_view true is = omega (arith, ltb-true c.proposal.round.view (min_active x) is)
-      by_view false is = finalization_reaches x c
+      by_view false is = finalization_passes same elect x now c
 
   -- all entries
 

@@ -14,7 +14,7 @@ use Rattle.simplex_voter.specs.Facts.{Facts, Elect, round_number}
 use Rattle.simplex_voter.specs.Votes.{nullify_answer, finalize_answer}
 use Rattle.simplex_voter.specs.Acceptance.{notarization_added, nullification_added, finalization_added}
 use Rattle.simplex_voter.specs.Certification.{is_first_verdict}
-use Rattle.simplex_member.specs.Calls.{CallFacts, AddNotarization, AddNullification, AddFinalization, Certified, ConstructNullify, ConstructFinalize, BroadcastNotarization, BroadcastNullification, BroadcastFinalization, GetBestCertificate, Prune, Nullify, Finalize, newly, first_vote, vote_entry, answer, recorded_by}
+use Rattle.simplex_member.specs.Calls.{CallFacts, AddNotarization, AddNullification, AddFinalization, Certified, ConstructNullify, ConstructFinalize, Nullify, Finalize, newly, first_vote, vote_entry, answer, recorded_by}
 use Rattle.simplex_member.specs.Check.{stands}
 use Rattle.simplex_member.specs.Cuts.{is_vote}
 use Rattle.simplex_member.specs.Entries.{entry_view}
@@ -192,14 +192,9 @@ module _ {K L D : Type 0} (same : D → D → Bool) (elect : Elect L) (x : Facts
   calls_cast_none (AddNotarization c) = casts_accepted (subject.Notarize c.proposal)
   calls_cast_none (AddNullification c now) = casts_accepted (subject.Nullify c.round)
   calls_cast_none (AddFinalization c now) = casts_accepted (subject.Finalize c.proposal)
-  calls_cast_none (Certified v success now) = casts_nothing
   calls_cast_none (ConstructNullify v) = nullify_casts_none (round_number x v) K v x.me (nullify_answer x v)
   calls_cast_none (ConstructFinalize v) = finalize_casts_none K v x.me (finalize_answer elect x v)
-  calls_cast_none (BroadcastNotarization v) = casts_nothing
-  calls_cast_none (BroadcastNullification v) = casts_nothing
-  calls_cast_none (BroadcastFinalization v) = casts_nothing
-  calls_cast_none GetBestCertificate = casts_nothing
-  calls_cast_none Prune = casts_nothing
+  calls_cast_none _ = casts_nothing
 
   pub calls_record_none : (call : CallFacts D) → NotesNone (recorded_by same elect x call)
   calls_record_none (AddNotarization c) = notes_newly (notarization_added same elect x c).0 (Accepted (Notarized c)) (λ p m e. absurd (cc))
@@ -208,11 +203,7 @@ module _ {K L D : Type 0} (same : D → D → Bool) (elect : Elect L) (x : Facts
   calls_record_none (Certified v success now) = notes_newly (is_first_verdict x v) (Verdict (round_number x v) success) (λ p m e. absurd (cc))
   calls_record_none (ConstructNullify v) = nullify_notes_none (round_number x v) x.me (nullify_answer x v)
   calls_record_none (ConstructFinalize v) = finalize_notes_none x.me (finalize_answer elect x v)
-  calls_record_none (BroadcastNotarization v) = notes_nothing
-  calls_record_none (BroadcastNullification v) = notes_nothing
-  calls_record_none (BroadcastFinalization v) = notes_nothing
-  calls_record_none GetBestCertificate = notes_nothing
-  calls_record_none Prune = notes_nothing
+  calls_record_none _ = notes_nothing
 
   pub notes_called : (deeds : List (Deed D)) (kept : ℕ) (entries : List (ArtifactFacts D)) (call : CallFacts D) → RemembersNotes deeds kept entries → RemembersNotes (deeds ++ deeds_of_call call (answer same elect x call)) kept (entries ++ recorded_by same elect x call)
   notes_called deeds kept entries call = notes_grow deeds (deeds_of_call call (answer same elect x call)) kept entries (recorded_by same elect x call) (calls_cast_none call) (calls_record_none call)

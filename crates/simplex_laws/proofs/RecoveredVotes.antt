@@ -1,7 +1,6 @@
 -- A new life from a member's record starts with what all lives before did.
 use Rattle.std.proofs.Common.{◌≡◌, refl, subst, ℕ, ◌≤◌, ◌⊎◌, inl, inr, Bool, true, false, if◌then◌else◌, nat_lt, List, [], ◌∷◌, ◌++◌, Contains, Option, arith}
 use Rattle.std.proofs.lemmas.Bool.{ltb-true}
-use Rattle.std.proofs.lemmas.Bool.Decides.{nat_tests}
 use Rattle.std.proofs.lemmas.List.Elements.{Contains-append_left, Contains-append_right, Contains-append_cases}
 use Rattle.simplex_types.specs.Certificates.{ProposalFacts, Finalized, ArtifactFacts, NullifyVote, FinalizeVote, Accepted}
 use Rattle.simplex_types.specs.Config.{FloorFacts}
@@ -10,8 +9,6 @@ use Rattle.simplex_types.specs.declared.types.messages.Subject.TheVariants as su
 use Rattle.simplex_types.specs.declared.types.window.Terms.{Terms}
 use Rattle.simplex_voter.specs.Facts.{Settings, Facts, Elect, new_facts}
 use Rattle.simplex_voter.specs.Windows.{min_active}
-use Rattle.simplex_voter.specs.Entering.{at_moment}
-use Rattle.simplex_voter.specs.Certification.{raised}
 use Rattle.simplex_voter.specs.Acceptance.{after_add_finalization, after_set_floor}
 use Rattle.simplex_member.specs.Recovery.{retaken, taken, all_taken, recovered}
 use Rattle.simplex_laws.specs.Deeds.{Deed, Accepts, Signs, of_floor}
@@ -22,26 +19,10 @@ use Rattle.simplex_laws.proofs.Standing.{Stays}
 use Rattle.simplex_laws.proofs.StartStands.{start_stays, floor_unsigned}
 use Rattle.simplex_laws.proofs.InOrder.{event_in_order}
 use Rattle.simplex_laws.proofs.CallsMake.{all_keep}
-use Rattle.simplex_laws.proofs.Rising.{event_goes, goes_along}
-use Rattle.simplex_laws.proofs.Paths.{from_raised}
-use Rattle.simplex_laws.proofs.Steps.{Still}
+use Rattle.simplex_laws.proofs.Rising.{event_goes, finalization_passes}
 use Rattle.simplex_laws.specs.Events as event
 use Rattle.simplex_laws.specs.Events.{Event}
 use Rattle.simplex_laws.proofs.Recalls.{Remembers, AreRecorded, entries_deeds, entry_of, deed_of, of_accept, all_stay, stays_over}
-
-raised_reaches : {K L D : Type 0} (x : Facts K L D) (v : ℕ) → v ≤ (raised x v).finalized
-raised_reaches x v = raises (nat_lt x.finalized v) refl
-  where
-    raises : (b : Bool) → nat_lt x.finalized v ≡ b → v ≤ (raised x v).finalized
-    raises true is = rw is (omega arith)
-    raises false is = rw is (grind (arith, nat_tests))
-
-module _ {K L D : Type 0} (same : D → D → Bool) (elect : Elect L) (x : Facts K L D) (now : ℕ) where
-  -- a finalization is no higher than the finalized view then
-  finalization_passes : (c : ProposalFacts D) → c.proposal.round.view ≤ (after_add_finalization same elect x c now).finalized
-  finalization_passes c =
-      let e : Event K D = event.AddFinalization c now in
-      omega (arith, (goes_along same elect x e 0 _ _ (from_raised c now refl (omega arith) Still)).finalized, raised_reaches (at_moment x now) c.proposal.round.view)
 
 module _ {K L D : Type 0} (same : D → D → Bool) (elect : Elect L) (x : Facts K L D) (now : ℕ) where
   taken_finalizes : (e : ArtifactFacts D) (c : ProposalFacts D) → e ≡ Accepted (Finalized c) → c.proposal.round.view ≤ (taken same elect x now e).finalized

@@ -1,17 +1,22 @@
 -- No event lets the current view or the last finalized one fall, or changes how a state was set up.
-use Rattle.std.proofs.Common.{◌≡◌, refl, ap, ℕ, ◌≤◌, Bool, max, arith}
+use Rattle.std.proofs.Common.{◌≡◌, refl, ap, ℕ, ◌≤◌, Bool, true, false, nat_lt, max, arith}
+use Rattle.std.proofs.lemmas.Bool.Decides.{nat_tests}
+use Rattle.simplex_types.specs.Certificates.{ProposalFacts}
 use Rattle.simplex_types.specs.declared.types.messages.Subject.{Subject}
 use Rattle.simplex_voter.specs.Facts.{Facts, Elect}
 use Rattle.simplex_voter.specs.Windows.{min_active}
+use Rattle.simplex_voter.specs.Entering.{at_moment}
+use Rattle.simplex_voter.specs.Certification.{raised}
+use Rattle.simplex_voter.specs.Acceptance.{after_add_finalization}
 use Rattle.simplex_member.specs.Calls.{CallFacts, after_call}
 use Rattle.simplex_member.specs.Openings.{Openings}
 use Rattle.simplex_member.specs.Work.{WorkCall, after_work}
-use Rattle.simplex_laws.specs.Events.{Event, after_event}
+use Rattle.simplex_laws.specs.Events.{Event, AddFinalization, after_event}
 use Rattle.simplex_laws.specs.LifeLaws.{NeverFalls}
 use Rattle.simplex_laws.specs.Sums.{finalized_by}
 use Rattle.simplex_laws.proofs.CallsMake.{call_by_any, work_by_any}
-use Rattle.simplex_laws.proofs.Paths.{event_path, asked_of_all}
-use Rattle.simplex_laws.proofs.Steps.{Step, Path, Reaches, Raises, along}
+use Rattle.simplex_laws.proofs.Paths.{event_path, asked_of_all, from_raised}
+use Rattle.simplex_laws.proofs.Steps.{Step, Path, Reaches, Raises, Still, along}
 
 -- the set-up is as it was, and neither the current view nor the last finalized one is lower
 pub record GoesOn {K L D : Type 0} (x y : Facts K L D) : Type 0 where
@@ -72,3 +77,19 @@ module _ {K L D : Type 0} (same : D → D → Bool) (elect : Elect L) (x : Facts
 module _ {K L D : Type 0} (same : D → D → Bool) (elect : Elect L) (x : Facts K L D) where
   pub work_goes : (o : Openings K D) (call : WorkCall D) → GoesOn x (after_work same elect x o call)
   work_goes o call = work_by_any same elect x o (GoesOn x) (goes_still x) (λ e. event_goes same elect x e) call
+
+-- finalizations
+
+raised_reaches : {K L D : Type 0} (x : Facts K L D) (v : ℕ) → v ≤ (raised x v).finalized
+raised_reaches x v = raises (nat_lt x.finalized v) refl
+  where
+    raises : (b : Bool) → nat_lt x.finalized v ≡ b → v ≤ (raised x v).finalized
+    raises true is = rw is (omega arith)
+    raises false is = rw is (grind (arith, nat_tests))
+
+module _ {K L D : Type 0} (same : D → D → Bool) (elect : Elect L) (x : Facts K L D) (now : ℕ) where
+  -- a finalization is no higher than the finalized view then
+  pub finalization_passes : (c : ProposalFacts D) → c.proposal.round.view ≤ (after_add_finalization same elect x c now).finalized
+  finalization_passes c =
+      let e : Event K D = AddFinalization c now in
+      omega (arith, (goes_along same elect x e 0 _ _ (from_raised c now refl (omega arith) Still)).finalized, raised_reaches (at_moment x now) c.proposal.round.view)

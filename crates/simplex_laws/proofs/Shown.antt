@@ -28,33 +28,15 @@ use Rattle.simplex_laws.proofs.Splits.{Contains-cases, Contains-cons_rest}
 
 module _ {S D K G C : Type 0} (bytes_of : C → List ℕ) where
   votes_shown : (r : Reply S D K G C) → votes_in r ≡ signed_in (told bytes_of r)
-  votes_shown (reply.Added newly leader) = refl
-  votes_shown (reply.Certified notarization) = refl
   votes_shown (reply.Nullify None) = refl
   votes_shown (reply.Nullify (Some vote)) = refl
   votes_shown (reply.Finalize None) = refl
   votes_shown (reply.Finalize (Some vote)) = refl
-  votes_shown (reply.Certificate certificate) = refl
-  votes_shown (reply.Views views) = refl
-  votes_shown (reply.Answered taken) = refl
-  votes_shown (reply.TimesOut at reason) = refl
-  votes_shown reply.Done = refl
-  votes_shown reply.Restarted = refl
-  votes_shown (reply.Fault fault) = refl
-  votes_shown reply.NotAllowed = refl
+  votes_shown _ = refl
 
   certificates_shown : (c : Call S D K G C) → certificates_in c ≡ handed_in (call_facts bytes_of c)
   certificates_shown (call.AddNotarization c) = refl
-  certificates_shown (call.AddNullification c now) = refl
-  certificates_shown (call.AddFinalization c now) = refl
-  certificates_shown (call.Certified v success now) = refl
-  certificates_shown (call.ConstructNullify v reason) = refl
-  certificates_shown (call.ConstructFinalize v) = refl
-  certificates_shown (call.BroadcastNotarization v) = refl
-  certificates_shown (call.BroadcastNullification v) = refl
-  certificates_shown (call.BroadcastFinalization v) = refl
-  certificates_shown call.GetBestCertificate = refl
-  certificates_shown call.Prune = refl
+  certificates_shown _ = refl
 
   floor_shown : (f : Floor S D K G C) → floor_in f ≡ of_floor (floor_facts bytes_of f)
   floor_shown (floor.Genesis payload) = refl
@@ -63,17 +45,7 @@ module _ {S D K G C : Type 0} (bytes_of : C → List ℕ) where
 module _ (L : Type 0) {S D K G C : Type 0} (bytes_of : C → List ℕ) where
   call_shown : (c : Call S D K G C) (r : Reply S D K G C) → taken_by c r ≡ accepted_at {L = L} (Calls (call_facts bytes_of c)) (told bytes_of r)
   call_shown c (reply.Added newly leader) = certificates_shown bytes_of c
-  call_shown c (reply.Certified notarization) = refl
-  call_shown c (reply.Nullify vote) = refl
-  call_shown c (reply.Finalize vote) = refl
-  call_shown c (reply.Certificate certificate) = refl
-  call_shown c (reply.Views views) = refl
-  call_shown c (reply.Answered taken) = refl
-  call_shown c (reply.TimesOut at reason) = refl
-  call_shown c reply.Done = refl
-  call_shown c reply.Restarted = refl
-  call_shown c (reply.Fault fault) = refl
-  call_shown c reply.NotAllowed = refl
+  call_shown c _ = refl
 
   pub made_shown : (c : Call S D K G C) (r : Reply S D K G C) → deeds_at {L = L} (Calls (call_facts bytes_of c)) (told bytes_of r) ≡ taken_by c r ++ votes_in r
   made_shown c r = sym (ap (λ ds. ds ++ votes_in r) (call_shown c r) ∙ ap (λ ds. accepted_at {L = L} (Calls (call_facts bytes_of c)) (told bytes_of r) ++ ds) (votes_shown bytes_of r))
@@ -86,17 +58,7 @@ module _ {S L D K G C : Type 0} (me : S → Option ℕ) (members : S → List K)
   taken_shown (step.Call c) r = call_shown L bytes_of c r
   taken_shown (step.Work w) r = refl
   taken_shown (step.Restart q) reply.Restarted = floor_shown bytes_of q.start.floor
-  taken_shown (step.Restart q) (reply.Added newly leader) = refl
-  taken_shown (step.Restart q) (reply.Certified notarization) = refl
-  taken_shown (step.Restart q) (reply.Nullify vote) = refl
-  taken_shown (step.Restart q) (reply.Finalize vote) = refl
-  taken_shown (step.Restart q) (reply.Certificate certificate) = refl
-  taken_shown (step.Restart q) (reply.Views views) = refl
-  taken_shown (step.Restart q) (reply.Answered taken) = refl
-  taken_shown (step.Restart q) (reply.TimesOut at reason) = refl
-  taken_shown (step.Restart q) reply.Done = refl
-  taken_shown (step.Restart q) (reply.Fault fault) = refl
-  taken_shown (step.Restart q) reply.NotAllowed = refl
+  taken_shown (step.Restart q) _ = refl
 
   all_shown : (steps : List (Step S L D K G C)) (replies : List (Reply S D K G C)) → shown_by steps replies ≡ deeds_of_steps (steps_of me members terms elects_early bytes_of steps) (map (told bytes_of) replies)
   all_shown [] replies = refl

@@ -3,7 +3,6 @@
 use Rattle.std.proofs.Common.{◌≡◌, refl, ap, sym, ◌∙◌, subst, ℕ, ◌+◌, ◌<◌, ◌≤◌, ◌⊎◌, inl, inr, Bool, true, false, List, Option, Some, None, unwrap_or, nat_lt, arith}
 use Rattle.std.proofs.lemmas.Bool.{true≢false}
 use Rattle.std.proofs.lemmas.Bool.Decides.{nat_tests}
-use Rattle.simplex_types.specs.Certificates.{ArtifactFacts}
 use Rattle.simplex_types.specs.Config.{FloorFacts, Genesis, Finalized as FinalizedFloor}
 use Rattle.simplex_round.specs.Round.{new_round}
 use Rattle.simplex_types.specs.declared.types.numbers.Round.{Round}
@@ -12,13 +11,12 @@ use Rattle.simplex_voter.specs.Facts.{Settings, Facts, Elect, new_facts, round_a
 use Rattle.simplex_voter.specs.Entering.{at_moment, entered}
 use Rattle.simplex_voter.specs.Certification.{raised}
 use Rattle.simplex_voter.specs.Acceptance.{after_add_finalization, after_set_floor}
-use Rattle.simplex_member.specs.Recovery.{recovered}
 use Rattle.simplex_laws.specs.Events as event
 use Rattle.simplex_laws.specs.Events.{Event, after_event}
 use Rattle.simplex_laws.specs.LifeLaws.{Kind, Notarization, Nullification, Finalization}
 use Rattle.simplex_laws.specs.Sums.{finalized_by, is_prune}
 use Rattle.simplex_laws.specs.Fresh.{IsFresh}
-use Rattle.simplex_laws.proofs.CallsMake.{is_floor, floor_then_all_keep}
+use Rattle.simplex_laws.proofs.CallsMake.{is_floor}
 use Rattle.simplex_laws.proofs.EachRound.{IsGone}
 use Rattle.simplex_laws.proofs.Paths.{from_entry, from_first_entry}
 use Rattle.simplex_laws.proofs.Steps.{Still, finalization_by}
@@ -123,8 +121,3 @@ module _ {K L D : Type 0} (same : D → D → Bool) (elect : Elect L) (term_leng
   -- a new state sets a floor
   pub floor_sound : (x : Facts K L D) (floor : FloorFacts D) (now : ℕ) → IsFresh term_length x → IsSound term_length (after_set_floor same elect x floor now)
   floor_sound x floor now fresh = subst (λ y. IsSound term_length (after_set_floor same elect y floor now)) (sym fresh.fresh) (new_sound x.settings x.me x.members x.elector x.terms x.elects_early floor now fresh.terms)
-
-module _ {K L D : Type 0} (same : D → D → Bool) (elect : Elect L) (term_length : ℕ) where
-  -- and takes a record
-  pub recovered_sound : (x : Facts K L D) (floor : FloorFacts D) (now : ℕ) (entries : List (ArtifactFacts D)) → IsFresh term_length x → IsSound term_length (recovered same elect x floor now entries)
-  recovered_sound x floor now entries fresh = floor_then_all_keep same elect (IsSound term_length) (λ y e. event_sound same elect term_length y e) now x floor entries (floor_sound same elect term_length x floor now fresh)

@@ -107,11 +107,11 @@ module _ {K L D : Type 0} (same : D → D → Bool) (elect : Elect L) (low : ℕ
   event_clear e takes = clear_along same elect low x e reached (asked_in_life x low e under reached some clear takes) clear
 
   pub call_clear : (call : CallFacts D) → is_allowed x call ≡ true → IsClear low (after_call same elect x call)
-  call_clear call allowed = call_by_event same elect x (λ es y. IsClear low y) clear (λ e rest takes none. event_clear e takes) call allowed
+  call_clear call allowed = call_by_event same elect x (λ es y. IsClear low y) clear (λ e takes none. event_clear e takes) call allowed
 
 module _ {K L D : Type 0} (same : D → D → Bool) (elect : Elect L) (low : ℕ) (x : Facts K L D) (under : low ≤ min_active x) (reached : low ≤ x.current) (some : 0 < x.terms.term_length) (clear : IsClear low x) where
   pub work_clear : (o : Openings K D) (call : WorkCall D) → work_allowed x o call ≡ true → IsClear low (after_work same elect x o call)
-  work_clear o call allowed = work_by_event same elect x o (λ es y. IsClear low y) clear (λ e rest takes none. event_clear same elect low x under reached some clear e takes) call allowed
+  work_clear o call allowed = work_by_event same elect x o (λ es y. IsClear low y) clear (λ e takes none. event_clear same elect low x under reached some clear e takes) call allowed
 
 -- prunes
 

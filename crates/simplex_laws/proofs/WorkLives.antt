@@ -14,7 +14,7 @@ use Rattle.simplex_voter.proofs.Gaps.{and_parts}
 use Rattle.simplex_voter.proofs.Rules.{notarize_parts}
 use Rattle.simplex_member.specs.Calls.{Notarize, vote_entry}
 use Rattle.simplex_member.specs.Openings.{Openings}
-use Rattle.simplex_member.specs.Work.{WorkCall, SetProposal, TryPropose, Proposed, SupersedeProposalRequest, PendingHandoffAbandonment, ReleaseProposalRequest, TryVerify, Verified, VerificationFailed, ConstructNotarize, CertifyCandidates, SetCertifyHandle, TriggerTimeout, NextTimeout, notarize_vote, recorded_by_work, work_allowed, work_answer, after_work, openings_after}
+use Rattle.simplex_member.specs.Work.{WorkCall, ConstructNotarize, notarize_vote, recorded_by_work, work_allowed, work_answer, after_work, openings_after}
 use Rattle.simplex_laws.specs.Deeds.{Deed, Signs, signed_in}
 use Rattle.simplex_laws.proofs.Signed.{only_signed}
 use Rattle.simplex_laws.proofs.Lawful.{lawful_push}
@@ -47,36 +47,12 @@ grows_notarize deeds entries p m = record {
 module _ {K L D : Type 0} (same : D → D → Bool) (elect : Elect L) (x : Facts K L D) (o : Openings K D) where
   -- a call that is no vote to notarize is no deed, and records nothing
   pub silent_deeds : (call : WorkCall D) → is_silent call ≡ true → signed_in (work_answer same elect x o call) ≡ []
-  silent_deeds (SetProposal v p) silent = refl
-  silent_deeds TryPropose silent = refl
-  silent_deeds (Proposed v payload now) silent = refl
-  silent_deeds (SupersedeProposalRequest v) silent = refl
-  silent_deeds (PendingHandoffAbandonment v) silent = refl
-  silent_deeds (ReleaseProposalRequest v) silent = refl
-  silent_deeds TryVerify silent = refl
-  silent_deeds (Verified v) silent = refl
-  silent_deeds (VerificationFailed v reason now) silent = refl
   silent_deeds (ConstructNotarize v) silent = absurd (false≢true silent)
-  silent_deeds CertifyCandidates silent = refl
-  silent_deeds (SetCertifyHandle v token) silent = refl
-  silent_deeds (TriggerTimeout v reason now) silent = refl
-  silent_deeds (NextTimeout now) silent = refl
+  silent_deeds _ silent = refl
 
   pub silent_record : (call : WorkCall D) → is_silent call ≡ true → recorded_by_work same elect x call ≡ []
-  silent_record (SetProposal v p) silent = refl
-  silent_record TryPropose silent = refl
-  silent_record (Proposed v payload now) silent = refl
-  silent_record (SupersedeProposalRequest v) silent = refl
-  silent_record (PendingHandoffAbandonment v) silent = refl
-  silent_record (ReleaseProposalRequest v) silent = refl
-  silent_record TryVerify silent = refl
-  silent_record (Verified v) silent = refl
-  silent_record (VerificationFailed v reason now) silent = refl
   silent_record (ConstructNotarize v) silent = absurd (false≢true silent)
-  silent_record CertifyCandidates silent = refl
-  silent_record (SetCertifyHandle v token) silent = refl
-  silent_record (TriggerTimeout v reason now) silent = refl
-  silent_record (NextTimeout now) silent = refl
+  silent_record _ silent = refl
 
 module _ {K L D : Type 0} (same : D → D → Bool) (decides : (d e : D) → same d e ≡ true → d ≡ e) (elect : Elect L) (term_length : ℕ) (some : 0 < term_length) (deeds : List (Deed D)) (closed kept : ℕ) (entries : List (ArtifactFacts D)) (o : Openings K D) (x : Facts K L D) (living : Living term_length deeds closed kept entries o x) where
   -- with no deed and nothing recorded
@@ -88,12 +64,12 @@ module _ {K L D : Type 0} (same : D → D → Bool) (decides : (d e : D) → sam
   stays_worked : (call : WorkCall D) → work_allowed x o call ≡ true → Stays term_length deeds (after_work same elect x o call)
   stays_worked call allowed =
       work_by_event same elect x o (λ es y. AreSilent es → Stays term_length deeds y) (λ silent. living.keeps.stays)
-      (λ e rest takes floor silent. stays_on same decides elect term_length deeds x e (silent_suits deeds _ x e silent.0) living.in_order living.keeps.stays) call allowed (work_silent o call)
+      (λ e takes floor silent. stays_on same decides elect term_length deeds x e (silent_suits deeds _ x e silent.0) living.in_order living.keeps.stays) call allowed (work_silent o call)
 
   marked_worked : (call : WorkCall D) → work_allowed x o call ≡ true → Marked entries (after_work same elect x o call)
   marked_worked call allowed =
       work_by_event same elect x o (λ es y. AreSilent es → Marked entries y) (λ silent. living.follows.marked)
-      (λ e rest takes floor silent. quiet_marked same elect x e entries living.in_order silent.0.verdict silent.0.nullify living.follows.marked) call allowed (work_silent o call)
+      (λ e takes floor silent. quiet_marked same elect x e entries living.in_order silent.0.verdict silent.0.nullify living.follows.marked) call allowed (work_silent o call)
 
   silent_lives : (call : WorkCall D) → work_allowed x o call ≡ true → is_silent call ≡ true → Living term_length deeds closed kept entries (openings_after same elect x o call) (after_work same elect x o call)
   silent_lives call allowed silent =

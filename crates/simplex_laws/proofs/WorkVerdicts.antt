@@ -31,7 +31,7 @@ module _ {K L D : Type 0} (same : D → D → Bool) (elect : Elect L) (deeds : L
   work_left : (call : WorkCall D) → work_allowed x o call ≡ true → Left (after_work same elect x o call)
   work_left call allowed =
       work_by_event same elect x o (λ es y. AreSilent es → Left y) (λ silent new none. shows_more entries new x none tells.shows)
-      (λ e rest takes none silent new nothing. quiet_shows same elect deeds entries x ordered tells new e takes silent.0.notarization silent.0.verdict nothing) call allowed (work_silent o call)
+      (λ e takes none silent new nothing. quiet_shows same elect deeds entries x ordered tells new e takes silent.0.notarization silent.0.verdict nothing) call allowed (work_silent o call)
 
   -- what a vote to notarize records is cast
   notarize_told : (call : WorkCall D) (vote : Option (ArtifactFacts D)) → Left (after_work same elect x o call) → ((e : ArtifactFacts D) → vote ≡ Some e → (p : Proposal D) × (m : ℕ) × (e ≡ NotarizeVote p m)) → Tells (deeds ++ signed_in {K = K} (Notarize vote)) (entries ++ vote_entry vote) (after_work same elect x o call)

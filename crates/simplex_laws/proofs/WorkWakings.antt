@@ -23,9 +23,6 @@ pub record SetUpAlike {K L D : Type 0} (x y : Facts K L D) : Type 0 where
   pub elects_early : y.elects_early ≡ x.elects_early
 
 module _ {K L D : Type 0} where
-  pub alike_refl : (x : Facts K L D) → SetUpAlike x x
-  alike_refl x = record { settings = refl; me = refl; elector = refl; terms = refl; elects_early = refl }
-
   -- one more view is named, if it lies above the finalized one
   pub named_among : (x : Facts K L D) (v w : ℕ) → is_among (named_also x v).named w ≡ unwrap_or (if eqb w v && nat_lt x.finalized v then Some true else None) (is_among x.named w)
   named_among x v w = by_above (nat_lt x.finalized v) refl

@@ -1,5 +1,5 @@
-//! The laws of members: their votes, what their lives keep in order, their records and histories, and agreement. Nothing here
-//! does anything but `living`: the contracts are the laws.
+//! The laws of members: agreement and the laws of votes, networks in which they are exercised, what lives keep in order, and
+//! what holds of records and histories. Nothing here does anything but `living`: the contracts are the laws.
 
 mod histories;
 mod instances;

@@ -1,4 +1,4 @@
-//! Members whose deeds so far keep the laws: a whole run, and one that goes on.
+//! Members whose deeds so far keep the laws, by the code's own steps and replies: a whole run, and a member that goes on.
 
 ghost use Rattle.std.specs.Prelude.{◌≡◌, ℕ, IfOk, IfErr, IfSome, length};
 ghost use Rattle.simplex_member.specs.Runs.{AreSetUp, EndsRunFrom, steps_of};
@@ -17,10 +17,12 @@ use std::marker::Model;
 /// Starts a member and takes the steps in order, as `run` does: what it accepted and signed keeps the laws.
 ///
 /// - `exact`: each request for a vote is answered exactly by its rule, and nothing else by a vote.
-/// - `ran`: where each life has terms of one length, not 0, and signs as member `i` or not at all, this is what member `i` of
-///   a network does.
-/// - `shows`: and what it accepts and signs there is what the steps and the replies show.
-/// - `lawful`: this keeps the voting rules, over all its lives.
+/// - `ran`: where each life has terms of one length, not 0, and signs as member `i` or not at all, `AreSetUpAs`, this is what
+///   member `i` of a network does, so `agreement` tells of it.
+/// - `shows`: its deeds are the certificates and the votes that the steps and the replies show: each certificate that a call
+///   hands in and is told whether it is new, the floor's finalization of the start and of each restart that succeeds, and each
+///   vote in a reply.
+/// - `lawful`: they keep the voting rules, over all its lives.
 /// - `ended`: it ends early as `run` does, with the error of a start or a restart that is refused, or with `OutOfMemory`.
 pub fn run_lawfully<S: Scheme<D>, L: Elector<S>, D: Digest>(
     alloc: Global,
@@ -48,6 +50,9 @@ pub fn run_lawfully<S: Scheme<D>, L: Elector<S>, D: Digest>(
 }
 
 /// A member that a driver keeps, with the law of its votes at each moment.
+///
+/// `HasDone` says which deeds it has done so far, and as which member of a network: `start` begins the list, each method says
+/// what it adds, read off its arguments and its reply, and `keeps_the_laws` says what holds of the whole.
 #[derive(Drop)]
 pub struct LawfulMember<S: CertificateScheme, L: Elector<S>, D: Digest> {
     member: Member<S, L, D>,
@@ -76,10 +81,12 @@ impl<S: Scheme<D>, L: Elector<S>, D: Digest> LawfulMember<S, L, D> {
     ghost use Rattle.simplex_laws.specs.Living.{DoesMore, MayBeDoneBy, OfAllDone, HasBegun, HasBegunAgain};
     ghost use Rattle.simplex_laws.specs.Shown.{votes_in, taken_by};
 
-    /// A member at a floor, as `Member::start` makes it or refuses. It has accepted the floor's finalization.
+    /// A member at a floor, as `Member::start` makes it or refuses.
     ///
-    /// `OtherEpoch`, `ZeroView` or `ViewTooLarge` where that is of another epoch or of view 0, or names a view above 2^63 - 1;
-    /// `TimeOverflow` where a deadline passes 2^64 - 1 milliseconds; `OutOfMemory`.
+    /// The elector's members are the scheme's participants. `OtherEpoch`, `ZeroView` or `ViewTooLarge` where the floor's
+    /// finalization is of another epoch or of view 0, or names a view above 2^63 - 1; `TimeOverflow` where a deadline passes
+    /// 2^64 - 1 milliseconds; `OutOfMemory`.
+    /// - `begins`: it has accepted the floor's finalization, if there is one, and done nothing else.
     pub fn start(
         alloc: Global,
         start: Start<S, L, D>,
@@ -98,8 +105,12 @@ impl<S: Scheme<D>, L: Elector<S>, D: Digest> LawfulMember<S, L, D> {
         })
     }
 
-    /// Makes a call of the state. A vote is told exactly where its rule holds; what the member has done grows by the
-    /// certificate that it accepts and the vote that it is told.
+    /// Makes a call of the state.
+    ///
+    /// - `answered`: as `Member::call` does: with its answer, or refused, or not allowed, and then nothing is changed but for a
+    ///   member that fails for want of memory.
+    /// - `exact`: a request for a vote is answered exactly by its rule, and nothing else by a vote.
+    /// - `goes_on`: what the member has done grows by the certificate that is accepted and the vote that is told.
     pub fn call(&mut self, call: Call<S, D>) -> Reply<S, D>
         ensures answered { IsCall D.eq L.elect self.old (call_facts S.certificate_bytes call) (told S.certificate_bytes result) self.new }
         ensures signed { IfSome self.old.life (IsSignedReply S.IsSignature result) }
@@ -109,7 +120,10 @@ impl<S: Scheme<D>, L: Elector<S>, D: Digest> LawfulMember<S, L, D> {
         self.member.call(call)
     }
 
-    /// Makes a call on the work of a view. What the member has done grows by the vote that it is told.
+    /// Makes a call on the work of a view, as `Member::work` does.
+    ///
+    /// - `exact`: a request for a vote is answered exactly by its rule, and nothing else by a vote.
+    /// - `goes_on`: what the member has done grows by the vote that is told.
     pub fn work(&mut self, work: Work<D>) -> Reply<S, D>
         ensures answered { IsWork D.eq L.elect self.old (work_facts work) (told S.certificate_bytes result) self.new }
         ensures exact { ExactAt D.eq L.elect self.old.life (Works (work_facts work)) (told S.certificate_bytes result) }
@@ -118,8 +132,11 @@ impl<S: Scheme<D>, L: Elector<S>, D: Digest> LawfulMember<S, L, D> {
         self.member.work(work)
     }
 
-    /// Begins another life from the record. Where it succeeds the floor's finalization is accepted; what the member has done
-    /// stays, also what is dropped from its record or pruned.
+    /// Begins another life from what is left of the record, as `Member::restart` does, or is refused with its errors.
+    ///
+    /// The elector's members are the scheme's participants.
+    /// - `goes_on`: in terms of the same length and with the key of the same member or none, what the member has done stays,
+    ///   also what is dropped from its record or pruned; where the restart succeeds the floor's finalization is accepted too.
     pub fn restart(&mut self, restart: Restart<S, L, D>) -> Result<(), RecoverError>
         requires { L.members restart.start.settings.elector ≡ length (S.participants restart.start.settings.scheme) }
         ensures restarted { IsRestart D.eq L.elect self.old
@@ -129,8 +146,10 @@ impl<S: Scheme<D>, L: Elector<S>, D: Digest> LawfulMember<S, L, D> {
         self.member.restart(restart)
     }
 
-    /// All that the member has done so far keeps the voting rules, and a network may have it as member `i`. It does nothing:
-    /// its contract is the law.
+    /// The laws of all that the member has done so far. It does nothing: its contract is the law.
+    ///
+    /// - `lawful`: its deeds keep the voting rules, over all its lives.
+    /// - `ran`: a network of `agreement` may have it as member `i`.
     pub fn keeps_the_laws(&self)
         ensures lawful { OfAllDone D.eq L.elect self.now (λ term_length i all. IsLawful term_length all) }
         ensures ran { OfAllDone D.eq L.elect self.now (MayBeDoneBy S.PublicKey D.eq L.elect) }
