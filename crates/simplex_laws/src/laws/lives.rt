@@ -1,6 +1,7 @@
 //! What each life of a member keeps, between a start or a restart and the next one.
 
-ghost use Rattle.simplex_laws.specs.LifeLaws.{OfEachLife, OfEachStretch, StretchesAreLives, WhileAlive, NeverFalls, ConflictsStay, DroppedForGood, HandedOnce, HandedAsAsked};
+ghost use Rattle.simplex_laws.specs.LifeLaws.{OfEachLife, OfEachStretch, StretchesAreLives, WhileAlive, NeverFalls};
+ghost use Rattle.simplex_laws.specs.LifeLaws.{ConflictsStay, DroppedForGood, HandedOnce, HandedAsAsked};
 
 use simplex_types::types::{Digest, Elector, Scheme};
 
