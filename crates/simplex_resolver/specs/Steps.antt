@@ -8,6 +8,9 @@ use Rattle.simplex_types.specs.Tracked.{at_or_above}
 use Rattle.simplex_types.specs.ByTerm.{not_ended, is_covered}
 use Rattle.simplex_types.specs.Certificates.{CertificateFacts, ProposalFacts, Notarized, Nullified, Finalized as FinalizedOf}
 use Rattle.simplex_types.specs.Encoding.{encoding}
+use Rattle.simplex_types.specs.declared.types.messages.Proposal.{Proposal}
+use Rattle.simplex_types.specs.declared.types.messages.Certificate.{Certificate}
+use Rattle.simplex_types.specs.declared.types.messages.Certificate.TheVariants as certificate
 use Rattle.simplex_types.specs.declared.types.fault.Fault.{Fault}
 use Rattle.simplex_types.specs.declared.types.fault.Fault.TheVariants.{OutOfMemory, Failed, ViewTooLarge, TimeOverflow}
 use Rattle.simplex_types.specs.declared.reasons.Kind.TheVariants.{Nullification as OfNullification, Notarization as OfNotarization}
@@ -199,7 +202,17 @@ effects x Replayed =
 
 -- ---- refusals
 
--- why a call at the view v is refused, and what it leaves
+-- the higher of a proposal's view and its parent's
+abbrev pub highest_named : {D : Type 0} → Proposal D → ℕ
+highest_named p = max p.round.view p.parent
+
+-- the highest view that a certificate names
+abbrev pub highest_view : {S D K G C : Type 0} → Certificate S D K G C → ℕ
+highest_view (certificate.Notarization n) = highest_named n.proposal
+highest_view (certificate.Nullification n) = n.round.view
+highest_view (certificate.Finalization f) = highest_named f.proposal
+
+-- why a call that names no view above v is refused, and what it leaves
 abbrev pub Refused : Facts → ℕ → Fault → Facts → Type 0
 Refused old v OutOfMemory new =
     (old.is_failed ≡ false) × (v < 2 ^ 63) × (new.is_failed ≡ true) × (term_length new ≡ term_length old)

@@ -1,6 +1,6 @@
 -- A report that is taken is answered with its effects.
-use Rattle.std.proofs.Common.{◌≡◌, ℕ, ◌≤◌, Bool, true, false, cond, List, [], ◌∷◌, Result, Ok, Err, IfOk, OnOk, Vec, Global, refl}
-use Rattle.std.proofs.Math.Nat.{lt_irrefl}
+use Rattle.std.proofs.Common.{◌≡◌, ℕ, ◌≤◌, Bool, true, false, cond, List, [], ◌∷◌, Result, Ok, Err, IfOk, OnOk, Vec, Global, refl, arith}
+use Rattle.std.proofs.Math.Nat.{lt_irrefl, max-eq_left}
 use Rattle.simplex_types.specs.declared.types.numbers.Round.{Round}
 use Rattle.simplex_types.specs.declared.types.messages.Proposal.{Proposal}
 use Rattle.simplex_types.specs.declared.types.plain.PlainDigest.{PlainDigest}
@@ -8,7 +8,7 @@ use Rattle.simplex_types.specs.Certificates.{Nullified}
 use Rattle.simplex_types.specs.Plain.{digest_bytes}
 use Rattle.simplex_resolver.specs.declared.resolver.effect.Effect.{Effect}
 use Rattle.simplex_resolver.specs.Facts.{Facts}
-use Rattle.simplex_resolver.specs.Steps.{Call, after, effects, update, verdict}
+use Rattle.simplex_resolver.specs.Steps.{Call, after, effects, highest_named, update, verdict}
 use Rattle.simplex_resolver.specs.Repair.{IsApplied}
 use Rattle.viewstate.specs.declared.resolver.Answer.{Answer}
 use Rattle.viewstate.specs.declared.resolver.Answer.TheVariants.{Effects}
@@ -19,6 +19,10 @@ pub reported : {E : Type 0} (r : Result Answer E) (x y : Facts) (fetching left :
 reported (Err e) x y fetching left v made call es above same live told is answer applied = tt
 reported (Ok a) x y fetching left v made call es above same live told is answer applied =
     rw (answer, ← same) ((λ zero. absurd (lt_irrefl _ (rw zero at above))), (λ _. (live, told, is, applied)))
+
+-- a line's proposal names no view above its own
+pub named_at : (v : ℕ) (p : Proposal PlainDigest) → IsProposedAt v p → highest_named p ≡ v
+named_at v p at = rw (at.round, at.parent) (max-eq_left (omega arith))
 
 pub same_verdict : (v : ℕ) (success : Bool) (p : Proposal PlainDigest) (good : Bool) → IsProposedAt v p → good ≡ true → verdict digest_bytes (record { proposal = p; bytes = cond good 1 0 ∷ [] }) success ≡ verdict_call v success
 same_verdict v success p good at is = rw (at.round, at.parent, at.payload, is) refl

@@ -84,6 +84,7 @@ impl Resolver {
         }
     }
 
+    #[tactic(auto, using(crate::proofs::Reported::named_at))]
     fn notarize(&mut self, view: View) -> Result<Answer, AllocError>
         ensures { IfOk result (λ answer. Reports self.old.state self.old.outstanding.keys view (notarization_call view) answer self.new.state self.new.outstanding.keys) }
     {
@@ -111,6 +112,7 @@ impl Resolver {
         }
     }
 
+    #[tactic(auto, using(crate::proofs::Reported::named_at))]
     fn finalize(&mut self, view: View) -> Result<Answer, AllocError>
         ensures { IfOk result (λ answer. Reports self.old.state self.old.outstanding.keys view (finalization_call view) answer self.new.state self.new.outstanding.keys) }
     {
@@ -123,6 +125,7 @@ impl Resolver {
         }
     }
 
+    #[tactic(auto, using(crate::proofs::Reported::named_at))]
     fn certify(&mut self, view: View, success: bool) -> Result<Answer, AllocError>
         ensures { IfOk result (λ answer. Reports self.old.state self.old.outstanding.keys view (verdict_call view success) answer self.new.state self.new.outstanding.keys) }
     {

@@ -9,18 +9,19 @@ ghost use Rattle.simplex_types.specs.Certificates.{certificate_facts, notarizati
 ghost use Rattle.simplex_types.specs.Encoding.{encoding};
 ghost use Rattle.simplex_types.specs.Viewed.{certificate_view};
 ghost use Rattle.simplex_resolver.specs.Facts.{empty, term_length, last_finalized};
-ghost use Rattle.simplex_resolver.specs.Steps.{update, verdict, Replayed, Refused, after, effects};
+ghost use Rattle.simplex_resolver.specs.Steps.{update, verdict, Replayed, Refused, after, effects, highest_named, highest_view};
 
 use crate::resolver::effect::Effect;
 use bytes::Bytes;
 use simplex_types::sorted::{ByTerm, Tracked};
 use simplex_types::types::{
-    Certificate, CertificateScheme, Digest, Fault, Notarization, TermLength, View, Viewable,
+    Certificate, CertificateScheme, Digest, Fault, Notarization, Proposal, TermLength, View,
+    Viewable,
 };
 use std::alloc::Global;
 use std::marker::Model;
 
-/// The largest view of a certificate.
+/// The largest view that a certificate names.
 const LARGEST_VIEW: u64 = 0x7fff_ffff_ffff_ffff;
 
 /// The certificates that a resolver keeps and serves, and how far their repair has come.
@@ -45,6 +46,25 @@ pub struct State {
     uncertifiable: Tracked<()>,
     replaying: bool,
     failed: bool,
+}
+
+/// The higher of a proposal's view and its parent's.
+fn highest_named<D: Digest>(proposal: &Proposal<D>) -> View
+    ensures { result ≡ highest_named proposal.now }
+{
+    proposal.round.view.max(proposal.parent)
+}
+
+/// The highest view that a certificate names.
+fn highest_view<S: CertificateScheme, D: Digest>(certificate: &Certificate<S, D>) -> View
+    ensures highest { result ≡ highest_view certificate.now }
+    ensures above { certificate_view certificate.now ≤ result }
+{
+    match certificate {
+        Certificate::Notarization(notarization) => highest_named(&notarization.proposal),
+        Certificate::Nullification(nullification) => nullification.round.view,
+        Certificate::Finalization(finalization) => highest_named(&finalization.proposal),
+    }
 }
 
 impl Model for State {
@@ -131,8 +151,8 @@ impl State {
     ///
     /// # Errors
     ///
-    /// `Failed` on a failed state, `ViewTooLarge` above view 2^63 - 1; both change nothing. After
-    /// `OutOfMemory` the state is failed.
+    /// `Failed` on a failed state, `ViewTooLarge` where its view or its parent's is above 2^63 - 1; both
+    /// change nothing. After `OutOfMemory` the state is failed.
     pub fn updated<S: CertificateScheme, D: Digest>(
         &mut self,
         certificate: &Certificate<S, D>,
@@ -140,13 +160,13 @@ impl State {
         requires { 1 ≤ certificate_view certificate.now }
         ensures after { OnOk result (self.new ≡ after self.old (update D.bytes (certificate_facts S.certificate_bytes certificate.now))) }
         ensures effects { IfOk result (λ es. es.items ≡ effects self.old (update D.bytes (certificate_facts S.certificate_bytes certificate.now))) }
-        ensures accepted { OnOk result ((self.old.is_failed ≡ false) × (certificate_view certificate.now < 2 ^ 63)) }
-        ensures refused { IfErr result (λ fault. Refused self.old (certificate_view certificate.now) fault self.new) }
+        ensures accepted { OnOk result ((self.old.is_failed ≡ false) × (highest_view certificate.now < 2 ^ 63)) }
+        ensures refused { IfErr result (λ fault. Refused self.old (highest_view certificate.now) fault self.new) }
     {
         if self.failed {
             return Err(Fault::Failed);
         }
-        if certificate.view().get() > LARGEST_VIEW {
+        if highest_view(certificate).get() > LARGEST_VIEW {
             return Err(Fault::ViewTooLarge);
         }
         match self.record(certificate) {
@@ -176,13 +196,13 @@ impl State {
         requires { 1 ≤ notarization.proposal.round.view }
         ensures after { OnOk result (self.new ≡ after self.old (verdict D.bytes (notarization_facts S.certificate_bytes notarization) success)) }
         ensures effects { IfOk result (λ es. es.items ≡ effects self.old (verdict D.bytes (notarization_facts S.certificate_bytes notarization) success)) }
-        ensures accepted { OnOk result ((self.old.is_failed ≡ false) × (notarization.proposal.round.view < 2 ^ 63)) }
-        ensures refused { IfErr result (λ fault. Refused self.old notarization.proposal.round.view fault self.new) }
+        ensures accepted { OnOk result ((self.old.is_failed ≡ false) × (highest_named notarization.proposal < 2 ^ 63)) }
+        ensures refused { IfErr result (λ fault. Refused self.old (highest_named notarization.proposal) fault self.new) }
     {
         if self.failed {
             return Err(Fault::Failed);
         }
-        if notarization.view().get() > LARGEST_VIEW {
+        if highest_named(&notarization.proposal).get() > LARGEST_VIEW {
             return Err(Fault::ViewTooLarge);
         }
         match self.judge(notarization, success) {

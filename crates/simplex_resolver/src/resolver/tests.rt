@@ -108,3 +108,15 @@ fn a_view_above_the_largest_is_refused(rt: HostRuntime) -> Result<(), Fail> {
     assert!(rt; served.is_some());
     Ok(())
 }
+
+#[test]
+fn a_parent_above_the_largest_view_is_refused(rt: HostRuntime) -> Result<(), Fail> {
+    let mut state = State::new(rt.alloc(), term_of_one());
+    let mut notarization = notarization_of(3);
+    notarization.proposal.parent = View::new(0x8000_0000_0000_0000);
+    let refused = state.updated(&Certificate::Notarization(notarization));
+    assert!(rt; matches!(refused, Err(Fault::ViewTooLarge)));
+    assert!(rt; !state.is_failed());
+    assert!(rt; !state.settled(View::new(3), Kind::Notarization));
+    Ok(())
+}

@@ -147,13 +147,20 @@ impl<S: CertificateScheme, D: Digest> Round<S, D> {
         self.slot.mark_verified()
     }
 
+    /// Whether `view` was the last one that peers were asked for, to verify this view's proposal.
+    pub fn is_last_request(&self, view: View) -> bool
+        ensures { result ≡ is_last_request self.now view }
+    {
+        self.last_request == Some(view)
+    }
+
     /// Notes that the verification of this view's proposal asks peers for a certificate of
     /// `view`. False where that view was the last one asked for.
     pub fn request(&mut self, view: View) -> bool
         ensures first { result ≡ not (is_last_request self.old view) }
         ensures facts { self.new ≡ record self.old { last_request = Some view } }
     {
-        if self.last_request == Some(view) {
+        if self.is_last_request(view) {
             return false;
         }
         self.last_request = Some(view);

@@ -53,18 +53,25 @@ impl<S: CertificateScheme, D: Digest> Round<S, D> {
         Some(retry)
     }
 
-    /// Decides the vote to finalize and answers its proposal, once: neither nullify nor finalize
-    /// was decided, a proposal is held and was not contradicted, and the view is notarized and
-    /// certified. This member need not have verified it. Else nothing changes.
+    /// Whether `construct_finalize` would answer a proposal: neither nullify nor finalize was
+    /// decided, a proposal is held and was not contradicted, and the view is notarized and
+    /// certified. This member need not have verified it.
+    pub fn can_construct_finalize(&self) -> bool
+        ensures { result ≡ can_finalize self.now }
+    {
+        matches!(self.decision, Decision::Pending { .. })
+            && self.slot.has_unequivocated_proposal()
+            && self.notarization.is_some()
+            && self.is_certified()
+    }
+
+    /// Decides the vote to finalize and answers its proposal, once, where
+    /// `can_construct_finalize`. Else nothing changes.
     pub fn construct_finalize(&mut self) -> Option<Proposal<D>>
         ensures vote { result ≡ (if can_finalize self.old then self.old.slot.held else None) }
         ensures facts { self.new ≡ (if can_finalize self.old then record self.old { decision = Finalize } else self.old) }
     {
-        if !matches!(self.decision, Decision::Pending { .. })
-            || !self.slot.has_unequivocated_proposal()
-            || self.notarization.is_none()
-            || !self.is_certified()
-        {
+        if !self.can_construct_finalize() {
             return None;
         }
         self.decision = Decision::Finalize;

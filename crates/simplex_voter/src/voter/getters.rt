@@ -13,6 +13,7 @@ use simplex_types::types::{
 impl<S: CertificateScheme, L: Elector<S>, D: Digest> State<S, L, D> {
     ghost use Rattle.simplex_voter.specs.Facts.{round_at, is_tracked};
     ghost use Rattle.simplex_voter.specs.Windows.{is_me, viewport, min_active, admits_certificate, admits_vote};
+    ghost use Rattle.simplex_voter.specs.Refusals.{is_started};
     ghost use Rattle.simplex_voter.specs.Serving.{notarization_of, nullification_of, finalization_of, leader_of, forwardable_of, elapsed_since_start, elapsed_since_entry};
 
     /// The epoch. It keeps its promise also after the state has failed.
@@ -55,6 +56,19 @@ impl<S: CertificateScheme, L: Elector<S>, D: Digest> State<S, L, D> {
         ensures { IsTrue result ↔ IsTrue (admits_certificate self.now view) }
     {
         self.viewport().admits_certificate(view)
+    }
+
+    /// Whether a vote of the view is taken: the view is not genesis, is kept, and is not above the next term's start.
+    ///
+    /// The state has a floor.
+    pub fn admits_vote(&self, view: View) -> bool
+        requires { is_started self.now ≡ true }
+        ensures { IsTrue result ↔ IsTrue (admits_vote self.now view) }
+    {
+        let next = self
+            .current
+            .next_term_start(self.elector.terms().term_length);
+        self.admits_certificate(view) && view <= next
     }
 
     fn viewport(&self) -> Viewport

@@ -5,7 +5,6 @@ ghost use Rattle.std.specs.Option.{option_copied};
 
 use super::state::State;
 use super::terms::{admits_outbound, before};
-use simplex_round::round::Decision;
 use simplex_types::types::{CertificateScheme, Digest, Elector, Proposal, View};
 
 impl<S: CertificateScheme, L: Elector<S>, D: Digest> State<S, L, D> {
@@ -125,13 +124,10 @@ impl<S: CertificateScheme, L: Elector<S>, D: Digest> State<S, L, D> {
     fn can_finalize(&self, view: View) -> bool
         ensures { result ≡ can_finalize (round_of self.now view) }
     {
-        let Some(round) = self.round_at(view) else {
-            return false;
-        };
-        matches!(round.decision(), Decision::Pending { .. })
-            && round.has_unequivocated_proposal()
-            && round.notarization().is_some()
-            && round.is_certified()
+        match self.round_at(view) {
+            Some(round) => round.can_construct_finalize(),
+            None => false,
+        }
     }
 
     /// Whether this member may vote to finalize the view.
