@@ -12,7 +12,6 @@ use Rattle.simplex_types.specs.Terms.{next_term_start}
 use Rattle.simplex_types.proofs.Gaps.{next_above}
 use Rattle.simplex_types.specs.Certificates.{NullificationFacts}
 use Rattle.simplex_types.specs.declared.types.messages.Proposal.{Proposal}
-use Rattle.simplex_types.specs.declared.types.messages.Subject.{Subject}
 use Rattle.simplex_types.specs.declared.types.messages.Subject.TheVariants as subject
 use Rattle.simplex_types.specs.declared.types.numbers.Round.{Round}
 use Rattle.simplex_round.specs.Round.{RoundFacts, new_round}

@@ -5,7 +5,6 @@ use Rattle.std.proofs.lemmas.Bool.{false≢true}
 use Rattle.std.proofs.lemmas.List.Elements.{Contains-append_left, Contains-append_right}
 use Rattle.simplex_types.specs.Certificates.{CertificateFacts, Notarized, Nullified, Finalized, ArtifactFacts, NullifyVote, FinalizeVote, Verdict, Accepted}
 use Rattle.simplex_types.specs.declared.types.messages.Proposal.{Proposal}
-use Rattle.simplex_types.specs.declared.types.messages.Subject.{Subject}
 use Rattle.simplex_types.specs.declared.types.messages.Subject.TheVariants as subject
 use Rattle.simplex_types.specs.declared.types.numbers.Round.{Round}
 use Rattle.simplex_round.specs.Round.{RoundFacts, new_round, is_judged, is_certified, is_nullify}
@@ -25,7 +24,6 @@ use Rattle.simplex_laws.proofs.StandingVotes.{held_notarized}
 use Rattle.simplex_laws.proofs.LifeCalls.{nullify_silent, nullify_told, finalize_silent, finalize_told, no_key, no_rule}
 use Rattle.simplex_laws.proofs.Recalls.{Remembers}
 use Rattle.simplex_laws.proofs.Marks.{Marked, marked_more, event_marked, quiet_marked}
-use Rattle.simplex_laws.proofs.InOrder.{InOrder}
 use Rattle.simplex_laws.proofs.Retaken.{subject_of}
 use Rattle.simplex_laws.proofs.Steps.{verdict_by, nullify_by}
 use Rattle.simplex_laws.specs.Events as event
@@ -51,14 +49,14 @@ module _ {K L D : Type 0} (x : Facts K L D) (v : ℕ) where
       by_round None some takes no_first = absurd (false≢true some)
       by_round (Some r) some takes no_first = judged_true (is_judged true r.certification) (is_judged false r.certification) (and_parts (is_some r.notarization) (not (is_judged false r.certification)) takes).1 no_first
 
-module _ {K L D : Type 0} (same : D → D → Bool) (elect : Elect L) (term_length : ℕ) (deeds : List (Deed D)) (kept : ℕ) (entries : List (ArtifactFacts D)) (x : Facts K L D) (stays : Stays term_length deeds x) (ordered : InOrder x) (follows : Follows deeds kept entries x) where
+module _ {K L D : Type 0} (same : D → D → Bool) (elect : Elect L) (term_length : ℕ) (deeds : List (Deed D)) (kept : ℕ) (entries : List (ArtifactFacts D)) (x : Facts K L D) (stays : Stays term_length deeds x) (follows : Follows deeds kept entries x) where
   nothing_follows : (y : Facts K L D) → Marked entries y → Follows (deeds ++ []) kept (entries ++ []) y
   nothing_follows y marked = record { remembers = remembers_more deeds entries kept [] [] (grows_nothing deeds entries) follows.remembers; marked = marked_more entries [] y marked }
 
   -- an event that gives no verdict and decides no vote to nullify shows no more
 
   quiet_on : (e : Event K D) → verdict_by e ≡ None → nullify_by e ≡ None → Marked entries (after_event same elect x e)
-  quiet_on e verdict nullify = quiet_marked same elect x e entries ordered verdict nullify follows.marked
+  quiet_on e verdict nullify = quiet_marked same elect x e entries verdict nullify follows.marked
 
   quiet_follows : (e : Event K D) → verdict_by e ≡ None → nullify_by e ≡ None → Follows (deeds ++ []) kept (entries ++ []) (after_event same elect x e)
   quiet_follows e verdict nullify = nothing_follows (after_event same elect x e) (quiet_on e verdict nullify)
@@ -74,7 +72,7 @@ module _ {K L D : Type 0} (same : D → D → Bool) (elect : Elect L) (term_leng
   certified_follows : (v : ℕ) (success : Bool) (now : ℕ) → takes_verdict x v success ≡ true → Follows (deeds ++ []) kept (entries ++ newly (is_first_verdict x v) (Verdict (round_number x v) success)) (after_certified elect x v success now)
   certified_follows v success now takes = record {
     remembers = remembers_more deeds entries kept [] new (grows_verdict deeds entries (is_first_verdict x v) (round_number x v) success) follows.remembers;
-    marked = event_marked same elect x given entries (entries ++ new) ordered (λ a h. Contains-append_left entries new a h) (λ w says before after. shown w says before after) (λ w says before after key. absurd (cc)) follows.marked;
+    marked = event_marked same elect x given entries (entries ++ new) (λ a h. Contains-append_left entries new a h) (λ w says before after. shown w says before after) (λ w says before after key. absurd (cc)) follows.marked;
   }
     where
       new : List (ArtifactFacts D)
@@ -103,7 +101,7 @@ module _ {K L D : Type 0} (same : D → D → Bool) (elect : Elect L) (term_leng
   -- a vote to nullify is recorded, unless it was before
 
   nullify_marked : (v : ℕ) (new : List (ArtifactFacts D)) → (may_nullify x v ≡ true → is_nullify (round_of x v).decision ≡ false → is_some x.me ≡ true → (m : ℕ) × Contains (entries ++ new) (NullifyVote (round_number x v) m)) → Marked (entries ++ new) (after_construct_nullify x v)
-  nullify_marked v new vote = event_marked same elect x decides entries (entries ++ new) ordered (λ a h. Contains-append_left entries new a h) (λ w says before after. absurd (cc)) (λ w says before after key. shown w says before after key (may_nullify x v) refl) follows.marked
+  nullify_marked v new vote = event_marked same elect x decides entries (entries ++ new) (λ a h. Contains-append_left entries new a h) (λ w says before after. absurd (cc)) (λ w says before after key. shown w says before after key (may_nullify x v) refl) follows.marked
     where
       decides : Event K D
       decides = event.ConstructNullify v

@@ -1,9 +1,8 @@
 -- Words of the voter's definitions that leave each view's proposal, its verification and its binding as they are.
-use Rattle.std.proofs.Common.{◌≡◌, ◌≢◌, refl, ap, sym, ◌∙◌, subst, ℕ, zero, suc, ◌+◌, ◌-◌, ◌≤◌, inl, inr, Bool, true, false, ◌&&◌, not, cond, if◌then◌else◌, nat_lt, nat_le, nat_eq, min, List, [], ◌∷◌, Option, Some, None, is_some, unwrap_or, arith}
-use Rattle.std.specs.Prelude.{map}
+use Rattle.std.proofs.Common.{◌≡◌, ◌≢◌, refl, ap, sym, ◌∙◌, subst, ℕ, zero, suc, ◌+◌, ◌-◌, ◌≤◌, inl, inr, Bool, true, false, ◌&&◌, not, cond, if◌then◌else◌, nat_lt, nat_le, nat_eq, min, List, [], Option, Some, None, is_some, arith}
 use Rattle.std.specs.List.{fold, range_with_len}
 use Rattle.std.specs.Option.{option_map_or}
-use Rattle.std.specs.Ordering.{nat_cmp, eq_by_cmp}
+use Rattle.std.specs.Ordering.{nat_cmp}
 use Rattle.std.specs.Cmp.{nat_cmp_total}
 use Rattle.std.specs.FinMap.Entries.{find, put, find-put}
 use Rattle.std.proofs.lemmas.Bool.{cases_eq, ne_eqb}
@@ -12,8 +11,8 @@ use Rattle.simplex_types.specs.Terms.{term_end}
 use Rattle.simplex_types.specs.Certificates.{ProposalFacts, NullificationFacts}
 use Rattle.simplex_types.specs.declared.reasons.TimeoutReason.{TimeoutReason}
 use Rattle.simplex_round.specs.declared.round.Leader.{Leader}
-use Rattle.simplex_round.specs.Round.{RoundFacts, new_round, leader_at, with_latch}
-use Rattle.simplex_voter.specs.Facts.{Facts, Elect, round_at, round_of, round_number, is_tracked, with_round, with_tracked}
+use Rattle.simplex_round.specs.Round.{RoundFacts, leader_at, with_latch}
+use Rattle.simplex_voter.specs.Facts.{Facts, Elect, round_at, round_of, is_tracked, with_round, with_tracked}
 use Rattle.simplex_voter.specs.Windows.{in_window}
 use Rattle.simplex_voter.specs.Payloads.{is_elected_early}
 use Rattle.simplex_voter.specs.Entering.{at_moment, entered, entered_round}
@@ -24,7 +23,7 @@ use Rattle.simplex_voter.specs.Acceptance.{with_notarization_at, with_nullificat
 use Rattle.simplex_voter.proofs.Elsewhere.{round_of-with_round}
 use Rattle.simplex_types.proofs.Maps.{is_eq-nat_cmp}
 use Rattle.simplex_voter.proofs.Gaps.{and_parts}
-use Rattle.simplex_laws.proofs.Rounds.{round_put}
+use Rattle.simplex_laws.proofs.Rounds.{round_put, tracked_changed, round_changed}
 use Rattle.simplex_laws.proofs.Calm.{Calm, calm, calm_joined, calm_alike, calm_led, calm_token, calm_nullification, calm_notarization, calm_finalization}
 
 -- no view below `base` is tracked
@@ -172,28 +171,9 @@ module _ {K L D : Type 0} (base : ℕ) where
 
 -- the last finalized view is raised
 
-module _ {K D : Type 0} (v : ℕ) where
-  calm_aborted : (w : ℕ) (b : Bool) (r : RoundFacts K D) → Calm w r (if b then without_token r else r)
-  calm_aborted w true r = calm_token w r
-  calm_aborted w false r = calm w r
-
-  calm_found : (w : ℕ) (d : RoundFacts K D) (es : List (ℕ × RoundFacts K D)) → Calm w (unwrap_or (find nat_cmp w es) d) (unwrap_or (find nat_cmp w (map (λ e. (e.0, if nat_le e.0 v then without_token e.1 else e.1)) es)) d)
-  calm_found w d [] = calm w d
-  calm_found w d (e ∷ es) =
-      let behind = calm_found w d es in
-      elim (eq_by_cmp nat_cmp w e.0) as (λ b. Calm w (unwrap_or (cond b (Some e.1) (find nat_cmp w es)) d) (unwrap_or (cond b (Some (if nat_le e.0 v then without_token e.1 else e.1)) (find nat_cmp w (map (λ e. (e.0, if nat_le e.0 v then without_token e.1 else e.1)) es))) d)) [
-        | true ↦ calm_aborted w (nat_le e.0 v) e.1
-        | false ↦ behind
-      ]
-
-  found_still : (w : ℕ) (es : List (ℕ × RoundFacts K D)) → is_some (find nat_cmp w (map (λ e. (e.0, if nat_le e.0 v then without_token e.1 else e.1)) es)) ≡ is_some (find nat_cmp w es)
-  found_still w [] = refl
-  found_still w (e ∷ es) =
-      let behind = found_still w es in
-      elim (eq_by_cmp nat_cmp w e.0) as (λ b. is_some (cond b (Some (if nat_le e.0 v then without_token e.1 else e.1)) (find nat_cmp w (map (λ e. (e.0, if nat_le e.0 v then without_token e.1 else e.1)) es))) ≡ is_some (cond b (Some e.1) (find nat_cmp w es))) [
-        | true ↦ refl
-        | false ↦ behind
-      ]
+calm_aborted : {K D : Type 0} (w : ℕ) (b : Bool) (r : RoundFacts K D) → Calm w r (if b then without_token r else r)
+calm_aborted w true r = calm_token w r
+calm_aborted w false r = calm w r
 
 pub on_raised : {K L D : Type 0} (base : ℕ) (x : Facts K L D) (v : ℕ) → CalmOn base x (raised x v)
 on_raised base x v = raises (nat_lt x.finalized v) refl
@@ -204,7 +184,7 @@ on_raised base x v = raises (nat_lt x.finalized v) refl
       current = omega arith;
       finalized = grind (arith, nat_tests);
       nullified = refl;
-      above = λ above w tracked. above w (sym (found_still v w x.rounds) ∙ tracked);
-      rounds = λ w. calm_found v w (new_round x.me x.members (round_number x w)) x.rounds;
+      above = λ above w tracked. above w (sym (tracked_changed (λ u r. if nat_le u v then without_token r else r) x w) ∙ tracked);
+      rounds = λ w. round_changed (λ u r. if nat_le u v then without_token r else r) x w (Calm w) (calm w) (calm_aborted w (nat_le w v));
     })
     raises false is = rw is (on_same base x)

@@ -1,7 +1,5 @@
 -- Each event adds to the work on a view what it says.
-use Rattle.std.proofs.Common.{◌≡◌, Bool, true}
-use Rattle.std.specs.Ordering.{nat_cmp}
-use Rattle.std.specs.FinMap.Entries.{is_sorted}
+use Rattle.std.proofs.Common.{Bool}
 use Rattle.simplex_types.specs.Config.{Genesis, Finalized}
 use Rattle.simplex_voter.specs.Facts.{Facts, Elect}
 use Rattle.simplex_laws.specs.Events.{Event, after_event, SetFloor, AddNotarization, AddNullification, AddFinalization, Certified, ConstructNotarize, ConstructNullify, ConstructFinalize, SetProposal, TryPropose, Proposed, Supersede, Release, TryVerify, Verified, VerificationFailed, CertifyCandidates, SetCertifyHandle, TriggerTimeout, NextTimeout, BroadcastNotarization, BroadcastNullification, BroadcastFinalization, Prune, Replay}
@@ -15,30 +13,30 @@ use Rattle.simplex_laws.proofs.WorkTimeouts.{trigger_works, failed_works, next_t
 use Rattle.simplex_laws.proofs.WorkVotes.{notarize_works, nullify_works, finalize_works, proposal_works}
 
 module _ {K L D : Type 0} (same : D → D → Bool) (elect : Elect L) (x : Facts K L D) where
-  pub event_works : (e : Event K D) → is_sorted nat_cmp x.rounds ≡ true → WorkFollows same elect e x (after_event same elect x e)
-  event_works (SetFloor (Genesis payload) now) ordered = genesis_works same elect x payload now
-  event_works (SetFloor (Finalized c) now) ordered = floor_finalization_works same elect x c now
-  event_works (AddNotarization c) ordered = notarization_works same elect x c
-  event_works (AddNullification c now) ordered = nullification_works same elect x c now
-  event_works (AddFinalization c now) ordered = finalization_works same elect x c now
-  event_works (Certified v success now) ordered = verdict_works same elect x v now success
-  event_works (ConstructNotarize v) ordered = notarize_works same elect x v
-  event_works (ConstructNullify v) ordered = nullify_works same elect x v
-  event_works (ConstructFinalize v) ordered = finalize_works same elect x v
-  event_works (SetProposal v p) ordered = proposal_works same elect x v p
-  event_works TryPropose ordered = try_propose_works same elect x
-  event_works (Proposed context payload now) ordered = proposed_works same elect x context payload now
-  event_works (Supersede context) ordered = supersede_works same elect x context
-  event_works (Release v) ordered = release_works same elect x v
-  event_works TryVerify ordered = try_verify_works same elect x ordered
-  event_works (Verified v) ordered = verified_works same elect x v
-  event_works (VerificationFailed v reason now) ordered = failed_works same elect x v reason now
-  event_works CertifyCandidates ordered = candidates_works same elect x
-  event_works (SetCertifyHandle v token) ordered = handle_works same elect x v token
-  event_works (TriggerTimeout v reason now) ordered = trigger_works same elect x v reason now
-  event_works (NextTimeout now) ordered = next_timeout_works same elect x now
-  event_works (BroadcastNotarization v) ordered = broadcast_notarization_works same elect x v
-  event_works (BroadcastNullification v) ordered = broadcast_nullification_works same elect x v
-  event_works (BroadcastFinalization v) ordered = broadcast_finalization_works same elect x v
-  event_works Prune ordered = prune_works same elect x
-  event_works (Replay e) ordered = replay_works same elect x e
+  pub event_works : (e : Event K D) → WorkFollows same elect e x (after_event same elect x e)
+  event_works (SetFloor (Genesis payload) now) = genesis_works same elect x payload now
+  event_works (SetFloor (Finalized c) now) = floor_finalization_works same elect x c now
+  event_works (AddNotarization c) = notarization_works same elect x c
+  event_works (AddNullification c now) = nullification_works same elect x c now
+  event_works (AddFinalization c now) = finalization_works same elect x c now
+  event_works (Certified v success now) = verdict_works same elect x v now success
+  event_works (ConstructNotarize v) = notarize_works same elect x v
+  event_works (ConstructNullify v) = nullify_works same elect x v
+  event_works (ConstructFinalize v) = finalize_works same elect x v
+  event_works (SetProposal v p) = proposal_works same elect x v p
+  event_works TryPropose = try_propose_works same elect x
+  event_works (Proposed context payload now) = proposed_works same elect x context payload now
+  event_works (Supersede context) = supersede_works same elect x context
+  event_works (Release v) = release_works same elect x v
+  event_works TryVerify = try_verify_works same elect x
+  event_works (Verified v) = verified_works same elect x v
+  event_works (VerificationFailed v reason now) = failed_works same elect x v reason now
+  event_works CertifyCandidates = candidates_works same elect x
+  event_works (SetCertifyHandle v token) = handle_works same elect x v token
+  event_works (TriggerTimeout v reason now) = trigger_works same elect x v reason now
+  event_works (NextTimeout now) = next_timeout_works same elect x now
+  event_works (BroadcastNotarization v) = broadcast_notarization_works same elect x v
+  event_works (BroadcastNullification v) = broadcast_nullification_works same elect x v
+  event_works (BroadcastFinalization v) = broadcast_finalization_works same elect x v
+  event_works Prune = prune_works same elect x
+  event_works (Replay e) = replay_works same elect x e

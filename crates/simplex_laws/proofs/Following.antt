@@ -5,7 +5,6 @@ use Rattle.std.specs.Ordering.{nat_cmp, match_ordering}
 use Rattle.std.specs.declared.cmp.Ordering.{Ordering}
 use Rattle.std.specs.declared.cmp.Ordering.TheVariants.{Less, Equal, Greater}
 use Rattle.std.specs.BTreeSet.{insert_key}
-use Rattle.std.specs.FinMap.Entries.{is_sorted}
 use Rattle.std.proofs.lemmas.Bool.{cases_eq, ne_eqb}
 use Rattle.simplex_round.specs.Round.{RoundFacts}
 use Rattle.simplex_voter.specs.Facts.{Facts, Elect, round_of, is_tracked, with_round}
@@ -53,7 +52,6 @@ module _ {K L D : Type 0} (same : D → D → Bool) (elect : Elect L) where
     pub finalized : y.finalized ≡ max x.finalized (finalized_by e)
     pub nullified : (v : ℕ) → left_from x e ≤ v → is_among y.nullified v ≡ (covers_from v e || is_among x.nullified v)
     pub nullify_votes : (v : ℕ) → left_from x e ≤ v → is_among y.nullify_votes v ≡ (casts_nullify v x e || is_among x.nullify_votes v)
-    pub ordered : is_sorted nat_cmp x.rounds ≡ true → is_sorted nat_cmp y.rounds ≡ true
     pub rounds : (v : ℕ) → left_from x e ≤ v → known_of (round_of y v) ≡ adds x e v (known_of (round_of x v))
 
   -- an event says nothing
@@ -116,6 +114,5 @@ module _ {K L D : Type 0} (same : D → D → Bool) (elect : Elect L) (x : Facts
     finalized = leaves.finalized_is ∙ omega (arith, silent.finalized);
     nullified = λ v _. ap (λ views. is_among views v) leaves.nullified ∙ sym (ap (λ b. b || is_among x.nullified v) (silent.nullified v));
     nullify_votes = λ v _. ap (λ views. is_among views v) leaves.nullify_votes ∙ sym (ap (λ b. b || is_among x.nullify_votes v) (silent.nullify_votes v));
-    ordered = leaves.ordered;
     rounds = λ v _. nothing_added v (silent.rounds v) (round_of x v) (round_of y v) (leaves.rounds v);
   }

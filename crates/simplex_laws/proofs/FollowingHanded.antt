@@ -28,7 +28,6 @@ use Rattle.simplex_laws.specs.OwnWork.{contradicts}
 use Rattle.simplex_laws.specs.Shows.{verdict_of}
 use Rattle.simplex_member.proofs.Growing.{round_of-same}
 use Rattle.simplex_laws.proofs.Leaving.{Known, known_of, Alike, Leaves, Quiet, quiet, then_quiet, both_quiet, leaves_joined, quiet_where, moment_leaves, entered_leaves, raised_leaves, named_quiet, slid_quiet, triggered_quiet, elected_quiet, woken_quiet}
-use Rattle.simplex_laws.proofs.Leaving.{put_ordered}
 use Rattle.simplex_laws.proofs.Following.{adds, Follows, among_noted, nothing_added, put_between}
 
 -- a certificate settles its view's proposal
@@ -115,7 +114,6 @@ module _ {K L D : Type 0} (same : D → D → Bool) (decides : (d e : D) → sam
         finalized = omega (arith, after.finalized_is, before.finalized_is);
         nullified = λ w _. ap (λ views. is_among views w) (after.nullified ∙ before.nullified);
         nullify_votes = λ w _. ap (λ views. is_among views w) (after.nullify_votes ∙ before.nullify_votes);
-        ordered = λ h. after.ordered (put_ordered d v (with_notarization (same_proposal same) (round_of d v) c) (before.ordered h));
         rounds = λ w _. put_between same elect x (AddNotarization c) d y v (with_notarization (same_proposal same) (round_of d v) c) before.rounds (notarization_added same decides elect x c (round_of d v) (ap (λ k. k.notarization) (before.rounds v))) (λ u apart k. rw apart refl) after.rounds w;
       }
 
@@ -141,7 +139,6 @@ module _ {K L D : Type 0} (same : D → D → Bool) (decides : (d e : D) → sam
         finalized = after.finalized_is ∙ before.finalized_is ∙ raising.finalized_is;
         nullified = λ w _. ap (λ views. is_among views w) (after.nullified ∙ before.nullified);
         nullify_votes = λ w _. ap (λ views. is_among views w) (after.nullify_votes ∙ before.nullify_votes);
-        ordered = λ h. after.ordered (put_ordered d v (with_finalization (same_proposal same) (round_of d v) c) (before.ordered h));
         rounds = λ w _. put_between same elect x (AddFinalization c now) d y v (with_finalization (same_proposal same) (round_of d v) c) before.rounds (finalization_added same decides elect x c (round_of d v) now (ap (λ k. k.finalization) (before.rounds v))) (λ u apart k. rw apart refl) after.rounds w;
       }
 
@@ -158,7 +155,6 @@ module _ {K L D : Type 0} (same : D → D → Bool) (decides : (d e : D) → sam
         finalized = f.finalized;
         nullified = f.nullified;
         nullify_votes = f.nullify_votes;
-        ordered = λ h. put_ordered z v r (f.ordered h);
         rounds = λ w left. handed w (cases_eq w c.proposal.round.view);
       }
     where
@@ -205,7 +201,6 @@ module _ {K L D : Type 0} (same : D → D → Bool) (elect : Elect L) (x : Facts
         finalized = omega (arith, before.finalized_is);
         nullified = λ w _. among_noted u w d.nullified ∙ ap (λ views. eqb w u || is_among views w) before.nullified;
         nullify_votes = λ w _. ap (λ views. is_among views w) before.nullify_votes;
-        ordered = λ h. put_ordered d u (with_nullification (round_of d u) c) (before.ordered h);
         rounds = λ w _. put_between same elect x (AddNullification c now) d z u (with_nullification (round_of d u) c) before.rounds (nullification_added same elect x c now (round_of d u)) (λ s apart k. rw apart refl) (λ s. refl) w;
       }
 
@@ -224,7 +219,6 @@ module _ {K L D : Type 0} (same : D → D → Bool) (elect : Elect L) (x : Facts
         finalized = omega (arith, q.finalized_is);
         nullified = λ w _. ap (λ views. is_among views w) q.nullified;
         nullify_votes = λ w _. ap (λ views. is_among views w) q.nullify_votes;
-        ordered = q.ordered;
         rounds = λ w _. q.rounds w;
       }
 
@@ -285,7 +279,6 @@ module _ {K L D : Type 0} (same : D → D → Bool) (elect : Elect L) (x : Facts
             finalized = omega (arith, after.finalized_is);
             nullified = λ w _. ap (λ views. is_among views w) after.nullified;
             nullify_votes = λ w _. ap (λ views. is_among views w) after.nullify_votes;
-            ordered = λ h. after.ordered (put_ordered a v (certified_round (round_of x v) true) h);
             rounds = λ w _. judged_rounds same elect x v now true y taken here after.rounds w;
           })
       by_tracked true here false taken =
@@ -302,7 +295,6 @@ module _ {K L D : Type 0} (same : D → D → Bool) (elect : Elect L) (x : Facts
             finalized = omega (arith, after.finalized_is);
             nullified = λ w _. ap (λ views. is_among views w) after.nullified;
             nullify_votes = λ w _. ap (λ views. is_among views w) after.nullify_votes;
-            ordered = λ h. after.ordered (put_ordered a v (certified_round (round_of x v) false) h);
             rounds = λ w _. judged_rounds same elect x v now false y taken here after.rounds w;
           })
       by_tracked false gone s taken =
@@ -316,7 +308,6 @@ module _ {K L D : Type 0} (same : D → D → Bool) (elect : Elect L) (x : Facts
             finalized = omega arith;
             nullified = λ w _. refl;
             nullify_votes = λ w _. refl;
-            ordered = λ h. h;
             rounds = λ w _. nothing_added same elect x (Certified v s now) w (λ k. rw (gone, and_false (eqb w v)) refl) (round_of x w) (round_of x w) refl;
           })
         where

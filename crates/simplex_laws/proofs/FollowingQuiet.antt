@@ -4,6 +4,7 @@ use Rattle.std.specs.Option.{option_map_or}
 use Rattle.std.proofs.lemmas.Bool.{true≢false}
 use Rattle.simplex_types.specs.declared.types.messages.Context.{Context}
 use Rattle.simplex_types.specs.declared.reasons.TimeoutReason.{TimeoutReason}
+use Rattle.simplex_types.specs.declared.reasons.TimeoutReason.TheVariants.{InvalidProposal}
 use Rattle.simplex_round.specs.declared.round.Decision.{Decision}
 use Rattle.simplex_round.specs.declared.round.Decision.TheVariants as decision
 use Rattle.simplex_round.specs.declared.round.Certification.{Certification}
@@ -14,12 +15,16 @@ use Rattle.simplex_voter.specs.Facts.{Facts, Elect, round_of, with_tracked}
 use Rattle.simplex_voter.specs.Entering.{at_moment}
 use Rattle.simplex_voter.specs.Timeouts.{triggered, polled, after_trigger_timeout, after_next_timeout}
 use Rattle.simplex_voter.specs.Certification.{takes_certify_handle, after_candidates, after_set_certify_handle}
-use Rattle.simplex_voter.specs.Proposing.{Request, request_context, build_requested, with_build, propose_answer, after_try_propose, supersede_answer, after_supersede, after_release}
+use Rattle.simplex_voter.specs.declared.voter.proposal_request.ProposalRequest.{ProposalRequest}
+use Rattle.simplex_voter.specs.declared.voter.standing.Standing.{Standing}
+use Rattle.simplex_voter.specs.declared.voter.standing.Standing.TheVariants.{Passed, Invalid, Lacks, Ready}
+use Rattle.simplex_voter.specs.Proposing.{request_context, build_requested, with_build, propose_answer, after_try_propose, supersede_answer, after_supersede, after_release}
 use Rattle.simplex_voter.specs.Parents.{binding_matches}
-use Rattle.simplex_voter.specs.Verifying.{without_binding, with_mark, after_verified, after_verification_failed}
+use Rattle.simplex_voter.specs.Verifying.{round_left, standing, was_scanned, scan_left, without_binding, with_mark, after_try_verify, after_verified, after_verification_failed}
 use Rattle.simplex_voter.proofs.Gaps.{and_parts}
 use Rattle.simplex_laws.specs.Shows.{verdict_of}
-use Rattle.simplex_laws.proofs.Leaving.{known_of, decided_alike, Alike, Leaves, Quiet, alike, alike_where, quiet, then_quiet, quiet_where, tracked_quiet, moment_leaves, triggered_quiet}
+use Rattle.simplex_laws.proofs.Rounds.{round_changed}
+use Rattle.simplex_laws.proofs.Leaving.{known_of, decided_alike, Alike, Leaves, Quiet, alike, latch_alike, alike_where, quiet, then_quiet, quiet_where, tracked_quiet, moment_leaves, triggered_quiet}
 
 retry_nullify : (d : Decision) → has_no_retry d ≡ true → true ≡ is_nullify d
 retry_nullify (decision.Pending _ _ _) is = absurd (true≢false (sym is))
@@ -46,7 +51,7 @@ module _ {K L D : Type 0} (x : Facts K L D) where
   pub try_propose_quiet : (same : D → D → Bool) (elect : Elect L) → Quiet x (after_try_propose same elect x)
   try_propose_quiet same elect = by_answer (propose_answer same elect x)
     where
-      by_answer : (o : Option (Request K D)) → Quiet x (option_map_or (λ request. with_build x (request_context request).round.view true) o x)
+      by_answer : (o : Option (ProposalRequest D K)) → Quiet x (option_map_or (λ request. with_build x (request_context request).round.view true) o x)
       by_answer None = quiet x
       by_answer (Some request) = build_quiet (request_context request).round.view true
 
@@ -60,10 +65,30 @@ module _ {K L D : Type 0} (x : Facts K L D) where
       (tracked_quiet x v (with_mark r) (alike_where r (is_nullify r.decision) r (record r { slot = after_mark r.slot }) (alike r) refl))
       (without_binding_quiet v)
 
+  pub try_verify_quiet : (same : D → D → Bool) (elect : Elect L) → Quiet x (after_try_verify same elect x)
+  try_verify_quiet same elect = record {
+    settings = refl;
+    terms = refl;
+    genesis = refl;
+    nullified = refl;
+    nullify_votes = refl;
+    moment_is = refl;
+    current_is = refl;
+    finalized_is = refl;
+    rounds = λ v. round_changed (scan_left same elect x) x v Alike alike (λ r. by_standing r (was_scanned same elect x v) (standing same elect x (v, r)));
+  }
+    where
+      by_standing : (r : RoundFacts K D) (b : Bool) (s : Standing D) → Alike r (if b then round_left r x.moment s else r)
+      by_standing r true Invalid = latch_alike r x.moment InvalidProposal
+      by_standing r false s = alike r
+      by_standing r true Passed = alike r
+      by_standing r true (Lacks w kind) = alike r
+      by_standing r true (Ready d) = alike r
+
   -- certification
 
   pub candidates_quiet : Quiet x (after_candidates x)
-  candidates_quiet = record { settings = refl; terms = refl; genesis = refl; nullified = refl; nullify_votes = refl; ordered = λ h. h; moment_is = refl; current_is = refl; finalized_is = refl; rounds = λ w. alike (round_of x w) }
+  candidates_quiet = record { settings = refl; terms = refl; genesis = refl; nullified = refl; nullify_votes = refl; moment_is = refl; current_is = refl; finalized_is = refl; rounds = λ w. alike (round_of x w) }
 
   pub handle_quiet : (v token : ℕ) → takes_certify_handle x v ≡ true → Quiet x (after_set_certify_handle x v token)
   handle_quiet v token takes = tracked_quiet x v (record (round_of x v) { certification = certification.Outstanding token }) (λ i. record (known_of (round_of x v)) { verdict = unjudged (round_of x v).certification (and_parts _ _ (and_parts _ _ takes).0).1 (and_parts _ _ takes).1 i })

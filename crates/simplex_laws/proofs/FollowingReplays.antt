@@ -1,8 +1,6 @@
 -- What replayed artifacts say, and so each event.
 use Rattle.std.proofs.Common.{◌≡◌, refl, ap, sym, ◌∙◌, ℕ, Bool, true, Option, Some, None, unwrap_or, arith}
 use Rattle.std.proofs.lemmas.Bool.{eq-eqb}
-use Rattle.std.specs.FinMap.Entries.{is_sorted}
-use Rattle.std.specs.Ordering.{nat_cmp}
 use Rattle.simplex_types.specs.Proposal.{same_proposal}
 use Rattle.simplex_types.specs.Config.{Genesis, Finalized as FinalizedFloor}
 use Rattle.simplex_types.specs.Certificates.{ArtifactFacts, NotarizeVote, NullifyVote, FinalizeVote, Verdict, Accepted, Notarized, Nullified, Finalized}
@@ -16,11 +14,10 @@ use Rattle.simplex_voter.specs.Replay.{TakesReplay, bound_again, restored_bindin
 use Rattle.simplex_member.specs.Recovery.{as_artifact, replayed}
 use Rattle.simplex_laws.specs.Events.{Event, IsEvent, after_event, SetFloor, AddNotarization, AddNullification, AddFinalization, Certified, ConstructNotarize, ConstructNullify, ConstructFinalize, SetProposal, TryPropose, Proposed, Supersede, Release, TryVerify, Verified, VerificationFailed, CertifyCandidates, SetCertifyHandle, TriggerTimeout, NextTimeout, BroadcastNotarization, BroadcastNullification, BroadcastFinalization, Prune, Replay}
 use Rattle.simplex_laws.specs.Sums.{moment_by, is_among}
-use Rattle.simplex_laws.proofs.Leaving.{put_ordered, known_of, Leaves, Quiet, prepared_quiet}
+use Rattle.simplex_laws.proofs.Leaving.{known_of, Leaves, Quiet, prepared_quiet}
 use Rattle.simplex_laws.proofs.Following.{adds, Follows, IsSilent, among_noted, put_between, put_alone, silent_follows}
 use Rattle.simplex_laws.proofs.FollowingHanded.{verdict_first, notarization_follows, finalization_follows, floor_finalization_follows, nullification_follows, genesis_follows, verdict_follows}
-use Rattle.simplex_laws.proofs.FollowingQuiet.{release_quiet, supersede_quiet, try_propose_quiet, verified_quiet, candidates_quiet, handle_quiet, trigger_leaves, next_timeout_leaves, failed_leaves}
-use Rattle.simplex_laws.proofs.FollowingScans.{try_verify_quiet}
+use Rattle.simplex_laws.proofs.FollowingQuiet.{try_verify_quiet, release_quiet, supersede_quiet, try_propose_quiet, verified_quiet, candidates_quiet, handle_quiet, trigger_leaves, next_timeout_leaves, failed_leaves}
 use Rattle.simplex_laws.proofs.FollowingVotes.{own_held, own_conflict, nullify_follows, finalize_follows, notarize_follows, proposal_follows, proposed_follows, broadcast_notarization_follows, broadcast_nullification_follows, broadcast_finalization_follows, prune_follows}
 
 module _ {K L D : Type 0} (same : D → D → Bool) (decides : (d e : D) → same d e ≡ true → d ≡ e) (elect : Elect L) (x : Facts K L D) where
@@ -35,7 +32,6 @@ module _ {K L D : Type 0} (same : D → D → Bool) (decides : (d e : D) → sam
         finalized = omega (arith, after.finalized_is);
         nullified = λ w _. ap (λ views. is_among views w) after.nullified;
         nullify_votes = λ w _. ap (λ views. is_among views w) after.nullify_votes;
-        ordered = λ h. after.ordered (put_ordered x v t h);
         rounds = λ w _. put_between same elect x (Replay (NotarizeVote p signer)) x (prepared elect z v) v t (λ u. refl) voted (λ u apart k. rw apart refl) after.rounds w;
       }
     where
@@ -81,7 +77,6 @@ module _ {K L D : Type 0} (same : D → D → Bool) (decides : (d e : D) → sam
         finalized = omega arith;
         nullified = λ w _. refl;
         nullify_votes = λ w _. among_noted v w x.nullify_votes;
-        ordered = put_ordered x v r;
         rounds = λ w _. put_alone same elect x (Replay (NullifyVote round signer)) v r (rw (eq-eqb v v refl) (λ i. record (known_of (round_of x v)) { nullify_decided = true; finalize_decided = sym takes.taken.1 i })) (λ u apart k. rw apart refl) w;
       }
   replay_follows (FinalizeVote p signer) takes =
@@ -96,7 +91,6 @@ module _ {K L D : Type 0} (same : D → D → Bool) (decides : (d e : D) → sam
         finalized = omega arith;
         nullified = λ w _. refl;
         nullify_votes = λ w _. refl;
-        ordered = put_ordered x v r;
         rounds = λ w _. put_alone same elect x (Replay (FinalizeVote p signer)) v r (rw (eq-eqb v v refl) (λ i. record (known_of (round_of x v)) { nullify_decided = sym takes.taken.1 i; finalize_decided = true })) (λ u apart k. rw apart refl) w;
       }
   replay_follows (Verdict round success) takes =
@@ -111,7 +105,6 @@ module _ {K L D : Type 0} (same : D → D → Bool) (decides : (d e : D) → sam
         finalized = omega arith;
         nullified = λ w _. refl;
         nullify_votes = λ w _. refl;
-        ordered = put_ordered x v (certified_round r success);
         rounds = λ w _. put_alone same elect x (Replay (Verdict round success)) v (certified_round r success) (rw (eq-eqb v v refl) (λ i. record (known_of r) { verdict = verdict_first r.certification success takes.taken i })) (λ u apart k. rw apart refl) w;
       }
   replay_follows (Accepted (Notarized c)) takes =
@@ -125,7 +118,6 @@ module _ {K L D : Type 0} (same : D → D → Bool) (decides : (d e : D) → sam
         finalized = omega arith;
         nullified = λ w _. refl;
         nullify_votes = λ w _. refl;
-        ordered = put_ordered x v (record (round_of x v) { notarization_broadcast = true });
         rounds = λ w _. put_alone same elect x (Replay (Accepted (Notarized c))) v (record (round_of x v) { notarization_broadcast = true }) (rw (eq-eqb v v refl) refl) (λ u apart k. rw apart refl) w;
       }
   replay_follows (Accepted (Nullified c)) takes =
@@ -139,7 +131,6 @@ module _ {K L D : Type 0} (same : D → D → Bool) (decides : (d e : D) → sam
         finalized = omega arith;
         nullified = λ w _. among_noted v w x.nullified;
         nullify_votes = λ w _. refl;
-        ordered = put_ordered x v (record (round_of x v) { nullification_broadcast = true });
         rounds = λ w _. put_alone same elect x (Replay (Accepted (Nullified c))) v (record (round_of x v) { nullification_broadcast = true }) (rw (eq-eqb v v refl) refl) (λ u apart k. rw apart refl) w;
       }
   replay_follows (Accepted (Finalized c)) takes =
@@ -153,7 +144,6 @@ module _ {K L D : Type 0} (same : D → D → Bool) (decides : (d e : D) → sam
         finalized = omega arith;
         nullified = λ w _. refl;
         nullify_votes = λ w _. refl;
-        ordered = put_ordered x v (record (round_of x v) { finalization_broadcast = true });
         rounds = λ w _. put_alone same elect x (Replay (Accepted (Finalized c))) v (record (round_of x v) { finalization_broadcast = true }) (rw (eq-eqb v v refl) refl) (λ u apart k. rw apart refl) w;
       }
 
@@ -161,30 +151,30 @@ module _ {K L D : Type 0} (same : D → D → Bool) (decides : (d e : D) → sam
   quietly e silent leaves = silent_follows same elect x e (after_event same elect x e) silent leaves
 
   -- each event
-  pub event_follows : (e : Event K D) → IsEvent x e → is_sorted nat_cmp x.rounds ≡ true → Follows same elect e x (after_event same elect x e)
-  event_follows (SetFloor (Genesis payload) now) takes ordered = genesis_follows same elect x payload now
-  event_follows (SetFloor (FinalizedFloor c) now) takes ordered = floor_finalization_follows same decides elect x c now
-  event_follows (AddNotarization c) takes ordered = notarization_follows same decides elect x c
-  event_follows (AddNullification c now) takes ordered = nullification_follows same elect x c now
-  event_follows (AddFinalization c now) takes ordered = finalization_follows same decides elect x c now
-  event_follows (Certified v success now) takes ordered = verdict_follows same elect x v now success takes
-  event_follows (ConstructNotarize v) takes ordered = notarize_follows same elect x v
-  event_follows (ConstructNullify v) takes ordered = nullify_follows same elect x v
-  event_follows (ConstructFinalize v) takes ordered = finalize_follows same elect x v
-  event_follows (SetProposal v p) takes ordered = proposal_follows same elect x v p
-  event_follows TryPropose takes ordered = quietly TryPropose (record { genesis = refl; entered = λ _. refl; finalized = refl; nullified = λ _. refl; nullify_votes = λ _. refl; rounds = λ _ _. refl }) (try_propose_quiet x same elect)
-  event_follows (Proposed context payload now) takes ordered = proposed_follows same elect x decides context payload now
-  event_follows (Supersede context) takes ordered = quietly (Supersede context) (record { genesis = refl; entered = λ _. refl; finalized = refl; nullified = λ _. refl; nullify_votes = λ _. refl; rounds = λ _ _. refl }) (supersede_quiet x same elect context)
-  event_follows (Release v) takes ordered = quietly (Release v) (record { genesis = refl; entered = λ _. refl; finalized = refl; nullified = λ _. refl; nullify_votes = λ _. refl; rounds = λ _ _. refl }) (release_quiet x v)
-  event_follows TryVerify takes ordered = quietly TryVerify (record { genesis = refl; entered = λ _. refl; finalized = refl; nullified = λ _. refl; nullify_votes = λ _. refl; rounds = λ _ _. refl }) (try_verify_quiet same elect x ordered)
-  event_follows (Verified v) takes ordered = quietly (Verified v) (record { genesis = refl; entered = λ _. refl; finalized = refl; nullified = λ _. refl; nullify_votes = λ _. refl; rounds = λ _ _. refl }) (verified_quiet x same elect v)
-  event_follows (VerificationFailed v reason now) takes ordered = quietly (VerificationFailed v reason now) (record { genesis = refl; entered = λ _. refl; finalized = refl; nullified = λ _. refl; nullify_votes = λ _. refl; rounds = λ _ _. refl }) (failed_leaves x same elect v reason now)
-  event_follows CertifyCandidates takes ordered = quietly CertifyCandidates (record { genesis = refl; entered = λ _. refl; finalized = refl; nullified = λ _. refl; nullify_votes = λ _. refl; rounds = λ _ _. refl }) (candidates_quiet x)
-  event_follows (SetCertifyHandle v token) takes ordered = quietly (SetCertifyHandle v token) (record { genesis = refl; entered = λ _. refl; finalized = refl; nullified = λ _. refl; nullify_votes = λ _. refl; rounds = λ _ _. refl }) (handle_quiet x v token takes)
-  event_follows (TriggerTimeout v reason now) takes ordered = quietly (TriggerTimeout v reason now) (record { genesis = refl; entered = λ _. refl; finalized = refl; nullified = λ _. refl; nullify_votes = λ _. refl; rounds = λ _ _. refl }) (trigger_leaves x v reason now)
-  event_follows (NextTimeout now) takes ordered = quietly (NextTimeout now) (record { genesis = refl; entered = λ _. refl; finalized = refl; nullified = λ _. refl; nullify_votes = λ _. refl; rounds = λ _ _. refl }) (next_timeout_leaves x now)
-  event_follows (BroadcastNotarization v) takes ordered = broadcast_notarization_follows same elect x v
-  event_follows (BroadcastNullification v) takes ordered = broadcast_nullification_follows same elect x v
-  event_follows (BroadcastFinalization v) takes ordered = broadcast_finalization_follows same elect x v
-  event_follows Prune takes ordered = prune_follows same elect x
-  event_follows (Replay e) takes ordered = replay_follows e takes
+  pub event_follows : (e : Event K D) → IsEvent x e → Follows same elect e x (after_event same elect x e)
+  event_follows (SetFloor (Genesis payload) now) takes = genesis_follows same elect x payload now
+  event_follows (SetFloor (FinalizedFloor c) now) takes = floor_finalization_follows same decides elect x c now
+  event_follows (AddNotarization c) takes = notarization_follows same decides elect x c
+  event_follows (AddNullification c now) takes = nullification_follows same elect x c now
+  event_follows (AddFinalization c now) takes = finalization_follows same decides elect x c now
+  event_follows (Certified v success now) takes = verdict_follows same elect x v now success takes
+  event_follows (ConstructNotarize v) takes = notarize_follows same elect x v
+  event_follows (ConstructNullify v) takes = nullify_follows same elect x v
+  event_follows (ConstructFinalize v) takes = finalize_follows same elect x v
+  event_follows (SetProposal v p) takes = proposal_follows same elect x v p
+  event_follows TryPropose takes = quietly TryPropose (record { genesis = refl; entered = λ _. refl; finalized = refl; nullified = λ _. refl; nullify_votes = λ _. refl; rounds = λ _ _. refl }) (try_propose_quiet x same elect)
+  event_follows (Proposed context payload now) takes = proposed_follows same elect x decides context payload now
+  event_follows (Supersede context) takes = quietly (Supersede context) (record { genesis = refl; entered = λ _. refl; finalized = refl; nullified = λ _. refl; nullify_votes = λ _. refl; rounds = λ _ _. refl }) (supersede_quiet x same elect context)
+  event_follows (Release v) takes = quietly (Release v) (record { genesis = refl; entered = λ _. refl; finalized = refl; nullified = λ _. refl; nullify_votes = λ _. refl; rounds = λ _ _. refl }) (release_quiet x v)
+  event_follows TryVerify takes = quietly TryVerify (record { genesis = refl; entered = λ _. refl; finalized = refl; nullified = λ _. refl; nullify_votes = λ _. refl; rounds = λ _ _. refl }) (try_verify_quiet x same elect)
+  event_follows (Verified v) takes = quietly (Verified v) (record { genesis = refl; entered = λ _. refl; finalized = refl; nullified = λ _. refl; nullify_votes = λ _. refl; rounds = λ _ _. refl }) (verified_quiet x same elect v)
+  event_follows (VerificationFailed v reason now) takes = quietly (VerificationFailed v reason now) (record { genesis = refl; entered = λ _. refl; finalized = refl; nullified = λ _. refl; nullify_votes = λ _. refl; rounds = λ _ _. refl }) (failed_leaves x same elect v reason now)
+  event_follows CertifyCandidates takes = quietly CertifyCandidates (record { genesis = refl; entered = λ _. refl; finalized = refl; nullified = λ _. refl; nullify_votes = λ _. refl; rounds = λ _ _. refl }) (candidates_quiet x)
+  event_follows (SetCertifyHandle v token) takes = quietly (SetCertifyHandle v token) (record { genesis = refl; entered = λ _. refl; finalized = refl; nullified = λ _. refl; nullify_votes = λ _. refl; rounds = λ _ _. refl }) (handle_quiet x v token takes)
+  event_follows (TriggerTimeout v reason now) takes = quietly (TriggerTimeout v reason now) (record { genesis = refl; entered = λ _. refl; finalized = refl; nullified = λ _. refl; nullify_votes = λ _. refl; rounds = λ _ _. refl }) (trigger_leaves x v reason now)
+  event_follows (NextTimeout now) takes = quietly (NextTimeout now) (record { genesis = refl; entered = λ _. refl; finalized = refl; nullified = λ _. refl; nullify_votes = λ _. refl; rounds = λ _ _. refl }) (next_timeout_leaves x now)
+  event_follows (BroadcastNotarization v) takes = broadcast_notarization_follows same elect x v
+  event_follows (BroadcastNullification v) takes = broadcast_nullification_follows same elect x v
+  event_follows (BroadcastFinalization v) takes = broadcast_finalization_follows same elect x v
+  event_follows Prune takes = prune_follows same elect x
+  event_follows (Replay e) takes = replay_follows e takes

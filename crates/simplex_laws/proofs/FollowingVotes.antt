@@ -1,9 +1,9 @@
 -- What votes, proposals and broadcasts say, and what a prune leaves.
-use Rattle.std.proofs.Common.{T, ◌≡◌, subst, refl, ap, sym, ◌∙◌, ℕ, ◌≤◌, Bool, true, false, ◌&&◌, ◌||◌, not, cond, eqb, if◌then◌else◌, nat_le, List, filter, Option, Some, None, is_some, unwrap_or, arith}
+use Rattle.std.proofs.Common.{◌≡◌, refl, ap, sym, ◌∙◌, ℕ, ◌≤◌, Bool, true, false, ◌&&◌, ◌||◌, not, cond, eqb, if◌then◌else◌, nat_le, List, filter, Option, Some, None, is_some, unwrap_or, arith}
 use Rattle.std.specs.Option.{option_map_or}
 use Rattle.std.specs.Ordering.{nat_cmp}
 use Rattle.std.specs.BTreeSet.{insert_key}
-use Rattle.std.specs.FinMap.Entries.{find, find-where_key, is_sorted, is_sorted-where_key}
+use Rattle.std.specs.FinMap.Entries.{find, find-where_key}
 use Rattle.std.proofs.lemmas.Bool.{eqb-true, eq-eqb, true≢false}
 use Rattle.std.proofs.lemmas.Bool.Decides.{nat_tests}
 use Rattle.std.proofs.lemmas.Map.Views.{any-filter_same}
@@ -29,7 +29,7 @@ use Rattle.simplex_laws.specs.Events.{ConstructNotarize, ConstructNullify, Const
 use Rattle.simplex_laws.specs.Sums.{or_new, is_among}
 use Rattle.simplex_laws.specs.OwnWork.{contradicts}
 use Rattle.simplex_laws.proofs.NotedVotes.{tied}
-use Rattle.simplex_laws.proofs.Leaving.{from_T, put_ordered, known_of, Quiet, prepared_quiet}
+use Rattle.simplex_laws.proofs.Leaving.{known_of, Quiet, prepared_quiet}
 use Rattle.simplex_laws.proofs.Following.{adds, Follows, among_noted, nothing_added, put_between, put_alone}
 use Rattle.simplex_laws.proofs.FollowingHanded.{and_false}
 
@@ -93,9 +93,6 @@ module _ {K L D : Type 0} (x : Facts K L D) where
       ap (λ found. unwrap_or found (new_round x.me x.members (round_number x v)))
       (find-where_key nat_cmp (λ u. nat_le (min_active x) u) v (λ u alike. ap (nat_le (min_active x)) (sym (tied v u alike))) x.rounds ∙ ap (λ b. cond b (find nat_cmp v x.rounds) None) test)
 
-  prune_ordered : is_sorted nat_cmp x.rounds ≡ true → is_sorted nat_cmp (after_prune x).rounds ≡ true
-  prune_ordered ordered = from_T _ (is_sorted-where_key nat_cmp (λ u. nat_le (min_active x) u) x.rounds (subst T (sym ordered) tt))
-
   among_left : (views : List ℕ) (v : ℕ) → min_active x ≤ v → is_among (filter (λ u. nat_le (min_active x) u) views) v ≡ is_among views v
   among_left views v left = any-filter_same (λ u. eqb v u) (λ u. nat_le (min_active x) u) true (λ u here. ap (nat_le (min_active x)) (sym (eqb-true v u here)) ∙ test) views
     where
@@ -124,12 +121,12 @@ module _ {K L D : Type 0} (same : D → D → Bool) (elect : Elect L) (x : Facts
       noted false keyless may w = rw (may, keyless) refl
 
       voted : (b : Bool) → is_some x.me ≡ b → may_nullify x v ≡ true → Follows same elect (ConstructNullify v) x (if b then record z { nullify_votes = insert_key nat_cmp x.nullify_votes v } else z)
-      voted true keyed may = record { settings = refl; terms = refl; genesis = refl; moment = refl; current = omega arith; finalized = omega arith; nullified = λ w _. refl; nullify_votes = λ w _. noted true keyed may w; ordered = put_ordered x v (after_nullify r); rounds = λ w _. put_alone same elect x (ConstructNullify v) v (after_nullify r) (decided may) (λ u apart k. rw apart refl) w }
-      voted false keyless may = record { settings = refl; terms = refl; genesis = refl; moment = refl; current = omega arith; finalized = omega arith; nullified = λ w _. refl; nullify_votes = λ w _. noted false keyless may w; ordered = put_ordered x v (after_nullify r); rounds = λ w _. put_alone same elect x (ConstructNullify v) v (after_nullify r) (decided may) (λ u apart k. rw apart refl) w }
+      voted true keyed may = record { settings = refl; terms = refl; genesis = refl; moment = refl; current = omega arith; finalized = omega arith; nullified = λ w _. refl; nullify_votes = λ w _. noted true keyed may w; rounds = λ w _. put_alone same elect x (ConstructNullify v) v (after_nullify r) (decided may) (λ u apart k. rw apart refl) w }
+      voted false keyless may = record { settings = refl; terms = refl; genesis = refl; moment = refl; current = omega arith; finalized = omega arith; nullified = λ w _. refl; nullify_votes = λ w _. noted false keyless may w; rounds = λ w _. put_alone same elect x (ConstructNullify v) v (after_nullify r) (decided may) (λ u apart k. rw apart refl) w }
 
       by_rule : (b : Bool) → may_nullify x v ≡ b → Follows same elect (ConstructNullify v) x (if b then nullify_cast z v else x)
       by_rule true may = voted (is_some x.me) refl may
-      by_rule false barred = record { settings = refl; terms = refl; genesis = refl; moment = refl; current = omega arith; finalized = omega arith; nullified = λ w _. refl; nullify_votes = λ w _. rw barred refl; ordered = λ h. h; rounds = λ w _. nothing_added same elect x (ConstructNullify v) w (λ k. rw (barred, and_false (eqb w v)) refl) (round_of x w) (round_of x w) refl }
+      by_rule false barred = record { settings = refl; terms = refl; genesis = refl; moment = refl; current = omega arith; finalized = omega arith; nullified = λ w _. refl; nullify_votes = λ w _. rw barred refl; rounds = λ w _. nothing_added same elect x (ConstructNullify v) w (λ k. rw (barred, and_false (eqb w v)) refl) (round_of x w) (round_of x w) refl }
 
   pub finalize_follows : (v : ℕ) → Follows same elect (ConstructFinalize v) x (after_construct_finalize elect x v)
   finalize_follows v = by_rule (may_finalize elect x v) refl
@@ -141,8 +138,8 @@ module _ {K L D : Type 0} (same : D → D → Bool) (elect : Elect L) (x : Facts
       decided may = rw (may, eq-eqb v v refl) (λ i. record (known_of r) { nullify_decided = pending_nullify r.decision (finalize_parts elect x v may).undecided i; finalize_decided = true })
 
       by_rule : (b : Bool) → may_finalize elect x v ≡ b → Follows same elect (ConstructFinalize v) x (if b then finalize_cast x v else x)
-      by_rule true may = record { settings = refl; terms = refl; genesis = refl; moment = refl; current = omega arith; finalized = omega arith; nullified = λ w _. refl; nullify_votes = λ w _. refl; ordered = put_ordered x v (record r { decision = decision.Finalize }); rounds = λ w _. put_alone same elect x (ConstructFinalize v) v (record r { decision = decision.Finalize }) (decided may) (λ u apart k. rw apart refl) w }
-      by_rule false barred = record { settings = refl; terms = refl; genesis = refl; moment = refl; current = omega arith; finalized = omega arith; nullified = λ w _. refl; nullify_votes = λ w _. refl; ordered = λ h. h; rounds = λ w _. nothing_added same elect x (ConstructFinalize v) w (λ k. rw (barred, and_false (eqb w v)) refl) (round_of x w) (round_of x w) refl }
+      by_rule true may = record { settings = refl; terms = refl; genesis = refl; moment = refl; current = omega arith; finalized = omega arith; nullified = λ w _. refl; nullify_votes = λ w _. refl; rounds = λ w _. put_alone same elect x (ConstructFinalize v) v (record r { decision = decision.Finalize }) (decided may) (λ u apart k. rw apart refl) w }
+      by_rule false barred = record { settings = refl; terms = refl; genesis = refl; moment = refl; current = omega arith; finalized = omega arith; nullified = λ w _. refl; nullify_votes = λ w _. refl; rounds = λ w _. nothing_added same elect x (ConstructFinalize v) w (λ k. rw (barred, and_false (eqb w v)) refl) (round_of x w) (round_of x w) refl }
 
   pub notarize_follows : (v : ℕ) → Follows same elect (ConstructNotarize v) x (after_construct_notarize same elect x v)
   notarize_follows v = by_rule (may_notarize same elect x v) refl
@@ -168,10 +165,9 @@ module _ {K L D : Type 0} (same : D → D → Bool) (elect : Elect L) (x : Facts
             finalized = omega (arith, after.finalized_is);
             nullified = λ w _. ap (λ views. is_among views w) after.nullified;
             nullify_votes = λ w _. ap (λ views. is_among views w) after.nullify_votes;
-            ordered = λ h. after.ordered (put_ordered x v r h);
             rounds = λ w _. put_between same elect x (ConstructNotarize v) x (prepared elect z v) v r (λ u. refl) (decided may) (λ u apart k. rw apart refl) after.rounds w;
           }
-      by_rule false barred = record { settings = refl; terms = refl; genesis = refl; moment = refl; current = omega arith; finalized = omega arith; nullified = λ w _. refl; nullify_votes = λ w _. refl; ordered = λ h. h; rounds = λ w _. nothing_added same elect x (ConstructNotarize v) w (λ k. rw (barred, and_false (eqb w v)) refl) (round_of x w) (round_of x w) refl }
+      by_rule false barred = record { settings = refl; terms = refl; genesis = refl; moment = refl; current = omega arith; finalized = omega arith; nullified = λ w _. refl; nullify_votes = λ w _. refl; rounds = λ w _. nothing_added same elect x (ConstructNotarize v) w (λ k. rw (barred, and_false (eqb w v)) refl) (round_of x w) (round_of x w) refl }
 
   -- proposals
 
@@ -186,7 +182,6 @@ module _ {K L D : Type 0} (same : D → D → Bool) (elect : Elect L) (x : Facts
         finalized = omega (arith, before.finalized_is);
         nullified = λ w _. ap (λ views. is_among views w) before.nullified;
         nullify_votes = λ w _. ap (λ views. is_among views w) before.nullify_votes;
-        ordered = λ h. put_ordered y v (with_proposal same r p) (before.ordered h);
         rounds = λ w _. put_between same elect x (SetProposal v p) y (with_round y v (with_proposal same r p)) v (with_proposal same r p) before.rounds (heard (is_nullify r.decision) refl) (λ u apart k. rw apart refl) (λ u. refl) w;
       }
     where
@@ -226,8 +221,8 @@ module _ {K L D : Type 0} (same : D → D → Bool) (elect : Elect L) (x : Facts
       built taken = rw (taken, eq-eqb v v refl) (λ i. record (known_of r) { held = own_held same r.slot p decides i; conflict = own_conflict same r.slot p i })
 
       by_answer : (b : Bool) → proposed_answer same elect x context payload ≡ b → Follows same elect (Proposed context payload now) x (if b then with_round a v (proposed_round same r context payload now) else a)
-      by_answer true taken = record { settings = refl; terms = refl; genesis = refl; moment = refl; current = omega arith; finalized = omega arith; nullified = λ w _. refl; nullify_votes = λ w _. refl; ordered = put_ordered x v (proposed_round same r context payload now); rounds = λ w _. put_alone same elect x (Proposed context payload now) v (proposed_round same r context payload now) (built taken) (λ u apart k. rw apart refl) w }
-      by_answer false dropped = record { settings = refl; terms = refl; genesis = refl; moment = refl; current = omega arith; finalized = omega arith; nullified = λ w _. refl; nullify_votes = λ w _. refl; ordered = λ h. h; rounds = λ w _. nothing_added same elect x (Proposed context payload now) w (λ k. rw (dropped, and_false (eqb w v)) refl) (round_of x w) (round_of x w) refl }
+      by_answer true taken = record { settings = refl; terms = refl; genesis = refl; moment = refl; current = omega arith; finalized = omega arith; nullified = λ w _. refl; nullify_votes = λ w _. refl; rounds = λ w _. put_alone same elect x (Proposed context payload now) v (proposed_round same r context payload now) (built taken) (λ u apart k. rw apart refl) w }
+      by_answer false dropped = record { settings = refl; terms = refl; genesis = refl; moment = refl; current = omega arith; finalized = omega arith; nullified = λ w _. refl; nullify_votes = λ w _. refl; rounds = λ w _. nothing_added same elect x (Proposed context payload now) w (λ k. rw (dropped, and_false (eqb w v)) refl) (round_of x w) (round_of x w) refl }
 
   -- broadcasts
 
@@ -244,10 +239,10 @@ module _ {K L D : Type 0} (same : D → D → Bool) (elect : Elect L) (x : Facts
       handed = rw (eq-eqb v v refl) (λ i. record (known_of r) { notarization_broadcast = or_swap r.notarization_broadcast (is_some r.notarization) i })
 
       by_round : (o : Option (RoundFacts K D)) → round_at x v ≡ o → Follows same elect (BroadcastNotarization v) x (if is_some o then with_round x v s else x)
-      by_round (Some _) found = record { settings = refl; terms = refl; genesis = refl; moment = refl; current = omega arith; finalized = omega arith; nullified = λ w _. refl; nullify_votes = λ w _. refl; ordered = put_ordered x v s; rounds = λ w _. put_alone same elect x (BroadcastNotarization v) v s handed (λ u apart k. rw apart refl) w }
+      by_round (Some _) found = record { settings = refl; terms = refl; genesis = refl; moment = refl; current = omega arith; finalized = omega arith; nullified = λ w _. refl; nullify_votes = λ w _. refl; rounds = λ w _. put_alone same elect x (BroadcastNotarization v) v s handed (λ u apart k. rw apart refl) w }
       by_round None none =
           let empty : is_some (round_of x v).notarization ≡ false = ap (λ o. is_some (unwrap_or o (new_round x.me x.members (round_number x v))).notarization) none in
-          record { settings = refl; terms = refl; genesis = refl; moment = refl; current = omega arith; finalized = omega arith; nullified = λ w _. refl; nullify_votes = λ w _. refl; ordered = λ h. h; rounds = λ w _. nothing_added same elect x (BroadcastNotarization v) w (λ k. rw (empty, and_false (eqb w v)) refl) (round_of x w) (round_of x w) refl }
+          record { settings = refl; terms = refl; genesis = refl; moment = refl; current = omega arith; finalized = omega arith; nullified = λ w _. refl; nullify_votes = λ w _. refl; rounds = λ w _. nothing_added same elect x (BroadcastNotarization v) w (λ k. rw (empty, and_false (eqb w v)) refl) (round_of x w) (round_of x w) refl }
 
   pub broadcast_nullification_follows : (v : ℕ) → Follows same elect (BroadcastNullification v) x (after_broadcast_nullification x v)
   broadcast_nullification_follows v = by_round (round_at x v) refl
@@ -262,10 +257,10 @@ module _ {K L D : Type 0} (same : D → D → Bool) (elect : Elect L) (x : Facts
       handed = rw (eq-eqb v v refl) (λ i. record (known_of r) { nullification_broadcast = or_swap r.nullification_broadcast (is_some r.nullification) i })
 
       by_round : (o : Option (RoundFacts K D)) → round_at x v ≡ o → Follows same elect (BroadcastNullification v) x (if is_some o then with_round x v s else x)
-      by_round (Some _) found = record { settings = refl; terms = refl; genesis = refl; moment = refl; current = omega arith; finalized = omega arith; nullified = λ w _. refl; nullify_votes = λ w _. refl; ordered = put_ordered x v s; rounds = λ w _. put_alone same elect x (BroadcastNullification v) v s handed (λ u apart k. rw apart refl) w }
+      by_round (Some _) found = record { settings = refl; terms = refl; genesis = refl; moment = refl; current = omega arith; finalized = omega arith; nullified = λ w _. refl; nullify_votes = λ w _. refl; rounds = λ w _. put_alone same elect x (BroadcastNullification v) v s handed (λ u apart k. rw apart refl) w }
       by_round None none =
           let empty : is_some (round_of x v).nullification ≡ false = ap (λ o. is_some (unwrap_or o (new_round x.me x.members (round_number x v))).nullification) none in
-          record { settings = refl; terms = refl; genesis = refl; moment = refl; current = omega arith; finalized = omega arith; nullified = λ w _. refl; nullify_votes = λ w _. refl; ordered = λ h. h; rounds = λ w _. nothing_added same elect x (BroadcastNullification v) w (λ k. rw (empty, and_false (eqb w v)) refl) (round_of x w) (round_of x w) refl }
+          record { settings = refl; terms = refl; genesis = refl; moment = refl; current = omega arith; finalized = omega arith; nullified = λ w _. refl; nullify_votes = λ w _. refl; rounds = λ w _. nothing_added same elect x (BroadcastNullification v) w (λ k. rw (empty, and_false (eqb w v)) refl) (round_of x w) (round_of x w) refl }
 
   pub broadcast_finalization_follows : (v : ℕ) → Follows same elect (BroadcastFinalization v) x (after_broadcast_finalization x v)
   broadcast_finalization_follows v = by_round (round_at x v) refl
@@ -280,10 +275,10 @@ module _ {K L D : Type 0} (same : D → D → Bool) (elect : Elect L) (x : Facts
       handed = rw (eq-eqb v v refl) (λ i. record (known_of r) { finalization_broadcast = or_swap r.finalization_broadcast (is_some r.finalization) i })
 
       by_round : (o : Option (RoundFacts K D)) → round_at x v ≡ o → Follows same elect (BroadcastFinalization v) x (if is_some o then with_round x v s else x)
-      by_round (Some _) found = record { settings = refl; terms = refl; genesis = refl; moment = refl; current = omega arith; finalized = omega arith; nullified = λ w _. refl; nullify_votes = λ w _. refl; ordered = put_ordered x v s; rounds = λ w _. put_alone same elect x (BroadcastFinalization v) v s handed (λ u apart k. rw apart refl) w }
+      by_round (Some _) found = record { settings = refl; terms = refl; genesis = refl; moment = refl; current = omega arith; finalized = omega arith; nullified = λ w _. refl; nullify_votes = λ w _. refl; rounds = λ w _. put_alone same elect x (BroadcastFinalization v) v s handed (λ u apart k. rw apart refl) w }
       by_round None none =
           let empty : is_some (round_of x v).finalization ≡ false = ap (λ o. is_some (unwrap_or o (new_round x.me x.members (round_number x v))).finalization) none in
-          record { settings = refl; terms = refl; genesis = refl; moment = refl; current = omega arith; finalized = omega arith; nullified = λ w _. refl; nullify_votes = λ w _. refl; ordered = λ h. h; rounds = λ w _. nothing_added same elect x (BroadcastFinalization v) w (λ k. rw (empty, and_false (eqb w v)) refl) (round_of x w) (round_of x w) refl }
+          record { settings = refl; terms = refl; genesis = refl; moment = refl; current = omega arith; finalized = omega arith; nullified = λ w _. refl; nullify_votes = λ w _. refl; rounds = λ w _. nothing_added same elect x (BroadcastFinalization v) w (λ k. rw (empty, and_false (eqb w v)) refl) (round_of x w) (round_of x w) refl }
 
   pub prune_follows : Follows same elect Prune x (after_prune x)
   prune_follows = record {
@@ -295,6 +290,5 @@ module _ {K L D : Type 0} (same : D → D → Bool) (elect : Elect L) (x : Facts
     finalized = omega arith;
     nullified = λ v left. among_left x x.nullified v left;
     nullify_votes = λ v left. among_left x x.nullify_votes v left;
-    ordered = prune_ordered x;
     rounds = λ v left. ap known_of (left_by_prune x v left);
   }

@@ -5,7 +5,6 @@ use Rattle.std.specs.List.{IsDistinct, AllByRecursion}
 use Rattle.std.proofs.lemmas.Bool.{false≢true, cases_eq, ne_eqb}
 use Rattle.simplex_types.specs.Certificates.{ProposalFacts, NullificationFacts, CertificateFacts, Notarized, Nullified, Finalized}
 use Rattle.simplex_types.specs.declared.types.fault.Fault.{Fault}
-use Rattle.simplex_types.specs.declared.types.messages.Subject.{Subject}
 use Rattle.simplex_round.specs.Round.{RoundFacts, new_round}
 use Rattle.simplex_voter.specs.Facts.{Facts, Elect, round_at, round_of, round_number, is_tracked, with_round}
 use Rattle.simplex_voter.specs.Windows.{min_active}
@@ -16,14 +15,13 @@ use Rattle.simplex_member.specs.Lives.{MemberFacts}
 use Rattle.simplex_member.specs.Openings.{Openings}
 use Rattle.simplex_member.specs.Runs.{IsStep}
 use Rattle.simplex_member.specs.Work.{WorkCall, work_allowed, after_work}
-use Rattle.simplex_laws.proofs.InOrder.{InOrder, order_call, order_work}
 use Rattle.simplex_laws.proofs.Lasting.{is_handed, standing_view, handed, none_comes, brings_kept, event_lasts}
 use Rattle.simplex_laws.proofs.CallsMake.{is_floor, call_by_event, work_by_event}
 use Rattle.simplex_laws.proofs.Rising.{floor_goes, event_goes}
 use Rattle.simplex_laws.proofs.Sound.{nothing_stands}
 use Rattle.simplex_laws.specs.Events.{Event, IsEvent, after_event}
 use Rattle.simplex_laws.proofs.Rounds.{round_put}
-use Rattle.simplex_laws.proofs.WithinLives.{InOrderly, call_outcome}
+use Rattle.simplex_laws.proofs.WithinLives.{call_outcome}
 
 -- the view's certificate is not to be handed out any more: it was, or none stands there and none comes
 abbrev pub IsSpent : {K L D : Type 0} → Kind → ℕ → Facts K L D → Type 0
@@ -155,11 +153,11 @@ module _ (K : Type 0) {D : Type 0} (kind : Kind) where
   not_allowed_none (Working call) = refl
 
 module _ {K L D : Type 0} (same : D → D → Bool) (elect : Elect L) where
-  event_spends : (x : Facts K L D) → InOrder x → (e : Event K D) → IsEvent x e → is_floor e ≡ false → (kind : Kind) (v : ℕ) → IsSpent kind v x → IsSpent kind v (after_event same elect x e)
-  event_spends x ordered e takes none kind v spent =
+  event_spends : (x : Facts K L D) → (e : Event K D) → IsEvent x e → is_floor e ≡ false → (kind : Kind) (v : ℕ) → IsSpent kind v x → IsSpent kind v (after_event same elect x e)
+  event_spends x e takes none kind v spent =
       let y = after_event same elect x e in
       let floor = floor_goes x y (event_goes same elect x e) in
-      elim (event_lasts same elect x e (min_active x) (brings_kept x e takes none) ordered v) [
+      elim (event_lasts same elect x e (min_active x) (brings_kept x e takes none) v) [
         | inr (prunes, gone) ↦ inr (omega (arith, gone.below, floor), nothing_stands y v gone.untracked kind)
         | inl lasts ↦ elim spent [
           | inl sent ↦ inl (handed (min_active x) v (round_of x v) (round_of y v) lasts kind sent)
@@ -167,8 +165,8 @@ module _ {K L D : Type 0} (same : D → D → Bool) (elect : Elect L) where
         ]
       ]
 
-  call_spends : (x : Facts K L D) → InOrder x → (call : CallFacts D) → is_allowed x call ≡ true → (kind : Kind) (v : ℕ) → IsSpent kind v x → IsSpent kind v (after_call same elect x call)
-  call_spends x ordered call allowed = call_by_event same elect x (λ es y. (kind : Kind) (v : ℕ) → IsSpent kind v x → IsSpent kind v y) (λ kind v spent. spent) (λ e. event_spends x ordered e) call allowed
+  call_spends : (x : Facts K L D) → (call : CallFacts D) → is_allowed x call ≡ true → (kind : Kind) (v : ℕ) → IsSpent kind v x → IsSpent kind v (after_call same elect x call)
+  call_spends x call allowed = call_by_event same elect x (λ es y. (kind : Kind) (v : ℕ) → IsSpent kind v x → IsSpent kind v y) (λ kind v spent. spent) (λ e. event_spends x e) call allowed
 
   call_hands : (x : Facts K L D) (call : CallFacts D) (kind : Kind) → Hands kind (handed_by kind (Calling call) (answer same elect x call)) x (after_call same elect x call)
   call_hands x (BroadcastNotarization v) kind = hands_notarization x v kind
@@ -177,25 +175,21 @@ module _ {K L D : Type 0} (same : D → D → Bool) (elect : Elect L) where
   call_hands x GetBestCertificate kind = inl (best_unasked K kind (best_certificate x))
   call_hands x _ kind = inl refl
 
-  work_spends : (x : Facts K L D) → InOrder x → (o : Openings K D) (call : WorkCall D) → work_allowed x o call ≡ true → (kind : Kind) (v : ℕ) → IsSpent kind v x → IsSpent kind v (after_work same elect x o call)
-  work_spends x ordered o call allowed = work_by_event same elect x o (λ es y. (kind : Kind) (v : ℕ) → IsSpent kind v x → IsSpent kind v y) (λ kind v spent. spent) (λ e. event_spends x ordered e) call allowed
+  work_spends : (x : Facts K L D) → (o : Openings K D) (call : WorkCall D) → work_allowed x o call ≡ true → (kind : Kind) (v : ℕ) → IsSpent kind v x → IsSpent kind v (after_work same elect x o call)
+  work_spends x o call allowed = work_by_event same elect x o (λ es y. (kind : Kind) (v : ℕ) → IsSpent kind v x → IsSpent kind v y) (λ kind v spent. spent) (λ e. event_spends x e) call allowed
 
-  outcome : (m : MemberFacts K L D) (call : LifeCall D) (told : Told K D) (left : MemberFacts K L D) → IsStep same elect m (as_step call) told left → ((fault : Fault) × (told ≡ Refused fault) × (left.life ≡ None)) ⊎ ((x y : Facts K L D) × (m.life ≡ Some x) × (left.life ≡ Some y) × InOrderly (HandsOut call told) x y)
+  outcome : (m : MemberFacts K L D) (call : LifeCall D) (told : Told K D) (left : MemberFacts K L D) → IsStep same elect m (as_step call) told left → ((fault : Fault) × (told ≡ Refused fault) × (left.life ≡ None)) ⊎ ((x y : Facts K L D) × (m.life ≡ Some x) × (left.life ≡ Some y) × HandsOut call told x y)
   outcome =
-      call_outcome same elect (λ call told. InOrderly (HandsOut call told))
-      (λ call fault x ordered. (ordered, record { spent = λ kind v s. s; hands = λ kind. inl (refused_none K kind call fault) }))
-      (λ call x ordered. (ordered, record { spent = λ kind v s. s; hands = λ kind. inl (not_allowed_none K kind call) }))
-      (λ call x allowed ordered. (order_call same elect x ordered call, record { spent = call_spends x ordered call allowed; hands = call_hands x call }))
-      (λ call x o allowed ordered. (order_work same elect x o ordered call, record { spent = work_spends x ordered o call allowed; hands = λ kind. inl refl }))
+      call_outcome same elect HandsOut
+      (λ call fault x. record { spent = λ kind v s. s; hands = λ kind. inl (refused_none K kind call fault) })
+      (λ call x. record { spent = λ kind v s. s; hands = λ kind. inl (not_allowed_none K kind call) })
+      (λ call x allowed. record { spent = call_spends x call allowed; hands = call_hands x call })
+      (λ call x o allowed. record { spent = work_spends x o call allowed; hands = λ kind. inl refl })
 
 -- a member without a state hands nothing out
 abbrev pub IsSpentIn : {K L D : Type 0} → Kind → ℕ → Option (Facts K L D) → Type 0
 IsSpentIn kind v None = Unit {0}
-IsSpentIn kind v (Some x) = InOrder x × IsSpent kind v x
-
-abbrev pub IsOrdered : {K L D : Type 0} → Option (Facts K L D) → Type 0
-IsOrdered None = Unit {0}
-IsOrdered (Some x) = InOrder x
+IsSpentIn kind v (Some x) = IsSpent kind v x
 
 module _ {K L D : Type 0} (same : D → D → Bool) (elect : Elect L) (kind : Kind) where
   -- what is spent is not handed out any more
@@ -205,37 +199,35 @@ module _ {K L D : Type 0} (same : D → D → Bool) (elect : Elect L) (kind : Ki
   never_again v m end (call ∷ calls) [] spent life = absurd life
   never_again v m end (call ∷ calls) (told ∷ replies) spent (next, is_call, rest) = elim (outcome same elect m call told next is_call) [
     | inl (fault, tells, dies) ↦ rw (tells, refused_none K kind call fault) (never_again v next end calls replies (subst (IsSpentIn kind v) (sym dies) tt) rest)
-    | inr (x, y, alive, lives, leads) ↦ (
-        let here : InOrder x × IsSpent kind v x = subst (IsSpentIn kind v) alive spent in
-        let out = leads here.0 in
-        let later = never_again v next end calls replies (subst (IsSpentIn kind v) (sym lives) (out.0, out.1.spent kind v here.1)) rest in
-        elim (out.1.hands kind) [
+    | inr (x, y, alive, lives, out) ↦ (
+        let here : IsSpent kind v x = subst (IsSpentIn kind v) alive spent in
+        let later = never_again v next end calls replies (subst (IsSpentIn kind v) (sym lives) (out.spent kind v here)) rest in
+        elim (out.hands kind) [
           | inl none ↦ rw none later
           | inr (w, is, fresh, spends) ↦ rw is (
-            elim (cases_eq v w) [ inl at ↦ absurd (fresh (subst (λ u. IsSpent kind u x) at here.1)) | inr apart ↦ ne_eqb v w apart ],
+            elim (cases_eq v w) [ inl at ↦ absurd (fresh (subst (λ u. IsSpent kind u x) at here)) | inr apart ↦ ne_eqb v w apart ],
             later,
           )
         ]
         )
   ]
 
-  handed_once : (m end : MemberFacts K L D) (calls : List (LifeCall D)) (replies : List (Told K D)) → IsOrdered m.life → IsLife same elect m calls replies end → IsDistinct nat_eq (handed_in kind calls replies)
+  handed_once : (m end : MemberFacts K L D) (calls : List (LifeCall D)) (replies : List (Told K D)) → IsLife same elect m calls replies end → IsDistinct nat_eq (handed_in kind calls replies)
   unfolding IsDistinct
-  handed_once m end [] [] ordered life = tt
-  handed_once m end [] (told ∷ replies) ordered life = absurd life
-  handed_once m end (call ∷ calls) [] ordered life = absurd life
-  handed_once m end (call ∷ calls) (told ∷ replies) ordered (next, is_call, rest) = elim (outcome same elect m call told next is_call) [
-    | inl (fault, tells, dies) ↦ rw (tells, refused_none K kind call fault) (handed_once next end calls replies (subst IsOrdered (sym dies) tt) rest)
-    | inr (x, y, alive, lives, leads) ↦ (
-        let out = leads (subst IsOrdered alive ordered) in
-        let later = handed_once next end calls replies (subst IsOrdered (sym lives) out.0) rest in
-        elim (out.1.hands kind) [
+  handed_once m end [] [] life = tt
+  handed_once m end [] (told ∷ replies) life = absurd life
+  handed_once m end (call ∷ calls) [] life = absurd life
+  handed_once m end (call ∷ calls) (told ∷ replies) (next, is_call, rest) = elim (outcome same elect m call told next is_call) [
+    | inl (fault, tells, dies) ↦ rw (tells, refused_none K kind call fault) (handed_once next end calls replies rest)
+    | inr (x, y, alive, lives, out) ↦ (
+        let later = handed_once next end calls replies rest in
+        elim (out.hands kind) [
           | inl none ↦ rw none later
-          | inr (v, is, fresh, spends) ↦ rw is (never_again v next end calls replies (subst (IsSpentIn kind v) (sym lives) (out.0, spends)) rest, later)
+          | inr (v, is, fresh, spends) ↦ rw is (never_again v next end calls replies (subst (IsSpentIn kind v) (sym lives) spends) rest, later)
         ]
         )
   ]
 
 module _ {K L D : Type 0} (same : D → D → Bool) (elect : Elect L) where
-  pub life_hands_once : (m end : MemberFacts K L D) (calls : List (LifeCall D)) (replies : List (Told K D)) → IsOrdered m.life → IsLife same elect m calls replies end → HandedOnce calls replies
-  life_hands_once m end calls replies ordered life kind = handed_once same elect kind m end calls replies ordered life
+  pub life_hands_once : (m end : MemberFacts K L D) (calls : List (LifeCall D)) (replies : List (Told K D)) → IsLife same elect m calls replies end → HandedOnce calls replies
+  life_hands_once m end calls replies life kind = handed_once same elect kind m end calls replies life

@@ -1,5 +1,6 @@
 -- Each event keeps that a history shows what a state knows.
 use Rattle.std.proofs.Common.{◌≡◌, ◌⊎◌, inl, inr, refl, ap, sym, ◌∙◌, subst, ℕ, ◌+◌, ◌-◌, ◌<◌, ◌≤◌, max, Bool, true, false, ◌&&◌, ◌||◌, not, eqb, if◌then◌else◌, List, [], ◌∷◌, Option, Some, None, is_some, unwrap_or, arith}
+use Rattle.std.specs.Prelude.{T}
 use Rattle.std.specs.Option.{option_or, option_map_or}
 use Rattle.std.proofs.lemmas.Bool.{cases_eq, cases_lt, ne_eqb}
 use Rattle.simplex_types.specs.Config.{Finalized}
@@ -16,6 +17,8 @@ use Rattle.simplex_laws.specs.Requested.{names}
 use Rattle.simplex_laws.specs.Timing.{enters}
 use Rattle.simplex_laws.specs.Shows.{Shows, kept_of, comes_up}
 use Rattle.simplex_laws.proofs.Following.{Follows, left_from}
+use Rattle.simplex_laws.proofs.InOrder.{event_in_order}
+use Rattle.simplex_laws.proofs.Leaving.{from_T}
 use Rattle.simplex_laws.proofs.FollowingReplays.{event_follows}
 use Rattle.simplex_laws.proofs.EventsWorked.{event_works}
 use Rattle.simplex_laws.proofs.ShownRounds.{round_further}
@@ -126,7 +129,7 @@ module _ {K L D : Type 0} (same : D → D → Bool) (elect : Elect L) (history :
     dropped = λ some v below. gone some v below (cases_lt v (kept_in fresh.settings.view_retention events));
     nullified_dropped = λ v below. unnoted v below (cases_lt v (left_from x e));
     votes_dropped = λ v below. unvoted v below (cases_lt v (left_from x e));
-    in_order = follows.ordered shows.in_order;
+    in_order = from_T _ (event_in_order same elect x e (subst T (sym shows.in_order) tt));
     settings = follows.settings ∙ shows.settings;
     terms = follows.terms ∙ shows.terms;
     genesis = follows.genesis ∙ ap (option_or (sets_genesis e)) shows.genesis;
@@ -160,10 +163,10 @@ module _ {K L D : Type 0} (same : D → D → Bool) (elect : Elect L) (history :
       events = history.events
 
       follows : Follows same elect e x (after_event same elect x e)
-      follows = event_follows same decides elect x e allowed shows.in_order
+      follows = event_follows same decides elect x e allowed
 
       works : WorkFollows same elect e x (after_event same elect x e)
-      works = event_works same elect x e shows.in_order
+      works = event_works same elect x e
 
       earlier : (v : ℕ) → kept_in fresh.settings.view_retention (e ∷ events) ≤ v → kept_in fresh.settings.view_retention events ≤ v
       earlier v kept = omega (arith, kept)

@@ -1,17 +1,17 @@
 -- A state's tracked views stand in order, and stay so with each event.
-use Rattle.std.proofs.Common.{◌≡◌, refl, ap, sym, subst, ℕ, Bool, ◌&&◌, if◌then◌else◌, nat_le, List, [], ◌∷◌, Option, arith}
-use Rattle.std.specs.Prelude.{map, T}
-use Rattle.std.specs.Ordering.{nat_cmp, is_lt}
+use Rattle.std.proofs.Common.{sym, subst, ℕ, Bool, if◌then◌else◌, nat_le, List, Option, arith}
+use Rattle.std.specs.Prelude.{T}
+use Rattle.std.specs.Ordering.{nat_cmp}
 use Rattle.std.specs.Cmp.{nat_cmp_total}
-use Rattle.std.specs.FinMap.Entries.{is_sorted, is_sorted-put, is_sorted-where_key, below_all}
+use Rattle.std.specs.FinMap.Entries.{is_sorted, is_sorted-put, is_sorted-where_key}
 use Rattle.simplex_types.specs.Certificates.{ArtifactFacts}
 use Rattle.simplex_types.specs.Config.{FloorFacts}
-use Rattle.simplex_types.specs.declared.types.messages.Subject.{Subject}
 use Rattle.simplex_types.specs.declared.types.window.Terms.{Terms}
-use Rattle.simplex_round.specs.Round.{RoundFacts}
 use Rattle.simplex_voter.specs.Facts.{Settings, Facts, Elect, new_facts}
 use Rattle.simplex_voter.specs.Windows.{min_active}
 use Rattle.simplex_voter.specs.Certification.{without_token}
+use Rattle.simplex_voter.specs.Verifying.{scan_left}
+use Rattle.simplex_voter.proofs.Walked.{sorted-changed}
 use Rattle.simplex_member.specs.Calls.{CallFacts, after_call}
 use Rattle.simplex_member.specs.Openings.{Openings}
 use Rattle.simplex_member.specs.Recovery.{recovered}
@@ -19,28 +19,17 @@ use Rattle.simplex_member.specs.Work.{WorkCall, after_work}
 use Rattle.simplex_laws.specs.Events.{Event, after_event}
 use Rattle.simplex_laws.proofs.CallsMake.{call_by_any, work_by_any, recovered_keeps}
 use Rattle.simplex_laws.proofs.Paths.{event_path, asked_of_all}
-use Rattle.simplex_laws.proofs.Steps.{Step, Puts, Raises, Strays, Prunes, along}
+use Rattle.simplex_laws.proofs.Steps.{Step, Puts, Raises, Scans, Prunes, along}
 
 -- the tracked views rise
 abbrev pub InOrder : {K L D : Type 0} → Facts K L D → Type 0
 InOrder x = T (is_sorted nat_cmp x.rounds)
 
-module _ {K D : Type 0} where
-  -- the views themselves stay where certifications end
-
-  below_aborted : (v u : ℕ) (es : List (ℕ × RoundFacts K D)) → below_all nat_cmp u (map (λ e. (e.0, if nat_le e.0 v then without_token e.1 else e.1)) es) ≡ below_all nat_cmp u es
-  below_aborted v u [] = refl
-  below_aborted v u (e ∷ es) = ap (λ b. is_lt (nat_cmp u e.0) && b) (below_aborted v u es)
-
-  sorted_aborted : (v : ℕ) (es : List (ℕ × RoundFacts K D)) → is_sorted nat_cmp (map (λ e. (e.0, if nat_le e.0 v then without_token e.1 else e.1)) es) ≡ is_sorted nat_cmp es
-  sorted_aborted v [] = refl
-  sorted_aborted v (e ∷ es) = rw (below_aborted v e.0 es, sorted_aborted v es) refl
-
 module _ {K L D : Type 0} (same : D → D → Bool) (elect : Elect L) where
   step_in_order : (x : Facts K L D) (e : Event K D) (y z : Facts K L D) → Step same elect x e 0 y z → InOrder y → InOrder z
   step_in_order x e y z (Puts v r may s) ordered = is_sorted-put nat_cmp nat_cmp_total v r y.rounds ordered
-  step_in_order x e y z (Strays v r over astray) ordered = is_sorted-put nat_cmp nat_cmp_total v r y.rounds ordered
-  step_in_order x e y z (Raises v says above) ordered = subst T (sym (sorted_aborted v y.rounds)) ordered
+  step_in_order x e y z (Raises v says above) ordered = subst T (sym (sorted-changed (λ u r. if nat_le u v then without_token r else r) y.rounds)) ordered
+  step_in_order x e y z (Scans is) ordered = subst T (sym (sorted-changed (scan_left same elect x) y.rounds)) ordered
   step_in_order x e y z (Prunes is) ordered = is_sorted-where_key nat_cmp (λ u. nat_le (min_active y) u) y.rounds ordered
   step_in_order x e y z _ ordered = ordered
 

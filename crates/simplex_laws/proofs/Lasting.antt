@@ -15,7 +15,6 @@ use Rattle.simplex_laws.specs.Events.{Event, IsEvent, after_event, events_of}
 use Rattle.simplex_member.specs.Calls.{CallFacts, Prune, Told, is_allowed, answer, after_call}
 use Rattle.simplex_member.specs.Openings.{Openings}
 use Rattle.simplex_member.specs.Work.{WorkCall, work_allowed, after_work}
-use Rattle.simplex_types.specs.declared.types.messages.Subject.{Subject}
 use Rattle.simplex_voter.specs.Serving.{prune_answer}
 use Rattle.simplex_types.proofs.Maps.{is_eq-nat_cmp}
 use Rattle.std.specs.FinMap.Entries.{find}
@@ -30,7 +29,6 @@ use Rattle.simplex_laws.proofs.EachRound.{IsGone, rounds_or_gone}
 use Rattle.simplex_laws.proofs.Paths.{event_path, asked_of_all}
 use Rattle.simplex_laws.proofs.Steps as step
 use Rattle.simplex_laws.proofs.Steps.{RoundStep, notarization_by, nullification_by, finalization_by}
-use Rattle.simplex_laws.proofs.InOrder.{InOrder}
 use Rattle.simplex_laws.proofs.Untracked.{kept_view}
 
 module _ {K D : Type 0} where
@@ -168,8 +166,8 @@ module _ {K L D : Type 0} (same : D → D → Bool) (elect : Elect L) (x : Facts
   change_lasts y v r s (step.Built context payload now says is at) = record { conflict = λ h. own_conflict (same_proposal same) r.slot _ h; notarization_handed = λ h. h; nullification_handed = λ h. h; finalization_handed = λ h. h; notarization = inl refl; nullification = inl refl; finalization = inl refl }
   change_lasts y v r s _ = record { conflict = λ h. h; notarization_handed = λ h. h; nullification_handed = λ h. h; finalization_handed = λ h. h; notarization = inl refl; nullification = inl refl; finalization = inl refl }
 
-  pub event_lasts : InOrder x → (v : ℕ) → RoundLasts low v (round_of x v) (round_of (after_event same elect x e) v) ⊎ ((is_prune e ≡ true) × IsGone x (after_event same elect x e) v)
-  event_lasts ordered = rounds_or_gone same elect x e ordered 0 (RoundLasts low) (round_joined low) change_lasts (event_path same elect 0 x e (omega arith) (asked_of_all x e))
+  pub event_lasts : (v : ℕ) → RoundLasts low v (round_of x v) (round_of (after_event same elect x e) v) ⊎ ((is_prune e ≡ true) × IsGone x (after_event same elect x e) v)
+  event_lasts = rounds_or_gone same elect x e 0 (RoundLasts low) (round_joined low) change_lasts (event_path same elect 0 x e (omega arith) (asked_of_all x e))
 
 module _ {K L D : Type 0} (x : Facts K L D) where
   -- within a life
@@ -212,9 +210,9 @@ AllLast x es y = (v : ℕ) → RoundLasts (min_active x) v (round_of x v) (round
 none_lasts : {K L D : Type 0} (x : Facts K L D) → AllLast x [] x
 none_lasts x v = inl (still (min_active x) v (round_of x v))
 
-module _ {K L D : Type 0} (same : D → D → Bool) (elect : Elect L) (x : Facts K L D) (ordered : InOrder x) where
+module _ {K L D : Type 0} (same : D → D → Bool) (elect : Elect L) (x : Facts K L D) where
   taken_lasts : (e : Event K D) → IsEvent x e → is_floor e ≡ false → AllLast x (e ∷ []) (after_event same elect x e)
-  taken_lasts e takes none v = elim (event_lasts same elect x e (min_active x) (brings_kept x e takes none) ordered v) [ inl lasts ↦ inl lasts | inr (prunes, gone) ↦ inr (rw prunes refl, gone) ]
+  taken_lasts e takes none v = elim (event_lasts same elect x e (min_active x) (brings_kept x e takes none) v) [ inl lasts ↦ inl lasts | inr (prunes, gone) ↦ inr (rw prunes refl, gone) ]
 
   pub call_lasts : (call : CallFacts D) → is_allowed x call ≡ true → (v : ℕ) → RoundLasts (min_active x) v (round_of x v) (round_of (after_call same elect x call) v) ⊎ Drops x (after_call same elect x call) (answer same elect x call) v
   call_lasts call allowed v = elim (call_by_event same elect x (AllLast x) (none_lasts x) taken_lasts call allowed v) [
@@ -226,10 +224,10 @@ module _ {K L D : Type 0} (same : D → D → Bool) (elect : Elect L) (x : Facts
       told Prune prunes below tracked = (let under : nat_lt v (min_active x) ≡ true = grind (arith, nat_tests) in (prune_answer x, (0, omega arith, refl), found_key (λ u. nat_lt u (min_active x)) v x.rounds tracked under))
       told _ prunes below tracked = absurd (true≢false (sym prunes))
 
-module _ {K L D : Type 0} (same : D → D → Bool) (elect : Elect L) (x : Facts K L D) (ordered : InOrder x) where
+module _ {K L D : Type 0} (same : D → D → Bool) (elect : Elect L) (x : Facts K L D) where
   pub work_lasts : (o : Openings K D) (call : WorkCall D) → work_allowed x o call ≡ true → (v : ℕ) → RoundLasts (min_active x) v (round_of x v) (round_of (after_work same elect x o call) v)
   work_lasts o call allowed =
       work_by_event same elect x o (λ es y. AreSilent es → (v : ℕ) → RoundLasts (min_active x) v (round_of x v) (round_of y v))
       (λ silent v. still (min_active x) v (round_of x v))
-      (λ e takes none silent v. elim (event_lasts same elect x e (min_active x) (brings_kept x e takes none) ordered v) [ inl lasts ↦ lasts | inr (prunes, gone) ↦ absurd (true≢false (sym prunes ∙ silent.0.prune)) ])
+      (λ e takes none silent v. elim (event_lasts same elect x e (min_active x) (brings_kept x e takes none) v) [ inl lasts ↦ lasts | inr (prunes, gone) ↦ absurd (true≢false (sym prunes ∙ silent.0.prune)) ])
       call allowed (work_silent o call)

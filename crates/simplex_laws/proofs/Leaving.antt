@@ -1,11 +1,7 @@
 -- Changes of a state's facts that leave what histories say of it: certificates, verdicts, votes and proposals.
-use Rattle.std.proofs.Common.{T, ap, sym, subst, ◌≡◌, refl, ◌∙◌, ℕ, ◌+◌, ◌-◌, max, Bool, true, false, ◌&&◌, not, cond, if◌then◌else◌, nat_lt, nat_le, List, [], ◌∷◌, Option, Some, None, is_some, unwrap_or, arith, inl, inr}
-use Rattle.std.specs.Prelude.{map}
+use Rattle.std.proofs.Common.{T, ◌≡◌, refl, ◌∙◌, ℕ, ◌+◌, ◌-◌, max, Bool, true, false, ◌&&◌, not, if◌then◌else◌, nat_lt, nat_le, List, [], ◌∷◌, Option, Some, None, is_some, arith, inl, inr}
 use Rattle.std.specs.List.{fold}
 use Rattle.std.specs.Option.{option_map_or}
-use Rattle.std.specs.Ordering.{nat_cmp, eq_by_cmp, is_lt}
-use Rattle.std.specs.Cmp.{nat_cmp_total}
-use Rattle.std.specs.FinMap.Entries.{find, is_sorted, below_all, is_sorted-put}
 use Rattle.std.proofs.lemmas.Bool.{cases_eq, ne_eqb}
 use Rattle.std.proofs.lemmas.Bool.Decides.{nat_tests}
 use Rattle.simplex_types.specs.Certificates.{ProposalFacts, NullificationFacts}
@@ -15,7 +11,7 @@ use Rattle.simplex_round.specs.declared.round.Leader.{Leader}
 use Rattle.simplex_round.specs.declared.round.Decision.{Decision}
 use Rattle.simplex_round.specs.declared.round.Certification.{Certification}
 use Rattle.simplex_round.specs.declared.round.Certification.TheVariants as certification
-use Rattle.simplex_round.specs.Round.{RoundFacts, leader_at, new_round, with_latch, is_nullify, is_finalize, token_of, after_abort}
+use Rattle.simplex_round.specs.Round.{RoundFacts, leader_at, with_latch, is_nullify, is_finalize, token_of, after_abort}
 use Rattle.simplex_voter.specs.Facts.{Facts, Elect, round_at, round_of, round_number, is_tracked, with_round, with_tracked}
 use Rattle.simplex_voter.specs.Windows.{in_window}
 use Rattle.simplex_voter.specs.Payloads.{is_elected_early}
@@ -25,7 +21,7 @@ use Rattle.simplex_voter.specs.Timeouts.{triggered, is_contradicted}
 use Rattle.simplex_voter.specs.Certification.{named_also, waits_for, woken, without_token, raised}
 use Rattle.simplex_laws.specs.Shows.{verdict_of}
 use Rattle.simplex_member.proofs.Growing.{round_of-put, round_of-same}
-use Rattle.simplex_laws.proofs.Rounds.{armed_nullify, armed_finalize, latched_nullify, latched_finalize}
+use Rattle.simplex_laws.proofs.Rounds.{armed_nullify, armed_finalize, latched_nullify, latched_finalize, round_changed}
 
 -- what histories say of a view
 pub record Known (D : Type 0) : Type 0 where
@@ -69,7 +65,6 @@ pub record Leaves {K L D : Type 0} (moment current finalized : ℕ) (x y : Facts
   pub genesis : y.genesis ≡ x.genesis
   pub nullified : y.nullified ≡ x.nullified
   pub nullify_votes : y.nullify_votes ≡ x.nullify_votes
-  pub ordered : is_sorted nat_cmp x.rounds ≡ true → is_sorted nat_cmp y.rounds ≡ true
   pub moment_is : y.moment ≡ moment
   pub current_is : y.current ≡ current
   pub finalized_is : y.finalized ≡ finalized
@@ -113,30 +108,9 @@ module _ {K D : Type 0} where
   pub latch_alike : (r : RoundFacts K D) (now : ℕ) (reason : TimeoutReason) → Alike r (with_latch r now reason)
   latch_alike r now reason = decided_alike r _ (latched_nullify r.decision (now, reason)) (latched_finalize r.decision (now, reason))
 
-  -- a view up to v has no certification under way
-  abbrev pub ended : ℕ → ℕ × RoundFacts K D → ℕ × RoundFacts K D
-  ended v e = (e.0, if nat_le e.0 v then without_token e.1 else e.1)
-
-  ended_above : (v u : ℕ) (es : List (ℕ × RoundFacts K D)) → below_all nat_cmp u (map (ended v) es) ≡ below_all nat_cmp u es
-  ended_above v u [] = refl
-  ended_above v u (e ∷ es) = ap (λ b. is_lt (nat_cmp u e.0) && b) (ended_above v u es)
-
-  ended_ordered : (v : ℕ) (es : List (ℕ × RoundFacts K D)) → is_sorted nat_cmp (map (ended v) es) ≡ is_sorted nat_cmp es
-  ended_ordered v [] = refl
-  ended_ordered v (e ∷ es) = rw (ended_above v e.0 es, ended_ordered v es) refl
-
-  found_alike : (v w : ℕ) (d : RoundFacts K D) (es : List (ℕ × RoundFacts K D)) → Alike (unwrap_or (find nat_cmp w es) d) (unwrap_or (find nat_cmp w (map (ended v) es)) d)
-  found_alike v w d [] = alike d
-  found_alike v w d (e ∷ es) =
-      let behind : Alike (unwrap_or (find nat_cmp w es) d) (unwrap_or (find nat_cmp w (map (ended v) es)) d) = found_alike v w d es in
-      elim (eq_by_cmp nat_cmp w e.0) as (λ b. Alike (unwrap_or (cond b (Some e.1) (find nat_cmp w es)) d) (unwrap_or (cond b (Some (ended v e).1) (find nat_cmp w (map (ended v) es))) d)) [
-        | true ↦ alike_where e.1 (nat_le e.0 v) (without_token e.1) e.1 (token_alike e.1) (alike e.1)
-        | false ↦ behind
-      ]
-
 module _ {K L D : Type 0} where
   pub quiet : (x : Facts K L D) → Quiet x x
-  quiet x = record { settings = refl; terms = refl; genesis = refl; nullified = refl; nullify_votes = refl; ordered = λ h. h; moment_is = refl; current_is = refl; finalized_is = refl; rounds = λ v. alike (round_of x v) }
+  quiet x = record { settings = refl; terms = refl; genesis = refl; nullified = refl; nullify_votes = refl; moment_is = refl; current_is = refl; finalized_is = refl; rounds = λ v. alike (round_of x v) }
 
   -- two changes, one after another
   pub leaves_joined : (moment current finalized later further higher : ℕ) (x y z : Facts K L D) → Leaves moment current finalized x y → Leaves later further higher y z → Leaves later further higher x z
@@ -146,7 +120,6 @@ module _ {K L D : Type 0} where
     genesis = q.genesis ∙ p.genesis;
     nullified = q.nullified ∙ p.nullified;
     nullify_votes = q.nullify_votes ∙ p.nullify_votes;
-    ordered = λ h. q.ordered (p.ordered h);
     moment_is = q.moment_is;
     current_is = q.current_is;
     finalized_is = q.finalized_is;
@@ -161,7 +134,6 @@ module _ {K L D : Type 0} where
     genesis = q.genesis ∙ p.genesis;
     nullified = q.nullified ∙ p.nullified;
     nullify_votes = q.nullify_votes ∙ p.nullify_votes;
-    ordered = λ h. q.ordered (p.ordered h);
     moment_is = q.moment_is ∙ p.moment_is;
     current_is = q.current_is ∙ p.current_is;
     finalized_is = q.finalized_is ∙ p.finalized_is;
@@ -181,11 +153,8 @@ module _ {K L D : Type 0} where
     | inr apart ↦ rw (round_of-put x w v r, ne_eqb w v apart) (alike (round_of x w))
   ]
 
-  pub put_ordered : (x : Facts K L D) (v : ℕ) (r : RoundFacts K D) → is_sorted nat_cmp x.rounds ≡ true → is_sorted nat_cmp (with_round x v r).rounds ≡ true
-  put_ordered x v r ordered = from_T _ (is_sorted-put nat_cmp nat_cmp_total v r x.rounds (subst T (sym ordered) tt))
-
   pub put_quiet : (x : Facts K L D) (v : ℕ) (r : RoundFacts K D) → Alike (round_of x v) r → Quiet x (with_round x v r)
-  put_quiet x v r same = record { settings = refl; terms = refl; genesis = refl; nullified = refl; nullify_votes = refl; ordered = put_ordered x v r; moment_is = refl; current_is = refl; finalized_is = refl; rounds = rounds_alike x v r same }
+  put_quiet x v r same = record { settings = refl; terms = refl; genesis = refl; nullified = refl; nullify_votes = refl; moment_is = refl; current_is = refl; finalized_is = refl; rounds = rounds_alike x v r same }
 
   pub tracked_quiet : (x : Facts K L D) (v : ℕ) (r : RoundFacts K D) → Alike (round_of x v) r → Quiet x (with_tracked x v r)
   tracked_quiet x v r same = quiet_where x (is_tracked x v) (with_round x v r) x (put_quiet x v r same) (quiet x)
@@ -193,7 +162,7 @@ module _ {K L D : Type 0} where
   -- the numbers
 
   pub moment_leaves : (x : Facts K L D) (now : ℕ) → Leaves now x.current x.finalized x (at_moment x now)
-  moment_leaves x now = record { settings = refl; terms = refl; genesis = refl; nullified = refl; nullify_votes = refl; ordered = λ h. h; moment_is = refl; current_is = refl; finalized_is = refl; rounds = λ v. alike (round_of x v) }
+  moment_leaves x now = record { settings = refl; terms = refl; genesis = refl; nullified = refl; nullify_votes = refl; moment_is = refl; current_is = refl; finalized_is = refl; rounds = λ v. alike (round_of x v) }
 
   entry_alike : (x : Facts K L D) (r : RoundFacts K D) (now : ℕ) → Alike r (entered_round x r now)
   entry_alike x r now = decided_alike r _ (armed_nullify r.decision (now + x.settings.leader_timeout) (now + x.settings.certification_timeout)) (armed_finalize r.decision (now + x.settings.leader_timeout) (now + x.settings.certification_timeout))
@@ -205,20 +174,20 @@ module _ {K L D : Type 0} where
       r = entered_round x (round_of x v) now
 
       enters : (b : Bool) → nat_lt x.current v ≡ b → Leaves x.moment (max x.current v) x.finalized x (entered x v now)
-      enters true is = rw is (record { settings = refl; terms = refl; genesis = refl; nullified = refl; nullify_votes = refl; ordered = put_ordered x v r; moment_is = refl; current_is = grind (arith, nat_tests); finalized_is = refl; rounds = λ w. rounds_alike x v r (entry_alike x (round_of x v) now) w })
-      enters false is = rw is (record { settings = refl; terms = refl; genesis = refl; nullified = refl; nullify_votes = refl; ordered = λ h. h; moment_is = refl; current_is = grind (arith, nat_tests); finalized_is = refl; rounds = λ w. alike (round_of x w) })
+      enters true is = rw is (record { settings = refl; terms = refl; genesis = refl; nullified = refl; nullify_votes = refl; moment_is = refl; current_is = grind (arith, nat_tests); finalized_is = refl; rounds = λ w. rounds_alike x v r (entry_alike x (round_of x v) now) w })
+      enters false is = rw is (record { settings = refl; terms = refl; genesis = refl; nullified = refl; nullify_votes = refl; moment_is = refl; current_is = grind (arith, nat_tests); finalized_is = refl; rounds = λ w. alike (round_of x w) })
 
   pub raised_leaves : (x : Facts K L D) (v : ℕ) → Leaves x.moment x.current (max x.finalized v) x (raised x v)
   raised_leaves x v = raises (nat_lt x.finalized v) refl
     where
       raises : (b : Bool) → nat_lt x.finalized v ≡ b → Leaves x.moment x.current (max x.finalized v) x (raised x v)
-      raises true is = rw is (record { settings = refl; terms = refl; genesis = refl; nullified = refl; nullify_votes = refl; ordered = λ h. ended_ordered v x.rounds ∙ h; moment_is = refl; current_is = refl; finalized_is = grind (arith, nat_tests); rounds = λ w. found_alike v w (new_round x.me x.members (round_number x w)) x.rounds })
-      raises false is = rw is (record { settings = refl; terms = refl; genesis = refl; nullified = refl; nullify_votes = refl; ordered = λ h. h; moment_is = refl; current_is = refl; finalized_is = grind (arith, nat_tests); rounds = λ w. alike (round_of x w) })
+      raises true is = rw is (record { settings = refl; terms = refl; genesis = refl; nullified = refl; nullify_votes = refl; moment_is = refl; current_is = refl; finalized_is = grind (arith, nat_tests); rounds = λ w. round_changed (λ u r. if nat_le u v then without_token r else r) x w Alike alike (λ r. alike_where r (nat_le w v) (without_token r) r (token_alike r) (alike r)) })
+      raises false is = rw is (record { settings = refl; terms = refl; genesis = refl; nullified = refl; nullify_votes = refl; moment_is = refl; current_is = refl; finalized_is = grind (arith, nat_tests); rounds = λ w. alike (round_of x w) })
 
   -- candidates for certification
 
   pub named_quiet : (x : Facts K L D) (v : ℕ) → Quiet x (named_also x v)
-  named_quiet x v = quiet_where x (nat_lt x.finalized v) _ x (record { settings = refl; terms = refl; genesis = refl; nullified = refl; nullify_votes = refl; ordered = λ h. h; moment_is = refl; current_is = refl; finalized_is = refl; rounds = λ w. alike (round_of x w) }) (quiet x)
+  named_quiet x v = quiet_where x (nat_lt x.finalized v) _ x (record { settings = refl; terms = refl; genesis = refl; nullified = refl; nullify_votes = refl; moment_is = refl; current_is = refl; finalized_is = refl; rounds = λ w. alike (round_of x w) }) (quiet x)
 
   -- leaders
 

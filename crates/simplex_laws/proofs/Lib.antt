@@ -60,7 +60,7 @@ pub mod Leaving
 pub mod Following
 pub mod FollowingHanded
 pub mod FollowingQuiet
-pub mod FollowingScans
+pub mod Scanned
 pub mod FollowingVotes
 pub mod FollowingReplays
 pub mod Histories

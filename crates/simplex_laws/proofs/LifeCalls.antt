@@ -20,7 +20,6 @@ use Rattle.simplex_laws.proofs.Standing.{Stays}
 use Rattle.simplex_laws.proofs.Lawful.{lawful_push}
 use Rattle.simplex_laws.proofs.StandingCalls.{certified_stays, notarization_stays, nullification_stays, finalization_stays}
 use Rattle.simplex_laws.proofs.StandingSteps.{plain_suits, stays_on}
-use Rattle.simplex_laws.proofs.InOrder.{InOrder}
 use Rattle.simplex_laws.proofs.Steps.{notarization_by, verdict_by, nullify_by, finalize_by}
 use Rattle.simplex_laws.specs.Events as event
 use Rattle.simplex_laws.specs.Events.{Event, after_event}
@@ -124,7 +123,7 @@ module _ {K L D : Type 0} (elect : Elect L) (term_length : ℕ) (deeds : List (D
           subst (λ o. KeepsRules term_length (deeds ++ deeds_of_call {K = K} (ConstructFinalize v) (Finalize o)) (after_construct_finalize elect x v)) (sym silent)
           (rw may (nothing_shown x keeps.lawful keeps.stays))
 
-module _ {K L D : Type 0} (same : D → D → Bool) (decides : (d e : D) → same d e ≡ true → d ≡ e) (elect : Elect L) (term_length : ℕ) (deeds : List (Deed D)) (x : Facts K L D) (ordered : InOrder x) (keeps : KeepsRules term_length deeds x) where
+module _ {K L D : Type 0} (same : D → D → Bool) (decides : (d e : D) → same d e ≡ true → d ≡ e) (elect : Elect L) (term_length : ℕ) (deeds : List (Deed D)) (x : Facts K L D) (keeps : KeepsRules term_length deeds x) where
   accepts : (certificate : Subject D) → IsLawful term_length (deeds ++ Accepts certificate ∷ [])
   accepts certificate = lawful_push term_length deeds (Accepts certificate) keeps.lawful tt
 
@@ -134,14 +133,14 @@ module _ {K L D : Type 0} (same : D → D → Bool) (decides : (d e : D) → sam
   -- an event with no certificate, no verdict and no vote
   quiet : (e : Event K D) → notarization_by e ≡ None → finalized_by e ≡ 0 → verdict_by e ≡ None → nullify_by e ≡ None → finalize_by e ≡ None → KeepsRules term_length (deeds ++ []) (after_event same elect x e)
   quiet e notarization final verdict nullify finalize =
-      shows_nothing (after_event same elect x e) (stays_on same decides elect term_length deeds x e (plain_suits deeds _ x e notarization final nullify finalize (λ v says. absurd (cc))) ordered keeps.stays)
+      shows_nothing (after_event same elect x e) (stays_on same decides elect term_length deeds x e (plain_suits deeds _ x e notarization final nullify finalize (λ v says. absurd (cc))) keeps.stays)
 
   -- a call that is allowed and not refused
   pub call_keeps : (call : CallFacts D) → KeepsRules term_length (deeds ++ deeds_of_call call (answer same elect x call)) (after_call same elect x call)
-  call_keeps (AddNotarization c) = record { lawful = accepts (subject.Notarize c.proposal); stays = notarization_stays same decides elect term_length deeds x ordered keeps.stays c }
-  call_keeps (AddNullification c now) = record { lawful = accepts (subject.Nullify c.round); stays = nullification_stays same decides elect term_length deeds x ordered keeps.stays c now }
-  call_keeps (AddFinalization c now) = record { lawful = accepts (subject.Finalize c.proposal); stays = finalization_stays same decides elect term_length deeds x ordered keeps.stays c now }
-  call_keeps (Certified v success now) = shows_nothing _ (certified_stays same decides elect term_length deeds x ordered keeps.stays v success now)
+  call_keeps (AddNotarization c) = record { lawful = accepts (subject.Notarize c.proposal); stays = notarization_stays same decides elect term_length deeds x keeps.stays c }
+  call_keeps (AddNullification c now) = record { lawful = accepts (subject.Nullify c.round); stays = nullification_stays same decides elect term_length deeds x keeps.stays c now }
+  call_keeps (AddFinalization c now) = record { lawful = accepts (subject.Finalize c.proposal); stays = finalization_stays same decides elect term_length deeds x keeps.stays c now }
+  call_keeps (Certified v success now) = shows_nothing _ (certified_stays same decides elect term_length deeds x keeps.stays v success now)
   call_keeps (ConstructNullify v) = nullify_keeps elect term_length deeds x v keeps
   call_keeps (ConstructFinalize v) = finalize_keeps elect term_length deeds x v keeps
   call_keeps (BroadcastNotarization v) = quiet (event.BroadcastNotarization v) refl refl refl refl refl

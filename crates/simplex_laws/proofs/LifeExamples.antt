@@ -4,7 +4,6 @@ use Rattle.std.specs.Prelude.{map}
 use Rattle.std.specs.List.{fold}
 use Rattle.simplex_types.specs.Config.{Genesis}
 use Rattle.simplex_types.specs.Certificates.{ProposalFacts}
-use Rattle.simplex_types.specs.declared.types.messages.Subject.{Subject}
 use Rattle.simplex_voter.specs.Facts.{Facts, new_facts, is_tracked}
 use Rattle.simplex_voter.specs.Windows.{min_active, in_window}
 use Rattle.simplex_voter.specs.Parents.{binding_matches}

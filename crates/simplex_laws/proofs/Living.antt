@@ -2,7 +2,6 @@
 use Rattle.std.proofs.Common.{◌≡◌, refl, ap, sym, subst, ℕ, zero, suc, inl, inr, Bool, true, List, [], ◌∷◌, ◌++◌, append_assoc, ◌∙◌, Contains, None, Result, Ok, Err, arith}
 use Rattle.std.specs.Prelude.{IfOk}
 use Rattle.std.proofs.lemmas.List.Elements.{Contains-append_cases}
-use Rattle.simplex_types.specs.declared.types.messages.Subject.{Subject}
 use Rattle.simplex_voter.specs.Facts.{Elect}
 use Rattle.simplex_member.specs.declared.member.error.RecoverError.{RecoverError}
 use Rattle.simplex_member.specs.Calls.{CallFacts, Told}

@@ -9,7 +9,6 @@ use Rattle.simplex_voter.specs.Facts.{Facts, Elect, round_at, round_of, round_nu
 use Rattle.simplex_laws.specs.Events.{Event, after_event}
 use Rattle.simplex_laws.specs.Sums.{is_prune}
 use Rattle.simplex_laws.proofs.EachRound.{IsGone, rounds_or_gone}
-use Rattle.simplex_laws.proofs.InOrder.{InOrder}
 use Rattle.simplex_laws.proofs.Paths.{event_path, asked_of_all}
 use Rattle.simplex_laws.proofs.Rising.{event_goes}
 use Rattle.simplex_laws.proofs.Rounds.{armed_nullify, latched_nullify, aborted_certified, awaited_nullify}
@@ -45,12 +44,12 @@ module _ {K L D : Type 0} (same : D → D → Bool) (elect : Elect L) (x : Facts
   marks y v r s (step.Retried now interval says awaits) = record { certified = λ is. inl is; nullified = λ is. inl (awaited_nullify r awaits).0 }
   marks y v r s _ = record { certified = λ is. inl is; nullified = λ is. inl is }
 
-  event_marks : InOrder x → (v : ℕ) → Marks e v (round_of x v) (round_of (after_event same elect x e) v) ⊎ ((is_prune e ≡ true) × IsGone x (after_event same elect x e) v)
-  event_marks ordered = rounds_or_gone same elect x e ordered 0 (Marks e) marks_on marks (event_path same elect 0 x e (omega arith) (asked_of_all x e))
+  event_marks : (v : ℕ) → Marks e v (round_of x v) (round_of (after_event same elect x e) v) ⊎ ((is_prune e ≡ true) × IsGone x (after_event same elect x e) v)
+  event_marks = rounds_or_gone same elect x e 0 (Marks e) marks_on marks (event_path same elect 0 x e (omega arith) (asked_of_all x e))
 
   -- a record that has what the event newly shows
-  pub event_marked : (entries more : List (ArtifactFacts D)) → InOrder x → ((a : ArtifactFacts D) → Contains entries a → Contains more a) → ((v : ℕ) → verdict_by e ≡ Some (v, true) → is_certified (round_of x v).certification ≡ false → is_certified (round_of (after_event same elect x e) v).certification ≡ true → (round : Round) × Contains more (Verdict round true) × (round.view ≡ v)) → ((v : ℕ) → nullify_by e ≡ Some v → is_nullify (round_of x v).decision ≡ false → is_nullify (round_of (after_event same elect x e) v).decision ≡ true → is_some x.me ≡ true → (m : ℕ) × Contains more (NullifyVote (round_number x v) m)) → Marked entries x → Marked more (after_event same elect x e)
-  event_marked entries more ordered keeps verdict vote marked = record { certified = certified; nullified = nullified }
+  pub event_marked : (entries more : List (ArtifactFacts D)) → ((a : ArtifactFacts D) → Contains entries a → Contains more a) → ((v : ℕ) → verdict_by e ≡ Some (v, true) → is_certified (round_of x v).certification ≡ false → is_certified (round_of (after_event same elect x e) v).certification ≡ true → (round : Round) × Contains more (Verdict round true) × (round.view ≡ v)) → ((v : ℕ) → nullify_by e ≡ Some v → is_nullify (round_of x v).decision ≡ false → is_nullify (round_of (after_event same elect x e) v).decision ≡ true → is_some x.me ≡ true → (m : ℕ) × Contains more (NullifyVote (round_number x v) m)) → Marked entries x → Marked more (after_event same elect x e)
+  event_marked entries more keeps verdict vote marked = record { certified = certified; nullified = nullified }
     where
       y : Facts K L D
       y = after_event same elect x e
@@ -62,7 +61,7 @@ module _ {K L D : Type 0} (same : D → D → Bool) (elect : Elect L) (x : Facts
       no_vote v untracked = ap (λ o. is_nullify (unwrap_or o (new_round y.me y.members (round_number y v))).decision) untracked
 
       certified : (v : ℕ) → is_certified (round_of y v).certification ≡ true → (round : Round) × Contains more (Verdict round true) × (round.view ≡ v)
-      certified v is = elim (event_marks ordered v) [
+      certified v is = elim (event_marks v) [
         | inr (prunes, gone) ↦ absurd (false≢true (sym (no_verdict v gone.untracked) ∙ is))
         | inl change ↦ elim (cases_Bool (is_certified (round_of x v).certification)) [
           | inl before ↦ (let c = marked.certified v before in (c.0, keeps (Verdict c.0 true) c.1, c.2))
@@ -74,7 +73,7 @@ module _ {K L D : Type 0} (same : D → D → Bool) (elect : Elect L) (x : Facts
       as_set_up v (m, h) = (m, subst (λ settings. Contains more (NullifyVote (record { epoch = settings.epoch; view = v }) m)) (sym (event_goes same elect x e).settings) h)
 
       nullified : (v : ℕ) → is_nullify (round_of y v).decision ≡ true → is_some y.me ≡ true → (m : ℕ) × Contains more (NullifyVote (round_number y v) m)
-      nullified v is key = elim (event_marks ordered v) [
+      nullified v is key = elim (event_marks v) [
         | inr (prunes, gone) ↦ absurd (false≢true (sym (no_vote v gone.untracked) ∙ is))
         | inl change ↦ (
             let keyed : is_some x.me ≡ true = ap is_some (sym (event_goes same elect x e).me) ∙ key in
@@ -85,8 +84,8 @@ module _ {K L D : Type 0} (same : D → D → Bool) (elect : Elect L) (x : Facts
       ]
 
   -- an event that gives no verdict and decides no vote to nullify
-  pub quiet_marked : (entries : List (ArtifactFacts D)) → InOrder x → verdict_by e ≡ None → nullify_by e ≡ None → Marked entries x → Marked entries (after_event same elect x e)
-  quiet_marked entries ordered verdict nullify marked = event_marked entries entries ordered (λ a h. h) (λ v says before after. absurd (cc)) (λ v says before after key. absurd (cc)) marked
+  pub quiet_marked : (entries : List (ArtifactFacts D)) → verdict_by e ≡ None → nullify_by e ≡ None → Marked entries x → Marked entries (after_event same elect x e)
+  quiet_marked entries verdict nullify marked = event_marked entries entries (λ a h. h) (λ v says before after. absurd (cc)) (λ v says before after key. absurd (cc)) marked
 
 -- marks and the record
 

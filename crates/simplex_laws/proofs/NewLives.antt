@@ -7,7 +7,6 @@ use Rattle.std.proofs.lemmas.List.{append-nil, length-append}
 use Rattle.std.proofs.lemmas.List.Elements.{Contains-append_left}
 use Rattle.simplex_types.specs.Certificates.{ProposalFacts, Nullified, Finalized, ArtifactFacts, NotarizeVote, NullifyVote, FinalizeVote, Verdict, Accepted}
 use Rattle.simplex_types.specs.Config.{FloorFacts, Genesis, Finalized as FinalizedFloor}
-use Rattle.simplex_types.specs.declared.types.messages.Subject.{Subject}
 use Rattle.simplex_types.specs.declared.types.messages.Subject.TheVariants as subject
 use Rattle.simplex_types.specs.declared.types.window.Terms.{Terms}
 use Rattle.simplex_voter.specs.Facts.{Settings, Facts, Elect, new_facts, round_number}
@@ -153,8 +152,8 @@ module _ {K L D : Type 0} (same : D → D → Bool) (decides : (d e : D) → sam
   -- a call that is allowed and not refused
   pub call_lives : (o : Openings K D) (call : CallFacts D) → 0 < term_length → is_allowed x call ≡ true → Living term_length deeds closed kept entries o x → Living term_length (deeds ++ deeds_of_call call (answer same elect x call)) closed kept (entries ++ recorded_by same elect x call) (closed_by o call) (after_call same elect x call)
   call_lives o call some allowed living = record {
-    keeps = call_keeps same decides elect term_length deeds x living.in_order living.keeps call;
-    follows = call_follows same elect term_length deeds kept entries x living.keeps.stays living.in_order living.follows call allowed;
+    keeps = call_keeps same decides elect term_length deeds x living.keeps call;
+    follows = call_follows same elect term_length deeds kept entries x living.keeps.stays living.follows call allowed;
     in_order = order_call same elect x living.in_order call;
     notes = notes_called same elect x deeds kept entries call living.notes;
     noted =

@@ -7,7 +7,6 @@ use Rattle.std.proofs.lemmas.List.Elements.{Contains-append_left}
 use Rattle.simplex_types.specs.Terms.{covers}
 use Rattle.simplex_types.specs.Certificates.{NotarizeVote}
 use Rattle.simplex_types.specs.declared.types.messages.Proposal.{Proposal}
-use Rattle.simplex_types.specs.declared.types.messages.Subject.{Subject}
 use Rattle.simplex_types.specs.declared.types.messages.Subject.TheVariants as subject
 use Rattle.simplex_round.specs.Slot.{is_unequivocated}
 use Rattle.simplex_round.specs.Round.{RoundFacts, new_round}

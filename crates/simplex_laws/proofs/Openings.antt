@@ -49,7 +49,8 @@ module _ {A : Type 0} (test : A → Bool) where
       by_test true here behind is = (let same : c ≡ a = cc in subst (λ e. test e ≡ true) same here)
       by_test false other behind is = behind is
 
-  any_of_kept : (keep : A → Bool) (items : List A) → list_any test (filter keep items) ≡ true → list_any test items ≡ true
+  -- what is kept is among all
+  pub any_of_kept : (keep : A → Bool) (items : List A) → list_any test (filter keep items) ≡ true → list_any test items ≡ true
   any_of_kept keep [] is = is
   any_of_kept keep (a ∷ items) is = by_keep (keep a) (any_of_kept keep items) is
     where

@@ -6,7 +6,6 @@ use Rattle.std.proofs.lemmas.List.{append-nil, take-append-drop}
 use Rattle.simplex_types.specs.Certificates.{Notarized, Finalized, ArtifactFacts, Verdict, Accepted}
 use Rattle.simplex_types.specs.Config.{FloorFacts, Genesis, Finalized as FinalizedFloor}
 use Rattle.simplex_types.specs.declared.types.fault.Fault.{Fault}
-use Rattle.simplex_types.specs.declared.types.messages.Subject.{Subject}
 use Rattle.simplex_voter.specs.Facts.{Facts, Elect}
 use Rattle.simplex_member.specs.declared.member.error.RecoverError.{RecoverError}
 use Rattle.simplex_member.specs.declared.member.error.RecoverError.TheVariants as error
@@ -29,8 +28,7 @@ use Rattle.simplex_laws.proofs.Outside.{Fit, error_outside}
 use Rattle.simplex_laws.proofs.OwnRecords.{OwnRecord, own_together, own_nothing, HasNoVerdict, own_floor, own_left, own_bounded, own_copy, same_entries}
 use Rattle.simplex_laws.proofs.Recalls.{only_one}
 use Rattle.simplex_laws.proofs.RecoveredVerdicts.{recovered_shows}
-use Rattle.simplex_laws.proofs.RunsLawful.{LivesOn, MemberLives, between_of, cut_between, call_lives_on, work_lives_on, restart_lives_on, start_lives}
-use Rattle.simplex_laws.proofs.InOrder.{InOrder}
+use Rattle.simplex_laws.proofs.RunsLawful.{MemberLives, between_of, cut_between, call_lives_on, work_lives_on, restart_lives_on, start_lives}
 use Rattle.simplex_laws.proofs.WorkVerdicts.{work_told}
 use Rattle.simplex_laws.proofs.ShownVerdicts.{Tells, shows_more, call_told}
 use Rattle.simplex_laws.proofs.Verdicts.{Shows}
@@ -101,47 +99,47 @@ module _ {K L D : Type 0} where
 module _ {K L D : Type 0} (same : D → D → Bool) (elect : Elect L) (term_length : ℕ) (deeds : List (Deed D)) (m : MemberFacts K L D) where
   -- a call
 
-  answered : (call : CallFacts D) (x : Facts K L D) → InOrder x → m.life ≡ Some x → MemberTells deeds m → MemberTells (deeds ++ deeds_of_call call (reply_of same elect x call)) (left_of same elect x m call)
-  answered call x ordered alive tells = by_allowed (is_allowed x call) refl
+  answered : (call : CallFacts D) (x : Facts K L D) → m.life ≡ Some x → MemberTells deeds m → MemberTells (deeds ++ deeds_of_call call (reply_of same elect x call)) (left_of same elect x m call)
+  answered call x alive tells = by_allowed (is_allowed x call) refl
     where
       by_fault : (o : Option Fault) → fault_of x call ≡ o → is_allowed x call ≡ true → MemberTells (deeds ++ deeds_of_call call (reply_of same elect x call)) (left_of same elect x m call)
-      by_fault None no_fault allowed = rw (allowed, no_fault) (call_told same elect deeds m.entries x ordered (subst (λ life. TellsOn deeds m.entries life) alive tells) call allowed)
+      by_fault None no_fault allowed = rw (allowed, no_fault) (call_told same elect deeds m.entries x (subst (λ life. TellsOn deeds m.entries life) alive tells) call allowed)
       by_fault (Some f) refused allowed = rw (allowed, refused) (untold deeds m tells)
 
       by_allowed : (b : Bool) → is_allowed x call ≡ b → MemberTells (deeds ++ deeds_of_call call (reply_of same elect x call)) (left_of same elect x m call)
       by_allowed true allowed = by_fault (fault_of x call) refl allowed
       by_allowed false not_allowed = rw not_allowed (untold deeds m tells)
 
-  call_tells_on : (call : CallFacts D) (told : Told K D) (left : MemberFacts K L D) → ((x : Facts K L D) → m.life ≡ Some x → InOrder x) → MemberTells deeds m → IsCall same elect m call told left → MemberTells (deeds ++ deeds_of_call call told) left
+  call_tells_on : (call : CallFacts D) (told : Told K D) (left : MemberFacts K L D) → MemberTells deeds m → IsCall same elect m call told left → MemberTells (deeds ++ deeds_of_call call told) left
   unfolding IsCall
-  call_tells_on call told left ordered tells is_call = by_life m.life refl is_call
+  call_tells_on call told left tells is_call = by_life m.life refl is_call
     where
       by_life : (o : Option (Facts K L D)) → m.life ≡ o → AnswersAlive same elect o m call told left → MemberTells (deeds ++ deeds_of_call call told) left
       by_life None dead (tell, leaves) = rw (tell, leaves) (untold deeds m tells)
-      by_life (Some x) alive (inl (tell, leaves)) = rw (tell, leaves) (answered call x (ordered x alive) alive tells)
+      by_life (Some x) alive (inl (tell, leaves)) = rw (tell, leaves) (answered call x alive tells)
       by_life (Some x) alive (inr (_, tell, inl leaves)) = rw (tell, leaves) (untold deeds m tells)
       by_life (Some x) alive (inr (_, tell, inr leaves)) = rw (tell, leaves) (untold deeds (fallen m) (own_of deeds m.entries m.life tells))
 
   -- a call on the work of a view
 
-  worked : (call : WorkCall D) (x : Facts K L D) → InOrder x → m.life ≡ Some x → MemberTells deeds m → MemberTells (deeds ++ signed_in (work_reply same elect x m.openings call)) (left_of_work same elect x m call)
-  worked call x ordered alive tells = by_allowed (work_allowed x m.openings call) refl
+  worked : (call : WorkCall D) (x : Facts K L D) → m.life ≡ Some x → MemberTells deeds m → MemberTells (deeds ++ signed_in (work_reply same elect x m.openings call)) (left_of_work same elect x m call)
+  worked call x alive tells = by_allowed (work_allowed x m.openings call) refl
     where
       by_fault : (f : Option Fault) → work_fault x call ≡ f → work_allowed x m.openings call ≡ true → MemberTells (deeds ++ signed_in (work_reply same elect x m.openings call)) (left_of_work same elect x m call)
-      by_fault None no_fault allowed = rw (allowed, no_fault) (work_told same elect deeds m.entries x m.openings ordered (subst (λ life. TellsOn deeds m.entries life) alive tells) call allowed)
+      by_fault None no_fault allowed = rw (allowed, no_fault) (work_told same elect deeds m.entries x m.openings (subst (λ life. TellsOn deeds m.entries life) alive tells) call allowed)
       by_fault (Some f) refused allowed = rw (allowed, refused) (untold deeds m tells)
 
       by_allowed : (b : Bool) → work_allowed x m.openings call ≡ b → MemberTells (deeds ++ signed_in (work_reply same elect x m.openings call)) (left_of_work same elect x m call)
       by_allowed true allowed = by_fault (work_fault x call) refl allowed
       by_allowed false not_allowed = rw not_allowed (untold deeds m tells)
 
-  work_tells_on : (call : WorkCall D) (told : Told K D) (left : MemberFacts K L D) → ((x : Facts K L D) → m.life ≡ Some x → InOrder x) → MemberTells deeds m → IsWork same elect m call told left → MemberTells (deeds ++ signed_in told) left
+  work_tells_on : (call : WorkCall D) (told : Told K D) (left : MemberFacts K L D) → MemberTells deeds m → IsWork same elect m call told left → MemberTells (deeds ++ signed_in told) left
   unfolding IsWork
-  work_tells_on call told left ordered tells is_work = by_life m.life refl is_work
+  work_tells_on call told left tells is_work = by_life m.life refl is_work
     where
       by_life : (o : Option (Facts K L D)) → m.life ≡ o → IsWorkOf same elect o m call told left → MemberTells (deeds ++ signed_in told) left
       by_life None dead (tell, leaves) = rw (tell, leaves) (untold deeds m tells)
-      by_life (Some x) alive (inl (tell, leaves)) = rw (tell, leaves) (worked call x (ordered x alive) alive tells)
+      by_life (Some x) alive (inl (tell, leaves)) = rw (tell, leaves) (worked call x alive tells)
       by_life (Some x) alive (inr (_, tell, inl leaves)) = rw (tell, leaves) (untold deeds m tells)
       by_life (Some x) alive (inr (_, tell, inr leaves)) = rw (tell, leaves) (untold deeds (fallen m) (own_of deeds m.entries m.life tells))
 
@@ -190,13 +188,13 @@ module _ {K L D : Type 0} (same : D → D → Bool) (decides : (d e : D) → sam
   called : (deeds : List (Deed D)) (m next : MemberFacts K L D) (call : CallFacts D) (told : Told K D) → KeepsRecord term_length deeds m → IsCall same elect m call told next → KeepsRecord term_length (deeds ++ deeds_of_call call told) next
   called deeds m next call told own is = record {
     lives = call_lives_on same decides elect term_length some deeds m call told next own.lives is;
-    tells = call_tells_on same elect term_length deeds m call told next (λ x alive. (let living = subst (λ life. LivesOn term_length deeds m.closed own.lives.0 m.entries m.openings life) alive own.lives.1 in living.in_order)) own.tells is;
+    tells = call_tells_on same elect term_length deeds m call told next own.tells is;
   }
 
   worked_on : (deeds : List (Deed D)) (m next : MemberFacts K L D) (call : WorkCall D) (told : Told K D) → KeepsRecord term_length deeds m → IsWork same elect m call told next → KeepsRecord term_length (deeds ++ signed_in told) next
   worked_on deeds m next call told own is = record {
     lives = work_lives_on same decides elect term_length some deeds m call told next own.lives is;
-    tells = work_tells_on same elect term_length deeds m call told next (λ x alive. (let living = subst (λ life. LivesOn term_length deeds m.closed own.lives.0 m.entries m.openings life) alive own.lives.1 in living.in_order)) own.tells is;
+    tells = work_tells_on same elect term_length deeds m call told next own.tells is;
   }
 
   restarted : (deeds : List (Deed D)) (m next : MemberFacts K L D) (r : RestartFacts K L D) (told : Told K D) → IsFresh term_length r.start.fresh → KeepsRecord term_length deeds m → (result : Result (Unit {0}) RecoverError) × IsRestart same elect m r result next × (told ≡ restart_told result) → KeepsRecord term_length (deeds ++ deeds_at (Restarts r) told) next

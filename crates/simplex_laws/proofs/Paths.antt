@@ -1,10 +1,8 @@
 -- Each word of the voter's definitions goes on by primitive changes, and so each event is a path of them.
-use Rattle.std.proofs.Common.{◌≡◌, ◌≢◌, refl, ap, sym, ◌∙◌, subst, ℕ, zero, suc, ◌+◌, ◌-◌, ◌<◌, ◌≤◌, ◌⊎◌, inl, inr, Bool, true, false, ◌&&◌, not, if◌then◌else◌, nat_lt, nat_le, min, List, [], ◌∷◌, Contains, Option, Some, None, is_some, unwrap_or, arith}
-use Rattle.std.specs.Prelude.{T, ◌==◌}
+use Rattle.std.proofs.Common.{◌≡◌, refl, sym, ◌∙◌, ℕ, zero, suc, ◌+◌, ◌-◌, ◌<◌, ◌≤◌, ◌⊎◌, inl, inr, Bool, true, false, ◌&&◌, not, if◌then◌else◌, nat_lt, nat_le, min, List, [], Option, Some, None, is_some, unwrap_or, arith}
+use Rattle.std.specs.Prelude.{◌==◌}
 use Rattle.std.specs.List.{fold, range_with_len}
 use Rattle.std.specs.Option.{option_map_or}
-use Rattle.std.specs.Ordering.{nat_cmp}
-use Rattle.std.specs.FinMap.Entries.{is_sorted, is_sorted-where_key}
 use Rattle.std.proofs.lemmas.Bool.{false≢true, eq-eqb}
 use Rattle.std.proofs.lemmas.Bool.Decides.{nat_tests}
 use Rattle.simplex_types.specs.Terms.{next_term_start, term_end}
@@ -14,7 +12,7 @@ use Rattle.simplex_types.specs.Config.{FloorFacts, Genesis, Finalized as Finaliz
 use Rattle.simplex_types.specs.declared.types.messages.Context.{Context}
 use Rattle.simplex_types.specs.declared.types.messages.Proposal.{Proposal}
 use Rattle.simplex_types.specs.declared.reasons.TimeoutReason.{TimeoutReason}
-use Rattle.simplex_types.specs.declared.reasons.TimeoutReason.TheVariants.{FailedCertification, InvalidProposal}
+use Rattle.simplex_types.specs.declared.reasons.TimeoutReason.TheVariants.{FailedCertification}
 use Rattle.simplex_round.specs.declared.round.Leader.{Leader}
 use Rattle.simplex_round.specs.declared.round.Decision.TheVariants as decision
 use Rattle.simplex_round.specs.declared.round.Decision.{Decision}
@@ -31,22 +29,19 @@ use Rattle.simplex_voter.specs.Acceptance.{with_notarization_at, with_nullificat
 use Rattle.simplex_voter.specs.Parents.{binding_matches}
 use Rattle.simplex_voter.specs.Rules.{may_notarize, may_nullify, may_finalize}
 use Rattle.simplex_voter.specs.Votes.{nullify_cast, finalize_cast, after_construct_notarize, after_construct_nullify, after_construct_finalize}
-use Rattle.simplex_voter.specs.Proposing.{Request, request_context, propose_answer, proposed_answer, supersede_answer, context_stands, with_build, proposed_round, proposal_of, views_ahead, after_proposed}
-use Rattle.simplex_voter.specs.Verifying.{Standing, Passed, Invalid, Lacks, Ready, standing, is_answered, verifying_round, left_at, scanned, with_mark, without_binding, after_set_proposal, after_try_verify}
+use Rattle.simplex_voter.specs.declared.voter.proposal_request.ProposalRequest.{ProposalRequest}
+use Rattle.simplex_voter.specs.Proposing.{request_context, propose_answer, proposed_answer, supersede_answer, context_stands, with_build, proposed_round, proposal_of, after_proposed}
+use Rattle.simplex_voter.specs.Verifying.{with_mark, without_binding, after_set_proposal}
 use Rattle.simplex_voter.specs.Refusals.{is_started}
 use Rattle.simplex_voter.specs.Replay.{bound_again, restored_binding}
 use Rattle.simplex_voter.proofs.Gaps.{and_parts, not_true}
 use Rattle.simplex_voter.proofs.Rules.{notarize_parts, nullify_parts, finalize_parts}
-use Rattle.simplex_voter.proofs.Elsewhere.{round_of-with_round}
 use Rattle.simplex_member.specs.Entries.{entry_view}
 use Rattle.simplex_member.specs.Recovery.{replayed}
 use Rattle.simplex_laws.specs.Events.{Event, after_event, SetFloor, AddNotarization, AddNullification, AddFinalization, Certified, ConstructNotarize, ConstructNullify, ConstructFinalize, SetProposal, TryPropose, Proposed, Supersede, Release, TryVerify, Verified, VerificationFailed, CertifyCandidates, SetCertifyHandle, TriggerTimeout, NextTimeout, BroadcastNotarization, BroadcastNullification, BroadcastFinalization, Prune, Replay}
 use Rattle.simplex_laws.specs.Sums.{finalized_by}
-use Rattle.simplex_laws.proofs.Filters.{Contains-filtered, filtered_passes}
-use Rattle.simplex_laws.proofs.Ordered.{first_below, sorted_parts, found_in_order, sorted_through, among_through}
-use Rattle.simplex_laws.proofs.Splits.{Contains-cons_rest}
 use Rattle.simplex_laws.proofs.Steps as step
-use Rattle.simplex_laws.proofs.Steps.{RoundStep, Step, Path, Still, Then, Puts, Moves, Founds, Names, Unnames, Covers, Notes, Reaches, Raises, Strays, Prunes, notarization_by, nullification_by, finalization_by, verdict_by, nullify_by}
+use Rattle.simplex_laws.proofs.Steps.{RoundStep, Step, Path, Still, Then, Puts, Moves, Founds, Names, Unnames, Covers, Notes, Reaches, Raises, Scans, Prunes, notarization_by, nullification_by, finalization_by, verdict_by, nullify_by}
 
 -- what holds of a view's round and of no new one is of a tracked view
 pub tracked_by : {K L D : Type 0} (x : Facts K L D) (v : ℕ) (test : RoundFacts K D → Bool) → test (new_round x.me x.members (round_number x v)) ≡ false → test (round_of x v) ≡ true → is_tracked x v ≡ true
@@ -223,22 +218,6 @@ module _ {K L D : Type 0} (x : Facts K L D) (v : ℕ) where
   handle_fits takes true = (let c = (round_of x v).certification in not_true (is_judged true c) (and_parts (is_started x) (not (is_judged true c)) (and_parts (is_started x && not (is_judged true c)) (not (is_judged false c)) takes).0).1)
   handle_fits takes false = (let c = (round_of x v).certification in not_true (is_judged false c) (and_parts (is_started x && not (is_judged true c)) (not (is_judged false c)) takes).1)
 
-  -- other views stay where the scan comes to one
-  left_elsewhere : (e : ℕ × RoundFacts K D) (s : Standing D) → v ≢ e.0 → round_of (left_at x e s) v ≡ round_of x v
-  left_elsewhere e Passed apart = refl
-  left_elsewhere e Invalid apart = round_of-with_round x v e.0 apart _
-  left_elsewhere e (Lacks _ kind) apart = round_of-with_round x v e.0 apart _
-  left_elsewhere e (Ready d) apart = round_of-with_round x v e.0 apart _
-
-module _ {K L D : Type 0} (same : D → D → Bool) (elect : Elect L) (x : Facts K L D) where
-  -- what the scan comes to is tracked, and not below the current view
-  scans_ahead : (e : ℕ × RoundFacts K D) → Contains (scanned same elect x) e → Contains x.rounds e × (x.current ≤ e.0)
-  scans_ahead e h =
-      let among = among_through (λ f. is_answered (standing same elect x f)) (views_ahead x) e h in
-      let passes = filtered_passes (λ (f : ℕ × RoundFacts K D). nat_le x.current f.0 && nat_le f.0 (next_term_start x.terms.term_length x.current)) x.rounds e among in
-      let ahead : nat_le x.current e.0 ≡ true = (and_parts (nat_le x.current e.0) _ passes).0 in
-      (Contains-filtered _ x.rounds e among, grind (arith, nat_tests, ahead))
-
 module _ {K L D : Type 0} (same : D → D → Bool) (elect : Elect L) (low : ℕ) (x : Facts K L D) where
   abbrev To : Event K D → Facts K L D → Type 0
   To e y = Path same elect x e low x y
@@ -303,7 +282,7 @@ module _ {K L D : Type 0} (same : D → D → Bool) (elect : Elect L) (low : ℕ
   build_path : (e : Event K D) (v : ℕ) (requested : Bool) → To e (with_build x v requested)
   build_path e v requested = put_tracked v _ (step.Asked requested) Still
 
-  propose_path : (request : Option (Request K D)) → To TryPropose (option_map_or (λ r. with_build x (request_context r).round.view true) request x)
+  propose_path : (request : Option (ProposalRequest D K)) → To TryPropose (option_map_or (λ r. with_build x (request_context r).round.view true) request x)
   propose_path None = Still
   propose_path (Some r) = build_path TryPropose (request_context r).round.view true
 
@@ -317,52 +296,6 @@ module _ {K L D : Type 0} (same : D → D → Bool) (elect : Elect L) (low : ℕ
       by_round : (o : Option (RoundFacts K D)) → option_map_or (λ r. not (is_nullify r.decision) && holds_or_empty (same_proposal same) r.slot (proposal_of context payload)) o false ≡ true → is_some o ≡ true
       by_round None is = absurd (false≢true is)
       by_round (Some r) is = refl
-
-  -- the scan, over entries that rise and stand so in the facts
-
-  left_at_path : (y : Facts K L D) (e : ℕ × RoundFacts K D) → low ≤ e.0 → round_of y e.0 ≡ e.1 → (s : Standing D) → standing same elect x e ≡ s → To TryVerify y → To TryVerify (left_at y e s)
-  left_at_path y e over here Passed is path = path
-  left_at_path y e over here Invalid is path = put e.0 _ (inl over) (subst (λ r. RoundStep same elect x TryVerify y e.0 r (with_latch e.1 y.moment InvalidProposal)) (sym here) (step.Latched y.moment InvalidProposal)) path
-  left_at_path y e over here (Lacks w kind) is path = put e.0 _ (inl over) (subst (λ (r : RoundFacts K D). RoundStep same elect x TryVerify y e.0 r (record e.1 { last_request = Some w })) (sym here) (step.Requested w refl)) path
-  left_at_path y e over here (Ready d) is path = put e.0 _ (inl over) (subst (λ r. RoundStep same elect x TryVerify y e.0 r (verifying_round e.1 d)) (sym here) (step.Verifying d refl is)) path
-
-  scan_path : (es : List (ℕ × RoundFacts K D)) (y : Facts K L D) → T (is_sorted nat_cmp es) → ((e : ℕ × RoundFacts K D) → Contains es e → (low ≤ e.0) × (round_of y e.0 ≡ e.1)) → To TryVerify y → To TryVerify (fold (λ y e. left_at y e (standing same elect x e)) y es)
-  scan_path [] y sorted here path = path
-  scan_path (e ∷ es) y sorted here path =
-      let parts = sorted_parts e es sorted in
-      let first = here e (0, omega arith, refl) in
-      let s = standing same elect x e in
-      scan_path es (left_at y e s) parts.1
-      (λ f h. (let lower = first_below e.0 es f parts.0 h in let later = here f (Contains-cons_rest e es f h) in (later.0, left_elsewhere y f.0 e s (λ is. omega (arith, lower, is)) ∙ later.1)))
-      (left_at_path y e first.0 first.1 s refl path)
-
-  left_astray : (y : Facts K L D) (e : ℕ × RoundFacts K D) → low ≤ e.0 → is_sorted nat_cmp x.rounds ≡ false → (s : Standing D) → To TryVerify y → To TryVerify (left_at y e s)
-  left_astray y e over astray Passed path = path
-  left_astray y e over astray Invalid path = Then path (Strays e.0 _ over astray)
-  left_astray y e over astray (Lacks w kind) path = Then path (Strays e.0 _ over astray)
-  left_astray y e over astray (Ready d) path = Then path (Strays e.0 _ over astray)
-
-  scan_astray : (es : List (ℕ × RoundFacts K D)) (y : Facts K L D) → is_sorted nat_cmp x.rounds ≡ false → ((e : ℕ × RoundFacts K D) → Contains es e → low ≤ e.0) → To TryVerify y → To TryVerify (fold (λ y e. left_at y e (standing same elect x e)) y es)
-  scan_astray [] y astray over path = path
-  scan_astray (e ∷ es) y astray over path =
-      scan_astray es (left_at y e (standing same elect x e)) astray (λ f h. over f (Contains-cons_rest e es f h))
-      (left_astray y e (over e (0, omega arith, refl)) astray (standing same elect x e) path)
-
-  try_verify_path : low ≤ x.current → To TryVerify (after_try_verify same elect x)
-  try_verify_path reached = by_order (is_sorted nat_cmp x.rounds) refl
-    where
-      by_order : (b : Bool) → is_sorted nat_cmp x.rounds ≡ b → To TryVerify (after_try_verify same elect x)
-      by_order false astray = scan_astray (scanned same elect x) x astray (λ e h. (let over = (scans_ahead same elect x e h).1 in omega (arith, over, reached))) Still
-      by_order true is =
-          let ordered : T (is_sorted nat_cmp x.rounds) = subst T (sym is) tt in
-          scan_path (scanned same elect x) x
-          (sorted_through (λ e. is_answered (standing same elect x e)) (views_ahead x) (is_sorted-where_key nat_cmp (λ v. nat_le x.current v && nat_le v (next_term_start x.terms.term_length x.current)) x.rounds ordered))
-          (λ e h. (
-          let ahead = scans_ahead same elect x e h in
-          let over = ahead.1 in
-          (omega (arith, over, reached), ap (λ o. unwrap_or o (new_round x.me x.members (round_number x e.0))) (found_in_order x.rounds e ordered ahead.0))
-          ))
-          Still
 
   verified_path : (v : ℕ) → To (Verified v) (if binding_matches same elect x v then with_tracked x v (with_mark (round_of x v)) else without_binding x v)
   verified_path v =
@@ -412,7 +345,7 @@ module _ {K L D : Type 0} (same : D → D → Bool) (elect : Elect L) (low : ℕ
   event_path (Proposed context payload now) reached over = proposed_path context payload now
   event_path (Supersede context) reached over = either (supersede_answer same elect x context) (with_build x context.round.view false) x (λ other. build_path (Supersede context) context.round.view false) (λ stands. Still)
   event_path (Release v) reached over = build_path (Release v) v false
-  event_path TryVerify reached over = try_verify_path reached
+  event_path TryVerify reached over = Then Still (Scans refl)
   event_path (Verified v) reached over = verified_path v
   event_path (VerificationFailed v reason now) reached over = failed_path v reason now
   event_path CertifyCandidates reached over = Then Still Unnames

@@ -15,8 +15,7 @@ use Rattle.simplex_laws.proofs.Signed.{signed_none, signed_cases, only_signed}
 use Rattle.simplex_laws.proofs.Splits.{Contains-cases, Contains-cons_rest}
 use Rattle.simplex_laws.proofs.Standing.{Stays}
 use Rattle.simplex_laws.proofs.Retaken.{subject_of, entry_deeds, MayRetake}
-use Rattle.simplex_laws.proofs.RetakenEntries.{taken_stays, taken_keeps, taken_rises, taken_passes}
-use Rattle.simplex_laws.proofs.InOrder.{InOrder, event_in_order}
+use Rattle.simplex_laws.proofs.RetakenEntries.{taken_stays, taken_rises, taken_passes}
 
 -- what a record holds of a member's deeds; it may lack votes of views below `kept`
 pub record Remembers {D : Type 0} (deeds : List (Deed D)) (kept : ℕ) (entries : List (ArtifactFacts D)) : Type 0 where
@@ -143,18 +142,18 @@ module _ {D : Type 0} (term_length : ℕ) (deeds : List (Deed D)) (lawful : IsLa
   )
 
 module _ {K L D : Type 0} (same : D → D → Bool) (decides : (d e : D) → same d e ≡ true → d ≡ e) (elect : Elect L) (term_length : ℕ) (deeds : List (Deed D)) (lawful : IsLawful term_length deeds) (kept : ℕ) (copy : List (ArtifactFacts D)) (remembers : Remembers deeds kept copy) (now : ℕ) where
-  pub all_stay : (rest before : List (ArtifactFacts D)) (a : List (Deed D)) (x : Facts K L D) → copy ≡ before ++ rest → AreRecorded deeds a → ((round : Round) → Contains before (Verdict round true) → round.view < x.current) → InOrder x → Stays term_length a x → Stays term_length (a ++ entries_deeds rest) (all_taken same elect x now rest)
-  all_stay [] before a x split recorded passed ordered stays = subst (λ b. Stays term_length b x) (sym (append-nil a)) stays
-  all_stay (e ∷ rest) before a x split recorded passed ordered stays =
+  pub all_stay : (rest before : List (ArtifactFacts D)) (a : List (Deed D)) (x : Facts K L D) → copy ≡ before ++ rest → AreRecorded deeds a → ((round : Round) → Contains before (Verdict round true) → round.view < x.current) → Stays term_length a x → Stays term_length (a ++ entries_deeds rest) (all_taken same elect x now rest)
+  all_stay [] before a x split recorded passed stays = subst (λ b. Stays term_length b x) (sym (append-nil a)) stays
+  all_stay (e ∷ rest) before a x split recorded passed stays =
       let y = taken same elect x now e in
       let further : List (ArtifactFacts D) = before ++ e ∷ [] in
       let here : Contains copy e = subst (λ es. Contains es e) (sym split) (Contains-append_right before (e ∷ rest) e (0, omega arith, refl)) in
       let next : copy ≡ further ++ rest = split ∙ sym (append_assoc before (e ∷ []) rest) in
-      let took = taken_stays same decides elect term_length a x now stays ordered e (may_retake term_length deeds lawful kept copy remembers a before rest e x.current split recorded passed) in
+      let took = taken_stays same decides elect term_length a x now stays e (may_retake term_length deeds lawful kept copy remembers a before rest e x.current split recorded passed) in
       let up : x.current ≤ y.current = taken_rises same elect x now e in
       let passes : (round : Round) → Contains further (Verdict round true) → round.view < y.current =
       λ round h. elim (Contains-push_cases before e (Verdict round true) h) [
         | inl old ↦ omega (arith, passed round old)
         | inr new ↦ taken_passes same decides elect term_length a x now e round new stays.ahead
       ] in
-      subst (λ b. Stays term_length b (all_taken same elect y now rest)) (append_assoc a (entry_deeds e) (entries_deeds rest)) (all_stay rest further (a ++ entry_deeds e) y next (recorded_also term_length deeds lawful kept copy remembers a e here recorded) passes (taken_keeps same elect x now InOrder (λ z f in_order. event_in_order same elect z f in_order) e ordered) took)
+      subst (λ b. Stays term_length b (all_taken same elect y now rest)) (append_assoc a (entry_deeds e) (entries_deeds rest)) (all_stay rest further (a ++ entry_deeds e) y next (recorded_also term_length deeds lawful kept copy remembers a e here recorded) passes took)

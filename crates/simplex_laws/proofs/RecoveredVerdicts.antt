@@ -23,7 +23,6 @@ use Rattle.simplex_laws.proofs.Together.{Rises, rises_from}
 use Rattle.simplex_laws.specs.Events as event
 use Rattle.simplex_laws.specs.Events.{Event, IsEvent, after_event}
 use Rattle.simplex_laws.specs.Sums.{finalized_by}
-use Rattle.simplex_laws.proofs.InOrder.{InOrder, event_in_order}
 use Rattle.simplex_laws.proofs.Rounds.{round_put}
 use Rattle.simplex_laws.proofs.Rising.{event_goes, event_finalizes}
 use Rattle.simplex_laws.proofs.Steps.{notarization_by, verdict_by}
@@ -35,7 +34,6 @@ pub record Recovers {K L D : Type 0} (base top : ℕ) (done : List (ArtifactFact
   pub shows : Shows done x
   pub reached : base ≤ min_active x
   pub within : min_active x ≤ max base top
-  pub in_order : InOrder x
 
 module _ {K L D : Type 0} (same : D → D → Bool) (elect : Elect L) (base top : ℕ) (done : List (ArtifactFacts D)) (x : Facts K L D) (recovers : Recovers base top done x) (e : Event K D) (v : ℕ) (over : top ≤ v) (within : finalized_by e ≤ v) (handles : (v token : ℕ) → e ≡ event.SetCertifyHandle v token → IsEvent x e) where
   -- an event of a view that is no lower
@@ -48,20 +46,19 @@ module _ {K L D : Type 0} (same : D → D → Bool) (elect : Elect L) (base top 
         shows = shows;
         reached = omega (arith, retention, goes.finalized, recovers.reached);
         within = omega (arith, retention, finalizes, recovers.within, over, within);
-        in_order = event_in_order same elect x e recovers.in_order;
       }
 
   -- of an entry that is no verdict, or of none
   pub quiet_recovers : (new : List (ArtifactFacts D)) → HasNoVerdict new → notarization_by e ≡ None → verdict_by e ≡ None → Recovers base v (done ++ new) (after_event same elect x e)
   quiet_recovers new silent no_notarization no_judgement =
       more_recovers (done ++ new)
-      (event_shows same elect x e handles done (done ++ new) recovers.in_order (λ c is. absurd (cc)) (λ round given success h is. absurd (cc)) (λ a h. Contains-append_left done new a h) (λ c is none. absurd (cc))
+      (event_shows same elect x e handles done (done ++ new) (λ c is. absurd (cc)) (λ round given success h is. absurd (cc)) (λ a h. Contains-append_left done new a h) (λ c is none. absurd (cc))
       (λ round success h. elim (Contains-append_cases done new (Verdict round success) h) [ inl old ↦ inl old | inr late ↦ absurd (silent round success late) ]) recovers.shows)
 
   pub still_recovers : notarization_by e ≡ None → verdict_by e ≡ None → Recovers base v done (after_event same elect x e)
   still_recovers no_notarization no_judgement =
       more_recovers done
-      (event_shows same elect x e handles done done recovers.in_order (λ c is. absurd (cc)) (λ round given success h is. absurd (cc)) (λ a h. h) (λ c is none. absurd (cc)) (λ round success h. inl h) recovers.shows)
+      (event_shows same elect x e handles done done (λ c is. absurd (cc)) (λ round given success h is. absurd (cc)) (λ a h. h) (λ c is none. absurd (cc)) (λ round success h. inl h) recovers.shows)
 
 module _ {K L D : Type 0} (same : D → D → Bool) (elect : Elect L) (now base top : ℕ) (done : List (ArtifactFacts D)) (x : Facts K L D) (recovers : Recovers base top done x) where
   -- an entry that is taken again; those of its verdict's view agree with it
@@ -88,7 +85,7 @@ module _ {K L D : Type 0} (same : D → D → Bool) (elect : Elect L) (now base 
       ] in
       let stands : is_judged success (round_of j v).certification ≡ true = ap (λ (r : RoundFacts K D). is_judged success r.certification) (round_put x v (certified_round (round_of x v) success)) ∙ judged_so success in
       let first = more_recovers same elect base top done x recovers replay v over (omega arith) (λ w token is. absurd (cc)) whole
-      (event_shows same elect x replay (λ w token is. absurd (cc)) done whole recovers.in_order (λ c is. absurd (cc))
+      (event_shows same elect x replay (λ w token is. absurd (cc)) done whole (λ c is. absurd (cc))
       (λ other given taken h says. (let pair : (v, success) ≡ (other.view, taken) = cc in agree round other success given refl h (sym (ap (λ (p : ℕ × Bool). p.0) pair)) ∙ ap (λ (p : ℕ × Bool). p.1) pair))
       (λ b h. Contains-append_left done (a ∷ []) b h) (λ c is none. absurd (cc))
       (λ other given h. elim (Contains-push_cases done a (Verdict other given) h) [
@@ -96,7 +93,7 @@ module _ {K L D : Type 0} (same : D → D → Bool) (elect : Elect L) (now base 
         | inr new ↦ inr (let is : round ≡ other = cc in let same_given : success ≡ given = cc in subst (λ (r : Round). is_judged given (round_of j r.view).certification ≡ true) is (subst (λ b. is_judged b (round_of j v).certification ≡ true) same_given stands))
       ]) recovers.shows) in
       more_recovers same elect base v whole j first give v (omega arith) (omega arith) (λ w token is. absurd (cc)) whole
-      (event_shows same elect j give (λ w token is. absurd (cc)) whole whole first.in_order (λ c is. absurd (cc))
+      (event_shows same elect j give (λ w token is. absurd (cc)) whole whole (λ c is. absurd (cc))
       (λ other given taken h says. (let pair : (v, success) ≡ (other.view, taken) = cc in agreed other given h (sym (ap (λ (p : ℕ × Bool). p.0) pair)) ∙ ap (λ (p : ℕ × Bool). p.1) pair))
       (λ b h. h) (λ c is none. absurd (cc)) (λ other given h. inl h) first.shows)
   retaken_recovers (Accepted (Notarized c)) over kept agree =
@@ -106,7 +103,7 @@ module _ {K L D : Type 0} (same : D → D → Bool) (elect : Elect L) (now base 
       let whole = done ++ a ∷ [] in
       let silent : HasNoVerdict (a ∷ []) = λ round success h. (let e = only_one a (Verdict round success) h in cc) in
       let first = more_recovers same elect base top done x recovers add v over (omega arith) (λ w token is. absurd (cc)) whole
-      (event_shows same elect x add (λ w token is. absurd (cc)) done whole recovers.in_order
+      (event_shows same elect x add (λ w token is. absurd (cc)) done whole
       (λ d is. (let alike : c ≡ d = cc in subst (λ (f : ProposalFacts D). min_active x ≤ f.proposal.round.view) alike kept))
       (λ round given success h is. absurd (cc)) (λ b h. Contains-append_left done (a ∷ []) b h)
       (λ d is none. (let alike : c ≡ d = cc in subst (λ (f : ProposalFacts D). Contains whole (Accepted (Notarized f))) alike (Contains-append_right done (a ∷ []) a (0, omega arith, refl))))
@@ -148,7 +145,7 @@ module _ {K L D : Type 0} (same : D → D → Bool) (elect : Elect L) (now base 
     | inl passed ↦
         (let below : entry_view e < min_active x = ltb-true (entry_view e) (min_active x) passed in
         let out : nat_le base (entry_view e) ≡ false = grind (arith, nat_tests, below, recovers.within, rises.0) in
-        rw (passed_over x e passed, out) (all_recover rest done (entry_view e) x (record { shows = recovers.shows; reached = recovers.reached; within = omega (arith, recovers.within, rises.0); in_order = recovers.in_order }) rises.1 known (λ f h. coming f (Contains-cons_rest e rest f h))))
+        rw (passed_over x e passed, out) (all_recover rest done (entry_view e) x (record { shows = recovers.shows; reached = recovers.reached; within = omega (arith, recovers.within, rises.0) }) rises.1 known (λ f h. coming f (Contains-cons_rest e rest f h))))
     | inr kept ↦
         (let over : min_active x ≤ entry_view e = grind (arith, nat_tests) in
         let stays : nat_le base (entry_view e) ≡ true = le-leb base (entry_view e) (omega (arith, over, recovers.reached)) in
@@ -189,11 +186,10 @@ module _ {K L D : Type 0} (same : D → D → Bool) (elect : Elect L) (settings 
       let e : Event K D = event.SetFloor floor now in
       let base = min_active x in
       let start : Recovers base 0 [] x = record {
-        shows = event_shows same elect fresh e (λ w token is. absurd (cc)) [] [] tt (λ c is. absurd (cc)) (λ round given success h is. absurd (cc)) (λ a h. h) (λ c is none. absurd (cc)) (λ round success h. inl h)
+        shows = event_shows same elect fresh e (λ w token is. absurd (cc)) [] [] (λ c is. absurd (cc)) (λ round given success h is. absurd (cc)) (λ a h. h) (λ c is none. absurd (cc)) (λ round success h. inl h)
             (record { notarized = λ v is. absurd (false≢true is); judged = λ round success h. absurd (omega (arith, h.1)) });
         reached = omega arith;
         within = omega arith;
-        in_order = event_in_order same elect fresh e tt;
       } in
       let ends = all_recover same elect now base copy one_verdict copy [] 0 x start (rises_from 0 copy rising (λ e h. omega arith)) (λ e h. absurd (omega (arith, h.1))) (λ e h. h) in
       whole_shown base copy (all_taken same elect x now copy) ends

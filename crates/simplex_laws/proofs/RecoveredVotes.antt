@@ -17,7 +17,6 @@ use Rattle.simplex_laws.proofs.Signed.{signed_right, signed_cases}
 use Rattle.simplex_laws.proofs.Splits.{Contains-cases}
 use Rattle.simplex_laws.proofs.Standing.{Stays}
 use Rattle.simplex_laws.proofs.StartStands.{start_stays, floor_unsigned}
-use Rattle.simplex_laws.proofs.InOrder.{event_in_order}
 use Rattle.simplex_laws.proofs.CallsMake.{all_keep}
 use Rattle.simplex_laws.proofs.Rising.{event_goes, finalization_passes}
 use Rattle.simplex_laws.specs.Events as event
@@ -52,13 +51,12 @@ module _ {K L D : Type 0} (same : D → D → Bool) (decides : (d e : D) → sam
   unfolding recovered
   recovered_stays deeds kept copy floor now lawful remembers final =
       let x = after_set_floor same elect (new_facts settings me members elector terms early) floor now in
-      let floored : Event K D = event.SetFloor floor now in
       let z = all_taken same elect x now copy in
       let t = terms.term_length in
       let a = of_floor floor ++ entries_deeds copy in
       let b = deeds ++ of_floor floor in
       let none : AreRecorded deeds (of_floor floor) = (λ round h. absurd (floor_unsigned floor (subject.Nullify round) h), λ p h. absurd (floor_unsigned floor (subject.Finalize p) h)) in
-      let stays : Stays t a z = all_stay same decides elect t deeds lawful kept copy remembers now copy [] (of_floor floor) x refl none (λ round h. absurd (omega (arith, h.1))) (event_in_order same elect (new_facts settings me members elector terms early) floored tt) (start_stays same decides elect settings me members elector terms early floor now) in
+      let stays : Stays t a z = all_stay same decides elect t deeds lawful kept copy remembers now copy [] (of_floor floor) x refl none (λ round h. absurd (omega (arith, h.1))) (start_stays same decides elect settings me members elector terms early floor now) in
       let high : kept ≤ z.finalized = elim final [ inl nothing ↦ omega arith | inr c ↦ omega (arith, all_finalizes same elect now x copy c.0 c.1, c.2) ] in
       stays_over t a b z
       (λ s h. elim (Contains-append_cases (of_floor floor) (entries_deeds copy) (Accepts s) h) [

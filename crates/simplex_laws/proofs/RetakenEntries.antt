@@ -18,7 +18,6 @@ use Rattle.simplex_laws.specs.Deeds.{Deed, Accepts}
 use Rattle.simplex_laws.specs.Events as event
 use Rattle.simplex_laws.specs.Events.{Event, after_event}
 use Rattle.simplex_laws.proofs.CallsMake.{retaken_keeps}
-use Rattle.simplex_laws.proofs.InOrder.{InOrder, event_in_order}
 use Rattle.simplex_laws.proofs.NotedVotes.{noted_new}
 use Rattle.simplex_laws.proofs.Retaken.{entry_deeds, MayRetake, notarize_cast_stays, nullify_cast_stays, finalize_cast_stays, passed_over}
 use Rattle.simplex_laws.proofs.Rising.{event_goes}
@@ -49,7 +48,7 @@ module _ {K L D : Type 0} (same : D → D → Bool) (decides : (d e : D) → sam
   verdict_again_passes : (v : ℕ) → v < (after_certified elect (again v true) v true now).current
   verdict_again_passes v = certified_passes same elect (again v true) v now true (tracked_put x v (certified_round (round_of x v) true)) refl
 
-  module _ (stays : Stays term_length deeds x) (ordered : InOrder x) where
+  module _ (stays : Stays term_length deeds x) where
     verdict_again_stays : (round : Round) (success : Bool) → Stays term_length deeds (after_certified elect (again round.view success) round.view success now)
     verdict_again_stays round success =
         let v = round.view in
@@ -60,18 +59,18 @@ module _ {K L D : Type 0} (same : D → D → Bool) (decides : (d e : D) → sam
         let suits = certified_suits same elect y v now deeds success (tracked_put x v (certified_round (round_of x v) success)) in
         let before : Suits deeds z.current x replay = plain_suits deeds z.current x replay refl refl refl refl (λ w says. suits.enters w says) in
         let later = stands_later term_length deeds x.current z.current x (event_goes same elect y given).current stays.stands in
-        event_stays same decides elect term_length deeds y given suits (event_in_order same elect x replay ordered) (inl stays.ahead)
-        (event_stands same decides elect term_length deeds z.current x replay before ordered later) stays.final
+        event_stays same decides elect term_length deeds y given suits (inl stays.ahead)
+        (event_stands same decides elect term_length deeds z.current x replay before later) stays.final
 
     -- a certificate is added before it is replayed
 
-    replayed_stays : (a : List (Deed D)) (c : CertificateFacts D) (y : Facts K L D) → InOrder y → Stays term_length a y → Stays term_length a (after_event same elect y (event.Replay (Accepted c)))
-    replayed_stays a c y in_order keeps = stays_on same decides elect term_length a y (event.Replay (Accepted c)) (plain_suits a _ y (event.Replay (Accepted c)) refl refl refl refl (λ w says. absurd (cc))) in_order keeps
+    replayed_stays : (a : List (Deed D)) (c : CertificateFacts D) (y : Facts K L D) → Stays term_length a y → Stays term_length a (after_event same elect y (event.Replay (Accepted c)))
+    replayed_stays a c y keeps = stays_on same decides elect term_length a y (event.Replay (Accepted c)) (plain_suits a _ y (event.Replay (Accepted c)) refl refl refl refl (λ w says. absurd (cc))) keeps
 
     retaken_stays : (e : ArtifactFacts D) → MayRetake deeds x.current e → Stays term_length (deeds ++ entry_deeds e) (retaken same elect x now e)
     retaken_stays (NotarizeVote p m) may =
         let e : Event K D = event.Replay (NotarizeVote p m) in
-        notarize_cast_stays term_length deeds (after_event same elect x e) (stays_on same decides elect term_length deeds x e (plain_suits deeds _ x e refl refl refl refl (λ w says. absurd (cc))) ordered stays) p m
+        notarize_cast_stays term_length deeds (after_event same elect x e) (stays_on same decides elect term_length deeds x e (plain_suits deeds _ x e refl refl refl refl (λ w says. absurd (cc))) stays) p m
     retaken_stays (NullifyVote round m) may =
         let v = round.view in
         let e : Event K D = event.Replay (NullifyVote round m) in
@@ -86,7 +85,7 @@ module _ {K L D : Type 0} (same : D → D → Bool) (decides : (d e : D) → sam
           finalizes = λ w says. absurd (cc);
         } in
         let decided : is_nullify (round_of z v).decision ≡ true = ap (λ (s : RoundFacts K D). is_nullify s.decision) (round_put y v r) in
-        nullify_cast_stays term_length deeds z (stays_on same decides elect term_length deeds x e suits ordered stays) round m may.0 (inl (noted_new v x.nullify_votes)) (inl decided)
+        nullify_cast_stays term_length deeds z (stays_on same decides elect term_length deeds x e suits stays) round m may.0 (inl (noted_new v x.nullify_votes)) (inl decided)
     retaken_stays (FinalizeVote p m) may =
         let v = p.round.view in
         let e : Event K D = event.Replay (FinalizeVote p m) in
@@ -99,17 +98,17 @@ module _ {K L D : Type 0} (same : D → D → Bool) (decides : (d e : D) → sam
           nullifies = λ w says. absurd (cc);
           finalizes = λ w says. inr (λ round h at. (let here : v ≡ w = cc in may.1 round h (at ∙ sym here)));
         } in
-        finalize_cast_stays term_length deeds z (stays_on same decides elect term_length deeds x e suits ordered stays) p m may.0 (inl (ap (λ s. is_finalize s.decision) (round_put x v r)))
+        finalize_cast_stays term_length deeds z (stays_on same decides elect term_length deeds x e suits stays) p m may.0 (inl (ap (λ s. is_finalize s.decision) (round_put x v r)))
     retaken_stays (Verdict round success) may = subst (λ a. Stays term_length a (retaken same elect x now (Verdict round success))) (sym (append-nil deeds)) (verdict_again_stays round success)
     retaken_stays (Accepted (Notarized c)) may =
         let e : Event K D = event.AddNotarization c in
-        replayed_stays (deeds ++ Accepts (subject.Notarize c.proposal) ∷ []) (Notarized c) (after_event same elect x e) (event_in_order same elect x e ordered) (notarization_stays same decides elect term_length deeds x ordered stays c)
+        replayed_stays (deeds ++ Accepts (subject.Notarize c.proposal) ∷ []) (Notarized c) (after_event same elect x e) (notarization_stays same decides elect term_length deeds x stays c)
     retaken_stays (Accepted (Nullified c)) may =
         let e : Event K D = event.AddNullification c now in
-        replayed_stays (deeds ++ Accepts (subject.Nullify c.round) ∷ []) (Nullified c) (after_event same elect x e) (event_in_order same elect x e ordered) (nullification_stays same decides elect term_length deeds x ordered stays c now)
+        replayed_stays (deeds ++ Accepts (subject.Nullify c.round) ∷ []) (Nullified c) (after_event same elect x e) (nullification_stays same decides elect term_length deeds x stays c now)
     retaken_stays (Accepted (Finalized c)) may =
         let e : Event K D = event.AddFinalization c now in
-        replayed_stays (deeds ++ Accepts (subject.Finalize c.proposal) ∷ []) (Finalized c) (after_event same elect x e) (event_in_order same elect x e ordered) (finalization_stays same decides elect term_length deeds x ordered stays c now)
+        replayed_stays (deeds ++ Accepts (subject.Finalize c.proposal) ∷ []) (Finalized c) (after_event same elect x e) (finalization_stays same decides elect term_length deeds x stays c now)
 
     -- an entry is taken again, or passed over
     pub taken_stays : (e : ArtifactFacts D) → MayRetake deeds x.current e → Stays term_length (deeds ++ entry_deeds e) (taken same elect x now e)

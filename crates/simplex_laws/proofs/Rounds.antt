@@ -1,5 +1,6 @@
--- A round that is put at a view, and what entries, latches, aborts and retries leave of its decision and its verdict.
-use Rattle.std.proofs.Common.{◌≡◌, refl, ap, ◌∙◌, ℕ, true, false, not, cond, Some, None, is_some, unwrap_or}
+-- A round that is put at a view, rounds that are changed by their views, and what entries, latches, aborts and retries leave of its decision and its verdict.
+use Rattle.std.proofs.Common.{◌≡◌, refl, ap, sym, ◌∙◌, subst, ℕ, true, false, not, cond, Option, Some, None, is_some, unwrap_or}
+use Rattle.std.specs.Prelude.{map, option_map}
 use Rattle.std.specs.Ordering.{nat_cmp}
 use Rattle.std.specs.Cmp.{nat_cmp_total}
 use Rattle.std.specs.FinMap.Entries.{find, find-put}
@@ -11,8 +12,9 @@ use Rattle.simplex_round.specs.declared.round.Decision.TheVariants as decision
 use Rattle.simplex_round.specs.declared.round.Certification.{Certification}
 use Rattle.simplex_round.specs.declared.round.Certification.TheVariants as certification
 use Rattle.simplex_round.specs.Round.{RoundFacts, new_round, armed, latched, is_nullify, is_finalize, is_certified, after_abort, has_no_retry, awaits_retry}
-use Rattle.simplex_voter.specs.Facts.{Facts, round_of, round_number, is_tracked, with_round}
+use Rattle.simplex_voter.specs.Facts.{Facts, round_at, round_of, round_number, is_tracked, with_round}
 use Rattle.simplex_voter.proofs.Gaps.{and_parts}
+use Rattle.simplex_voter.proofs.Walked.{find-changed}
 
 module _ {K L D : Type 0} where
   -- the round that was put at a view stands there
@@ -60,3 +62,26 @@ module _ {K D : Type 0} where
       by_decision (decision.Pending _ _ _) is = absurd (false≢true is)
       by_decision (decision.Nullify _) is = (refl, refl)
       by_decision decision.Finalize is = absurd (false≢true is)
+
+-- each tracked view's round is changed by its view
+module _ {K L D : Type 0} (change : ℕ → RoundFacts K D → RoundFacts K D) (x : Facts K L D) (v : ℕ) where
+  abbrev changed : Facts K L D
+  changed = record x { rounds = map (λ e. (e.0, change e.0 e.1)) x.rounds }
+
+  pub tracked_changed : is_tracked changed v ≡ is_tracked x v
+  tracked_changed = ap is_some (find-changed change v x.rounds) ∙ by_found (round_at x v)
+    where
+      by_found : (o : Option (RoundFacts K D)) → is_some (option_map (change v) o) ≡ is_some o
+      by_found None = refl
+      by_found (Some r) = refl
+
+  -- a relation of each round to itself and to its change
+  pub round_changed : (P : RoundFacts K D → RoundFacts K D → Type 0) → ((r : RoundFacts K D) → P r r) → ((r : RoundFacts K D) → P r (change v r)) → P (round_of x v) (round_of changed v)
+  round_changed P same changes = subst (λ o. P (round_of x v) (unwrap_or o fresh)) (sym (find-changed change v x.rounds)) (by_found (round_at x v))
+    where
+      fresh : RoundFacts K D
+      fresh = new_round x.me x.members (round_number x v)
+
+      by_found : (o : Option (RoundFacts K D)) → P (unwrap_or o fresh) (unwrap_or (option_map (change v) o) fresh)
+      by_found None = same fresh
+      by_found (Some r) = changes r

@@ -6,8 +6,6 @@ use Rattle.std.proofs.lemmas.Bool.{false≢true}
 use Rattle.std.proofs.lemmas.List.Elements.{Contains-append_left, Contains-append_right, Contains-append_cases}
 use Rattle.simplex_types.specs.Certificates.{ProposalFacts, Notarized, Nullified, Finalized, ArtifactFacts, NullifyVote, FinalizeVote, Verdict, Accepted}
 use Rattle.simplex_types.specs.declared.types.messages.Proposal.{Proposal}
-use Rattle.simplex_types.specs.declared.types.messages.Subject.{Subject}
-use Rattle.simplex_types.specs.declared.types.messages.Subject.TheVariants as subject
 use Rattle.simplex_types.specs.declared.types.numbers.Round.{Round}
 use Rattle.simplex_round.specs.Round.{RoundFacts, new_round, is_judged}
 use Rattle.simplex_voter.specs.Facts.{Facts, Elect, round_at, round_of, round_number, is_tracked}
@@ -23,7 +21,6 @@ use Rattle.simplex_laws.proofs.OwnRecords.{OwnRecord, AreQuiet, quiet_none, quie
 use Rattle.simplex_laws.proofs.Recalls.{only_one}
 use Rattle.simplex_laws.specs.Events as event
 use Rattle.simplex_laws.specs.Events.{Event, IsEvent, after_event}
-use Rattle.simplex_laws.proofs.InOrder.{InOrder}
 use Rattle.simplex_laws.proofs.Lasting.{brings_kept}
 use Rattle.simplex_laws.proofs.Steps.{notarization_by, verdict_by}
 use Rattle.simplex_laws.proofs.Verdicts.{Shows, given_so, event_shows, verdict_stands}
@@ -60,11 +57,11 @@ pub record Tells {K L D : Type 0} (deeds : List (Deed D)) (entries : List (Artif
   pub own : OwnRecord deeds entries
   pub shows : Shows entries x
 
-module _ {K L D : Type 0} (same : D → D → Bool) (elect : Elect L) (deeds : List (Deed D)) (entries : List (ArtifactFacts D)) (x : Facts K L D) (ordered : InOrder x) (tells : Tells deeds entries x) where
+module _ {K L D : Type 0} (same : D → D → Bool) (elect : Elect L) (deeds : List (Deed D)) (entries : List (ArtifactFacts D)) (x : Facts K L D) (tells : Tells deeds entries x) where
   -- an event that brings neither notarization nor verdict, where none is recorded
   pub quiet_shows : (new : List (ArtifactFacts D)) (e : Event K D) → IsEvent x e → notarization_by e ≡ None → verdict_by e ≡ None → HasNoVerdict new → Shows (entries ++ new) (after_event same elect x e)
   quiet_shows new e takes no_notarization no_judgement silent =
-      event_shows same elect x e (λ v token is. takes) entries (entries ++ new) ordered (λ c is. absurd (cc)) (λ round given success h is. absurd (cc)) (λ a h. Contains-append_left entries new a h) (λ c is none. absurd (cc))
+      event_shows same elect x e (λ v token is. takes) entries (entries ++ new) (λ c is. absurd (cc)) (λ round given success h is. absurd (cc)) (λ a h. Contains-append_left entries new a h) (λ c is none. absurd (cc))
       (λ round success h. elim (Contains-append_cases entries new (Verdict round success) h) [ inl old ↦ inl old | inr late ↦ absurd (silent round success late) ]) tells.shows
 
   pub quiet_told : (more : List (Deed D)) (new : List (ArtifactFacts D)) (e : Event K D) → IsEvent x e → notarization_by e ≡ None → verdict_by e ≡ None → AreQuiet new → Tells (deeds ++ more) (entries ++ new) (after_event same elect x e)
@@ -78,7 +75,7 @@ module _ {K L D : Type 0} (same : D → D → Bool) (elect : Elect L) (deeds : L
       let quiet = quiet_newly is_new entry refl in
       record {
         own = own_quiet deeds entries tells.own more (newly is_new entry) quiet;
-        shows = event_shows same elect x e (λ v token is. takes) entries (entries ++ newly is_new entry) ordered (brings_kept x e takes refl).notarization (λ round given success h is. absurd (cc)) (λ a h. Contains-append_left entries (newly is_new entry) a h)
+        shows = event_shows same elect x e (λ v token is. takes) entries (entries ++ newly is_new entry) (brings_kept x e takes refl).notarization (λ round given success h is. absurd (cc)) (λ a h. Contains-append_left entries (newly is_new entry) a h)
             (λ d is none. (let alike : c ≡ d = cc in subst (λ (f : ProposalFacts D). Contains (entries ++ newly is_new entry) (Accepted (Notarized f))) alike (let here : is_some (round_of x c.proposal.round.view).notarization ≡ false = subst (λ (f : ProposalFacts D). is_some (round_of x f.proposal.round.view).notarization ≡ false) (sym alike) none in rw here (Contains-append_right entries (entry ∷ []) entry (0, omega arith, refl)))))
             (λ round success h. elim (Contains-append_cases entries (newly is_new entry) (Verdict round success) h) [ inl old ↦ inl old | inr late ↦ absurd (no_verdict (newly is_new entry) quiet round success late) ]) tells.shows;
       }
@@ -103,7 +100,7 @@ module _ {K L D : Type 0} (same : D → D → Bool) (elect : Elect L) (deeds : L
 
       shown : is_tracked x v ≡ true → (new : List (ArtifactFacts D)) → ((round : Round) (given : Bool) → Contains new (Verdict round given) → (round_number x v ≡ round) × (success ≡ given)) → Shows (entries ++ new) (after_certified elect x v success now)
       shown tracked new only =
-          event_shows same elect x e (λ w token is. takes) entries (entries ++ new) ordered (λ c is. absurd (cc))
+          event_shows same elect x e (λ w token is. takes) entries (entries ++ new) (λ c is. absurd (cc))
           (λ round given other h says. (let pair : (v, success) ≡ (round.view, other) = cc in agree tracked round given h (ap (λ (p : ℕ × Bool). p.0) (sym pair)) ∙ ap (λ (p : ℕ × Bool). p.1) pair))
           (λ a h. Contains-append_left entries new a h) (λ c is none. absurd (cc))
           (λ round given h. elim (Contains-append_cases entries new (Verdict round given) h) [
@@ -112,7 +109,7 @@ module _ {K L D : Type 0} (same : D → D → Bool) (elect : Elect L) (deeds : L
                 let one = only round given late in
                 let at : v ≡ round.view = ap (λ (r : Round). r.view) one.0 in
                 subst (λ u. is_judged given (round_of (after_certified elect x v success now) u).certification ≡ true) at
-                (subst (λ b. is_judged b (round_of (after_certified elect x v success now) v).certification ≡ true) one.1 (verdict_stands same elect x v success now ordered tracked)))
+                (subst (λ b. is_judged b (round_of (after_certified elect x v success now) v).certification ≡ true) one.1 (verdict_stands same elect x v success now tracked)))
           ]) tells.shows
 
       by_first : is_tracked x v ≡ true → (b : Bool) → Tells (deeds ++ more) (entries ++ newly b entry) (after_certified elect x v success now)
@@ -127,7 +124,7 @@ module _ {K L D : Type 0} (same : D → D → Bool) (elect : Elect L) (deeds : L
           let later = untracked_later x v success untracked in
           rw (later, untracked) (record { own = own_quiet deeds entries tells.own more [] quiet_none; shows = shows_more entries [] (at_moment x now) (no_verdict [] quiet_none) (record { notarized = tells.shows.notarized; judged = tells.shows.judged }) })
 
-module _ {K L D : Type 0} (same : D → D → Bool) (elect : Elect L) (deeds : List (Deed D)) (entries : List (ArtifactFacts D)) (x : Facts K L D) (ordered : InOrder x) (tells : Tells deeds entries x) where
+module _ {K L D : Type 0} (same : D → D → Bool) (elect : Elect L) (deeds : List (Deed D)) (entries : List (ArtifactFacts D)) (x : Facts K L D) (tells : Tells deeds entries x) where
   quiet_nullify : (v : ℕ) → AreQuiet (first_vote (nullify_vote x v))
   quiet_nullify v = by_key x.me (nullify_answer x v)
     where
@@ -146,14 +143,14 @@ module _ {K L D : Type 0} (same : D → D → Bool) (elect : Elect L) (deeds : L
       by_key (Some m) (Some p) = quiet_newly true (FinalizeVote p m) refl
 
   told : (more : List (Deed D)) (new : List (ArtifactFacts D)) (e : Event K D) → IsEvent x e → notarization_by e ≡ None → verdict_by e ≡ None → AreQuiet new → Tells (deeds ++ more) (entries ++ new) (after_event same elect x e)
-  told = quiet_told same elect deeds entries x ordered tells
+  told = quiet_told same elect deeds entries x tells
 
   -- each call that is allowed and not refused
   pub call_told : (call : CallFacts D) → is_allowed x call ≡ true → Tells (deeds ++ deeds_of_call call (answer same elect x call)) (entries ++ recorded_by same elect x call) (after_call same elect x call)
-  call_told (AddNotarization c) allowed = notarization_told same elect deeds entries x ordered tells _ c allowed
+  call_told (AddNotarization c) allowed = notarization_told same elect deeds entries x tells _ c allowed
   call_told (AddNullification c now) allowed = told _ _ (event.AddNullification c now) allowed refl refl (quiet_newly (nullification_added x c) (Accepted (Nullified c)) refl)
   call_told (AddFinalization c now) allowed = told _ _ (event.AddFinalization c now) allowed refl refl (quiet_newly (finalization_added same elect x c).0 (Accepted (Finalized c)) refl)
-  call_told (Certified v success now) allowed = verdict_told same elect deeds entries x ordered tells _ v success now allowed
+  call_told (Certified v success now) allowed = verdict_told same elect deeds entries x tells _ v success now allowed
   call_told (ConstructNullify v) allowed = told _ _ (event.ConstructNullify v) tt refl refl (quiet_nullify v)
   call_told (ConstructFinalize v) allowed = told _ _ (event.ConstructFinalize v) tt refl refl (quiet_finalize v)
   call_told (BroadcastNotarization v) allowed = told _ [] (event.BroadcastNotarization v) tt refl refl quiet_none

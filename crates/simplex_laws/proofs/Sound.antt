@@ -20,7 +20,6 @@ use Rattle.simplex_laws.proofs.CallsMake.{is_floor}
 use Rattle.simplex_laws.proofs.EachRound.{IsGone}
 use Rattle.simplex_laws.proofs.Paths.{from_entry, from_first_entry}
 use Rattle.simplex_laws.proofs.Steps.{Still, finalization_by}
-use Rattle.simplex_laws.proofs.InOrder.{InOrder, event_in_order}
 use Rattle.simplex_laws.proofs.Lasting.{RoundLasts, standing_view, certificates, brings_any, event_lasts}
 use Rattle.simplex_laws.proofs.Rising.{event_goes, goes_along, event_finalizes}
 
@@ -36,7 +35,6 @@ pub record IsSound {K L D : Type 0} (term_length : ℕ) (x : Facts K L D) : Type
   pub terms : x.terms.term_length ≡ term_length
   pub ahead : IsAhead x
   pub placed : IsPlaced x
-  pub in_order : InOrder x
 
 pub entered_reaches : {K L D : Type 0} (x : Facts K L D) (v now : ℕ) → v ≤ (entered x v now).current
 entered_reaches x v now = enters (nat_lt x.current v) refl
@@ -82,8 +80,8 @@ module _ {K L D : Type 0} where
   nothing_stands y v untracked kind = ap (λ o. standing_view kind (unwrap_or o (new_round y.me y.members (round_number y v)))) untracked ∙ none_at_first D kind y.me y.members (round_number y v)
 
 module _ {K L D : Type 0} (same : D → D → Bool) (elect : Elect L) (x : Facts K L D) where
-  event_placed : (e : Event K D) → InOrder x → IsPlaced x → IsPlaced (after_event same elect x e)
-  event_placed e ordered placed = record { views = λ kind v u is. stood kind v u is (event_lasts same elect x e 0 (brings_any e) ordered v) }
+  event_placed : (e : Event K D) → IsPlaced x → IsPlaced (after_event same elect x e)
+  event_placed e placed = record { views = λ kind v u is. stood kind v u is (event_lasts same elect x e 0 (brings_any e) v) }
     where
       y : Facts K L D
       y = after_event same elect x e
@@ -102,8 +100,7 @@ module _ {K L D : Type 0} (same : D → D → Bool) (elect : Elect L) (term_leng
   event_sound x e sound = record {
     terms = ap (λ t. t.term_length) (event_goes same elect x e).terms ∙ sound.terms;
     ahead = event_ahead same elect x e (inl sound.ahead);
-    placed = event_placed same elect x e sound.in_order sound.placed;
-    in_order = event_in_order same elect x e sound.in_order;
+    placed = event_placed same elect x e sound.placed;
   }
 
 module _ {K L D : Type 0} (same : D → D → Bool) (elect : Elect L) (term_length : ℕ) where
@@ -114,8 +111,7 @@ module _ {K L D : Type 0} (same : D → D → Bool) (elect : Elect L) (term_leng
       record {
         terms = ap (λ t. t.term_length) (event_goes same elect x e).terms ∙ length;
         ahead = event_ahead same elect x e (inr (refl, refl));
-        placed = event_placed same elect x e tt (record { views = λ kind v u is. absurd (let clash = sym (nothing_stands x v refl kind) ∙ is in cc) });
-        in_order = event_in_order same elect x e tt;
+        placed = event_placed same elect x e (record { views = λ kind v u is. absurd (let clash = sym (nothing_stands x v refl kind) ∙ is in cc) });
       }
 
   -- a new state sets a floor

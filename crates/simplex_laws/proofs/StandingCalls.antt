@@ -9,7 +9,6 @@ use Rattle.simplex_voter.specs.Certification.{judged, verdict_taken, after_certi
 use Rattle.simplex_laws.specs.Deeds.{Deed, Accepts}
 use Rattle.simplex_laws.specs.Events as event
 use Rattle.simplex_laws.specs.Events.{Event, after_event}
-use Rattle.simplex_laws.proofs.InOrder.{InOrder}
 use Rattle.simplex_laws.proofs.Paths.{to_woken}
 use Rattle.simplex_laws.proofs.Rising.{goes_along}
 use Rattle.simplex_laws.proofs.Sound.{entered_reaches}
@@ -38,7 +37,7 @@ module _ {K L D : Type 0} (same : D → D → Bool) (elect : Elect L) (x : Facts
           let passed = certified_passes success tracked (ap (λ (p : ℕ × Bool). p.1) pair) in
           omega (arith, at, passed)
 
-module _ {K L D : Type 0} (same : D → D → Bool) (decides : (d e : D) → same d e ≡ true → d ≡ e) (elect : Elect L) (term_length : ℕ) (deeds : List (Deed D)) (x : Facts K L D) (ordered : InOrder x) (stays : Stays term_length deeds x) where
+module _ {K L D : Type 0} (same : D → D → Bool) (decides : (d e : D) → same d e ≡ true → d ≡ e) (elect : Elect L) (term_length : ℕ) (deeds : List (Deed D)) (x : Facts K L D) (stays : Stays term_length deeds x) where
   moment_stays : (now : ℕ) → Stays term_length deeds (at_moment x now)
   moment_stays now = record { stands = record { terms = stays.stands.terms; rounds = stays.stands.rounds; passed = stays.stands.passed; noted = stays.stands.noted }; ahead = stays.ahead; final = stays.final }
 
@@ -46,7 +45,7 @@ module _ {K L D : Type 0} (same : D → D → Bool) (decides : (d e : D) → sam
   certified_stays v success now = by_tracked (is_tracked x v) refl
     where
       by_tracked : (b : Bool) → is_tracked x v ≡ b → Stays term_length deeds (after_certified elect x v success now)
-      by_tracked true tracked = stays_on same decides elect term_length deeds x (event.Certified v success now) (certified_suits same elect x v now deeds success tracked) ordered stays
+      by_tracked true tracked = stays_on same decides elect term_length deeds x (event.Certified v success now) (certified_suits same elect x v now deeds success tracked) stays
       by_tracked false gone = rw gone (moment_stays now)
 
   -- a certificate, once it is among the deeds
@@ -62,13 +61,13 @@ module _ {K L D : Type 0} (same : D → D → Bool) (decides : (d e : D) → sam
         nullifies = λ w says. absurd (cc);
         finalizes = λ w says. absurd (cc);
       } in
-      stays_on same decides elect term_length a x e suits ordered (stays_accepted term_length deeds (subject.Notarize c.proposal) x stays)
+      stays_on same decides elect term_length a x e suits (stays_accepted term_length deeds (subject.Notarize c.proposal) x stays)
 
   pub nullification_stays : (c : NullificationFacts) (now : ℕ) → Stays term_length (deeds ++ Accepts (subject.Nullify c.round) ∷ []) (after_add_nullification elect x c now)
   nullification_stays c now =
       let a = deeds ++ Accepts (subject.Nullify c.round) ∷ [] in
       let e : Event K D = event.AddNullification c now in
-      stays_on same decides elect term_length a x e (plain_suits a _ x e refl refl refl refl (λ w says. absurd (cc))) ordered (stays_accepted term_length deeds (subject.Nullify c.round) x stays)
+      stays_on same decides elect term_length a x e (plain_suits a _ x e refl refl refl refl (λ w says. absurd (cc))) (stays_accepted term_length deeds (subject.Nullify c.round) x stays)
 
   pub finalization_stays : (c : ProposalFacts D) (now : ℕ) → Stays term_length (deeds ++ Accepts (subject.Finalize c.proposal) ∷ []) (after_add_finalization same elect x c now)
   finalization_stays c now =
@@ -81,4 +80,4 @@ module _ {K L D : Type 0} (same : D → D → Bool) (decides : (d e : D) → sam
         nullifies = λ w says. absurd (cc);
         finalizes = λ w says. absurd (cc);
       } in
-      stays_on same decides elect term_length a x e suits ordered (stays_accepted term_length deeds (subject.Finalize c.proposal) x stays)
+      stays_on same decides elect term_length a x e suits (stays_accepted term_length deeds (subject.Finalize c.proposal) x stays)

@@ -1,6 +1,5 @@
 -- What stands of the votes stands after each event: by the changes of one round.
-use Rattle.std.proofs.Common.{◌≡◌, ◌≢◌, refl, sym, ◌∙◌, subst, ℕ, ◌<◌, ◌≤◌, ◌⊎◌, inl, inr, Bool, true, false, nat_le, List, Contains, Some, None, unwrap_or, arith}
-use Rattle.std.specs.Prelude.{T}
+use Rattle.std.proofs.Common.{◌≡◌, ◌≢◌, refl, ap, sym, ◌∙◌, subst, ℕ, ◌<◌, ◌≤◌, ◌⊎◌, inl, inr, Bool, true, false, nat_le, List, Contains, Some, None, unwrap_or, arith}
 use Rattle.std.proofs.lemmas.Bool.{cases_Bool, false≢true, leb-false}
 use Rattle.simplex_types.specs.Proposal.{same_proposal}
 use Rattle.simplex_types.specs.Certificates.{ProposalFacts}
@@ -18,7 +17,6 @@ use Rattle.simplex_laws.specs.Sums.{is_prune, finalized_by}
 use Rattle.simplex_laws.specs.Deeds.{Deed, Accepts}
 use Rattle.simplex_laws.specs.Lawful.{HasSigned}
 use Rattle.simplex_laws.proofs.EachRound.{step_round, pruned_round}
-use Rattle.simplex_laws.proofs.InOrder.{InOrder}
 use Rattle.simplex_laws.proofs.Rounds.{armed_nullify, armed_finalize, latched_nullify, latched_finalize, aborted_certified, awaited_nullify}
 use Rattle.simplex_laws.proofs.NotedVotes.{noted_old, noted_kept}
 use Rattle.simplex_laws.proofs.Paths.{event_path, asked_of_all}
@@ -28,7 +26,7 @@ use Rattle.simplex_laws.proofs.CallsMake.{is_floor}
 use Rattle.simplex_laws.proofs.Rising.{event_goes}
 use Rattle.simplex_laws.proofs.Sound.{IsAhead, event_ahead}
 use Rattle.simplex_laws.proofs.Steps as step
-use Rattle.simplex_laws.proofs.Steps.{RoundStep, Step, Puts, Notes, Raises, Strays, Prunes, along, IsSilent, notarization_by, verdict_by, nullify_by, finalize_by}
+use Rattle.simplex_laws.proofs.Steps.{RoundStep, Step, Puts, Notes, Raises, Scans, Prunes, along, IsSilent, notarization_by, verdict_by, nullify_by, finalize_by}
 
 -- what has to be known of an event: what it brings was accepted, a view that it judges to be true is passed, and a vote that
 -- it decides is allowed, or stands against no vote of the other kind
@@ -62,7 +60,7 @@ passed_by : (a : Bool) (P : Type 0) → a ≡ false → (a ≡ true) ⊎ P → (
 passed_by a P isnt (inl is) b = absurd (false≢true (sym isnt ∙ is))
 passed_by a P isnt (inr p) b = inr p
 
-module _ {K L D : Type 0} (same : D → D → Bool) (decides : (d e : D) → same d e ≡ true → d ≡ e) (elect : Elect L) (term_length : ℕ) (deeds : List (Deed D)) (reached : ℕ) (x : Facts K L D) (e : Event K D) (suits : Suits deeds reached x e) (ordered : InOrder x) where
+module _ {K L D : Type 0} (same : D → D → Bool) (decides : (d e : D) → same d e ≡ true → d ≡ e) (elect : Elect L) (term_length : ℕ) (deeds : List (Deed D)) (reached : ℕ) (x : Facts K L D) (e : Event K D) (suits : Suits deeds reached x e) where
   change_stands : (finalized : ℕ) (y : Facts K L D) (v : ℕ) (r s : RoundFacts K D) → RoundStep same elect x e y v r s → RoundStands deeds reached finalized v r → RoundStands deeds reached finalized v s
   change_stands finalized y v r s (step.Notarized c says at none) p = record {
     notarized = λ d is. (let alike : c ≡ d = cc in subst (λ (f : ProposalFacts D). (f.proposal.round.view ≡ v) × Contains deeds (Accepts (subject.Notarize f.proposal))) alike (at, suits.notarized c says));
@@ -88,15 +86,23 @@ module _ {K L D : Type 0} (same : D → D → Bool) (decides : (d e : D) → sam
 
   step_stands : (y z : Facts K L D) → Step same elect x e 0 y z → Stands term_length deeds reached y → Stands term_length deeds reached z
   step_stands y z (Puts v r may change) p = stands_put term_length deeds reached y v r (change_stands y.finalized y v (round_of y v) r change (p.rounds v)) p
-  step_stands y z (Strays v r over astray) p = absurd (subst T astray ordered)
   step_stands y z (Raises v says above) p = record {
     terms = p.terms;
-    rounds = λ w. elim (step_round same elect x e ordered 0 y _ (Raises v says above) w) [
+    rounds = λ w. elim (step_round same elect x e 0 y _ (Raises v says above) w) [
       | inl change ↦ change_stands v y w (round_of y w) _ change (round_later deeds reached reached y.finalized v w (round_of y w) (omega arith) (omega arith) (p.rounds w))
       | inr prunes ↦ absurd (let none = prune_finalizes_none e prunes.0 in omega (arith, none, says, above))
     ];
     passed = p.passed;
     noted = λ round h. ((p.noted round h).0, elim (p.noted round h).1 [ inl noted ↦ inl noted | inr below ↦ inr (omega (arith, below, above)) ]);
+  }
+  step_stands y z (Scans is) p = record {
+    terms = p.terms;
+    rounds = λ w. elim (step_round same elect x e 0 y _ (Scans is) w) [
+      | inl change ↦ change_stands y.finalized y w (round_of y w) _ change (p.rounds w)
+      | inr prunes ↦ absurd (false≢true (ap is_prune (sym is) ∙ prunes.0))
+    ];
+    passed = p.passed;
+    noted = p.noted;
   }
   step_stands y z (Notes u says) p = record {
     terms = p.terms;
@@ -134,13 +140,13 @@ module _ {K L D : Type 0} (same : D → D → Bool) (decides : (d e : D) → sam
   pub event_final : HasFinal deeds x.finalized → HasFinal deeds (after_event same elect x e).finalized
   event_final p = along same elect x e 0 (λ y. HasFinal deeds y.finalized) step_final x (after_event same elect x e) (event_path same elect 0 x e (omega arith) (asked_of_all x e)) p
 
-module _ {K L D : Type 0} (same : D → D → Bool) (decides : (d e : D) → same d e ≡ true → d ≡ e) (elect : Elect L) (term_length : ℕ) (deeds : List (Deed D)) (x : Facts K L D) (e : Event K D) (suits : Suits deeds (after_event same elect x e).current x e) (ordered : InOrder x) where
+module _ {K L D : Type 0} (same : D → D → Bool) (decides : (d e : D) → same d e ≡ true → d ≡ e) (elect : Elect L) (term_length : ℕ) (deeds : List (Deed D)) (x : Facts K L D) (e : Event K D) (suits : Suits deeds (after_event same elect x e).current x e) where
   -- an event, also the floor of a new state
   pub event_stays : IsAhead x ⊎ ((x.finalized ≡ 0) × (is_floor e ≡ true)) → Stands term_length deeds (after_event same elect x e).current x → HasFinal deeds x.finalized → Stays term_length deeds (after_event same elect x e)
   event_stays ahead stands final = record {
-    stands = event_stands same decides elect term_length deeds (after_event same elect x e).current x e suits ordered stands;
+    stands = event_stands same decides elect term_length deeds (after_event same elect x e).current x e suits stands;
     ahead = event_ahead same elect x e ahead;
-    final = event_final same decides elect term_length deeds (after_event same elect x e).current x e suits ordered final;
+    final = event_final same decides elect term_length deeds (after_event same elect x e).current x e suits final;
   }
 
   -- an event of a life

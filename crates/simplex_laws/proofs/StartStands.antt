@@ -60,4 +60,4 @@ module _ {K L D : Type 0} (same : D → D → Bool) (decides : (d e : D) → sam
         nullifies = λ v says. absurd (cc);
         finalizes = λ v says. absurd (cc);
       } in
-      event_stays same decides elect terms.term_length (of_floor floor) x e suits tt (inr (refl, refl)) (new_stands y.current) (inl refl)
+      event_stays same decides elect terms.term_length (of_floor floor) x e suits (inr (refl, refl)) (new_stands y.current) (inl refl)

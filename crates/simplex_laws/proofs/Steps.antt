@@ -3,7 +3,6 @@ use Rattle.std.proofs.Common.{◌≡◌, ℕ, ◌+◌, ◌<◌, ◌≤◌, ◌�
 use Rattle.std.specs.Prelude.{map, filter}
 use Rattle.std.specs.Ordering.{nat_cmp}
 use Rattle.std.specs.BTreeSet.{insert_key}
-use Rattle.std.specs.FinMap.Entries.{is_sorted}
 use Rattle.simplex_types.specs.Proposal.{same_proposal}
 use Rattle.simplex_types.specs.Certificates.{ProposalFacts, NullificationFacts, NotarizeVote, NullifyVote, FinalizeVote, Verdict}
 use Rattle.simplex_types.specs.Config.{Finalized as FinalizedFloor}
@@ -22,7 +21,8 @@ use Rattle.simplex_voter.specs.Acceptance.{nullified_also}
 use Rattle.simplex_voter.specs.Parents.{binding_matches}
 use Rattle.simplex_voter.specs.Rules.{may_notarize}
 use Rattle.simplex_voter.specs.Proposing.{build_requested, proposed_round, proposed_answer}
-use Rattle.simplex_voter.specs.Verifying.{Ready, standing, verifying_round}
+use Rattle.simplex_voter.specs.Verifying.{standing, verifying_round, with_request, scan_left}
+use Rattle.simplex_voter.specs.declared.voter.standing.Standing.TheVariants.{Ready}
 use Rattle.simplex_voter.specs.Serving.{after_prune}
 use Rattle.simplex_voter.specs.Replay.{restored_binding}
 use Rattle.simplex_laws.specs.Events.{Event, IsEvent, SetFloor, AddNotarization, AddNullification, AddFinalization, Certified, ConstructNotarize, ConstructNullify, ConstructFinalize, SetProposal, Proposed, TryVerify, Verified, VerificationFailed, SetCertifyHandle, NextTimeout, Replay}
@@ -120,12 +120,11 @@ module _ {K L D : Type 0} (same : D → D → Bool) (elect : Elect L) (begun : F
     Marked : e ≡ Verified v → binding_matches same elect begun v ≡ true → is_nullify r.decision ≡ false → RoundStep x v r (record r { slot = after_mark r.slot })
     Asked : (requested : Bool) → RoundStep x v r (record r { slot = build_requested requested r.slot })
     Built : (context : Context D K) (payload : D) (now : ℕ) → e ≡ Proposed context payload now → proposed_answer same elect begun context payload ≡ true → context.round.view ≡ v → RoundStep x v r (proposed_round same r context payload now)
-    Requested : (w : ℕ) → e ≡ TryVerify → RoundStep x v r (record r { last_request = Some w })
+    Requested : (w : ℕ) → e ≡ TryVerify → RoundStep x v r (with_request r w)
     Verifying : (payload : D) → e ≡ TryVerify → standing same elect begun (v, r) ≡ Ready payload → RoundStep x v r (verifying_round r payload)
     Unbound : is_answer e ≡ true → RoundStep x v r (record r { binding = None })
 
-  -- a change of the facts; a view that is not tracked comes to be only from `low` on. Where the tracked views are not in
-  -- order a scan may leave any round.
+  -- a change of the facts; a view that is not tracked comes to be only from `low` on
   pub data Step (low : ℕ) (x : Facts K L D) : Facts K L D → Type 0 where
     Puts : (v : ℕ) (r : RoundFacts K D) → (low ≤ v) ⊎ (is_tracked x v ≡ true) → RoundStep x v (round_of x v) r → Step low x (with_round x v r)
     Moves : (now : ℕ) → Step low x (at_moment x now)
@@ -140,7 +139,7 @@ module _ {K L D : Type 0} (same : D → D → Bool) (elect : Elect L) (begun : F
       named = filter (λ w. nat_lt v w) x.named;
       rounds = map (λ e. (e.0, if nat_le e.0 v then without_token e.1 else e.1)) x.rounds;
     })
-    Strays : (v : ℕ) (r : RoundFacts K D) → low ≤ v → is_sorted nat_cmp begun.rounds ≡ false → Step low x (with_round x v r)
+    Scans : e ≡ TryVerify → Step low x (record x { rounds = map (λ e. (e.0, scan_left same elect begun e.0 e.1)) x.rounds })
     Prunes : is_prune e ≡ true → Step low x (after_prune x)
 
   -- one after another

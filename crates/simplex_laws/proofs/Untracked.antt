@@ -1,6 +1,6 @@
 -- Where no view below some other is tracked, none comes to be: with each event, call and call on the work of a view.
-use Rattle.std.proofs.Common.{◌≡◌, ◌≢◌, refl, ap, sym, ◌∙◌, subst, ℕ, ◌<◌, ◌≤◌, inl, inr, Bool, true, false, ◌&&◌, cond, if◌then◌else◌, nat_lt, nat_le, List, [], ◌∷◌, Contains, Option, Some, None, is_some, arith}
-use Rattle.std.specs.Prelude.{map, filter, option_map, ◌==◌}
+use Rattle.std.proofs.Common.{◌≡◌, ◌≢◌, refl, ap, sym, ◌∙◌, subst, ℕ, ◌<◌, ◌≤◌, inl, inr, Bool, true, false, ◌&&◌, cond, if◌then◌else◌, nat_lt, nat_le, List, [], ◌∷◌, Contains, Some, None, is_some, arith}
+use Rattle.std.specs.Prelude.{map, filter, ◌==◌}
 use Rattle.std.specs.Ordering.{nat_cmp}
 use Rattle.std.specs.Cmp.{nat_cmp_total}
 use Rattle.std.specs.FinMap.Entries.{find, find-put}
@@ -10,17 +10,16 @@ use Rattle.simplex_types.proofs.Gaps.{next_above}
 use Rattle.simplex_types.proofs.Maps.{is_eq-nat_cmp}
 use Rattle.simplex_types.specs.Certificates.{ArtifactFacts, NotarizeVote, Accepted, Notarized}
 use Rattle.simplex_types.specs.Config.{Genesis, Finalized as FinalizedFloor}
-use Rattle.simplex_types.specs.declared.types.messages.Subject.{Subject}
 use Rattle.simplex_types.specs.declared.types.numbers.Round.{Round}
 use Rattle.simplex_round.specs.Round.{RoundFacts}
 use Rattle.simplex_voter.specs.Facts.{Facts, Elect, round_at, is_tracked, with_round}
 use Rattle.simplex_voter.specs.Windows.{min_active, admits_certificate}
 use Rattle.simplex_voter.specs.Certification.{without_token}
 use Rattle.simplex_voter.specs.Refusals.{takes_round, is_started}
+use Rattle.simplex_voter.specs.Verifying.{scan_left}
 use Rattle.simplex_voter.specs.Replay.{artifact_round}
 use Rattle.simplex_voter.specs.Serving.{prune_answer}
 use Rattle.simplex_voter.proofs.Gaps.{and_parts}
-use Rattle.simplex_voter.proofs.Walked.{find-changed}
 use Rattle.simplex_member.specs.Calls.{CallFacts, Prune, Dropped, is_allowed, answer, after_call}
 use Rattle.simplex_member.specs.Entries.{entry_view}
 use Rattle.simplex_member.specs.Openings.{Openings}
@@ -32,8 +31,9 @@ use Rattle.simplex_laws.specs.Sums.{is_prune}
 use Rattle.simplex_laws.proofs.CallsMake.{call_by_event, work_by_event}
 use Rattle.simplex_laws.proofs.EachRound.{pruned_view}
 use Rattle.simplex_laws.proofs.Paths.{AskedFrom, event_path}
+use Rattle.simplex_laws.proofs.Rounds.{tracked_changed}
 use Rattle.simplex_laws.proofs.Splits.{Contains-cases}
-use Rattle.simplex_laws.proofs.Steps.{Step, Puts, Raises, Strays, Prunes, along}
+use Rattle.simplex_laws.proofs.Steps.{Step, Puts, Raises, Scans, Prunes, along}
 
 -- no view below this one is tracked
 pub record IsClear {K L D : Type 0} (low : ℕ) (x : Facts K L D) : Type 0 where
@@ -49,12 +49,8 @@ module _ {K L D : Type 0} (same : D → D → Bool) (elect : Elect L) (low : ℕ
     | inl at ↦ elim may [ inl over ↦ absurd (omega arith) | inr there ↦ absurd (false≢true (sym gone ∙ ap (is_tracked y) at ∙ there)) ]
     | inr apart ↦ put_out y u r v apart gone
   ]
-  step_out y z (Strays u r over astray) v below gone = put_out y u r v (omega (arith, over, below)) gone
-  step_out y z (Raises u says above) v below gone = ap is_some (find-changed (λ w r. if nat_le w u then without_token r else r) v y.rounds) ∙ none (find nat_cmp v y.rounds) gone
-    where
-      none : (o : Option (RoundFacts K D)) → is_some o ≡ false → is_some (option_map (λ r. if nat_le v u then without_token r else r) o) ≡ false
-      none None is = refl
-      none (Some r) is = is
+  step_out y z (Raises u says above) v below gone = tracked_changed (λ w r. if nat_le w u then without_token r else r) y v ∙ gone
+  step_out y z (Scans is) v below gone = tracked_changed (scan_left same elect x) y v ∙ gone
   step_out y z (Prunes is) v below gone = ap is_some (pruned_view y v) ∙ left (nat_le (min_active y) v)
     where
       left : (b : Bool) → is_some (cond b (round_at y v) None) ≡ false

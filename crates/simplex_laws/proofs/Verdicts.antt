@@ -14,7 +14,6 @@ use Rattle.simplex_laws.specs.Events as event
 use Rattle.simplex_laws.specs.Events.{Event, IsEvent, after_event}
 use Rattle.simplex_laws.specs.Sums.{is_prune}
 use Rattle.simplex_laws.proofs.EachRound.{IsGone, rounds_along, rounds_or_gone}
-use Rattle.simplex_laws.proofs.InOrder.{InOrder}
 use Rattle.simplex_laws.proofs.Rounds.{round_put}
 use Rattle.simplex_laws.proofs.Paths.{event_path, asked_of_all, from_judged}
 use Rattle.simplex_laws.proofs.Rising.{event_goes, floor_goes}
@@ -66,12 +65,12 @@ module _ {K L D : Type 0} (same : D → D → Bool) (elect : Elect L) (x : Facts
   weighs y v r s (step.Ended under_way) = record { notarized = λ is. inl is; judged = λ given is. inl (aborted_judged given r.certification is) }
   weighs y v r s _ = record { notarized = λ is. inl is; judged = λ given is. inl is }
 
-  event_weighs : InOrder x → (v : ℕ) → Weighs e v (round_of x v) (round_of (after_event same elect x e) v) ⊎ ((is_prune e ≡ true) × IsGone x (after_event same elect x e) v)
-  event_weighs ordered = rounds_or_gone same elect x e ordered 0 (Weighs e) weighs_on weighs (event_path same elect 0 x e (omega arith) (asked_of_all x e))
+  event_weighs : (v : ℕ) → Weighs e v (round_of x v) (round_of (after_event same elect x e) v) ⊎ ((is_prune e ≡ true) × IsGone x (after_event same elect x e) v)
+  event_weighs = rounds_or_gone same elect x e 0 (Weighs e) weighs_on weighs (event_path same elect 0 x e (omega arith) (asked_of_all x e))
 
   -- a record that has the event's notarization, and whose new verdicts stand
-  pub event_shows : (entries more : List (ArtifactFacts D)) → InOrder x → ((c : ProposalFacts D) → notarization_by e ≡ Some c → min_active x ≤ c.proposal.round.view) → ((round : Round) (given success : Bool) → Contains entries (Verdict round given) → verdict_by e ≡ Some (round.view, success) → given ≡ success) → ((a : ArtifactFacts D) → Contains entries a → Contains more a) → ((c : ProposalFacts D) → notarization_by e ≡ Some c → is_some (round_of x c.proposal.round.view).notarization ≡ false → Contains more (Accepted (Notarized c))) → ((round : Round) (success : Bool) → Contains more (Verdict round success) → Contains entries (Verdict round success) ⊎ (is_judged success (round_of (after_event same elect x e) round.view).certification ≡ true)) → Shows entries x → Shows more (after_event same elect x e)
-  event_shows entries more ordered kept agree keeps noted given shows = record { notarized = notarized; judged = judged }
+  pub event_shows : (entries more : List (ArtifactFacts D)) → ((c : ProposalFacts D) → notarization_by e ≡ Some c → min_active x ≤ c.proposal.round.view) → ((round : Round) (given success : Bool) → Contains entries (Verdict round given) → verdict_by e ≡ Some (round.view, success) → given ≡ success) → ((a : ArtifactFacts D) → Contains entries a → Contains more a) → ((c : ProposalFacts D) → notarization_by e ≡ Some c → is_some (round_of x c.proposal.round.view).notarization ≡ false → Contains more (Accepted (Notarized c))) → ((round : Round) (success : Bool) → Contains more (Verdict round success) → Contains entries (Verdict round success) ⊎ (is_judged success (round_of (after_event same elect x e) round.view).certification ≡ true)) → Shows entries x → Shows more (after_event same elect x e)
+  event_shows entries more kept agree keeps noted given shows = record { notarized = notarized; judged = judged }
     where
       y : Facts K L D
       y = after_event same elect x e
@@ -83,7 +82,7 @@ module _ {K L D : Type 0} (same : D → D → Bool) (elect : Elect L) (x : Facts
       old v is = (let c = shows.notarized v is in (c.0, keeps (Accepted (Notarized c.0)) c.1, c.2))
 
       notarized : (v : ℕ) → is_some (round_of y v).notarization ≡ true → (c : ProposalFacts D) × Contains more (Accepted (Notarized c)) × (c.proposal.round.view ≡ v)
-      notarized v is = elim (event_weighs ordered v) [
+      notarized v is = elim (event_weighs v) [
         | inr (prunes, gone) ↦ absurd (false≢true (sym (nothing v gone.untracked) ∙ is))
         | inl change ↦ elim (change.notarized is) [
           | inl before ↦ old v before
@@ -95,7 +94,7 @@ module _ {K L D : Type 0} (same : D → D → Bool) (elect : Elect L) (x : Facts
       ]
 
       stays : (round : Round) (success : Bool) → Contains entries (Verdict round success) → (min_active y ≤ round.view) ⊎ (is_some (round_of y round.view).notarization ≡ true) → is_judged success (round_of y round.view).certification ≡ true
-      stays round success h known = elim (event_weighs ordered round.view) [
+      stays round success h known = elim (event_weighs round.view) [
         | inr (prunes, gone) ↦ elim known [
           | inl above ↦ absurd (let floor = floor_goes x y (event_goes same elect x e) in omega (arith, gone.below, floor, above))
           | inr is ↦ absurd (false≢true (sym (nothing round.view gone.untracked) ∙ is))
@@ -116,13 +115,13 @@ module _ {K L D : Type 0} (same : D → D → Bool) (elect : Elect L) (x : Facts
 
 module _ {K L D : Type 0} (same : D → D → Bool) (elect : Elect L) (x : Facts K L D) where
   -- a verdict that is given for a tracked view stands then
-  pub verdict_stands : (v : ℕ) (success : Bool) (now : ℕ) → InOrder x → is_tracked x v ≡ true → is_judged success (round_of (after_certified elect x v success now) v).certification ≡ true
-  verdict_stands v success now ordered tracked =
+  pub verdict_stands : (v : ℕ) (success : Bool) (now : ℕ) → is_tracked x v ≡ true → is_judged success (round_of (after_certified elect x v success now) v).certification ≡ true
+  verdict_stands v success now tracked =
       let m = at_moment x now in
       let j = judged m v success in
       let e : Event K D = event.Certified v success now in
       let handles : (w token : ℕ) → e ≡ event.SetCertifyHandle w token → IsEvent x e = λ w token is. absurd (cc) in
-      let change = rounds_along same elect x e ordered 0 (Weighs e) (weighs_on same elect x e handles) (weighs same elect x e handles) refl j (verdict_taken elect m v success now) (from_judged v success now) v in
+      let change = rounds_along same elect x e 0 (Weighs e) (weighs_on same elect x e handles) (weighs same elect x e handles) refl j (verdict_taken elect m v success now) (from_judged v success now) v in
       let given : is_judged success (round_of j v).certification ≡ true = ap (λ (r : RoundFacts K D). is_judged success r.certification) (round_put m v _) ∙ judged_so success in
       subst (λ b. is_judged success (round_of (if b then verdict_taken elect m v success now else m) v).certification ≡ true) (sym tracked)
       (elim (change.judged success given) [

@@ -1,7 +1,6 @@
 -- What holds of each call holds of each life.
-use Rattle.std.proofs.Common.{◌≡◌, refl, ap, ◌∙◌, ◌⊎◌, subst, ℕ, Bool, true, false, List, [], ◌∷◌, Option, Some, None, inl, inr, sym}
+use Rattle.std.proofs.Common.{◌≡◌, refl, ap, ◌∙◌, ◌⊎◌, subst, Bool, true, false, List, [], ◌∷◌, Option, Some, None, inl, inr, sym}
 use Rattle.simplex_types.specs.declared.types.fault.Fault.{Fault}
-use Rattle.simplex_types.specs.declared.types.messages.Subject.{Subject}
 use Rattle.simplex_voter.specs.Facts.{Facts, Elect}
 use Rattle.simplex_member.specs.Calls.{CallFacts, Told, Refused, NotAllowed, is_allowed, fault_of, answer, after_call}
 use Rattle.simplex_laws.specs.LifeLaws.{LifeCall, Calling, Working, as_step, IsLife, WhileAlive, NeverFalls}
@@ -9,7 +8,6 @@ use Rattle.simplex_member.specs.Lives.{MemberFacts, IsCall, AnswersAlive, reply_
 use Rattle.simplex_member.specs.Openings.{Openings}
 use Rattle.simplex_member.specs.Runs.{IsStep}
 use Rattle.simplex_member.specs.Work.{WorkCall, IsWork, IsWorkOf, work_allowed, work_fault, work_answer, after_work, work_reply, left_of_work}
-use Rattle.simplex_laws.proofs.InOrder.{InOrder}
 use Rattle.simplex_laws.proofs.Rising.{never_fell, falls_never, never_falls, call_goes, work_goes}
 
 module _ {K L D : Type 0} where
@@ -24,10 +22,6 @@ module _ {K L D : Type 0} where
   alive_joined P Q R first None (Some z) join p q = absurd q
   alive_joined P Q R None (Some y) (Some z) join p q = absurd p
   alive_joined P Q R (Some x) (Some y) (Some z) join p q = join x y z p q
-
--- of the calls from states in order on, which leave such
-abbrev pub InOrderly : {K L D : Type 0} → (Facts K L D → Facts K L D → Type 0) → Facts K L D → Facts K L D → Type 0
-InOrderly Holds x y = InOrder x → InOrder y × Holds x y
 
 module _ {K L D : Type 0} (same : D → D → Bool) (elect : Elect L) where
   -- a relation of each state to itself where a call is refused, and to what is left where it is answered

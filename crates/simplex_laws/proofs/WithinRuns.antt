@@ -2,7 +2,6 @@
 use Rattle.std.proofs.Common.{◌≡◌, refl, sym, ◌∙◌, subst, ℕ, ◌<◌, ◌≤◌, inl, inr, Bool, true, List, [], ◌∷◌, ◌++◌, length, Option, Some, None, arith}
 use Rattle.std.proofs.lemmas.List.{length-map}
 use Rattle.simplex_types.specs.declared.types.fault.Fault.{Fault}
-use Rattle.simplex_types.specs.declared.types.messages.Subject.{Subject}
 use Rattle.simplex_voter.specs.Facts.{Facts, Elect}
 use Rattle.simplex_voter.specs.Windows.{min_active}
 use Rattle.simplex_member.specs.Calls.{CallFacts, Told, Dropped, Refused, NotAllowed, is_allowed, answer, after_call}
@@ -14,7 +13,7 @@ use Rattle.simplex_member.specs.Runs.{StepFacts, IsStep, IsRun, IsRunFrom}
 use Rattle.simplex_member.specs.Start.{StartFacts, started}
 use Rattle.simplex_laws.specs.Fresh.{IsFresh, BeginFresh}
 use Rattle.simplex_laws.proofs.Conflicts.{Keeps, life_keeps}
-use Rattle.simplex_laws.proofs.HandedOut.{IsOrdered, life_hands_once}
+use Rattle.simplex_laws.proofs.HandedOut.{life_hands_once}
 use Rattle.simplex_laws.proofs.AsAsked.{call_as_asked}
 use Rattle.simplex_laws.proofs.Recalls.{only_one}
 use Rattle.simplex_laws.proofs.Splits.{Contains-cases}
@@ -23,7 +22,7 @@ use Rattle.simplex_laws.proofs.CallsMake.{call_by_any, work_by_any}
 use Rattle.simplex_laws.proofs.Rising.{floor_goes, call_goes, work_goes}
 use Rattle.simplex_laws.proofs.Sound.{IsSound, event_sound, floor_sound}
 use Rattle.simplex_laws.proofs.RunsKeep.{HoldsIn, run_induction}
-use Rattle.simplex_laws.proofs.WithinLives.{InOrderly, alive_still, alive_joined, each_call, call_outcome}
+use Rattle.simplex_laws.proofs.WithinLives.{alive_still, alive_joined, each_call, call_outcome}
 
 -- where no view below one that is kept is tracked none comes to be, also where views are dropped on the way
 pub record Away {K L D : Type 0} (replies : List (Told K D)) (x y : Facts K L D) : Type 0 where
@@ -133,22 +132,18 @@ module _ {K L D : Type 0} (same : D → D → Bool) (elect : Elect L) (term_leng
   life_drops_for_good start steps told m end calls replies begins fresh of_run =
       for_good replies m.life end.life (life_sound start steps told m end calls replies begins fresh of_run) (life_away same elect term_length begins.some m end calls replies of_run.life)
 
-  stay_in : (replies : List (Told K D)) (first last : Option (Facts K L D)) → IsSoundIn term_length first → WhileAlive (InOrderly (Keeps replies)) first last → WhileAlive (ConflictsStay replies) first last
-  stay_in replies first None sound keeps = tt
-  stay_in replies None (Some y) sound keeps = absurd keeps
-  stay_in replies (Some x) (Some y) sound keeps = (keeps sound.in_order).1.conflicts
+  stay_in : (replies : List (Told K D)) (first last : Option (Facts K L D)) → WhileAlive (Keeps replies) first last → WhileAlive (ConflictsStay replies) first last
+  stay_in replies first None keeps = tt
+  stay_in replies None (Some y) keeps = absurd keeps
+  stay_in replies (Some x) (Some y) keeps = keeps.conflicts
 
   pub life_conflicts : (start : StartFacts K L D) (steps : List (StepFacts K L D)) (told : List (Told K D)) (m end : MemberFacts K L D) (calls : List (LifeCall D)) (replies : List (Told K D)) → IsFresh term_length start.fresh → BeginFresh term_length steps → IsLifeOfRun same elect start steps told m calls replies end → WhileAlive (ConflictsStay replies) m.life end.life
   life_conflicts start steps told m end calls replies begins fresh of_run =
-      stay_in replies m.life end.life (life_sound start steps told m end calls replies begins fresh of_run) (life_keeps same elect m end calls replies of_run.life)
-
-  ordered_in : (life : Option (Facts K L D)) → IsSoundIn term_length life → IsOrdered life
-  ordered_in None sound = tt
-  ordered_in (Some x) sound = sound.in_order
+      stay_in replies m.life end.life (life_keeps same elect m end calls replies of_run.life)
 
   pub life_hands_out_once : (start : StartFacts K L D) (steps : List (StepFacts K L D)) (told : List (Told K D)) (m end : MemberFacts K L D) (calls : List (LifeCall D)) (replies : List (Told K D)) → IsFresh term_length start.fresh → BeginFresh term_length steps → IsLifeOfRun same elect start steps told m calls replies end → HandedOnce calls replies
   life_hands_out_once start steps told m end calls replies begins fresh of_run =
-      life_hands_once same elect m end calls replies (ordered_in m.life (life_sound start steps told m end calls replies begins fresh of_run)) of_run.life
+      life_hands_once same elect m end calls replies of_run.life
 
 -- what a call is told is as asked
 abbrev pub RightlyTold : {K D : Type 0} → LifeCall D → Told K D → Type 0

@@ -4,7 +4,6 @@ use Rattle.std.proofs.lemmas.Bool.{false≢true}
 use Rattle.std.proofs.lemmas.List.{append-nil}
 use Rattle.simplex_types.specs.Certificates.{ArtifactFacts, NotarizeVote, NullifyVote, FinalizeVote, Accepted}
 use Rattle.simplex_types.specs.declared.types.messages.Proposal.{Proposal}
-use Rattle.simplex_types.specs.declared.types.messages.Subject.{Subject}
 use Rattle.simplex_types.specs.declared.types.messages.Subject.TheVariants as subject
 use Rattle.simplex_round.specs.Slot.{is_unequivocated}
 use Rattle.simplex_voter.specs.Facts.{Facts, Elect, round_of}
@@ -64,12 +63,12 @@ module _ {K L D : Type 0} (same : D → D → Bool) (decides : (d e : D) → sam
   stays_worked : (call : WorkCall D) → work_allowed x o call ≡ true → Stays term_length deeds (after_work same elect x o call)
   stays_worked call allowed =
       work_by_event same elect x o (λ es y. AreSilent es → Stays term_length deeds y) (λ silent. living.keeps.stays)
-      (λ e takes floor silent. stays_on same decides elect term_length deeds x e (silent_suits deeds _ x e silent.0) living.in_order living.keeps.stays) call allowed (work_silent o call)
+      (λ e takes floor silent. stays_on same decides elect term_length deeds x e (silent_suits deeds _ x e silent.0) living.keeps.stays) call allowed (work_silent o call)
 
   marked_worked : (call : WorkCall D) → work_allowed x o call ≡ true → Marked entries (after_work same elect x o call)
   marked_worked call allowed =
       work_by_event same elect x o (λ es y. AreSilent es → Marked entries y) (λ silent. living.follows.marked)
-      (λ e takes floor silent. quiet_marked same elect x e entries living.in_order silent.0.verdict silent.0.nullify living.follows.marked) call allowed (work_silent o call)
+      (λ e takes floor silent. quiet_marked same elect x e entries silent.0.verdict silent.0.nullify living.follows.marked) call allowed (work_silent o call)
 
   silent_lives : (call : WorkCall D) → work_allowed x o call ≡ true → is_silent call ≡ true → Living term_length deeds closed kept entries (openings_after same elect x o call) (after_work same elect x o call)
   silent_lives call allowed silent =

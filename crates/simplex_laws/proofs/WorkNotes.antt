@@ -1,11 +1,9 @@
 -- Each call on the work of a view keeps what the facts show of the votes to notarize.
-use Rattle.std.proofs.Common.{◌≡◌, ◌≢◌, refl, ap, sym, ◌∙◌, subst, ℕ, ◌≤◌, ◌⊎◌, inl, inr, Bool, true, false, ◌&&◌, ◌==◌, not, if◌then◌else◌, nat_le, List, [], ◌∷◌, Contains, Option, Some, None, is_some, is_none, slice_get, unwrap_or, arith}
-use Rattle.std.specs.Prelude.{option_map, option_and_then, T}
-use Rattle.std.specs.List.{fold, filter_map, cons_option}
+use Rattle.std.proofs.Common.{◌≡◌, ◌≢◌, refl, ap, sym, ◌∙◌, subst, ℕ, ◌≤◌, ◌⊎◌, inl, inr, Bool, true, false, ◌&&◌, ◌==◌, not, if◌then◌else◌, nat_le, List, Contains, Option, Some, None, is_some, is_none, slice_get, unwrap_or, arith}
+use Rattle.std.specs.Prelude.{option_map, option_and_then}
+use Rattle.std.specs.List.{filter_map}
 use Rattle.std.specs.Option.{option_map_or}
-use Rattle.std.specs.Ordering.{nat_cmp}
-use Rattle.std.specs.FinMap.Entries.{is_sorted, is_sorted-where_key}
-use Rattle.std.proofs.lemmas.Bool.{false≢true, cases_eq, eqb-true}
+use Rattle.std.proofs.lemmas.Bool.{false≢true, cases_eq, eqb-true, eq-eqb}
 use Rattle.std.proofs.lemmas.Bool.Decides.{nat_tests}
 use Rattle.simplex_types.specs.Terms.{next_term_start}
 use Rattle.simplex_types.specs.Proposal.{same_proposal}
@@ -13,10 +11,9 @@ use Rattle.simplex_types.proofs.Proposal.{same_proposal-true}
 use Rattle.simplex_types.specs.declared.types.messages.Context.{Context}
 use Rattle.simplex_types.specs.declared.types.messages.Proposal.{Proposal}
 use Rattle.simplex_types.specs.declared.reasons.TimeoutReason.{TimeoutReason}
-use Rattle.simplex_types.specs.declared.reasons.TimeoutReason.TheVariants.{InvalidProposal}
 use Rattle.simplex_round.specs.declared.round.Leader.{Leader}
 use Rattle.simplex_round.specs.Slot.{SlotFacts, after_mark, holds_or_empty}
-use Rattle.simplex_round.specs.Round.{RoundFacts, new_round, is_nullify, signs_as, should_verify, should_propose, pending_proposal, with_latch}
+use Rattle.simplex_round.specs.Round.{RoundFacts, new_round, is_nullify, signs_as, should_verify, should_propose, pending_proposal}
 use Rattle.simplex_voter.specs.Facts.{Facts, Elect, round_at, round_of, round_number, is_tracked, with_round, with_tracked}
 use Rattle.simplex_voter.specs.Windows.{min_active, is_start, is_admitted}
 use Rattle.simplex_voter.specs.Refusals.{is_started, takes_round}
@@ -24,8 +21,14 @@ use Rattle.simplex_voter.specs.Entering.{at_moment}
 use Rattle.simplex_voter.specs.Leaders.{prepared}
 use Rattle.simplex_voter.specs.Parents.{binding_matches, preferred_parent}
 use Rattle.simplex_voter.specs.Rules.{may_notarize}
-use Rattle.simplex_voter.specs.Proposing.{Request, Prepare, Propose, request_context, request_on, request_in, context_on, propose_answer, proposed_answer, supersede_answer, context_stands, with_build, build_requested, proposed_round, proposal_of, views_ahead, voted_nullify, parent_certified, after_proposed, after_supersede, after_release}
-use Rattle.simplex_voter.specs.Verifying.{Standing, Passed, Invalid, Lacks, Ready, Verification, Verify, Resolve, Wait, standing, parent_standing, is_answered, left_at, through, answer_at, answer_in, verify_context, verify_answer, verifying_round, with_mark, without_binding, takes_proposal, after_set_proposal, after_try_verify, after_verified, after_verification_failed}
+use Rattle.simplex_voter.specs.declared.voter.proposal_request.ProposalRequest.{ProposalRequest}
+use Rattle.simplex_voter.specs.declared.voter.proposal_request.ProposalRequest.TheVariants.{Prepare, Propose}
+use Rattle.simplex_voter.specs.declared.voter.standing.Standing.{Standing}
+use Rattle.simplex_voter.specs.declared.voter.standing.Standing.TheVariants.{Passed, Invalid, Lacks, Ready}
+use Rattle.simplex_voter.specs.declared.voter.verification.Verify.{Verify}
+use Rattle.simplex_voter.specs.declared.voter.verification.Verify.TheVariants as verify
+use Rattle.simplex_voter.specs.Proposing.{request_context, request_on, request_in, context_on, propose_answer, proposed_answer, supersede_answer, context_stands, with_build, build_requested, proposed_round, proposal_of, views_ahead, voted_nullify, parent_certified, after_proposed, after_supersede, after_release}
+use Rattle.simplex_voter.specs.Verifying.{standing, parent_standing, is_answered, through, answer_at, answer_in, verify_answer, verifying_round, round_left, was_scanned, scan_left, with_mark, without_binding, takes_proposal, after_set_proposal, after_try_verify, after_verified, after_verification_failed}
 use Rattle.simplex_voter.specs.Timeouts.{triggered, after_next_timeout}
 use Rattle.simplex_voter.specs.Certification.{after_candidates}
 use Rattle.simplex_voter.proofs.Elsewhere.{round_of-with_round}
@@ -33,16 +36,17 @@ use Rattle.simplex_voter.proofs.Gaps.{and_parts, not_true}
 use Rattle.simplex_member.specs.Openings.{Openings, context_at, without_context, with_context, with_request, is_verifying, without_verification, with_verification}
 use Rattle.simplex_member.specs.Work.{WorkCall, SetProposal, TryPropose, Proposed, SupersedeProposalRequest, PendingHandoffAbandonment, ReleaseProposalRequest, TryVerify, Verified, VerificationFailed, ConstructNotarize, CertifyCandidates, SetCertifyHandle, TriggerTimeout, NextTimeout, work_allowed, after_work, openings_after}
 use Rattle.simplex_laws.specs.Deeds.{Deed}
-use Rattle.simplex_laws.proofs.Splits.{Contains-cons_rest}
+use Rattle.simplex_laws.specs.Requested.{is_given_out}
 use Rattle.simplex_laws.proofs.Rounds.{round_put}
 use Rattle.simplex_laws.proofs.Calm.{leads_round, Grown, Calm, calm, calm_alike, calm_decided, calm_retry, calm_proposal, slot_in_round}
-use Rattle.simplex_laws.proofs.CalmOn.{CalmOn, found_apart, above_put, on_joined, on_same, on_if, on_put, on_there, on_tracked, on_moment, on_prepared, on_triggered}
-use Rattle.simplex_laws.proofs.Tidy.{Tidy, opposite, answered, given_out, proposes, reopened, tidy_calm}
+use Rattle.simplex_laws.proofs.CalmOn.{CalmOn, above_put, on_joined, on_same, on_if, on_put, on_there, on_tracked, on_moment, on_prepared, on_triggered}
+use Rattle.simplex_laws.proofs.Tidy.{Tidy, contrary, opposite, answered, given_out, proposes, reopened, tidy_calm}
 use Rattle.simplex_laws.proofs.Notes.{NotesStand, notes_calm}
 use Rattle.simplex_laws.proofs.Openings.{among_others, now_among, context_view, still_open, now_open}
 use Rattle.simplex_laws.proofs.InOrder.{InOrder}
 use Rattle.simplex_laws.proofs.Filters.{Contains-filtered, filtered_passes}
-use Rattle.simplex_laws.proofs.Ordered.{first_below, sorted_parts, found_in_order}
+use Rattle.simplex_laws.proofs.Ordered.{found_in_order}
+use Rattle.simplex_laws.proofs.Scanned.{among_through, any_there, first_through, tracked_scanned, round_scanned}
 
 module _ {K L D : Type 0} where
   -- an entry of the tracked views is the round of its view
@@ -143,26 +147,17 @@ module _ {K D : Type 0} (r : RoundFacts K D) where
       by_test false other is = absurd (false≢true (ap is_some is))
       by_test true so is = (let parts = other r.leader so in (parts.0, parts.1, parts.2, held_one r.leader r.slot.held is))
 
--- the first of what is made of a list's items
-first_made : {A B : Type 0} (make : A → Option B) (items : List A) (b : B) → slice_get (filter_map make items) 0 ≡ Some b → (a : A) × Contains items a × (make a ≡ Some b)
-first_made make [] b is = absurd (false≢true (ap is_some is))
-first_made {A} {B} make (a ∷ items) b is = by_made (make a) refl (first_made make items b) is
-  where
-    by_made : (o : Option B) → make a ≡ o → (slice_get (filter_map make items) 0 ≡ Some b → (c : A) × Contains items c × (make c ≡ Some b)) → slice_get (cons_option o (filter_map make items)) 0 ≡ Some b → (c : A) × Contains (a ∷ items) c × (make c ≡ Some b)
-    by_made None none behind is = (let found = behind is in (found.0, Contains-cons_rest a items found.0 found.1, found.2))
-    by_made (Some c) made behind is = (a, (0, omega arith, refl), made ∙ is)
-
 module _ {K L D : Type 0} (x : Facts K L D) where
   ahead_now : (e : ℕ × RoundFacts K D) → Contains (views_ahead x) e → x.current ≤ e.0
   ahead_now e h = let passes = filtered_passes (λ (f : ℕ × RoundFacts K D). nat_le x.current f.0 && nat_le f.0 (next_term_start x.terms.term_length x.current)) x.rounds e h in let first = (and_parts (nat_le x.current e.0) _ passes).0 in grind (arith, nat_tests, first)
 
   -- what is requested on a parent is for the view
-  request_view : (same : D → D → Bool) (v : ℕ) (r : RoundFacts K D) (parent : ℕ × D) (request : Request K D) → request_on same x v r parent ≡ Some request → (request_context request).round.view ≡ v
+  request_view : (same : D → D → Bool) (v : ℕ) (r : RoundFacts K D) (parent : ℕ × D) (request : ProposalRequest D K) → request_on same x v r parent ≡ Some request → (request_context request).round.view ≡ v
   request_view same v r parent request is = by_start (is_start x v && not (parent_certified same x parent)) is
     where
-      led_by : (make : Context D K → Request K D) → ((c : Context D K) → request_context (make c) ≡ c) → (o : Option (Leader K)) → option_map (λ l. make (context_on x v parent l)) o ≡ Some request → (request_context request).round.view ≡ v
+      led_by : (make : Context D K → ProposalRequest D K) → ((c : Context D K) → request_context (make c) ≡ c) → (o : Option (Leader K)) → option_map (λ l. make (context_on x v parent l)) o ≡ Some request → (request_context request).round.view ≡ v
       led_by make same_context None is = absurd (false≢true (ap is_some is))
-      led_by make same_context (Some l) is = (let one : make (context_on x v parent l) ≡ request = ap (λ o. unwrap_or o request) is in subst (λ (q : Request K D). (request_context q).round.view ≡ v) one (ap (λ (c : Context D K). c.round.view) (same_context (context_on x v parent l))))
+      led_by make same_context (Some l) is = (let one : make (context_on x v parent l) ≡ request = ap (λ o. unwrap_or o request) is in subst (λ (q : ProposalRequest D K). (request_context q).round.view ≡ v) one (ap (λ (c : Context D K). c.round.view) (same_context (context_on x v parent l))))
 
       by_voted : (b : Bool) → (if b then None else option_map (λ l. Prepare (context_on x v parent l)) r.leader) ≡ Some request → (request_context request).round.view ≡ v
       by_voted true is = absurd (false≢true (ap is_some is))
@@ -173,7 +168,7 @@ module _ {K L D : Type 0} (x : Facts K L D) where
       by_start false is = led_by Propose (λ c. refl) r.leader is
 
   -- a request is for a view ahead that this member leads
-  request_parts : (same : D → D → Bool) (elect : Elect L) (e : ℕ × RoundFacts K D) (request : Request K D) → request_in same elect x e ≡ Some request → (should_propose e.1 ≡ true) × ((request_context request).round.view ≡ e.0)
+  request_parts : (same : D → D → Bool) (elect : Elect L) (e : ℕ × RoundFacts K D) (request : ProposalRequest D K) → request_in same elect x e ≡ Some request → (should_propose e.1 ≡ true) × ((request_context request).round.view ≡ e.0)
   request_parts same elect e request is = by_test (is_admitted x e.0 && should_propose e.1) refl is
     where
       on_parent : (o : Option (ℕ × D)) → option_and_then (request_on same x e.0 e.1) o ≡ Some request → (request_context request).round.view ≡ e.0
@@ -228,17 +223,18 @@ module _ {K L D : Type 0} (same : D → D → Bool) (decides : (d e : D) → sam
     covered = notes.covered;
   }
 
-  requested_notes : InOrder x → (request : Option (Request K D)) → propose_answer same elect x ≡ request → NotesStand base low deeds (with_request o request) (option_map_or (λ r. with_build x (request_context r).round.view true) request x)
+  requested_notes : InOrder x → (request : Option (ProposalRequest D K)) → propose_answer same elect x ≡ request → NotesStand base low deeds (with_request o request) (option_map_or (λ r. with_build x (request_context r).round.view true) request x)
   unfolding propose_answer
   requested_notes ordered None is = notes
   requested_notes ordered (Some r) is =
-      let found = first_made (request_in same elect x) (views_ahead x) r is in
+      let found = first_through (request_in same elect x) (λ e. is_some (request_in same elect x e)) (λ e. refl) (views_ahead x) r is in
       let e = found.0 in
+      let among = among_through (λ e. is_some (request_in same elect x e)) (views_ahead x) e found.1 in
       let parts = request_parts x same elect e r found.2 in
       let context = request_context r in
-      let there : round_of x e.0 ≡ e.1 = round_in_order x e ordered (Contains-filtered _ x.rounds e found.1) in
+      let there : round_of x e.0 ≡ e.1 = round_in_order x e ordered (Contains-filtered _ x.rounds e among) in
       let leads : leads_round (round_of x context.round.view) ≡ true = subst (λ v. leads_round (round_of x v) ≡ true) (sym parts.1) (ap leads_round there ∙ proposer_leads e.1 parts.0) in
-      let over : low ≤ context.round.view = (let ahead = ahead_now x e found.1 in omega (arith, notes.reached, ahead, parts.1)) in
+      let over : low ≤ context.round.view = (let ahead = ahead_now x e among in omega (arith, notes.reached, ahead, parts.1)) in
       notes_calm base low deeds (with_context o context) (with_context o context) x (with_build x context.round.view true) (build_calm context.round.view true) (λ v is'. is') (λ v is'. is') (opened_notes context leads over)
 
   -- an own proposal
@@ -366,6 +362,27 @@ module _ {K L D : Type 0} (same : D → D → Bool) (decides : (d e : D) → sam
 
 -- the scan for a proposal to verify
 
+-- the proposal that an answer gives out
+abbrev given_in : {K D : Type 0} → Option (Verify D K) → Option (Proposal D)
+given_in (Some (verify.Ready context p)) = Some p
+given_in _ = None
+
+module _ {K D : Type 0} (v : ℕ) where
+  -- an answer that gives a proposal out is to a view that is ready, and gives out what is pending
+  given_ready : (s : Standing D) (o : Option (Leader K × Proposal D)) (p : Proposal D) → given_in (option_and_then (answer_at v s) o) ≡ Some p → (is_given_out s ≡ true) × ((found : Leader K × Proposal D) × (o ≡ Some found) × (found.1 ≡ p))
+  given_ready (Ready d) (Some found) p is = (refl, (found, refl, ap (λ o. unwrap_or o p) is))
+  given_ready Passed (Some found) p is = absurd (false≢true (ap is_some is))
+  given_ready Invalid (Some found) p is = absurd (false≢true (ap is_some is))
+  given_ready (Lacks w kind) (Some found) p is = absurd (false≢true (ap is_some is))
+  given_ready s None p is = absurd (false≢true (ap is_some is))
+
+  -- a round that is given out keeps what is held, and any other what its proposal's work rests on
+  left_calm : (r : RoundFacts K D) (now : ℕ) (s : Standing D) → is_given_out s ≡ false → Calm v r (round_left r now s)
+  left_calm r now Passed none = calm v r
+  left_calm r now Invalid none = calm_alike v r _ refl refl refl refl refl
+  left_calm r now (Lacks w kind) none = calm_alike v r _ refl refl refl refl refl
+  left_calm r now (Ready d) none = absurd (false≢true (sym none))
+
 module _ {K L D : Type 0} (same : D → D → Bool) (elect : Elect L) (x : Facts K L D) where
   -- a view of which anything is to be said has a pending proposal
   standing_pending : (e : ℕ × RoundFacts K D) → (standing same elect x e ≡ Passed) ⊎ ((found : Leader K × Proposal D) × (pending_proposal e.1 ≡ Some found))
@@ -377,136 +394,120 @@ module _ {K L D : Type 0} (same : D → D → Bool) (elect : Elect L) (x : Facts
       by_admitted true None is = inl refl
       by_admitted true (Some found) is = inr (found, is)
 
-  pending_there : (e : ℕ × RoundFacts K D) (s : Standing D) → standing same elect x e ≡ s → is_answered s ≡ true → (found : Leader K × Proposal D) × (pending_proposal e.1 ≡ Some found)
-  pending_there e s is answered_one = elim (standing_pending e) [
-    | inl passed ↦ absurd (false≢true (ap is_answered (sym passed ∙ is) ∙ answered_one))
-    | inr found ↦ found
-  ]
-
-  -- the answer, by the standing of a view and its proposal
-  abbrev pub first_answer : List (ℕ × RoundFacts K D) → Verification K D
-  first_answer es = option_map_or (λ found. found) (slice_get (filter_map (answer_in same elect x) es) 0) Wait
-
-  silent_answer : (e : ℕ × RoundFacts K D) (es : List (ℕ × RoundFacts K D)) (s : Standing D) → standing same elect x e ≡ s → is_answered s ≡ false → first_answer (e ∷ es) ≡ first_answer es
-  silent_answer e es s is silent = ap (λ a. option_map_or (λ found. found) (slice_get (cons_option a (filter_map (answer_in same elect x) es)) 0) Wait) (no_answer s is silent (pending_proposal e.1))
+  -- a view is answered where its standing is one that is
+  answered_there : (e : ℕ × RoundFacts K D) → is_answered (standing same elect x e) ≡ is_some (answer_in same elect x e)
+  answered_there e = by_standing (standing same elect x e) (pending_proposal e.1) (standing_pending e)
     where
-      nothing : (t : Standing D) → is_answered t ≡ false → (o : Option (Leader K × Proposal D)) → option_and_then (answer_at e.0 t) o ≡ None
-      nothing Passed none None = refl
-      nothing Passed none (Some found) = refl
-      nothing Invalid none None = refl
-      nothing Invalid none (Some found) = refl
-      nothing (Lacks w kind) none o = absurd (false≢true (sym none))
-      nothing (Ready d) none o = absurd (false≢true (sym none))
+      by_standing : (s : Standing D) (o : Option (Leader K × Proposal D)) → (s ≡ Passed) ⊎ ((found : Leader K × Proposal D) × (o ≡ Some found)) → is_answered s ≡ is_some (option_and_then (answer_at e.0 s) o)
+      by_standing Passed None pending = refl
+      by_standing Passed (Some found) pending = refl
+      by_standing Invalid None pending = refl
+      by_standing Invalid (Some found) pending = refl
+      by_standing (Lacks w kind) (Some found) pending = refl
+      by_standing (Ready d) (Some found) pending = refl
+      by_standing s None (inl passed) = ap is_answered passed
+      by_standing s None (inr found) = absurd (false≢true (ap is_some found.1))
 
-      no_answer : (t : Standing D) → standing same elect x e ≡ t → is_answered t ≡ false → (o : Option (Leader K × Proposal D)) → option_and_then (answer_at e.0 (standing same elect x e)) o ≡ None
-      no_answer t at none o = ap (λ u. option_and_then (answer_at e.0 u) o) at ∙ nothing t none o
+-- a view whose proposal is given out by a scan
+record IsGiven {K L D : Type 0} (same : D → D → Bool) (elect : Elect L) (x : Facts K L D) (v : ℕ) : Type 0 where
+  pub ahead : x.current ≤ v
+  pub scanned : was_scanned same elect x v ≡ true
+  pub ready : is_given_out (standing same elect x (v, round_of x v)) ≡ true
 
-  told_answer : (e : ℕ × RoundFacts K D) (es : List (ℕ × RoundFacts K D)) (s : Standing D) (found : Leader K × Proposal D) (answer : Verification K D) → standing same elect x e ≡ s → pending_proposal e.1 ≡ Some found → answer_at e.0 s found ≡ Some answer → first_answer (e ∷ es) ≡ answer
-  told_answer e es s found answer is pending answers =
-      ap (λ a. option_map_or (λ f. f) (slice_get (cons_option a (filter_map (answer_in same elect x) es)) 0) Wait)
-      (ap (λ u. option_and_then (answer_at e.0 u) (pending_proposal e.1)) is ∙ (ap (option_and_then (answer_at e.0 s)) pending ∙ answers))
+module _ {K L D : Type 0} (same : D → D → Bool) (elect : Elect L) (base low : ℕ) (deeds : List (Deed D)) (o : Openings K D) (x : Facts K L D) (ordered : InOrder x) (notes : NotesStand base low deeds o x) where
+  -- what is now being verified was so before, or is given out
+  now_given : (answer : Option (Verify D K)) → slice_get (filter_map (answer_in same elect x) (views_ahead x)) 0 ≡ answer → (w : ℕ) → is_verifying (with_verification o (option_map_or (λ found. found) answer verify.Wait)) w ≡ true → IsGiven same elect x w ⊎ (is_verifying o w ≡ true)
+  now_given (Some (verify.Ready context p)) first w is = elim (now_among p.round.view w o.verifying is) [ inr before ↦ inr before | inl at ↦ inl (subst (IsGiven same elect x) (here ∙ sym at) given) ]
+    where
+      found : (e : ℕ × RoundFacts K D) × Contains (through (λ f. is_answered (standing same elect x f)) (views_ahead x)) e × (answer_in same elect x e ≡ Some (verify.Ready context p))
+      found = first_through (answer_in same elect x) (λ f. is_answered (standing same elect x f)) (answered_there same elect x) (views_ahead x) (verify.Ready context p) first
 
--- entries that stand so in the facts, which no view below `low` is among
-pub record Stand {K L D : Type 0} (low : ℕ) (es : List (ℕ × RoundFacts K D)) (y : Facts K L D) : Type 0 where
-  pub here : (e : ℕ × RoundFacts K D) → Contains es e → round_of y e.0 ≡ e.1
-  pub tracked : (e : ℕ × RoundFacts K D) → Contains es e → is_tracked y e.0 ≡ true
-  pub high : (e : ℕ × RoundFacts K D) → Contains es e → low ≤ e.0
+      e : ℕ × RoundFacts K D
+      e = found.0
 
-module _ {K L D : Type 0} (same : D → D → Bool) (elect : Elect L) (base low : ℕ) (deeds : List (Deed D)) (o : Openings K D) (x : Facts K L D) where
-  -- behind a change at the first
-  stand_rest : (e : ℕ × RoundFacts K D) (es : List (ℕ × RoundFacts K D)) (y : Facts K L D) (r : RoundFacts K D) → T (is_sorted nat_cmp (e ∷ es)) → Stand low (e ∷ es) y → Stand low es (with_round y e.0 r)
-  stand_rest e es y r sorted stand = record {
-    here = λ f h. round_of-with_round y f.0 e.0 (apart f h) r ∙ stand.here f (Contains-cons_rest e es f h);
-    tracked = λ f h. ap is_some (found_apart y f.0 e.0 r (apart f h)) ∙ stand.tracked f (Contains-cons_rest e es f h);
-    high = λ f h. stand.high f (Contains-cons_rest e es f h);
+      among : Contains (views_ahead x) e
+      among = among_through (λ f. is_answered (standing same elect x f)) (views_ahead x) e found.1
+
+      there : round_of x e.0 ≡ e.1
+      there = round_in_order x e ordered (Contains-filtered _ x.rounds e among)
+
+      ready : (is_given_out (standing same elect x e) ≡ true) × ((pending : Leader K × Proposal D) × (pending_proposal e.1 ≡ Some pending) × (pending.1 ≡ p))
+      ready = given_ready e.0 (standing same elect x e) (pending_proposal e.1) p (ap given_in found.2)
+
+      here : e.0 ≡ p.round.view
+      here = sym (notes.placed e.0 p (ap (λ (r : RoundFacts K D). r.slot.held) there ∙ (pending_parts e.1 ready.1.0 ready.1.1).3 ∙ ap Some ready.1.2))
+
+      given : IsGiven same elect x e.0
+      given = record {
+        ahead = ahead_now x e among;
+        scanned = any_there (λ f. e.0 == f.0) (through (λ f. is_answered (standing same elect x f)) (views_ahead x)) e found.1 (eq-eqb e.0 e.0 refl);
+        ready = ap (λ r. is_given_out (standing same elect x (e.0, r))) there ∙ ready.0;
+      }
+  now_given (Some (verify.Resolve proposal view kind target)) first w is = inr is
+  now_given (Some verify.Wait) first w is = inr is
+  now_given None first w is = inr is
+
+  abbrev opened : Openings K D
+  opened = with_verification o (verify_answer same elect x)
+
+  now_verifying : (w : ℕ) → is_verifying opened w ≡ true → IsGiven same elect x w ⊎ (is_verifying o w ≡ true)
+  now_verifying w is = now_given (slice_get (filter_map (answer_in same elect x) (views_ahead x)) 0) refl w is
+
+  context_still : (w : ℕ) → is_some (context_at opened w) ≡ true → is_some (context_at o w) ≡ true
+  context_still w is = sym (by_answer (verify_answer same elect x)) ∙ is
+    where
+      by_answer : (answer : Verify D K) → is_some (context_at (with_verification o answer) w) ≡ is_some (context_at o w)
+      by_answer (verify.Ready context p) = refl
+      by_answer (verify.Resolve proposal view kind target) = refl
+      by_answer verify.Wait = refl
+
+  abbrev IsLeft : ℕ → RoundFacts K D → Type 0
+  IsLeft w s = Grown w (round_of x w) s × (s.slot.verified ≡ true → (round_of x w).slot.verified ≡ true) × (base ≤ w → Tidy (is_verifying opened w) (is_some (context_at opened w)) s)
+
+  left_so : (w : ℕ) → IsLeft w (scan_left same elect x w (round_of x w))
+  left_so w = by_standing (was_scanned same elect x w) (standing same elect x (w, r)) refl refl
+    where
+      r : RoundFacts K D
+      r = round_of x w
+
+      calm_kept : (s : RoundFacts K D) → Calm w r s → (IsGiven same elect x w → ⊥) → IsLeft w s
+      calm_kept s same_work silent = (
+        same_work.grown,
+        same_work.verified,
+        λ over. tidy_calm w (is_verifying o w) (is_some (context_at o w)) (is_verifying opened w) (is_some (context_at opened w)) r s same_work (λ is. elim (now_verifying w is) [ inl given ↦ absurd (silent given) | inr before ↦ before ]) (context_still w) (notes.tidy w over),
+      )
+
+      pending_there : (d : D) → standing same elect x (w, r) ≡ Ready d → (found : Leader K × Proposal D) × (pending_proposal r ≡ Some found)
+      pending_there d stands = elim (standing_pending same elect x (w, r)) [ inl passed ↦ absurd (false≢true (ap is_given_out (sym passed ∙ stands))) | inr found ↦ found ]
+
+      by_standing : (b : Bool) (s : Standing D) → was_scanned same elect x w ≡ b → standing same elect x (w, r) ≡ s → IsLeft w (if b then round_left r x.moment s else r)
+      by_standing false s scanned stands = calm_kept r (calm w r) (λ given. false≢true (sym scanned ∙ given.scanned))
+      by_standing true (Ready d) scanned stands =
+          let found = pending_there d stands in
+          let parts = pending_parts r found.0 found.1 in
+          let bound : (verifying_round r d).binding ≡ Some (found.0.1, d) = ap (option_map (λ p. (p, d))) parts.3 in (
+            given_grown w r d,
+            λ is. is,
+            λ over. given_out w (is_verifying o w) (is_some (context_at o w)) (is_verifying opened w) (is_some (context_at opened w)) r (verifying_round r d) (given_grown w r d) (context_still w) (notes.tidy w over) found.0.1 d (λ is. is) bound parts.3 parts.2 refl parts.0 parts.1,
+          )
+      by_standing true s scanned stands = calm_kept (round_left r x.moment s) (left_calm w r x.moment s refl) (λ given. false≢true (ap is_given_out (sym stands) ∙ given.ready))
+
+  left_there : (w : ℕ) → IsLeft w (round_of (after_try_verify same elect x) w)
+  left_there w = subst (IsLeft w) (sym (round_scanned same elect x w)) (left_so w)
+
+  pub try_verify_notes : NotesStand base low deeds opened (after_try_verify same elect x)
+  try_verify_notes = record {
+    above = λ w tracked. notes.above w (sym (tracked_scanned same elect x w) ∙ tracked);
+    active = notes.active;
+    reached = notes.reached;
+    tidy = λ w over. (left_there w).2 over;
+    placed = λ w p is. elim ((left_there w).0.placed p is) [ inl before ↦ notes.placed w p before | inr here ↦ here ];
+    worked = λ w is un. notes.worked w ((left_there w).1 is) (contrary (round_of (after_try_verify same elect x) w).notarize_decided (round_of x w).notarize_decided (left_there w).0.decided un);
+    verifying_low = λ w is. elim (now_verifying w is) [ inl given ↦ (let ahead = given.ahead in omega (arith, ahead, notes.reached)) | inr before ↦ notes.verifying_low w before ];
+    context_low = λ w is. notes.context_low w (context_still w is);
+    voted = λ p h above over. (left_there p.round.view).0.decided (notes.voted p h above over);
+    covered = notes.covered;
   }
-    where
-      apart : (f : ℕ × RoundFacts K D) → Contains es f → f.0 ≢ e.0
-      apart f h is = let lower = first_below e.0 es f (sorted_parts e es sorted).0 h in omega (arith, lower, is)
-
-  stand_tail : (e : ℕ × RoundFacts K D) (es : List (ℕ × RoundFacts K D)) (y : Facts K L D) → Stand low (e ∷ es) y → Stand low es y
-  stand_tail e es y stand = record {
-    here = λ f h. stand.here f (Contains-cons_rest e es f h);
-    tracked = λ f h. stand.tracked f (Contains-cons_rest e es f h);
-    high = λ f h. stand.high f (Contains-cons_rest e es f h);
-  }
-
-  abbrev pub passes : ℕ × RoundFacts K D → Bool
-  passes e = is_answered (standing same elect x e)
-
-  abbrev pub left_by : List (ℕ × RoundFacts K D) → Facts K L D → Facts K L D
-  left_by es y = fold (λ z e. left_at z e (standing same elect x e)) y es
-
-  -- what a view leaves that is no proposal to verify
-  quiet_at : (e : ℕ × RoundFacts K D) (r : RoundFacts K D) (y : Facts K L D) → NotesStand base low deeds o y → is_tracked y e.0 ≡ true → round_of y e.0 ≡ e.1 → Calm e.0 e.1 r → NotesStand base low deeds o (with_round y e.0 r)
-  quiet_at e r y notes tracked there same_work = notes_calm base low deeds o o y (with_round y e.0 r) (on_there base y e.0 r tracked (subst (λ s. Calm e.0 s r) (sym there) same_work)) (λ v is. is) (λ v is. is) notes
-
-  -- the proposal that is given out to be verified
-  given_notes : (e : ℕ × RoundFacts K D) (d : D) (found : Leader K × Proposal D) (y : Facts K L D) → NotesStand base low deeds o y → is_tracked y e.0 ≡ true → round_of y e.0 ≡ e.1 → low ≤ e.0 → pending_proposal e.1 ≡ Some found → NotesStand base low deeds (with_verification o (Verify (verify_context found d) found.1)) (with_round y e.0 (verifying_round e.1 d))
-  given_notes e d found y notes tracked there over pending =
-      let parts = pending_parts e.1 found pending in
-      let at : found.1.round.view ≡ e.0 = notes.placed e.0 found.1 (ap (λ (r : RoundFacts K D). r.slot.held) there ∙ parts.3) in
-      let next = with_verification o (Verify (verify_context found d) found.1) in
-      let tidy = subst (λ r. Tidy (is_verifying o e.0) (is_some (context_at o e.0)) r) there (notes.tidy e.0 (notes.above e.0 tracked)) in
-      let bound : (verifying_round e.1 d).binding ≡ Some (found.1, d) = ap (option_map (λ p. (p, d))) parts.3 in
-      notes_put base low deeds o next y e.0 (verifying_round e.1 d) notes tracked
-      (subst (λ r. Grown e.0 r (verifying_round e.1 d)) (sym there) (given_grown e.0 e.1 d))
-      (given_out e.0 (is_verifying o e.0) (is_some (context_at o e.0)) (is_verifying next e.0) (is_some (context_at o e.0)) e.1 (verifying_round e.1 d) (given_grown e.0 e.1 d) (λ q. q) tidy found.1 d (λ q. q) bound parts.3 parts.2 refl parts.0 parts.1)
-      (λ q un. over)
-      (λ w q. elim (now_among found.1.round.view w o.verifying q) [ inl is ↦ inl (is ∙ at) | inr before ↦ inr before ])
-      (λ w q. inr q)
-      (λ q. over)
-      (λ q. over)
-
-  scan_notes : (es : List (ℕ × RoundFacts K D)) (y : Facts K L D) → T (is_sorted nat_cmp es) → Stand low es y → NotesStand base low deeds o y → NotesStand base low deeds (with_verification o (first_answer same elect x es)) (left_by (through passes es) y)
-  scan_notes [] y sorted stand notes = notes
-  scan_notes (e ∷ es) y sorted stand notes = by_standing (standing same elect x e) refl (λ z. scan_notes es z (sorted_parts e es sorted).1)
-    where
-      here : round_of y e.0 ≡ e.1
-      here = stand.here e (0, omega arith, refl)
-
-      tracked : is_tracked y e.0 ≡ true
-      tracked = stand.tracked e (0, omega arith, refl)
-
-      over : low ≤ e.0
-      over = stand.high e (0, omega arith, refl)
-
-      -- the scan goes on, or ends, with what this view leaves
-      goes_on : (s : Standing D) → standing same elect x e ≡ s → is_answered s ≡ false → NotesStand base low deeds (with_verification o (first_answer same elect x es)) (left_by (through passes es) (left_at y e s)) → NotesStand base low deeds (with_verification o (first_answer same elect x (e ∷ es))) (left_by (through passes (e ∷ es)) y)
-      goes_on s is silent rest =
-          subst (λ a. NotesStand base low deeds (with_verification o a) (left_by (through passes (e ∷ es)) y)) (sym (silent_answer same elect x e es s is silent))
-          (rw (is, silent) (subst (λ t. NotesStand base low deeds (with_verification o (first_answer same elect x es)) (left_by (through passes es) (left_at y e t))) (sym is) rest))
-
-      ends : (s : Standing D) (answer : Verification K D) → standing same elect x e ≡ s → is_answered s ≡ true → first_answer same elect x (e ∷ es) ≡ answer → NotesStand base low deeds (with_verification o answer) (left_at y e s) → NotesStand base low deeds (with_verification o (first_answer same elect x (e ∷ es))) (left_by (through passes (e ∷ es)) y)
-      ends s answer is told answers rest =
-          subst (λ a. NotesStand base low deeds (with_verification o a) (left_by (through passes (e ∷ es)) y)) (sym answers)
-          (rw (is, told) (subst (λ t. NotesStand base low deeds (with_verification o answer) (left_at y e t)) (sym is) rest))
-
-      by_standing : (s : Standing D) → standing same elect x e ≡ s → ((z : Facts K L D) → Stand low es z → NotesStand base low deeds o z → NotesStand base low deeds (with_verification o (first_answer same elect x es)) (left_by (through passes es) z)) → NotesStand base low deeds (with_verification o (first_answer same elect x (e ∷ es))) (left_by (through passes (e ∷ es)) y)
-      by_standing Passed is rest = goes_on Passed is refl (rest y (stand_tail e es y stand) notes)
-      by_standing Invalid is rest =
-          let r = with_latch e.1 y.moment InvalidProposal in
-          goes_on Invalid is refl (rest (with_round y e.0 r) (stand_rest e es y r sorted stand) (quiet_at e r y notes tracked here (calm_alike e.0 e.1 r refl refl refl refl refl)))
-      by_standing (Lacks w kind) is rest =
-          let found = pending_there same elect x e (Lacks w kind) is refl in
-          let answer = Resolve e.0 w kind found.0.0.key in
-          ends (Lacks w kind) answer is refl (told_answer same elect x e es (Lacks w kind) found.0 answer is found.1 refl)
-          (quiet_at e (record e.1 { last_request = Some w }) y notes tracked here (calm_alike e.0 e.1 _ refl refl refl refl refl))
-      by_standing (Ready d) is rest =
-          let found = pending_there same elect x e (Ready d) is refl in
-          let answer = Verify (verify_context found.0 d) found.0.1 in
-          ends (Ready d) answer is refl (told_answer same elect x e es (Ready d) found.0 answer is found.1 refl) (given_notes e d found.0 y notes tracked here over found.1)
-
-  pub try_verify_notes : InOrder x → NotesStand base low deeds o x → NotesStand base low deeds (with_verification o (verify_answer same elect x)) (after_try_verify same elect x)
-  try_verify_notes ordered notes =
-      let ahead : T (is_sorted nat_cmp (views_ahead x)) = is_sorted-where_key nat_cmp (λ v. nat_le x.current v && nat_le v (next_term_start x.terms.term_length x.current)) x.rounds ordered in
-      scan_notes (views_ahead x) x ahead
-      (record {
-        here = λ e h. round_in_order x e ordered (Contains-filtered _ x.rounds e h);
-        tracked = λ e h. ap is_some (found_in_order x.rounds e ordered (Contains-filtered _ x.rounds e h));
-        high = λ e h. (let now = ahead_now x e h in omega (arith, now, notes.reached));
-      })
-      notes
 
 -- the call is no vote to notarize
 abbrev pub is_silent : {D : Type 0} → WorkCall D → Bool

@@ -15,7 +15,8 @@ use Rattle.simplex_voter.specs.Facts.{Facts, Elect, round_at, round_of, round_nu
 use Rattle.simplex_voter.specs.Windows.{min_active}
 use Rattle.simplex_voter.specs.Entering.{at_moment}
 use Rattle.simplex_voter.specs.Certification.{after_candidates, after_set_certify_handle}
-use Rattle.simplex_voter.specs.Proposing.{Request, request_context, build_requested, proposal_of, proposed_round, with_build, propose_answer, proposed_answer, supersede_answer, after_try_propose, after_proposed, after_supersede, after_release}
+use Rattle.simplex_voter.specs.declared.voter.proposal_request.ProposalRequest.{ProposalRequest}
+use Rattle.simplex_voter.specs.Proposing.{request_context, build_requested, proposal_of, proposed_round, with_build, propose_answer, proposed_answer, supersede_answer, after_try_propose, after_proposed, after_supersede, after_release}
 use Rattle.simplex_voter.specs.Parents.{binding_matches}
 use Rattle.simplex_voter.specs.Serving.{after_broadcast_notarization, after_broadcast_nullification, after_broadcast_finalization, after_prune}
 use Rattle.simplex_voter.specs.Verifying.{without_binding, with_mark, after_verified}
@@ -71,7 +72,7 @@ module _ {K L D : Type 0} (same : D → D → Bool) (elect : Elect L) (x : Facts
       e : Event K D
       e = TryPropose
 
-      by_answer : (o : Option (Request K D)) → propose_answer same elect x ≡ o → WorkFollows same elect e x (option_map_or (λ request. with_build x (request_context request).round.view true) o x)
+      by_answer : (o : Option (ProposalRequest D K)) → propose_answer same elect x ≡ o → WorkFollows same elect e x (option_map_or (λ request. with_build x (request_context request).round.view true) o x)
       by_answer None is = idle_follows same elect x e (λ w. refl) x refl (λ w _. refl) (λ w k. rw (unentered x e w refl, untimed x.settings k.decision, is) refl)
       by_answer (Some request) is = asked_works e (request_context request).round.view true (λ w. refl) (λ w k. rw (unentered x e w refl, untimed x.settings k.decision, is) refl)
 

@@ -5,7 +5,6 @@ use Rattle.simplex_types.specs.declared.types.messages.Proposal.{Proposal}
 use Rattle.simplex_voter.specs.Facts.{Facts, Elect}
 use Rattle.std.specs.Prelude.{option_map, option_and_then}
 use Rattle.simplex_types.specs.Certificates.{ArtifactFacts, NotarizeVote, Verdict}
-use Rattle.simplex_types.specs.declared.types.messages.Subject.{Subject}
 use Rattle.simplex_types.specs.declared.types.messages.Subject.TheVariants as subject
 use Rattle.simplex_voter.specs.Votes.{notarize_answer}
 use Rattle.simplex_member.specs.Calls.{Notarize, vote_entry}
@@ -14,7 +13,6 @@ use Rattle.simplex_member.specs.Work.{WorkCall, ConstructNotarize, notarize_vote
 use Rattle.simplex_laws.specs.Deeds.{Deed, Signs, signed_in}
 use Rattle.simplex_laws.specs.Lawful.{HasSigned}
 use Rattle.simplex_laws.proofs.Signed.{signed_last}
-use Rattle.simplex_laws.proofs.InOrder.{InOrder}
 use Rattle.simplex_laws.proofs.WorkNotes.{is_silent}
 use Rattle.simplex_laws.proofs.WorkLives.{silent_deeds, silent_record}
 use Rattle.simplex_laws.proofs.Recalls.{only_one}
@@ -23,7 +21,7 @@ use Rattle.simplex_laws.proofs.CallsMake.{AreSilent, work_silent, work_by_event}
 use Rattle.simplex_laws.proofs.ShownVerdicts.{Tells, shows_more, quiet_shows}
 use Rattle.simplex_laws.proofs.Verdicts.{Shows}
 
-module _ {K L D : Type 0} (same : D → D → Bool) (elect : Elect L) (deeds : List (Deed D)) (entries : List (ArtifactFacts D)) (x : Facts K L D) (o : Openings K D) (ordered : InOrder x) (tells : Tells deeds entries x) where
+module _ {K L D : Type 0} (same : D → D → Bool) (elect : Elect L) (deeds : List (Deed D)) (entries : List (ArtifactFacts D)) (x : Facts K L D) (o : Openings K D) (tells : Tells deeds entries x) where
   -- what is shown after a call, whatever it records but a verdict
   abbrev pub Left : Facts K L D → Type 0
   Left y = (new : List (ArtifactFacts D)) → HasNoVerdict new → Shows (entries ++ new) y
@@ -31,7 +29,7 @@ module _ {K L D : Type 0} (same : D → D → Bool) (elect : Elect L) (deeds : L
   work_left : (call : WorkCall D) → work_allowed x o call ≡ true → Left (after_work same elect x o call)
   work_left call allowed =
       work_by_event same elect x o (λ es y. AreSilent es → Left y) (λ silent new none. shows_more entries new x none tells.shows)
-      (λ e takes none silent new nothing. quiet_shows same elect deeds entries x ordered tells new e takes silent.0.notarization silent.0.verdict nothing) call allowed (work_silent o call)
+      (λ e takes none silent new nothing. quiet_shows same elect deeds entries x tells new e takes silent.0.notarization silent.0.verdict nothing) call allowed (work_silent o call)
 
   -- what a vote to notarize records is cast
   notarize_told : (call : WorkCall D) (vote : Option (ArtifactFacts D)) → Left (after_work same elect x o call) → ((e : ArtifactFacts D) → vote ≡ Some e → (p : Proposal D) × (m : ℕ) × (e ≡ NotarizeVote p m)) → Tells (deeds ++ signed_in {K = K} (Notarize vote)) (entries ++ vote_entry vote) (after_work same elect x o call)

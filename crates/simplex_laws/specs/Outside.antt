@@ -1,7 +1,6 @@
 -- What a member's own record may be refused for.
 use Rattle.std.specs.Prelude.{◌≡◌, ◌⊎◌, ℕ, Bool, List, Some, Err}
 use Rattle.simplex_types.specs.Certificates.{ArtifactFacts}
-use Rattle.simplex_types.specs.declared.types.messages.Subject.{Subject}
 use Rattle.simplex_voter.specs.Facts.{Elect}
 use Rattle.simplex_member.specs.declared.member.error.RecoverError.{RecoverError}
 use Rattle.simplex_member.specs.declared.member.error.RecoverError.TheVariants as error

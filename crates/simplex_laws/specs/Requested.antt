@@ -1,6 +1,5 @@
 -- What events say of the work on a view: what is asked for, built, verified and bound, and its certification.
 use Rattle.std.specs.Prelude.{ℕ, ◌+◌, Bool, true, false, ◌&&◌, ◌||◌, ◌==◌, not, max, nat_lt, nat_le, Option, Some, None, is_some, is_none, option_map, if◌then◌else◌}
-use Rattle.std.specs.List.{list_any}
 use Rattle.std.specs.Option.{option_map_or, option_or}
 use Rattle.simplex_types.specs.Proposal.{same_proposal}
 use Rattle.simplex_types.specs.Certificates.{ProposalFacts, NotarizeVote, Verdict}
@@ -15,7 +14,9 @@ use Rattle.simplex_voter.specs.Facts.{Facts, Elect, round_of, is_tracked}
 use Rattle.simplex_voter.specs.Parents.{binding_matches}
 use Rattle.simplex_voter.specs.Proposing.{request_context, proposal_of, proposed_answer, propose_answer, supersede_answer}
 use Rattle.simplex_voter.specs.Replay.{restored_binding}
-use Rattle.simplex_voter.specs.Verifying.{Standing, Passed, Invalid, Lacks, Ready, scanned, standing}
+use Rattle.simplex_voter.specs.Verifying.{was_scanned, standing}
+use Rattle.simplex_voter.specs.declared.voter.standing.Standing.{Standing}
+use Rattle.simplex_voter.specs.declared.voter.standing.Standing.TheVariants.{Passed, Invalid, Lacks, Ready}
 use Rattle.simplex_laws.specs.Events.{Event, SetFloor, AddNotarization, AddFinalization, Certified, TryPropose, Proposed, Supersede, Release, TryVerify, Verified, VerificationFailed, CertifyCandidates, SetCertifyHandle, Replay}
 use Rattle.simplex_laws.specs.OwnWork.{contradicts, settles, hears, owns}
 
@@ -90,7 +91,7 @@ module _ {K L D : Type 0} (same : D → D → Bool) (elect : Elect L) where
   -- how the proposal of the view stands where a scan for proposals to verify comes to it
   abbrev pub stands : ℕ → Facts K L D → Event K D → Standing D
   stands v x TryVerify =
-      if list_any (λ e. v == e.0) (scanned same elect x) then standing same elect x (v, round_of x v) else Passed
+      if was_scanned same elect x v then standing same elect x (v, round_of x v) else Passed
   stands v x _ = Passed
 
   -- this member's own proposal is taken: nothing else is held

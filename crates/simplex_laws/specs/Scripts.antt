@@ -4,17 +4,14 @@ use Rattle.simplex_types.specs.Certificates.{ProposalFacts, NullificationFacts, 
 use Rattle.simplex_types.specs.Config.{FloorFacts, Genesis, Finalized}
 use Rattle.simplex_types.specs.declared.types.messages.Context.{Context}
 use Rattle.simplex_types.specs.declared.types.messages.Proposal.{Proposal}
-use Rattle.simplex_types.specs.declared.types.messages.Subject.{Subject}
-use Rattle.simplex_types.specs.declared.types.messages.Subject.TheVariants as subject
 use Rattle.simplex_types.specs.declared.types.numbers.Round.{Round}
 use Rattle.simplex_voter.specs.Facts.{Facts, Settings, Elect, new_facts}
-use Rattle.simplex_voter.specs.Verifying.{Verify}
+use Rattle.simplex_voter.specs.declared.voter.verification.Verify.TheVariants.{Ready}
 use Rattle.simplex_member.specs.Calls.{AddNotarization, AddNullification, AddFinalization, Certified, ConstructNullify, ConstructFinalize, Told, Added, Judged, Nullify, Finalize, Notarize, Standing, Answered, Restarted}
 use Rattle.simplex_member.specs.Runs.{Calls, Works, Restarts}
 use Rattle.simplex_member.specs.Start.{StartFacts}
 use Rattle.simplex_member.specs.Work.{SetProposal, TryVerify, Verified, ConstructNotarize}
 use Rattle.simplex_laws.specs.Places.{Place, Faulty, Honest}
-use Rattle.simplex_laws.specs.Deeds.{Deed, Signs}
 use Rattle.simplex_laws.specs.Stories.{Story}
 
 -- member 3 leads each view
@@ -114,14 +111,14 @@ patient me = record {
       ∷ [];
   replies =
       Answered true
-      ∷ Standing (Verify (context 1 0) one)
+      ∷ Standing (Ready (context 1 0) one)
       ∷ Answered true
       ∷ notarize_vote me one
       ∷ Added true None
       ∷ Judged (Some (certificate one))
       ∷ finalize_vote me one
       ∷ Answered true
-      ∷ Standing (Verify (context 2 1) two)
+      ∷ Standing (Ready (context 2 1) two)
       ∷ Answered true
       ∷ notarize_vote me two
       ∷ Added true None
@@ -157,7 +154,7 @@ forgetful = record {
       ∷ [];
   replies =
       Answered true
-      ∷ Standing (Verify (context 1 0) one)
+      ∷ Standing (Ready (context 1 0) one)
       ∷ Answered true
       ∷ notarize_vote 2 one
       ∷ Added true None
@@ -168,7 +165,7 @@ forgetful = record {
       ∷ Finalize None
       ∷ Added true None
       ∷ Answered true
-      ∷ Standing (Verify (context 2 1) two)
+      ∷ Standing (Ready (context 2 1) two)
       ∷ Answered true
       ∷ notarize_vote 2 two
       ∷ Added true None
@@ -245,7 +242,7 @@ skipping me = record {
       ∷ [];
   replies =
       Answered true
-      ∷ Standing (Verify (context 1 0) one)
+      ∷ Standing (Ready (context 1 0) one)
       ∷ Answered true
       ∷ notarize_vote me one
       ∷ Added true None
@@ -253,7 +250,7 @@ skipping me = record {
       ∷ nullify_vote me 2
       ∷ Added true None
       ∷ Answered true
-      ∷ Standing (Verify (context 3 1) (proposal 3 1))
+      ∷ Standing (Ready (context 3 1) (proposal 3 1))
       ∷ Answered true
       ∷ notarize_vote me (proposal 3 1)
       ∷ Added true None

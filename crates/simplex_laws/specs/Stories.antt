@@ -1,6 +1,5 @@
 -- What a member of a network does, over all its lives: what comes to it, what it answers, and its deeds.
 use Rattle.std.specs.Prelude.{◌≡◌, ◌⊎◌, ℕ, Bool, List, ◌++◌, Contains, Some, None}
-use Rattle.simplex_types.specs.declared.types.messages.Subject.{Subject}
 use Rattle.simplex_voter.specs.Facts.{Facts, Elect}
 use Rattle.simplex_member.specs.Calls.{Told}
 use Rattle.simplex_member.specs.Runs.{StepFacts, Restarts, IsRunFrom}

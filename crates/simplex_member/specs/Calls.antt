@@ -9,8 +9,8 @@ use Rattle.simplex_types.specs.declared.types.messages.Finalize as final
 use Rattle.simplex_types.specs.declared.types.messages.Proposal.{Proposal}
 use Rattle.simplex_types.specs.declared.reasons.TimeoutReason.{TimeoutReason}
 use Rattle.simplex_types.specs.declared.reasons.HandoffAbandonedReason.{HandoffAbandonedReason}
-use Rattle.simplex_voter.specs.Proposing.{Request}
-use Rattle.simplex_voter.specs.Verifying.{Verification}
+use Rattle.simplex_voter.specs.declared.voter.proposal_request.ProposalRequest.{ProposalRequest}
+use Rattle.simplex_voter.specs.declared.voter.verification.Verify.{Verify}
 use Rattle.simplex_voter.specs.Facts.{Facts, Elect, round_number}
 use Rattle.simplex_voter.specs.Refusals.{plain_refusal}
 use Rattle.simplex_voter.specs.Acceptance.{takes_proposal_certificate, takes_nullification, notarization_refusal, nullification_refusal, finalization_refusal, notarization_added, nullification_added, finalization_added, after_add_notarization, after_add_nullification, after_add_finalization}
@@ -61,8 +61,8 @@ pub data Told (K D : Type 0) : Type 0 where
   Notarize : Option (ArtifactFacts D) → Told K D
   Handed : Option (CertificateFacts D) → Told K D
   Dropped : List ℕ → Told K D
-  Requested : Option (Request K D) → Told K D
-  Standing : Verification K D → Told K D
+  Requested : Option (ProposalRequest D K) → Told K D
+  Standing : Verify D K → Told K D
   Answered : Bool → Told K D
   Abandoned : Option HandoffAbandonedReason → Told K D
   Candidates : List (Proposal D) → List CertificateFetch → Told K D

@@ -3,8 +3,10 @@ use Rattle.std.specs.Prelude.{ℕ, Bool, ◌==◌, not, List, [], ◌∷◌, ◌
 use Rattle.std.specs.List.{list_any}
 use Rattle.simplex_types.specs.declared.types.messages.Context.{Context}
 use Rattle.simplex_types.specs.declared.types.messages.Proposal.{Proposal}
-use Rattle.simplex_voter.specs.Proposing.{Request, request_context}
-use Rattle.simplex_voter.specs.Verifying.{Verification, Verify, Resolve, Wait}
+use Rattle.simplex_voter.specs.declared.voter.proposal_request.ProposalRequest.{ProposalRequest}
+use Rattle.simplex_voter.specs.declared.voter.verification.Verify.{Verify}
+use Rattle.simplex_voter.specs.declared.voter.verification.Verify.TheVariants.{Ready, Resolve, Wait}
+use Rattle.simplex_voter.specs.Proposing.{request_context}
 
 pub record Openings (K D : Type 0) : Type 0 where
   -- what this member was last asked to build on, one context a view
@@ -35,7 +37,7 @@ module _ {K D : Type 0} where
   abbrev pub with_context : Openings K D → Context D K → Openings K D
   with_context o context = record o { contexts = context ∷ (without_context o context.round.view).contexts }
 
-  abbrev pub with_request : Openings K D → Option (Request K D) → Openings K D
+  abbrev pub with_request : Openings K D → Option (ProposalRequest D K) → Openings K D
   with_request o None = o
   with_request o (Some request) = with_context o (request_context request)
 
@@ -47,8 +49,8 @@ module _ {K D : Type 0} where
   abbrev pub without_verification : Openings K D → ℕ → Openings K D
   without_verification o v = record o { verifying = all_but v o.verifying }
 
-  abbrev pub with_verification : Openings K D → Verification K D → Openings K D
-  with_verification o (Verify context p) = record o { verifying = p.round.view ∷ all_but p.round.view o.verifying }
+  abbrev pub with_verification : Openings K D → Verify D K → Openings K D
+  with_verification o (Ready context p) = record o { verifying = p.round.view ∷ all_but p.round.view o.verifying }
   with_verification o (Resolve proposal view kind target) = o
   with_verification o Wait = o
 

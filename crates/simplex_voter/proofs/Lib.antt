@@ -31,3 +31,10 @@ pub mod Offers
 pub mod Covered
 pub mod Offered
 pub mod Explicit
+pub mod Scans
+pub mod Undecided
+pub mod Found
+pub mod Building
+pub mod Near
+pub mod Scanning
+pub mod Worked

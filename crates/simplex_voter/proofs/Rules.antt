@@ -71,6 +71,14 @@ module _ {K L D : Type 0} (elect : Elect L) (x : Facts K L D) (v : ℕ) where
       rw (lt-ltb x.finalized v rule.above_finalized, rule.admitted, rule.not_gated, rule.parent, rule.undecided, rule.unequivocated, rule.notarized, rule.certified) refl
 
 module _ {K L D : Type 0} (same : D → D → Bool) (elect : Elect L) (x : Facts K L D) (v : ℕ) where
+  -- what the rule asks of the view's own round
+  pub notarize_round : may_notarize same elect x v ≡ true → can_notarize (round_of x v) ≡ true
+  unfolding may_notarize
+  notarize_round h =
+      let bound = and_parts (is_admitted x v && can_notarize (round_of x v) && has_ancestry same elect x v) _ h in
+      let built = and_parts (is_admitted x v && can_notarize (round_of x v)) _ bound.0 in
+      (and_parts (is_admitted x v) _ built.0).1
+
   pub notarize_parts : may_notarize same elect x v ≡ true → NotarizeRule same elect x v
   unfolding may_notarize
   notarize_parts h =

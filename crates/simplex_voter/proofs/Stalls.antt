@@ -23,7 +23,7 @@ module _ {A : Type 0} (test : A → Bool) (xs : List A) (i : ℕ) (rest : slice_
   first_end past = rest ∙ ap (λ ys. slice_get (filter test ys) 0) (drop_all i xs past)
 
 -- a filter of what another left
-filter-filter : {A : Type 0} (p q r : A → Bool) → ((x : A) → (p x && q x) ≡ r x) → (xs : List A) → filter q (filter p xs) ≡ filter r xs
+pub filter-filter : {A : Type 0} (p q r : A → Bool) → ((x : A) → (p x && q x) ≡ r x) → (xs : List A) → filter q (filter p xs) ≡ filter r xs
 filter-filter p q r same [] = refl
 filter-filter p q r same (x ∷ xs) = elim (cases_bool (p x)) [
   | inl passes ↦

@@ -12,7 +12,7 @@ use Rattle.simplex_types.proofs.Entries.{Rises, find_above}
 use Rattle.simplex_types.proofs.Maps.{is_eq-nat_cmp, get-insert, get-kept, map_rises, same_maps}
 
 module _ {V : Type 0} where
-  first_of : (es : List (ℕ × V)) → Rises es → (e : ℕ × V) → Some e ≡ slice_get es 0 → (find nat_cmp e.0 es ≡ Some e.1) × ((q : ℕ) → q < e.0 → find nat_cmp q es ≡ None)
+  pub first_of : (es : List (ℕ × V)) → Rises es → (e : ℕ × V) → Some e ≡ slice_get es 0 → (find nat_cmp e.0 es ≡ Some e.1) × ((q : ℕ) → q < e.0 → find nat_cmp q es ≡ None)
   first_of [] rises e is = cc
   first_of (f ∷ es) rises e is =
       let same : e ≡ f = cc in
@@ -21,7 +21,7 @@ module _ {V : Type 0} where
         λ q lower. rw (is_eq-nat_cmp q f.0, ne_eqb q f.0 (omega arith)) (find_above q f.0 es (omega arith) rises.0),
       )
 
-  none_of : (es : List (ℕ × V)) → None ≡ slice_get es 0 → (q : ℕ) → find nat_cmp q es ≡ None
+  pub none_of : (es : List (ℕ × V)) → None ≡ slice_get es 0 → (q : ℕ) → find nat_cmp q es ≡ None
   none_of [] is q = refl
   none_of (f ∷ es) is q = cc
 
@@ -83,7 +83,7 @@ module _ {V : Type 0} (h : ℕ → V → V) where
   below-changed x [] = refl
   below-changed x (e ∷ es) = ap (λ b. is_lt (nat_cmp x e.0) && b) (below-changed x es)
 
-  sorted-changed : (es : List (ℕ × V)) → is_sorted nat_cmp (map_list changed es) ≡ is_sorted nat_cmp es
+  pub sorted-changed : (es : List (ℕ × V)) → is_sorted nat_cmp (map_list changed es) ≡ is_sorted nat_cmp es
   sorted-changed [] = refl
   sorted-changed (e ∷ es) = rw (below-changed e.0 es, sorted-changed es) refl
 

@@ -11,22 +11,20 @@ use Rattle.simplex_types.specs.declared.reasons.HandoffAbandonedReason.TheVarian
 use Rattle.simplex_round.specs.declared.round.Leader.{Leader}
 use Rattle.simplex_round.specs.Slot.{SlotFacts, after_own, holds_or_empty}
 use Rattle.simplex_round.specs.Round.{RoundFacts, is_nullify, should_propose}
+use Rattle.simplex_voter.specs.declared.voter.proposal_request.ProposalRequest.{ProposalRequest}
+use Rattle.simplex_voter.specs.declared.voter.proposal_request.ProposalRequest.TheVariants.{Prepare, Propose}
 use Rattle.simplex_voter.specs.Facts.{Facts, Elect, round_at, round_of, round_number, with_round, with_tracked}
 use Rattle.simplex_voter.specs.Windows.{is_start, is_admitted}
 use Rattle.simplex_voter.specs.Payloads.{explicit_payload}
 use Rattle.simplex_voter.specs.Parents.{is_payload, preferred_parent, may_stand}
 use Rattle.simplex_voter.specs.Entering.{at_moment}
 
--- what a member is asked to build: a handoff on a parent that isn't certified yet, or a proposal
-pub data Request (K D : Type 0) : Type 0 where
-  Prepare : Context D K → Request K D
-  Propose : Context D K → Request K D
-
-abbrev pub request_context : {K D : Type 0} → Request K D → Context D K
+abbrev pub request_context : {K D : Type 0} → ProposalRequest D K → Context D K
 request_context (Prepare context) = context
 request_context (Propose context) = context
 
-abbrev pub is_handoff : {K D : Type 0} → Request K D → Bool
+-- the parent isn't certified yet, at a term's start
+abbrev pub is_handoff : {K D : Type 0} → ProposalRequest D K → Bool
 is_handoff (Prepare _) = true
 is_handoff (Propose _) = false
 
@@ -47,9 +45,13 @@ proposed_round same r context payload now =
     }
 
 module _ {K L D : Type 0} where
-  -- the tracked views from the current one to the next term's start
+  -- the tracked views from one view to another
+  abbrev pub views_within : Facts K L D → ℕ → ℕ → List (ℕ × RoundFacts K D)
+  views_within x low high = filter (λ e. nat_le low e.0 && nat_le e.0 high) x.rounds
+
+  -- those from the current one to the next term's start
   abbrev pub views_ahead : Facts K L D → List (ℕ × RoundFacts K D)
-  views_ahead x = filter (λ e. nat_le x.current e.0 && nat_le e.0 (next_term_start x.terms.term_length x.current)) x.rounds
+  views_ahead x = views_within x x.current (next_term_start x.terms.term_length x.current)
 
   -- a nullify vote of this member stands at the view
   abbrev pub voted_nullify : Facts K L D → ℕ → Bool
@@ -71,7 +73,7 @@ module _ {K L D : Type 0} (same : D → D → Bool) where
   parent_certified x parent = is_payload same (explicit_payload x parent.0) parent.1
 
   -- a term's start on a parent that isn't certified is only prepared, and not while this member gives up the current view
-  abbrev pub request_on : Facts K L D → ℕ → RoundFacts K D → ℕ × D → Option (Request K D)
+  abbrev pub request_on : Facts K L D → ℕ → RoundFacts K D → ℕ × D → Option (ProposalRequest D K)
   request_on x v r parent =
       if is_start x v && not (parent_certified x parent)
       then (if voted_nullify x x.current then None else option_map (λ l. Prepare (context_on x v parent l)) r.leader)
@@ -79,14 +81,14 @@ module _ {K L D : Type 0} (same : D → D → Bool) where
 
 module _ {K L D : Type 0} (same : D → D → Bool) (elect : Elect L) where
   -- what this member may build in a view, if anything
-  abbrev pub request_in : Facts K L D → ℕ × RoundFacts K D → Option (Request K D)
+  abbrev pub request_in : Facts K L D → ℕ × RoundFacts K D → Option (ProposalRequest D K)
   request_in x e =
       if is_admitted x e.0 && should_propose e.1
       then option_and_then (request_on same x e.0 e.1) (preferred_parent same elect x e.0)
       else None
 
   -- `try_propose`: the request of the lowest view ahead that has one
-  unfoldable pub propose_answer : Facts K L D → Option (Request K D)
+  unfoldable pub propose_answer : Facts K L D → Option (ProposalRequest D K)
   propose_answer x = slice_get (filter_map (request_in x) (views_ahead x)) 0
 
   abbrev pub after_try_propose : Facts K L D → Facts K L D

@@ -1,6 +1,6 @@
 -- Which proposals of other leaders this member verifies, and what it lacks to do so.
-use Rattle.std.specs.Prelude.{ℕ, Bool, true, false, ◌&&◌, ◌==◌, not, List, [], ◌∷◌, Option, Some, None, is_none, option_map, option_and_then, if◌then◌else◌, slice_get, fold}
-use Rattle.std.specs.List.{filter_map}
+use Rattle.std.specs.Prelude.{ℕ, Bool, true, false, ◌&&◌, ◌==◌, not, List, [], ◌∷◌, Option, Some, None, is_none, option_map, option_and_then, if◌then◌else◌, slice_get, map}
+use Rattle.std.specs.List.{filter_map, list_any}
 use Rattle.std.specs.Option.{option_map_or}
 use Rattle.simplex_types.specs.Proposal.{same_proposal}
 use Rattle.simplex_types.specs.declared.types.messages.Context.{Context}
@@ -12,6 +12,10 @@ use Rattle.simplex_types.specs.declared.reasons.TimeoutReason.TheVariants.{Inval
 use Rattle.simplex_round.specs.declared.round.Leader.{Leader}
 use Rattle.simplex_round.specs.Slot.{after_vote, after_mark, is_unverified}
 use Rattle.simplex_round.specs.Round.{RoundFacts, is_nullify, pending_proposal, with_latch, is_last_request}
+use Rattle.simplex_voter.specs.declared.voter.standing.Standing.{Standing}
+use Rattle.simplex_voter.specs.declared.voter.standing.Standing.TheVariants.{Passed, Invalid, Lacks, Ready}
+use Rattle.simplex_voter.specs.declared.voter.verification.Verify.{Verify}
+use Rattle.simplex_voter.specs.declared.voter.verification.Verify.TheVariants as verify
 use Rattle.simplex_voter.specs.Facts.{Facts, Elect, round_at, round_of, with_round, with_tracked}
 use Rattle.simplex_voter.specs.Gaps.{first_gap}
 use Rattle.simplex_voter.specs.Windows.{in_window, is_admitted}
@@ -22,20 +26,6 @@ use Rattle.simplex_voter.specs.Entering.{at_moment}
 use Rattle.simplex_voter.specs.Refusals.{takes_round}
 use Rattle.simplex_voter.specs.Timeouts.{triggered}
 
--- how the proposal of a view stands: nothing to do; a parent that is invalid for good; a certificate of a view to ask for; or
--- ready, with its parent's payload
-pub data Standing (D : Type 0) : Type 0 where
-  Passed : Standing D
-  Invalid : Standing D
-  Lacks : ℕ → Kind → Standing D
-  Ready : D → Standing D
-
--- what is answered: a proposal to verify, a certificate to ask a leader for, or nothing yet
-pub data Verification (K D : Type 0) : Type 0 where
-  Verify : Context D K → Proposal D → Verification K D
-  Resolve : (proposal view : ℕ) → Kind → (target : K) → Verification K D
-  Wait : Verification K D
-
 -- a certificate is asked for, unless its view was the last one asked for
 abbrev pub unless_asked : {K D : Type 0} → RoundFacts K D → ℕ → Kind → Standing D
 unless_asked r w kind = if is_last_request r w then Passed else Lacks w kind
@@ -44,6 +34,21 @@ unless_asked r w kind = if is_last_request r w then Passed else Lacks w kind
 abbrev pub verifying_round : {K D : Type 0} → RoundFacts K D → D → RoundFacts K D
 verifying_round r d =
     record r { slot = record (r.slot) { verify_requested = true }; binding = option_map (λ p. (p, d)) r.slot.held }
+
+-- peers were asked for a certificate of this view last
+abbrev pub with_request : {K D : Type 0} → RoundFacts K D → ℕ → RoundFacts K D
+with_request r w = record r { last_request = Some w }
+
+-- nothing is bound any more
+abbrev pub unbound : {K D : Type 0} → RoundFacts K D → RoundFacts K D
+unbound r = record r { binding = None }
+
+-- what the scan leaves of a round of this standing
+abbrev pub round_left : {K D : Type 0} → RoundFacts K D → ℕ → Standing D → RoundFacts K D
+round_left r now Passed = r
+round_left r now Invalid = with_latch r now InvalidProposal
+round_left r now (Lacks w kind) = with_request r w
+round_left r now (Ready d) = verifying_round r d
 
 abbrev pub is_answered : {D : Type 0} → Standing D → Bool
 is_answered Passed = false
@@ -60,11 +65,11 @@ abbrev pub verify_context : {K D : Type 0} → Leader K × Proposal D → D → 
 verify_context found d = record { round = found.1.round; leader = found.0.key; parent = (found.1.parent, d) }
 
 -- the answer at a view of this standing, with its leader and proposal
-abbrev pub answer_at : {K D : Type 0} → ℕ → Standing D → Leader K × Proposal D → Option (Verification K D)
+abbrev pub answer_at : {K D : Type 0} → ℕ → Standing D → Leader K × Proposal D → Option (Verify D K)
 answer_at v Passed found = None
 answer_at v Invalid found = None
-answer_at v (Lacks w kind) found = Some (Resolve v w kind found.0.key)
-answer_at v (Ready d) found = Some (Verify (verify_context found d) found.1)
+answer_at v (Lacks w kind) found = Some (verify.Resolve v w kind found.0.key)
+answer_at v (Ready d) found = Some (verify.Ready (verify_context found d) found.1)
 
 -- the first proposal of a view, where nullify was not decided
 abbrev pub is_new_proposal : {K D : Type 0} → RoundFacts K D → Bool
@@ -75,7 +80,7 @@ module _ {K L D : Type 0} where
   abbrev pub left_at : Facts K L D → ℕ × RoundFacts K D → Standing D → Facts K L D
   left_at x e Passed = x
   left_at x e Invalid = with_round x e.0 (with_latch e.1 x.moment InvalidProposal)
-  left_at x e (Lacks w kind) = with_round x e.0 (record e.1 { last_request = Some w })
+  left_at x e (Lacks w kind) = with_round x e.0 (with_request e.1 w)
   left_at x e (Ready d) = with_round x e.0 (verifying_round e.1 d)
 
   -- what a proposal of this view handed in asks: this epoch, and a view that is kept
@@ -83,7 +88,7 @@ module _ {K L D : Type 0} where
   takes_proposal x v p = takes_round x p.round && p.round.view == v
 
   abbrev pub without_binding : Facts K L D → ℕ → Facts K L D
-  without_binding x v = with_tracked x v (record (round_of x v) { binding = None })
+  without_binding x v = with_tracked x v (unbound (round_of x v))
 
   -- `set_proposal`: whether to verify it
   abbrev pub set_proposal_answer : Facts K L D → ℕ → Bool
@@ -121,20 +126,27 @@ module _ {K L D : Type 0} (same : D → D → Bool) (elect : Elect L) where
       then option_map_or (λ found. parent_standing x e.0 e.1 found.1.parent) (pending_proposal e.1) Passed
       else Passed
 
-  abbrev pub answer_in : Facts K L D → ℕ × RoundFacts K D → Option (Verification K D)
+  abbrev pub answer_in : Facts K L D → ℕ × RoundFacts K D → Option (Verify D K)
   answer_in x e = option_and_then (answer_at e.0 (standing x e)) (pending_proposal e.1)
 
   -- `try_verify`: the answer of the lowest view ahead that has one
-  abbrev pub verify_answer : Facts K L D → Verification K D
-  verify_answer x = option_map_or (λ found. found) (slice_get (filter_map (answer_in x) (views_ahead x)) 0) Wait
+  abbrev pub verify_answer : Facts K L D → Verify D K
+  verify_answer x = option_map_or (λ found. found) (slice_get (filter_map (answer_in x) (views_ahead x)) 0) verify.Wait
 
   -- the views ahead up to that one
   abbrev pub scanned : Facts K L D → List (ℕ × RoundFacts K D)
   scanned x = through (λ e. is_answered (standing x e)) (views_ahead x)
 
+  abbrev pub was_scanned : Facts K L D → ℕ → Bool
+  was_scanned x v = list_any (λ e. v == e.0) (scanned x)
+
+  -- the round of a view that was scanned is left by how it stood, and any other stays
+  abbrev pub scan_left : Facts K L D → ℕ → RoundFacts K D → RoundFacts K D
+  scan_left x v r = if was_scanned x v then round_left r x.moment (standing x (v, r)) else r
+
   -- those with an invalid parent time out, and the one that is answered is verified or asks
   abbrev pub after_try_verify : Facts K L D → Facts K L D
-  after_try_verify x = fold (λ y e. left_at y e (standing x e)) x (scanned x)
+  after_try_verify x = record x { rounds = map (λ e. (e.0, scan_left x e.0 e.1)) x.rounds }
 
   -- `verified`: whether the held proposal is marked; an answer for what is no longer bound takes the binding away
   abbrev pub verified_answer : Facts K L D → ℕ → Bool

@@ -7,6 +7,7 @@ use Rattle.simplex_round.specs.declared.round.Decision.TheVariants.{Finalize}
 use Rattle.simplex_round.specs.Round.{after_nullify, is_nullify}
 use Rattle.simplex_types.specs.declared.types.messages.Nullify.{Nullify}
 use Rattle.simplex_types.specs.declared.types.messages.Finalize as message
+use Rattle.simplex_types.specs.declared.types.messages.Notarize.{Notarize}
 use Rattle.simplex_types.specs.declared.types.messages.Subject.{Subject}
 use Rattle.simplex_types.specs.declared.types.messages.Subject.TheVariants as subject
 use Rattle.simplex_types.specs.Signing.{IsSignedAs}
@@ -21,6 +22,10 @@ pub record IsSignedNullify {S L D K G C : Type 0} (is_signature : K → Subject 
   pub signed : IsSignedAs is_signature x.me x.members (subject.Nullify vote.round) vote.signature
 
 -- the vote is this member's, with its signature on just its proposal
+pub record IsSignedNotarize {S L D K G C : Type 0} (is_signature : K → Subject D → G → Type 0) (x : Facts K L D) (vote : Notarize S D K G C) : Type 0 where
+  pub signer : x.me ≡ Some vote.signer
+  pub signed : IsSignedAs is_signature x.me x.members (subject.Notarize vote.proposal) vote.signature
+
 pub record IsSignedFinalize {S L D K G C : Type 0} (is_signature : K → Subject D → G → Type 0) (x : Facts K L D) (vote : message.Finalize S D K G C) : Type 0 where
   pub signer : x.me ≡ Some vote.signer
   pub signed : IsSignedAs is_signature x.me x.members (subject.Finalize vote.proposal) vote.signature
@@ -39,6 +44,10 @@ module _ {K L D : Type 0} where
       if may_nullify x v then nullify_cast (with_round x v (after_nullify (round_of x v))) v else x
 
 module _ {K L D : Type 0} where
+  -- the vote to notarize the view is decided
+  abbrev pub notarize_cast : Facts K L D → ℕ → Facts K L D
+  notarize_cast x v = with_round x v (record (round_of x v) { notarize_decided = true })
+
   -- the vote to finalize the view is decided
   abbrev pub finalize_cast : Facts K L D → ℕ → Facts K L D
   finalize_cast x v = with_round x v (record (round_of x v) { decision = Finalize })
@@ -62,6 +71,4 @@ module _ {K L D : Type 0} (same : D → D → Bool) (elect : Elect L) where
 
   abbrev pub after_construct_notarize : Facts K L D → ℕ → Facts K L D
   after_construct_notarize x v =
-      if may_notarize same elect x v
-      then prepared elect (with_round x v (record (round_of x v) { notarize_decided = true })) v
-      else x
+      if may_notarize same elect x v then prepared elect (notarize_cast x v) v else x

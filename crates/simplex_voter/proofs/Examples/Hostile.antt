@@ -3,8 +3,8 @@ use Rattle.std.specs.Prelude.{◌≡◌, true, false, [], ◌∷◌, Some, None}
 use Rattle.std.proofs.Common.{refl}
 use Rattle.simplex_types.specs.declared.types.fault.Fault.TheVariants.{ViewTooLarge}
 use Rattle.simplex_types.specs.declared.reasons.TimeoutReason.TheVariants.{Retry}
-use Rattle.simplex_voter.specs.Proposing.Request.{Propose}
-use Rattle.simplex_voter.specs.Verifying.Verification.{Verify, Wait}
+use Rattle.simplex_voter.specs.declared.voter.proposal_request.ProposalRequest.TheVariants.{Propose}
+use Rattle.simplex_voter.specs.declared.voter.verification.Verify.TheVariants.{Ready, Wait}
 use Rattle.simplex_voter.proofs.Examples.Scripts.{replies_of, voter, proposal, context, notarized, verdict, voted_finalize}
 use Rattle.simplex_voter.proofs.Examples.Scripts.Call.{AddNotarization, AddNullification, AddFinalization, SetProposal, TryPropose, Proposed, Release, TryVerify, Verified, Candidates, Certified, Notarize, Nullify, Finalize, BroadcastFinalization, Trigger, Prune, View, Restart}
 use Rattle.simplex_voter.proofs.Examples.Scripts.Reply.{Done, Flag, Added, Asked, Work, Offered, Judged, Vote, NullifyVote, Certificate, Views, Now, Refused, NotAllowed}
@@ -20,7 +20,7 @@ proposed_twice :
     Restart 30 (notarized 1 0 8 ∷ verdict 1 true ∷ voted_finalize 1 1 0 8 ∷ []) ∷ Finalize 1 ∷ []
     )
     ≡
-    Flag true ∷ Flag false ∷ Work (Verify (context 1 0 0 0) (proposal 1 0 7)) ∷ Flag false ∷ Vote None ∷
+    Flag true ∷ Flag false ∷ Work (Ready (context 1 0 0 0) (proposal 1 0 7)) ∷ Flag false ∷ Vote None ∷
     Added true (Some 0) ∷ Offered (proposal 1 0 8 ∷ []) [] ∷ Judged (Some (proposal 1 0 8)) ∷ Vote None ∷
     Asked (Some (Propose (context 2 1 1 8))) ∷ Done ∷ Vote (Some (proposal 1 0 8)) ∷ Done ∷ Vote None ∷ []
 unfolding replies_of
@@ -34,7 +34,7 @@ restarted_verification :
     SetProposal 1 0 7 ∷ TryVerify ∷ Restart 5 [] ∷ TryVerify ∷ []
     )
     ≡
-    Flag true ∷ Work (Verify (context 1 0 0 0) (proposal 1 0 7)) ∷ Done ∷ Work Wait ∷ []
+    Flag true ∷ Work (Ready (context 1 0 0 0) (proposal 1 0 7)) ∷ Done ∷ Work Wait ∷ []
 unfolding replies_of
 restarted_verification = refl
 

@@ -5,8 +5,8 @@ use Rattle.simplex_types.specs.Certificates.{Notarized, Nullified, Finalized}
 use Rattle.simplex_types.specs.declared.reasons.Kind.TheVariants.{Nullification, Notarization}
 use Rattle.simplex_types.specs.declared.reasons.HandoffAbandonedReason.TheVariants.{AncestryInvalidated}
 use Rattle.simplex_types.specs.declared.reasons.TimeoutReason.TheVariants.{Inactivity, LeaderNullify, LeaderTimeout, CertificationTimeout, StallTimeout, MissingProposal, InvalidProposal}
-use Rattle.simplex_voter.specs.Proposing.Request.{Prepare, Propose}
-use Rattle.simplex_voter.specs.Verifying.Verification.{Verify, Resolve, Wait}
+use Rattle.simplex_voter.specs.declared.voter.proposal_request.ProposalRequest.TheVariants.{Prepare, Propose}
+use Rattle.simplex_voter.specs.declared.voter.verification.Verify.TheVariants.{Ready, Resolve, Wait}
 use Rattle.simplex_voter.proofs.Examples.Scripts.{replies_of, member, usual, proposal, context, certificate, nullification, fetch, finalized, voted_notarize, voted_nullify}
 use Rattle.simplex_voter.proofs.Examples.Scripts.Call.{AddNotarization, AddNullification, AddFinalization, SetProposal, TryPropose, Proposed, Supersede, Abandonment, Release, TryVerify, Verified, Rejected, Candidates, SetCertifyHandle, Certified, Notarize, Nullify, Finalize, BroadcastNotarization, BroadcastNullification, BroadcastFinalization, Best, Trigger, NextTimeout, Prune, Replayed, View, Elapsed, Leader, Forwardable, ParentCertified, VotedNullify}
 use Rattle.simplex_voter.proofs.Examples.Scripts.Reply.{Done, Flag, Added, Asked, Abandoned, Work, Offered, Judged, Vote, NullifyVote, Certificate, Timeout, Views, Now, Since, Member, NotAllowed}
@@ -29,7 +29,7 @@ first_mix :
     Flag true ∷ Asked None ∷ Asked None ∷ Added true None ∷ Flag true ∷ Judged (Some (proposal 1 0 3)) ∷ Done ∷
     Flag true ∷ Member None ∷ Flag false ∷ Vote (Some (proposal 1 0 3)) ∷ Added true None ∷
     Certificate (Some (Notarized (certificate 1 0 3))) ∷ Asked (Some (Prepare (context 3 1 2 2))) ∷
-    Work (Verify (context 2 0 1 3) (proposal 2 1 2)) ∷ Asked None ∷ Flag true ∷ Offered (proposal 2 1 2 ∷ []) [] ∷
+    Work (Ready (context 2 0 1 3) (proposal 2 1 2)) ∷ Asked None ∷ Flag true ∷ Offered (proposal 2 1 2 ∷ []) [] ∷
     Flag false ∷ Certificate None ∷ Work Wait ∷ Flag false ∷ Vote (Some (proposal 1 0 3)) ∷ Flag true ∷
     Timeout (Some (4202, CertificationTimeout)) ∷ Flag true ∷ Flag false ∷ Added true None ∷ Work Wait ∷ Flag false ∷
     Vote None ∷ Judged (Some (proposal 2 1 2)) ∷ Vote None ∷ Vote None ∷ Flag true ∷ Added true None ∷
@@ -81,7 +81,7 @@ third_mix :
     )
     ≡
     Added true None ∷ Offered (proposal 1 0 1 ∷ []) [] ∷ Flag true ∷
-    Certificate (Some (Notarized (certificate 1 0 1))) ∷ Work (Verify (context 1 0 0 0) (proposal 1 0 1)) ∷
+    Certificate (Some (Notarized (certificate 1 0 1))) ∷ Work (Ready (context 1 0 0 0) (proposal 1 0 1)) ∷
     Added true None ∷ NullifyVote None ∷ Flag false ∷ Vote None ∷ Flag false ∷ Added true (Some (0)) ∷
     Judged (Some (proposal 1 0 1)) ∷ Judged (Some (proposal 3 2 3)) ∷ Asked (Some (Propose (context 4 3 3 3))) ∷
     Flag false ∷ Offered [] [] ∷ Offered [] [] ∷ Now 4 1 0 ∷ NotAllowed ∷ Flag false ∷ Work Wait ∷
@@ -110,7 +110,7 @@ fourth_mix :
     ≡
     Member None ∷ Offered [] [] ∷ Offered [] [] ∷ Vote None ∷ Views [] ∷ Judged None ∷ Done ∷ Flag false ∷
     Added true None ∷ Done ∷ Since None None ∷ Since None None ∷ Flag false ∷ Judged (Some (proposal 1 0 1)) ∷
-    Added true None ∷ Work (Verify (context 2 0 1 1) (proposal 2 1 3)) ∷ Flag true ∷
+    Added true None ∷ Work (Ready (context 2 0 1 1) (proposal 2 1 3)) ∷ Flag true ∷
     Asked (Some (Prepare (context 3 1 2 3))) ∷ Offered (proposal 2 1 3 ∷ []) [] ∷ Added false None ∷ Done ∷
     Work Wait ∷ Offered [] [] ∷ Abandoned None ∷ Flag false ∷ Abandoned None ∷ Abandoned None ∷ Done ∷
     Added true None ∷ Abandoned None ∷ Timeout (Some (1500, StallTimeout)) ∷ Abandoned (Some (AncestryInvalidated)) ∷
@@ -134,7 +134,7 @@ fifth_mix :
     )
     ≡
     Asked None ∷ Added true None ∷ Asked None ∷ Done ∷ Offered (proposal 1 0 2 ∷ []) [] ∷ Flag true ∷
-    Work (Verify (context 1 0 0 0) (proposal 1 0 2)) ∷ Offered [] [] ∷ Timeout (Some (2000, CertificationTimeout)) ∷
+    Work (Ready (context 1 0 0 0) (proposal 1 0 2)) ∷ Offered [] [] ∷ Timeout (Some (2000, CertificationTimeout)) ∷
     Judged (Some (proposal 1 0 2)) ∷ Vote None ∷ Offered [] [] ∷ Views [] ∷ Flag true ∷ Work Wait ∷ Flag true ∷
     Flag true ∷ Flag true ∷ Vote (Some (proposal 1 0 2)) ∷ Flag true ∷ NullifyVote (Some false) ∷
     Vote (Some (proposal 1 0 2)) ∷ Flag true ∷ Added true None ∷ Flag true ∷ Flag false ∷ Work Wait ∷
@@ -186,7 +186,7 @@ seventh_mix :
     ≡
     Vote None ∷ NullifyVote (Some false) ∷ Flag false ∷ Flag false ∷ NullifyVote (Some true) ∷ Flag true ∷
     Asked None ∷ Certificate None ∷ Added true None ∷ Added true None ∷ Member (Some (1)) ∷ Done ∷ Added false None ∷
-    Done ∷ Work (Verify (context 2 0 1 3) (proposal 2 1 3)) ∷ Asked (Some (Prepare (context 3 1 2 3))) ∷
+    Done ∷ Work (Ready (context 2 0 1 3) (proposal 2 1 3)) ∷ Asked (Some (Prepare (context 3 1 2 3))) ∷
     Judged (Some (proposal 2 1 3)) ∷ Flag true ∷ Since None None ∷
     Certificate (Some (Finalized (certificate 1 1 3))) ∷ Flag false ∷ Flag false ∷
     Abandoned (Some (AncestryInvalidated)) ∷ Flag true ∷ Timeout (Some (2932, LeaderNullify)) ∷
@@ -212,7 +212,7 @@ eighth_mix :
     )
     ≡
     Vote None ∷ Flag true ∷ Views [] ∷ Added true None ∷ Done ∷ Flag true ∷
-    Work (Verify (context 1 0 0 0) (proposal 1 0 2)) ∷ Done ∷ Flag false ∷ Done ∷ Done ∷
+    Work (Ready (context 1 0 0 0) (proposal 1 0 2)) ∷ Done ∷ Flag false ∷ Done ∷ Done ∷
     Since (Some 2714) (Some 2714) ∷ Flag true ∷ Added false None ∷ Timeout (Some (609, InvalidProposal)) ∷ Flag true ∷
     Done ∷ Work (Resolve 3 2 Notarization 1) ∷ Offered [] (fetch 2 1 ∷ []) ∷ Asked None ∷ Work Wait ∷ Flag true ∷
     Judged (Some (proposal 2 1 3)) ∷ Done ∷ Asked None ∷ NotAllowed ∷ Work Wait ∷ Member None ∷
@@ -239,7 +239,7 @@ ninth_mix :
     Done ∷ Work Wait ∷ Vote None ∷ Now 1 0 0 ∷ Done ∷ Now 1 0 0 ∷ Timeout (Some (1000, LeaderTimeout)) ∷
     Certificate None ∷ Work Wait ∷ Work Wait ∷ Member (Some (0)) ∷ Asked (Some (Propose (context 1 0 0 0))) ∷
     Abandoned None ∷ Added true None ∷ Flag false ∷ Member (Some (0)) ∷ Flag true ∷ Work Wait ∷
-    Judged (Some (proposal 3 2 2)) ∷ Added true None ∷ Flag true ∷ Work (Verify (context 4 1 3 2) (proposal 4 3 3)) ∷
+    Judged (Some (proposal 3 2 2)) ∷ Added true None ∷ Flag true ∷ Work (Ready (context 4 1 3 2) (proposal 4 3 3)) ∷
     Flag false ∷ Done ∷ Now 4 0 0 ∷ Judged (Some (proposal 5 4 2)) ∷ Done ∷ Certificate None ∷
     Timeout (Some (6230, StallTimeout)) ∷ Flag true ∷ Certificate (Some (Notarized (certificate 3 2 2))) ∷
     Asked None ∷ Flag false ∷ Vote (Some (proposal 1 0 1)) ∷ Judged (Some (proposal 5 4 2)) ∷ Views [] ∷ Vote None ∷
@@ -265,7 +265,7 @@ tenth_mix :
     Certificate (Some (Notarized (certificate 2 1 1))) ∷ Work Wait ∷ NotAllowed ∷ Offered [] [] ∷
     Vote (Some (proposal 2 1 1)) ∷ Vote None ∷ Flag true ∷ Timeout (Some (2907, CertificationTimeout)) ∷ Flag true ∷
     Views [] ∷ Certificate None ∷ Vote None ∷ Done ∷ Flag true ∷ Added true None ∷ Flag false ∷
-    Timeout (Some (2907, CertificationTimeout)) ∷ Work (Verify (context 3 2 2 1) (proposal 3 2 1)) ∷
+    Timeout (Some (2907, CertificationTimeout)) ∷ Work (Ready (context 3 2 2 1) (proposal 3 2 1)) ∷
     Timeout (Some (2907, CertificationTimeout)) ∷ Certificate None ∷ Vote None ∷ Added true None ∷ Flag true ∷ Done ∷
     Judged (Some (proposal 3 2 1)) ∷ Since (Some 7338) (Some 7338) ∷ Since None None ∷ Asked None ∷
     Work (Resolve 4 3 Notarization 3) ∷ Vote (Some (proposal 3 2 1)) ∷ NotAllowed ∷ Flag false ∷ Asked None ∷
@@ -313,7 +313,7 @@ twelfth_mix :
     )
     ≡
     Timeout (Some (1000, LeaderTimeout)) ∷ Vote None ∷ Asked None ∷ Added true None ∷ Since (Some 2510) (Some 2510) ∷
-    Certificate None ∷ Added true None ∷ Work (Verify (context 1 0 0 0) (proposal 1 0 2)) ∷
+    Certificate None ∷ Added true None ∷ Work (Ready (context 1 0 0 0) (proposal 1 0 2)) ∷
     Asked (Some (Prepare (context 2 1 1 2))) ∷ Done ∷ Done ∷ Offered (proposal 1 0 2 ∷ proposal 3 2 2 ∷ []) [] ∷
     Views [] ∷ Flag true ∷ Flag false ∷ Flag false ∷ Asked None ∷ Added true None ∷ Flag false ∷ Flag true ∷
     Timeout (Some (2000, CertificationTimeout)) ∷ Work Wait ∷ Flag true ∷ Done ∷ Added false None ∷

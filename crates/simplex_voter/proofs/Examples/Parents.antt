@@ -3,8 +3,8 @@ use Rattle.std.specs.Prelude.{◌≡◌, true, false, [], ◌∷◌, Some, None}
 use Rattle.std.proofs.Common.{refl}
 use Rattle.simplex_types.specs.declared.reasons.Kind.TheVariants.{Nullification, Notarization}
 use Rattle.simplex_types.specs.declared.reasons.TimeoutReason.TheVariants.{CertificationTimeout, InvalidProposal}
-use Rattle.simplex_voter.specs.Proposing.Request.{Propose}
-use Rattle.simplex_voter.specs.Verifying.Verification.{Verify, Resolve, Wait}
+use Rattle.simplex_voter.specs.declared.voter.proposal_request.ProposalRequest.TheVariants.{Propose}
+use Rattle.simplex_voter.specs.declared.voter.verification.Verify.TheVariants.{Ready, Resolve, Wait}
 use Rattle.simplex_voter.proofs.Examples.Scripts.{replies_of, voter, proposal, context, nullified, verdict}
 use Rattle.simplex_voter.proofs.Examples.Scripts.Call.{AddNotarization, AddNullification, AddFinalization, SetProposal, TryPropose, Proposed, Supersede, Abandonment, Release, TryVerify, Verified, Rejected, Certified, Notarize, Nullify, NextTimeout, Prune, Replayed, Elapsed}
 use Rattle.simplex_voter.proofs.Examples.Scripts.Reply.{Done, Flag, Added, Asked, Abandoned, Work, Judged, Vote, NullifyVote, Timeout, Views, Since}
@@ -18,7 +18,7 @@ verified_and_voted :
     TryPropose ∷ TryPropose ∷ Proposed (context 2 1 0 0) 8 12 ∷ Notarize 2 ∷ []
     )
     ≡
-    Flag true ∷ Work (Verify (context 1 0 0 0) (proposal 1 0 7)) ∷ Work Wait ∷ Flag true ∷
+    Flag true ∷ Work (Ready (context 1 0 0 0) (proposal 1 0 7)) ∷ Work Wait ∷ Flag true ∷
     Vote (Some (proposal 1 0 7)) ∷ Vote None ∷ Flag true ∷ Asked (Some (Propose (context 2 1 0 0))) ∷ Asked None ∷
     Flag true ∷ Vote (Some (proposal 2 0 8)) ∷ []
 unfolding replies_of
@@ -33,7 +33,7 @@ gap_asked_once :
     )
     ≡
     Flag true ∷ Flag true ∷ Work (Resolve 3 1 Nullification 2) ∷ Work Wait ∷ Flag true ∷
-    Work (Verify (context 3 2 0 0) (proposal 3 0 7)) ∷ []
+    Work (Ready (context 3 2 0 0) (proposal 3 0 7)) ∷ []
 unfolding replies_of
 gap_asked_once = refl
 
@@ -47,7 +47,7 @@ uncertified_parent :
     )
     ≡
     Added true None ∷ Flag true ∷ Flag true ∷ Work (Resolve 3 1 Notarization 2) ∷ Judged (Some (proposal 1 0 7)) ∷
-    Work (Verify (context 3 2 1 7) (proposal 3 1 8)) ∷ []
+    Work (Ready (context 3 2 1 7) (proposal 3 1 8)) ∷ []
 unfolding replies_of
 uncertified_parent = refl
 
@@ -59,7 +59,7 @@ pruned_view :
     SetProposal 1 0 7 ∷ TryVerify ∷ Verified 1 ∷ AddFinalization 20 19 9 10 ∷ Prune ∷ Notarize 1 ∷ []
     )
     ≡
-    Flag true ∷ Work (Verify (context 1 0 0 0) (proposal 1 0 7)) ∷ Flag true ∷ Added true None ∷ Views (1 ∷ []) ∷
+    Flag true ∷ Work (Ready (context 1 0 0 0) (proposal 1 0 7)) ∷ Flag true ∷ Added true None ∷ Views (1 ∷ []) ∷
     Vote None ∷ []
 unfolding replies_of
 pruned_view = refl
@@ -73,7 +73,7 @@ covers_upward :
     )
     ≡
     Flag true ∷ Flag true ∷ Work (Resolve 6 1 Nullification 1) ∷ Flag true ∷
-    Work (Verify (context 6 1 0 0) (proposal 6 0 7)) ∷ []
+    Work (Ready (context 6 1 0 0) (proposal 6 0 7)) ∷ []
 unfolding replies_of
 covers_upward = refl
 
@@ -135,7 +135,7 @@ rejected :
     SetProposal 1 0 7 ∷ TryVerify ∷ Rejected 1 InvalidProposal 40 ∷ NextTimeout 50 ∷ Notarize 1 ∷ []
     )
     ≡
-    Flag true ∷ Work (Verify (context 1 0 0 0) (proposal 1 0 7)) ∷ Done ∷ Timeout (Some (40, InvalidProposal)) ∷
+    Flag true ∷ Work (Ready (context 1 0 0 0) (proposal 1 0 7)) ∷ Done ∷ Timeout (Some (40, InvalidProposal)) ∷
     Vote None ∷ []
 unfolding replies_of
 rejected = refl
@@ -148,7 +148,7 @@ verified_after_nullify :
     SetProposal 1 0 7 ∷ TryVerify ∷ Nullify 1 ∷ Verified 1 ∷ TryVerify ∷ []
     )
     ≡
-    Flag true ∷ Work (Verify (context 1 0 0 0) (proposal 1 0 7)) ∷ NullifyVote (Some false) ∷ Flag false ∷ Work Wait ∷
+    Flag true ∷ Work (Ready (context 1 0 0 0) (proposal 1 0 7)) ∷ NullifyVote (Some false) ∷ Flag false ∷ Work Wait ∷
     []
 unfolding replies_of
 verified_after_nullify = refl
@@ -218,7 +218,7 @@ next_gap :
     )
     ≡
     Flag true ∷ Flag true ∷ Work (Resolve 4 1 Nullification 3) ∷ Flag true ∷ Work (Resolve 4 2 Nullification 3) ∷
-    Work Wait ∷ Flag true ∷ Work (Verify (context 4 3 0 0) (proposal 4 0 7)) ∷ []
+    Work Wait ∷ Flag true ∷ Work (Ready (context 4 3 0 0) (proposal 4 0 7)) ∷ []
 unfolding replies_of
 next_gap = refl
 
@@ -230,7 +230,7 @@ past_invalid :
     AddNotarization 1 1 7 ∷ Replayed (nullified 1) ∷ SetProposal 2 0 9 ∷ TryVerify ∷ TryVerify ∷ NextTimeout 50 ∷ []
     )
     ≡
-    Added true None ∷ Done ∷ Flag true ∷ Work (Verify (context 2 1 0 0) (proposal 2 0 9)) ∷ Work Wait ∷
+    Added true None ∷ Done ∷ Flag true ∷ Work (Ready (context 2 1 0 0) (proposal 2 0 9)) ∷ Work Wait ∷
     Timeout (Some (0, InvalidProposal)) ∷ []
 unfolding replies_of
 past_invalid = refl
@@ -243,7 +243,7 @@ not_admitted_yet :
     AddNotarization 1 0 7 ∷ SetProposal 2 1 9 ∷ TryVerify ∷ TryVerify ∷ []
     )
     ≡
-    Added true None ∷ Flag true ∷ Work (Verify (context 1 0 0 0) (proposal 1 0 7)) ∷ Work Wait ∷ []
+    Added true None ∷ Flag true ∷ Work (Ready (context 1 0 0 0) (proposal 1 0 7)) ∷ Work Wait ∷ []
 unfolding replies_of
 not_admitted_yet = refl
 
@@ -279,7 +279,7 @@ rejected_replaced :
     SetProposal 1 0 7 ∷ TryVerify ∷ AddNotarization 1 0 8 ∷ Rejected 1 InvalidProposal 40 ∷ NextTimeout 50 ∷ []
     )
     ≡
-    Flag true ∷ Work (Verify (context 1 0 0 0) (proposal 1 0 7)) ∷ Added true (Some 0) ∷ Done ∷
+    Flag true ∷ Work (Ready (context 1 0 0 0) (proposal 1 0 7)) ∷ Added true (Some 0) ∷ Done ∷
     Timeout (Some (2000, CertificationTimeout)) ∷ []
 unfolding replies_of
 rejected_replaced = refl

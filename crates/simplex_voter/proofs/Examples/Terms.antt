@@ -4,7 +4,7 @@ use Rattle.std.proofs.Common.{refl}
 use Rattle.simplex_types.specs.Certificates.{Notarized, Nullified, Finalized}
 use Rattle.simplex_types.specs.declared.types.fault.Fault.TheVariants.{TimeOverflow, ViewTooLarge}
 use Rattle.simplex_types.specs.declared.reasons.Kind.TheVariants.{Nullification, Notarization}
-use Rattle.simplex_voter.specs.Verifying.Verification.{Verify, Resolve, Wait}
+use Rattle.simplex_voter.specs.declared.voter.verification.Verify.TheVariants.{Ready, Resolve, Wait}
 use Rattle.simplex_voter.proofs.Examples.Scripts.{replies_of, voter, above, proposal, context, certificate, nullification, notarized, nullified, finalized, verdict, voted_nullify, voted_finalize}
 use Rattle.simplex_voter.proofs.Examples.Scripts.Call.{AddNotarization, AddNullification, AddFinalization, SetProposal, TryVerify, Certified, Nullify, Finalize, BroadcastNotarization, BroadcastNullification, BroadcastFinalization, Best, Prune, Replayed, View, Leader, ParentCertified, VotedNullify, AdmitsVote, Restart}
 use Rattle.simplex_voter.proofs.Examples.Scripts.Reply.{Done, Flag, Added, Work, Judged, Vote, NullifyVote, Certificate, Views, Now, Member, Refused, NotAllowed}
@@ -265,7 +265,7 @@ replayed_covers :
     )
     ≡
     Flag true ∷ Flag true ∷ Work (Resolve 3 1 Nullification 2) ∷ Done ∷
-    Work (Verify (context 3 2 0 0) (proposal 3 0 7)) ∷ []
+    Work (Ready (context 3 2 0 0) (proposal 3 0 7)) ∷ []
 unfolding replies_of
 replayed_covers = refl
 
@@ -327,7 +327,7 @@ kept_nullifications :
     AddNullification 1 5 ∷ AddNullification 2 6 ∷ Prune ∷ SetProposal 3 0 7 ∷ TryVerify ∷ []
     )
     ≡
-    Flag true ∷ Flag true ∷ Views [] ∷ Flag true ∷ Work (Verify (context 3 2 0 0) (proposal 3 0 7)) ∷ []
+    Flag true ∷ Flag true ∷ Views [] ∷ Flag true ∷ Work (Ready (context 3 2 0 0) (proposal 3 0 7)) ∷ []
 unfolding replies_of
 kept_nullifications = refl
 

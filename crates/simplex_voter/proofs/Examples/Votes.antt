@@ -2,8 +2,8 @@
 use Rattle.std.specs.Prelude.{◌≡◌, true, false, [], ◌∷◌, Some, None}
 use Rattle.std.proofs.Common.{refl}
 use Rattle.simplex_types.specs.declared.types.fault.Fault.TheVariants.{Failed, TimeOverflow}
-use Rattle.simplex_voter.specs.Proposing.Request.{Prepare}
-use Rattle.simplex_voter.specs.Verifying.Verification.{Verify, Wait}
+use Rattle.simplex_voter.specs.declared.voter.proposal_request.ProposalRequest.TheVariants.{Prepare}
+use Rattle.simplex_voter.specs.declared.voter.verification.Verify.TheVariants.{Ready, Wait}
 use Rattle.simplex_voter.proofs.Examples.Scripts.{replies_of, voter, keyless, proposal, context, notarized, verdict, voted_notarize, voted_nullify}
 use Rattle.simplex_voter.proofs.Examples.Scripts.Call.{AddNotarization, AddNullification, AddFinalization, SetProposal, TryPropose, TryVerify, Verified, Certified, Notarize, Nullify, Finalize, NextTimeout, Replayed, View, VotedNullify, Restart}
 use Rattle.simplex_voter.proofs.Examples.Scripts.Reply.{Done, Flag, Added, Asked, Work, Judged, Vote, NullifyVote, Now, Refused, NotAllowed}
@@ -107,7 +107,7 @@ notarized_once :
     SetProposal 1 0 7 ∷ TryVerify ∷ Notarize 1 ∷ TryPropose ∷ []
     )
     ≡
-    Flag true ∷ Work (Verify (context 1 0 0 0) (proposal 1 0 7)) ∷ Flag true ∷ Vote (Some (proposal 1 0 7)) ∷ Done ∷
+    Flag true ∷ Work (Ready (context 1 0 0 0) (proposal 1 0 7)) ∷ Flag true ∷ Vote (Some (proposal 1 0 7)) ∷ Done ∷
     Flag false ∷ Work Wait ∷ Vote None ∷ Asked (Some (Prepare (context 2 1 1 7))) ∷ []
 unfolding replies_of
 notarized_once = refl

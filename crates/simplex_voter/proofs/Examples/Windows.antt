@@ -3,8 +3,8 @@ use Rattle.std.specs.Prelude.{◌≡◌, true, false, [], ◌∷◌, Some, None}
 use Rattle.std.proofs.Common.{refl}
 use Rattle.simplex_types.specs.declared.reasons.HandoffAbandonedReason.TheVariants.{AncestryInvalidated, ParentNullify}
 use Rattle.simplex_types.specs.declared.reasons.TimeoutReason.TheVariants.{CertificationTimeout, InvalidProposal}
-use Rattle.simplex_voter.specs.Proposing.Request.{Prepare, Propose}
-use Rattle.simplex_voter.specs.Verifying.Verification.{Verify, Wait}
+use Rattle.simplex_voter.specs.declared.voter.proposal_request.ProposalRequest.TheVariants.{Prepare, Propose}
+use Rattle.simplex_voter.specs.declared.voter.verification.Verify.TheVariants.{Ready, Wait}
 use Rattle.simplex_voter.proofs.Examples.Scripts.{replies_of, voter, proposal, context, fetch, notarized, voted_notarize}
 use Rattle.simplex_voter.proofs.Examples.Scripts.Call.{AddNotarization, AddNullification, AddFinalization, SetProposal, TryPropose, Proposed, Supersede, Abandonment, Release, TryVerify, Verified, Rejected, Candidates, Certified, Notarize, Nullify, Finalize, NextTimeout, Prune, Replayed, View, Leader, Forwardable, ParentCertified, Restart}
 use Rattle.simplex_voter.proofs.Examples.Scripts.Reply.{Done, Flag, Added, Asked, Abandoned, Work, Offered, Judged, Vote, NullifyVote, Timeout, Views, Now, Member, NotAllowed}
@@ -19,10 +19,10 @@ chain :
     TryVerify ∷ []
     )
     ≡
-    Flag true ∷ Flag true ∷ Work (Verify (context 1 0 0 0) (proposal 1 0 7)) ∷ Work Wait ∷ Flag true ∷
-    Vote (Some (proposal 1 0 7)) ∷ Work (Verify (context 2 0 1 7) (proposal 2 1 9)) ∷ Flag true ∷
+    Flag true ∷ Flag true ∷ Work (Ready (context 1 0 0 0) (proposal 1 0 7)) ∷ Work Wait ∷ Flag true ∷
+    Vote (Some (proposal 1 0 7)) ∷ Work (Ready (context 2 0 1 7) (proposal 2 1 9)) ∷ Flag true ∷
     Vote (Some (proposal 2 1 9)) ∷ Flag true ∷ Added true None ∷ Work Wait ∷ Judged (Some (proposal 1 0 7)) ∷
-    Work (Verify (context 3 0 2 9) (proposal 3 2 4)) ∷ []
+    Work (Ready (context 3 0 2 9) (proposal 3 2 4)) ∷ []
 unfolding replies_of
 chain = refl
 
@@ -35,8 +35,8 @@ other_parent :
     Verified 2 ∷ AddNotarization 1 0 8 ∷ Notarize 2 ∷ []
     )
     ≡
-    Flag true ∷ Flag true ∷ Work (Verify (context 1 0 0 0) (proposal 1 0 7)) ∷ Work Wait ∷ Flag true ∷
-    Vote (Some (proposal 1 0 7)) ∷ Work (Verify (context 2 0 1 7) (proposal 2 1 9)) ∷ Flag true ∷
+    Flag true ∷ Flag true ∷ Work (Ready (context 1 0 0 0) (proposal 1 0 7)) ∷ Work Wait ∷ Flag true ∷
+    Vote (Some (proposal 1 0 7)) ∷ Work (Ready (context 2 0 1 7) (proposal 2 1 9)) ∷ Flag true ∷
     Added true (Some 0) ∷ Vote None ∷ []
 unfolding replies_of
 other_parent = refl
@@ -50,8 +50,8 @@ long_window :
     Verified 2 ∷ Notarize 2 ∷ []
     )
     ≡
-    Flag true ∷ Flag true ∷ Work (Verify (context 1 0 0 0) (proposal 1 0 7)) ∷ Work Wait ∷ Flag true ∷
-    Vote (Some (proposal 1 0 7)) ∷ Work (Verify (context 2 0 1 7) (proposal 2 1 9)) ∷ Flag true ∷
+    Flag true ∷ Flag true ∷ Work (Ready (context 1 0 0 0) (proposal 1 0 7)) ∷ Work Wait ∷ Flag true ∷
+    Vote (Some (proposal 1 0 7)) ∷ Work (Ready (context 2 0 1 7) (proposal 2 1 9)) ∷ Flag true ∷
     Vote (Some (proposal 2 1 9)) ∷ []
 unfolding replies_of
 long_window = refl
@@ -66,7 +66,7 @@ handoff_given_up :
     Supersede (context 2 1 1 7) ∷ TryPropose ∷ []
     )
     ≡
-    Flag true ∷ Work (Verify (context 1 0 0 0) (proposal 1 0 7)) ∷ Work Wait ∷ Flag true ∷
+    Flag true ∷ Work (Ready (context 1 0 0 0) (proposal 1 0 7)) ∷ Work Wait ∷ Flag true ∷
     Vote (Some (proposal 1 0 7)) ∷ Vote None ∷ Asked (Some (Prepare (context 2 1 1 7))) ∷ NullifyVote (Some false) ∷
     Abandoned (Some ParentNullify) ∷ Flag true ∷ Now 2 0 0 ∷ Abandoned (Some AncestryInvalidated) ∷ Flag true ∷
     Asked (Some (Propose (context 2 1 0 0))) ∷ []
@@ -82,7 +82,7 @@ handoff_proposed :
     Proposed (context 2 1 1 7) 8 3 ∷ Notarize 2 ∷ View ∷ []
     )
     ≡
-    Flag true ∷ Work (Verify (context 1 0 0 0) (proposal 1 0 7)) ∷ Work Wait ∷ Flag true ∷
+    Flag true ∷ Work (Ready (context 1 0 0 0) (proposal 1 0 7)) ∷ Work Wait ∷ Flag true ∷
     Vote (Some (proposal 1 0 7)) ∷ Vote None ∷ Asked (Some (Prepare (context 2 1 1 7))) ∷ Flag true ∷
     Vote (Some (proposal 2 1 8)) ∷ Now 1 0 0 ∷ []
 unfolding replies_of
@@ -97,8 +97,8 @@ no_handoff_when_nullified :
     Notarize 2 ∷ AddNullification 2 10 ∷ View ∷ TryPropose ∷ AddNullification 1 11 ∷ TryPropose ∷ []
     )
     ≡
-    Flag true ∷ Work (Verify (context 1 0 0 0) (proposal 1 0 7)) ∷ Flag true ∷ Vote (Some (proposal 1 0 7)) ∷
-    Flag true ∷ Work (Verify (context 2 0 1 7) (proposal 2 1 9)) ∷ Flag true ∷ Vote (Some (proposal 2 1 9)) ∷
+    Flag true ∷ Work (Ready (context 1 0 0 0) (proposal 1 0 7)) ∷ Flag true ∷ Vote (Some (proposal 1 0 7)) ∷
+    Flag true ∷ Work (Ready (context 2 0 1 7) (proposal 2 1 9)) ∷ Flag true ∷ Vote (Some (proposal 2 1 9)) ∷
     Flag true ∷ Now 3 0 0 ∷ Asked None ∷ Flag true ∷ Asked (Some (Propose (context 3 1 0 0))) ∷ []
 unfolding replies_of
 no_handoff_when_nullified = refl
@@ -137,7 +137,7 @@ skips_inside_a_term :
     NextTimeout 20 ∷ []
     )
     ≡
-    Flag true ∷ Flag true ∷ Work (Verify (context 1 0 0 0) (proposal 1 0 7)) ∷ Work Wait ∷ Added true None ∷
+    Flag true ∷ Flag true ∷ Work (Ready (context 1 0 0 0) (proposal 1 0 7)) ∷ Work Wait ∷ Added true None ∷
     Judged (Some (proposal 1 0 7)) ∷ Timeout (Some (0, InvalidProposal)) ∷ []
 unfolding replies_of
 skips_inside_a_term = refl
@@ -152,8 +152,8 @@ failed_ancestor :
     )
     ≡
     Added true None ∷ Judged (Some (proposal 1 0 7)) ∷ Added true None ∷ Flag true ∷
-    Work (Verify (context 1 0 0 0) (proposal 1 0 7)) ∷ Work Wait ∷ Added true None ∷
-    Work (Verify (context 2 0 1 7) (proposal 2 1 9)) ∷ Work (Verify (context 3 0 2 9) (proposal 3 2 4)) ∷ []
+    Work (Ready (context 1 0 0 0) (proposal 1 0 7)) ∷ Work Wait ∷ Added true None ∷
+    Work (Ready (context 2 0 1 7) (proposal 2 1 9)) ∷ Work (Ready (context 3 0 2 9) (proposal 3 2 4)) ∷ []
 unfolding replies_of
 failed_ancestor = refl
 
@@ -167,8 +167,8 @@ failed_descendant :
     )
     ≡
     Added true None ∷ Added true None ∷ Added true None ∷ Judged (Some (proposal 3 2 4)) ∷
-    Work (Verify (context 1 0 0 0) (proposal 1 0 7)) ∷ Work (Verify (context 2 0 1 7) (proposal 2 1 9)) ∷
-    Work (Verify (context 3 0 2 9) (proposal 3 2 4)) ∷ []
+    Work (Ready (context 1 0 0 0) (proposal 1 0 7)) ∷ Work (Ready (context 2 0 1 7) (proposal 2 1 9)) ∷
+    Work (Ready (context 3 0 2 9) (proposal 3 2 4)) ∷ []
 unfolding replies_of
 failed_descendant = refl
 
@@ -182,7 +182,7 @@ failed_in_another_term :
     )
     ≡
     Added true None ∷ Judged (Some (proposal 1 0 7)) ∷ Added true None ∷ Flag true ∷ Flag true ∷
-    Work (Verify (context 3 1 0 0) (proposal 3 0 9)) ∷ Work (Verify (context 4 1 3 9) (proposal 4 3 4)) ∷ []
+    Work (Ready (context 3 1 0 0) (proposal 3 0 9)) ∷ Work (Ready (context 4 1 3 9) (proposal 4 3 4)) ∷ []
 unfolding replies_of
 failed_in_another_term = refl
 
@@ -194,7 +194,7 @@ conflict_breaks_the_chain :
     SetProposal 1 0 7 ∷ TryVerify ∷ Verified 1 ∷ Notarize 1 ∷ SetProposal 1 0 8 ∷ SetProposal 2 1 9 ∷ TryVerify ∷ []
     )
     ≡
-    Flag true ∷ Work (Verify (context 1 0 0 0) (proposal 1 0 7)) ∷ Flag true ∷ Vote (Some (proposal 1 0 7)) ∷
+    Flag true ∷ Work (Ready (context 1 0 0 0) (proposal 1 0 7)) ∷ Flag true ∷ Vote (Some (proposal 1 0 7)) ∷
     Flag false ∷ Flag true ∷ Work Wait ∷ []
 unfolding replies_of
 conflict_breaks_the_chain = refl
@@ -208,8 +208,8 @@ stale_answer :
     AddNotarization 1 0 8 ∷ Verified 2 ∷ NextTimeout 20 ∷ Verified 2 ∷ []
     )
     ≡
-    Flag true ∷ Flag true ∷ Work (Verify (context 1 0 0 0) (proposal 1 0 7)) ∷ Flag true ∷
-    Vote (Some (proposal 1 0 7)) ∷ Work (Verify (context 2 0 1 7) (proposal 2 1 9)) ∷ Added true (Some 0) ∷
+    Flag true ∷ Flag true ∷ Work (Ready (context 1 0 0 0) (proposal 1 0 7)) ∷ Flag true ∷
+    Vote (Some (proposal 1 0 7)) ∷ Work (Ready (context 2 0 1 7) (proposal 2 1 9)) ∷ Added true (Some 0) ∷
     Flag false ∷ Timeout (Some (2000, CertificationTimeout)) ∷ Flag true ∷ []
 unfolding replies_of
 stale_answer = refl
@@ -223,8 +223,8 @@ stale_rejection :
     AddNotarization 1 0 8 ∷ Rejected 2 InvalidProposal 30 ∷ Certified 1 true 40 ∷ NextTimeout 50 ∷ []
     )
     ≡
-    Flag true ∷ Flag true ∷ Work (Verify (context 1 0 0 0) (proposal 1 0 7)) ∷ Flag true ∷
-    Vote (Some (proposal 1 0 7)) ∷ Work (Verify (context 2 0 1 7) (proposal 2 1 9)) ∷ Added true (Some 0) ∷ Done ∷
+    Flag true ∷ Flag true ∷ Work (Ready (context 1 0 0 0) (proposal 1 0 7)) ∷ Flag true ∷
+    Vote (Some (proposal 1 0 7)) ∷ Work (Ready (context 2 0 1 7) (proposal 2 1 9)) ∷ Added true (Some 0) ∷ Done ∷
     Judged (Some (proposal 1 0 8)) ∷ Timeout (Some (2040, CertificationTimeout)) ∷ []
 unfolding replies_of
 stale_rejection = refl
@@ -238,8 +238,8 @@ bound_chain :
     Notarize 2 ∷ AddNotarization 1 0 8 ∷ SetProposal 3 2 4 ∷ TryVerify ∷ []
     )
     ≡
-    Flag true ∷ Flag true ∷ Work (Verify (context 1 0 0 0) (proposal 1 0 7)) ∷ Flag true ∷
-    Vote (Some (proposal 1 0 7)) ∷ Work (Verify (context 2 0 1 7) (proposal 2 1 9)) ∷ Flag true ∷
+    Flag true ∷ Flag true ∷ Work (Ready (context 1 0 0 0) (proposal 1 0 7)) ∷ Flag true ∷
+    Vote (Some (proposal 1 0 7)) ∷ Work (Ready (context 2 0 1 7) (proposal 2 1 9)) ∷ Flag true ∷
     Vote (Some (proposal 2 1 9)) ∷ Added true (Some 0) ∷ Flag true ∷ Work Wait ∷ []
 unfolding replies_of
 bound_chain = refl
@@ -252,8 +252,8 @@ verified_is_not_voted :
     SetProposal 1 0 7 ∷ SetProposal 2 1 9 ∷ TryVerify ∷ Verified 1 ∷ TryVerify ∷ Notarize 1 ∷ TryVerify ∷ []
     )
     ≡
-    Flag true ∷ Flag true ∷ Work (Verify (context 1 0 0 0) (proposal 1 0 7)) ∷ Flag true ∷ Work Wait ∷
-    Vote (Some (proposal 1 0 7)) ∷ Work (Verify (context 2 0 1 7) (proposal 2 1 9)) ∷ []
+    Flag true ∷ Flag true ∷ Work (Ready (context 1 0 0 0) (proposal 1 0 7)) ∷ Flag true ∷ Work Wait ∷
+    Vote (Some (proposal 1 0 7)) ∷ Work (Ready (context 2 0 1 7) (proposal 2 1 9)) ∷ []
 unfolding replies_of
 verified_is_not_voted = refl
 
@@ -306,7 +306,7 @@ vote_under_finalized :
     )
     ≡
     Added true None ∷ Judged (Some (proposal 1 0 7)) ∷ Flag true ∷ Flag true ∷
-    Work (Verify (context 3 2 1 7) (proposal 3 1 8)) ∷ Flag true ∷ Vote (Some (proposal 3 1 8)) ∷
+    Work (Ready (context 3 2 1 7) (proposal 3 1 8)) ∷ Flag true ∷ Vote (Some (proposal 3 1 8)) ∷
     Asked (Some (Prepare (context 4 3 3 8))) ∷ Added true None ∷ Done ∷ Asked None ∷ []
 unfolding replies_of
 vote_under_finalized = refl
@@ -320,7 +320,7 @@ handoff_waits :
     AddNotarization 1 0 7 ∷ Certified 1 true 10 ∷ TryPropose ∷ []
     )
     ≡
-    Flag true ∷ Work (Verify (context 1 0 0 0) (proposal 1 0 7)) ∷ Flag true ∷ Vote (Some (proposal 1 0 7)) ∷
+    Flag true ∷ Work (Ready (context 1 0 0 0) (proposal 1 0 7)) ∷ Flag true ∷ Vote (Some (proposal 1 0 7)) ∷
     NullifyVote (Some false) ∷ Asked None ∷ Member (Some 1) ∷ Added true None ∷ Judged (Some (proposal 1 0 7)) ∷
     Asked (Some (Propose (context 2 1 1 7))) ∷ []
 unfolding replies_of
@@ -336,7 +336,7 @@ handoff_certified :
     ParentCertified 1 7 ∷ ParentCertified 1 8 ∷ Forwardable 1 ∷ []
     )
     ≡
-    Flag true ∷ Work (Verify (context 1 0 0 0) (proposal 1 0 7)) ∷ Flag true ∷ Vote (Some (proposal 1 0 7)) ∷
+    Flag true ∷ Work (Ready (context 1 0 0 0) (proposal 1 0 7)) ∷ Flag true ∷ Vote (Some (proposal 1 0 7)) ∷
     Asked (Some (Prepare (context 2 1 1 7))) ∷ Abandoned None ∷ Flag false ∷ Added true None ∷
     Judged (Some (proposal 1 0 7)) ∷ NullifyVote (Some false) ∷ Abandoned None ∷ Flag true ∷ Flag false ∷
     Vote (Some (proposal 1 0 7)) ∷ []
@@ -353,7 +353,7 @@ handed_over_parent :
     Candidates ∷ Certified 2 true 11 ∷ Finalize 2 ∷ []
     )
     ≡
-    Flag true ∷ Work (Verify (context 1 0 0 0) (proposal 1 0 7)) ∷ Flag true ∷ Vote (Some (proposal 1 0 7)) ∷
+    Flag true ∷ Work (Ready (context 1 0 0 0) (proposal 1 0 7)) ∷ Flag true ∷ Vote (Some (proposal 1 0 7)) ∷
     Asked (Some (Prepare (context 2 1 1 7))) ∷ Flag true ∷ Vote (Some (proposal 2 1 8)) ∷ Added true None ∷
     Offered [] (fetch 2 1 ∷ []) ∷ Added true None ∷ Offered (proposal 1 0 7 ∷ []) [] ∷
     Judged (Some (proposal 1 0 7)) ∷ Offered (proposal 2 1 8 ∷ []) [] ∷ Judged (Some (proposal 2 1 8)) ∷
@@ -369,7 +369,7 @@ elected_late :
     SetProposal 1 0 7 ∷ TryVerify ∷ Verified 1 ∷ Notarize 1 ∷ TryPropose ∷ Leader 2 ∷ []
     )
     ≡
-    Flag true ∷ Work (Verify (context 1 0 0 0) (proposal 1 0 7)) ∷ Flag true ∷ Vote (Some (proposal 1 0 7)) ∷
+    Flag true ∷ Work (Ready (context 1 0 0 0) (proposal 1 0 7)) ∷ Flag true ∷ Vote (Some (proposal 1 0 7)) ∷
     Asked None ∷ Member None ∷ []
 unfolding replies_of
 elected_late = refl
@@ -382,7 +382,7 @@ others_handoff :
     SetProposal 1 0 7 ∷ TryVerify ∷ Verified 1 ∷ Notarize 1 ∷ TryPropose ∷ Leader 2 ∷ []
     )
     ≡
-    Flag true ∷ Work (Verify (context 1 0 0 0) (proposal 1 0 7)) ∷ Flag true ∷ Vote (Some (proposal 1 0 7)) ∷
+    Flag true ∷ Work (Ready (context 1 0 0 0) (proposal 1 0 7)) ∷ Flag true ∷ Vote (Some (proposal 1 0 7)) ∷
     Asked None ∷ Member None ∷ []
 unfolding replies_of
 others_handoff = refl
@@ -408,7 +408,7 @@ not_taken_over_yet :
     SetProposal 1 0 7 ∷ Leader 2 ∷ TryVerify ∷ Verified 1 ∷ Notarize 1 ∷ Leader 2 ∷ []
     )
     ≡
-    Flag true ∷ Member None ∷ Work (Verify (context 1 0 0 0) (proposal 1 0 7)) ∷ Flag true ∷
+    Flag true ∷ Member None ∷ Work (Ready (context 1 0 0 0) (proposal 1 0 7)) ∷ Flag true ∷
     Vote (Some (proposal 1 0 7)) ∷ Member (Some 1) ∷ []
 unfolding replies_of
 not_taken_over_yet = refl
@@ -447,7 +447,7 @@ replayed_on_the_same :
     TryVerify ∷ []
     )
     ≡
-    Done ∷ Added true None ∷ Flag true ∷ Work (Verify (context 3 0 2 9) (proposal 3 2 4)) ∷ []
+    Done ∷ Added true None ∷ Flag true ∷ Work (Ready (context 3 0 2 9) (proposal 3 2 4)) ∷ []
 unfolding replies_of
 replayed_on_the_same = refl
 
@@ -460,7 +460,7 @@ replayed_unbound :
     TryVerify ∷ []
     )
     ≡
-    Done ∷ Added true (Some 0) ∷ Flag true ∷ Work (Verify (context 3 0 2 9) (proposal 3 2 4)) ∷ []
+    Done ∷ Added true (Some 0) ∷ Flag true ∷ Work (Ready (context 3 0 2 9) (proposal 3 2 4)) ∷ []
 unfolding replies_of
 replayed_unbound = refl
 
@@ -472,7 +472,7 @@ gave_up_before :
     Nullify 1 ∷ AddNullification 1 5 ∷ SetProposal 2 0 9 ∷ TryVerify ∷ Verified 2 ∷ Notarize 2 ∷ TryPropose ∷ []
     )
     ≡
-    NullifyVote (Some false) ∷ Flag true ∷ Flag true ∷ Work (Verify (context 2 1 0 0) (proposal 2 0 9)) ∷ Flag true ∷
+    NullifyVote (Some false) ∷ Flag true ∷ Flag true ∷ Work (Ready (context 2 1 0 0) (proposal 2 0 9)) ∷ Flag true ∷
     Vote (Some (proposal 2 0 9)) ∷ Asked (Some (Prepare (context 3 2 2 9))) ∷ []
 unfolding replies_of
 gave_up_before = refl

@@ -1,6 +1,6 @@
 //! The tracked views of a range: what some of them hold, and which are dropped.
 
-ghost use Rattle.std.specs.Prelude.{◌≡◌, ◌≤◌, ◌<◌, ◌+◌, ◌^◌, ◌&&◌, IfErr, IfOk, false, filter, nat_le, nat_lt, map as map_list, if◌then◌else◌};
+ghost use Rattle.std.specs.Prelude.{◌≡◌, ◌≤◌, ◌<◌, ◌+◌, ◌^◌, ◌&&◌, IfErr, IfOk, true, false, filter, nat_le, nat_lt, map as map_list, if◌then◌else◌};
 ghost use Rattle.std.specs.List.{list_any};
 ghost use Rattle.std.specs.Option.{option_map_or};
 ghost use Rattle.std.specs.FinMap as map;
@@ -94,6 +94,8 @@ fn end_certification<S: CertificateScheme, D: Digest>(rounds: &mut Tracked<Round
 }
 
 impl<S: CertificateScheme, D: Digest> Rounds<S, D> {
+    ghost use Rattle.std.specs.Ordering.{nat_cmp};
+    ghost use Rattle.std.specs.FinMap.Entries.{is_sorted};
     ghost use Rattle.simplex_voter.specs.Rounds.{is_refused_between};
 
     /// The rounds of the tracked views below a view, by rising view.
@@ -108,6 +110,15 @@ impl<S: CertificateScheme, D: Digest> Rounds<S, D> {
         ensures { result.now ≡ filter (λ e. nat_le view e.0) self.now.by_view }
     {
         self.by_view.at_or_above(view)
+    }
+
+    /// The rounds of the tracked views from one view to another, by rising view.
+    pub fn within(&self, low: View, high: View) -> &[(View, Round<S, D>)]
+        requires { (low ≤ high + 1) × (high + 1 < 2 ^ 64) }
+        ensures within { result.now ≡ filter (λ e. nat_le low e.0 && nat_le e.0 high) self.now.by_view }
+        ensures ordered { is_sorted nat_cmp self.now.by_view ≡ true }
+    {
+        self.by_view.between(low, high.next())
     }
 
     /// Whether a view from one on and below another is notarized or finalized.

@@ -62,7 +62,7 @@ impl<S: CertificateScheme, L: Elector<S>, D: Digest> State<S, L, D> {
         }
     }
 
-    fn latch(&mut self, view: View, reason: TimeoutReason, now: u64)
+    pub(super) fn latch(&mut self, view: View, reason: TimeoutReason, now: u64)
         ensures { self.new ≡ with_tracked self.old view (with_latch (round_of self.old view) now reason) }
     {
         self.rounds.latch(view, now, reason);

@@ -1,0 +1,18 @@
+use Rattle.std.proofs.Common.{refl, ap, sym, length, ◌∙◌}
+use Rattle.simplex_voter.proofs.Shown.{where_true}
+use Rattle.simplex_voter.specs.Rounds.{is_tracked}
+use Rattle.simplex_voter.proofs.voter.state.State.give_out.Goals as goal
+
+pub invariant_of-self : goal.invariant_of-self
+invariant_of-self g c = record {
+  in_range = c.self.invariant.in_range;
+  nullified = c.self.invariant.nullified;
+  nullify_votes = c.self.invariant.nullify_votes;
+  elector = c.self.invariant.elector ∙ ap length (sym c.give_out.ensures.origin.members);
+}
+
+pub give_out-requires : goal.give_out-requires
+give_out-requires g c = rw (← c.self.view_is) at c.requires
+
+pub returns : goal.returns
+returns g c = rw (← c.self.view_is) (where_true _ _ c.self.view_is (is_tracked c.self.inside.rounds c.args.view) _ _ c.self.inside.rounds c.give_out.ensures.given refl)

@@ -1,0 +1,17 @@
+use Rattle.std.proofs.Common.{refl, ap, sym, length, ◌∙◌}
+use Rattle.simplex_voter.proofs.Shown.{where_true}
+use Rattle.simplex_voter.proofs.voter.state.State.record_proposal.Goals as goal
+
+pub invariant_of-self : goal.invariant_of-self
+invariant_of-self g c = record {
+  in_range = c.self.invariant.in_range;
+  nullified = c.self.invariant.nullified;
+  nullify_votes = c.self.invariant.nullify_votes;
+  elector = c.self.invariant.elector ∙ ap length (sym c.record_proposal.ensures.origin.members);
+}
+
+pub returns-clause-recorded : goal.returns-clause-recorded
+returns-clause-recorded g c = rw (← c.self.view_is) c.record_proposal.ensures.recorded
+
+pub returns-clause-after : goal.returns-clause-after
+returns-clause-after g c = rw (← c.self.view_is) (where_true _ _ c.self.view_is c.record_proposal.result _ _ c.self.inside.rounds c.record_proposal.ensures.after refl)

@@ -1,0 +1,125 @@
+//! This member's votes to notarize.
+
+ghost use Rattle.std.specs.Prelude.{◌≡◌, ◌≤◌, ◌<◌, IfSome, IfOk, IfErr, OnOk, Err, None, true, option_map};
+ghost use Rattle.simplex_types.specs.declared.types.fault.Fault.TheVariants.{OutOfMemory};
+ghost use Rattle.simplex_round.specs.Round.{can_notarize};
+ghost use Rattle.simplex_voter.specs.Rounds.{largest_tracked};
+
+use super::state::State;
+use super::terms::before;
+use simplex_types::types::{
+    CertificateScheme, Digest, Elector, Fault, Notarize, Proposal, Scheme, Subject, View,
+};
+
+impl<S: CertificateScheme, L: Elector<S>, D: Digest> State<S, L, D> {
+    ghost use Rattle.simplex_voter.specs.Setup.{HasSameSetup};
+    ghost use Rattle.simplex_voter.specs.Facts.{round_of};
+    ghost use Rattle.simplex_voter.specs.Leaders.{prepared};
+    ghost use Rattle.simplex_voter.specs.Refusals.{HasFailed, plain_refusal, is_started};
+    ghost use Rattle.simplex_voter.specs.Rules.{has_ancestry, may_notarize};
+    ghost use Rattle.simplex_voter.specs.Votes.{notarize_answer, signed_proposal, notarize_cast, after_construct_notarize, IsSignedNotarize};
+
+    /// Votes to notarize what a view holds, where the rule allows it: the vote is decided, also without a key, and the
+    /// next view is readied as after a proposal; the vote is answered where the scheme has a key. Else nothing changes, so
+    /// the vote is cast once.
+    ///
+    /// The state has a floor.
+    pub fn construct_notarize(&mut self, view: View) -> Result<Option<Notarize<S, D>>, Fault>
+    where
+        S: Scheme<D>,
+        requires { is_started self.old ≡ true }
+        ensures refused { IfSome (plain_refusal self.old) (λ fault. (result ≡ Err fault) × (self.new ≡ self.old)) }
+        ensures vote { IfOk result (λ vote. option_map (λ v. v.proposal) vote ≡ notarize_answer D.eq L.elect self.old view) }
+        ensures signed { IfOk result (λ vote. IfSome vote (IsSignedNotarize S.IsSignature self.old)) }
+        ensures after { OnOk result (self.new ≡ after_construct_notarize D.eq L.elect self.old view) }
+        ensures out_of_memory { plain_refusal self.old ≡ None → IfErr result (λ fault. (fault ≡ OutOfMemory) × HasFailed self.old self.new) }
+    {
+        if self.is_failed() {
+            return Err(Fault::Failed);
+        }
+        if !self.may_notarize(view) {
+            return Ok(None);
+        }
+        match self.cast_notarize(view) {
+            Ok(vote) => Ok(vote),
+            Err(fault) => {
+                self.fail();
+                Err(fault)
+            }
+        }
+    }
+
+    /// Decides the vote to notarize a view, readies the next one, and signs the vote where there is a key.
+    fn cast_notarize(&mut self, view: View) -> Result<Option<Notarize<S, D>>, Fault>
+    where
+        S: Scheme<D>,
+        requires may { can_notarize (round_of self.old view) ≡ true }
+        requires view { view < largest_tracked }
+        ensures cast { OnOk result (self.new ≡ prepared L.elect (notarize_cast self.old view) view) }
+        ensures vote { IfOk result (λ vote. option_map (λ v. v.proposal) vote ≡ signed_proposal self.old view) }
+        ensures signed { IfOk result (λ vote. IfSome vote (IsSignedNotarize S.IsSignature self.old)) }
+        ensures refused { IfErr result (λ fault. fault ≡ OutOfMemory) }
+        ensures setup { HasSameSetup self.old self.new }
+    {
+        let held = self.decide_notarize(view);
+        self.prepare(view)?;
+        let Some(proposal) = held else {
+            return Ok(None);
+        };
+        let Some(signer) = self.rounds.scheme().me() else {
+            return Ok(None);
+        };
+        let subject = Subject::Notarize(proposal);
+        let Some(signature) = self.rounds.scheme().sign(self.alloc, &subject)? else {
+            unreachable!()
+        };
+        Ok(Some(Notarize {
+            proposal,
+            signer,
+            signature,
+        }))
+    }
+
+    /// Decides the vote to notarize a view, and answers what is voted for.
+    fn decide_notarize(&mut self, view: View) -> Option<Proposal<D>>
+        requires { can_notarize (round_of self.old view) ≡ true }
+        ensures decided { self.new ≡ notarize_cast self.old view }
+        ensures vote { result ≡ (round_of self.old view).slot.held }
+    {
+        self.rounds.decide_notarize(view)
+    }
+
+    /// Whether this member may vote to notarize the view.
+    #[tactic(auto, unfolding(crate::specs::Rules::may_notarize))]
+    fn may_notarize(&self, view: View) -> bool
+        requires { 1 ≤ self.now.current }
+        ensures may { result ≡ may_notarize D.eq L.elect self.now view }
+        ensures room { result ≡ true → view < largest_tracked }
+    {
+        if !self.is_admitted(view) {
+            return false;
+        }
+        let _length = self.elector.terms().term_length.get();
+        self.can_notarize(view) && self.has_ancestry(view) && self.binding_matches(view)
+    }
+
+    /// Whether the view's own facts let this member vote to notarize it.
+    fn can_notarize(&self, view: View) -> bool
+        ensures { result ≡ can_notarize (round_of self.now view) }
+    {
+        match self.round_at(view) {
+            Some(round) => round.can_construct_notarize(),
+            None => false,
+        }
+    }
+
+    /// Whether the view before offers a payload, where the view may build on one that is not certified yet.
+    fn has_ancestry(&self, view: View) -> bool
+        ensures { result ≡ has_ancestry D.eq L.elect self.now view }
+    {
+        if !self.in_window(view) {
+            return true;
+        }
+        self.optimistic_payload(before(view)).is_some()
+    }
+}

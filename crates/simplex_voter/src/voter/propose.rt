@@ -1,0 +1,159 @@
+//! When this member builds a proposal, and on what.
+
+ghost use Rattle.std.specs.Prelude.{◌≡◌, ◌≤◌, ◌<◌, ◌+◌, ◌^◌, IfSome, IfOk, OnOk, Err, None, true, slice_get, if◌then◌else◌};
+ghost use Rattle.std.specs.List.{filter_map};
+ghost use Rattle.std.specs.Result.{IsOk};
+ghost use Rattle.simplex_round.specs.Round.{should_propose};
+
+use super::proposal_request::ProposalRequest;
+use super::state::State;
+use simplex_round::round::{Leader, Round};
+use simplex_types::types::{CertificateScheme, Context, Digest, Elector, Fault, View, Viewable};
+
+impl<S: CertificateScheme, L: Elector<S>, D: Digest> State<S, L, D> {
+    ghost use Rattle.std.specs.Ordering.{nat_cmp};
+    ghost use Rattle.std.specs.FinMap.Entries.{is_sorted};
+    ghost use Rattle.simplex_types.specs.Terms.{next_term_start};
+    ghost use Rattle.simplex_voter.specs.Facts.{round_of};
+    ghost use Rattle.simplex_voter.specs.Refusals.{plain_refusal, is_started};
+    ghost use Rattle.simplex_voter.specs.Proposing.{context_on, request_on, request_in, propose_answer, after_try_propose, with_build, request_context, views_within, views_ahead};
+
+    /// What this member is to build next: in the lowest view from the current one to the next term's start that it leads
+    /// and may work in, where it has not voted to nullify, neither holds a proposal nor is building one, and has a parent
+    /// to build on. A term's first proposal on a parent that is not certified is only prepared, and not while this member
+    /// gives up the current view. The request stands until it is cleared.
+    ///
+    /// The state has a floor.
+    pub fn try_propose(&mut self) -> Result<Option<ProposalRequest<D, S::PublicKey>>, Fault>
+        requires { is_started self.old ≡ true }
+        ensures refused { IfSome (plain_refusal self.old) (λ fault. (result ≡ Err fault) × (self.new ≡ self.old)) }
+        ensures answer { IfOk result (λ request. request ≡ propose_answer D.eq L.elect self.old) }
+        ensures after { OnOk result (self.new ≡ after_try_propose D.eq L.elect self.old) }
+        ensures taken { plain_refusal self.old ≡ None → IsOk result }
+    {
+        if self.is_failed() {
+            return Err(Fault::Failed);
+        }
+        let Some(request) = self.next_request() else {
+            return Ok(None);
+        };
+        self.ask_to_build(request.view());
+        Ok(Some(request))
+    }
+
+    /// Sets the request to build a proposal in a view that is ready for it.
+    fn ask_to_build(&mut self, view: View)
+        requires { should_propose (round_of self.old view) ≡ true }
+        ensures { self.new ≡ with_build self.old view true }
+    {
+        self.rounds.ask_to_build(view);
+    }
+
+    /// The request of the lowest view ahead that has one.
+    fn next_request(&self) -> Option<ProposalRequest<D, S::PublicKey>>
+        requires { 1 ≤ self.now.current }
+        ensures answer { result ≡ propose_answer D.eq L.elect self.now }
+        ensures ready { IfSome result (λ request. should_propose (round_of self.now (request_context request).round.view) ≡ true) }
+    {
+        self.first_request(self.views_ahead())
+    }
+
+    /// The tracked views from the current one to the next term's start, by rising view.
+    fn views_ahead(&self) -> &[(View, Round<S, D>)]
+        requires { 1 ≤ self.now.current }
+        ensures ahead { result.now ≡ views_ahead self.now }
+        ensures ordered { is_sorted nat_cmp self.now.rounds ≡ true }
+    {
+        self.views_within(self.current, self.last_ahead())
+    }
+
+    /// The tracked views from one view to another, by rising view.
+    pub(super) fn views_within(&self, low: View, high: View) -> &[(View, Round<S, D>)]
+        requires { (low ≤ high + 1) × (high + 1 < 2 ^ 64) }
+        ensures within { result.now ≡ views_within self.now low high }
+        ensures ordered { is_sorted nat_cmp self.now.rounds ≡ true }
+    {
+        self.rounds.within(low, high)
+    }
+
+    /// The last view that a search for work comes to: the next term's start.
+    pub(super) fn last_ahead(&self) -> View
+        requires { 1 ≤ self.now.current }
+        ensures last { result ≡ next_term_start self.now.terms.term_length self.now.current }
+        ensures room { (self.now.current ≤ result) × (result + 1 < 2 ^ 64) }
+    {
+        let length = self.elector.terms().term_length;
+        let _views = length.get();
+        self.current.next_term_start(length)
+    }
+
+    /// The request of the first of some views that has one.
+    fn first_request(
+        &self,
+        entries: &[(View, Round<S, D>)],
+    ) -> Option<ProposalRequest<D, S::PublicKey>>
+        ensures { result ≡ slice_get (filter_map (request_in D.eq L.elect self.now) entries.now) 0 }
+    {
+        for entry in entries {
+            let request = self.request_in(entry.0, &entry.1);
+            if request.is_some() {
+                return request;
+            }
+        }
+        None
+    }
+
+    /// What this member may build in a view, if anything.
+    fn request_in(
+        &self,
+        view: View,
+        round: &Round<S, D>,
+    ) -> Option<ProposalRequest<D, S::PublicKey>>
+        ensures { result ≡ request_in D.eq L.elect self.now (view, round.now) }
+    {
+        if !self.is_admitted(view) {
+            return None;
+        }
+        if !round.should_propose() {
+            return None;
+        }
+        let parent = self.preferred_parent(view)?;
+        self.request_on(view, round, parent)
+    }
+
+    /// What this member may build in a view that it leads, on this parent.
+    fn request_on(
+        &self,
+        view: View,
+        round: &Round<S, D>,
+        parent: (View, D),
+    ) -> Option<ProposalRequest<D, S::PublicKey>>
+        ensures { result ≡ request_on D.eq self.now view round.now parent }
+    {
+        let handoff = self.is_start(view) && !self.parent_certified(parent);
+        if handoff && self.voted_nullify(self.current) {
+            return None;
+        }
+        let context = self.context_on(view, parent, round.leader()?);
+        if handoff {
+            Some(ProposalRequest::Prepare(context))
+        } else {
+            Some(ProposalRequest::Propose(context))
+        }
+    }
+
+    fn context_on(
+        &self,
+        view: View,
+        parent: (View, D),
+        leader: &Leader<S::PublicKey>,
+    ) -> Context<D, S::PublicKey>
+        ensures { result ≡ context_on self.now view parent leader.now }
+    {
+        Context {
+            round: self.round_number(view),
+            leader: leader.key,
+            parent,
+        }
+    }
+}

@@ -1,0 +1,126 @@
+//! Changes of the round of a view that the work on its proposal makes. None takes memory.
+
+ghost use Rattle.std.specs.Prelude.{◌≡◌, ◌&&◌, not, true, false, is_some, if◌then◌else◌};
+ghost use Rattle.std.specs.Option.{option_map_or};
+ghost use Rattle.simplex_types.specs.Proposal.{same_proposal};
+ghost use Rattle.simplex_voter.specs.Proposing.{proposal_of};
+ghost use Rattle.simplex_round.specs.Slot.{holds_or_empty, is_unverified};
+ghost use Rattle.simplex_round.specs.Round.{is_nullify, should_propose, pending_proposal, can_notarize};
+
+use super::rounds::Rounds;
+use simplex_types::types::{CertificateScheme, Context, Digest, Proposal, View};
+
+/// What was built for a context.
+fn proposal_of<D: Digest, P: Copy>(context: &Context<D, P>, payload: D) -> Proposal<D>
+    ensures { result ≡ proposal_of context.now payload }
+{
+    Proposal {
+        round: context.round,
+        parent: context.parent.0,
+        payload,
+    }
+}
+
+impl<S: CertificateScheme, D: Digest> Rounds<S, D> {
+    ghost use Rattle.simplex_voter.specs.Rounds.{round_at, round_of, changed, changed_in_place, HasSameOrigin};
+    ghost use Rattle.simplex_voter.specs.Proposing.{build_requested, proposed_round};
+    ghost use Rattle.simplex_voter.specs.Verifying.{with_request, verifying_round, with_mark, unbound};
+
+    /// Sets the request to build a proposal in a view that is ready for it.
+    pub fn ask_to_build(&mut self, view: View)
+        requires { should_propose (round_of self.old view) ≡ true }
+        ensures asked { self.new ≡ changed_in_place self.old view (λ r. record r { slot = build_requested true r.slot }) }
+        ensures origin { HasSameOrigin self.old self.new }
+    {
+        let Some(round) = self.by_view.get_mut(view) else {
+            return;
+        };
+        round.try_propose();
+    }
+
+    /// Notes that the verification of a view's proposal asks for a certificate of another view.
+    pub fn note_request(&mut self, view: View, wanted: View)
+        ensures noted { self.new ≡ changed_in_place self.old view (λ r. with_request r wanted) }
+        ensures origin { HasSameOrigin self.old self.new }
+    {
+        let Some(round) = self.by_view.get_mut(view) else {
+            return;
+        };
+        round.request(wanted);
+    }
+
+    /// Gives the proposal of a view out to be verified, bound to its parent's payload.
+    pub fn give_out(&mut self, view: View, payload: D)
+        requires { is_some (pending_proposal (round_of self.old view)) ≡ true }
+        ensures given { self.new ≡ changed_in_place self.old view (λ r. verifying_round r payload) }
+        ensures origin { HasSameOrigin self.old self.new }
+    {
+        let Some(round) = self.by_view.get_mut(view) else {
+            return;
+        };
+        let Some((_, proposal)) = round.pending_verification() else {
+            return;
+        };
+        round.request_verify();
+        round.set_verifying(proposal, payload);
+    }
+
+    /// Marks the held proposal of a view as verified, and answers whether it did.
+    pub fn mark(&mut self, view: View) -> bool
+        ensures first { result ≡ option_map_or (λ r. not (is_nullify r.decision) && is_unverified r.slot) (round_at self.old view) false }
+        ensures marked { self.new ≡ changed_in_place self.old view with_mark }
+        ensures origin { HasSameOrigin self.old self.new }
+    {
+        let Some(round) = self.by_view.get_mut(view) else {
+            return false;
+        };
+        round.verified()
+    }
+
+    /// Takes the binding of a view away.
+    pub fn unbind(&mut self, view: View)
+        ensures unbound { self.new ≡ changed_in_place self.old view unbound }
+        ensures origin { HasSameOrigin self.old self.new }
+    {
+        let Some(round) = self.by_view.get_mut(view) else {
+            return;
+        };
+        round.clear_verifying();
+    }
+
+    /// Records what was built in a tracked view, bound to its parent's payload, where nullify was not decided and no other
+    /// proposal is held.
+    pub fn record_proposal(
+        &mut self,
+        context: &Context<D, S::PublicKey>,
+        payload: D,
+        now: u64,
+    ) -> bool
+        ensures recorded { result ≡ option_map_or (λ r. not (is_nullify r.decision) && holds_or_empty (same_proposal D.eq) r.slot (proposal_of context.now payload)) (round_at self.old context.now.round.view) false }
+        ensures after { self.new ≡ (if result then changed self.old context.now.round.view (λ r. proposed_round D.eq r context.now payload now) else self.old) }
+        ensures origin { HasSameOrigin self.old self.new }
+    {
+        let Some(round) = self.by_view.get_mut(context.round.view) else {
+            return false;
+        };
+        let proposal = proposal_of(context, payload);
+        if !round.proposed(now, proposal) {
+            return false;
+        }
+        round.set_verifying(proposal, context.parent.1);
+        true
+    }
+
+    /// Decides the vote to notarize a view, whose round allows that, and answers what is voted for.
+    pub fn decide_notarize(&mut self, view: View) -> Option<Proposal<D>>
+        requires { can_notarize (round_of self.old view) ≡ true }
+        ensures vote { result ≡ (round_of self.old view).slot.held }
+        ensures decided { self.new ≡ changed self.old view (λ r. record r { notarize_decided = true }) }
+        ensures origin { HasSameOrigin self.old self.new }
+    {
+        let Some(round) = self.by_view.get_mut(view) else {
+            unreachable!()
+        };
+        round.construct_notarize()
+    }
+}
