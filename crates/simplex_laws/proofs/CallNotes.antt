@@ -50,7 +50,7 @@ among_more k u (x ∷ xs) h = by_order (nat_cmp k x) (among_more k u xs) h
 
 -- offers say nothing of votes to notarize
 closed_offer : {K L D : Type 0} (base low : ℕ) (deeds : List (Deed D)) (o : Openings K D) (call : CallFacts D) (y : Facts K L D) → NotesStand base low deeds o y → NotesStand base low deeds (closed_by o call) y
-closed_offer base low deeds o call y notes = record {
+closed_offer base low deeds o (Certified v success now) y notes = record {
   above = notes.above;
   active = notes.active;
   reached = notes.reached;
@@ -59,9 +59,11 @@ closed_offer base low deeds o call y notes = record {
   worked = notes.worked;
   verifying_low = λ v is. notes.verifying_low v is;
   context_low = λ v is. notes.context_low v is;
+  contexts_placed = notes.contexts_placed;
   voted = notes.voted;
   covered = notes.covered;
 }
+closed_offer base low deeds o call y notes = notes
 
 module _ {K L D : Type 0} (same : D → D → Bool) (elect : Elect L) (base low : ℕ) (deeds : List (Deed D)) (o : Openings K D) (x : Facts K L D) (notes : NotesStand base low deeds o x) where
   -- the deeds of the call, and a change that leaves the work on each view
@@ -69,7 +71,7 @@ module _ {K L D : Type 0} (same : D → D → Bool) (elect : Elect L) (base low 
   acted call left =
       let y = after_call same elect x call in
       let more = deeds_of_call {K = K} call (answer same elect x call) in
-      notes_calm base low (deeds ++ more) o o x y left (λ v is. is) (λ v is. is) (notes_acted base low deeds more o x (calls_cast_none same elect x call) notes)
+      notes_calm base low (deeds ++ more) o o x y left (λ v is. is) (λ v c is. is) (notes_acted base low deeds more o x (calls_cast_none same elect x call) notes)
 
   active_view : (round : Round) → takes_round x round ≡ true → (1 ≤ round.view) × (base ≤ round.view)
   active_view round takes =
@@ -84,7 +86,7 @@ module _ {K L D : Type 0} (same : D → D → Bool) (elect : Elect L) (base low 
       let next : c.round.view < next_term_start x.terms.term_length c.round.view = next_above x.terms.term_length c.round.view some view.0 in
       let left = on_nullification_kept base same elect x c now view.1 (omega (arith, next, view.1)) in
       let acted_notes = notes_acted base low deeds more o x (calls_cast_none same elect x (AddNullification c now)) notes in
-      let kept = notes_calm base low (deeds ++ more) o o x _ left (λ v is. is) (λ v is. is) acted_notes in
+      let kept = notes_calm base low (deeds ++ more) o o x _ left (λ v is. is) (λ v c is. is) acted_notes in
       record {
         above = kept.above;
         active = kept.active;
@@ -94,6 +96,7 @@ module _ {K L D : Type 0} (same : D → D → Bool) (elect : Elect L) (base low 
         worked = kept.worked;
         verifying_low = kept.verifying_low;
         context_low = kept.context_low;
+        contexts_placed = kept.contexts_placed;
         voted = kept.voted;
         covered = λ u h. elim (among_more c.round.view u _ h) [
           | inl at ↦ (c.round, Contains-append_right deeds more (Accepts (subject.Nullify c.round)) (0, omega arith, refl), at)
@@ -112,6 +115,7 @@ module _ {K L D : Type 0} (same : D → D → Bool) (elect : Elect L) (base low 
     worked = λ v is un. worked_still v (nat_le (min_active x) v) refl is un;
     verifying_low = notes.verifying_low;
     context_low = notes.context_low;
+    contexts_placed = notes.contexts_placed;
     voted = λ p h above over. subst (λ (r : RoundFacts K D). r.notarize_decided ≡ true) (sym (kept_round p.round.view over)) (notes.voted p h above (omega (arith, over, notes.active)));
     covered = λ u h. notes.covered u (Contains-filtered _ x.nullified u h);
   }

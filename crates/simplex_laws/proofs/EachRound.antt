@@ -77,7 +77,7 @@ module _ {K L D : Type 0} (same : D → D → Bool) (elect : Elect L) (begun : F
 
 -- the same with a prune, which drops a round or leaves it
 
-prune_alone : {K L D : Type 0} (same : D → D → Bool) (elect : Elect L) (x : Facts K L D) (e : Event K D) → is_prune e ≡ true → after_event same elect x e ≡ after_prune x
+pub prune_alone : {K L D : Type 0} (same : D → D → Bool) (elect : Elect L) (x : Facts K L D) (e : Event K D) → is_prune e ≡ true → after_event same elect x e ≡ after_prune x
 prune_alone same elect x Prune is = refl
 prune_alone same elect x _ is = absurd (false≢true is)
 

@@ -150,7 +150,7 @@ module _ {K L D : Type 0} (same : D → D → Bool) (elect : Elect L) where
   restart_exact None r result = restart_signs_none K D result
   restart_exact (Some x) r result = restart_signs_none K D result
 
-  step_exact : (m next : MemberFacts K L D) (step : StepFacts K L D) (told : Told K D) → IsStep same elect m step told next → ExactAt same elect m.life step told
+  pub step_exact : (m next : MemberFacts K L D) (step : StepFacts K L D) (told : Told K D) → IsStep same elect m step told next → ExactAt same elect m.life step told
   step_exact m next (Calls call) told is_step = call_exact m next call told is_step
   step_exact m next (Works call) told is_step = work_exact m next call told is_step
   step_exact m next (Restarts r) told (result, restarts, is) = rw is (restart_exact m.life r result)

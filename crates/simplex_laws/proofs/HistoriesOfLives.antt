@@ -179,7 +179,7 @@ module _ {K L D : Type 0} (same : D → D → Bool) (decides : (d e : D) → sam
       by_life None dead (tells, leaves) = rw (tells, leaves) shown
       by_life (Some x) alive (inl (tells, leaves)) = rw (tells, leaves) (answered history call x shown (subst (λ o. MatchOption o (Unit {0}) (Shows same elect history)) alive shown))
       by_life (Some x) alive (inr (_, tells, inl leaves)) = rw (tells, leaves) shown
-      by_life (Some x) alive (inr (_, tells, inr leaves)) = rw (tells, leaves) tt
+      by_life (Some x) alive (inr (_, tells, inr (_, _, leaves))) = rw (tells, leaves) tt
 
   -- a call on the work of a view
 
@@ -202,7 +202,7 @@ module _ {K L D : Type 0} (same : D → D → Bool) (decides : (d e : D) → sam
       by_life None dead (tells, leaves) = rw (tells, leaves) shown
       by_life (Some x) alive (inl (tells, leaves)) = rw (tells, leaves) (worked history call x shown (subst (λ o. MatchOption o (Unit {0}) (Shows same elect history)) alive shown))
       by_life (Some x) alive (inr (_, tells, inl leaves)) = rw (tells, leaves) shown
-      by_life (Some x) alive (inr (_, tells, inr leaves)) = rw (tells, leaves) tt
+      by_life (Some x) alive (inr (_, tells, inr (_, leaves))) = rw (tells, leaves) tt
 
   -- a restart that is refused leaves a member that has failed, or the one that it was
   refused_shown : (history : History K L D) (left : MemberFacts K L D) (r : RestartFacts K L D) (result : Result (Unit {0}) RecoverError) (found : RecoverError) → result ≡ Err found → IsShown same elect history m → IsRestart same elect m r result left → IsShown same elect history left

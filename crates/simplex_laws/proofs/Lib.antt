@@ -56,6 +56,7 @@ pub mod ShownVerdicts
 pub mod RecoveredVerdicts
 pub mod WorkVerdicts
 pub mod OwnRuns
+pub mod Resumes
 pub mod Leaving
 pub mod Following
 pub mod FollowingHanded
@@ -92,6 +93,7 @@ pub mod Paths
 pub mod CallsMake
 pub mod EachRound
 pub mod Sound
+pub mod TimingOut
 pub mod Verdicts
 pub mod StandingSteps
 pub mod RunsKeep

@@ -108,6 +108,7 @@ module _ {K L D : Type 0} (same : D → D → Bool) (decides : (d e : D) → sam
         worked = kept.worked;
         verifying_low = kept.verifying_low;
         context_low = kept.context_low;
+        contexts_placed = kept.contexts_placed;
         voted = λ q h above over. elim (signed_push deeds (Signs m (subject.Notarize p)) (subject.Notarize q) h) [
           | inl old ↦ kept.voted q old above over
           | inr new ↦ (let one : p ≡ q = cc in subst (λ u. (round_of z u).notarize_decided ≡ true) (sym at ∙ ap (λ (k : Proposal D). k.round.view) one) decided)

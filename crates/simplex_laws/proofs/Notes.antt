@@ -11,6 +11,7 @@ use Rattle.simplex_member.specs.Openings.{Openings, is_verifying, context_at}
 use Rattle.simplex_laws.specs.Deeds.{Deed, Accepts}
 use Rattle.simplex_laws.specs.Lawful.{HasSigned}
 use Rattle.simplex_laws.proofs.Signed.{signed_cases}
+use Rattle.simplex_laws.proofs.Openings.{ArePlaced, NoMoreContexts, some_still}
 use Rattle.simplex_laws.proofs.CalmOn.{Above, CalmOn}
 use Rattle.simplex_laws.proofs.Tidy.{Tidy, contrary, tidy_calm}
 
@@ -26,6 +27,7 @@ pub record NotesStand {K L D : Type 0} (base low : ℕ) (deeds : List (Deed D)) 
   pub worked : (v : ℕ) → (round_of x v).slot.verified ≡ true → (round_of x v).notarize_decided ≡ false → low ≤ v
   pub verifying_low : (v : ℕ) → is_verifying o v ≡ true → low ≤ v
   pub context_low : (v : ℕ) → is_some (context_at o v) ≡ true → low ≤ v
+  pub contexts_placed : ArePlaced o
   -- each vote that was cast is decided
   pub voted : (p : Proposal D) → HasSigned deeds (subject.Notarize p) → low ≤ p.round.view → base ≤ p.round.view → (round_of x p.round.view).notarize_decided ≡ true
   -- each nullified view's nullification was accepted
@@ -52,21 +54,23 @@ module _ {K L D : Type 0} (base low : ℕ) (deeds : List (Deed D)) where
     worked = notes.worked;
     verifying_low = notes.verifying_low;
     context_low = notes.context_low;
+    contexts_placed = notes.contexts_placed;
     voted = λ p h. elim (signed_cases deeds more (subject.Notarize p) h) [ inl old ↦ notes.voted p old | inr new ↦ absurd (none p new) ];
     covered = λ u h. (let c = notes.covered u h in (c.0, Contains-append_left deeds more (Accepts (subject.Nullify c.0)) c.1, c.2));
   }
 
   -- a change that leaves the work on each view, with nothing more open
-  pub notes_calm : (o o' : Openings K D) (x y : Facts K L D) → CalmOn base x y → ((v : ℕ) → is_verifying o' v ≡ true → is_verifying o v ≡ true) → ((v : ℕ) → is_some (context_at o' v) ≡ true → is_some (context_at o v) ≡ true) → NotesStand base low deeds o x → NotesStand base low deeds o' y
+  pub notes_calm : (o o' : Openings K D) (x y : Facts K L D) → CalmOn base x y → ((v : ℕ) → is_verifying o' v ≡ true → is_verifying o v ≡ true) → NoMoreContexts o o' → NotesStand base low deeds o x → NotesStand base low deeds o' y
   notes_calm o o' x y left verifying opened notes = record {
     above = left.above notes.above;
     active = omega (arith, notes.active, left.finalized, ap (λ (s : Settings). s.view_retention) left.settings);
     reached = omega (arith, notes.reached, left.current);
-    tidy = λ v over. tidy_calm v (is_verifying o v) (is_some (context_at o v)) (is_verifying o' v) (is_some (context_at o' v)) (round_of x v) (round_of y v) (left.rounds v) (verifying v) (opened v) (notes.tidy v over);
+    tidy = λ v over. tidy_calm v (is_verifying o v) (is_some (context_at o v)) (is_verifying o' v) (is_some (context_at o' v)) (round_of x v) (round_of y v) (left.rounds v) (verifying v) (some_still (context_at o' v) (context_at o v) (opened v)) (notes.tidy v over);
     placed = λ v p is. elim ((left.rounds v).grown.placed p is) [ inl before ↦ notes.placed v p before | inr here ↦ here ];
     worked = λ v is un. notes.worked v ((left.rounds v).verified is) (contrary (round_of y v).notarize_decided (round_of x v).notarize_decided (left.rounds v).grown.decided un);
     verifying_low = λ v is. notes.verifying_low v (verifying v is);
-    context_low = λ v is. notes.context_low v (opened v is);
+    context_low = λ v is. notes.context_low v (some_still (context_at o' v) (context_at o v) (opened v) is);
+    contexts_placed = λ v c is. notes.contexts_placed v c (opened v c is);
     voted = λ p h above over. (left.rounds p.round.view).grown.decided (notes.voted p h above over);
     covered = λ u h. notes.covered u (subst (λ us. Contains us u) left.nullified h);
   }

@@ -1,5 +1,5 @@
 -- A state that is made again from a record shows its votes to notarize, and nothing else is open.
-use Rattle.std.proofs.Common.{◌≡◌, refl, ap, sym, ◌∙◌, subst, ℕ, ◌+◌, ◌≤◌, ◌<◌, ◌⊎◌, inl, inr, Bool, true, false, not, if◌then◌else◌, nat_lt, List, [], ◌∷◌, Contains, Ordering, Less, Equal, Greater, Option, Some, None, arith}
+use Rattle.std.proofs.Common.{◌≡◌, refl, ap, sym, ◌∙◌, subst, ℕ, ◌+◌, ◌≤◌, ◌<◌, ◌⊎◌, inl, inr, Bool, true, false, not, if◌then◌else◌, nat_lt, List, [], ◌∷◌, Contains, Ordering, Less, Equal, Greater, Option, Some, None, arith, is_some}
 use Rattle.std.specs.Prelude.{option_and_then}
 use Rattle.std.specs.Ordering.{nat_cmp, match_ordering}
 use Rattle.std.specs.BTreeSet.{insert_key}
@@ -344,6 +344,7 @@ module _ {K L D : Type 0} (same : D → D → Bool) (elect : Elect L) (settings 
     worked = λ v is un. absurd (opposite (round_of (all_taken same elect z now copy) v).notarize_decided ((remade.rounds v).worked is) un);
     verifying_low = λ v is. absurd (false≢true is);
     context_low = λ v is. absurd (false≢true is);
+    contexts_placed = λ v c is. absurd (false≢true (ap is_some is));
     voted = λ p h above over. elim (remembers.noted p h) [
       | inl e ↦ elim (all_noted same elect now copy copy z (λ f there. there) p e.0 e.1) [
         | inl is ↦ is

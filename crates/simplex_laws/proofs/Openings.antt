@@ -1,54 +1,43 @@
--- What stays open of a member's requests, verifications and offers.
-use Rattle.std.proofs.Common.{◌≡◌, ◌≢◌, refl, ap, sym, ◌∙◌, subst, ℕ, ◌⊎◌, inl, inr, Bool, true, false, ◌||◌, ◌==◌, not, cond, List, [], ◌∷◌, Some, is_some, slice_get}
+-- What stays open of a member's requests and verifications.
+use Rattle.std.proofs.Common.{◌≡◌, ◌≢◌, refl, ap, sym, ◌∙◌, ℕ, ◌⊎◌, inl, inr, Bool, true, false, ◌||◌, not, cond, eqb, List, [], ◌∷◌, Option, Some, None, is_some}
 use Rattle.std.specs.Prelude.{filter}
+use Rattle.std.specs.BTreeSet.{insert_key}
+use Rattle.std.specs.FinMap.{nat_cmp-IsAntisymmetric}
+use Rattle.std.specs.FinMap.Entries.{find, put, find-put, where_key, find-where_key}
+use Rattle.simplex_types.proofs.Maps.{is_eq-nat_cmp}
 use Rattle.std.specs.List.{list_any}
+use Rattle.std.specs.Ordering.{nat_cmp}
+use Rattle.std.specs.Cmp.{nat_cmp_total}
 use Rattle.std.proofs.lemmas.Bool.{false≢true, eqb-true, eq-eqb}
 use Rattle.simplex_types.specs.declared.types.messages.Context.{Context}
 use Rattle.simplex_member.specs.Openings.{Openings, all_but, is_among, context_at, without_context, with_context}
+use Rattle.simplex_laws.proofs.Following.{among_noted}
 
 -- a view among others but one
 pub among_others : (v w : ℕ) (views : List ℕ) → is_among w (all_but v views) ≡ true → (is_among w views ≡ true) × (w ≢ v)
 among_others v w [] is = absurd (false≢true is)
-among_others v w (u ∷ views) is = by_test (u == v) refl (among_others v w views) is
+among_others v w (u ∷ views) is = by_test (eqb u v) refl (among_others v w views) is
   where
-    by_test : (b : Bool) → (u == v) ≡ b → (is_among w (all_but v views) ≡ true → (is_among w views ≡ true) × (w ≢ v)) → is_among w (cond (not b) (u ∷ all_but v views) (all_but v views)) ≡ true → ((u == w) || is_among w views) ≡ true × (w ≢ v)
-    by_test true left_out behind is = (let there = behind is in (later (u == w) (is_among w views) there.0, there.1))
+    by_test : (b : Bool) → eqb u v ≡ b → (is_among w (all_but v views) ≡ true → (is_among w views ≡ true) × (w ≢ v)) → is_among w (cond (not b) (u ∷ all_but v views) (all_but v views)) ≡ true → ((eqb w u || is_among w views) ≡ true) × (w ≢ v)
+    by_test true left_out behind is = (let there = behind is in (later (eqb w u) (is_among w views) there.0, there.1))
       where
         later : (a b : Bool) → b ≡ true → (a || b) ≡ true
         later true b is = refl
         later false b is = is
-    by_test false stays behind is = by_here (u == w) refl is
+    by_test false stays behind is = by_here (eqb w u) refl is
       where
-        by_here : (b : Bool) → (u == w) ≡ b → (b || is_among w (all_but v views)) ≡ true → (b || is_among w views) ≡ true × (w ≢ v)
-        by_here true here is = (refl, λ at. false≢true (sym stays ∙ eq-eqb u v (eqb-true u w here ∙ at)))
+        by_here : (b : Bool) → eqb w u ≡ b → (b || is_among w (all_but v views)) ≡ true → ((b || is_among w views) ≡ true) × (w ≢ v)
+        by_here true here is = (refl, λ at. false≢true (sym stays ∙ eq-eqb u v (sym (eqb-true w u here) ∙ at)))
         by_here false other is = behind is
 
-pub now_among : (v w : ℕ) (views : List ℕ) → is_among w (v ∷ all_but v views) ≡ true → (w ≡ v) ⊎ (is_among w views ≡ true)
-now_among v w views is = by_here (v == w) refl is
+pub now_among : (v w : ℕ) (views : List ℕ) → is_among w (insert_key nat_cmp views v) ≡ true → (w ≡ v) ⊎ (is_among w views ≡ true)
+now_among v w views is = by_here (eqb w v) refl (sym (among_noted v w views) ∙ is)
   where
-    by_here : (b : Bool) → (v == w) ≡ b → (b || is_among w (all_but v views)) ≡ true → (w ≡ v) ⊎ (is_among w views ≡ true)
-    by_here true here is = inl (sym (eqb-true v w here))
-    by_here false other is = inr (among_others v w views is).0
-
--- the first that passes
+    by_here : (b : Bool) → eqb w v ≡ b → (b || is_among w views) ≡ true → (w ≡ v) ⊎ (is_among w views ≡ true)
+    by_here true here is = inl (eqb-true w v here)
+    by_here false other is = inr is
 
 module _ {A : Type 0} (test : A → Bool) where
-  pub first_is_any : (items : List A) → is_some (slice_get (filter test items) 0) ≡ list_any test items
-  first_is_any [] = refl
-  first_is_any (a ∷ items) = by_test (test a) refl (first_is_any items)
-    where
-      by_test : (b : Bool) → test a ≡ b → is_some (slice_get (filter test items) 0) ≡ list_any test items → is_some (slice_get (cond b (a ∷ filter test items) (filter test items)) 0) ≡ (b || list_any test items)
-      by_test true here behind = refl
-      by_test false other behind = behind
-
-  pub first_passes : (items : List A) (a : A) → slice_get (filter test items) 0 ≡ Some a → test a ≡ true
-  first_passes [] a is = absurd (false≢true (ap is_some is))
-  first_passes (c ∷ items) a is = by_test (test c) refl (first_passes items a) is
-    where
-      by_test : (b : Bool) → test c ≡ b → (slice_get (filter test items) 0 ≡ Some a → test a ≡ true) → slice_get (cond b (c ∷ filter test items) (filter test items)) 0 ≡ Some a → test a ≡ true
-      by_test true here behind is = (let same : c ≡ a = cc in subst (λ e. test e ≡ true) same here)
-      by_test false other behind is = behind is
-
   -- what is kept is among all
   pub any_of_kept : (keep : A → Bool) (items : List A) → list_any test (filter keep items) ≡ true → list_any test items ≡ true
   any_of_kept keep [] is = is
@@ -66,25 +55,60 @@ module _ {A : Type 0} (test : A → Bool) where
           by_test true = refl
           by_test false = behind is
 
+pub some_still : {A : Type 0} (p q : Option A) → ((a : A) → p ≡ Some a → q ≡ Some a) → is_some p ≡ true → is_some q ≡ true
+some_still None q says is = absurd (false≢true is)
+some_still (Some a) q says is = ap is_some (says a refl)
+
+-- each context that is open is of its view
+abbrev pub ArePlaced : {K D : Type 0} → Openings K D → Type 0
+ArePlaced {K} {D} o = (v : ℕ) (c : Context D K) → context_at o v ≡ Some c → c.round.view ≡ v
+
+-- what is open of contexts was open
+abbrev pub NoMoreContexts : {K D : Type 0} → Openings K D → Openings K D → Type 0
+NoMoreContexts {K} {D} o o' = (v : ℕ) (c : Context D K) → context_at o' v ≡ Some c → context_at o v ≡ Some c
+
+-- a list by view, with one entry more or less
+module _ {V : Type 0} (es : List (ℕ × V)) where
+  as_where : (p : ℕ → Bool) (fs : List (ℕ × V)) → filter (λ e. p e.0) fs ≡ where_key nat_cmp p fs
+  as_where p [] = refl
+  as_where p (f ∷ fs) = λ i. cond (p f.0) (f ∷ as_where p fs i) (as_where p fs i)
+
+  left : (v w : ℕ) → find nat_cmp w (filter (λ e. not (eqb e.0 v)) es) ≡ cond (not (eqb w v)) (find nat_cmp w es) None
+  left v w =
+      ap (find nat_cmp w) (as_where (λ k. not (eqb k v)) es)
+      ∙ find-where_key nat_cmp (λ k. not (eqb k v)) w (λ k tied. ap (λ u. not (eqb u v)) (sym (nat_cmp-IsAntisymmetric w k tied))) es
+
+  -- what is there behind a removal was there
+  pub got_others : (v w : ℕ) (a : V) → find nat_cmp w (filter (λ e. not (eqb e.0 v)) es) ≡ Some a → find nat_cmp w es ≡ Some a
+  got_others v w a is = by_test (not (eqb w v)) (sym (left v w) ∙ is)
+    where
+      by_test : (b : Bool) → cond b (find nat_cmp w es) None ≡ Some a → find nat_cmp w es ≡ Some a
+      by_test true still = still
+      by_test false still = absurd (false≢true (ap is_some still))
+
+  -- and behind an insertion, unless it is that
+  pub got_now : (v : ℕ) (a : V) (w : ℕ) (b : V) → find nat_cmp w (put nat_cmp v a es) ≡ Some b → ((w ≡ v) × (a ≡ b)) ⊎ (find nat_cmp w es ≡ Some b)
+  got_now v a w b is = by_test (eqb w v) refl (ap (λ t. cond t (Some a) (find nat_cmp w es)) (sym (is_eq-nat_cmp w v)) ∙ sym (find-put nat_cmp nat_cmp_total w v a es) ∙ is)
+    where
+      by_test : (t : Bool) → eqb w v ≡ t → cond t (Some a) (find nat_cmp w es) ≡ Some b → ((w ≡ v) × (a ≡ b)) ⊎ (find nat_cmp w es ≡ Some b)
+      by_test true here still = inl (eqb-true w v here, cc)
+      by_test false other still = inr still
+
 module _ {K D : Type 0} (o : Openings K D) where
-  abbrev pub is_of : ℕ → Context D K → Bool
-  is_of v context = context.round.view == v
-
-  any_context : (v : ℕ) (contexts : List (Context D K)) → is_some (slice_get (filter (is_of v) contexts) 0) ≡ list_any (is_of v) contexts
-  any_context v contexts = first_is_any (is_of v) contexts
-
-  -- a context that is open is of its view
-  pub context_view : (v : ℕ) (context : Context D K) → context_at o v ≡ Some context → context.round.view ≡ v
-  context_view v context is = eqb-true context.round.view v (first_passes (is_of v) o.contexts context is)
-
   -- one that is open behind a close was open
   pub still_open : (v w : ℕ) → is_some (context_at (without_context o v) w) ≡ true → is_some (context_at o w) ≡ true
-  still_open v w is = any_context w o.contexts ∙ any_of_kept (is_of w) (λ context. not (is_of v context)) o.contexts (sym (any_context w (without_context o v).contexts) ∙ is)
+  still_open v w is = some_still (context_at (without_context o v) w) (context_at o w) (got_others o.contexts v w) is
 
   -- and behind an opening, unless it is that one
   pub now_open : (context : Context D K) (w : ℕ) → is_some (context_at (with_context o context) w) ≡ true → (w ≡ context.round.view) ⊎ (is_some (context_at o w) ≡ true)
-  now_open context w is = by_here (is_of w context) refl (sym (any_context w (with_context o context).contexts) ∙ is)
+  now_open context w is = by_found (context_at (with_context o context) w) refl is
     where
-      by_here : (b : Bool) → is_of w context ≡ b → (b || list_any (is_of w) (without_context o context.round.view).contexts) ≡ true → (w ≡ context.round.view) ⊎ (is_some (context_at o w) ≡ true)
-      by_here true here is = inl (sym (eqb-true context.round.view w here))
-      by_here false other is = inr (still_open context.round.view w (any_context w (without_context o context.round.view).contexts ∙ is))
+      by_found : (found : Option (Context D K)) → context_at (with_context o context) w ≡ found → is_some found ≡ true → (w ≡ context.round.view) ⊎ (is_some (context_at o w) ≡ true)
+      by_found None none is = absurd (false≢true is)
+      by_found (Some c) found is = elim (got_now o.contexts context.round.view context w c found) [ inl now ↦ inl now.0 | inr before ↦ inr (ap is_some before) ]
+
+  pub still_placed : (context : Context D K) → ArePlaced o → ArePlaced (with_context o context)
+  still_placed context placed w c is = elim (got_now o.contexts context.round.view context w c is) [
+    | inl now ↦ ap (λ (k : Context D K). k.round.view) (sym now.1) ∙ sym now.0
+    | inr before ↦ placed w c before
+  ]

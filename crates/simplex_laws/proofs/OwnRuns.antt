@@ -118,7 +118,7 @@ module _ {K L D : Type 0} (same : D → D → Bool) (elect : Elect L) (term_leng
       by_life None dead (tell, leaves) = rw (tell, leaves) (untold deeds m tells)
       by_life (Some x) alive (inl (tell, leaves)) = rw (tell, leaves) (answered call x alive tells)
       by_life (Some x) alive (inr (_, tell, inl leaves)) = rw (tell, leaves) (untold deeds m tells)
-      by_life (Some x) alive (inr (_, tell, inr leaves)) = rw (tell, leaves) (untold deeds (fallen m) (own_of deeds m.entries m.life tells))
+      by_life (Some x) alive (inr (_, tell, inr (_, _, leaves))) = rw (tell, leaves) (untold deeds (fallen m) (own_of deeds m.entries m.life tells))
 
   -- a call on the work of a view
 
@@ -141,7 +141,7 @@ module _ {K L D : Type 0} (same : D → D → Bool) (elect : Elect L) (term_leng
       by_life None dead (tell, leaves) = rw (tell, leaves) (untold deeds m tells)
       by_life (Some x) alive (inl (tell, leaves)) = rw (tell, leaves) (worked call x alive tells)
       by_life (Some x) alive (inr (_, tell, inl leaves)) = rw (tell, leaves) (untold deeds m tells)
-      by_life (Some x) alive (inr (_, tell, inr leaves)) = rw (tell, leaves) (untold deeds (fallen m) (own_of deeds m.entries m.life tells))
+      by_life (Some x) alive (inr (_, tell, inr (_, leaves))) = rw (tell, leaves) (untold deeds (fallen m) (own_of deeds m.entries m.life tells))
 
   -- a restart
 

@@ -1,5 +1,5 @@
 -- Each word of the voter's definitions goes on by primitive changes, and so each event is a path of them.
-use Rattle.std.proofs.Common.{◌≡◌, refl, sym, ◌∙◌, ℕ, zero, suc, ◌+◌, ◌-◌, ◌<◌, ◌≤◌, ◌⊎◌, inl, inr, Bool, true, false, ◌&&◌, not, if◌then◌else◌, nat_lt, nat_le, min, List, [], Option, Some, None, is_some, unwrap_or, arith}
+use Rattle.std.proofs.Common.{◌≡◌, refl, ap, sym, ◌∙◌, ℕ, zero, suc, ◌+◌, ◌-◌, ◌<◌, ◌≤◌, ◌⊎◌, inl, inr, Bool, true, false, ◌&&◌, not, if◌then◌else◌, nat_lt, nat_le, min, List, [], Option, Some, None, is_some, unwrap_or, arith}
 use Rattle.std.specs.Prelude.{◌==◌}
 use Rattle.std.specs.List.{fold, range_with_len}
 use Rattle.std.specs.Option.{option_map_or}
@@ -17,7 +17,7 @@ use Rattle.simplex_round.specs.declared.round.Leader.{Leader}
 use Rattle.simplex_round.specs.declared.round.Decision.TheVariants as decision
 use Rattle.simplex_round.specs.declared.round.Decision.{Decision}
 use Rattle.simplex_round.specs.Slot.{after_own, after_vote, after_mark, holds_or_empty}
-use Rattle.simplex_round.specs.Round.{RoundFacts, new_round, leader_at, is_nullify, is_finalize, is_pending, is_judged, is_verified_slot, with_latch, with_recovered, awaits_retry, after_nullify}
+use Rattle.simplex_round.specs.Round.{RoundFacts, new_round, armed, leader_at, is_nullify, is_finalize, is_pending, is_judged, is_verified_slot, with_latch, with_recovered, awaits_retry, after_nullify}
 use Rattle.simplex_voter.specs.Facts.{Facts, Elect, round_at, round_of, round_number, is_tracked, with_round, with_tracked}
 use Rattle.simplex_voter.specs.Windows.{in_window}
 use Rattle.simplex_voter.specs.Payloads.{is_elected_early}
@@ -41,7 +41,8 @@ use Rattle.simplex_member.specs.Recovery.{replayed}
 use Rattle.simplex_laws.specs.Events.{Event, after_event, SetFloor, AddNotarization, AddNullification, AddFinalization, Certified, ConstructNotarize, ConstructNullify, ConstructFinalize, SetProposal, TryPropose, Proposed, Supersede, Release, TryVerify, Verified, VerificationFailed, CertifyCandidates, SetCertifyHandle, TriggerTimeout, NextTimeout, BroadcastNotarization, BroadcastNullification, BroadcastFinalization, Prune, Replay}
 use Rattle.simplex_laws.specs.Sums.{finalized_by}
 use Rattle.simplex_laws.proofs.Steps as step
-use Rattle.simplex_laws.proofs.Steps.{RoundStep, Step, Path, Still, Then, Puts, Moves, Founds, Names, Unnames, Covers, Notes, Reaches, Raises, Scans, Prunes, notarization_by, nullification_by, finalization_by, verdict_by, nullify_by}
+use Rattle.simplex_laws.proofs.Rounds.{round_put}
+use Rattle.simplex_laws.proofs.Steps.{is_timed, RoundStep, Step, Path, Still, Then, Puts, Moves, Founds, Names, Unnames, Covers, Notes, Reaches, Raises, Scans, Prunes, notarization_by, nullification_by, finalization_by, verdict_by, nullify_by}
 
 -- what holds of a view's round and of no new one is of a tracked view
 pub tracked_by : {K L D : Type 0} (x : Facts K L D) (v : ℕ) (test : RoundFacts K D → Bool) → test (new_round x.me x.members (round_number x v)) ≡ false → test (round_of x v) ≡ true → is_tracked x v ≡ true
@@ -50,6 +51,17 @@ tracked_by x v test fails = by_round (round_at x v)
     by_round : (o : Option _) → test (unwrap_or o (new_round x.me x.members (round_number x v))) ≡ true → is_some o ≡ true
     by_round None passes = absurd (false≢true (sym fails ∙ passes))
     by_round (Some r) passes = refl
+
+pub armed_timed : (d : Decision) (leader certified : ℕ) → is_timed (armed d leader certified) ≡ true
+armed_timed (decision.Pending leader certified latch) a b = refl
+armed_timed (decision.Nullify retry) a b = refl
+armed_timed decision.Finalize a b = refl
+
+-- the deadlines of a view are set when it is entered
+entered_timed : {K L D : Type 0} (y : Facts K L D) (v now : ℕ) → is_timed (round_of (with_round y v (entered_round y (round_of y v) now)) v).decision ≡ true
+entered_timed y v now =
+    ap (λ (r : RoundFacts _ _). is_timed r.decision) (round_put y v (entered_round y (round_of y v) now))
+    ∙ armed_timed (round_of y v).decision (now + y.settings.leader_timeout) (now + y.settings.certification_timeout)
 
 module _ {K L D : Type 0} {same : D → D → Bool} {elect : Elect L} {low : ℕ} {x : Facts K L D} {e : Event K D} {from : Facts K L D} where
   either : (b : Bool) (y z : Facts K L D) → (b ≡ true → Path same elect x e low from y) → (b ≡ false → Path same elect x e low from z) → Path same elect x e low from (if b then y else z)
@@ -113,7 +125,7 @@ module _ {K L D : Type 0} {same : D → D → Bool} {elect : Elect L} {low : ℕ
   to_entered {y} v now over path =
       let r = entered_round y (round_of y v) now in
       either (nat_lt y.current v) (record (with_round y v r) { current = v }) y
-      (λ is. (let above : y.current < v = grind (arith, nat_tests) in Then (put v r (inl (over above)) (step.Entered now) path) (Reaches v above)))
+      (λ is. (let above : y.current < v = grind (arith, nat_tests) in Then (put v r (inl (over above)) (step.Entered now) path) (Reaches v above (entered_timed y v now))))
       (λ passed. path)
 
   to_triggered : {y : Facts K L D} (v : ℕ) (reason : TimeoutReason) (now : ℕ) → Path same elect x e low from y → Path same elect x e low from (triggered y v reason now)

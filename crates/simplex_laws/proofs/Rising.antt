@@ -50,7 +50,7 @@ module _ {K L D : Type 0} where
 
 module _ {K L D : Type 0} (same : D → D → Bool) (elect : Elect L) (begun : Facts K L D) (e : Event K D) (low : ℕ) where
   step_goes : (x y z : Facts K L D) → Step same elect begun e low y z → GoesOn x y → GoesOn x z
-  step_goes x y z (Reaches v above) p = record { failed = p.failed; settings = p.settings; me = p.me; members = p.members; elector = p.elector; terms = p.terms; elects_early = p.elects_early; current = omega (arith, p.current); finalized = p.finalized }
+  step_goes x y z (Reaches v above timed) p = record { failed = p.failed; settings = p.settings; me = p.me; members = p.members; elector = p.elector; terms = p.terms; elects_early = p.elects_early; current = omega (arith, p.current); finalized = p.finalized }
   step_goes x y z (Raises v says above) p = record { failed = p.failed; settings = p.settings; me = p.me; members = p.members; elector = p.elector; terms = p.terms; elects_early = p.elects_early; current = p.current; finalized = omega (arith, p.finalized) }
   step_goes x y z _ p = record { failed = p.failed; settings = p.settings; me = p.me; members = p.members; elector = p.elector; terms = p.terms; elects_early = p.elects_early; current = p.current; finalized = p.finalized }
 

@@ -81,7 +81,7 @@ module _ {K L D : Type 0} (same : D → D → Bool) (decides : (d e : D) → sam
       by_life None dead (tells, leaves) = rw (tells, leaves) (quiet term_length deeds m lives)
       by_life (Some x) alive (inl (tells, leaves)) = rw (tells, leaves) (answered call x alive lives)
       by_life (Some x) alive (inr (_, tells, inl leaves)) = rw (tells, leaves) (quiet term_length deeds m lives)
-      by_life (Some x) alive (inr (_, tells, inr leaves)) = rw (tells, leaves) (quiet term_length deeds (fallen m) (lives.0, between_of term_length deeds m.closed lives.0 m.entries m.openings m.life lives.1))
+      by_life (Some x) alive (inr (_, tells, inr (_, _, leaves))) = rw (tells, leaves) (quiet term_length deeds (fallen m) (lives.0, between_of term_length deeds m.closed lives.0 m.entries m.openings m.life lives.1))
 
   -- a call on the work of a view
 
@@ -104,7 +104,7 @@ module _ {K L D : Type 0} (same : D → D → Bool) (decides : (d e : D) → sam
       by_life None dead (tells, leaves) = rw (tells, leaves) (quiet term_length deeds m lives)
       by_life (Some x) alive (inl (tells, leaves)) = rw (tells, leaves) (worked call x alive lives)
       by_life (Some x) alive (inr (_, tells, inl leaves)) = rw (tells, leaves) (quiet term_length deeds m lives)
-      by_life (Some x) alive (inr (_, tells, inr leaves)) = rw (tells, leaves) (quiet term_length deeds (fallen m) (lives.0, between_of term_length deeds m.closed lives.0 m.entries m.openings m.life lives.1))
+      by_life (Some x) alive (inr (_, tells, inr (_, leaves))) = rw (tells, leaves) (quiet term_length deeds (fallen m) (lives.0, between_of term_length deeds m.closed lives.0 m.entries m.openings m.life lives.1))
 
   -- a restart
 

@@ -1,5 +1,5 @@
 -- What the code's steps and replies show is what the story of them says.
-use Rattle.std.proofs.Common.{◌≡◌, refl, ap, sym, subst, ◌∙◌, ℕ, inl, inr, Option, Bool, List, [], ◌∷◌, ◌++◌, map, Contains, Some, None, Result, Ok, Err, arith}
+use Rattle.std.proofs.Common.{◌≡◌, refl, ap, sym, subst, ◌∙◌, ℕ, inl, inr, Option, Bool, true, false, List, [], ◌∷◌, ◌++◌, map, Contains, Some, None, Result, Ok, Err, arith}
 use Rattle.simplex_types.specs.Config.{floor_facts}
 use Rattle.simplex_types.specs.declared.config.Floor.{Floor}
 use Rattle.simplex_types.specs.declared.config.Floor.TheVariants as floor
@@ -11,52 +11,126 @@ use Rattle.simplex_member.specs.declared.member.calls.Reply.TheVariants as reply
 use Rattle.simplex_member.specs.declared.member.runs.Step.{Step}
 use Rattle.simplex_member.specs.declared.member.runs.Step.TheVariants as step
 use Rattle.simplex_member.specs.declared.member.start.Start.{Start}
-use Rattle.simplex_member.specs.Calls.{told, call_facts}
+use Rattle.simplex_types.specs.Certificates.{notarization_facts, nullification_facts, finalization_facts}
+use Rattle.simplex_member.specs.Calls as facts
+use Rattle.simplex_member.specs.Calls.{Told, told, CallFacts, Added}
 use Rattle.simplex_member.specs.declared.member.restart.Restart.{Restart}
 use Rattle.simplex_member.specs.Restarts.{RestartFacts, restart_facts}
-use Rattle.simplex_member.specs.Runs.{Calls, Works, Restarts, step_facts, steps_of, restart_told}
+use Rattle.simplex_member.specs.Runs.{StepFacts, Restarts, asked, step_facts, steps_of, restart_told}
 use Rattle.simplex_member.specs.Start.{start_facts}
 use Rattle.simplex_member.specs.declared.member.error.RecoverError.{RecoverError}
-use Rattle.simplex_member.specs.declared.member.work.Work.{Work}
-use Rattle.simplex_member.specs.Work.{work_facts}
+use Rattle.std.proofs.lemmas.Bool.{false≢true}
 use Rattle.std.proofs.lemmas.List.{append-nil}
 use Rattle.simplex_laws.specs.Living.{story_of}
 use Rattle.simplex_laws.specs.Shown.{votes_in, certificates_in, floor_in, taken_by, taken_in, begun_by, shown_by, shown, IsSetUpAs, AreSetUpAs}
-use Rattle.simplex_laws.specs.Deeds.{handed_in, of_floor, signed_in, accepted_at, deeds_at, deeds_of_steps}
+use Rattle.simplex_laws.specs.Deeds.{Deed, handed_in, accepted_by, of_floor, signed_in, accepted_at, deeds_at, deeds_of_steps}
 use Rattle.simplex_laws.specs.Stories.{deeds_of, BeginsAs, LivesAs}
 use Rattle.simplex_laws.proofs.Splits.{Contains-cases, Contains-cons_rest}
 
 module _ {S D K G C : Type 0} (bytes_of : C → List ℕ) where
   votes_shown : (r : Reply S D K G C) → votes_in r ≡ signed_in (told bytes_of r)
+  votes_shown (reply.Notarize None) = refl
+  votes_shown (reply.Notarize (Some vote)) = refl
   votes_shown (reply.Nullify None) = refl
   votes_shown (reply.Nullify (Some vote)) = refl
   votes_shown (reply.Finalize None) = refl
   votes_shown (reply.Finalize (Some vote)) = refl
   votes_shown _ = refl
 
-  certificates_shown : (c : Call S D K G C) → certificates_in c ≡ handed_in (call_facts bytes_of c)
-  certificates_shown (call.AddNotarization c) = refl
-  certificates_shown _ = refl
-
   floor_shown : (f : Floor S D K G C) → floor_in f ≡ of_floor (floor_facts bytes_of f)
   floor_shown (floor.Genesis payload) = refl
   floor_shown (floor.Finalized f) = refl
 
+-- the certificate of a call that is told whether it is new
+abbrev where_added : {K D : Type 0} → Told K D → List (Deed D) → List (Deed D)
+where_added (Added _ _) deeds = deeds
+where_added _ deeds = []
+
+accepted_where : {K D : Type 0} (call : CallFacts D) (t : Told K D) → accepted_by call t ≡ where_added t (handed_in call)
+accepted_where call (Added newly leader) = refl
+accepted_where call _ = refl
+
+nothing_added : {K D : Type 0} (t : Told K D) → [] ≡ where_added t []
+nothing_added (Added newly leader) = refl
+nothing_added _ = refl
+
+abbrev is_restart : {K L D : Type 0} → StepFacts K L D → Bool
+is_restart (Restarts _) = true
+is_restart _ = false
+
 module _ (L : Type 0) {S D K G C : Type 0} (bytes_of : C → List ℕ) where
-  call_shown : (c : Call S D K G C) (r : Reply S D K G C) → taken_by c r ≡ accepted_at {L = L} (Calls (call_facts bytes_of c)) (told bytes_of r)
-  call_shown c (reply.Added newly leader) = certificates_shown bytes_of c
-  call_shown c _ = refl
+  asked_accepts : (c : Call S D K G C) (t : Told K D) → accepted_at {L = L} (asked bytes_of c) t ≡ where_added t (certificates_in c)
+  asked_accepts (call.AddNotarization c) t = accepted_where (facts.AddNotarization (notarization_facts bytes_of c)) t
+  asked_accepts (call.AddNullification c now) t = accepted_where (facts.AddNullification (nullification_facts bytes_of c) now) t
+  asked_accepts (call.AddFinalization c now) t = accepted_where (facts.AddFinalization (finalization_facts bytes_of c) now) t
+  asked_accepts (call.SetProposal v p) t = nothing_added t
+  asked_accepts call.TryPropose t = nothing_added t
+  asked_accepts (call.Proposed v payload now) t = nothing_added t
+  asked_accepts (call.SupersedeProposalRequest v) t = nothing_added t
+  asked_accepts (call.PendingHandoffAbandonment v) t = nothing_added t
+  asked_accepts (call.ReleaseProposalRequest v) t = nothing_added t
+  asked_accepts call.TryVerify t = nothing_added t
+  asked_accepts (call.Verified v) t = nothing_added t
+  asked_accepts (call.VerificationFailed v reason now) t = nothing_added t
+  asked_accepts (call.ConstructNotarize v) t = nothing_added t
+  asked_accepts call.CertifyCandidates t = nothing_added t
+  asked_accepts (call.SetCertifyHandle v token) t = nothing_added t
+  asked_accepts (call.Certified v success now) t = accepted_where (facts.Certified v success now) t
+  asked_accepts (call.ConstructNullify v reason) t = accepted_where (facts.ConstructNullify v) t
+  asked_accepts (call.ConstructFinalize v) t = accepted_where (facts.ConstructFinalize v) t
+  asked_accepts (call.BroadcastNotarization v) t = accepted_where (facts.BroadcastNotarization v) t
+  asked_accepts (call.BroadcastNullification v) t = accepted_where (facts.BroadcastNullification v) t
+  asked_accepts (call.BroadcastFinalization v) t = accepted_where (facts.BroadcastFinalization v) t
+  asked_accepts call.GetBestCertificate t = accepted_where facts.GetBestCertificate t
+  asked_accepts (call.TriggerTimeout v reason now) t = nothing_added t
+  asked_accepts (call.NextTimeout now) t = nothing_added t
+  asked_accepts call.Prune t = accepted_where facts.Prune t
 
-  pub made_shown : (c : Call S D K G C) (r : Reply S D K G C) → deeds_at {L = L} (Calls (call_facts bytes_of c)) (told bytes_of r) ≡ taken_by c r ++ votes_in r
-  made_shown c r = sym (ap (λ ds. ds ++ votes_in r) (call_shown c r) ∙ ap (λ ds. accepted_at {L = L} (Calls (call_facts bytes_of c)) (told bytes_of r) ++ ds) (votes_shown bytes_of r))
+  taken_where : (c : Call S D K G C) (r : Reply S D K G C) → taken_by c r ≡ where_added (told bytes_of r) (certificates_in c)
+  taken_where c (reply.Added newly leader) = refl
+  taken_where c (reply.AddedNullification newly) = refl
+  taken_where c _ = refl
 
-  pub work_shown : (w : Work D) (r : Reply S D K G C) → deeds_at {L = L} (Works (work_facts w)) (told bytes_of r) ≡ votes_in r
-  work_shown w r = sym (votes_shown bytes_of r)
+  call_shown : (c : Call S D K G C) (r : Reply S D K G C) → taken_by c r ≡ accepted_at {L = L} (asked bytes_of c) (told bytes_of r)
+  call_shown c r = taken_where c r ∙ sym (asked_accepts c (told bytes_of r))
+
+  pub made_shown : (c : Call S D K G C) (r : Reply S D K G C) → deeds_at {L = L} (asked bytes_of c) (told bytes_of r) ≡ taken_by c r ++ votes_in r
+  made_shown c r = sym (ap (λ ds. ds ++ votes_in r) (call_shown c r) ∙ ap (λ ds. accepted_at {L = L} (asked bytes_of c) (told bytes_of r) ++ ds) (votes_shown bytes_of r))
+
+  -- a call is no restart
+  call_is_none : (c : Call S D K G C) → is_restart (asked {L = L} bytes_of c) ≡ false
+  call_is_none (call.AddNotarization c) = refl
+  call_is_none (call.AddNullification c now) = refl
+  call_is_none (call.AddFinalization c now) = refl
+  call_is_none (call.SetProposal v p) = refl
+  call_is_none call.TryPropose = refl
+  call_is_none (call.Proposed v payload now) = refl
+  call_is_none (call.SupersedeProposalRequest v) = refl
+  call_is_none (call.PendingHandoffAbandonment v) = refl
+  call_is_none (call.ReleaseProposalRequest v) = refl
+  call_is_none call.TryVerify = refl
+  call_is_none (call.Verified v) = refl
+  call_is_none (call.VerificationFailed v reason now) = refl
+  call_is_none (call.ConstructNotarize v) = refl
+  call_is_none call.CertifyCandidates = refl
+  call_is_none (call.SetCertifyHandle v token) = refl
+  call_is_none (call.Certified v success now) = refl
+  call_is_none (call.ConstructNullify v reason) = refl
+  call_is_none (call.ConstructFinalize v) = refl
+  call_is_none (call.BroadcastNotarization v) = refl
+  call_is_none (call.BroadcastNullification v) = refl
+  call_is_none (call.BroadcastFinalization v) = refl
+  call_is_none call.GetBestCertificate = refl
+  call_is_none (call.TriggerTimeout v reason now) = refl
+  call_is_none (call.NextTimeout now) = refl
+  call_is_none call.Prune = refl
+
+  pub call_no_restart : (c : Call S D K G C) (r : RestartFacts K L D) → Restarts r ≡ asked bytes_of c → ⊥
+  call_no_restart c r at = false≢true (sym (call_is_none c) ∙ sym (ap is_restart at))
 
 module _ {S L D K G C : Type 0} (me : S → Option ℕ) (members : S → List K) (terms : L → Terms) (elects_early : L → Bool) (bytes_of : C → List ℕ) where
   taken_shown : (s : Step S L D K G C) (r : Reply S D K G C) → taken_in s r ≡ accepted_at (step_facts me members terms elects_early bytes_of s) (told bytes_of r)
   taken_shown (step.Call c) r = call_shown L bytes_of c r
-  taken_shown (step.Work w) r = refl
   taken_shown (step.Restart q) reply.Restarted = floor_shown bytes_of q.start.floor
   taken_shown (step.Restart q) _ = refl
 
@@ -85,8 +159,7 @@ module _ {S L D K G C : Type 0} (me : S → Option ℕ) (members : S → List K)
   ]
     where
       by_step : (t : Step S L D K G C) → step_facts me members terms elects_early bytes_of t ≡ Restarts q → ((r : Restart S L D K G C) → t ≡ step.Restart r → IsSetUpAs me terms term_length i r.start) → BeginsAs term_length i q.start.fresh
-      by_step (step.Call c) is holds = absurd (cc)
-      by_step (step.Work w) is holds = absurd (cc)
+      by_step (step.Call c) is holds = absurd (call_no_restart L bytes_of c q (sym is))
       by_step (step.Restart r) is holds =
           let same : restart_facts me members terms elects_early bytes_of r ≡ q = cc in
           subst (λ (p : RestartFacts K L D). BeginsAs term_length i p.start.fresh) same (begins_as term_length i r.start (holds r refl))

@@ -45,7 +45,7 @@ entered_reaches x v now = enters (nat_lt x.current v) refl
 
 module _ {K L D : Type 0} (same : D → D → Bool) (elect : Elect L) (x : Facts K L D) where
   -- a floor and a finalization enter a view above
-  event_passes : (e : Event K D) → ((is_floor e ≡ false) × (finalized_by e ≡ 0)) ⊎ (finalized_by e < (after_event same elect x e).current)
+  pub event_passes : (e : Event K D) → ((is_floor e ≡ false) × (finalized_by e ≡ 0)) ⊎ (finalized_by e < (after_event same elect x e).current)
   event_passes (event.AddFinalization c now) = inr (passes (event.AddFinalization c now) refl)
     where
       passes : (e : Event K D) → finalization_by e ≡ Some c → c.proposal.round.view < (after_add_finalization same elect x c now).current

@@ -10,6 +10,7 @@ use Rattle.simplex_types.specs.declared.types.messages.Context.{Context}
 use Rattle.simplex_types.specs.declared.types.messages.Proposal.{Proposal}
 use Rattle.simplex_types.specs.declared.reasons.TimeoutReason.{TimeoutReason}
 use Rattle.simplex_round.specs.declared.round.Leader.{Leader}
+use Rattle.simplex_round.specs.declared.round.Decision.{Decision}
 use Rattle.simplex_round.specs.declared.round.Decision.TheVariants as decision
 use Rattle.simplex_round.specs.declared.round.Certification.TheVariants as certification
 use Rattle.simplex_round.specs.Slot.{after_own, after_vote, after_mark}
@@ -87,6 +88,12 @@ pub record IsSilent {K D : Type 0} (e : Event K D) : Type 0 where
   pub final : finalized_by e ≡ 0
   pub prune : is_prune e ≡ false
 
+-- a view with this decision times out, unless it is certified or to be finalized: it was entered, so its deadlines are set
+abbrev pub is_timed : Decision → Bool
+is_timed (decision.Pending leader certified latch) = is_some certified
+is_timed (decision.Nullify retry) = true
+is_timed decision.Finalize = true
+
 module _ {K L D : Type 0} (same : D → D → Bool) (elect : Elect L) (begun : Facts K L D) (e : Event K D) where
   -- a change of one round, by an event at the facts `begun`; x are the facts just before
   pub data RoundStep (x : Facts K L D) (v : ℕ) (r : RoundFacts K D) : RoundFacts K D → Type 0 where
@@ -133,7 +140,8 @@ module _ {K L D : Type 0} (same : D → D → Bool) (elect : Elect L) (begun : F
     Unnames : Step low x (record x { named = [] })
     Covers : (u : ℕ) → covers_from u e ≡ true → Step low x (nullified_also x u)
     Notes : (u : ℕ) → nullify_by e ≡ Some u → Step low x (record x { nullify_votes = insert_key nat_cmp x.nullify_votes u })
-    Reaches : (v : ℕ) → x.current < v → Step low x (record x { current = v })
+    -- a view that was entered is the current one
+    Reaches : (v : ℕ) → x.current < v → is_timed (round_of x v).decision ≡ true → Step low x (record x { current = v })
     Raises : (v : ℕ) → finalized_by e ≡ v → x.finalized < v → Step low x (record x {
       finalized = v;
       named = filter (λ w. nat_lt v w) x.named;

@@ -68,7 +68,7 @@ module _ {K L D : Type 0} (same : D → D → Bool) (elect : Elect L) where
             let goes = living_call m call x alive in
             inr (x, goes.0, alive, ap (λ n. n.life) leaves ∙ goes.1, subst (λ t. Holds (Calling call) t x goes.0) (sym tells) goes.2)
         by_life (Some x) alive (inr (_, tells, inl leaves)) = inr (x, x, alive, ap (λ n. n.life) leaves ∙ alive, subst (λ t. Holds (Calling call) t x x) (sym tells) (refused (Calling call) _ x))
-        by_life (Some x) alive (inr (_, tells, inr leaves)) = inl (_, tells, ap (λ n. n.life) leaves)
+        by_life (Some x) alive (inr (_, tells, inr (_, _, leaves))) = inl (_, tells, ap (λ n. n.life) leaves)
 
     work_outcome : (m : MemberFacts K L D) (call : WorkCall D) (told : Told K D) (left : MemberFacts K L D) → IsWork same elect m call told left → Outcome m (Working call) told left
     unfolding IsWork
@@ -80,7 +80,7 @@ module _ {K L D : Type 0} (same : D → D → Bool) (elect : Elect L) where
             let goes = living_work m call x alive in
             inr (x, goes.0, alive, ap (λ n. n.life) leaves ∙ goes.1, subst (λ t. Holds (Working call) t x goes.0) (sym tells) goes.2)
         by_life (Some x) alive (inr (_, tells, inl leaves)) = inr (x, x, alive, ap (λ n. n.life) leaves ∙ alive, subst (λ t. Holds (Working call) t x x) (sym tells) (refused (Working call) _ x))
-        by_life (Some x) alive (inr (_, tells, inr leaves)) = inl (_, tells, ap (λ n. n.life) leaves)
+        by_life (Some x) alive (inr (_, tells, inr (_, leaves))) = inl (_, tells, ap (λ n. n.life) leaves)
 
     pub call_outcome : (m : MemberFacts K L D) (call : LifeCall D) (told : Told K D) (left : MemberFacts K L D) → IsStep same elect m (as_step call) told left → Outcome m call told left
     call_outcome m (Calling call) told left is_step = plain_outcome m call told left is_step

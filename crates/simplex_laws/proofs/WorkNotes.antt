@@ -42,7 +42,7 @@ use Rattle.simplex_laws.proofs.Calm.{leads_round, Grown, Calm, calm, calm_alike,
 use Rattle.simplex_laws.proofs.CalmOn.{CalmOn, above_put, on_joined, on_same, on_if, on_put, on_there, on_tracked, on_moment, on_prepared, on_triggered}
 use Rattle.simplex_laws.proofs.Tidy.{Tidy, contrary, opposite, answered, given_out, proposes, reopened, tidy_calm}
 use Rattle.simplex_laws.proofs.Notes.{NotesStand, notes_calm}
-use Rattle.simplex_laws.proofs.Openings.{among_others, now_among, context_view, still_open, now_open}
+use Rattle.simplex_laws.proofs.Openings.{among_others, now_among, got_others, still_open, now_open, some_still, still_placed, ArePlaced, NoMoreContexts}
 use Rattle.simplex_laws.proofs.InOrder.{InOrder}
 use Rattle.simplex_laws.proofs.Filters.{Contains-filtered, filtered_passes}
 use Rattle.simplex_laws.proofs.Ordered.{found_in_order}
@@ -60,18 +60,17 @@ module _ {K L D : Type 0} (base low : ℕ) (deeds : List (Deed D)) (o o' : Openi
       → Tidy (is_verifying o' v) (is_some (context_at o' v)) r
       → (r.slot.verified ≡ true → r.notarize_decided ≡ false → low ≤ v)
       → ((w : ℕ) → is_verifying o' w ≡ true → (w ≡ v) ⊎ (is_verifying o w ≡ true))
-      → ((w : ℕ) → is_some (context_at o' w) ≡ true → (w ≡ v) ⊎ (is_some (context_at o w) ≡ true))
+      → NoMoreContexts o o'
       → ((is_verifying o' v ≡ true) → low ≤ v)
-      → ((is_some (context_at o' v) ≡ true) → low ≤ v)
       → NotesStand base low deeds o' (with_round x v r)
-  notes_put tracked grown tidy worked verifying opened verifying_low context_low = record {
+  notes_put tracked grown tidy worked verifying opened verifying_low = record {
     above = above_put base x v r (notes.above v tracked) notes.above;
     active = notes.active;
     reached = notes.reached;
     tidy = λ w over. elim (cases_eq w v) [
       | inl at ↦ subst (λ u. Tidy (is_verifying o' u) (is_some (context_at o' u)) (round_of (with_round x v r) u)) (sym at) (subst (λ s. Tidy (is_verifying o' v) (is_some (context_at o' v)) s) (sym (round_put x v r)) tidy)
       | inr apart ↦ subst (λ s. Tidy (is_verifying o' w) (is_some (context_at o' w)) s) (sym (round_of-with_round x w v apart r))
-          (tidy_calm w (is_verifying o w) (is_some (context_at o w)) (is_verifying o' w) (is_some (context_at o' w)) (round_of x w) (round_of x w) (calm w (round_of x w)) (elsewhere w apart (verifying w)) (elsewhere w apart (opened w)) (notes.tidy w over))
+          (tidy_calm w (is_verifying o w) (is_some (context_at o w)) (is_verifying o' w) (is_some (context_at o' w)) (round_of x w) (round_of x w) (calm w (round_of x w)) (elsewhere w apart (verifying w)) (some_still (context_at o' w) (context_at o w) (opened w)) (notes.tidy w over))
     ];
     placed = λ w p is. elim (cases_eq w v) [
       | inl at ↦ (let here = subst (λ (s : RoundFacts K D). s.slot.held ≡ Some p) (round_put x v r) (subst (λ u. (round_of (with_round x v r) u).slot.held ≡ Some p) at is) in elim (grown.placed p here) [ inl before ↦ notes.placed v p before ∙ sym at | inr now ↦ now ∙ sym at ])
@@ -85,10 +84,8 @@ module _ {K L D : Type 0} (base low : ℕ) (deeds : List (Deed D)) (o o' : Openi
       | inl at ↦ subst (λ u. low ≤ u) (sym at) (verifying_low (subst (λ u. is_verifying o' u ≡ true) at is))
       | inr before ↦ notes.verifying_low w before
     ];
-    context_low = λ w is. elim (opened w is) [
-      | inl at ↦ subst (λ u. low ≤ u) (sym at) (context_low (subst (λ u. is_some (context_at o' u) ≡ true) at is))
-      | inr before ↦ notes.context_low w before
-    ];
+    context_low = λ w is. notes.context_low w (some_still (context_at o' w) (context_at o w) (opened w) is);
+    contexts_placed = λ w c is. notes.contexts_placed w c (opened w c is);
     voted = λ p h above over. elim (cases_eq p.round.view v) [
       | inl at ↦ subst (λ u. (round_of (with_round x v r) u).notarize_decided ≡ true) (sym at) (subst (λ (s : RoundFacts K D). s.notarize_decided ≡ true) (sym (round_put x v r)) (grown.decided (subst (λ u. (round_of x u).notarize_decided ≡ true) at (notes.voted p h above over))))
       | inr apart ↦ subst (λ (s : RoundFacts K D). s.notarize_decided ≡ true) (sym (round_of-with_round x p.round.view v apart r)) (notes.voted p h above over)
@@ -183,13 +180,13 @@ module _ {K L D : Type 0} (same : D → D → Bool) (decides : (d e : D) → sam
   -- with nothing more open
 
   left_notes : (y : Facts K L D) → CalmOn base x y → NotesStand base low deeds o y
-  left_notes y left = notes_calm base low deeds o o x y left (λ v is. is) (λ v is. is) notes
+  left_notes y left = notes_calm base low deeds o o x y left (λ v is. is) (λ v c is. is) notes
 
   closed_notes : (v : ℕ) (y : Facts K L D) → CalmOn base x y → NotesStand base low deeds (without_context o v) y
-  closed_notes v y left = notes_calm base low deeds o (without_context o v) x y left (λ w is. is) (λ w is. still_open o v w is) notes
+  closed_notes v y left = notes_calm base low deeds o (without_context o v) x y left (λ w is. is) (λ w c is. got_others o.contexts v w c is) notes
 
   answered_notes : (v : ℕ) (y : Facts K L D) → CalmOn base x y → NotesStand base low deeds (without_verification o v) y
-  answered_notes v y left = notes_calm base low deeds o (without_verification o v) x y left (λ w is. (among_others v w o.verifying is).0) (λ w is. is) notes
+  answered_notes v y left = notes_calm base low deeds o (without_verification o v) x y left (λ w is. (among_others v w o.verifying is).0) (λ w c is. is) notes
 
   kept_view : (v : ℕ) → min_active x ≤ v → base ≤ v
   kept_view v over = omega (arith, over, notes.active)
@@ -219,6 +216,7 @@ module _ {K L D : Type 0} (same : D → D → Bool) (decides : (d e : D) → sam
     worked = notes.worked;
     verifying_low = notes.verifying_low;
     context_low = λ v is. elim (now_open o context v is) [ inl at ↦ subst (λ u. low ≤ u) (sym at) over | inr before ↦ notes.context_low v before ];
+    contexts_placed = still_placed o context notes.contexts_placed;
     voted = notes.voted;
     covered = notes.covered;
   }
@@ -235,7 +233,7 @@ module _ {K L D : Type 0} (same : D → D → Bool) (decides : (d e : D) → sam
       let there : round_of x e.0 ≡ e.1 = round_in_order x e ordered (Contains-filtered _ x.rounds e among) in
       let leads : leads_round (round_of x context.round.view) ≡ true = subst (λ v. leads_round (round_of x v) ≡ true) (sym parts.1) (ap leads_round there ∙ proposer_leads e.1 parts.0) in
       let over : low ≤ context.round.view = (let ahead = ahead_now x e among in omega (arith, notes.reached, ahead, parts.1)) in
-      notes_calm base low deeds (with_context o context) (with_context o context) x (with_build x context.round.view true) (build_calm context.round.view true) (λ v is'. is') (λ v is'. is') (opened_notes context leads over)
+      notes_calm base low deeds (with_context o context) (with_context o context) x (with_build x context.round.view true) (build_calm context.round.view true) (λ v is'. is') (λ v c is'. is') (opened_notes context leads over)
 
   -- an own proposal
 
@@ -248,7 +246,7 @@ module _ {K L D : Type 0} (same : D → D → Bool) (decides : (d e : D) → sam
   proposed_notes v (Some c) payload now is = by_answer (proposed_answer same elect x c payload) refl
     where
       at : c.round.view ≡ v
-      at = context_view o v c is
+      at = notes.contexts_placed v c is
 
       built : Proposal D
       built = proposal_of c payload
@@ -286,8 +284,7 @@ module _ {K L D : Type 0} (same : D → D → Bool) (decides : (d e : D) → sam
           (proposes v (is_verifying o v) (is_some (context_at o v)) (is_verifying o v) (is_some (context_at (without_context o v) v)) r s grown (λ q. still_open o v v q) (notes.tidy v (notes.above v tracked)) built c.parent.1 refl (ap (λ (t : SlotFacts D). t.held) slot) (ap (λ (t : SlotFacts D). t.verify_requested) slot) opened (λ q. q))
           (λ q un. notes.context_low v opened)
           (λ w q. inr q)
-          (λ w q. inr (still_open o v w q))
-          (λ q. notes.context_low v opened)
+          (λ w k q. got_others o.contexts v w k q)
           (λ q. notes.context_low v opened)
 
       by_answer : (b : Bool) → proposed_answer same elect x c payload ≡ b → NotesStand base low deeds (without_context o v) (if b then with_round m c.round.view (proposed_round same (round_of x c.round.view) c payload now) else m)
@@ -317,9 +314,8 @@ module _ {K L D : Type 0} (same : D → D → Bool) (decides : (d e : D) → sam
           (answered v (is_verifying o v) (is_some (context_at o v)) (is_verifying (without_verification o v) v) (is_some (context_at o v)) r s (unbound_grown v r) (λ q. q) tidy (λ q un. absurd (opposite r.slot.verified q (tidy.verifying_unmarked open_now un))) open_now (not_open v))
           (λ q un. old.worked v q un)
           (λ w q. inr (among_others v w o.verifying q).0)
-          (λ w q. inr q)
+          (λ w k q. q)
           (λ q. old.verifying_low v open_now)
-          (λ q. old.context_low v q)
         where
           not_open : (u : ℕ) → is_verifying (without_verification o u) u ≡ false
           not_open u = by_flag (is_verifying (without_verification o u) u) refl
@@ -348,9 +344,8 @@ module _ {K L D : Type 0} (same : D → D → Bool) (decides : (d e : D) → sam
           (answered v (is_verifying o v) (is_some (context_at o v)) (is_verifying (without_verification o v) v) (is_some (context_at o v)) r (with_mark r) (mark_grown v r) (λ q. q) (notes.tidy v (notes.above v is)) (λ q un. mark_bound v r) open_now (not_open (is_verifying (without_verification o v) v) refl))
           (λ q un. notes.verifying_low v open_now)
           (λ w q. inr (among_others v w o.verifying q).0)
-          (λ w q. inr q)
+          (λ w k q. q)
           (λ q. notes.verifying_low v open_now)
-          (λ q. notes.context_low v q)
 
   failed_notes : (v : ℕ) (reason : TimeoutReason) (now : ℕ) → is_verifying o v ≡ true → NotesStand base low deeds (without_verification o v) (after_verification_failed same elect x v reason now)
   failed_notes v reason now open_now =
@@ -453,13 +448,16 @@ module _ {K L D : Type 0} (same : D → D → Bool) (elect : Elect L) (base low 
   now_verifying : (w : ℕ) → is_verifying opened w ≡ true → IsGiven same elect x w ⊎ (is_verifying o w ≡ true)
   now_verifying w is = now_given (slice_get (filter_map (answer_in same elect x) (views_ahead x)) 0) refl w is
 
-  context_still : (w : ℕ) → is_some (context_at opened w) ≡ true → is_some (context_at o w) ≡ true
-  context_still w is = sym (by_answer (verify_answer same elect x)) ∙ is
+  context_kept : NoMoreContexts o opened
+  context_kept w c is = sym (by_answer (verify_answer same elect x)) ∙ is
     where
-      by_answer : (answer : Verify D K) → is_some (context_at (with_verification o answer) w) ≡ is_some (context_at o w)
+      by_answer : (answer : Verify D K) → context_at (with_verification o answer) w ≡ context_at o w
       by_answer (verify.Ready context p) = refl
       by_answer (verify.Resolve proposal view kind target) = refl
       by_answer verify.Wait = refl
+
+  context_still : (w : ℕ) → is_some (context_at opened w) ≡ true → is_some (context_at o w) ≡ true
+  context_still w is = some_still (context_at opened w) (context_at o w) (context_kept w) is
 
   abbrev IsLeft : ℕ → RoundFacts K D → Type 0
   IsLeft w s = Grown w (round_of x w) s × (s.slot.verified ≡ true → (round_of x w).slot.verified ≡ true) × (base ≤ w → Tidy (is_verifying opened w) (is_some (context_at opened w)) s)
@@ -505,6 +503,7 @@ module _ {K L D : Type 0} (same : D → D → Bool) (elect : Elect L) (base low 
     worked = λ w is un. notes.worked w ((left_there w).1 is) (contrary (round_of (after_try_verify same elect x) w).notarize_decided (round_of x w).notarize_decided (left_there w).0.decided un);
     verifying_low = λ w is. elim (now_verifying w is) [ inl given ↦ (let ahead = given.ahead in omega (arith, ahead, notes.reached)) | inr before ↦ notes.verifying_low w before ];
     context_low = λ w is. notes.context_low w (context_still w is);
+    contexts_placed = λ w c is. notes.contexts_placed w c (context_kept w c is);
     voted = λ p h above over. (left_there p.round.view).0.decided (notes.voted p h above over);
     covered = notes.covered;
   }
@@ -542,7 +541,7 @@ module _ {K L D : Type 0} (same : D → D → Bool) (decides : (d e : D) → sam
   work_notes (Verified v) ordered allowed silent = verified_notes same decides elect base low deeds o x notes v allowed
   work_notes (VerificationFailed v reason now) ordered allowed silent = failed_notes same decides elect base low deeds o x notes v reason now allowed
   work_notes (ConstructNotarize v) ordered allowed silent = absurd (false≢true silent)
-  work_notes CertifyCandidates ordered allowed silent = notes_calm base low deeds o (openings_after same elect x o CertifyCandidates) x (after_candidates x) (record { settings = refl; current = omega arith; finalized = omega arith; nullified = refl; above = λ above. above; rounds = λ v. calm v (round_of x v) }) (λ v is. is) (λ v is. is) notes
+  work_notes CertifyCandidates ordered allowed silent = notes_calm base low deeds o (openings_after same elect x o CertifyCandidates) x (after_candidates x) (record { settings = refl; current = omega arith; finalized = omega arith; nullified = refl; above = λ above. above; rounds = λ v. calm v (round_of x v) }) (λ v is. is) (λ v c is. is) notes
   work_notes (SetCertifyHandle v token) ordered allowed silent = left_notes same decides elect base low deeds o x notes _ (on_tracked base x v _ (calm_alike v (round_of x v) _ refl refl refl refl refl))
   work_notes (TriggerTimeout v reason now) ordered allowed silent =
       let m = at_moment x now in

@@ -17,5 +17,6 @@ pub mod Exactly
 pub mod Places
 pub mod Agreement
 pub mod Living
+pub mod Resumes
 pub mod Shown
 pub mod Scripts

@@ -1,8 +1,10 @@
 -- What each life of a member keeps. A life lies between a start or a restart and the next one.
-use Rattle.std.specs.Prelude.{◌≡◌, ◌⊎◌, ℕ, ◌<◌, ◌≤◌, Bool, true, false, List, [], ◌∷◌, ◌++◌, map, length, nat_eq, Contains, Option, Some, None}
+use Rattle.std.specs.Prelude.{◌≡◌, ◌⊎◌, ℕ, ◌<◌, ◌≤◌, Bool, true, false, List, [], ◌∷◌, ◌++◌, map, length, nat_eq, Contains, Option, Some, None, MatchOption}
 use Rattle.std.specs.List.{IsDistinct}
 use Rattle.simplex_types.specs.Certificates.{CertificateFacts, Notarized, Nullified, Finalized}
+use Rattle.simplex_round.specs.Round.{is_certified, is_finalize}
 use Rattle.simplex_voter.specs.Facts.{Facts, Elect, round_of, is_tracked}
+use Rattle.simplex_voter.specs.Timeouts.{has_timeout}
 use Rattle.simplex_voter.specs.Windows.{min_active}
 use Rattle.simplex_member.specs.Calls.{CallFacts, BroadcastNotarization, BroadcastNullification, BroadcastFinalization, Told, Handed, Dropped}
 use Rattle.simplex_member.specs.Entries.{certificate_round}
@@ -48,6 +50,13 @@ WhileAlive Holds (Some first) (Some last) = Holds first last
 pub record NeverFalls {K L D : Type 0} (first last : Facts K L D) : Type 0 where
   pub current : first.current ≤ last.current
   pub finalized : first.finalized ≤ last.finalized
+
+-- the current view lies above the last finalized one, and times out, unless it is certified or decided to be finalized
+pub record CurrentTimesOut {K L D : Type 0} (x : Facts K L D) : Type 0 where
+  pub ahead : x.finalized < x.current
+  pub timeout : (has_timeout x ≡ true)
+      ⊎ (is_certified (round_of x x.current).certification ≡ true)
+      ⊎ (is_finalize (round_of x x.current).decision ≡ true)
 
 -- a proposal of the view was seen that contradicts another
 abbrev pub is_conflicted : {K L D : Type 0} → Facts K L D → ℕ → Bool
@@ -132,6 +141,15 @@ module _ (K : Type 0) {L D : Type 0} (same : D → D → Bool) (elect : Elect L)
       → BeginFresh term_length before
       → IsLifeOfRun same elect start before told m calls replies end
       → Holds m calls replies end
+
+  -- of the state that a run leads to, while the member lives, where each life begins freshly
+  abbrev pub OfEachState : (Facts K L D → Type 0) → Type 0
+  OfEachState Holds =
+      (term_length : ℕ) (start : StartFacts K L D) (steps : List (StepFacts K L D)) (replies : List (Told K D)) (end : MemberFacts K L D)
+      → IsFresh term_length start.fresh
+      → BeginFresh term_length steps
+      → IsRun same elect (started same elect start.fresh start.floor start.now) steps replies end
+      → MatchOption end.life (Unit {0}) Holds
 
   -- calls of a run with no restart among them are such a stretch
   abbrev pub StretchesAreLives : Type 0

@@ -1,11 +1,15 @@
 -- What has come to a member so far and what it answered, of the code's own values.
-use Rattle.std.specs.Prelude.{◌≡◌, ℕ, Bool, List, [], ◌∷◌, ◌++◌, map, Option, None, Result}
+use Rattle.std.specs.Prelude.{◌≡◌, ℕ, Bool, List, [], ◌∷◌, ◌++◌, map, Option, None, Result, Ok}
 use Rattle.simplex_types.specs.declared.types.window.Terms.{Terms}
+use Rattle.simplex_types.specs.Certificates.{ArtifactFacts}
 use Rattle.simplex_voter.specs.Facts.{Elect}
+use Rattle.simplex_member.specs.declared.member.error.RecoverError.{RecoverError}
+use Rattle.simplex_member.specs.declared.member.journal.Stored.{Stored}
 use Rattle.simplex_member.specs.declared.member.calls.Reply.{Reply}
 use Rattle.simplex_member.specs.declared.member.runs.Step.{Step}
 use Rattle.simplex_member.specs.declared.member.start.Start.{Start}
 use Rattle.simplex_member.specs.Calls.{Told, told}
+use Rattle.simplex_member.specs.Journal.{stored_of}
 use Rattle.simplex_member.specs.Lives.{MemberFacts}
 use Rattle.simplex_member.specs.Recovery.{recover_error}
 use Rattle.simplex_member.specs.Runs.{StepFacts, steps_of, IsRun}
@@ -68,3 +72,12 @@ module _ {S L D K G C : Type 0} (same : D → D → Bool) (elect : Elect L) (me 
       → IsSetUpAs me terms term_length i start
       → HasDone same elect term_length i all m
       → HasDone same elect term_length i (all ++ begun_by start result) next
+
+  -- one that goes on with this start from what a journal holds has done all that the member did which it was stored of, and
+  -- has accepted the floor's finalization besides
+  abbrev pub HasGoneOn : Stored → List (ArtifactFacts D) → Start S L D K G C → MemberFacts K L D → Type 0
+  HasGoneOn stored entries start next =
+      (m : MemberFacts K L D)
+      → stored_of m ≡ stored
+      → m.entries ≡ entries
+      → HasBegunAgain {E = RecoverError} m start (Ok tt) next

@@ -16,6 +16,7 @@ use Rattle.simplex_laws.specs.Deeds.{Deed, Accepts, Signs}
 module _ {S D K G C : Type 0} where
   -- the vote of a reply
   abbrev pub votes_in : Reply S D K G C → List (Deed D)
+  votes_in (reply.Notarize (Some vote)) = Signs vote.signer (subject.Notarize vote.proposal) ∷ []
   votes_in (reply.Nullify (Some (_, vote))) = Signs vote.signer (subject.Nullify vote.round) ∷ []
   votes_in (reply.Finalize (Some vote)) = Signs vote.signer (subject.Finalize vote.proposal) ∷ []
   votes_in _ = []
@@ -30,6 +31,7 @@ module _ {S D K G C : Type 0} where
   -- it is accepted where the call is told whether it is new
   abbrev pub taken_by : Call S D K G C → Reply S D K G C → List (Deed D)
   taken_by call (reply.Added _ _) = certificates_in call
+  taken_by call (reply.AddedNullification _) = certificates_in call
   taken_by call _ = []
 
   abbrev pub floor_in : Floor S D K G C → List (Deed D)

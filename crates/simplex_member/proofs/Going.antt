@@ -6,7 +6,6 @@ use Rattle.std.specs.Option.{option_map_or}
 use Rattle.simplex_types.specs.Terms.{next_term_start}
 use Rattle.simplex_types.specs.Config.{FloorFacts, Genesis, Finalized}
 use Rattle.simplex_types.specs.Certificates.{ProposalFacts, NullificationFacts}
-use Rattle.simplex_types.specs.declared.types.messages.Subject.{Subject}
 use Rattle.simplex_types.specs.declared.reasons.TimeoutReason.{TimeoutReason}
 use Rattle.simplex_types.specs.declared.reasons.TimeoutReason.TheVariants.{FailedCertification}
 use Rattle.simplex_round.specs.declared.round.Leader.{Leader}

@@ -6,6 +6,7 @@ pub mod Start
 pub mod Recovery
 pub mod RecoveryExamples
 pub mod Restarts
+pub mod Journal
 pub mod RestartExamples
 pub mod Runs
 pub mod Taking
@@ -16,3 +17,5 @@ pub mod Bearing
 pub mod Allowing
 pub mod Remaking
 pub mod Working
+pub mod Answering
+pub mod Opening

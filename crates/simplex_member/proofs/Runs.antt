@@ -1,7 +1,6 @@
 -- A run goes on by a step, and ends by one that is refused.
 use Rattle.std.proofs.Common.{◌≡◌, refl, sym, ◌∙◌, ℕ, ◌+◌, ◌<◌, Bool, false, List, [], ◌∷◌, ◌++◌, map, take, drop, length, get_or, ap, Option, Some, None, inl, inr, ◌⊎◌}
 use Rattle.std.proofs.lemmas.List.{take-append-drop, drop_more}
-use Rattle.simplex_types.specs.declared.types.messages.Subject.{Subject}
 use Rattle.simplex_voter.specs.Facts.{Elect}
 use Rattle.simplex_member.specs.declared.member.error.RecoverError.{RecoverError}
 use Rattle.simplex_member.specs.declared.member.error.RecoverError.TheVariants as error
@@ -16,15 +15,21 @@ use Rattle.simplex_member.specs.Runs.{IsSetUp, AreSetUp, StepFacts, is_refusal, 
 
 -- no reply tells of a restart that was refused
 pub replies_answer : {S D K G C : Type 0} (bytes_of : C → List ℕ) (r : Reply S D K G C) → is_refusal (told bytes_of r) ≡ false
+replies_answer bytes_of reply.Unit = refl
+replies_answer bytes_of (reply.Flag taken) = refl
 replies_answer bytes_of (reply.Added newly leader) = refl
+replies_answer bytes_of (reply.AddedNullification newly) = refl
+replies_answer bytes_of (reply.Request request) = refl
+replies_answer bytes_of (reply.Work verify) = refl
+replies_answer bytes_of (reply.Candidates proposals fetches) = refl
 replies_answer bytes_of (reply.Certified notarization) = refl
+replies_answer bytes_of (reply.Notarize vote) = refl
 replies_answer bytes_of (reply.Nullify vote) = refl
 replies_answer bytes_of (reply.Finalize vote) = refl
 replies_answer bytes_of (reply.Certificate certificate) = refl
+replies_answer bytes_of (reply.Timeout at reason) = refl
 replies_answer bytes_of (reply.Views views) = refl
-replies_answer bytes_of (reply.Answered taken) = refl
-replies_answer bytes_of (reply.TimesOut at reason) = refl
-replies_answer bytes_of reply.Done = refl
+replies_answer bytes_of (reply.Abandoned reason) = refl
 replies_answer bytes_of reply.Restarted = refl
 replies_answer bytes_of (reply.Fault fault) = refl
 replies_answer bytes_of reply.NotAllowed = refl

@@ -1,61 +1,62 @@
--- A call on the work of a view leaves a state that goes on, records nothing and opens nothing.
-use Rattle.std.proofs.Common.{◌≡◌, refl, ap, sym, ◌∙◌, ℕ, Bool, true, false, [], ◌++◌, Some, None, inl}
-use Rattle.std.proofs.lemmas.List.{append-nil}
-use Rattle.simplex_types.specs.declared.types.messages.Subject.{Subject}
+-- A call on the work of a view leaves a state that goes on.
+use Rattle.std.proofs.Common.{refl, ℕ, Bool, true, Option, Some, None}
+use Rattle.std.specs.Option.{option_map_or}
+use Rattle.simplex_types.specs.declared.types.messages.Context.{Context}
 use Rattle.simplex_voter.specs.Facts.{Facts, Elect, round_of}
 use Rattle.simplex_voter.specs.Entering.{at_moment}
 use Rattle.simplex_voter.specs.Leaders.{prepared}
-use Rattle.simplex_voter.specs.Proposing.{build_requested}
-use Rattle.simplex_voter.specs.Refusals.{is_started}
+use Rattle.simplex_voter.specs.Proposing.{with_build, request_context, propose_answer, proposed_answer, after_proposed, supersede_answer, after_supersede}
+use Rattle.simplex_voter.specs.declared.voter.proposal_request.ProposalRequest.{ProposalRequest}
+use Rattle.simplex_voter.specs.Rules.{may_notarize}
+use Rattle.simplex_voter.specs.Parents.{binding_matches}
 use Rattle.simplex_voter.specs.Timeouts.{triggered, polled}
 use Rattle.simplex_voter.specs.Verifying.{with_proposal}
-use Rattle.simplex_member.specs.Calls.{Told}
-use Rattle.simplex_member.specs.Lives.{MemberFacts}
-use Rattle.simplex_member.specs.Openings.{no_openings}
-use Rattle.simplex_member.specs.Work.{work_facts, work_allowed, work_fault, work_answer, recorded_by_work, after_work, openings_after, IsWork}
-use Rattle.simplex_member.specs.declared.member.work.Work.{Work}
-use Rattle.simplex_member.specs.declared.member.work.Work.TheVariants.{SetProposal, ReleaseProposalRequest, TriggerTimeout, NextTimeout}
-use Rattle.simplex_member.proofs.Going.{Goes, joined, with_round_goes, tracked_goes, moment_goes, triggered_goes}
+use Rattle.simplex_voter.specs.Votes.{notarize_cast}
+use Rattle.simplex_member.specs.Openings.{Openings, context_at}
+use Rattle.simplex_member.specs.Work.{WorkCall, SetProposal, TryPropose, Proposed, SupersedeProposalRequest, PendingHandoffAbandonment, ReleaseProposalRequest, TryVerify, Verified, VerificationFailed, ConstructNotarize, CertifyCandidates, SetCertifyHandle, TriggerTimeout, NextTimeout, after_work}
+use Rattle.simplex_member.proofs.Going.{Goes, stays, joined, where_so, with_round_goes, tracked_goes, moment_goes, triggered_goes}
 use Rattle.simplex_member.proofs.Recovery.{prepared_goes}
 
 module _ {K L D : Type 0} (same : D → D → Bool) (elect : Elect L) (x : Facts K L D) where
-  work_goes : (work : Work D) → Goes x (after_work same elect x no_openings (work_facts work))
-  work_goes (SetProposal v p) =
+  built : (request : Option (ProposalRequest D K)) → Goes x (option_map_or (λ r. with_build x (request_context r).round.view true) request x)
+  built None = stays x
+  built (Some request) = tracked_goes x _ _
+
+  proposed : (payload : D) (now : ℕ) (context : Option (Context D K)) → Goes x (option_map_or (λ c. after_proposed same elect x c payload now) context x)
+  proposed payload now None = stays x
+  proposed payload now (Some c) =
+      let a = at_moment x now in
+      where_so x (proposed_answer same elect x c payload) _ a (joined x a _ (moment_goes x now) (with_round_goes a _ _)) (moment_goes x now)
+
+  superseded : (context : Option (Context D K)) → Goes x (option_map_or (λ c. after_supersede same elect x c) context x)
+  superseded None = stays x
+  superseded (Some c) = where_so x (supersede_answer same elect x c) _ x (tracked_goes x _ _) (stays x)
+
+  pub work_goes : (o : Openings K D) (call : WorkCall D) → Goes x (after_work same elect x o call)
+  work_goes o (SetProposal v p) =
       let ready = prepared elect x v in
       joined x ready _ (prepared_goes elect x v) (with_round_goes ready v (with_proposal same (round_of ready v) p))
-  work_goes (ReleaseProposalRequest v) = tracked_goes x v (record (round_of x v) { slot = build_requested false (round_of x v).slot })
-  work_goes (TriggerTimeout v reason now) =
+  work_goes o TryPropose = built (propose_answer same elect x)
+  work_goes o (Proposed v payload now) = proposed payload now (context_at o v)
+  work_goes o (SupersedeProposalRequest v) = superseded (context_at o v)
+  work_goes o (PendingHandoffAbandonment _) = stays x
+  work_goes o (ReleaseProposalRequest v) = tracked_goes x v _
+  work_goes o TryVerify = record { failed = refl; settings = refl; terms = refl; started = λ h. h }
+  work_goes o (Verified v) = where_so x (binding_matches same elect x v) _ _ (tracked_goes x v _) (tracked_goes x v _)
+  work_goes o (VerificationFailed v reason now) =
+      let a = at_moment x now in
+      where_so x (binding_matches same elect x v) _ _
+      (joined x a (triggered a v reason now) (moment_goes x now) (triggered_goes a v reason now))
+      (joined x a _ (moment_goes x now) (tracked_goes a v _))
+  work_goes o (ConstructNotarize v) =
+      where_so x (may_notarize same elect x v) _ x
+      (joined x (notarize_cast x v) _ (with_round_goes x v _) (prepared_goes elect (notarize_cast x v) v))
+      (stays x)
+  work_goes o CertifyCandidates = record { failed = refl; settings = refl; terms = refl; started = λ h. h }
+  work_goes o (SetCertifyHandle v token) = tracked_goes x v _
+  work_goes o (TriggerTimeout v reason now) =
       let a = at_moment x now in
       joined x a (triggered a v reason now) (moment_goes x now) (triggered_goes a v reason now)
-  work_goes (NextTimeout now) =
+  work_goes o (NextTimeout now) =
       let a = at_moment x now in
       joined x a _ (moment_goes x now) (tracked_goes a x.current (polled x now))
-
-  -- the state that is left goes on
-  pub work_goes_on : (work : Work D) (y : Facts K L D) → y ≡ after_work same elect x no_openings (work_facts work) → x.failed ≡ false → is_started x ≡ true → (y.failed ≡ false) × (is_started y ≡ true)
-  work_goes_on work y is going started = rw is ((work_goes work).failed ∙ going, (work_goes work).started started)
-
-module _ {K L D : Type 0} (same : D → D → Bool) (elect : Elect L) (x : Facts K L D) where
-  unrecorded : (work : Work D) → recorded_by_work same elect x (work_facts work) ≡ []
-  unrecorded (SetProposal v p) = refl
-  unrecorded (ReleaseProposalRequest v) = refl
-  unrecorded (TriggerTimeout v reason now) = refl
-  unrecorded (NextTimeout now) = refl
-
-  unopened : (work : Work D) → openings_after same elect x no_openings (work_facts work) ≡ no_openings
-  unopened (SetProposal v p) = refl
-  unopened (ReleaseProposalRequest v) = refl
-  unopened (TriggerTimeout v reason now) = refl
-  unopened (NextTimeout now) = refl
-
-  -- a member that has nothing open answers, and nothing of it changes but its state
-  pub work_answered : (m : MemberFacts K L D) (work : Work D) (told : Told K D) (y : Facts K L D) → m.life ≡ Some x → m.openings ≡ no_openings → work_allowed x no_openings (work_facts work) ≡ true → work_fault x (work_facts work) ≡ None → told ≡ work_answer same elect x no_openings (work_facts work) → y ≡ after_work same elect x no_openings (work_facts work) → IsWork same elect m (work_facts work) told (record m { life = Some y })
-  unfolding IsWork
-  work_answered m work told y alive none_open allowed no_fault answer after = rw (alive, none_open, allowed, no_fault) (inl (answer, left))
-    where
-      left : (record m { life = Some y; openings = no_openings }) ≡ record m { life = Some (after_work same elect x no_openings (work_facts work)); openings = openings_after same elect x no_openings (work_facts work); entries = m.entries ++ recorded_by_work same elect x (work_facts work) }
-      left = λ i. record m {
-        life = Some (after i);
-        openings = sym (unopened work) i;
-        entries = sym (ap (λ new. m.entries ++ new) (unrecorded work) ∙ append-nil m.entries) i;
-      }

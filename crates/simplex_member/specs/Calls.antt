@@ -1,11 +1,10 @@
 -- What is asked of a member and what it answers, as plain data, and what a call makes of its state and its record.
-use Rattle.std.specs.Prelude.{ℕ, Bool, true, if◌then◌else◌, List, [], ◌∷◌, Option, Some, None, option_map, option_and_then}
-use Rattle.simplex_types.specs.Certificates.{ProposalFacts, NullificationFacts, CertificateFacts, Notarized, Nullified, Finalized, ArtifactFacts, NullifyVote, FinalizeVote, Verdict, Accepted, notarization_facts, nullification_facts, finalization_facts, certificate_facts}
+use Rattle.std.specs.Prelude.{ℕ, Bool, true, false, if◌then◌else◌, List, [], ◌∷◌, Option, Some, None, option_map, option_and_then}
+use Rattle.simplex_types.specs.Certificates.{ProposalFacts, NullificationFacts, CertificateFacts, Notarized, Nullified, Finalized, ArtifactFacts, NotarizeVote, NullifyVote, FinalizeVote, Verdict, Accepted, notarization_facts, certificate_facts}
 use Rattle.simplex_types.specs.declared.types.fault.Fault.{Fault}
-use Rattle.simplex_types.specs.declared.types.messages.Subject.{Subject}
-use Rattle.simplex_types.specs.declared.types.messages.Subject.TheVariants as subject
 use Rattle.simplex_types.specs.declared.types.messages.Nullify as vote
 use Rattle.simplex_types.specs.declared.types.messages.Finalize as final
+use Rattle.simplex_types.specs.declared.types.messages.Notarize as first
 use Rattle.simplex_types.specs.declared.types.messages.Proposal.{Proposal}
 use Rattle.simplex_types.specs.declared.reasons.TimeoutReason.{TimeoutReason}
 use Rattle.simplex_types.specs.declared.reasons.HandoffAbandonedReason.{HandoffAbandonedReason}
@@ -19,8 +18,6 @@ use Rattle.simplex_voter.specs.Certification.{takes_verdict, is_first_verdict, c
 use Rattle.simplex_voter.specs.Votes.{nullify_answer, after_construct_nullify, finalize_answer, after_construct_finalize}
 use Rattle.simplex_voter.specs.Serving.{broadcast_notarization_answer, after_broadcast_notarization, broadcast_nullification_answer, after_broadcast_nullification, broadcast_finalization_answer, after_broadcast_finalization, best_certificate, prune_answer, after_prune}
 use Rattle.simplex_member.specs.declared.member.error.RecoverError.{RecoverError}
-use Rattle.simplex_member.specs.declared.member.calls.Call.{Call}
-use Rattle.simplex_member.specs.declared.member.calls.Call.TheVariants as call
 use Rattle.simplex_member.specs.declared.member.calls.Reply.{Reply}
 use Rattle.simplex_member.specs.declared.member.calls.Reply.TheVariants as reply
 
@@ -38,21 +35,7 @@ pub data CallFacts (D : Type 0) : Type 0 where
   GetBestCertificate : CallFacts D
   Prune : CallFacts D
 
-abbrev pub call_facts : {S D K G C : Type 0} → (C → List ℕ) → Call S D K G C → CallFacts D
-call_facts bytes_of (call.AddNotarization c) = AddNotarization (notarization_facts bytes_of c)
-call_facts bytes_of (call.AddNullification c now) = AddNullification (nullification_facts bytes_of c) now
-call_facts bytes_of (call.AddFinalization c now) = AddFinalization (finalization_facts bytes_of c) now
-call_facts bytes_of (call.Certified v success now) = Certified v success now
-call_facts bytes_of (call.ConstructNullify v _) = ConstructNullify v
-call_facts bytes_of (call.ConstructFinalize v) = ConstructFinalize v
-call_facts bytes_of (call.BroadcastNotarization v) = BroadcastNotarization v
-call_facts bytes_of (call.BroadcastNullification v) = BroadcastNullification v
-call_facts bytes_of (call.BroadcastFinalization v) = BroadcastFinalization v
-call_facts bytes_of call.GetBestCertificate = GetBestCertificate
-call_facts bytes_of call.Prune = Prune
-
--- what a reply tells, with votes as the entries that they are recorded as; and what no reply tells yet: what those calls on the
--- work of a view are told that no member makes, and why a restart was refused
+-- what a reply tells, with votes as the entries that they are recorded as; and why a restart was refused, which no reply tells
 pub data Told (K D : Type 0) : Type 0 where
   Added : Bool → Option K → Told K D
   Judged : Option (ProposalFacts D) → Told K D
@@ -82,17 +65,26 @@ module _ {S D K G C : Type 0} where
   abbrev pub told_finalize : Option (final.Finalize S D K G C) → Option (ArtifactFacts D)
   told_finalize vote = option_map (λ v. FinalizeVote v.proposal v.signer) vote
 
+  abbrev pub told_notarize : Option (first.Notarize S D K G C) → Option (ArtifactFacts D)
+  told_notarize vote = option_map (λ v. NotarizeVote v.proposal v.signer) vote
+
 module _ {S D K G C : Type 0} (bytes_of : C → List ℕ) where
   abbrev pub told : Reply S D K G C → Told K D
+  told reply.Unit = Done
+  told (reply.Flag taken) = Answered taken
   told (reply.Added newly leader) = Added newly leader
+  told (reply.AddedNullification newly) = Added newly None
+  told (reply.Request request) = Requested request
+  told (reply.Work verify) = Standing verify
+  told (reply.Candidates proposals fetches) = Candidates proposals.items fetches.items
   told (reply.Certified notarization) = Judged (option_map (notarization_facts bytes_of) notarization)
+  told (reply.Notarize vote) = Notarize (told_notarize vote)
   told (reply.Nullify vote) = Nullify (told_nullify vote)
   told (reply.Finalize vote) = Finalize (told_finalize vote)
   told (reply.Certificate certificate) = Handed (option_map (certificate_facts bytes_of) certificate)
+  told (reply.Timeout at reason) = TimesOut (Some (at, reason))
   told (reply.Views views) = Dropped views.items
-  told (reply.Answered taken) = Answered taken
-  told (reply.TimesOut at reason) = TimesOut (Some (at, reason))
-  told reply.Done = Done
+  told (reply.Abandoned reason) = Abandoned reason
   told reply.Restarted = Restarted
   told (reply.Fault fault) = Refused fault
   told reply.NotAllowed = NotAllowed
@@ -113,6 +105,11 @@ module _ {K L D : Type 0} where
   fault_of x (AddFinalization c now) = finalization_refusal x c.proposal now
   fault_of x (Certified v success now) = certified_refusal x v success now
   fault_of x _ = plain_refusal x
+
+-- the state may be lost for want of memory: it never is by what it only shows
+abbrev pub may_fall : {D : Type 0} → CallFacts D → Bool
+may_fall GetBestCertificate = false
+may_fall _ = true
 
 module _ {K L D : Type 0} where
   -- the vote to nullify a view that is answered, with whether it is a repeat

@@ -2,6 +2,8 @@
 use Rattle.std.specs.Prelude.{ℕ, List, codes}
 use Rattle.simplex_member.specs.declared.member.error.RecoverError.{RecoverError}
 use Rattle.simplex_member.specs.declared.member.error.RecoverError.TheVariants as error
+use Rattle.simplex_member.specs.declared.member.resume.ResumeError.{ResumeError}
+use Rattle.simplex_member.specs.declared.member.resume.ResumeError.TheVariants as resume_error
 
 abbrev pub recover_error_name : RecoverError → List ℕ
 recover_error_name error.OutOfOrder = codes "OutOfOrder"
@@ -18,3 +20,7 @@ recover_error_name error.FinalizeWithoutVerdict = codes "FinalizeWithoutVerdict"
 recover_error_name error.TimeOverflow = codes "TimeOverflow"
 recover_error_name error.OutOfMemory = codes "OutOfMemory"
 recover_error_name error.RetentionGrown = codes "RetentionGrown"
+
+abbrev pub resume_error_name : ResumeError → List ℕ
+resume_error_name resume_error.EntriesLost = codes "EntriesLost"
+resume_error_name (resume_error.Recover e) = recover_error_name e

@@ -6,11 +6,12 @@ pub mod Cuts
 pub mod Recovery
 pub mod Calls
 pub mod Signed
-pub mod Made
 pub mod Openings
 pub mod Lives
 pub mod Work
 pub mod Start
 pub mod Restarts
+pub mod Journal
 pub mod Remade
 pub mod Runs
+pub mod Made

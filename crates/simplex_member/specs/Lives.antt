@@ -1,12 +1,11 @@
 -- What is known of a member, and what a call makes of it.
-use Rattle.std.specs.Prelude.{ℕ, Bool, true, false, ◌==◌, not, ◌≡◌, ◌⊎◌, if◌then◌else◌, List, ◌++◌, filter, Option, Some, None}
+use Rattle.std.specs.Prelude.{ℕ, Bool, true, ◌≡◌, ◌⊎◌, if◌then◌else◌, List, ◌++◌, Option, Some, None}
 use Rattle.simplex_types.specs.Certificates.{ArtifactFacts}
 use Rattle.simplex_types.specs.declared.types.fault.Fault.{Fault}
 use Rattle.simplex_types.specs.declared.types.fault.Fault.TheVariants as fault
-use Rattle.simplex_types.specs.declared.types.messages.Subject.{Subject}
 use Rattle.simplex_voter.specs.Facts.{Facts, Elect}
-use Rattle.simplex_member.specs.Openings.{Openings}
-use Rattle.simplex_member.specs.Calls.{CallFacts, Certified, Told, Refused, NotAllowed, is_allowed, fault_of, answer, after_call, recorded_by}
+use Rattle.simplex_member.specs.Openings.{Openings, no_openings, without_offer}
+use Rattle.simplex_member.specs.Calls.{CallFacts, Certified, Told, Refused, NotAllowed, is_allowed, fault_of, may_fall, answer, after_call, recorded_by}
 
 pub record MemberFacts (K L D : Type 0) : Type 0 where
   -- what its state knows; none while the member has failed
@@ -23,17 +22,17 @@ pub record MemberFacts (K L D : Type 0) : Type 0 where
   pub retention : ℕ
   pub least_retention : ℕ
 
--- of a failed member's state nothing is known
+-- of a failed member's state nothing is known, and nothing of it is open
 abbrev pub living : {K L D : Type 0} → Bool → Facts K L D → Option (Facts K L D)
 living failed x = if failed then None else Some x
 
--- the verdict of a view's certification closes its offer
-abbrev pub is_verdict_of : {D : Type 0} → CallFacts D → ℕ → Bool
-is_verdict_of (Certified w _ _) v = v == w
-is_verdict_of _ v = false
+abbrev pub open_while : {K D : Type 0} → Bool → Openings K D → Openings K D
+open_while failed o = if failed then no_openings else o
 
+-- the verdict of a view's certification closes its offer
 abbrev pub closed_by : {K D : Type 0} → Openings K D → CallFacts D → Openings K D
-closed_by o call = record o { offered = filter (λ v. not (is_verdict_of call v)) o.offered }
+closed_by o (Certified v _ _) = without_offer o v
+closed_by o _ = o
 
 module _ {K D : Type 0} where
   -- told, unless a fault is due
@@ -42,9 +41,9 @@ module _ {K D : Type 0} where
   unless_refused (Some fault) told = Refused fault
 
 module _ {K L D : Type 0} where
-  -- the record stays, and nothing else
+  -- the record stays, and what is known of it
   abbrev pub fallen : MemberFacts K L D → MemberFacts K L D
-  fallen m = record m { life = None }
+  fallen m = record m { life = None; openings = no_openings }
 
   -- left, unless a fault is due
   abbrev pub unless_kept : Option Fault → MemberFacts K L D → MemberFacts K L D → MemberFacts K L D
@@ -73,7 +72,8 @@ module _ {K L D : Type 0} (same : D → D → Bool) (elect : Elect L) where
   abbrev pub Answers : Facts K L D → MemberFacts K L D → CallFacts D → Told K D → MemberFacts K L D → Type 0
   Answers x m call told left =
       ((told ≡ reply_of x call) × (left ≡ left_of x m call))
-      ⊎ ((is_allowed x call ≡ true) × (told ≡ Refused fault.OutOfMemory) × ((left ≡ m) ⊎ (left ≡ fallen m)))
+      ⊎ ((is_allowed x call ≡ true) × (told ≡ Refused fault.OutOfMemory)
+      × ((left ≡ m) ⊎ ((fault_of x call ≡ None) × (may_fall call ≡ true) × (left ≡ fallen m))))
 
   abbrev pub AnswersAlive : Option (Facts K L D) → MemberFacts K L D → CallFacts D → Told K D → MemberFacts K L D → Type 0
   AnswersAlive None m call told left = (told ≡ Refused fault.Failed) × (left ≡ m)

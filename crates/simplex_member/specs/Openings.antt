@@ -1,6 +1,9 @@
 -- What a member has open of its state's answers: it is kept beside the state, and each life begins with nothing open.
-use Rattle.std.specs.Prelude.{ℕ, Bool, ◌==◌, not, List, [], ◌∷◌, ◌++◌, map, filter, slice_get, Option, Some, None}
-use Rattle.std.specs.List.{list_any}
+use Rattle.std.specs.Prelude.{ℕ, Bool, ◌==◌, not, List, [], filter, Option, Some, None}
+use Rattle.std.specs.BTreeSet.{insert_key}
+use Rattle.std.specs.FinMap.Entries.{find, put}
+use Rattle.std.specs.List.{fold, list_any}
+use Rattle.std.specs.Ordering.{nat_cmp}
 use Rattle.simplex_types.specs.declared.types.messages.Context.{Context}
 use Rattle.simplex_types.specs.declared.types.messages.Proposal.{Proposal}
 use Rattle.simplex_voter.specs.declared.voter.proposal_request.ProposalRequest.{ProposalRequest}
@@ -9,11 +12,11 @@ use Rattle.simplex_voter.specs.declared.voter.verification.Verify.TheVariants.{R
 use Rattle.simplex_voter.specs.Proposing.{request_context}
 
 pub record Openings (K D : Type 0) : Type 0 where
-  -- what this member was last asked to build on, one context a view
-  pub contexts : List (Context D K)
-  -- the views whose proposal is being verified
+  -- by rising view, what this member was last asked to build on
+  pub contexts : List (ℕ × Context D K)
+  -- the views whose proposal is being verified, rising
   pub verifying : List ℕ
-  -- the views whose proposal was offered for certification, and that have no verdict yet
+  -- the views whose proposal was offered for certification, and that have no verdict yet, rising
   pub offered : List ℕ
 
 abbrev pub no_openings : {K D : Type 0} → Openings K D
@@ -23,19 +26,19 @@ abbrev pub all_but : ℕ → List ℕ → List ℕ
 all_but v views = filter (λ u. not (u == v)) views
 
 abbrev pub is_among : ℕ → List ℕ → Bool
-is_among v views = list_any (λ u. u == v) views
+is_among v views = list_any (λ u. v == u) views
 
 module _ {K D : Type 0} where
   -- contexts
 
   abbrev pub context_at : Openings K D → ℕ → Option (Context D K)
-  context_at o v = slice_get (filter (λ (context : Context D K). context.round.view == v) o.contexts) 0
+  context_at o v = find nat_cmp v o.contexts
 
   abbrev pub without_context : Openings K D → ℕ → Openings K D
-  without_context o v = record o { contexts = filter (λ (context : Context D K). not (context.round.view == v)) o.contexts }
+  without_context o v = record o { contexts = filter (λ (e : ℕ × Context D K). not (e.0 == v)) o.contexts }
 
   abbrev pub with_context : Openings K D → Context D K → Openings K D
-  with_context o context = record o { contexts = context ∷ (without_context o context.round.view).contexts }
+  with_context o context = record o { contexts = put nat_cmp context.round.view context o.contexts }
 
   abbrev pub with_request : Openings K D → Option (ProposalRequest D K) → Openings K D
   with_request o None = o
@@ -50,7 +53,7 @@ module _ {K D : Type 0} where
   without_verification o v = record o { verifying = all_but v o.verifying }
 
   abbrev pub with_verification : Openings K D → Verify D K → Openings K D
-  with_verification o (Ready context p) = record o { verifying = p.round.view ∷ all_but p.round.view o.verifying }
+  with_verification o (Ready context p) = record o { verifying = insert_key nat_cmp o.verifying p.round.view }
   with_verification o (Resolve proposal view kind target) = o
   with_verification o Wait = o
 
@@ -63,4 +66,4 @@ module _ {K D : Type 0} where
   without_offer o v = record o { offered = all_but v o.offered }
 
   abbrev pub with_offers : Openings K D → List (Proposal D) → Openings K D
-  with_offers o proposals = record o { offered = map (λ (p : Proposal D). p.round.view) proposals ++ o.offered }
+  with_offers o proposals = record o { offered = fold (λ views (p : Proposal D). insert_key nat_cmp views p.round.view) o.offered proposals }

@@ -1,15 +1,17 @@
 -- Runs of a member: calls and restarts, one after another.
 use Rattle.std.specs.Prelude.{◌≡◌, ◌⊎◌, ℕ, Bool, true, false, List, [], ◌∷◌, length, map, Option, Some, None, Result, Ok, Err}
 use Rattle.simplex_types.specs.declared.types.window.Terms.{Terms}
-use Rattle.simplex_types.specs.declared.types.messages.Subject.{Subject}
 use Rattle.simplex_voter.specs.Facts.{Elect}
 use Rattle.simplex_member.specs.declared.member.error.RecoverError.{RecoverError}
 use Rattle.simplex_member.specs.declared.member.error.RecoverError.TheVariants as error
 use Rattle.simplex_member.specs.declared.member.runs.Step.{Step}
 use Rattle.simplex_member.specs.declared.member.runs.Step.TheVariants as step
-use Rattle.simplex_member.specs.Calls.{CallFacts, call_facts, Told, Restarted, NotRestarted}
+use Rattle.simplex_member.specs.declared.member.calls.Call.{Call}
+use Rattle.simplex_member.specs.declared.member.calls.Call.TheVariants as call
+use Rattle.simplex_member.specs.Calls.{CallFacts, AddNotarization, AddNullification, AddFinalization, Certified, ConstructNullify, ConstructFinalize, BroadcastNotarization, BroadcastNullification, BroadcastFinalization, GetBestCertificate, Prune, Told, Restarted, NotRestarted}
+use Rattle.simplex_types.specs.Certificates.{notarization_facts, nullification_facts, finalization_facts}
 use Rattle.simplex_member.specs.Lives.{MemberFacts, IsCall}
-use Rattle.simplex_member.specs.Work.{WorkCall, work_facts, IsWork}
+use Rattle.simplex_member.specs.Work.{WorkCall, SetProposal, TryPropose, Proposed, SupersedeProposalRequest, PendingHandoffAbandonment, ReleaseProposalRequest, TryVerify, Verified, VerificationFailed, ConstructNotarize, CertifyCandidates, SetCertifyHandle, TriggerTimeout, NextTimeout, IsWork}
 use Rattle.simplex_member.specs.Recovery.{recover_error}
 use Rattle.simplex_member.specs.Restarts.{RestartFacts, restart_facts, IsRestart}
 use Rattle.simplex_member.specs.Start.{StartFacts, started}
@@ -20,9 +22,36 @@ pub data StepFacts (K L D : Type 0) : Type 0 where
   Works : WorkCall D → StepFacts K L D
   Restarts : RestartFacts K L D → StepFacts K L D
 
+-- a call of a member as a step, with each certificate by its facts
+abbrev pub asked : {S L D K G C : Type 0} → (C → List ℕ) → Call S D K G C → StepFacts K L D
+asked bytes_of (call.AddNotarization c) = Calls (AddNotarization (notarization_facts bytes_of c))
+asked bytes_of (call.AddNullification c now) = Calls (AddNullification (nullification_facts bytes_of c) now)
+asked bytes_of (call.AddFinalization c now) = Calls (AddFinalization (finalization_facts bytes_of c) now)
+asked bytes_of (call.SetProposal v p) = Works (SetProposal v p)
+asked bytes_of call.TryPropose = Works TryPropose
+asked bytes_of (call.Proposed v payload now) = Works (Proposed v payload now)
+asked bytes_of (call.SupersedeProposalRequest v) = Works (SupersedeProposalRequest v)
+asked bytes_of (call.PendingHandoffAbandonment v) = Works (PendingHandoffAbandonment v)
+asked bytes_of (call.ReleaseProposalRequest v) = Works (ReleaseProposalRequest v)
+asked bytes_of call.TryVerify = Works TryVerify
+asked bytes_of (call.Verified v) = Works (Verified v)
+asked bytes_of (call.VerificationFailed v reason now) = Works (VerificationFailed v reason now)
+asked bytes_of (call.ConstructNotarize v) = Works (ConstructNotarize v)
+asked bytes_of call.CertifyCandidates = Works CertifyCandidates
+asked bytes_of (call.SetCertifyHandle v token) = Works (SetCertifyHandle v token)
+asked bytes_of (call.Certified v success now) = Calls (Certified v success now)
+asked bytes_of (call.ConstructNullify v _) = Calls (ConstructNullify v)
+asked bytes_of (call.ConstructFinalize v) = Calls (ConstructFinalize v)
+asked bytes_of (call.BroadcastNotarization v) = Calls (BroadcastNotarization v)
+asked bytes_of (call.BroadcastNullification v) = Calls (BroadcastNullification v)
+asked bytes_of (call.BroadcastFinalization v) = Calls (BroadcastFinalization v)
+asked bytes_of call.GetBestCertificate = Calls GetBestCertificate
+asked bytes_of (call.TriggerTimeout v reason now) = Works (TriggerTimeout v reason now)
+asked bytes_of (call.NextTimeout now) = Works (NextTimeout now)
+asked bytes_of call.Prune = Calls Prune
+
 abbrev pub step_facts : {S L D K G C : Type 0} → (S → Option ℕ) → (S → List K) → (L → Terms) → (L → Bool) → (C → List ℕ) → Step S L D K G C → StepFacts K L D
-step_facts me members terms elects_early bytes_of (step.Call call) = Calls (call_facts bytes_of call)
-step_facts me members terms elects_early bytes_of (step.Work work) = Works (work_facts work)
+step_facts me members terms elects_early bytes_of (step.Call call) = asked bytes_of call
 step_facts me members terms elects_early bytes_of (step.Restart restart) = Restarts (restart_facts me members terms elects_early bytes_of restart)
 
 abbrev pub steps_of : {S L D K G C : Type 0} → (S → Option ℕ) → (S → List K) → (L → Terms) → (L → Bool) → (C → List ℕ) → List (Step S L D K G C) → List (StepFacts K L D)
@@ -31,7 +60,6 @@ steps_of me members terms elects_early bytes_of steps = map (step_facts me membe
 -- the elector of each restart elects among the participants of its scheme
 abbrev pub IsSetUp : {S L D K G C : Type 0} → (S → List K) → (L → ℕ) → Step S L D K G C → Type 0
 IsSetUp participants members (step.Call _) = Unit {0}
-IsSetUp participants members (step.Work _) = Unit {0}
 IsSetUp participants members (step.Restart restart) = members restart.start.settings.elector ≡ length (participants restart.start.settings.scheme)
 
 abbrev pub AreSetUp : {S L D K G C : Type 0} → (S → List K) → (L → ℕ) → List (Step S L D K G C) → Type 0

@@ -1,10 +1,8 @@
 -- The calls by which a member builds, verifies, votes to notarize, certifies and times out: what each asks, is told and
--- leaves. `Member` makes those of `Work`; runs have all of them, so that the laws of runs are laws of runs with them.
+-- leaves.
 use Rattle.std.specs.Prelude.{◌≡◌, ◌⊎◌, ℕ, Bool, true, false, ◌&&◌, if◌then◌else◌, List, [], ◌++◌, Option, Some, None, is_some, option_map, option_and_then}
 use Rattle.std.specs.Option.{option_map_or}
 use Rattle.simplex_types.specs.Certificates.{ArtifactFacts, NotarizeVote}
-use Rattle.simplex_types.specs.declared.types.messages.Subject.{Subject}
-use Rattle.simplex_types.specs.declared.types.messages.Subject.TheVariants as subject
 use Rattle.simplex_types.specs.declared.types.fault.Fault.{Fault}
 use Rattle.simplex_types.specs.declared.types.fault.Fault.TheVariants as fault
 use Rattle.simplex_types.specs.declared.types.messages.Proposal.{Proposal}
@@ -16,8 +14,6 @@ use Rattle.simplex_voter.specs.Verifying.{takes_proposal, set_proposal_answer, a
 use Rattle.simplex_voter.specs.Certification.{candidates_answer, after_candidates, takes_certify_handle, after_set_certify_handle}
 use Rattle.simplex_voter.specs.Timeouts.{after_trigger_timeout, next_timeout_answer, after_next_timeout, next_timeout_refusal, has_timeout}
 use Rattle.simplex_voter.specs.Votes.{notarize_answer, after_construct_notarize}
-use Rattle.simplex_member.specs.declared.member.work.Work.{Work}
-use Rattle.simplex_member.specs.declared.member.work.Work.TheVariants as made
 use Rattle.simplex_member.specs.Calls.{Told, Notarize, vote_entry, Refused, NotAllowed, Requested, Standing, Answered, Abandoned, Candidates, TimesOut, Done}
 use Rattle.simplex_member.specs.Openings.{Openings, context_at, without_context, with_request, is_verifying, without_verification, with_verification, is_offered, with_offers}
 use Rattle.simplex_member.specs.Lives.{MemberFacts, fallen, unless_refused, unless_kept}
@@ -38,13 +34,6 @@ pub data WorkCall (D : Type 0) : Type 0 where
   SetCertifyHandle : ℕ → ℕ → WorkCall D
   TriggerTimeout : ℕ → TimeoutReason → ℕ → WorkCall D
   NextTimeout : ℕ → WorkCall D
-
--- a call of a member, as plain data
-abbrev pub work_facts : {D : Type 0} → Work D → WorkCall D
-work_facts (made.SetProposal v p) = SetProposal v p
-work_facts (made.ReleaseProposalRequest v) = ReleaseProposalRequest v
-work_facts (made.TriggerTimeout v reason now) = TriggerTimeout v reason now
-work_facts (made.NextTimeout now) = NextTimeout now
 
 module _ {K L D : Type 0} where
   -- what a call asks: a proposal of the view and epoch; an open context; a proposal that is being verified; an offer that
@@ -160,7 +149,8 @@ module _ {K L D : Type 0} (same : D → D → Bool) (elect : Elect L) where
   IsWorkOf None m call told left = (told ≡ Refused fault.Failed) × (left ≡ m)
   IsWorkOf (Some x) m call told left =
       ((told ≡ work_reply x m.openings call) × (left ≡ left_of_work x m call))
-      ⊎ ((takes_memory call && work_allowed x m.openings call ≡ true) × (told ≡ Refused fault.OutOfMemory) × ((left ≡ m) ⊎ (left ≡ fallen m)))
+      ⊎ ((takes_memory call && work_allowed x m.openings call ≡ true) × (told ≡ Refused fault.OutOfMemory)
+      × ((left ≡ m) ⊎ ((work_fault x call ≡ None) × (left ≡ fallen m))))
 
   -- a call on the work of a view, what it tells and what is left of the member
   unfoldable pub IsWork : MemberFacts K L D → WorkCall D → Told K D → MemberFacts K L D → Type 0

@@ -2,3 +2,5 @@
 #![tactic(auto)]
 
 pub mod member;
+#[cfg(test)]
+mod tests;

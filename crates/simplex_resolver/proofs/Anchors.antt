@@ -86,9 +86,6 @@ uncovered-next m a end h low more = ap (filter (λ v. not (is_covered m v))) (an
 pub uncovered-none : (m : TermMap (List ℕ)) (a end : ℕ) → end ≤ a → uncovered m a end ≡ []
 uncovered-none m a end h = ap (filter (λ v. not (is_covered m v))) (anchors-none m.term_length a end h)
 
-pub end_of_scan-none : (t a end : ℕ) → end ≤ a → end_of_scan t a end ≡ a
-end_of_scan-none t a end h = cond-false (nat_lt a end) _ _ (grind (arith, nat_tests))
-
 pub end_of_scan-next : (t a end : ℕ) → 0 < t → 1 ≤ a → a < end → end_of_scan t (next_term_start t a) end ≡ end_of_scan t a end
 end_of_scan-next t a end h low more = end-next (term_start t) (term_end t) (terms t h) a end low more
 

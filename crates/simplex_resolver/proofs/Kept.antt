@@ -60,9 +60,6 @@ module _ {V : Type 0} where
     | inr other ↦ old (grind (arith, nat_tests, is, there, other))
   ]
 
-certified_by : Option (Option (List ℕ)) → Bool
-certified_by o = is_some (option_and_then (λ e. e) o)
-
 certified-insert : (m : FinMap nat_cmp (Option (List ℕ))) (u : ℕ) (x : Option (List ℕ)) (v : ℕ) → is_certified (finmap.insert m u x) v ≡ cond (v == u) (is_some x) (is_certified m v)
 certified-insert m u x v = ap (λ o. is_some (option_and_then (λ e. e) o)) (get-insert m u x v) ∙ pick (v == u)
   where

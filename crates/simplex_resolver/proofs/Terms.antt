@@ -30,9 +30,6 @@ module _ (t : ℕ) (h : 0 < t) where
           let less : n / t < q + 1 = (div-lt_iff_lt-mul h).1 below in
           omega arith
 
-  pub term_end-index : (v : ℕ) → term_end t v ≡ (v - 1) / t * t + t
-  term_end-index v = omega arith
-
   start_inside : (v w : ℕ) → 1 ≤ v → v ≤ w → w ≤ term_end t v → term_start t w ≡ term_start t v
   start_inside v w a b c = ap (λ i. i * t + 1) (index_inside v w a b (omega arith))
 

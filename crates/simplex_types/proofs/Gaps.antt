@@ -107,9 +107,6 @@ module _ {W : Type 0} (t : FinMap nat_cmp W) where
   pub rest_first : (s : ℕ) → IsRest s (fin.entries (at_or_above t s))
   rest_first s = (map_rises (at_or_above t s), λ q up. sym (fin.get-entries (at_or_above t s) q) ∙ get-kept t (λ k. leb s k) q ∙ rw (le-leb s q up) refl)
 
-  pub rest_skip : (s : ℕ) (e : ℕ × W) (es : List (ℕ × W)) → IsRest s (e ∷ es) → e.0 < s → IsRest s es
-  rest_skip s e es r lower = (r.0.1, λ q up. sym (find_other q e es (λ same. omega arith)) ∙ r.1 q up)
-
   pub rest_next : (s n : ℕ) (e : ℕ × W) (es : List (ℕ × W)) → IsRest s (e ∷ es) → e.0 ≡ s → s < n → IsRest n es
   rest_next s n e es r same above = (r.0.1, λ q up. sym (find_other q e es (λ is. omega arith)) ∙ r.1 q (omega arith))
 

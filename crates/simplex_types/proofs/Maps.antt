@@ -1,5 +1,5 @@
 -- A finite map from views, by its entries.
-use Rattle.std.proofs.Common.{◌≡◌, ◌⊎◌, ℕ, ◌+◌, ◌<◌, ◌≤◌, Bool, true, false, cond, ltb, leb, List, [], length, get_or, take, drop, set, Option, Some, None, slice_get, is_some, filter, T, eqb, refl, ap, sym, ◌∙◌, subst, inl, inr, arith}
+use Rattle.std.proofs.Common.{◌≡◌, ◌⊎◌, ℕ, ◌+◌, ◌<◌, ◌≤◌, Bool, true, false, cond, ltb, leb, not, List, [], length, get_or, take, drop, set, Option, Some, None, slice_get, is_some, filter, T, eqb, refl, ap, sym, ◌∙◌, subst, inl, inr, arith}
 use Rattle.std.specs.List.{insert}
 use Rattle.std.specs.Ordering.{nat_cmp, is_lt, eq_by_cmp}
 use Rattle.std.proofs.lemmas.Bool.{cases_eq, cases_lt, lt-ltb, le-ltb, eq-eqb, ne_eqb, eqb-true, false≢true}
@@ -85,6 +85,17 @@ module _ {V : Type 0} where
   -- the entries that are left of a map where those below v are removed
   pub kept_entries : (es fs : List (ℕ × V)) (m : map.FinMap nat_cmp V) (v : ℕ) → es ≡ map.entries m → fs ≡ filter (λ e. leb v e.0) es → fs ≡ map.entries (at_or_above m v)
   kept_entries es fs m v e f = f ∙ ap (filter (λ e. leb v e.0)) e ∙ sym (entries-retain_keys m (λ key. leb v key))
+
+  -- the entries that are left of a map where that of v is removed
+  pub other_entries : (es fs : List (ℕ × V)) (m : map.FinMap nat_cmp V) (v : ℕ) → es ≡ map.entries m → fs ≡ filter (λ e. not (eqb e.0 v)) es → fs ≡ map.entries (map.remove m v)
+  other_entries es fs m v e f = f ∙ ap (filter (λ e. not (eqb e.0 v))) e ∙ sym (ap map.entries without ∙ entries-retain_keys m (λ key. not (eqb key v)))
+    where
+      without : map.remove m v ≡ map.retain_keys m (λ key. not (eqb key v))
+      without = same_maps _ _ (λ q. map.get-remove nat_cmp_total m v q ∙ ap (λ b. cond b None (map.get m q)) (is_eq-nat_cmp q v) ∙ other (eqb q v) (map.get m q) ∙ sym (get-kept m (λ key. not (eqb key v)) q))
+        where
+          other : (b : Bool) (found : Option V) → cond b None found ≡ cond (not b) found None
+          other true found = refl
+          other false found = refl
 
   ends_within : (m : map.FinMap nat_cmp V) (v : ℕ) → map.len (below m v) ≤ map.len m
   ends_within m v =

@@ -145,7 +145,8 @@ impl<S: CertificateScheme, D: Digest> Config<S, D> {
     pub fn assert(&self) -> Result<(), ConfigError>
     where
         S: Scheme<D>,
-        ensures { MatchOption (first_broken_rule (length (S.participants self.now.scheme)) (S.accepts self.now.scheme) self.now) (result ≡ Ok tt) (λ broken. result ≡ Err broken) }
+        ensures { MatchOption (first_broken_rule (length (S.participants self.now.scheme)) (S.accepts self.now.scheme) self.now)
+            (result ≡ Ok tt) (λ broken. result ≡ Err broken) }
     {
         if self.scheme.participants().is_empty() {
             return Err(ConfigError::NoParticipants);
@@ -175,7 +176,8 @@ impl<S: CertificateScheme, D: Digest> Config<S, D> {
     fn assert_floor(&self) -> Result<(), ConfigError>
     where
         S: Scheme<D>,
-        ensures { MatchOption (first_broken_floor_rule (S.accepts self.now.scheme) self.now.epoch self.now.floor) (result ≡ Ok tt) (λ broken. result ≡ Err broken) }
+        ensures { MatchOption (first_broken_floor_rule (S.accepts self.now.scheme) self.now.epoch self.now.floor)
+            (result ≡ Ok tt) (λ broken. result ≡ Err broken) }
     {
         let Floor::Finalized(finalization) = &self.floor else {
             return Ok(());

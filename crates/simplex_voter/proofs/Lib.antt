@@ -29,7 +29,7 @@ pub mod Stalls
 pub mod Polling
 pub mod Offers
 pub mod Covered
-pub mod Offered
+pub mod Chained
 pub mod Explicit
 pub mod Scans
 pub mod Undecided

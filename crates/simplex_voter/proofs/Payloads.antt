@@ -74,18 +74,18 @@ each_same : {A B : Type 0} (f g : A → Option B) (o : Option A) → ((a : A) �
 each_same f g None h = refl
 each_same f g (Some a) h = h a refl
 
-module _ {K L D : Type 0} (same : D → D → Bool) (elect : Elect L) (x : Facts K L D) where
-  pub follows-below : (v p : ℕ) → follows x v p ≡ true → p < v
-  unfolding follows
-  follows-below v p h =
-      let parts = and_parts (leb x.finalized p && ltb p v) _ h in
-      let low = and_parts (leb x.finalized p) _ parts.0 in
-      grind (arith, nat_tests)
+pub follows-below : {K L D : Type 0} (x : Facts K L D) (v p : ℕ) → follows x v p ≡ true → p < v
+unfolding follows
+follows-below x v p h =
+    let parts = and_parts (leb x.finalized p && ltb p v) _ h in
+    let low = and_parts (leb x.finalized p) _ parts.0 in
+    grind (arith, nat_tests)
 
+module _ {K L D : Type 0} (same : D → D → Bool) (elect : Elect L) (x : Facts K L D) where
   voted_same : (f g : ℕ → Option D) (v : ℕ) (r : RoundFacts K D) (h : Proposal D) → ((p : ℕ) → p < v → f p ≡ g p) → voted_payload same elect x f v r h ≡ voted_payload same elect x g v r h
   voted_same f g v r h alike =
       guarded (follows x v h.parent) _ _ None
-      (λ b. ap (option_and_then (λ d. cond (is_bound_to same r.binding d) (Some h.payload) None)) (alike h.parent (follows-below v h.parent b)))
+      (λ b. ap (option_and_then (λ d. cond (is_bound_to same r.binding d) (Some h.payload) None)) (alike h.parent (follows-below x v h.parent b)))
 
   served_same : (f g : ℕ → Option D) (v : ℕ) (r : RoundFacts K D) → ((p : ℕ) → p < v → f p ≡ g p) → served_payload same elect x f v r ≡ served_payload same elect x g v r
   served_same f g v r alike =

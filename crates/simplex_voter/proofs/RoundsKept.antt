@@ -13,15 +13,6 @@ module _ {V : Type 0} where
   pub find_entries : (m : map.FinMap nat_cmp V) (v : ℕ) → find nat_cmp v (map.entries m) ≡ map.get m v
   find_entries m v = sym (map.get-entries m v)
 
-  pub get-inserted : (m : map.FinMap nat_cmp V) (v : ℕ) (x : V) → map.get (map.insert m v x) v ≡ Some x
-  get-inserted m v x = get-insert m v x v ∙ rw (eq-eqb v v refl) refl
-
-  pub insert-again : (m : map.FinMap nat_cmp V) (v : ℕ) (x y : V) → map.insert (map.insert m v x) v y ≡ map.insert m v y
-  insert-again m v x y = same_maps _ _ (λ q. get-insert (map.insert m v x) v y q ∙ elim (cases_eq q v) [
-    | inl at ↦ rw (eq-eqb q v at) (sym (rw (get-insert m v y q, eq-eqb q v at) refl))
-    | inr other ↦ rw (ne_eqb q v other, get-insert m v x q, ne_eqb q v other) (sym (rw (get-insert m v y q, ne_eqb q v other) refl))
-  ])
-
   pub insert-same : (m : map.FinMap nat_cmp V) (v : ℕ) (x : V) → map.get m v ≡ Some x → map.insert m v x ≡ m
   insert-same m v x here = same_maps _ _ (λ q. get-insert m v x q ∙ elim (cases_eq q v) [
     | inl at ↦ rw (eq-eqb q v at, at) (sym here)

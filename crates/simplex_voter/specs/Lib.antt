@@ -6,6 +6,7 @@ pub mod Setup
 pub mod Gaps
 pub mod Windows
 pub mod Payloads
+pub mod Chains
 pub mod Parents
 pub mod Rules
 pub mod Refusals

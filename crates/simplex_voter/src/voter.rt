@@ -5,6 +5,7 @@ mod broadcasts;
 mod budget;
 mod candidates;
 mod certification;
+mod chains;
 mod conditions;
 mod finalizations;
 mod floor;

@@ -6,63 +6,105 @@ use Rattle.simplex_types.specs.declared.types.messages.Proposal.{Proposal}
 use Rattle.simplex_types.specs.declared.types.plain.PlainDigest.{PlainDigest}
 use Rattle.simplex_types.specs.declared.types.plain.PlainElector.{PlainElector}
 use Rattle.simplex_types.specs.declared.types.plain.PlainKey.{PlainKey}
+use Rattle.simplex_types.specs.declared.reasons.TimeoutReason.TheVariants.{InvalidProposal}
 use Rattle.simplex_types.specs.Plain.{digest_bytes}
 use Rattle.simplex_voter.specs.Facts.{Facts}
 use Rattle.simplex_voter.specs.Windows.{min_active}
-use Rattle.simplex_member.specs.Calls.{CallFacts, AddNotarization, AddNullification, AddFinalization, Certified, ConstructNullify, ConstructFinalize, BroadcastNotarization, BroadcastNullification, BroadcastFinalization, GetBestCertificate, Prune as PruneCall, told}
-use Rattle.simplex_member.specs.Lives.{IsCall}
+use Rattle.simplex_member.specs.Calls.{AddNotarization, AddNullification, AddFinalization, Certified, ConstructNullify, ConstructFinalize, BroadcastNotarization, BroadcastNullification, BroadcastFinalization, GetBestCertificate, Prune as PruneCall, told}
 use Rattle.simplex_member.specs.Restarts.{IsRestart}
+use Rattle.simplex_member.specs.Runs.{Calls, Works, IsStep}
 use Rattle.simplex_member.specs.Start.{StartFacts}
-use Rattle.simplex_member.specs.Work.{WorkCall, SetProposal, ReleaseProposalRequest, TriggerTimeout, NextTimeout, IsWork}
+use Rattle.simplex_member.specs.Work.{SetProposal, TryPropose, Proposed, SupersedeProposalRequest, PendingHandoffAbandonment, ReleaseProposalRequest, TryVerify, Verified, VerificationFailed, ConstructNotarize, CertifyCandidates, SetCertifyHandle, TriggerTimeout, NextTimeout}
 use Rattle.viewstate.specs.declared.network.Network.{Network}
 use Rattle.viewstate.specs.declared.voter_line.CertificateKind.TheVariants as kind
 use Rattle.viewstate.specs.declared.voter_line.VoterLine.{VoterLine}
-use Rattle.viewstate.specs.declared.voter_line.VoterLine.TheVariants.{Notarization, Nullification, Finalization, Verdict, Nullify, Finalize, Broadcast, Best, Prune, Proposal as ProposalOf, Release, Trigger, Timeout, Restart, RestartPruned, Record, Views}
+use Rattle.viewstate.specs.declared.voter_line.VoterLine.TheVariants.{Notarization, Nullification, Finalization, Verdict, Notarize, Nullify, Finalize, Broadcast, Best, Prune, Proposal as ProposalOf, Release, Propose, Proposed as Built, Supersede, Abandon, Verify, Verified as FoundValid, Rejected, Candidates, Token, Trigger, Timeout, Restart, RestartPruned, Record, Views}
 use Rattle.viewstate.specs.declared.voter.VoterAnswer.{VoterAnswer}
 use Rattle.viewstate.specs.declared.voter.VoterAnswer.TheVariants as answer
-use Rattle.viewstate.specs.Plain.{PlainMember, same_payload, plain_leader, plain_bytes}
+use Rattle.viewstate.specs.Plain.{PlainMember, PlainStep, same_payload, plain_leader, plain_bytes}
 use Rattle.viewstate.specs.Setup.{IsGenesisStart}
 
--- the round and the proposal that the numbers of a line stand for
+-- the round, the payload and the proposal that the numbers of a line stand for
 
 abbrev pub round_in_epoch : ℕ → Round
 round_in_epoch v = record { epoch = 1; view = v }
 
+abbrev pub IsPayload : ℕ → PlainDigest → Type 0
+IsPayload d payload = digest_bytes payload ≡ to_be_bytes w64 d
+
 pub record IsProposal (v p d : ℕ) (q : Proposal PlainDigest) : Type 0 where
   pub round : q.round ≡ round_in_epoch v
   pub parent : q.parent ≡ p
-  pub payload : digest_bytes q.payload ≡ to_be_bytes w64 d
+  pub payload : IsPayload d q.payload
 
--- the call that a line stands for; its certificate is good
-abbrev pub StandsFor : VoterLine → CallFacts PlainDigest → Type 0
-StandsFor (Notarization v p d) (AddNotarization c) = IsProposal v p d c.proposal × (c.bytes ≡ 1 ∷ [])
-StandsFor (Nullification v now) (AddNullification c moment) = (c.round ≡ round_in_epoch v) × (c.bytes ≡ 1 ∷ []) × (moment ≡ now)
-StandsFor (Finalization v p d now) (AddFinalization c moment) = IsProposal v p d c.proposal × (c.bytes ≡ 1 ∷ []) × (moment ≡ now)
-StandsFor (Verdict v success now) call = call ≡ Certified v success now
-StandsFor (Nullify v) call = call ≡ ConstructNullify v
-StandsFor (Finalize v) call = call ≡ ConstructFinalize v
-StandsFor (Broadcast kind.Notarization v) call = call ≡ BroadcastNotarization v
-StandsFor (Broadcast kind.Nullification v) call = call ≡ BroadcastNullification v
-StandsFor (Broadcast kind.Finalization v) call = call ≡ BroadcastFinalization v
-StandsFor Best call = call ≡ GetBestCertificate
-StandsFor Prune call = call ≡ PruneCall
+-- the call that a line stands for; its certificate is good, its proposal is of the view that it is handed in for, and a
+-- proposal that is rejected is invalid
+abbrev pub StandsFor : VoterLine → PlainStep → Type 0
+StandsFor (Notarization v p d) (Calls (AddNotarization c)) = IsProposal v p d c.proposal × (c.bytes ≡ 1 ∷ [])
+StandsFor (Nullification v now) (Calls (AddNullification c moment)) = (c.round ≡ round_in_epoch v) × (c.bytes ≡ 1 ∷ []) × (moment ≡ now)
+StandsFor (Finalization v p d now) (Calls (AddFinalization c moment)) = IsProposal v p d c.proposal × (c.bytes ≡ 1 ∷ []) × (moment ≡ now)
+StandsFor (Verdict v success now) step = step ≡ Calls (Certified v success now)
+StandsFor (ProposalOf v p d) (Works (SetProposal w q)) = (w ≡ v) × IsProposal v p d q
+StandsFor Propose step = step ≡ Works TryPropose
+StandsFor (Built v d now) (Works (Proposed w payload moment)) = (w ≡ v) × IsPayload d payload × (moment ≡ now)
+StandsFor (Supersede v) step = step ≡ Works (SupersedeProposalRequest v)
+StandsFor (Abandon v) step = step ≡ Works (PendingHandoffAbandonment v)
+StandsFor (Release v) step = step ≡ Works (ReleaseProposalRequest v)
+StandsFor Verify step = step ≡ Works TryVerify
+StandsFor (FoundValid v) step = step ≡ Works (Verified v)
+StandsFor (Rejected v now) step = step ≡ Works (VerificationFailed v InvalidProposal now)
+StandsFor Candidates step = step ≡ Works CertifyCandidates
+StandsFor (Token v token) step = step ≡ Works (SetCertifyHandle v token)
+StandsFor (Notarize v) step = step ≡ Works (ConstructNotarize v)
+StandsFor (Nullify v) step = step ≡ Calls (ConstructNullify v)
+StandsFor (Finalize v) step = step ≡ Calls (ConstructFinalize v)
+StandsFor (Broadcast kind.Notarization v) step = step ≡ Calls (BroadcastNotarization v)
+StandsFor (Broadcast kind.Nullification v) step = step ≡ Calls (BroadcastNullification v)
+StandsFor (Broadcast kind.Finalization v) step = step ≡ Calls (BroadcastFinalization v)
+StandsFor Best step = step ≡ Calls GetBestCertificate
+StandsFor (Trigger v reason now) step = step ≡ Works (TriggerTimeout v reason now)
+StandsFor (Timeout now) step = step ≡ Works (NextTimeout now)
+StandsFor Prune step = step ≡ Calls PruneCall
 StandsFor _ _ = ⊥
 
--- the call on the work of a view that a line stands for; a proposal is of the view that it is handed in for
-abbrev pub StandsForWork : VoterLine → WorkCall PlainDigest → Type 0
-StandsForWork (ProposalOf v p d) (SetProposal w q) = (w ≡ v) × IsProposal v p d q
-StandsForWork (Release v) work = work ≡ ReleaseProposalRequest v
-StandsForWork (Trigger v reason now) work = work ≡ TriggerTimeout v reason now
-StandsForWork (Timeout now) work = work ≡ NextTimeout now
-StandsForWork _ _ = ⊥
+-- the lines that stand for calls: a certificate or a verdict is brought
+abbrev pub brings : VoterLine → Bool
+brings (Notarization _ _ _) = true
+brings (Nullification _ _) = true
+brings (Finalization _ _ _ _) = true
+brings (Verdict _ _ _) = true
+brings _ = false
 
--- whether a line stands for a call on the work of a view
-abbrev pub is_on_work : VoterLine → Bool
-is_on_work (ProposalOf _ _ _) = true
-is_on_work (Release _) = true
-is_on_work (Trigger _ _ _) = true
-is_on_work (Timeout _) = true
-is_on_work _ = false
+-- this member builds a proposal
+abbrev pub builds : VoterLine → Bool
+builds Propose = true
+builds (Built _ _ _) = true
+builds (Supersede _) = true
+builds (Abandon _) = true
+builds (Release _) = true
+builds _ = false
+
+-- a leader's proposal comes, is verified or certified
+abbrev pub judges : VoterLine → Bool
+judges (ProposalOf _ _ _) = true
+judges Verify = true
+judges (FoundValid _) = true
+judges (Rejected _ _) = true
+judges Candidates = true
+judges (Token _ _) = true
+judges _ = false
+
+-- a vote, a certificate, a timeout or a pruning is asked for
+abbrev pub asks : VoterLine → Bool
+asks (Notarize _) = true
+asks (Nullify _) = true
+asks (Finalize _) = true
+asks (Broadcast _ _) = true
+asks Best = true
+asks (Trigger _ _ _) = true
+asks (Timeout _) = true
+asks Prune = true
+asks _ = false
 
 -- what a member shows of its state
 abbrev pub views_of : Option (Facts PlainKey PlainElector PlainDigest) → VoterAnswer
@@ -70,16 +112,9 @@ views_of None = answer.Failed
 views_of (Some x) = answer.Views x.current x.finalized (min_active x)
 
 -- the reply to a call, and what it leaves
-abbrev pub IsReplied : PlainMember → VoterLine → CallFacts PlainDigest → VoterAnswer → PlainMember → Type 0
-IsReplied m line call (answer.Reply said reply) left =
-    (said ≡ line) × IsCall same_payload plain_leader m call (told plain_bytes reply) left
-IsReplied _ _ _ _ _ = ⊥
-
--- the reply to a call on the work of a view, and what it leaves
-abbrev pub IsWorkReplied : PlainMember → VoterLine → WorkCall PlainDigest → VoterAnswer → PlainMember → Type 0
-IsWorkReplied m line work (answer.Reply said reply) left =
-    (said ≡ line) × IsWork same_payload plain_leader m work (told plain_bytes reply) left
-IsWorkReplied _ _ _ _ _ = ⊥
+abbrev pub IsReplied : PlainMember → PlainStep → VoterAnswer → PlainMember → Type 0
+IsReplied m step (answer.Reply reply) left = IsStep same_payload plain_leader m step (told plain_bytes reply) left
+IsReplied _ _ _ _ = ⊥
 
 -- what a restart of the network's member answers, and what it leaves; the record is cut as asked, and pruned or not
 abbrev pub IsRestarted : Network → PlainMember → ℕ → Bool → ℕ → VoterAnswer → PlainMember → Type 0
@@ -108,5 +143,4 @@ IsDone n m _ a left = (a ≡ views_of m.life) × (left ≡ m)
 abbrev pub VoterAnswers : Network → PlainMember → VoterLine → VoterAnswer → PlainMember → Type 0
 VoterAnswers n m line a left =
     ((is_no_call line ≡ true) × IsDone n m line a left)
-    ⊎ ((call : CallFacts PlainDigest) × StandsFor line call × IsReplied m line call a left)
-    ⊎ ((work : WorkCall PlainDigest) × StandsForWork line work × IsWorkReplied m line work a left)
+    ⊎ ((step : PlainStep) × StandsFor line step × IsReplied m step a left)

@@ -5,7 +5,7 @@ use Rattle.viewstate.specs.Words.{flag_word, ReadsWord}
 use Rattle.viewstate.specs.declared.voter_line.CertificateKind.{CertificateKind}
 use Rattle.viewstate.specs.declared.voter_line.CertificateKind.TheVariants as kind
 use Rattle.viewstate.specs.declared.voter_line.VoterLine.{VoterLine}
-use Rattle.viewstate.specs.declared.voter_line.VoterLine.TheVariants.{Notarization, Nullification, Finalization, Verdict, Nullify, Finalize, Broadcast, Best, Prune, Proposal, Release, Trigger, Timeout, Restart, RestartPruned, Record, Views}
+use Rattle.viewstate.specs.declared.voter_line.VoterLine.TheVariants.{Notarization, Nullification, Finalization, Verdict, Notarize, Nullify, Finalize, Broadcast, Best, Prune, Proposal, Release, Propose, Proposed, Supersede, Abandon, Verify, Verified, Rejected, Candidates, Token, Trigger, Timeout, Restart, RestartPruned, Record, Views}
 
 -- a certificate's kind, as lines name it
 abbrev pub kind_word : CertificateKind → List ℕ
@@ -22,6 +22,7 @@ voter_words (Notarization view parent payload) = codes "notarization" ∷ decima
 voter_words (Nullification view now) = codes "nullification" ∷ decimal view ∷ decimal now ∷ []
 voter_words (Finalization view parent payload now) = codes "finalization" ∷ decimal view ∷ decimal parent ∷ decimal payload ∷ decimal now ∷ []
 voter_words (Verdict view success now) = codes "verdict" ∷ decimal view ∷ flag_word success ∷ decimal now ∷ []
+voter_words (Notarize view) = codes "notarize" ∷ decimal view ∷ []
 voter_words (Nullify view) = codes "nullify" ∷ decimal view ∷ []
 voter_words (Finalize view) = codes "finalize" ∷ decimal view ∷ []
 voter_words (Broadcast kind view) = codes "broadcast" ∷ kind_word kind ∷ decimal view ∷ []
@@ -29,6 +30,15 @@ voter_words Best = codes "best" ∷ []
 voter_words Prune = codes "prune" ∷ []
 voter_words (Proposal view parent payload) = codes "proposal" ∷ decimal view ∷ decimal parent ∷ decimal payload ∷ []
 voter_words (Release view) = codes "release" ∷ decimal view ∷ []
+voter_words Propose = codes "propose" ∷ []
+voter_words (Proposed view payload now) = codes "proposed" ∷ decimal view ∷ decimal payload ∷ decimal now ∷ []
+voter_words (Supersede view) = codes "supersede" ∷ decimal view ∷ []
+voter_words (Abandon view) = codes "abandon" ∷ decimal view ∷ []
+voter_words Verify = codes "verify" ∷ []
+voter_words (Verified view) = codes "verified" ∷ decimal view ∷ []
+voter_words (Rejected view now) = codes "rejected" ∷ decimal view ∷ decimal now ∷ []
+voter_words Candidates = codes "candidates" ∷ []
+voter_words (Token view token) = codes "token" ∷ decimal view ∷ decimal token ∷ []
 voter_words (Trigger view reason now) = codes "trigger" ∷ decimal view ∷ timeout_reason_text reason ∷ decimal now ∷ []
 voter_words (Timeout now) = codes "timeout" ∷ decimal now ∷ []
 voter_words (Restart drop now) = codes "restart" ∷ decimal drop ∷ decimal now ∷ []
@@ -42,6 +52,7 @@ HasSmallNumbers (Notarization view parent payload) = (view < 2 ^ 64) × (parent 
 HasSmallNumbers (Nullification view now) = (view < 2 ^ 64) × (now < 2 ^ 64)
 HasSmallNumbers (Finalization view parent payload now) = (view < 2 ^ 64) × (parent < 2 ^ 64) × (payload < 2 ^ 64) × (now < 2 ^ 64)
 HasSmallNumbers (Verdict view success now) = (view < 2 ^ 64) × (now < 2 ^ 64)
+HasSmallNumbers (Notarize view) = view < 2 ^ 64
 HasSmallNumbers (Nullify view) = view < 2 ^ 64
 HasSmallNumbers (Finalize view) = view < 2 ^ 64
 HasSmallNumbers (Broadcast kind view) = view < 2 ^ 64
@@ -49,6 +60,15 @@ HasSmallNumbers Best = ⊤
 HasSmallNumbers Prune = ⊤
 HasSmallNumbers (Proposal view parent payload) = (view < 2 ^ 64) × (parent < 2 ^ 64) × (payload < 2 ^ 64)
 HasSmallNumbers (Release view) = view < 2 ^ 64
+HasSmallNumbers Propose = ⊤
+HasSmallNumbers (Proposed view payload now) = (view < 2 ^ 64) × (payload < 2 ^ 64) × (now < 2 ^ 64)
+HasSmallNumbers (Supersede view) = view < 2 ^ 64
+HasSmallNumbers (Abandon view) = view < 2 ^ 64
+HasSmallNumbers Verify = ⊤
+HasSmallNumbers (Verified view) = view < 2 ^ 64
+HasSmallNumbers (Rejected view now) = (view < 2 ^ 64) × (now < 2 ^ 64)
+HasSmallNumbers Candidates = ⊤
+HasSmallNumbers (Token view token) = (view < 2 ^ 64) × (token < 2 ^ 64)
 HasSmallNumbers (Trigger view reason now) = (view < 2 ^ 64) × (now < 2 ^ 64)
 HasSmallNumbers (Timeout now) = now < 2 ^ 64
 HasSmallNumbers (Restart drop now) = (drop < 2 ^ 64) × (now < 2 ^ 64)
@@ -62,6 +82,9 @@ pub data Family : Type 0 where
   votes : Family
   servings : Family
   proposals : Family
+  building : Family
+  verifying : Family
+  offers : Family
   timeouts : Family
   lives : Family
 
@@ -71,6 +94,7 @@ family_of (Notarization view parent payload) = certificates
 family_of (Nullification view now) = certificates
 family_of (Finalization view parent payload now) = progress
 family_of (Verdict view success now) = progress
+family_of (Notarize view) = votes
 family_of (Nullify view) = votes
 family_of (Finalize view) = votes
 family_of (Broadcast kind view) = servings
@@ -78,6 +102,15 @@ family_of Best = servings
 family_of Prune = servings
 family_of (Proposal view parent payload) = proposals
 family_of (Release view) = proposals
+family_of Propose = building
+family_of (Proposed view payload now) = building
+family_of (Supersede view) = building
+family_of (Abandon view) = building
+family_of Verify = verifying
+family_of (Verified view) = verifying
+family_of (Rejected view now) = verifying
+family_of Candidates = offers
+family_of (Token view token) = offers
 family_of (Trigger view reason now) = timeouts
 family_of (Timeout now) = timeouts
 family_of (Restart drop now) = lives
@@ -99,6 +132,15 @@ IsServing line = family_of line ≡ servings
 
 abbrev pub IsOnProposals : VoterLine → Type 0
 IsOnProposals line = family_of line ≡ proposals
+
+abbrev pub IsOnBuilding : VoterLine → Type 0
+IsOnBuilding line = family_of line ≡ building
+
+abbrev pub IsOnVerifying : VoterLine → Type 0
+IsOnVerifying line = family_of line ≡ verifying
+
+abbrev pub IsOnOffers : VoterLine → Type 0
+IsOnOffers line = family_of line ≡ offers
 
 abbrev pub IsOnTimeouts : VoterLine → Type 0
 IsOnTimeouts line = family_of line ≡ timeouts

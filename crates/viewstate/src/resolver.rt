@@ -86,7 +86,8 @@ impl Resolver {
 
     #[tactic(auto, using(crate::proofs::Reported::named_at))]
     fn notarize(&mut self, view: View) -> Result<Answer, AllocError>
-        ensures { IfOk result (λ answer. Reports self.old.state self.old.outstanding.keys view (notarization_call view) answer self.new.state self.new.outstanding.keys) }
+        ensures { IfOk result (λ answer.
+            Reports self.old.state self.old.outstanding.keys view (notarization_call view) answer self.new.state self.new.outstanding.keys) }
     {
         let Some(notarization) = notarization_of(view) else {
             return Ok(Answer::NotAllowed);
@@ -98,7 +99,8 @@ impl Resolver {
     }
 
     fn nullify(&mut self, view: View) -> Result<Answer, AllocError>
-        ensures { IfOk result (λ answer. Reports self.old.state self.old.outstanding.keys view (nullification_call view) answer self.new.state self.new.outstanding.keys) }
+        ensures { IfOk result (λ answer.
+            Reports self.old.state self.old.outstanding.keys view (nullification_call view) answer self.new.state self.new.outstanding.keys) }
     {
         if view.is_zero() {
             return Ok(Answer::NotAllowed);
@@ -114,7 +116,8 @@ impl Resolver {
 
     #[tactic(auto, using(crate::proofs::Reported::named_at))]
     fn finalize(&mut self, view: View) -> Result<Answer, AllocError>
-        ensures { IfOk result (λ answer. Reports self.old.state self.old.outstanding.keys view (finalization_call view) answer self.new.state self.new.outstanding.keys) }
+        ensures { IfOk result (λ answer.
+            Reports self.old.state self.old.outstanding.keys view (finalization_call view) answer self.new.state self.new.outstanding.keys) }
     {
         let Some(finalization) = finalization_of(view) else {
             return Ok(Answer::NotAllowed);
@@ -127,7 +130,8 @@ impl Resolver {
 
     #[tactic(auto, using(crate::proofs::Reported::named_at))]
     fn certify(&mut self, view: View, success: bool) -> Result<Answer, AllocError>
-        ensures { IfOk result (λ answer. Reports self.old.state self.old.outstanding.keys view (verdict_call view success) answer self.new.state self.new.outstanding.keys) }
+        ensures { IfOk result (λ answer.
+            Reports self.old.state self.old.outstanding.keys view (verdict_call view success) answer self.new.state self.new.outstanding.keys) }
     {
         let Some(notarization) = notarization_of(view) else {
             return Ok(Answer::NotAllowed);

@@ -2,16 +2,15 @@
 
 ghost use Rattle.std.specs.Prelude.{◌≡◌, false, true, IfOk, length};
 ghost use Rattle.simplex_types.specs.Plain.{members_of, keys_of};
-ghost use Rattle.simplex_member.specs.Calls.{call_facts};
-ghost use Rattle.simplex_member.specs.Work.{work_facts};
-ghost use Rattle.viewstate.specs.Voter.{VoterAnswers, IsReplied, IsWorkReplied, IsRestarted, IsDone, is_no_call, views_of};
+ghost use Rattle.simplex_member.specs.Runs.{asked};
+ghost use Rattle.viewstate.specs.Voter.{VoterAnswers, IsReplied, IsRestarted, IsDone, is_no_call, views_of};
 ghost use Rattle.viewstate.specs.Plain.{plain_bytes};
 ghost use Rattle.viewstate.specs.Setup.{IsSetUp, IsGenesisStart, StartsAtGenesis, plain_start};
 
 use crate::network::Network;
-use crate::voter_call::{EPOCH, call_of, work_of};
+use crate::voter_call::{EPOCH, call_of};
 use crate::voter_line::VoterLine;
-use simplex_member::member::{Call, Member, RecoverError, Reply, Restart, Start, Work};
+use simplex_member::member::{Call, Member, RecoverError, Reply, Restart, Start};
 use simplex_types::config::Floor;
 use simplex_types::types::plain::{PlainDigest, PlainElector, PlainScheme};
 use simplex_types::types::{Epoch, Fault, Participant, Terms, View, ViewDelta};
@@ -44,10 +43,7 @@ pub struct Voter {
 #[derive(Drop)]
 pub enum VoterAnswer {
     /// The reply to the call that a line stands for.
-    Reply {
-        line: VoterLine,
-        reply: Reply<PlainScheme, PlainDigest>,
-    },
+    Reply(Reply<PlainScheme, PlainDigest>),
     /// Whether the member was restarted.
     Restarted(Result<(), RecoverError>),
     /// How many entries the record has.
@@ -80,36 +76,19 @@ impl Voter {
         ensures network { self.new.network ≡ self.old.network }
         ensures answer { IfOk result (λ answer. VoterAnswers self.old.network self.old.member line answer self.new.member) }
     {
-        if let Some(work) = work_of(&line) {
-            return self.work(line, work);
-        }
         match call_of(&line) {
-            Some(call) => self.call(line, call),
+            Some(call) => self.call(call),
             None => self.other(alloc, line),
         }
     }
 
-    fn call(
-        &mut self,
-        line: VoterLine,
-        call: Call<PlainScheme, PlainDigest>,
-    ) -> Result<VoterAnswer, AllocError>
+    fn call(&mut self, call: Call<PlainScheme, PlainDigest>) -> Result<VoterAnswer, AllocError>
         ensures network { self.new.network ≡ self.old.network }
-        ensures reply { IfOk result (λ answer. IsReplied self.old.member line (call_facts plain_bytes call) answer self.new.member) }
+        ensures reply { IfOk result (λ answer. IsReplied self.old.member (asked plain_bytes call) answer self.new.member) }
     {
         match self.member.call(call) {
             Reply::Fault(Fault::OutOfMemory) => Err(AllocError),
-            reply => Ok(VoterAnswer::Reply { line, reply }),
-        }
-    }
-
-    fn work(&mut self, line: VoterLine, work: Work<PlainDigest>) -> Result<VoterAnswer, AllocError>
-        ensures network { self.new.network ≡ self.old.network }
-        ensures reply { IfOk result (λ answer. IsWorkReplied self.old.member line (work_facts work) answer self.new.member) }
-    {
-        match self.member.work(work) {
-            Reply::Fault(Fault::OutOfMemory) => Err(AllocError),
-            reply => Ok(VoterAnswer::Reply { line, reply }),
+            reply => Ok(VoterAnswer::Reply(reply)),
         }
     }
 

@@ -1,14 +1,14 @@
 //! The calls that lines stand for. Their certificates and proposals are of one epoch, and the certificates good.
 
-ghost use Rattle.std.specs.Prelude.{◌≡◌, MatchOption, true, false, ◌||◌};
-ghost use Rattle.simplex_member.specs.Calls.{call_facts};
-ghost use Rattle.simplex_member.specs.Work.{work_facts};
+ghost use Rattle.std.specs.Prelude.{◌≡◌, MatchOption, true, false};
+ghost use Rattle.simplex_types.specs.Plain.{digest_bytes};
+ghost use Rattle.simplex_member.specs.Runs.{asked};
 ghost use Rattle.viewstate.specs.declared.voter_line.VoterLine.TheVariants.{Broadcast};
 ghost use Rattle.viewstate.specs.Plain.{plain_bytes};
-ghost use Rattle.viewstate.specs.Voter.{StandsFor, StandsForWork, IsProposal, is_no_call, is_on_work, round_in_epoch};
+ghost use Rattle.viewstate.specs.Voter.{StandsFor, IsProposal, is_no_call, brings, builds, judges, asks, round_in_epoch};
 
 use crate::voter_line::{CertificateKind, VoterLine};
-use simplex_member::member::{Call, Work};
+use simplex_member::member::Call;
 use simplex_types::reasons::TimeoutReason;
 use simplex_types::types::plain::{PlainCertificate, PlainDigest, PlainScheme};
 use simplex_types::types::{
@@ -18,9 +18,25 @@ use simplex_types::types::{
 /// The epoch of every certificate and proposal that a line stands for.
 pub const EPOCH: u64 = 1;
 
-/// The call that a line stands for, if it stands for one that is not on the work of a view.
+/// The call that a line stands for, if it stands for one.
 pub fn call_of(line: &VoterLine) -> Option<Call<PlainScheme, PlainDigest>>
-    ensures { MatchOption result ((is_no_call line.now || is_on_work line.now) ≡ true) (λ call. StandsFor line.now (call_facts plain_bytes call)) }
+    ensures { MatchOption result (is_no_call line.now ≡ true) (λ call. StandsFor line.now (asked plain_bytes call)) }
+{
+    if let Some(call) = certificate_call(line) {
+        return Some(call);
+    }
+    if let Some(call) = building_call(line) {
+        return Some(call);
+    }
+    if let Some(call) = judging_call(line) {
+        return Some(call);
+    }
+    asking_call(line)
+}
+
+/// The call of a line that brings a certificate or a verdict.
+fn certificate_call(line: &VoterLine) -> Option<Call<PlainScheme, PlainDigest>>
+    ensures { MatchOption result (brings line.now ≡ false) (λ call. StandsFor line.now (asked plain_bytes call)) }
 {
     match *line {
         VoterLine::Notarization {
@@ -41,41 +57,67 @@ pub fn call_of(line: &VoterLine) -> Option<Call<PlainScheme, PlainDigest>>
             Some(Call::AddFinalization(finalization, now))
         }
         VoterLine::Verdict { view, success, now } => Some(Call::Certified(view, success, now)),
-        VoterLine::Nullify(view) => Some(Call::ConstructNullify(view, TimeoutReason::Retry)),
-        VoterLine::Finalize(view) => Some(Call::ConstructFinalize(view)),
-        VoterLine::Broadcast { kind, view } => Some(broadcast_of(kind, view)),
-        VoterLine::Best => Some(Call::GetBestCertificate),
-        VoterLine::Prune => Some(Call::Prune),
-        VoterLine::Proposal { .. }
-        | VoterLine::Release(_)
-        | VoterLine::Trigger { .. }
-        | VoterLine::Timeout { .. }
-        | VoterLine::Restart { .. }
-        | VoterLine::RestartPruned { .. }
-        | VoterLine::Record
-        | VoterLine::Views => None,
+        _ => None,
     }
 }
 
-/// The call on the work of a view that a line stands for, if it stands for one.
-pub fn work_of(line: &VoterLine) -> Option<Work<PlainDigest>>
-    ensures { MatchOption result (is_on_work line.now ≡ false) (λ work. StandsForWork line.now (work_facts work)) }
+/// The call of a line on what this member builds.
+fn building_call(line: &VoterLine) -> Option<Call<PlainScheme, PlainDigest>>
+    ensures { MatchOption result (builds line.now ≡ false) (λ call. StandsFor line.now (asked plain_bytes call)) }
+{
+    match *line {
+        VoterLine::Propose => Some(Call::TryPropose),
+        VoterLine::Proposed { view, payload, now } => {
+            Some(Call::Proposed(view, PlainDigest::new(payload), now))
+        }
+        VoterLine::Supersede(view) => Some(Call::SupersedeProposalRequest(view)),
+        VoterLine::Abandon(view) => Some(Call::PendingHandoffAbandonment(view)),
+        VoterLine::Release(view) => Some(Call::ReleaseProposalRequest(view)),
+        _ => None,
+    }
+}
+
+/// The call of a line on the proposals of leaders, and on how they are judged.
+fn judging_call(line: &VoterLine) -> Option<Call<PlainScheme, PlainDigest>>
+    ensures { MatchOption result (judges line.now ≡ false) (λ call. StandsFor line.now (asked plain_bytes call)) }
 {
     match *line {
         VoterLine::Proposal {
             view,
             parent,
             payload,
-        } => Some(Work::SetProposal(view, proposal_of(view, parent, payload))),
-        VoterLine::Release(view) => Some(Work::ReleaseProposalRequest(view)),
-        VoterLine::Trigger { view, reason, now } => Some(Work::TriggerTimeout(view, reason, now)),
-        VoterLine::Timeout { now } => Some(Work::NextTimeout(now)),
+        } => Some(Call::SetProposal(view, proposal_of(view, parent, payload))),
+        VoterLine::Verify => Some(Call::TryVerify),
+        VoterLine::Verified(view) => Some(Call::Verified(view)),
+        VoterLine::Rejected { view, now } => {
+            let reason = TimeoutReason::InvalidProposal;
+            Some(Call::VerificationFailed(view, reason, now))
+        }
+        VoterLine::Candidates => Some(Call::CertifyCandidates),
+        VoterLine::Token { view, token } => Some(Call::SetCertifyHandle(view, token)),
+        _ => None,
+    }
+}
+
+/// The call of a line that asks for a vote, a certificate, the next timeout or a pruning, or brings a timeout.
+fn asking_call(line: &VoterLine) -> Option<Call<PlainScheme, PlainDigest>>
+    ensures { MatchOption result (asks line.now ≡ false) (λ call. StandsFor line.now (asked plain_bytes call)) }
+{
+    match *line {
+        VoterLine::Notarize(view) => Some(Call::ConstructNotarize(view)),
+        VoterLine::Nullify(view) => Some(Call::ConstructNullify(view, TimeoutReason::Retry)),
+        VoterLine::Finalize(view) => Some(Call::ConstructFinalize(view)),
+        VoterLine::Broadcast { kind, view } => Some(broadcast_of(kind, view)),
+        VoterLine::Best => Some(Call::GetBestCertificate),
+        VoterLine::Trigger { view, reason, now } => Some(Call::TriggerTimeout(view, reason, now)),
+        VoterLine::Timeout { now } => Some(Call::NextTimeout(now)),
+        VoterLine::Prune => Some(Call::Prune),
         _ => None,
     }
 }
 
 fn broadcast_of(kind: CertificateKind, view: View) -> Call<PlainScheme, PlainDigest>
-    ensures { StandsFor (Broadcast kind view) (call_facts plain_bytes result) }
+    ensures { StandsFor (Broadcast kind view) (asked plain_bytes result) }
 {
     match kind {
         CertificateKind::Notarization => Call::BroadcastNotarization(view),

@@ -2,7 +2,7 @@
 
 ghost use Rattle.std.specs.Prelude.{◌≡◌, ◌∷◌, [], IfOk, codes};
 ghost use Rattle.viewstate.specs.Words.{texts_of, words_in};
-ghost use Rattle.viewstate.specs.VoterLine.{ReadsVoterLine, ReadsVoterLineOf, ReadsCertificateKind, IsCertificate, IsProgress, IsVote, IsServing, IsOnProposals, IsOnTimeouts, IsOfLives};
+ghost use Rattle.viewstate.specs.VoterLine.{ReadsVoterLine, ReadsVoterLineOf, ReadsCertificateKind, IsCertificate, IsProgress, IsVote, IsServing, IsOnProposals, IsOnBuilding, IsOnVerifying, IsOnOffers, IsOnTimeouts, IsOfLives};
 
 use crate::decimal::decimal;
 use crate::words::{flag_of, timeout_reason_of, view_of, words_of};
@@ -41,6 +41,7 @@ pub enum VoterLine {
         success: bool,
         now: u64,
     },
+    Notarize(View),
     Nullify(View),
     Finalize(View),
     Broadcast {
@@ -55,6 +56,25 @@ pub enum VoterLine {
         payload: u64,
     },
     Release(View),
+    Propose,
+    Proposed {
+        view: View,
+        payload: u64,
+        now: u64,
+    },
+    Supersede(View),
+    Abandon(View),
+    Verify,
+    Verified(View),
+    Rejected {
+        view: View,
+        now: u64,
+    },
+    Candidates,
+    Token {
+        view: View,
+        token: u64,
+    },
     Trigger {
         view: View,
         reason: TimeoutReason,
@@ -102,6 +122,15 @@ pub fn voter_line_of(words: &[&str]) -> Option<VoterLine>
         return Some(line);
     }
     if let Some(line) = proposal_line(words) {
+        return Some(line);
+    }
+    if let Some(line) = building_line(words) {
+        return Some(line);
+    }
+    if let Some(line) = verifying_line(words) {
+        return Some(line);
+    }
+    if let Some(line) = offer_line(words) {
         return Some(line);
     }
     if let Some(line) = timeout_line(words) {
@@ -170,6 +199,7 @@ fn vote_line(words: &[&str]) -> Option<VoterLine>
     ensures { ReadsVoterLineOf IsVote (texts_of words.now) result }
 {
     match *words {
+        ["notarize", view] => Some(VoterLine::Notarize(view_of(view)?)),
         ["nullify", view] => Some(VoterLine::Nullify(view_of(view)?)),
         ["finalize", view] => Some(VoterLine::Finalize(view_of(view)?)),
         _ => None,
@@ -208,6 +238,55 @@ fn handed_line(view: &str, parent: &str, payload: &str) -> Option<VoterLine>
         parent: view_of(parent)?,
         payload: decimal(payload)?,
     })
+}
+
+fn building_line(words: &[&str]) -> Option<VoterLine>
+    ensures { ReadsVoterLineOf IsOnBuilding (texts_of words.now) result }
+{
+    match *words {
+        ["propose"] => Some(VoterLine::Propose),
+        ["proposed", view, payload, now] => built_line(view, payload, now),
+        ["supersede", view] => Some(VoterLine::Supersede(view_of(view)?)),
+        ["abandon", view] => Some(VoterLine::Abandon(view_of(view)?)),
+        _ => None,
+    }
+}
+
+fn built_line(view: &str, payload: &str, now: &str) -> Option<VoterLine>
+    ensures { ReadsVoterLineOf IsOnBuilding (codes "proposed" ∷ view.now ∷ payload.now ∷ now.now ∷ []) result }
+{
+    Some(VoterLine::Proposed {
+        view: view_of(view)?,
+        payload: decimal(payload)?,
+        now: decimal(now)?,
+    })
+}
+
+fn verifying_line(words: &[&str]) -> Option<VoterLine>
+    ensures { ReadsVoterLineOf IsOnVerifying (texts_of words.now) result }
+{
+    match *words {
+        ["verify"] => Some(VoterLine::Verify),
+        ["verified", view] => Some(VoterLine::Verified(view_of(view)?)),
+        ["rejected", view, now] => Some(VoterLine::Rejected {
+            view: view_of(view)?,
+            now: decimal(now)?,
+        }),
+        _ => None,
+    }
+}
+
+fn offer_line(words: &[&str]) -> Option<VoterLine>
+    ensures { ReadsVoterLineOf IsOnOffers (texts_of words.now) result }
+{
+    match *words {
+        ["candidates"] => Some(VoterLine::Candidates),
+        ["token", view, token] => Some(VoterLine::Token {
+            view: view_of(view)?,
+            token: decimal(token)?,
+        }),
+        _ => None,
+    }
 }
 
 fn timeout_line(words: &[&str]) -> Option<VoterLine>

@@ -1,7 +1,7 @@
 //! What each life of a member keeps, between a start or a restart and the next one.
 
 ghost use Rattle.simplex_laws.specs.LifeLaws.{OfEachLife, OfEachStretch, StretchesAreLives, WhileAlive, NeverFalls};
-ghost use Rattle.simplex_laws.specs.LifeLaws.{ConflictsStay, DroppedForGood, HandedOnce, HandedAsAsked};
+ghost use Rattle.simplex_laws.specs.LifeLaws.{OfEachState, CurrentTimesOut, ConflictsStay, DroppedForGood, HandedOnce, HandedAsAsked};
 
 use simplex_types::types::{Digest, Elector, Scheme};
 
@@ -29,4 +29,13 @@ pub fn runs_keep_order<S: Scheme<D>, L: Elector<S>, D: Digest>()
     ensures dropped_for_good { OfEachStretch S.PublicKey D.eq L.elect
         (λ m calls replies end. WhileAlive (DroppedForGood replies) m.life end.life) }
     ensures handed_as_asked { OfEachStretch S.PublicKey D.eq L.elect (λ m calls replies end. HandedAsAsked calls replies) }
+{}
+
+/// Each state that a run leads to while its member lives, whatever the calls, restarts and records. It does nothing: its
+/// contract is the law.
+///
+/// - `times_out`: the current view lies above the last finalized one, and has a timeout, unless it is certified or this member
+///   has decided to finalize it. So `NextTimeout` has a moment to wait for.
+pub fn current_views_time_out<S: Scheme<D>, L: Elector<S>, D: Digest>()
+    ensures times_out { OfEachState S.PublicKey D.eq L.elect CurrentTimesOut }
 {}

@@ -9,7 +9,7 @@ ghost use Rattle.simplex_laws.specs.Lawful.{IsLawful};
 ghost use Rattle.simplex_laws.specs.Shown.{shown, AreSetUpAs};
 ghost use Rattle.simplex_laws.specs.Stories.{deeds_of, Ran};
 
-use simplex_member::member::{Call, Member, RecoverError, Reply, Restart, Start, Step, Work, run};
+use simplex_member::member::{Call, Member, RecoverError, Reply, Restart, Start, Step, run};
 use simplex_types::types::{CertificateScheme, Digest, Elector, Scheme};
 use std::alloc::Global;
 use std::marker::Model;
@@ -51,11 +51,12 @@ pub fn run_lawfully<S: Scheme<D>, L: Elector<S>, D: Digest>(
 
 /// A member that a driver keeps, with the law of its votes at each moment.
 ///
-/// `HasDone` says which deeds it has done so far, and as which member of a network: `start` begins the list, each method says
-/// what it adds, read off its arguments and its reply, and `keeps_the_laws` says what holds of the whole.
+/// `HasDone` says which deeds it has done so far, and as which member of a network: `start` begins the list, `resume` goes on
+/// with that of an ended member, each method says what it adds, read off its arguments and its reply, and `keeps_the_laws` says
+/// what holds of the whole.
 #[derive(Drop)]
 pub struct LawfulMember<S: CertificateScheme, L: Elector<S>, D: Digest> {
-    member: Member<S, L, D>,
+    pub(super) member: Member<S, L, D>,
 }
 
 impl<S: CertificateScheme, L: Elector<S>, D: Digest> Model for LawfulMember<S, L, D> {
@@ -69,14 +70,12 @@ impl<S: CertificateScheme, L: Elector<S>, D: Digest> Model for LawfulMember<S, L
 impl<S: Scheme<D>, L: Elector<S>, D: Digest> LawfulMember<S, L, D> {
     ghost use Rattle.std.specs.Prelude.{[], ◌++◌};
     ghost use Rattle.simplex_types.specs.Config.{floor_facts};
-    ghost use Rattle.simplex_member.specs.Calls.{call_facts, told};
-    ghost use Rattle.simplex_member.specs.Runs.{Calls, Works};
-    ghost use Rattle.simplex_member.specs.Lives.{IsCall};
+    ghost use Rattle.simplex_member.specs.Calls.{told};
+    ghost use Rattle.simplex_member.specs.Runs.{asked, IsStep};
     ghost use Rattle.simplex_member.specs.Signed.{IsSignedReply};
     ghost use Rattle.simplex_member.specs.Recovery.{recover_error};
     ghost use Rattle.simplex_member.specs.Restarts.{restart_facts, IsRestart};
     ghost use Rattle.simplex_member.specs.Start.{set_up, started, IsDue};
-    ghost use Rattle.simplex_member.specs.Work.{work_facts, IsWork};
     ghost use Rattle.simplex_laws.specs.Exactly.{ExactAt};
     ghost use Rattle.simplex_laws.specs.Living.{DoesMore, MayBeDoneBy, OfAllDone, HasBegun, HasBegunAgain};
     ghost use Rattle.simplex_laws.specs.Shown.{votes_in, taken_by};
@@ -105,31 +104,20 @@ impl<S: Scheme<D>, L: Elector<S>, D: Digest> LawfulMember<S, L, D> {
         })
     }
 
-    /// Makes a call of the state.
+    /// Makes a call of the state, as `Member::call` does.
     ///
-    /// - `answered`: as `Member::call` does: with its answer, or refused, or not allowed, and then nothing is changed but for a
-    ///   member that fails for want of memory.
+    /// - `answered`: with its answer, or refused, or not allowed, and then nothing is changed but for a member that fails for
+    ///   want of memory.
+    /// - `signed`: a vote that is answered is signed on just what it is on, under the member's key.
     /// - `exact`: a request for a vote is answered exactly by its rule, and nothing else by a vote.
     /// - `goes_on`: what the member has done grows by the certificate that is accepted and the vote that is told.
     pub fn call(&mut self, call: Call<S, D>) -> Reply<S, D>
-        ensures answered { IsCall D.eq L.elect self.old (call_facts S.certificate_bytes call) (told S.certificate_bytes result) self.new }
+        ensures answered { IsStep D.eq L.elect self.old (asked S.certificate_bytes call) (told S.certificate_bytes result) self.new }
         ensures signed { IfSome self.old.life (IsSignedReply S.IsSignature result) }
-        ensures exact { ExactAt D.eq L.elect self.old.life (Calls (call_facts S.certificate_bytes call)) (told S.certificate_bytes result) }
+        ensures exact { ExactAt D.eq L.elect self.old.life (asked S.certificate_bytes call) (told S.certificate_bytes result) }
         ensures goes_on { DoesMore D.eq L.elect self.old (taken_by call result ++ votes_in result) self.new }
     {
         self.member.call(call)
-    }
-
-    /// Makes a call on the work of a view, as `Member::work` does.
-    ///
-    /// - `exact`: a request for a vote is answered exactly by its rule, and nothing else by a vote.
-    /// - `goes_on`: what the member has done grows by the vote that is told.
-    pub fn work(&mut self, work: Work<D>) -> Reply<S, D>
-        ensures answered { IsWork D.eq L.elect self.old (work_facts work) (told S.certificate_bytes result) self.new }
-        ensures exact { ExactAt D.eq L.elect self.old.life (Works (work_facts work)) (told S.certificate_bytes result) }
-        ensures goes_on { DoesMore D.eq L.elect self.old (votes_in result) self.new }
-    {
-        self.member.work(work)
     }
 
     /// Begins another life from what is left of the record, as `Member::restart` does, or is refused with its errors.

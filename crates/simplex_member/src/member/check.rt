@@ -29,7 +29,8 @@ pub fn check_record<S: CertificateScheme, D: Digest>(
     floor: &Floor<S, D>,
     entries: &[Artifact<S, D>],
 ) -> Result<(), RecoverError>
-    ensures { MatchOption (first_broken_rule D.eq epoch (S.me scheme.now) (floor_facts S.certificate_bytes floor.now) (entries_of S.certificate_bytes entries.now)) (result ≡ Ok tt) (λ broken. result ≡ Err broken) }
+    ensures { MatchOption (first_broken_rule D.eq epoch (S.me scheme.now) (floor_facts S.certificate_bytes floor.now)
+        (entries_of S.certificate_bytes entries.now)) (result ≡ Ok tt) (λ broken. result ≡ Err broken) }
 {
     check_floor(epoch, floor)?;
     check_entries(scheme, epoch, entries)
@@ -77,9 +78,11 @@ fn check_next<S: CertificateScheme, D: Digest>(
     seen: &mut Seen<D>,
     artifact: &Artifact<S, D>,
 ) -> Result<(), RecoverError>
-    ensures broken { IfErr result (λ error. first_error (next_rules D.eq epoch (S.me scheme.now) seen.old (artifact_facts S.certificate_bytes artifact.now)) ≡ Some error) }
+    ensures broken { IfErr result (λ error. first_error
+        (next_rules D.eq epoch (S.me scheme.now) seen.old (artifact_facts S.certificate_bytes artifact.now)) ≡ Some error) }
     ensures kept { OnOk result (first_error (next_rules D.eq epoch (S.me scheme.now) seen.old (artifact_facts S.certificate_bytes artifact.now)) ≡ None) }
-    ensures seen { OnOk result (seen.new ≡ with_entry (turned_to seen.old (entry_view (artifact_facts S.certificate_bytes artifact.now))) (artifact_facts S.certificate_bytes artifact.now)) }
+    ensures seen { OnOk result (seen.new ≡ with_entry
+        (turned_to seen.old (entry_view (artifact_facts S.certificate_bytes artifact.now))) (artifact_facts S.certificate_bytes artifact.now)) }
 {
     let view = artifact.view();
     if view < seen.view {

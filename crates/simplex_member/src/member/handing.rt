@@ -1,23 +1,71 @@
-//! Certificates that a member hands out, over its state.
+//! The calls of a member that hand out certificates or drop views, over its state.
 
-ghost use Rattle.std.specs.Prelude.{◌≡◌, Bool, true, false, IfOk, IfErr, OnOk, option_map};
+ghost use Rattle.std.specs.Prelude.{◌≡◌, [], None, Bool, true, false, IfOk, IfErr, OnOk, option_map};
 ghost use Rattle.simplex_types.specs.Certificates.{certificate_facts, Notarized, Nullified, Finalized};
 ghost use Rattle.simplex_voter.specs.Refusals.{plain_refusal, is_started};
 ghost use Rattle.simplex_voter.specs.Serving.{broadcast_notarization_answer, after_broadcast_notarization, broadcast_nullification_answer, after_broadcast_nullification, broadcast_finalization_answer, after_broadcast_finalization};
-ghost use Rattle.simplex_member.specs.Made.{EndsBy};
+ghost use Rattle.simplex_member.specs.Calls.{told};
+ghost use Rattle.simplex_member.specs.Made.{EndsBy, is_ready, due_fault, answer_to, after_asked, recorded_for, family_of, EndsCall};
+ghost use Rattle.simplex_member.specs.Openings.{no_openings};
+ghost use Rattle.simplex_member.specs.Runs.{asked};
+ghost use Rattle.simplex_member.specs.Signed.{is_vote_reply};
+ghost use Rattle.simplex_member.specs.declared.member.serving.Family.TheVariants.{Servings};
 
 use super::call_error::CallError;
+use super::calls::{Call, Reply};
 use simplex_types::types::{Certificate, CertificateScheme, Digest, Elector, View};
 use simplex_voter::voter::State;
 
+/// Makes a call that hands out what is kept, or drops it. Nothing of it is recorded.
+pub(super) fn hand_out<S: CertificateScheme, L: Elector<S>, D: Digest>(
+    state: &mut State<S, L, D>,
+    call: Call<S, D>,
+) -> Result<Reply<S, D>, CallError>
+    requires going_on { state.old.failed ≡ false }
+    requires begun { is_started state.old ≡ true }
+    requires family { family_of call ≡ Servings }
+    ensures due { OnOk result (due_fault state.old (asked S.certificate_bytes call) ≡ None) }
+    ensures answer { IfOk result (λ reply. told S.certificate_bytes reply
+        ≡ answer_to D.eq L.elect state.old no_openings (asked S.certificate_bytes call)) }
+    ensures unsigned { IfOk result (λ reply. is_vote_reply reply ≡ false) }
+    ensures after { OnOk result (state.new ≡ after_asked D.eq L.elect state.old no_openings (asked S.certificate_bytes call)) }
+    ensures unrecorded { recorded_for D.eq L.elect state.old (asked S.certificate_bytes call) ≡ [] }
+    ensures refused { IfErr result (EndsCall (asked S.certificate_bytes call) state.old state.new) }
+{
+    match call {
+        Call::BroadcastNotarization(view) => {
+            let certificate = broadcast_notarization(state, view)?;
+            Ok(Reply::Certificate(certificate))
+        }
+        Call::BroadcastNullification(view) => {
+            let certificate = broadcast_nullification(state, view)?;
+            Ok(Reply::Certificate(certificate))
+        }
+        Call::BroadcastFinalization(view) => {
+            let certificate = broadcast_finalization(state, view)?;
+            Ok(Reply::Certificate(certificate))
+        }
+        Call::GetBestCertificate => {
+            let certificate = state.get_best_certificate().map_err(CallError::Refused)?;
+            Ok(Reply::Certificate(certificate))
+        }
+        Call::Prune => {
+            let views = state.prune().map_err(CallError::of)?;
+            Ok(Reply::Views(views))
+        }
+        _ => unreachable!(),
+    }
+}
+
 /// Hands out a view's notarization, once. The state is lost where there is no memory for a copy.
-pub(super) fn broadcast_notarization<S: CertificateScheme, L: Elector<S>, D: Digest>(
+fn broadcast_notarization<S: CertificateScheme, L: Elector<S>, D: Digest>(
     state: &mut State<S, L, D>,
     view: View,
 ) -> Result<Option<Certificate<S, D>>, CallError>
     requires going_on { state.old.failed ≡ false }
     requires begun { is_started state.old ≡ true }
-    ensures answer { IfOk result (λ c. option_map (certificate_facts S.certificate_bytes) c ≡ option_map Notarized (broadcast_notarization_answer state.old view)) }
+    ensures answer { IfOk result (λ c. option_map (certificate_facts S.certificate_bytes) c
+        ≡ option_map Notarized (broadcast_notarization_answer state.old view)) }
     ensures after { OnOk result (state.new ≡ after_broadcast_notarization state.old view) }
     ensures refused { IfErr result (EndsBy (plain_refusal state.old) state.old state.new) }
 {
@@ -29,13 +77,14 @@ pub(super) fn broadcast_notarization<S: CertificateScheme, L: Elector<S>, D: Dig
 }
 
 /// Hands out a view's nullification, once. The state is lost where there is no memory for a copy.
-pub(super) fn broadcast_nullification<S: CertificateScheme, L: Elector<S>, D: Digest>(
+fn broadcast_nullification<S: CertificateScheme, L: Elector<S>, D: Digest>(
     state: &mut State<S, L, D>,
     view: View,
 ) -> Result<Option<Certificate<S, D>>, CallError>
     requires going_on { state.old.failed ≡ false }
     requires begun { is_started state.old ≡ true }
-    ensures answer { IfOk result (λ c. option_map (certificate_facts S.certificate_bytes) c ≡ option_map Nullified (broadcast_nullification_answer state.old view)) }
+    ensures answer { IfOk result (λ c. option_map (certificate_facts S.certificate_bytes) c
+        ≡ option_map Nullified (broadcast_nullification_answer state.old view)) }
     ensures after { OnOk result (state.new ≡ after_broadcast_nullification state.old view) }
     ensures refused { IfErr result (EndsBy (plain_refusal state.old) state.old state.new) }
 {
@@ -47,13 +96,14 @@ pub(super) fn broadcast_nullification<S: CertificateScheme, L: Elector<S>, D: Di
 }
 
 /// Hands out a view's finalization, once. The state is lost where there is no memory for a copy.
-pub(super) fn broadcast_finalization<S: CertificateScheme, L: Elector<S>, D: Digest>(
+fn broadcast_finalization<S: CertificateScheme, L: Elector<S>, D: Digest>(
     state: &mut State<S, L, D>,
     view: View,
 ) -> Result<Option<Certificate<S, D>>, CallError>
     requires going_on { state.old.failed ≡ false }
     requires begun { is_started state.old ≡ true }
-    ensures answer { IfOk result (λ c. option_map (certificate_facts S.certificate_bytes) c ≡ option_map Finalized (broadcast_finalization_answer state.old view)) }
+    ensures answer { IfOk result (λ c. option_map (certificate_facts S.certificate_bytes) c
+        ≡ option_map Finalized (broadcast_finalization_answer state.old view)) }
     ensures after { OnOk result (state.new ≡ after_broadcast_finalization state.old view) }
     ensures refused { IfErr result (EndsBy (plain_refusal state.old) state.old state.new) }
 {

@@ -5,7 +5,9 @@ ghost use Rattle.std.specs.Option.{option_copied};
 
 use super::call_error::CallError;
 use super::calls::{Call, Reply};
+use super::closing::{Closing, follow};
 use super::error::RecoverError;
+use super::openings::Openings;
 use super::restart::keep_finalization;
 use super::serving::{is_allowed, serve};
 use super::start::{Start, begin, retention_of};
@@ -24,6 +26,8 @@ use std::marker::Model;
 pub struct Member<S: CertificateScheme, L: Elector<S>, D: Digest> {
     pub(super) alloc: Global,
     pub(super) state: State<S, L, D>,
+    /// What its state handed out and was not told the end of.
+    pub(super) openings: Openings<D, S::PublicKey>,
     pub(super) artifacts: Vec<Artifact<S, D>>,
     /// No drop takes one of the first so many artifacts.
     pub(super) closed: usize,
@@ -39,35 +43,46 @@ impl<S: CertificateScheme, L: Elector<S>, D: Digest> Model for Member<S, L, D> {
     ghost use Rattle.std.specs.Prelude.{◌≡◌, true, false};
     ghost use Rattle.simplex_voter.specs.Refusals.{is_started};
     ghost use Rattle.simplex_member.specs.Entries.{entries_of};
-    ghost use Rattle.simplex_member.specs.Lives.{MemberFacts, living};
-    ghost use Rattle.simplex_member.specs.Openings.{no_openings};
+    ghost use Rattle.simplex_member.specs.Lives.{MemberFacts, living, open_while};
 
     ghost Value = { MemberFacts S.PublicKey L D };
 
-    ghost view = { λ m. record { life = living m.failed m.state; openings = no_openings; entries = entries_of S.certificate_bytes m.artifacts.items; closed = m.closed; is_pruned = m.is_pruned; retention = m.retention; least_retention = m.least_retention } };
+    ghost view = { λ m. record {
+      life = living m.failed m.state;
+      openings = open_while m.failed m.openings;
+      entries = entries_of S.certificate_bytes m.artifacts.items;
+      closed = m.closed;
+      is_pruned = m.is_pruned;
+      retention = m.retention;
+      least_retention = m.least_retention;
+    } };
 
     ghost invariant = { λ m. m.failed ≡ false → (m.state.failed ≡ false) × (is_started m.state ≡ true) };
 }
 
 impl<S: CertificateScheme, L: Elector<S>, D: Digest> Member<S, L, D> {
     ghost use Rattle.simplex_member.specs.Entries.{entries_of};
-    ghost use Rattle.simplex_member.specs.Calls.{call_facts, told};
-    ghost use Rattle.simplex_member.specs.Lives.{IsCall};
+    ghost use Rattle.simplex_member.specs.Calls.{told};
+    ghost use Rattle.simplex_member.specs.Runs.{asked, IsStep};
     ghost use Rattle.simplex_member.specs.Signed.{IsSignedReply};
     ghost use Rattle.simplex_member.specs.Recovery.{recover_error};
     ghost use Rattle.simplex_member.specs.Start.{set_up, started, IsDue};
     ghost use Rattle.simplex_types.specs.Config.{floor_facts};
 
-    /// A member whose state starts at a floor, with nothing in its record but the floor's finalization.
+    /// A member that never voted: its state starts at a floor, with nothing in its record but the floor's finalization. A
+    /// member that did vote goes on from its journal by `Member::resume`, or could vote twice in a view.
     ///
     /// The elector's members are the scheme's participants. `OtherEpoch`, `ZeroView` or `ViewTooLarge` where the floor's
     /// finalization is of another epoch or of view 0, or names a view above 2^63 - 1; `TimeOverflow` where a deadline
     /// passes 2^64 - 1 milliseconds.
     pub fn start(alloc: Global, start: Start<S, L, D>) -> Result<Member<S, L, D>, RecoverError>
         requires { L.members start.settings.elector ≡ length (S.participants start.settings.scheme) }
-        ensures started { IfOk result (λ member. member ≡ started D.eq L.elect (set_up S.me S.participants L.terms L.elects_early start.settings) (floor_facts S.certificate_bytes start.floor) start.now) }
-        ensures accepted { OnOk result (recover_error D.eq (set_up S.me S.participants L.terms L.elects_early start.settings) (floor_facts S.certificate_bytes start.floor) start.now [] ≡ None) }
-        ensures refused { IfErr result (IsDue (recover_error D.eq (set_up S.me S.participants L.terms L.elects_early start.settings) (floor_facts S.certificate_bytes start.floor) start.now [])) }
+        ensures started { IfOk result (λ member. member ≡ started D.eq L.elect
+            (set_up S.me S.participants L.terms L.elects_early start.settings) (floor_facts S.certificate_bytes start.floor) start.now) }
+        ensures accepted { OnOk result (recover_error D.eq (set_up S.me S.participants L.terms L.elects_early start.settings)
+            (floor_facts S.certificate_bytes start.floor) start.now [] ≡ None) }
+        ensures refused { IfErr result (IsDue (recover_error D.eq
+            (set_up S.me S.participants L.terms L.elects_early start.settings) (floor_facts S.certificate_bytes start.floor) start.now [])) }
     {
         let retention = retention_of(&start.settings);
         let (state, finalization) = begin(alloc, start.settings, start.floor, start.now)?;
@@ -76,6 +91,7 @@ impl<S: CertificateScheme, L: Elector<S>, D: Digest> Member<S, L, D> {
         Ok(Member {
             alloc,
             state,
+            openings: Openings::new(alloc),
             artifacts,
             closed: 0,
             is_pruned: false,
@@ -105,25 +121,40 @@ impl<S: CertificateScheme, L: Elector<S>, D: Digest> Member<S, L, D> {
     /// Makes a call of the state and records what came of it: a certificate that was newly added, a view's first verdict,
     /// and a vote, unless it is a repeat, before it is handed out.
     ///
+    /// What the state asks to build, to verify or to certify is open until it is answered: a request to build until its
+    /// payload, a true answer that it is to be replaced, or its release; a verification until its answer; an offer until
+    /// its verdict.
+    ///
     /// `NotAllowed`, with nothing changed, where a certificate is of another epoch or of a view that is not kept, or a
-    /// tracked view has no notarization or another verdict. Of the faults `ViewTooLarge` and `TimeOverflow` change nothing.
-    /// After `OutOfMemory` nothing has changed, or the member has failed, and answers `Failed` from then on.
-    #[tactic(auto, unfolding(crate::specs::Lives::IsCall))]
+    /// tracked view has no notarization or another verdict; where a proposal is of another epoch or view or of a view that
+    /// is not kept; where no request, verification or offer is open in the view; where the current view has no timeout. Of
+    /// the faults `ViewTooLarge` and `TimeOverflow` change nothing. After `OutOfMemory` nothing has changed, or the member
+    /// has failed, and answers `Failed` from then on.
     pub fn call(&mut self, call: Call<S, D>) -> Reply<S, D>
     where
         S: Scheme<D>,
-        ensures made { IsCall D.eq L.elect self.old (call_facts S.certificate_bytes call) (told S.certificate_bytes result) self.new }
+        ensures made { IsStep D.eq L.elect self.old (asked S.certificate_bytes call) (told S.certificate_bytes result) self.new }
         ensures signed { IfSome self.old.life (IsSignedReply S.IsSignature result) }
     {
         if self.failed {
             return Reply::Fault(Fault::Failed);
         }
-        if !is_allowed(&self.state, &call) {
+        if !is_allowed(&self.state, &self.openings, &call) {
             return Reply::NotAllowed;
         }
         self.failed = true;
-        match serve(self.alloc, &mut self.state, &mut self.artifacts, call) {
+        let closing = Closing::of(&call);
+        match serve(
+            self.alloc,
+            &mut self.state,
+            &self.openings,
+            &mut self.artifacts,
+            call,
+        ) {
             Ok(reply) => {
+                if follow(&mut self.openings, closing, &reply).is_err() {
+                    return Reply::Fault(Fault::OutOfMemory);
+                }
                 self.failed = false;
                 reply
             }

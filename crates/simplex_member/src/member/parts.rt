@@ -1,4 +1,4 @@
-//! The calls of a member that the record grows by, each over its state and its record.
+//! The calls of a member that hand in certificates and verdicts, each over its state and its record.
 //!
 //! Each makes room in the record before it calls the state, so that nothing has changed where there is none.
 
@@ -8,11 +8,16 @@ ghost use Rattle.simplex_member.specs.Entries.{entries_of};
 ghost use Rattle.simplex_voter.specs.Acceptance.{takes_proposal_certificate, takes_nullification, notarization_refusal, nullification_refusal, finalization_refusal, notarization_added, nullification_added, finalization_added, after_add_notarization, after_add_nullification, after_add_finalization};
 ghost use Rattle.simplex_voter.specs.Certification.{takes_verdict, is_first_verdict, certified_refusal, certified_answer, after_certified};
 ghost use Rattle.simplex_voter.specs.Facts.{round_number};
-ghost use Rattle.simplex_member.specs.Calls.{newly};
-ghost use Rattle.simplex_member.specs.Made.{EndsBy};
-ghost use Rattle.simplex_member.specs.Signed.{signatures_of};
+ghost use Rattle.simplex_voter.specs.Refusals.{is_started};
+ghost use Rattle.simplex_member.specs.Calls.{newly, told};
+ghost use Rattle.simplex_member.specs.Made.{EndsBy, is_ready, due_fault, answer_to, after_asked, recorded_for, family_of, EndsCall};
+ghost use Rattle.simplex_member.specs.Openings.{no_openings};
+ghost use Rattle.simplex_member.specs.Runs.{asked};
+ghost use Rattle.simplex_member.specs.Signed.{is_vote_reply, signatures_of};
+ghost use Rattle.simplex_member.specs.declared.member.serving.Family.TheVariants.{Certificates};
 
 use super::call_error::CallError;
+use super::calls::{Call, Reply};
 use simplex_types::types::{
     Artifact, CertificateScheme, Digest, Elector, Finalization, Notarization, Nullification, Round,
     View,
@@ -20,13 +25,53 @@ use simplex_types::types::{
 use simplex_voter::voter::State;
 use std::alloc::Global;
 
+/// Makes a call that hands in a certificate.
+pub(super) fn take<S: CertificateScheme, L: Elector<S>, D: Digest>(
+    alloc: Global,
+    state: &mut State<S, L, D>,
+    artifacts: &mut Vec<Artifact<S, D>>,
+    call: Call<S, D>,
+) -> Result<Reply<S, D>, CallError>
+    requires going_on { state.old.failed ≡ false }
+    requires begun { is_started state.old ≡ true }
+    requires allowed { is_ready state.old (asked S.certificate_bytes call) ≡ true }
+    requires family { family_of call ≡ Certificates }
+    ensures due { OnOk result (due_fault state.old (asked S.certificate_bytes call) ≡ None) }
+    ensures answer { IfOk result (λ reply. told S.certificate_bytes reply
+        ≡ answer_to D.eq L.elect state.old no_openings (asked S.certificate_bytes call)) }
+    ensures unsigned { IfOk result (λ reply. is_vote_reply reply ≡ false) }
+    ensures after { OnOk result (state.new ≡ after_asked D.eq L.elect state.old no_openings (asked S.certificate_bytes call)) }
+    ensures recorded { OnOk result (entries_of S.certificate_bytes artifacts.new.items
+        ≡ entries_of S.certificate_bytes artifacts.old.items ++ recorded_for D.eq L.elect state.old (asked S.certificate_bytes call)) }
+    ensures refused { IfErr result (EndsCall (asked S.certificate_bytes call) state.old state.new) }
+    ensures same_record { OnErr result (entries_of S.certificate_bytes artifacts.new.items
+        ≡ entries_of S.certificate_bytes artifacts.old.items) }
+{
+    match call {
+        Call::AddNotarization(notarization) => {
+            let added = add_notarization(alloc, state, artifacts, notarization)?;
+            Ok(Reply::Added(added.0, added.1))
+        }
+        Call::AddNullification(nullification, now) => {
+            let added = add_nullification(alloc, state, artifacts, nullification, now)?;
+            Ok(Reply::AddedNullification(added))
+        }
+        Call::AddFinalization(finalization, now) => {
+            let added = add_finalization(alloc, state, artifacts, finalization, now)?;
+            Ok(Reply::Added(added.0, added.1))
+        }
+        _ => unreachable!(),
+    }
+}
+
 /// Records an artifact for which there is room.
 pub(super) fn keep<S: CertificateScheme, D: Digest>(
     artifacts: &mut Vec<Artifact<S, D>>,
     artifact: Artifact<S, D>,
 )
     requires { vec_len artifacts.old < vec_capacity artifacts.old }
-    ensures kept { entries_of S.certificate_bytes artifacts.new.items ≡ entries_of S.certificate_bytes artifacts.old.items ++ artifact_facts S.certificate_bytes artifact ∷ [] }
+    ensures kept { entries_of S.certificate_bytes artifacts.new.items
+        ≡ entries_of S.certificate_bytes artifacts.old.items ++ artifact_facts S.certificate_bytes artifact ∷ [] }
     ensures signature { signatures_of artifacts.new.items ≡ signatures_of artifacts.old.items ++ signature_in artifact ∷ [] }
 {
     match artifacts.push(artifact) {
@@ -36,7 +81,7 @@ pub(super) fn keep<S: CertificateScheme, D: Digest>(
 }
 
 /// Adds a notarization, and records it where it is the first of its view.
-pub(super) fn add_notarization<S: CertificateScheme, L: Elector<S>, D: Digest>(
+fn add_notarization<S: CertificateScheme, L: Elector<S>, D: Digest>(
     alloc: Global,
     state: &mut State<S, L, D>,
     artifacts: &mut Vec<Artifact<S, D>>,
@@ -47,7 +92,10 @@ pub(super) fn add_notarization<S: CertificateScheme, L: Elector<S>, D: Digest>(
     ensures due { OnOk result (notarization_refusal state.old (notarization_facts S.certificate_bytes notarization) ≡ None) }
     ensures answer { IfOk result (λ added. added ≡ notarization_added D.eq L.elect state.old (notarization_facts S.certificate_bytes notarization)) }
     ensures after { OnOk result (state.new ≡ after_add_notarization D.eq L.elect state.old (notarization_facts S.certificate_bytes notarization)) }
-    ensures recorded { OnOk result (entries_of S.certificate_bytes artifacts.new.items ≡ entries_of S.certificate_bytes artifacts.old.items ++ newly (notarization_added D.eq L.elect state.old (notarization_facts S.certificate_bytes notarization)).0 (Accepted (Notarized (notarization_facts S.certificate_bytes notarization)))) }
+    ensures recorded { OnOk result (entries_of S.certificate_bytes artifacts.new.items
+        ≡ entries_of S.certificate_bytes artifacts.old.items ++ newly
+        (notarization_added D.eq L.elect state.old (notarization_facts S.certificate_bytes notarization)).0
+        (Accepted (Notarized (notarization_facts S.certificate_bytes notarization)))) }
     ensures refused { IfErr result (EndsBy (notarization_refusal state.old (notarization_facts S.certificate_bytes notarization)) state.old state.new) }
     ensures same_record { OnErr result (entries_of S.certificate_bytes artifacts.new.items ≡ entries_of S.certificate_bytes artifacts.old.items) }
 {
@@ -61,7 +109,7 @@ pub(super) fn add_notarization<S: CertificateScheme, L: Elector<S>, D: Digest>(
 }
 
 /// Adds a nullification, and records it where it is the first of its view.
-pub(super) fn add_nullification<S: CertificateScheme, L: Elector<S>, D: Digest>(
+fn add_nullification<S: CertificateScheme, L: Elector<S>, D: Digest>(
     alloc: Global,
     state: &mut State<S, L, D>,
     artifacts: &mut Vec<Artifact<S, D>>,
@@ -73,7 +121,10 @@ pub(super) fn add_nullification<S: CertificateScheme, L: Elector<S>, D: Digest>(
     ensures due { OnOk result (nullification_refusal state.old (nullification_facts S.certificate_bytes nullification) now ≡ None) }
     ensures answer { IfOk result (λ added. added ≡ nullification_added state.old (nullification_facts S.certificate_bytes nullification)) }
     ensures after { OnOk result (state.new ≡ after_add_nullification L.elect state.old (nullification_facts S.certificate_bytes nullification) now) }
-    ensures recorded { OnOk result (entries_of S.certificate_bytes artifacts.new.items ≡ entries_of S.certificate_bytes artifacts.old.items ++ newly (nullification_added state.old (nullification_facts S.certificate_bytes nullification)) (Accepted (Nullified (nullification_facts S.certificate_bytes nullification)))) }
+    ensures recorded { OnOk result (entries_of S.certificate_bytes artifacts.new.items
+        ≡ entries_of S.certificate_bytes artifacts.old.items ++ newly
+        (nullification_added state.old (nullification_facts S.certificate_bytes nullification))
+        (Accepted (Nullified (nullification_facts S.certificate_bytes nullification)))) }
     ensures refused { IfErr result (EndsBy (nullification_refusal state.old (nullification_facts S.certificate_bytes nullification) now) state.old state.new) }
     ensures same_record { OnErr result (entries_of S.certificate_bytes artifacts.new.items ≡ entries_of S.certificate_bytes artifacts.old.items) }
 {
@@ -89,7 +140,7 @@ pub(super) fn add_nullification<S: CertificateScheme, L: Elector<S>, D: Digest>(
 }
 
 /// Adds a finalization, and records it where it is the first of its view.
-pub(super) fn add_finalization<S: CertificateScheme, L: Elector<S>, D: Digest>(
+fn add_finalization<S: CertificateScheme, L: Elector<S>, D: Digest>(
     alloc: Global,
     state: &mut State<S, L, D>,
     artifacts: &mut Vec<Artifact<S, D>>,
@@ -101,7 +152,10 @@ pub(super) fn add_finalization<S: CertificateScheme, L: Elector<S>, D: Digest>(
     ensures due { OnOk result (finalization_refusal state.old finalization.proposal now ≡ None) }
     ensures answer { IfOk result (λ added. added ≡ finalization_added D.eq L.elect state.old (finalization_facts S.certificate_bytes finalization)) }
     ensures after { OnOk result (state.new ≡ after_add_finalization D.eq L.elect state.old (finalization_facts S.certificate_bytes finalization) now) }
-    ensures recorded { OnOk result (entries_of S.certificate_bytes artifacts.new.items ≡ entries_of S.certificate_bytes artifacts.old.items ++ newly (finalization_added D.eq L.elect state.old (finalization_facts S.certificate_bytes finalization)).0 (Accepted (Finalized (finalization_facts S.certificate_bytes finalization)))) }
+    ensures recorded { OnOk result (entries_of S.certificate_bytes artifacts.new.items
+        ≡ entries_of S.certificate_bytes artifacts.old.items ++ newly
+        (finalization_added D.eq L.elect state.old (finalization_facts S.certificate_bytes finalization)).0
+        (Accepted (Finalized (finalization_facts S.certificate_bytes finalization)))) }
     ensures refused { IfErr result (EndsBy (finalization_refusal state.old finalization.proposal now) state.old state.new) }
     ensures same_record { OnErr result (entries_of S.certificate_bytes artifacts.new.items ≡ entries_of S.certificate_bytes artifacts.old.items) }
 {
@@ -129,7 +183,8 @@ pub(super) fn certified<S: CertificateScheme, L: Elector<S>, D: Digest>(
     ensures due { OnOk result (certified_refusal state.old view success now ≡ None) }
     ensures answer { IfOk result (λ answer. option_map (notarization_facts S.certificate_bytes) answer ≡ certified_answer state.old view) }
     ensures after { OnOk result (state.new ≡ after_certified L.elect state.old view success now) }
-    ensures recorded { OnOk result (entries_of S.certificate_bytes artifacts.new.items ≡ entries_of S.certificate_bytes artifacts.old.items ++ newly (is_first_verdict state.old view) (Verdict (round_number state.old view) success)) }
+    ensures recorded { OnOk result (entries_of S.certificate_bytes artifacts.new.items ≡ entries_of S.certificate_bytes artifacts.old.items
+        ++ newly (is_first_verdict state.old view) (Verdict (round_number state.old view) success)) }
     ensures refused { IfErr result (EndsBy (certified_refusal state.old view success now) state.old state.new) }
     ensures same_record { OnErr result (entries_of S.certificate_bytes artifacts.new.items ≡ entries_of S.certificate_bytes artifacts.old.items) }
 {

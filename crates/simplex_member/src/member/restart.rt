@@ -8,7 +8,7 @@ ghost use Rattle.simplex_voter.specs.Refusals.{is_started};
 ghost use Rattle.simplex_member.specs.Check.{stands};
 ghost use Rattle.simplex_member.specs.Entries.{entries_of, entry_view};
 ghost use Rattle.simplex_member.specs.Remade.{IsRemadeBy, IsRefusedBy};
-ghost use Rattle.simplex_member.specs.Recovery.{is_finalization, with_finalization};
+ghost use Rattle.simplex_member.specs.Recovery.{is_finalization, with_finalization, with_floor};
 ghost use Rattle.simplex_member.specs.Restarts.{IsByView};
 ghost use Rattle.simplex_member.specs.Start.{start_facts};
 ghost use Rattle.simplex_member.specs.declared.member.error.RecoverError.TheVariants.{OutOfMemory};
@@ -16,6 +16,7 @@ ghost use Rattle.simplex_member.specs.declared.member.error.RecoverError.TheVari
 use super::cuts::{drop_last, prune_record};
 use super::error::RecoverError;
 use super::life::Member;
+use super::openings::Openings;
 use super::parts::keep;
 use super::recovery::remake;
 use super::start::{Start, retention_of};
@@ -87,9 +88,9 @@ impl<S: CertificateScheme, L: Elector<S>, D: Digest> Member<S, L, D> {
     {
         self.failed = true;
         let retention = retention_of(&start.settings);
-        let (state, finalization) = remake_by_view(self.alloc, start, &self.artifacts)?;
-        keep_finalization(&mut self.artifacts, finalization)?;
+        let state = renew(self.alloc, start, &mut self.artifacts)?;
         self.state = state;
+        self.openings = Openings::new(self.alloc);
         self.retention = retention;
         self.least_retention = lesser(self.least_retention, retention);
         self.failed = false;
@@ -97,10 +98,34 @@ impl<S: CertificateScheme, L: Elector<S>, D: Digest> Member<S, L, D> {
     }
 }
 
-fn lesser(retention: ViewDelta, other: ViewDelta) -> ViewDelta
+/// The lesser of two retentions.
+pub(super) fn lesser(retention: ViewDelta, other: ViewDelta) -> ViewDelta
     ensures { result ≡ min retention other }
 {
     retention.min(other)
+}
+
+/// A state from a record, in which the floor's finalization is recorded then.
+pub(super) fn renew<S: CertificateScheme, L: Elector<S>, D: Digest>(
+    alloc: Global,
+    start: Start<S, L, D>,
+    artifacts: &mut Vec<Artifact<S, D>>,
+) -> Result<State<S, L, D>, RecoverError>
+    requires { L.members start.settings.elector ≡ length (S.participants start.settings.scheme) }
+    ensures renewed { IfOk result (λ state. IsRemadeBy D.eq L.elect
+        (start_facts S.me S.participants L.terms L.elects_early S.certificate_bytes start)
+        (entries_of S.certificate_bytes artifacts.old.items) state) }
+    ensures going_on { IfOk result (λ state. (state.failed ≡ false) × (is_started state ≡ true)) }
+    ensures recorded { OnOk result (entries_of S.certificate_bytes artifacts.new.items
+        ≡ with_floor (entries_of S.certificate_bytes artifacts.old.items) (floor_facts S.certificate_bytes start.floor)) }
+    ensures same { OnErr result (artifacts.new.items ≡ artifacts.old.items) }
+    ensures refused { IfErr result (λ error. (error ≡ OutOfMemory) ⊎ IsRefusedBy D.eq
+        (start_facts S.me S.participants L.terms L.elects_early S.certificate_bytes start)
+        (entries_of S.certificate_bytes artifacts.old.items) error) }
+{
+    let (state, finalization) = remake_by_view(alloc, start, artifacts)?;
+    keep_finalization(artifacts, finalization)?;
+    Ok(state)
 }
 
 /// A state from a copy of a record by view, with the floor's finalization.
@@ -110,10 +135,13 @@ fn remake_by_view<S: CertificateScheme, L: Elector<S>, D: Digest>(
     artifacts: &[Artifact<S, D>],
 ) -> Result<(State<S, L, D>, Option<Finalization<S, D>>), RecoverError>
     requires { L.members start.settings.elector ≡ length (S.participants start.settings.scheme) }
-    ensures remade { IfOk result (λ made. IsRemadeBy D.eq L.elect (start_facts S.me S.participants L.terms L.elects_early S.certificate_bytes start) (entries_of S.certificate_bytes artifacts.now) made.0) }
-    ensures floor { IfOk result (λ made. option_map (finalization_facts S.certificate_bytes) made.1 ≡ floor_answer (floor_facts S.certificate_bytes start.floor)) }
+    ensures remade { IfOk result (λ made. IsRemadeBy D.eq L.elect
+        (start_facts S.me S.participants L.terms L.elects_early S.certificate_bytes start) (entries_of S.certificate_bytes artifacts.now) made.0) }
+    ensures floor { IfOk result (λ made. option_map (finalization_facts S.certificate_bytes) made.1
+        ≡ floor_answer (floor_facts S.certificate_bytes start.floor)) }
     ensures going_on { IfOk result (λ made. (made.0.failed ≡ false) × (is_started made.0 ≡ true)) }
-    ensures refused { IfErr result (λ error. (error ≡ OutOfMemory) ⊎ IsRefusedBy D.eq (start_facts S.me S.participants L.terms L.elects_early S.certificate_bytes start) (entries_of S.certificate_bytes artifacts.now) error) }
+    ensures refused { IfErr result (λ error. (error ≡ OutOfMemory) ⊎ IsRefusedBy D.eq
+        (start_facts S.me S.participants L.terms L.elects_early S.certificate_bytes start) (entries_of S.certificate_bytes artifacts.now) error) }
 {
     let Ok(copy) = by_view(alloc, artifacts) else {
         return Err(RecoverError::OutOfMemory);
@@ -152,8 +180,9 @@ pub(super) fn keep_finalization<S: CertificateScheme, D: Digest>(
     artifacts: &mut Vec<Artifact<S, D>>,
     finalization: Option<Finalization<S, D>>,
 ) -> Result<(), RecoverError>
-    ensures kept { OnOk result (entries_of S.certificate_bytes artifacts.new.items ≡ with_finalization (entries_of S.certificate_bytes artifacts.old.items) (option_map (finalization_facts S.certificate_bytes) finalization)) }
-    ensures same { OnErr result (entries_of S.certificate_bytes artifacts.new.items ≡ entries_of S.certificate_bytes artifacts.old.items) }
+    ensures kept { OnOk result (entries_of S.certificate_bytes artifacts.new.items
+        ≡ with_finalization (entries_of S.certificate_bytes artifacts.old.items) (option_map (finalization_facts S.certificate_bytes) finalization)) }
+    ensures same { OnErr result (artifacts.new.items ≡ artifacts.old.items) }
     ensures refused { IfErr result (λ error. error ≡ OutOfMemory) }
 {
     let Some(finalization) = finalization else {
@@ -187,7 +216,8 @@ fn is_finalization_of<S: CertificateScheme, D: Digest>(
     artifact: &Artifact<S, D>,
     view: View,
 ) -> bool
-    ensures { result ≡ (entry_view (artifact_facts S.certificate_bytes artifact.now) == view && is_finalization (artifact_facts S.certificate_bytes artifact.now)) }
+    ensures { result ≡ (entry_view (artifact_facts S.certificate_bytes artifact.now) == view && is_finalization
+        (artifact_facts S.certificate_bytes artifact.now)) }
 {
     match artifact {
         Artifact::Finalization(finalization) => finalization.view() == view,

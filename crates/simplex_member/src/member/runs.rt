@@ -1,4 +1,4 @@
-//! Runs of a member: calls, those on the work of a view among them, and restarts, one after another.
+//! Runs of a member: calls and restarts, one after another.
 
 ghost use Rattle.std.specs.Prelude.{◌≡◌, ◌⊎◌, ◌<◌, ◌++◌, ◌∷◌, [], IfOk, IfErr, length, map, vec_len, vec_capacity};
 ghost use Rattle.simplex_member.specs.Calls.{told};
@@ -11,7 +11,6 @@ use super::error::RecoverError;
 use super::life::Member;
 use super::restart::Restart;
 use super::start::Start;
-use super::work::Work;
 use simplex_types::types::{CertificateScheme, Digest, Elector, Scheme};
 use std::alloc::Global;
 
@@ -19,7 +18,6 @@ use std::alloc::Global;
 #[derive(Drop)]
 pub enum Step<S: CertificateScheme, L: Elector<S>, D: Digest> {
     Call(Call<S, D>),
-    Work(Work<D>),
     Restart(Restart<S, L, D>),
 }
 
@@ -35,8 +33,10 @@ pub fn run<S: Scheme<D>, L: Elector<S>, D: Digest>(
 ) -> Result<Vec<Reply<S, D>>, RecoverError>
     requires started { L.members start.settings.elector ≡ length (S.participants start.settings.scheme) }
     requires restarted { AreSetUp S.participants L.members steps.items }
-    ensures whole { IfOk result (λ replies. IsRunFrom D.eq L.elect (start_facts S.me S.participants L.terms L.elects_early S.certificate_bytes start) (steps_of S.me S.participants L.terms L.elects_early S.certificate_bytes steps.items) (map (told S.certificate_bytes) replies.items)) }
-    ensures ended { IfErr result (EndsRunFrom D.eq L.elect (start_facts S.me S.participants L.terms L.elects_early S.certificate_bytes start) (steps_of S.me S.participants L.terms L.elects_early S.certificate_bytes steps.items)) }
+    ensures whole { IfOk result (λ replies. IsRunFrom D.eq L.elect (start_facts S.me S.participants L.terms L.elects_early S.certificate_bytes start)
+        (steps_of S.me S.participants L.terms L.elects_early S.certificate_bytes steps.items) (map (told S.certificate_bytes) replies.items)) }
+    ensures ended { IfErr result (EndsRunFrom D.eq L.elect (start_facts S.me S.participants L.terms L.elects_early S.certificate_bytes start)
+        (steps_of S.me S.participants L.terms L.elects_early S.certificate_bytes steps.items)) }
 {
     let mut member = Member::start(alloc, start)?;
     take_steps(alloc, &mut member, steps)
@@ -49,8 +49,10 @@ fn take_steps<S: Scheme<D>, L: Elector<S>, D: Digest>(
     steps: Vec<Step<S, L, D>>,
 ) -> Result<Vec<Reply<S, D>>, RecoverError>
     requires { AreSetUp S.participants L.members steps.items }
-    ensures whole { IfOk result (λ replies. IsRun D.eq L.elect member.old (steps_of S.me S.participants L.terms L.elects_early S.certificate_bytes steps.items) (map (told S.certificate_bytes) replies.items) member.new) }
-    ensures ended { IfErr result (λ error. (error ≡ OutOfMemory) ⊎ EndsRun D.eq L.elect member.old (steps_of S.me S.participants L.terms L.elects_early S.certificate_bytes steps.items) error) }
+    ensures whole { IfOk result (λ replies. IsRun D.eq L.elect member.old
+        (steps_of S.me S.participants L.terms L.elects_early S.certificate_bytes steps.items) (map (told S.certificate_bytes) replies.items) member.new) }
+    ensures ended { IfErr result (λ error. (error ≡ OutOfMemory)
+        ⊎ EndsRun D.eq L.elect member.old (steps_of S.me S.participants L.terms L.elects_early S.certificate_bytes steps.items) error) }
 {
     let mut replies = Vec::new(alloc);
     for step in steps {
@@ -78,12 +80,13 @@ fn take_step<S: Scheme<D>, L: Elector<S>, D: Digest>(
     step: Step<S, L, D>,
 ) -> Result<Reply<S, D>, RecoverError>
     requires { IsSetUp S.participants L.members step }
-    ensures taken { IfOk result (λ reply. IsStep D.eq L.elect member.old (step_facts S.me S.participants L.terms L.elects_early S.certificate_bytes step) (told S.certificate_bytes reply) member.new) }
-    ensures refused { IfErr result (λ error. IsRefused D.eq L.elect member.old (step_facts S.me S.participants L.terms L.elects_early S.certificate_bytes step) error) }
+    ensures taken { IfOk result (λ reply. IsStep D.eq L.elect member.old
+        (step_facts S.me S.participants L.terms L.elects_early S.certificate_bytes step) (told S.certificate_bytes reply) member.new) }
+    ensures refused { IfErr result (λ error. IsRefused D.eq L.elect member.old
+        (step_facts S.me S.participants L.terms L.elects_early S.certificate_bytes step) error) }
 {
     match step {
         Step::Call(call) => Ok(member.call(call)),
-        Step::Work(work) => Ok(member.work(work)),
         Step::Restart(restart) => {
             member.restart(restart)?;
             Ok(Reply::Restarted)

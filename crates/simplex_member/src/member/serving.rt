@@ -1,32 +1,93 @@
-//! Any call of a member, over its state and its record.
+//! Any call of a member, by its family, over its state, what is open and its record.
 
-ghost use Rattle.std.specs.Prelude.{◌≡◌, ◌++◌, [], List, Option, Some, None, Bool, true, false, IfOk, IfErr, OnErr, OnOk};
-ghost use Rattle.simplex_types.specs.Certificates.{notarization_facts, nullification_facts, finalization_facts};
+ghost use Rattle.std.specs.Prelude.{◌≡◌, ◌++◌, [], None, Bool, true, false, IfOk, IfErr, OnErr, OnOk};
 ghost use Rattle.simplex_voter.specs.Refusals.{is_started};
 ghost use Rattle.simplex_member.specs.Entries.{entries_of};
-ghost use Rattle.simplex_member.specs.Calls.{call_facts, told, is_allowed, fault_of, answer, after_call, recorded_by};
-ghost use Rattle.simplex_member.specs.Made.{EndsBy, takes_in, hands_out};
+ghost use Rattle.simplex_member.specs.Calls.{told};
+ghost use Rattle.simplex_member.specs.Made.{is_permitted, due_fault, answer_to, after_asked, recorded_for, family_of, EndsCall};
+ghost use Rattle.simplex_member.specs.Openings.{no_openings};
+ghost use Rattle.simplex_member.specs.Runs.{asked};
 ghost use Rattle.simplex_member.specs.Signed.{IsSignedReply};
+ghost use Rattle.simplex_member.specs.declared.member.serving.Family.TheVariants.{Certificates, Proposals, Verifications, Votes, Certifications, Servings, Timeouts};
 
 use super::call_error::CallError;
 use super::calls::{Call, Reply};
-use super::{handing, parts, votes};
+use super::openings::Openings;
+use super::{building, certifying, handing, parts, timing, verifying, votes};
 use simplex_types::types::{Artifact, CertificateScheme, Digest, Elector, Scheme};
 use simplex_voter::voter::State;
 use std::alloc::Global;
 
+/// The families of calls.
+#[derive(Clone, Copy, PartialEq, Eq, Debug)]
+pub(super) enum Family {
+    /// Certificates that are handed in.
+    Certificates,
+    /// Proposals of this member's own.
+    Proposals,
+    /// Proposals of other leaders.
+    Verifications,
+    Votes,
+    Certifications,
+    /// Certificates that are handed out, and views that are dropped.
+    Servings,
+    Timeouts,
+}
+
+impl Family {
+    fn of<S: CertificateScheme, D: Digest>(call: &Call<S, D>) -> Family
+        ensures { result ≡ family_of call.now }
+    {
+        match call {
+            Call::AddNotarization(_) | Call::AddNullification(_, _) | Call::AddFinalization(_, _) =>
+                { Family::Certificates }
+            Call::TryPropose
+            | Call::Proposed(_, _, _)
+            | Call::SupersedeProposalRequest(_)
+            | Call::PendingHandoffAbandonment(_)
+            | Call::ReleaseProposalRequest(_) => Family::Proposals,
+            Call::SetProposal(_, _)
+            | Call::TryVerify
+            | Call::Verified(_)
+            | Call::VerificationFailed(_, _, _) => Family::Verifications,
+            Call::ConstructNotarize(_)
+            | Call::ConstructNullify(_, _)
+            | Call::ConstructFinalize(_) => { Family::Votes }
+            Call::CertifyCandidates | Call::SetCertifyHandle(_, _) | Call::Certified(_, _, _) => {
+                Family::Certifications
+            }
+            Call::BroadcastNotarization(_)
+            | Call::BroadcastNullification(_)
+            | Call::BroadcastFinalization(_)
+            | Call::GetBestCertificate
+            | Call::Prune => Family::Servings,
+            Call::TriggerTimeout(_, _, _) | Call::NextTimeout(_) => Family::Timeouts,
+        }
+    }
+}
+
 /// Whether what a call asks of its caller is so.
 pub(super) fn is_allowed<S: CertificateScheme, L: Elector<S>, D: Digest>(
     state: &State<S, L, D>,
+    openings: &Openings<D, S::PublicKey>,
     call: &Call<S, D>,
 ) -> bool
-    ensures { result ≡ is_allowed state.now (call_facts S.certificate_bytes call.now) }
+    ensures { result ≡ is_permitted state.now openings.now (asked S.certificate_bytes call.now) }
 {
     match call {
         Call::AddNotarization(notarization) => state.takes_round(&notarization.proposal.round),
         Call::AddNullification(nullification, _) => state.takes_round(&nullification.round),
         Call::AddFinalization(finalization, _) => state.takes_round(&finalization.proposal.round),
         Call::Certified(view, success, _) => state.takes_verdict(*view, *success),
+        Call::SetProposal(view, proposal) => state.takes_proposal(*view, proposal),
+        Call::Proposed(view, _, _)
+        | Call::SupersedeProposalRequest(view)
+        | Call::PendingHandoffAbandonment(view) => openings.context(*view).is_some(),
+        Call::Verified(view) | Call::VerificationFailed(view, _, _) => openings.is_verifying(*view),
+        Call::SetCertifyHandle(view, _) => {
+            openings.is_offered(*view) && state.takes_certify_handle(*view)
+        }
+        Call::NextTimeout(_) => state.has_timeout(),
         _ => true,
     }
 }
@@ -35,108 +96,31 @@ pub(super) fn is_allowed<S: CertificateScheme, L: Elector<S>, D: Digest>(
 pub(super) fn serve<S: Scheme<D>, L: Elector<S>, D: Digest>(
     alloc: Global,
     state: &mut State<S, L, D>,
+    openings: &Openings<D, S::PublicKey>,
     artifacts: &mut Vec<Artifact<S, D>>,
     call: Call<S, D>,
 ) -> Result<Reply<S, D>, CallError>
     requires going_on { state.old.failed ≡ false }
     requires begun { is_started state.old ≡ true }
-    requires allowed { is_allowed state.old (call_facts S.certificate_bytes call) ≡ true }
-    ensures due { OnOk result (fault_of state.old (call_facts S.certificate_bytes call) ≡ None) }
-    ensures answer { IfOk result (λ reply. told S.certificate_bytes reply ≡ answer D.eq L.elect state.old (call_facts S.certificate_bytes call)) }
+    requires allowed { is_permitted state.old openings.now (asked S.certificate_bytes call) ≡ true }
+    ensures due { OnOk result (due_fault state.old (asked S.certificate_bytes call) ≡ None) }
+    ensures answer { IfOk result (λ reply. told S.certificate_bytes reply
+        ≡ answer_to D.eq L.elect state.old openings.now (asked S.certificate_bytes call)) }
     ensures signed { IfOk result (λ reply. IsSignedReply S.IsSignature reply state.old) }
-    ensures after { OnOk result (state.new ≡ after_call D.eq L.elect state.old (call_facts S.certificate_bytes call)) }
-    ensures recorded { OnOk result (entries_of S.certificate_bytes artifacts.new.items ≡ entries_of S.certificate_bytes artifacts.old.items ++ recorded_by D.eq L.elect state.old (call_facts S.certificate_bytes call)) }
-    ensures refused { IfErr result (EndsBy (fault_of state.old (call_facts S.certificate_bytes call)) state.old state.new) }
-    ensures same_record { OnErr result (entries_of S.certificate_bytes artifacts.new.items ≡ entries_of S.certificate_bytes artifacts.old.items) }
+    ensures after { OnOk result (state.new ≡ after_asked D.eq L.elect state.old openings.now (asked S.certificate_bytes call)) }
+    ensures recorded { OnOk result (entries_of S.certificate_bytes artifacts.new.items
+        ≡ entries_of S.certificate_bytes artifacts.old.items ++ recorded_for D.eq L.elect state.old (asked S.certificate_bytes call)) }
+    ensures refused { IfErr result (EndsCall (asked S.certificate_bytes call) state.old state.new) }
+    ensures same_record { OnErr result (entries_of S.certificate_bytes artifacts.new.items
+        ≡ entries_of S.certificate_bytes artifacts.old.items) }
 {
-    match call {
-        Call::AddNotarization(notarization) => {
-            let added = parts::add_notarization(alloc, state, artifacts, notarization)?;
-            Ok(Reply::Added(added.0, added.1))
-        }
-        Call::AddNullification(nullification, now) => {
-            let added = parts::add_nullification(alloc, state, artifacts, nullification, now)?;
-            Ok(Reply::Added(added, None))
-        }
-        Call::AddFinalization(finalization, now) => {
-            let added = parts::add_finalization(alloc, state, artifacts, finalization, now)?;
-            Ok(Reply::Added(added.0, added.1))
-        }
-        Call::Certified(view, success, now) => {
-            let notarization = parts::certified(state, artifacts, view, success, now)?;
-            Ok(Reply::Certified(notarization))
-        }
-        call => serve_own(alloc, state, artifacts, call),
-    }
-}
-
-/// Makes a call that takes in no certificate and no verdict.
-fn serve_own<S: Scheme<D>, L: Elector<S>, D: Digest>(
-    alloc: Global,
-    state: &mut State<S, L, D>,
-    artifacts: &mut Vec<Artifact<S, D>>,
-    call: Call<S, D>,
-) -> Result<Reply<S, D>, CallError>
-    requires going_on { state.old.failed ≡ false }
-    requires begun { is_started state.old ≡ true }
-    requires own { takes_in (call_facts S.certificate_bytes call) ≡ false }
-    ensures due { OnOk result (fault_of state.old (call_facts S.certificate_bytes call) ≡ None) }
-    ensures answer { IfOk result (λ reply. told S.certificate_bytes reply ≡ answer D.eq L.elect state.old (call_facts S.certificate_bytes call)) }
-    ensures signed { IfOk result (λ reply. IsSignedReply S.IsSignature reply state.old) }
-    ensures after { OnOk result (state.new ≡ after_call D.eq L.elect state.old (call_facts S.certificate_bytes call)) }
-    ensures recorded { OnOk result (entries_of S.certificate_bytes artifacts.new.items ≡ entries_of S.certificate_bytes artifacts.old.items ++ recorded_by D.eq L.elect state.old (call_facts S.certificate_bytes call)) }
-    ensures refused { IfErr result (EndsBy (fault_of state.old (call_facts S.certificate_bytes call)) state.old state.new) }
-    ensures same_record { OnErr result (entries_of S.certificate_bytes artifacts.new.items ≡ entries_of S.certificate_bytes artifacts.old.items) }
-{
-    match call {
-        Call::ConstructNullify(view, reason) => {
-            let vote = votes::construct_nullify(alloc, state, artifacts, view, reason)?;
-            Ok(Reply::Nullify(vote))
-        }
-        Call::ConstructFinalize(view) => {
-            let vote = votes::construct_finalize(alloc, state, artifacts, view)?;
-            Ok(Reply::Finalize(vote))
-        }
-        call => hand_out(state, call),
-    }
-}
-
-/// Makes a call that hands out what is kept, or prunes it. Nothing of it is recorded.
-fn hand_out<S: Scheme<D>, L: Elector<S>, D: Digest>(
-    state: &mut State<S, L, D>,
-    call: Call<S, D>,
-) -> Result<Reply<S, D>, CallError>
-    requires going_on { state.old.failed ≡ false }
-    requires begun { is_started state.old ≡ true }
-    requires kept { hands_out (call_facts S.certificate_bytes call) ≡ true }
-    ensures due { OnOk result (fault_of state.old (call_facts S.certificate_bytes call) ≡ None) }
-    ensures answer { IfOk result (λ reply. told S.certificate_bytes reply ≡ answer D.eq L.elect state.old (call_facts S.certificate_bytes call)) }
-    ensures signed { IfOk result (λ reply. IsSignedReply S.IsSignature reply state.old) }
-    ensures after { OnOk result (state.new ≡ after_call D.eq L.elect state.old (call_facts S.certificate_bytes call)) }
-    ensures unrecorded { recorded_by D.eq L.elect state.old (call_facts S.certificate_bytes call) ≡ [] }
-    ensures refused { IfErr result (EndsBy (fault_of state.old (call_facts S.certificate_bytes call)) state.old state.new) }
-{
-    match call {
-        Call::BroadcastNotarization(view) => {
-            let certificate = handing::broadcast_notarization(state, view)?;
-            Ok(Reply::Certificate(certificate))
-        }
-        Call::BroadcastNullification(view) => {
-            let certificate = handing::broadcast_nullification(state, view)?;
-            Ok(Reply::Certificate(certificate))
-        }
-        Call::BroadcastFinalization(view) => {
-            let certificate = handing::broadcast_finalization(state, view)?;
-            Ok(Reply::Certificate(certificate))
-        }
-        Call::GetBestCertificate => {
-            let certificate = state.get_best_certificate().map_err(CallError::Refused)?;
-            Ok(Reply::Certificate(certificate))
-        }
-        Call::Prune => {
-            let views = state.prune().map_err(CallError::of)?;
-            Ok(Reply::Views(views))
-        }
-        _ => unreachable!(),
+    match Family::of(&call) {
+        Family::Certificates => parts::take(alloc, state, artifacts, call),
+        Family::Proposals => building::build(state, openings, call),
+        Family::Verifications => verifying::verify(state, call),
+        Family::Votes => votes::vote(alloc, state, artifacts, call),
+        Family::Certifications => certifying::certify(state, artifacts, call),
+        Family::Servings => handing::hand_out(state, call),
+        Family::Timeouts => timing::time(state, call),
     }
 }

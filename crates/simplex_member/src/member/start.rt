@@ -15,6 +15,9 @@ use simplex_voter::voter::{Config, State};
 use std::alloc::Global;
 
 /// How a member starts: its settings, its floor, and the moment, in milliseconds.
+///
+/// A record doesn't tell how long its terms were, nor whose it is before there is a vote in it. So that a later life has terms
+/// as long as those before it, and the key of the same member or none, is the caller's word: the laws of votes ask for it.
 #[derive(Drop)]
 pub struct Start<S: CertificateScheme, L: Elector<S>, D: Digest> {
     /// The elector's members are the scheme's participants.
@@ -40,10 +43,13 @@ pub(super) fn begin<S: CertificateScheme, L: Elector<S>, D: Digest>(
     now: u64,
 ) -> Result<(State<S, L, D>, Option<Finalization<S, D>>), RecoverError>
     requires { L.members settings.elector ≡ length (S.participants settings.scheme) }
-    ensures begun { IfOk result (λ begun. begun.0 ≡ after_set_floor D.eq L.elect (set_up S.me S.participants L.terms L.elects_early settings) (floor_facts S.certificate_bytes floor) now) }
+    ensures begun { IfOk result (λ begun. begun.0
+        ≡ after_set_floor D.eq L.elect (set_up S.me S.participants L.terms L.elects_early settings) (floor_facts S.certificate_bytes floor) now) }
     ensures floor { IfOk result (λ begun. option_map (finalization_facts S.certificate_bytes) begun.1 ≡ floor_answer (floor_facts S.certificate_bytes floor)) }
-    ensures accepted { OnOk result (recover_error D.eq (set_up S.me S.participants L.terms L.elects_early settings) (floor_facts S.certificate_bytes floor) now [] ≡ None) }
-    ensures refused { IfErr result (IsDue (recover_error D.eq (set_up S.me S.participants L.terms L.elects_early settings) (floor_facts S.certificate_bytes floor) now [])) }
+    ensures accepted { OnOk result (recover_error D.eq (set_up S.me S.participants L.terms L.elects_early settings)
+        (floor_facts S.certificate_bytes floor) now [] ≡ None) }
+    ensures refused { IfErr result (IsDue (recover_error D.eq
+        (set_up S.me S.participants L.terms L.elects_early settings) (floor_facts S.certificate_bytes floor) now [])) }
 {
     check_floor(settings.epoch, &floor)?;
     let mut state = State::new(alloc, settings);

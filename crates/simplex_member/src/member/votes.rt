@@ -5,22 +5,65 @@
 ghost use Rattle.std.specs.Prelude.{◌≡◌, ◌<◌, ◌++◌, Option, Some, None, Bool, true, false, IfOk, IfErr, OnOk, OnErr, IfSome, vec_len, vec_capacity};
 ghost use Rattle.simplex_types.specs.declared.types.fault.Fault.TheVariants.{OutOfMemory};
 ghost use Rattle.simplex_voter.specs.Refusals.{plain_refusal, is_started};
-ghost use Rattle.simplex_voter.specs.Votes.{after_construct_nullify, after_construct_finalize};
+ghost use Rattle.simplex_voter.specs.Votes.{after_construct_notarize, after_construct_nullify, after_construct_finalize};
 ghost use Rattle.simplex_member.specs.Entries.{entries_of};
-ghost use Rattle.simplex_member.specs.Calls.{told_nullify, told_finalize, nullify_vote, finalize_vote, first_vote, vote_entry};
-ghost use Rattle.simplex_member.specs.Made.{EndsBy};
-ghost use Rattle.simplex_member.specs.Signed.{signatures_of, nullify_signature, finalize_signature};
+ghost use Rattle.simplex_member.specs.Calls.{told, told_notarize, told_nullify, told_finalize, nullify_vote, finalize_vote, first_vote, vote_entry};
+ghost use Rattle.simplex_member.specs.Made.{EndsBy, due_fault, answer_to, after_asked, recorded_for, family_of, EndsCall};
+ghost use Rattle.simplex_member.specs.Openings.{no_openings};
+ghost use Rattle.simplex_member.specs.Runs.{asked};
+ghost use Rattle.simplex_member.specs.Work.{notarize_vote};
+ghost use Rattle.simplex_member.specs.declared.member.serving.Family.TheVariants.{Votes};
+ghost use Rattle.simplex_member.specs.Signed.{IsSignedReply, signatures_of, notarize_signature, nullify_signature, finalize_signature};
 ghost use Rattle.simplex_types.specs.Signing.{IsSignedAs};
 ghost use Rattle.simplex_types.specs.declared.types.messages.Subject.TheVariants as Subject;
 
 use super::call_error::CallError;
+use super::calls::{Call, Reply};
 use super::parts::keep;
 use simplex_types::reasons::TimeoutReason;
 use simplex_types::types::{
-    Artifact, CertificateScheme, Digest, Elector, Fault, Finalize, Nullify, Scheme, View,
+    Artifact, CertificateScheme, Digest, Elector, Fault, Finalize, Notarize, Nullify, Scheme, View,
 };
 use simplex_voter::voter::State;
 use std::alloc::Global;
+
+/// Makes a call for a vote.
+pub(super) fn vote<S: Scheme<D>, L: Elector<S>, D: Digest>(
+    alloc: Global,
+    state: &mut State<S, L, D>,
+    artifacts: &mut Vec<Artifact<S, D>>,
+    call: Call<S, D>,
+) -> Result<Reply<S, D>, CallError>
+    requires going_on { state.old.failed ≡ false }
+    requires begun { is_started state.old ≡ true }
+    requires family { family_of call ≡ Votes }
+    ensures due { OnOk result (due_fault state.old (asked S.certificate_bytes call) ≡ None) }
+    ensures answer { IfOk result (λ reply. told S.certificate_bytes reply
+        ≡ answer_to D.eq L.elect state.old no_openings (asked S.certificate_bytes call)) }
+    ensures signed { IfOk result (λ reply. IsSignedReply S.IsSignature reply state.old) }
+    ensures after { OnOk result (state.new ≡ after_asked D.eq L.elect state.old no_openings (asked S.certificate_bytes call)) }
+    ensures recorded { OnOk result (entries_of S.certificate_bytes artifacts.new.items
+        ≡ entries_of S.certificate_bytes artifacts.old.items ++ recorded_for D.eq L.elect state.old (asked S.certificate_bytes call)) }
+    ensures refused { IfErr result (EndsCall (asked S.certificate_bytes call) state.old state.new) }
+    ensures same_record { OnErr result (entries_of S.certificate_bytes artifacts.new.items
+        ≡ entries_of S.certificate_bytes artifacts.old.items) }
+{
+    match call {
+        Call::ConstructNotarize(view) => {
+            let vote = construct_notarize(alloc, state, artifacts, view)?;
+            Ok(Reply::Notarize(vote))
+        }
+        Call::ConstructNullify(view, reason) => {
+            let vote = construct_nullify(alloc, state, artifacts, view, reason)?;
+            Ok(Reply::Nullify(vote))
+        }
+        Call::ConstructFinalize(view) => {
+            let vote = construct_finalize(alloc, state, artifacts, view)?;
+            Ok(Reply::Finalize(vote))
+        }
+        _ => unreachable!(),
+    }
+}
 
 /// Records a vote that is no repeat.
 fn keep_nullify<S: CertificateScheme, D: Digest>(
@@ -29,7 +72,8 @@ fn keep_nullify<S: CertificateScheme, D: Digest>(
     vote: &Option<(bool, Nullify<S>)>,
 ) -> Result<(), Fault>
     requires { vec_len artifacts.old < vec_capacity artifacts.old }
-    ensures kept { OnOk result (entries_of S.certificate_bytes artifacts.new.items ≡ entries_of S.certificate_bytes artifacts.old.items ++ first_vote (told_nullify vote.now)) }
+    ensures kept { OnOk result (entries_of S.certificate_bytes artifacts.new.items
+        ≡ entries_of S.certificate_bytes artifacts.old.items ++ first_vote (told_nullify vote.now)) }
     ensures signature { OnOk result (signatures_of artifacts.new.items ≡ signatures_of artifacts.old.items ++ nullify_signature vote.now) }
     ensures same_record { OnErr result (entries_of S.certificate_bytes artifacts.new.items ≡ entries_of S.certificate_bytes artifacts.old.items) }
     ensures out_of_memory { IfErr result (λ fault. fault ≡ OutOfMemory) }
@@ -44,14 +88,38 @@ fn keep_nullify<S: CertificateScheme, D: Digest>(
     }
 }
 
-/// Records a vote.
+/// Records a vote to notarize.
+fn keep_notarize<S: CertificateScheme, D: Digest>(
+    alloc: Global,
+    artifacts: &mut Vec<Artifact<S, D>>,
+    vote: &Option<Notarize<S, D>>,
+) -> Result<(), Fault>
+    requires { vec_len artifacts.old < vec_capacity artifacts.old }
+    ensures kept { OnOk result (entries_of S.certificate_bytes artifacts.new.items
+        ≡ entries_of S.certificate_bytes artifacts.old.items ++ vote_entry (told_notarize vote.now)) }
+    ensures signature { OnOk result (signatures_of artifacts.new.items ≡ signatures_of artifacts.old.items ++ notarize_signature vote.now) }
+    ensures same_record { OnErr result (entries_of S.certificate_bytes artifacts.new.items ≡ entries_of S.certificate_bytes artifacts.old.items) }
+    ensures out_of_memory { IfErr result (λ fault. fault ≡ OutOfMemory) }
+{
+    match vote {
+        Some(vote) => {
+            let copy = vote.clone(alloc)?;
+            keep(artifacts, Artifact::Notarize(copy));
+            Ok(())
+        }
+        None => Ok(()),
+    }
+}
+
+/// Records a vote to finalize.
 fn keep_finalize<S: CertificateScheme, D: Digest>(
     alloc: Global,
     artifacts: &mut Vec<Artifact<S, D>>,
     vote: &Option<Finalize<S, D>>,
 ) -> Result<(), Fault>
     requires { vec_len artifacts.old < vec_capacity artifacts.old }
-    ensures kept { OnOk result (entries_of S.certificate_bytes artifacts.new.items ≡ entries_of S.certificate_bytes artifacts.old.items ++ vote_entry (told_finalize vote.now)) }
+    ensures kept { OnOk result (entries_of S.certificate_bytes artifacts.new.items
+        ≡ entries_of S.certificate_bytes artifacts.old.items ++ vote_entry (told_finalize vote.now)) }
     ensures signature { OnOk result (signatures_of artifacts.new.items ≡ signatures_of artifacts.old.items ++ finalize_signature vote.now) }
     ensures same_record { OnErr result (entries_of S.certificate_bytes artifacts.new.items ≡ entries_of S.certificate_bytes artifacts.old.items) }
     ensures out_of_memory { IfErr result (λ fault. fault ≡ OutOfMemory) }
@@ -67,7 +135,7 @@ fn keep_finalize<S: CertificateScheme, D: Digest>(
 }
 
 /// Votes to nullify a view, and records the vote before it is handed out.
-pub(super) fn construct_nullify<S: Scheme<D>, L: Elector<S>, D: Digest>(
+fn construct_nullify<S: Scheme<D>, L: Elector<S>, D: Digest>(
     alloc: Global,
     state: &mut State<S, L, D>,
     artifacts: &mut Vec<Artifact<S, D>>,
@@ -77,10 +145,12 @@ pub(super) fn construct_nullify<S: Scheme<D>, L: Elector<S>, D: Digest>(
     requires going_on { state.old.failed ≡ false }
     requires begun { is_started state.old ≡ true }
     ensures answer { IfOk result (λ vote. told_nullify vote ≡ nullify_vote state.old view) }
-    ensures signed { IfOk result (λ vote. IfSome vote (λ v. IsSignedAs S.IsSignature state.old.me state.old.members (Subject.Nullify v.1.round) v.1.signature)) }
+    ensures signed { IfOk result (λ vote. IfSome vote
+        (λ v. IsSignedAs S.IsSignature state.old.me state.old.members (Subject.Nullify v.1.round) v.1.signature)) }
     ensures copied { IfOk result (λ vote. signatures_of artifacts.new.items ≡ signatures_of artifacts.old.items ++ nullify_signature vote) }
     ensures after { OnOk result (state.new ≡ after_construct_nullify state.old view) }
-    ensures recorded { OnOk result (entries_of S.certificate_bytes artifacts.new.items ≡ entries_of S.certificate_bytes artifacts.old.items ++ first_vote (nullify_vote state.old view)) }
+    ensures recorded { OnOk result (entries_of S.certificate_bytes artifacts.new.items
+        ≡ entries_of S.certificate_bytes artifacts.old.items ++ first_vote (nullify_vote state.old view)) }
     ensures refused { IfErr result (EndsBy (plain_refusal state.old) state.old state.new) }
     ensures same_record { OnErr result (entries_of S.certificate_bytes artifacts.new.items ≡ entries_of S.certificate_bytes artifacts.old.items) }
 {
@@ -92,8 +162,33 @@ pub(super) fn construct_nullify<S: Scheme<D>, L: Elector<S>, D: Digest>(
     Ok(vote)
 }
 
+/// Votes to notarize a view, and records the vote before it is handed out.
+fn construct_notarize<S: Scheme<D>, L: Elector<S>, D: Digest>(
+    alloc: Global,
+    state: &mut State<S, L, D>,
+    artifacts: &mut Vec<Artifact<S, D>>,
+    view: View,
+) -> Result<Option<Notarize<S, D>>, CallError>
+    requires going_on { state.old.failed ≡ false }
+    requires begun { is_started state.old ≡ true }
+    ensures answer { IfOk result (λ vote. told_notarize vote ≡ notarize_vote D.eq L.elect state.old view) }
+    ensures signed { IfOk result (λ vote. IfSome vote
+        (λ v. IsSignedAs S.IsSignature state.old.me state.old.members (Subject.Notarize v.proposal) v.signature)) }
+    ensures copied { IfOk result (λ vote. signatures_of artifacts.new.items ≡ signatures_of artifacts.old.items ++ notarize_signature vote) }
+    ensures after { OnOk result (state.new ≡ after_construct_notarize D.eq L.elect state.old view) }
+    ensures recorded { OnOk result (entries_of S.certificate_bytes artifacts.new.items
+        ≡ entries_of S.certificate_bytes artifacts.old.items ++ vote_entry (notarize_vote D.eq L.elect state.old view)) }
+    ensures refused { IfErr result (EndsBy (plain_refusal state.old) state.old state.new) }
+    ensures same_record { OnErr result (entries_of S.certificate_bytes artifacts.new.items ≡ entries_of S.certificate_bytes artifacts.old.items) }
+{
+    artifacts.reserve(1)?;
+    let vote = state.construct_notarize(view).map_err(CallError::of)?;
+    keep_notarize(alloc, artifacts, &vote).map_err(CallError::of)?;
+    Ok(vote)
+}
+
 /// Votes to finalize a view, and records the vote before it is handed out.
-pub(super) fn construct_finalize<S: Scheme<D>, L: Elector<S>, D: Digest>(
+fn construct_finalize<S: Scheme<D>, L: Elector<S>, D: Digest>(
     alloc: Global,
     state: &mut State<S, L, D>,
     artifacts: &mut Vec<Artifact<S, D>>,
@@ -102,10 +197,12 @@ pub(super) fn construct_finalize<S: Scheme<D>, L: Elector<S>, D: Digest>(
     requires going_on { state.old.failed ≡ false }
     requires begun { is_started state.old ≡ true }
     ensures answer { IfOk result (λ vote. told_finalize vote ≡ finalize_vote L.elect state.old view) }
-    ensures signed { IfOk result (λ vote. IfSome vote (λ v. IsSignedAs S.IsSignature state.old.me state.old.members (Subject.Finalize v.proposal) v.signature)) }
+    ensures signed { IfOk result (λ vote. IfSome vote
+        (λ v. IsSignedAs S.IsSignature state.old.me state.old.members (Subject.Finalize v.proposal) v.signature)) }
     ensures copied { IfOk result (λ vote. signatures_of artifacts.new.items ≡ signatures_of artifacts.old.items ++ finalize_signature vote) }
     ensures after { OnOk result (state.new ≡ after_construct_finalize L.elect state.old view) }
-    ensures recorded { OnOk result (entries_of S.certificate_bytes artifacts.new.items ≡ entries_of S.certificate_bytes artifacts.old.items ++ vote_entry (finalize_vote L.elect state.old view)) }
+    ensures recorded { OnOk result (entries_of S.certificate_bytes artifacts.new.items
+        ≡ entries_of S.certificate_bytes artifacts.old.items ++ vote_entry (finalize_vote L.elect state.old view)) }
     ensures refused { IfErr result (EndsBy (plain_refusal state.old) state.old state.new) }
     ensures same_record { OnErr result (entries_of S.certificate_bytes artifacts.new.items ≡ entries_of S.certificate_bytes artifacts.old.items) }
 {

@@ -66,7 +66,8 @@ impl<S: CertificateScheme, D: Digest> Round<S, D> {
         &mut self,
         notarization: Notarization<S, D>,
     ) -> (bool, Option<S::PublicKey>)
-        ensures added { result ≡ (if is_some self.old.notarization then (false, None) else (true, equivocator (same_proposal D.eq) self.old notarization.proposal)) }
+        ensures added { result ≡ (if is_some self.old.notarization then (false, None) else
+            (true, equivocator (same_proposal D.eq) self.old notarization.proposal)) }
         ensures facts { self.new ≡ with_notarization (same_proposal D.eq) self.old (notarization_facts S.certificate_bytes notarization) }
     {
         if self.notarization.is_some() {
@@ -95,7 +96,8 @@ impl<S: CertificateScheme, D: Digest> Round<S, D> {
         &mut self,
         finalization: Finalization<S, D>,
     ) -> (bool, Option<S::PublicKey>)
-        ensures added { result ≡ (if is_some self.old.finalization then (false, None) else (true, equivocator (same_proposal D.eq) self.old finalization.proposal)) }
+        ensures added { result ≡ (if is_some self.old.finalization then (false, None) else
+            (true, equivocator (same_proposal D.eq) self.old finalization.proposal)) }
         ensures facts { self.new ≡ with_finalization (same_proposal D.eq) self.old (finalization_facts S.certificate_bytes finalization) }
     {
         if self.finalization.is_some() {
@@ -114,7 +116,8 @@ impl<S: CertificateScheme, D: Digest> Round<S, D> {
     ) -> Result<Option<Notarization<S, D>>, Fault>
         ensures refused { IsOkUnless result Fault.OutOfMemory }
         ensures unchanged { OnErr result (self.new ≡ self.old) }
-        ensures answer { IfOk result (λ c. option_map (notarization_facts S.certificate_bytes) c ≡ (if self.old.notarization_broadcast then None else self.old.notarization)) }
+        ensures answer { IfOk result (λ c. option_map (notarization_facts S.certificate_bytes) c
+            ≡ (if self.old.notarization_broadcast then None else self.old.notarization)) }
         ensures facts { OnOk result (self.new ≡ record self.old { notarization_broadcast = self.old.notarization_broadcast || is_some self.old.notarization }) }
     {
         if self.notarization_broadcast {
@@ -135,8 +138,11 @@ impl<S: CertificateScheme, D: Digest> Round<S, D> {
     ) -> Result<Option<Nullification<S>>, Fault>
         ensures refused { IsOkUnless result Fault.OutOfMemory }
         ensures unchanged { OnErr result (self.new ≡ self.old) }
-        ensures answer { IfOk result (λ c. option_map (nullification_facts S.certificate_bytes) c ≡ (if self.old.nullification_broadcast then None else self.old.nullification)) }
-        ensures facts { OnOk result (self.new ≡ record self.old { nullification_broadcast = self.old.nullification_broadcast || is_some self.old.nullification }) }
+        ensures answer { IfOk result (λ c. option_map (nullification_facts S.certificate_bytes) c
+            ≡ (if self.old.nullification_broadcast then None else self.old.nullification)) }
+        ensures facts { OnOk result (self.new ≡ record self.old {
+          nullification_broadcast = self.old.nullification_broadcast || is_some self.old.nullification;
+        }) }
     {
         if self.nullification_broadcast {
             return Ok(None);
@@ -156,7 +162,8 @@ impl<S: CertificateScheme, D: Digest> Round<S, D> {
     ) -> Result<Option<Finalization<S, D>>, Fault>
         ensures refused { IsOkUnless result Fault.OutOfMemory }
         ensures unchanged { OnErr result (self.new ≡ self.old) }
-        ensures answer { IfOk result (λ c. option_map (finalization_facts S.certificate_bytes) c ≡ (if self.old.finalization_broadcast then None else self.old.finalization)) }
+        ensures answer { IfOk result (λ c. option_map (finalization_facts S.certificate_bytes) c
+            ≡ (if self.old.finalization_broadcast then None else self.old.finalization)) }
         ensures facts { OnOk result (self.new ≡ record self.old { finalization_broadcast = self.old.finalization_broadcast || is_some self.old.finalization }) }
     {
         if self.finalization_broadcast {

@@ -49,7 +49,10 @@ impl<S: CertificateScheme, D: Digest> Round<S, D> {
     /// the request stands until it is cleared.
     pub fn try_propose(&mut self) -> Option<Leader<S::PublicKey>>
         ensures leader { result ≡ (if should_propose self.old then self.old.leader else None) }
-        ensures facts { self.new ≡ (if should_propose self.old then record self.old { slot = record (self.old.slot) { build_requested = true } } else self.old) }
+        ensures facts { self.new ≡ (if should_propose self.old then record self.old {
+          slot = record
+              (self.old.slot) { build_requested = true };
+        } else self.old) }
     {
         if !self.should_propose() {
             return None;
@@ -71,7 +74,11 @@ impl<S: CertificateScheme, D: Digest> Round<S, D> {
     /// when a certificate came first.
     pub fn proposed(&mut self, now: u64, proposal: Proposal<D>) -> bool
         ensures recorded { result ≡ (not (is_nullify self.old.decision) && holds_or_empty (same_proposal D.eq) self.old.slot proposal) }
-        ensures facts { self.new ≡ (if result then record self.old { slot = after_own (same_proposal D.eq) self.old.slot proposal; proposed_at = Some now } else self.old) }
+        ensures facts { self.new ≡ (if result then record self.old {
+          slot = after_own
+              (same_proposal D.eq) self.old.slot proposal;
+          proposed_at = Some now;
+        } else self.old) }
     {
         if self.is_nullified() {
             return false;
@@ -88,7 +95,10 @@ impl<S: CertificateScheme, D: Digest> Round<S, D> {
     /// kept out, and the view counts as equivocated from then on.
     pub fn set_proposal(&mut self, proposal: &Proposal<D>) -> bool
         ensures first { result ≡ (not (is_nullify self.old.decision) && not (is_some self.old.slot.held)) }
-        ensures facts { self.new ≡ (if is_nullify self.old.decision then self.old else record self.old { slot = after_vote (same_proposal D.eq) self.old.slot proposal.now }) }
+        ensures facts { self.new ≡ (if is_nullify self.old.decision then self.old else record self.old {
+          slot = after_vote
+              (same_proposal D.eq) self.old.slot proposal.now;
+        }) }
     {
         if self.is_nullified() {
             return false;
@@ -127,7 +137,10 @@ impl<S: CertificateScheme, D: Digest> Round<S, D> {
     /// leads the view, no leader is known or nullify was decided; then nothing changes.
     pub fn request_verify(&mut self) -> bool
         ensures first { result ≡ should_verify self.old }
-        ensures facts { self.new ≡ (if should_verify self.old then record self.old { slot = record (self.old.slot) { verify_requested = true } } else self.old) }
+        ensures facts { self.new ≡ (if should_verify self.old then record self.old {
+          slot = record
+              (self.old.slot) { verify_requested = true };
+        } else self.old) }
     {
         if !self.is_verify_ready() {
             return false;

@@ -1,6 +1,6 @@
 //! Values at the views that are tracked, in a vector sorted by view.
 
-ghost use Rattle.std.specs.Prelude.{◌≡◌, ◌+◌, ◌<◌, ◌≤◌, IfOk, IfErr, OnErr, Some, None, is_some, option_map, nat_lt, nat_le, filter, if◌then◌else◌};
+ghost use Rattle.std.specs.Prelude.{◌≡◌, ◌+◌, ◌<◌, ◌≤◌, IfOk, IfErr, OnErr, Some, None, is_some, option_map, nat_lt, nat_le, not, ◌==◌, filter, if◌then◌else◌};
 ghost use Rattle.std.specs.Option.{option_copied};
 ghost use Rattle.std.specs.FinMap as map;
 ghost use Rattle.std.specs.Ordering.{nat_cmp};
@@ -232,6 +232,20 @@ impl<V: Drop> Tracked<V> {
     {
         keep_from(&mut self.entries, view);
     }
+
+    /// Removes the entry of a view, where there is one.
+    pub fn remove(&mut self, view: View)
+        ensures { self.new ≡ map.remove self.old view }
+    {
+        keep_others(&mut self.entries, view);
+    }
+}
+
+/// Removes the entry of a view.
+fn keep_others<V: Drop>(entries: &mut Vec<(View, V)>, view: View)
+    ensures { entries.new.items ≡ filter (λ entry. not (entry.0 == view)) entries.old.items }
+{
+    entries.retain(|entry| entry.0 != view);
 }
 
 /// Removes the entries below a view.

@@ -63,17 +63,20 @@ impl Lookahead {
     /// It may at or below the current view, `optimistic_views` ahead inside the current term, and at the next term's
     /// start where that is one view ahead or no more than `optimistic_views`.
     pub fn admits_outbound(&self, current: View, view: View) -> bool
-        requires { HasTerm current }
         ensures { IsTrue result ↔ AdmitsOutbound self.now.term_length self.now.optimistic_views current view }
     {
         if view <= current {
             return !view.is_zero();
         }
         let ahead = view.get().saturating_sub(current.get());
-        if view <= current.term_end(self.term_length) {
+        // no term's end, since that may lie above 2^64 - 1
+        let start = current.term_start(self.term_length);
+        let place = view.get().saturating_sub(start.get());
+        let length = u64::from(self.term_length.get().get());
+        if place < length {
             return ahead <= self.optimistic_views;
         }
-        view == current.next_term_start(self.term_length) && ahead <= self.optimistic_views.max(1)
+        place == length && ahead <= self.optimistic_views.max(1)
     }
 }
 

@@ -476,3 +476,116 @@ gave_up_before :
     Vote (Some (proposal 2 0 9)) ∷ Asked (Some (Prepare (context 3 2 2 9))) ∷ []
 unfolding replies_of
 gave_up_before = refl
+
+-- replayed votes offer what they did before the restart
+replayed_chain :
+    replies_of
+    (voter 1 5 2)
+    (
+    Restart 5 (voted_notarize 1 1 0 7 ∷ voted_notarize 1 2 1 9 ∷ []) ∷ SetProposal 3 2 4 ∷ TryVerify ∷ Verified 3 ∷
+    Notarize 3 ∷ []
+    )
+    ≡
+    Done ∷ Flag true ∷ Work (Ready (context 3 0 2 9) (proposal 3 2 4)) ∷ Flag true ∷ Vote (Some (proposal 3 2 4)) ∷ []
+unfolding replies_of
+replayed_chain = refl
+
+-- so a leader goes on building on them
+replayed_own_chain :
+    replies_of
+    (voter 0 5 2)
+    (
+    Restart 5 (voted_notarize 0 1 0 7 ∷ voted_notarize 0 2 1 9 ∷ []) ∷ TryPropose ∷
+    Proposed (context 3 0 2 9) 4 6 ∷ Notarize 3 ∷ []
+    )
+    ≡
+    Done ∷ Asked (Some (Propose (context 3 0 2 9))) ∷ Flag true ∷ Vote (Some (proposal 3 2 4)) ∷ []
+unfolding replies_of
+replayed_own_chain = refl
+
+-- a handoff is given up once this member votes to nullify the current view
+given_up_by_a_vote :
+    replies_of
+    (voter 1 1 0)
+    (
+    SetProposal 1 0 7 ∷ TryVerify ∷ Verified 1 ∷ Notarize 1 ∷ TryPropose ∷ Abandonment (context 2 1 1 7) ∷ Nullify 1 ∷
+    Abandonment (context 2 1 1 7) ∷ []
+    )
+    ≡
+    Flag true ∷ Work (Ready (context 1 0 0 0) (proposal 1 0 7)) ∷ Flag true ∷ Vote (Some (proposal 1 0 7)) ∷
+    Asked (Some (Prepare (context 2 1 1 7))) ∷ Abandoned None ∷ NullifyVote (Some false) ∷
+    Abandoned (Some ParentNullify) ∷ []
+unfolding replies_of
+given_up_by_a_vote = refl
+
+-- and once its parent is certified false
+given_up_by_a_verdict :
+    replies_of
+    (voter 1 1 0)
+    (
+    SetProposal 1 0 7 ∷ TryVerify ∷ Verified 1 ∷ Notarize 1 ∷ TryPropose ∷ AddNotarization 1 0 7 ∷
+    Abandonment (context 2 1 1 7) ∷ Certified 1 false 10 ∷ Abandonment (context 2 1 1 7) ∷ []
+    )
+    ≡
+    Flag true ∷ Work (Ready (context 1 0 0 0) (proposal 1 0 7)) ∷ Flag true ∷ Vote (Some (proposal 1 0 7)) ∷
+    Asked (Some (Prepare (context 2 1 1 7))) ∷ Added true None ∷ Abandoned None ∷ Judged (Some (proposal 1 0 7)) ∷
+    Abandoned (Some AncestryInvalidated) ∷ []
+unfolding replies_of
+given_up_by_a_verdict = refl
+
+-- a handoff that was released is asked for again, on the same parent
+handoff_asked_again :
+    replies_of
+    (voter 1 1 0)
+    (
+    SetProposal 1 0 7 ∷ TryVerify ∷ Verified 1 ∷ Notarize 1 ∷ TryPropose ∷ Supersede (context 2 1 1 7) ∷ Release 2 ∷
+    TryPropose ∷ []
+    )
+    ≡
+    Flag true ∷ Work (Ready (context 1 0 0 0) (proposal 1 0 7)) ∷ Flag true ∷ Vote (Some (proposal 1 0 7)) ∷
+    Asked (Some (Prepare (context 2 1 1 7))) ∷ Flag false ∷ Done ∷ Asked (Some (Prepare (context 2 1 1 7))) ∷ []
+unfolding replies_of
+handoff_asked_again = refl
+
+-- an answer leaves a binding that matches only since this member leads, and the vote is cast
+leaders_binding_goes_on :
+    replies_of
+    (voter 1 1 0)
+    (
+    SetProposal 1 0 7 ∷ TryVerify ∷ Verified 1 ∷ Notarize 1 ∷ TryPropose ∷ Proposed (context 2 1 1 7) 8 3 ∷ Verified 2 ∷
+    Rejected 2 InvalidProposal 4 ∷ Notarize 2 ∷ []
+    )
+    ≡
+    Flag true ∷ Work (Ready (context 1 0 0 0) (proposal 1 0 7)) ∷ Flag true ∷ Vote (Some (proposal 1 0 7)) ∷
+    Asked (Some (Prepare (context 2 1 1 7))) ∷ Flag true ∷ Flag false ∷ Done ∷ Vote (Some (proposal 2 1 8)) ∷ []
+unfolding replies_of
+leaders_binding_goes_on = refl
+
+-- once the term before is nullified it matches no more
+leaders_binding_given_up :
+    replies_of
+    (voter 1 1 0)
+    (
+    SetProposal 1 0 7 ∷ TryVerify ∷ Verified 1 ∷ Notarize 1 ∷ TryPropose ∷ Proposed (context 2 1 1 7) 8 3 ∷
+    AddNullification 1 10 ∷ Notarize 2 ∷ []
+    )
+    ≡
+    Flag true ∷ Work (Ready (context 1 0 0 0) (proposal 1 0 7)) ∷ Flag true ∷ Vote (Some (proposal 1 0 7)) ∷
+    Asked (Some (Prepare (context 2 1 1 7))) ∷ Flag true ∷ Flag true ∷ Vote None ∷ []
+unfolding replies_of
+leaders_binding_given_up = refl
+
+-- the binding alone holds that vote back: an answer takes it away
+leaders_binding_taken_away :
+    replies_of
+    (voter 1 1 0)
+    (
+    SetProposal 1 0 7 ∷ TryVerify ∷ Verified 1 ∷ Notarize 1 ∷ TryPropose ∷ Proposed (context 2 1 1 7) 8 3 ∷
+    AddNullification 1 10 ∷ Notarize 2 ∷ Verified 2 ∷ Notarize 2 ∷ []
+    )
+    ≡
+    Flag true ∷ Work (Ready (context 1 0 0 0) (proposal 1 0 7)) ∷ Flag true ∷ Vote (Some (proposal 1 0 7)) ∷
+    Asked (Some (Prepare (context 2 1 1 7))) ∷ Flag true ∷ Flag true ∷ Vote None ∷ Flag false ∷
+    Vote (Some (proposal 2 1 8)) ∷ []
+unfolding replies_of
+leaders_binding_taken_away = refl

@@ -33,7 +33,8 @@ impl<S: CertificateScheme, L: Elector<S>, D: Digest> State<S, L, D> {
         ensures refused { IfSome (certified_refusal self.old view success now) (λ fault. (result ≡ Err fault) × (self.new ≡ self.old)) }
         ensures answer { IfOk result (λ answer. option_map (notarization_facts S.certificate_bytes) answer ≡ certified_answer self.old view) }
         ensures after { OnOk result (self.new ≡ after_certified L.elect self.old view success now) }
-        ensures out_of_memory { certified_refusal self.old view success now ≡ None → IfErr result (λ fault. (fault ≡ OutOfMemory) × HasFailed self.old self.new) }
+        ensures out_of_memory { certified_refusal self.old view success now ≡ None
+            → IfErr result (λ fault. (fault ≡ OutOfMemory) × HasFailed self.old self.new) }
     {
         if self.is_failed() {
             return Err(Fault::Failed);
@@ -86,7 +87,8 @@ impl<S: CertificateScheme, L: Elector<S>, D: Digest> State<S, L, D> {
     fn verdict_deadlines(&self, view: View, success: bool, now: u64) -> Option<Deadlines>
         requires { is_some (certified_answer self.now view) ≡ true }
         ensures late { IsNone result ↔ IsTrue (success && enters_late self.now (view + 1) now) }
-        ensures moments { IfSome result (λ deadlines. success ≡ true → nat_lt self.now.current (view + 1) ≡ true → deadlines ≡ deadlines_at self.now now) }
+        ensures moments { IfSome result (λ deadlines.
+            success ≡ true → nat_lt self.now.current (view + 1) ≡ true → deadlines ≡ deadlines_at self.now now) }
     {
         if !success {
             return Some(Deadlines::none());

@@ -32,7 +32,8 @@ impl<S: CertificateScheme, L: Elector<S>, D: Digest> State<S, L, D> {
         ensures refused { IfSome (finalization_refusal self.old finalization.proposal now) (λ fault. (result ≡ Err fault) × (self.new ≡ self.old)) }
         ensures added { IfOk result (λ added. added ≡ finalization_added D.eq L.elect self.old (finalization_facts S.certificate_bytes finalization)) }
         ensures after { OnOk result (self.new ≡ after_add_finalization D.eq L.elect self.old (finalization_facts S.certificate_bytes finalization) now) }
-        ensures out_of_memory { finalization_refusal self.old finalization.proposal now ≡ None → IfErr result (λ fault. (fault ≡ OutOfMemory) × HasFailed self.old self.new) }
+        ensures out_of_memory { finalization_refusal self.old finalization.proposal now ≡ None
+            → IfErr result (λ fault. (fault ≡ OutOfMemory) × HasFailed self.old self.new) }
     {
         let deadlines = self.deadlines_above(&finalization, now)?;
         match self.accept_finalization(finalization, now, &deadlines) {
@@ -51,8 +52,10 @@ impl<S: CertificateScheme, L: Elector<S>, D: Digest> State<S, L, D> {
         now: u64,
     ) -> Result<Deadlines, Fault>
         ensures refused { IfErr result (λ fault. finalization_refusal self.now finalization.now.proposal now ≡ Some fault) }
-        ensures taken { OnOk result ((finalization_refusal self.now finalization.now.proposal now ≡ None) × (finalization.now.proposal.round.view < 2 ^ 63)) }
-        ensures moments { IfOk result (λ deadlines. nat_lt self.now.current (finalization.now.proposal.round.view + 1) ≡ true → deadlines ≡ deadlines_at self.now now) }
+        ensures taken { OnOk result ((finalization_refusal self.now finalization.now.proposal now ≡ None)
+            × (finalization.now.proposal.round.view < 2 ^ 63)) }
+        ensures moments { IfOk result (λ deadlines.
+            nat_lt self.now.current (finalization.now.proposal.round.view + 1) ≡ true → deadlines ≡ deadlines_at self.now now) }
     {
         if self.is_failed() {
             return Err(Fault::Failed);

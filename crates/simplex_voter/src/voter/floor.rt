@@ -27,7 +27,8 @@ impl<S: CertificateScheme, L: Elector<S>, D: Digest> State<S, L, D> {
         requires { self.old.current ≡ 0 }
         ensures refused { IfSome (floor_refusal self.old (Genesis payload) now) (λ fault. (result ≡ Err fault) × (self.new ≡ self.old)) }
         ensures after { OnOk result (self.new ≡ after_set_genesis L.elect self.old payload now) }
-        ensures out_of_memory { floor_refusal self.old (Genesis payload) now ≡ None → IfErr result (λ fault. (fault ≡ OutOfMemory) × HasFailed self.old self.new) }
+        ensures out_of_memory { floor_refusal self.old (Genesis payload) now ≡ None
+            → IfErr result (λ fault. (fault ≡ OutOfMemory) × HasFailed self.old self.new) }
     {
         if self.is_failed() {
             return Err(Fault::Failed);
@@ -70,10 +71,13 @@ impl<S: CertificateScheme, L: Elector<S>, D: Digest> State<S, L, D> {
         now: u64,
     ) -> Result<Option<Finalization<S, D>>, Fault>
         requires { takes_floor self.old (floor_facts S.certificate_bytes floor) ≡ true }
-        ensures refused { IfSome (floor_refusal self.old (floor_facts S.certificate_bytes floor) now) (λ fault. (result ≡ Err fault) × (self.new ≡ self.old)) }
-        ensures answer { IfOk result (λ answer. option_map (finalization_facts S.certificate_bytes) answer ≡ floor_answer (floor_facts S.certificate_bytes floor)) }
+        ensures refused { IfSome (floor_refusal self.old (floor_facts S.certificate_bytes floor) now)
+            (λ fault. (result ≡ Err fault) × (self.new ≡ self.old)) }
+        ensures answer { IfOk result (λ answer.
+            option_map (finalization_facts S.certificate_bytes) answer ≡ floor_answer (floor_facts S.certificate_bytes floor)) }
         ensures after { OnOk result (self.new ≡ after_set_floor D.eq L.elect self.old (floor_facts S.certificate_bytes floor) now) }
-        ensures out_of_memory { floor_refusal self.old (floor_facts S.certificate_bytes floor) now ≡ None → IfErr result (λ fault. (fault ≡ OutOfMemory) × HasFailed self.old self.new) }
+        ensures out_of_memory { floor_refusal self.old (floor_facts S.certificate_bytes floor) now ≡ None
+            → IfErr result (λ fault. (fault ≡ OutOfMemory) × HasFailed self.old self.new) }
     {
         match floor {
             Floor::Genesis(payload) => match self.set_genesis(payload, now) {
@@ -91,9 +95,13 @@ impl<S: CertificateScheme, L: Elector<S>, D: Digest> State<S, L, D> {
     ) -> Result<Option<Finalization<S, D>>, Fault>
         requires { 1 ≤ finalization.proposal.round.view }
         ensures refused { IfSome (finalization_refusal self.old finalization.proposal now) (λ fault. (result ≡ Err fault) × (self.new ≡ self.old)) }
-        ensures answer { IfOk result (λ answer. option_map (finalization_facts S.certificate_bytes) answer ≡ Some (finalization_facts S.certificate_bytes finalization)) }
-        ensures after { OnOk result (self.new ≡ with_finalization_broadcast (after_add_finalization D.eq L.elect self.old (finalization_facts S.certificate_bytes finalization) now) finalization.proposal.round.view) }
-        ensures out_of_memory { finalization_refusal self.old finalization.proposal now ≡ None → IfErr result (λ fault. (fault ≡ OutOfMemory) × HasFailed self.old self.new) }
+        ensures answer { IfOk result (λ answer.
+            option_map (finalization_facts S.certificate_bytes) answer ≡ Some (finalization_facts S.certificate_bytes finalization)) }
+        ensures after { OnOk result (self.new ≡ with_finalization_broadcast
+            (after_add_finalization D.eq L.elect self.old (finalization_facts S.certificate_bytes finalization) now)
+            finalization.proposal.round.view) }
+        ensures out_of_memory { finalization_refusal self.old finalization.proposal now ≡ None
+            → IfErr result (λ fault. (fault ≡ OutOfMemory) × HasFailed self.old self.new) }
     {
         let deadlines = self.deadlines_above(&finalization, now)?;
         match self.start_above(finalization, now, &deadlines) {
@@ -113,8 +121,11 @@ impl<S: CertificateScheme, L: Elector<S>, D: Digest> State<S, L, D> {
     ) -> Result<Option<Finalization<S, D>>, Fault>
         requires votable { IsVotable finalization.proposal.round.view }
         requires deadlines { nat_lt self.old.current (finalization.proposal.round.view + 1) ≡ true → deadlines.now ≡ deadlines_at self.old now }
-        ensures answer { IfOk result (λ answer. option_map (finalization_facts S.certificate_bytes) answer ≡ Some (finalization_facts S.certificate_bytes finalization)) }
-        ensures started { OnOk result (self.new ≡ with_finalization_broadcast (after_add_finalization D.eq L.elect self.old (finalization_facts S.certificate_bytes finalization) now) finalization.proposal.round.view) }
+        ensures answer { IfOk result (λ answer.
+            option_map (finalization_facts S.certificate_bytes) answer ≡ Some (finalization_facts S.certificate_bytes finalization)) }
+        ensures started { OnOk result (self.new ≡ with_finalization_broadcast
+            (after_add_finalization D.eq L.elect self.old (finalization_facts S.certificate_bytes finalization) now)
+            finalization.proposal.round.view) }
         ensures refused { IfErr result (λ fault. fault ≡ OutOfMemory) }
         ensures setup { HasSameSetup self.old self.new }
     {

@@ -15,8 +15,11 @@ impl<S: CertificateScheme, D: Digest> Rounds<S, D> {
 
     /// Hands out the notarization of a view, once.
     pub fn hand_out_notarization(&mut self, view: View) -> Result<Option<Notarization<S, D>>, Fault>
-        ensures answer { IfOk result (λ c. option_map (notarization_facts S.certificate_bytes) c ≡ option_and_then (λ r. once r.notarization_broadcast r.notarization) (round_at self.old view)) }
-        ensures handed_out { OnOk result (self.new ≡ changed_in_place self.old view (λ r. record r { notarization_broadcast = r.notarization_broadcast || is_some r.notarization })) }
+        ensures answer { IfOk result (λ c.
+            option_map (notarization_facts S.certificate_bytes) c
+            ≡ option_and_then (λ r. once r.notarization_broadcast r.notarization) (round_at self.old view)) }
+        ensures handed_out { OnOk result (self.new ≡ changed_in_place self.old view (λ r.
+            record r { notarization_broadcast = r.notarization_broadcast || is_some r.notarization })) }
         ensures refused { IfErr result (λ fault. fault ≡ OutOfMemory) }
         ensures origin { HasSameOrigin self.old self.new }
     {
@@ -28,8 +31,11 @@ impl<S: CertificateScheme, D: Digest> Rounds<S, D> {
 
     /// Hands out the nullification of a view, once.
     pub fn hand_out_nullification(&mut self, view: View) -> Result<Option<Nullification<S>>, Fault>
-        ensures answer { IfOk result (λ c. option_map (nullification_facts S.certificate_bytes) c ≡ option_and_then (λ r. once r.nullification_broadcast r.nullification) (round_at self.old view)) }
-        ensures handed_out { OnOk result (self.new ≡ changed_in_place self.old view (λ r. record r { nullification_broadcast = r.nullification_broadcast || is_some r.nullification })) }
+        ensures answer { IfOk result (λ c.
+            option_map (nullification_facts S.certificate_bytes) c
+            ≡ option_and_then (λ r. once r.nullification_broadcast r.nullification) (round_at self.old view)) }
+        ensures handed_out { OnOk result (self.new ≡ changed_in_place self.old view (λ r.
+            record r { nullification_broadcast = r.nullification_broadcast || is_some r.nullification })) }
         ensures refused { IfErr result (λ fault. fault ≡ OutOfMemory) }
         ensures origin { HasSameOrigin self.old self.new }
     {
@@ -41,8 +47,11 @@ impl<S: CertificateScheme, D: Digest> Rounds<S, D> {
 
     /// Hands out the finalization of a view, once.
     pub fn hand_out_finalization(&mut self, view: View) -> Result<Option<Finalization<S, D>>, Fault>
-        ensures answer { IfOk result (λ c. option_map (finalization_facts S.certificate_bytes) c ≡ option_and_then (λ r. once r.finalization_broadcast r.finalization) (round_at self.old view)) }
-        ensures handed_out { OnOk result (self.new ≡ changed_in_place self.old view (λ r. record r { finalization_broadcast = r.finalization_broadcast || is_some r.finalization })) }
+        ensures answer { IfOk result (λ c.
+            option_map (finalization_facts S.certificate_bytes) c
+            ≡ option_and_then (λ r. once r.finalization_broadcast r.finalization) (round_at self.old view)) }
+        ensures handed_out { OnOk result (self.new ≡ changed_in_place self.old view (λ r.
+            record r { finalization_broadcast = r.finalization_broadcast || is_some r.finalization })) }
         ensures refused { IfErr result (λ fault. fault ≡ OutOfMemory) }
         ensures origin { HasSameOrigin self.old self.new }
     {

@@ -64,7 +64,8 @@ impl<S: CertificateScheme, D: Digest> Rounds<S, D> {
         ensures late { is_err result ≡ (awaits_retry (round_of self.old view) && is_past_u64 (now + retry)) }
         ensures refused { IfErr result (λ fault. (fault ≡ TimeOverflow) × (self.new ≡ self.old)) }
         ensures polled { OnOk result (self.new ≡ changed_in_place self.old view (λ r. with_retry r now retry)) }
-        ensures answer { IfOk result (λ timeout. timeout ≡ option_and_then (λ r. round_timeout (with_retry r now retry) allow_latched) (round_at self.old view)) }
+        ensures answer { IfOk result (λ timeout.
+            timeout ≡ option_and_then (λ r. round_timeout (with_retry r now retry) allow_latched) (round_at self.old view)) }
         ensures origin { HasSameOrigin self.old self.new }
     {
         let Some(round) = self.by_view.get_mut(view) else {

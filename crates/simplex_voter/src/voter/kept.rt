@@ -23,8 +23,10 @@ impl<S: CertificateScheme, D: Digest> Rounds<S, D> {
         notarization: Notarization<S, D>,
     ) -> Result<(bool, Option<S::PublicKey>), Fault>
         requires { view < 2 ^ 63 }
-        ensures added { IfOk result (λ added. added ≡ added_answer D.eq (round_of self.old view).notarization (round_of self.old view) notarization.proposal) }
-        ensures kept { OnOk result (self.new ≡ changed self.old view (λ r. with_notarization (same_proposal D.eq) r (notarization_facts S.certificate_bytes notarization))) }
+        ensures added { IfOk result (λ added.
+            added ≡ added_answer D.eq (round_of self.old view).notarization (round_of self.old view) notarization.proposal) }
+        ensures kept { OnOk result (self.new ≡ changed self.old view (λ r.
+            with_notarization (same_proposal D.eq) r (notarization_facts S.certificate_bytes notarization))) }
         ensures refused { IfErr result (λ fault. fault ≡ OutOfMemory) }
         ensures origin { HasSameOrigin self.old self.new }
     {
@@ -61,8 +63,10 @@ impl<S: CertificateScheme, D: Digest> Rounds<S, D> {
         finalization: Finalization<S, D>,
     ) -> Result<(bool, Option<S::PublicKey>), Fault>
         requires { view ≤ largest_tracked }
-        ensures added { IfOk result (λ added. added ≡ added_answer D.eq (round_of self.old view).finalization (round_of self.old view) finalization.proposal) }
-        ensures kept { OnOk result (self.new ≡ changed self.old view (λ r. with_finalization (same_proposal D.eq) r (finalization_facts S.certificate_bytes finalization))) }
+        ensures added { IfOk result (λ added.
+            added ≡ added_answer D.eq (round_of self.old view).finalization (round_of self.old view) finalization.proposal) }
+        ensures kept { OnOk result (self.new ≡ changed self.old view (λ r.
+            with_finalization (same_proposal D.eq) r (finalization_facts S.certificate_bytes finalization))) }
         ensures refused { IfErr result (λ fault. fault ≡ OutOfMemory) }
         ensures origin { HasSameOrigin self.old self.new }
     {

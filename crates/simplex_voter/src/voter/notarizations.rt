@@ -24,10 +24,12 @@ impl<S: CertificateScheme, L: Elector<S>, D: Digest> State<S, L, D> {
         notarization: Notarization<S, D>,
     ) -> Result<(bool, Option<S::PublicKey>), Fault>
         requires { takes_proposal_certificate self.old (notarization_facts S.certificate_bytes notarization) ≡ true }
-        ensures refused { IfSome (notarization_refusal self.old (notarization_facts S.certificate_bytes notarization)) (λ fault. (result ≡ Err fault) × (self.new ≡ self.old)) }
+        ensures refused { IfSome (notarization_refusal self.old (notarization_facts S.certificate_bytes notarization))
+            (λ fault. (result ≡ Err fault) × (self.new ≡ self.old)) }
         ensures added { IfOk result (λ added. added ≡ notarization_added D.eq L.elect self.old (notarization_facts S.certificate_bytes notarization)) }
         ensures after { OnOk result (self.new ≡ after_add_notarization D.eq L.elect self.old (notarization_facts S.certificate_bytes notarization)) }
-        ensures out_of_memory { notarization_refusal self.old (notarization_facts S.certificate_bytes notarization) ≡ None → IfErr result (λ fault. (fault ≡ OutOfMemory) × HasFailed self.old self.new) }
+        ensures out_of_memory { notarization_refusal self.old (notarization_facts S.certificate_bytes notarization) ≡ None
+            → IfErr result (λ fault. (fault ≡ OutOfMemory) × HasFailed self.old self.new) }
     {
         if self.is_failed() {
             return Err(Fault::Failed);

@@ -89,7 +89,8 @@ impl<S: CertificateScheme, L: Elector<S>, D: Digest> State<S, L, D> {
         self.rounds.decide_notarize(view)
     }
 
-    /// Whether this member may vote to notarize the view.
+    /// Whether this member may vote to notarize the view: once, so that no other proposal is certified there too, and only
+    /// what was verified, on the payload of the parent that it was verified on.
     #[tactic(auto, unfolding(crate::specs::Rules::may_notarize))]
     fn may_notarize(&self, view: View) -> bool
         requires { 1 ≤ self.now.current }
@@ -113,7 +114,8 @@ impl<S: CertificateScheme, L: Elector<S>, D: Digest> State<S, L, D> {
         }
     }
 
-    /// Whether the view before offers a payload, where the view may build on one that is not certified yet.
+    /// Whether the view before offers a payload, where the view may build on one that is not certified yet: once a vote below
+    /// is refused, nothing above it may be voted for.
     fn has_ancestry(&self, view: View) -> bool
         ensures { result ≡ has_ancestry D.eq L.elect self.now view }
     {

@@ -29,10 +29,12 @@ impl<S: CertificateScheme, L: Elector<S>, D: Digest> State<S, L, D> {
         now: u64,
     ) -> Result<bool, Fault>
         requires { takes_nullification self.old (nullification_facts S.certificate_bytes nullification) ≡ true }
-        ensures refused { IfSome (nullification_refusal self.old (nullification_facts S.certificate_bytes nullification) now) (λ fault. (result ≡ Err fault) × (self.new ≡ self.old)) }
+        ensures refused { IfSome (nullification_refusal self.old (nullification_facts S.certificate_bytes nullification) now)
+            (λ fault. (result ≡ Err fault) × (self.new ≡ self.old)) }
         ensures added { IfOk result (λ added. added ≡ nullification_added self.old (nullification_facts S.certificate_bytes nullification)) }
         ensures after { OnOk result (self.new ≡ after_add_nullification L.elect self.old (nullification_facts S.certificate_bytes nullification) now) }
-        ensures out_of_memory { nullification_refusal self.old (nullification_facts S.certificate_bytes nullification) now ≡ None → IfErr result (λ fault. (fault ≡ OutOfMemory) × HasFailed self.old self.new) }
+        ensures out_of_memory { nullification_refusal self.old (nullification_facts S.certificate_bytes nullification) now ≡ None
+            → IfErr result (λ fault. (fault ≡ OutOfMemory) × HasFailed self.old self.new) }
     {
         if self.is_failed() {
             return Err(Fault::Failed);

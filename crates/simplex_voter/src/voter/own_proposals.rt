@@ -48,8 +48,13 @@ impl<S: CertificateScheme, L: Elector<S>, D: Digest> State<S, L, D> {
 
     /// Records what was built in a tracked view, where nullify was not decided and no other proposal is held.
     fn record_proposal(&mut self, context: &Context<D, S::PublicKey>, payload: D, now: u64) -> bool
-        ensures recorded { result ≡ option_map_or (λ r. not (is_nullify r.decision) && holds_or_empty (same_proposal D.eq) r.slot (proposal_of context.now payload)) (round_at self.old context.now.round.view) false }
-        ensures after { self.new ≡ (if result then with_round self.old context.now.round.view (proposed_round D.eq (round_of self.old context.now.round.view) context.now payload now) else self.old) }
+        ensures recorded { result ≡ option_map_or
+            (λ r. not (is_nullify r.decision) && holds_or_empty (same_proposal D.eq) r.slot (proposal_of context.now payload))
+            (round_at self.old context.now.round.view) false }
+        ensures after { self.new ≡ (if result
+            then with_round self.old context.now.round.view
+            (proposed_round D.eq (round_of self.old context.now.round.view) context.now payload now)
+            else self.old) }
     {
         self.rounds.record_proposal(context, payload, now)
     }

@@ -34,7 +34,8 @@ impl<S: CertificateScheme, L: Elector<S>, D: Digest> State<S, L, D> {
         ensures refused { IfSome (proposal_refusal self.old proposal.now) (λ fault. (result ≡ Err fault) × (self.new ≡ self.old)) }
         ensures answer { IfOk result (λ answer. answer ≡ set_proposal_answer self.old view) }
         ensures after { OnOk result (self.new ≡ after_set_proposal D.eq L.elect self.old view proposal.now) }
-        ensures out_of_memory { proposal_refusal self.old proposal.now ≡ None → IfErr result (λ fault. (fault ≡ OutOfMemory) × HasFailed self.old self.new) }
+        ensures out_of_memory { proposal_refusal self.old proposal.now ≡ None
+            → IfErr result (λ fault. (fault ≡ OutOfMemory) × HasFailed self.old self.new) }
     {
         if self.is_failed() {
             return Err(Fault::Failed);

@@ -67,7 +67,8 @@ impl<S: CertificateScheme, L: Elector<S>, D: Digest> State<S, L, D> {
     ) -> Result<(), Fault>
         requires in_range { view ≤ largest_tracked }
         requires taken { TakesArtifact (round_of self.old view) artifact.now }
-        ensures recalled { OnOk result (self.new ≡ with_round self.old view (bound_again (after_replay (same_proposal D.eq) (round_of self.old view) artifact.now) binding)) }
+        ensures recalled { OnOk result (self.new ≡ with_round self.old view
+            (bound_again (after_replay (same_proposal D.eq) (round_of self.old view) artifact.now) binding)) }
         ensures refused { IfErr result (λ fault. fault ≡ OutOfMemory) }
         ensures setup { HasSameSetup self.old self.new }
     {

@@ -45,7 +45,8 @@ impl<S: CertificateScheme, L: Elector<S>, D: Digest> State<S, L, D> {
         requires { TakesReplay self.old artifact.now }
         ensures refused { IfSome (replay_refusal self.old artifact.now) (λ fault. (result ≡ Err fault) × (self.new ≡ self.old)) }
         ensures after { OnOk result (self.new ≡ after_replayed D.eq L.elect self.old artifact.now) }
-        ensures out_of_memory { replay_refusal self.old artifact.now ≡ None → IfErr result (λ fault. (fault ≡ OutOfMemory) × HasFailed self.old self.new) }
+        ensures out_of_memory { replay_refusal self.old artifact.now ≡ None
+            → IfErr result (λ fault. (fault ≡ OutOfMemory) × HasFailed self.old self.new) }
     {
         if self.is_failed() {
             return Err(Fault::Failed);

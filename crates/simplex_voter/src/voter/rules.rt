@@ -4,7 +4,7 @@ ghost use Rattle.std.specs.Prelude.{◌≡◌};
 ghost use Rattle.std.specs.Option.{option_copied};
 
 use super::state::State;
-use super::terms::{admits_outbound, before};
+use super::terms::before;
 use simplex_types::types::{CertificateScheme, Digest, Elector, Proposal, View};
 
 impl<S: CertificateScheme, L: Elector<S>, D: Digest> State<S, L, D> {
@@ -19,7 +19,8 @@ impl<S: CertificateScheme, L: Elector<S>, D: Digest> State<S, L, D> {
     pub(super) fn is_admitted(&self, view: View) -> bool
         ensures { result ≡ is_admitted self.now view }
     {
-        admits_outbound(&self.elector.terms().lookahead(), self.current, view)
+        let lookahead = self.elector.terms().lookahead();
+        lookahead.admits_outbound(self.current, view)
     }
 
     /// Whether the view starts a term.
@@ -29,7 +30,8 @@ impl<S: CertificateScheme, L: Elector<S>, D: Digest> State<S, L, D> {
         view.is_term_start(self.elector.terms().term_length)
     }
 
-    /// Whether this member voted to nullify a view below in the term, above the last finalized view.
+    /// Whether this member voted to nullify a view below in the term, above the last finalized view: its vote to finalize
+    /// could help to finalize a view that the other vote helps to skip.
     #[tactic(auto, unfolding(crate::specs::Rules::is_gated))]
     pub(super) fn is_gated(&self, view: View) -> bool
         ensures { result ≡ is_gated self.now view }
@@ -75,7 +77,8 @@ impl<S: CertificateScheme, L: Elector<S>, D: Digest> State<S, L, D> {
         }
     }
 
-    /// The view that has to be certified before a proposal of this view.
+    /// The view that has to be certified before a proposal of this view: the proposal was voted for on a parent that may still
+    /// be refused, and to finalize it finalizes the parent too.
     #[tactic(auto, unfolding(crate::specs::Rules::required_parent))]
     pub(super) fn required_parent(&self, view: View, proposal: &Proposal<D>) -> Option<View>
         ensures { result ≡ required_parent L.elect self.now view proposal.now }
@@ -130,7 +133,7 @@ impl<S: CertificateScheme, L: Elector<S>, D: Digest> State<S, L, D> {
         }
     }
 
-    /// Whether this member may vote to finalize the view.
+    /// Whether this member may vote to finalize the view. Without the notarization another proposal may still win it.
     #[tactic(auto, unfolding(crate::specs::Rules::may_finalize))]
     pub(super) fn may_finalize(&self, view: View) -> bool
         ensures { result ≡ may_finalize L.elect self.now view }

@@ -97,7 +97,8 @@ impl<S: CertificateScheme, L: Elector<S>, D: Digest> State<S, L, D> {
     /// A state that has no floor yet: nothing is known, and no view is entered.
     pub fn new(alloc: Global, config: Config<S, L>) -> State<S, L, D>
         requires { L.members config.elector ≡ length (S.participants config.scheme) }
-        ensures { result ≡ new_facts (settings_of config) (S.me config.scheme) (S.participants config.scheme) config.elector (L.terms config.elector) (L.elects_early config.elector) }
+        ensures { result ≡ new_facts (settings_of config) (S.me config.scheme) (S.participants config.scheme)
+            config.elector (L.terms config.elector) (L.elects_early config.elector) }
     {
         let term_length = config.elector.terms().term_length;
         State {

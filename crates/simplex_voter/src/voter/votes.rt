@@ -95,7 +95,8 @@ impl<S: CertificateScheme, L: Elector<S>, D: Digest> State<S, L, D> {
         note_view(&mut self.nullify_votes, view)
     }
 
-    /// Whether the current view may be voted to nullify, and whether that was decided before.
+    /// Whether the current view may be voted to nullify, and whether that was decided before. The vote covers the rest of the
+    /// term, so it is of no view below, which may be finalized.
     #[tactic(auto, unfolding(crate::specs::Rules::may_nullify))]
     fn nullify_retry(&self, view: View) -> Option<bool>
         ensures retry { result ≡ (if may_nullify self.now view then Some (is_nullify (round_of self.now view).decision) else None) }

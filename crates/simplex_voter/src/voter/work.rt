@@ -96,8 +96,12 @@ impl<S: CertificateScheme, D: Digest> Rounds<S, D> {
         payload: D,
         now: u64,
     ) -> bool
-        ensures recorded { result ≡ option_map_or (λ r. not (is_nullify r.decision) && holds_or_empty (same_proposal D.eq) r.slot (proposal_of context.now payload)) (round_at self.old context.now.round.view) false }
-        ensures after { self.new ≡ (if result then changed self.old context.now.round.view (λ r. proposed_round D.eq r context.now payload now) else self.old) }
+        ensures recorded { result ≡ option_map_or
+            (λ r. not (is_nullify r.decision) && holds_or_empty (same_proposal D.eq) r.slot (proposal_of context.now payload))
+            (round_at self.old context.now.round.view) false }
+        ensures after { self.new ≡ (if result
+            then changed self.old context.now.round.view (λ r. proposed_round D.eq r context.now payload now)
+            else self.old) }
         ensures origin { HasSameOrigin self.old self.new }
     {
         let Some(round) = self.by_view.get_mut(context.round.view) else {

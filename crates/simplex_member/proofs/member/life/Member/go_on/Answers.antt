@@ -1,8 +1,6 @@
-use Rattle.std.proofs.Common.{refl, inl}
 use Rattle.std.proofs.lemmas.Result.{err_from_is_err_and}
-use Rattle.simplex_member.specs.Openings.{no_openings}
 use Rattle.simplex_member.specs.Entries.{entries_of}
-use Rattle.simplex_member.specs.Lives.{MemberFacts, living}
+use Rattle.simplex_member.specs.Lives.{MemberFacts, living, open_while}
 use Rattle.simplex_member.specs.Start.{start_facts}
 use Rattle.simplex_member.proofs.Restarts.{not_gone_on, gone_on}
 use Rattle.simplex_member.proofs.member.life.Member.go_on.Goals as goal
@@ -12,24 +10,15 @@ returns-in_err-state g c =
     let bytes_of = g.S.CertificateScheme.certificate_bytes in
     let start = start_facts g.S.CertificateScheme.me g.S.CertificateScheme.participants g.L.Elector.terms g.L.Elector.elects_early bytes_of c.args.start in
     let i = c.self.inside in
-    let m : MemberFacts _ _ _ = record { life = living i.failed i.state; openings = no_openings; entries = entries_of bytes_of i.artifacts.items; closed = i.closed; is_pruned = i.is_pruned; retention = i.retention; least_retention = i.least_retention } in
+    let m : MemberFacts _ _ _ = record { life = living i.failed i.state; openings = open_while i.failed i.openings; entries = entries_of bytes_of i.artifacts.items; closed = i.closed; is_pruned = i.is_pruned; retention = i.retention; least_retention = i.least_retention } in
     let p = err_from_is_err_and c.from_residual.result c.from_residual.ensures.1 in
-    rw (← c.self.view_is, p.1, p.2) (not_gone_on g.D.PartialEq.eq g.L.Elector.elect m start c.in_err-state.field-0.0 (rw (← c.deref.ensures.value) c.in_err-state.ensures.refused))
-
-pub returns-in_err-keep_finalization : goal.returns-in_err-keep_finalization
-returns-in_err-keep_finalization g c =
-    let bytes_of = g.S.CertificateScheme.certificate_bytes in
-    let start = start_facts g.S.CertificateScheme.me g.S.CertificateScheme.participants g.L.Elector.terms g.L.Elector.elects_early bytes_of c.args.start in
-    let i = c.self.inside in
-    let m : MemberFacts _ _ _ = record { life = living i.failed i.state; openings = no_openings; entries = entries_of bytes_of i.artifacts.items; closed = i.closed; is_pruned = i.is_pruned; retention = i.retention; least_retention = i.least_retention } in
-    let p = err_from_is_err_and c.from_residual-in_err-keep_finalization.result c.from_residual-in_err-keep_finalization.ensures.1 in
-    rw (← c.self.view_is, p.1, p.2, c.in_err-keep_finalization.ensures.same) (not_gone_on g.D.PartialEq.eq g.L.Elector.elect m start c.in_err-keep_finalization.field-0.0 (inl c.in_err-keep_finalization.ensures.refused))
+    rw (← c.self.view_is, p.1, p.2, c.in_err-state.ensures.same) (not_gone_on g.D.PartialEq.eq g.L.Elector.elect m start c.in_err-state.field-0.0 c.in_err-state.ensures.refused)
 
 pub returns : goal.returns
 returns g c =
     let bytes_of = g.S.CertificateScheme.certificate_bytes in
     let start = start_facts g.S.CertificateScheme.me g.S.CertificateScheme.participants g.L.Elector.terms g.L.Elector.elects_early bytes_of c.args.start in
     let i = c.self.inside in
-    let m : MemberFacts _ _ _ = record { life = living i.failed i.state; openings = no_openings; entries = entries_of bytes_of i.artifacts.items; closed = i.closed; is_pruned = i.is_pruned; retention = i.retention; least_retention = i.least_retention } in
-    rw (← c.self.view_is, c.lesser-self-inside.ensures, c.retention_of-retention.ensures, c.in_ok-keep_finalization.ensures.kept)
-    (gone_on g.D.PartialEq.eq g.L.Elector.elect m start c.in_ok-state.state _ (rw (← c.deref.ensures.value) c.in_ok-state.ensures.remade) (rw (← c.in_ok-state.ensures.floor) refl))
+    let m : MemberFacts _ _ _ = record { life = living i.failed i.state; openings = open_while i.failed i.openings; entries = entries_of bytes_of i.artifacts.items; closed = i.closed; is_pruned = i.is_pruned; retention = i.retention; least_retention = i.least_retention } in
+    rw (← c.self.view_is, c.lesser-self-inside.ensures, c.retention_of-retention.ensures, c.new.ensures)
+    (gone_on g.D.PartialEq.eq g.L.Elector.elect m start c.in_ok-state.state _ c.in_ok-state.ensures.renewed c.in_ok-state.ensures.recorded)

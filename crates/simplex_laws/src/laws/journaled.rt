@@ -1,0 +1,64 @@
+//! A lawful member and its journal.
+
+ghost use Rattle.std.specs.Prelude.{◌≡◌, IfOk, IfErr, drop, length};
+ghost use Rattle.simplex_member.specs.Start.{start_facts};
+
+use super::living::LawfulMember;
+use simplex_member::member::{Member, NotResumed, Start, Stored};
+use simplex_types::types::{Artifact, Digest, Elector, Scheme};
+use std::alloc::Global;
+
+impl<S: Scheme<D>, L: Elector<S>, D: Digest> LawfulMember<S, L, D> {
+    ghost use Rattle.simplex_member.specs.Entries.{entries_of};
+    ghost use Rattle.simplex_member.specs.Journal.{stored_of, IsResumed, IsNotResumed};
+    ghost use Rattle.simplex_laws.specs.Living.{HasGoneOn};
+
+    /// The record, oldest entry first.
+    pub fn record(&self) -> &[Artifact<S, D>]
+        ensures { entries_of S.certificate_bytes result.now ≡ self.now.entries }
+    {
+        self.member.record()
+    }
+
+    /// What was recorded after the first `count` entries: nothing, where there are no more.
+    pub fn record_since(&self, count: usize) -> &[Artifact<S, D>]
+        ensures { entries_of S.certificate_bytes result.now ≡ drop count self.now.entries }
+    {
+        self.member.record_since(count)
+    }
+
+    /// What a journal stores beside the record.
+    pub fn stored(&self) -> Stored
+        ensures { result ≡ stored_of self.now }
+    {
+        self.member.stored()
+    }
+
+    /// A member that goes on from its journal, as `Member::resume` makes it, or refuses with its errors and the entries.
+    ///
+    /// The elector's members are the scheme's participants.
+    /// - `goes_on`: in terms of the same length and with the key of the same member or none, what was done by the member that
+    ///   the journal was stored of stays done, and the floor's finalization is accepted too.
+    pub fn resume(
+        alloc: Global,
+        start: Start<S, L, D>,
+        stored: Stored,
+        entries: Vec<Artifact<S, D>>,
+    ) -> Result<LawfulMember<S, L, D>, NotResumed<S, D>>
+        requires { L.members start.settings.elector ≡ length (S.participants start.settings.scheme) }
+        ensures resumed { IfOk result (IsResumed D.eq L.elect stored
+            (entries_of S.certificate_bytes entries.items)
+            (start_facts S.me S.participants L.terms L.elects_early S.certificate_bytes start)) }
+        ensures refused { IfErr result (λ refusal. IsNotResumed D.eq L.elect stored
+            (entries_of S.certificate_bytes entries.items)
+            (start_facts S.me S.participants L.terms L.elects_early S.certificate_bytes start) refusal.error) }
+        ensures handed_back { IfErr result (λ refusal. refusal.entries.items ≡ entries.items) }
+        ensures goes_on { IfOk result (HasGoneOn D.eq L.elect S.me L.terms stored
+            (entries_of S.certificate_bytes entries.items) start) }
+    {
+        match Member::resume(alloc, start, stored, entries) {
+            Ok(member) => Ok(LawfulMember { member }),
+            Err(refusal) => Err(refusal),
+        }
+    }
+}

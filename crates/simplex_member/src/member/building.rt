@@ -1,0 +1,82 @@
+//! The calls of a member that build its own proposals, over its state and what is open of its requests.
+
+ghost use Rattle.std.specs.Prelude.{◌≡◌, ◌++◌, [], Some, None, is_some, Bool, true, false, IfOk, IfErr, OnErr, OnOk};
+ghost use Rattle.simplex_voter.specs.Refusals.{is_started};
+ghost use Rattle.simplex_member.specs.Entries.{entries_of};
+ghost use Rattle.simplex_member.specs.Calls.{told};
+ghost use Rattle.simplex_member.specs.Made.{is_permitted, due_fault, answer_to, after_asked, recorded_for, family_of, EndsCall};
+ghost use Rattle.simplex_member.specs.Openings.{context_at};
+ghost use Rattle.simplex_member.specs.Runs.{asked};
+ghost use Rattle.simplex_member.specs.Signed.{is_vote_reply};
+ghost use Rattle.simplex_member.specs.declared.member.serving.Family.TheVariants.{Proposals};
+
+use super::call_error::CallError;
+use super::calls::{Call, Reply};
+use super::openings::Openings;
+use simplex_types::types::{CertificateScheme, Context, Digest, Elector, View};
+use simplex_voter::voter::State;
+
+/// Makes a call on a proposal of this member's own. Nothing of it is recorded.
+pub(super) fn build<S: CertificateScheme, L: Elector<S>, D: Digest>(
+    state: &mut State<S, L, D>,
+    openings: &Openings<D, S::PublicKey>,
+    call: Call<S, D>,
+) -> Result<Reply<S, D>, CallError>
+    requires going_on { state.old.failed ≡ false }
+    requires begun { is_started state.old ≡ true }
+    requires allowed { is_permitted state.old openings.now (asked S.certificate_bytes call) ≡ true }
+    requires family { family_of call ≡ Proposals }
+    ensures due { OnOk result (due_fault state.old (asked S.certificate_bytes call) ≡ None) }
+    ensures answer { IfOk result (λ reply. told S.certificate_bytes reply
+        ≡ answer_to D.eq L.elect state.old openings.now (asked S.certificate_bytes call)) }
+    ensures unsigned { IfOk result (λ reply. is_vote_reply reply ≡ false) }
+    ensures after { OnOk result (state.new ≡ after_asked D.eq L.elect state.old openings.now (asked S.certificate_bytes call)) }
+    ensures unrecorded { recorded_for D.eq L.elect state.old (asked S.certificate_bytes call) ≡ [] }
+    ensures refused { IfErr result (EndsCall (asked S.certificate_bytes call) state.old state.new) }
+{
+    match call {
+        Call::TryPropose => {
+            let request = state.try_propose().map_err(CallError::Refused)?;
+            Ok(Reply::Request(request))
+        }
+        Call::Proposed(view, payload, now) => {
+            let context = context_of(openings, view);
+            let recorded = state
+                .proposed(context, payload, now)
+                .map_err(CallError::Refused)?;
+            Ok(Reply::Flag(recorded))
+        }
+        Call::SupersedeProposalRequest(view) => {
+            let context = context_of(openings, view);
+            let superseded = state
+                .supersede_proposal_request(context)
+                .map_err(CallError::Refused)?;
+            Ok(Reply::Flag(superseded))
+        }
+        Call::PendingHandoffAbandonment(view) => {
+            let context = context_of(openings, view);
+            let reason = state
+                .pending_handoff_abandonment(context)
+                .map_err(CallError::Refused)?;
+            Ok(Reply::Abandoned(reason))
+        }
+        Call::ReleaseProposalRequest(view) => {
+            state
+                .release_proposal_request(view)
+                .map_err(CallError::Refused)?;
+            Ok(Reply::Unit)
+        }
+        _ => unreachable!(),
+    }
+}
+
+/// The context that is open in a view.
+fn context_of<D: Digest, P: Copy>(openings: &Openings<D, P>, view: View) -> &Context<D, P>
+    requires { is_some (context_at openings.now view) ≡ true }
+    ensures { Some result.now ≡ context_at openings.now view }
+{
+    match openings.context(view) {
+        Some(context) => context,
+        None => unreachable!(),
+    }
+}

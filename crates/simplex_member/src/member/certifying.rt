@@ -1,0 +1,57 @@
+//! The calls of a member on certifications, over its state and its record.
+
+ghost use Rattle.std.specs.Prelude.{◌≡◌, ◌++◌, [], None, Bool, true, false, IfOk, IfErr, OnErr, OnOk};
+ghost use Rattle.simplex_voter.specs.Refusals.{is_started};
+ghost use Rattle.simplex_member.specs.Entries.{entries_of};
+ghost use Rattle.simplex_member.specs.Calls.{told};
+ghost use Rattle.simplex_member.specs.Made.{is_ready, due_fault, answer_to, after_asked, recorded_for, family_of, EndsCall};
+ghost use Rattle.simplex_member.specs.Openings.{no_openings};
+ghost use Rattle.simplex_member.specs.Runs.{asked};
+ghost use Rattle.simplex_member.specs.Signed.{is_vote_reply};
+ghost use Rattle.simplex_member.specs.declared.member.serving.Family.TheVariants.{Certifications};
+
+use super::call_error::CallError;
+use super::calls::{Call, Reply};
+use super::parts;
+use simplex_types::types::{Artifact, CertificateScheme, Digest, Elector};
+use simplex_voter::voter::State;
+
+/// Makes a call on a certification. A view's first verdict is recorded.
+pub(super) fn certify<S: CertificateScheme, L: Elector<S>, D: Digest>(
+    state: &mut State<S, L, D>,
+    artifacts: &mut Vec<Artifact<S, D>>,
+    call: Call<S, D>,
+) -> Result<Reply<S, D>, CallError>
+    requires going_on { state.old.failed ≡ false }
+    requires begun { is_started state.old ≡ true }
+    requires allowed { is_ready state.old (asked S.certificate_bytes call) ≡ true }
+    requires family { family_of call ≡ Certifications }
+    ensures due { OnOk result (due_fault state.old (asked S.certificate_bytes call) ≡ None) }
+    ensures answer { IfOk result (λ reply. told S.certificate_bytes reply
+        ≡ answer_to D.eq L.elect state.old no_openings (asked S.certificate_bytes call)) }
+    ensures unsigned { IfOk result (λ reply. is_vote_reply reply ≡ false) }
+    ensures after { OnOk result (state.new ≡ after_asked D.eq L.elect state.old no_openings (asked S.certificate_bytes call)) }
+    ensures recorded { OnOk result (entries_of S.certificate_bytes artifacts.new.items
+        ≡ entries_of S.certificate_bytes artifacts.old.items ++ recorded_for D.eq L.elect state.old (asked S.certificate_bytes call)) }
+    ensures refused { IfErr result (EndsCall (asked S.certificate_bytes call) state.old state.new) }
+    ensures same_record { OnErr result (entries_of S.certificate_bytes artifacts.new.items
+        ≡ entries_of S.certificate_bytes artifacts.old.items) }
+{
+    match call {
+        Call::CertifyCandidates => {
+            let candidates = state.certify_candidates().map_err(CallError::of)?;
+            Ok(Reply::Candidates(candidates.0, candidates.1))
+        }
+        Call::SetCertifyHandle(view, token) => {
+            state
+                .set_certify_handle(view, token)
+                .map_err(CallError::Refused)?;
+            Ok(Reply::Unit)
+        }
+        Call::Certified(view, success, now) => {
+            let notarization = parts::certified(state, artifacts, view, success, now)?;
+            Ok(Reply::Certified(notarization))
+        }
+        _ => unreachable!(),
+    }
+}

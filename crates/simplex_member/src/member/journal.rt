@@ -1,0 +1,44 @@
+//! What a journal holds of a member: its entries, and a little beside them.
+
+ghost use Rattle.std.specs.Prelude.{◌≡◌, drop};
+
+use super::life::Member;
+use simplex_types::types::{Artifact, CertificateScheme, Digest, Elector, ViewDelta};
+
+/// What a journal stores beside a member's entries, so that a member can be made again when the process has ended.
+#[derive(Clone, Copy, PartialEq, Eq, Debug)]
+pub struct Stored {
+    /// No drop takes one of the first so many entries.
+    pub closed: usize,
+    /// Whether the record was ever pruned.
+    pub is_pruned: bool,
+    /// How many views below the last finalized one the last life kept.
+    pub retention: ViewDelta,
+    /// The least that a life kept.
+    pub least_retention: ViewDelta,
+}
+
+impl<S: CertificateScheme, L: Elector<S>, D: Digest> Member<S, L, D> {
+    ghost use Rattle.simplex_member.specs.Entries.{entries_of};
+    ghost use Rattle.simplex_member.specs.Journal.{stored_of};
+
+    /// What a journal stores beside the record; also of a member that has failed.
+    pub fn stored(&self) -> Stored
+        ensures { result ≡ stored_of self.now }
+    {
+        Stored {
+            closed: self.closed,
+            is_pruned: self.is_pruned,
+            retention: self.retention,
+            least_retention: self.least_retention,
+        }
+    }
+
+    /// What was recorded after the first `count` entries: nothing, where there are no more.
+    pub fn record_since(&self, count: usize) -> &[Artifact<S, D>]
+        ensures { entries_of S.certificate_bytes result.now ≡ drop count self.now.entries }
+    {
+        let first = count.min(self.artifacts.len());
+        &self.artifacts[first..]
+    }
+}

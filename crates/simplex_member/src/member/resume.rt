@@ -1,0 +1,137 @@
+//! How a member goes on from its journal, when its process has ended.
+
+ghost use Rattle.std.specs.Prelude.{◌≡◌, ◌&&◌, IfOk, IfErr, length, nat_lt};
+ghost use Rattle.simplex_member.specs.declared.member.resume.ResumeError.TheVariants.{Recover};
+
+use super::error::RecoverError;
+use super::journal::Stored;
+use super::life::Member;
+use super::openings::Openings;
+use super::restart::{lesser, renew};
+use super::start::{Start, retention_of};
+use simplex_types::types::{Artifact, CertificateScheme, Digest, Elector, ViewDelta};
+use std::alloc::Global;
+use std::error::Error;
+use std::fmt;
+
+/// Why a member does not go on from its journal.
+#[derive(Clone, Copy, PartialEq, Eq, Debug)]
+pub enum ResumeError {
+    /// There are fewer entries than were closed: some are lost, and votes may be among them.
+    EntriesLost,
+    /// As a restart is refused.
+    Recover(RecoverError),
+}
+
+impl fmt::Display for ResumeError {
+    ghost use Rattle.std.specs.Prelude.{Some};
+    ghost use Rattle.simplex_member.specs.Errors.{resume_error_name};
+
+    ghost output = { λ error. Some (resume_error_name error) };
+
+    fn fmt<W: fmt::Write>(&self, f: &mut fmt::Formatter<W>) -> fmt::Result {
+        match self {
+            ResumeError::EntriesLost => write!(f, "EntriesLost"),
+            ResumeError::Recover(error) => write!(f, "{error}"),
+        }
+    }
+}
+
+impl Error for ResumeError {}
+
+/// That a member does not go on, with the entries that it was given.
+#[derive(Drop)]
+pub struct NotResumed<S: CertificateScheme, D: Digest> {
+    pub error: ResumeError,
+    pub entries: Vec<Artifact<S, D>>,
+}
+
+impl Stored {
+    ghost use Rattle.simplex_member.specs.Entries.{entries_of};
+    ghost use Rattle.simplex_member.specs.Journal.{has_lost};
+
+    /// Whether there are fewer entries than were closed.
+    fn has_lost<S: CertificateScheme, D: Digest>(&self, entries: &[Artifact<S, D>]) -> bool
+        ensures { result ≡ has_lost self.now (entries_of S.certificate_bytes entries.now) }
+    {
+        entries.len() < self.closed
+    }
+
+    /// Whether more views are to be kept than in a life before, of a record that was pruned.
+    fn retention_grows(&self, retention: ViewDelta) -> bool
+        ensures { result ≡ (self.now.is_pruned && nat_lt self.now.least_retention retention) }
+    {
+        self.is_pruned && self.least_retention < retention
+    }
+}
+
+impl<S: CertificateScheme, L: Elector<S>, D: Digest> Member<S, L, D> {
+    ghost use Rattle.simplex_member.specs.Entries.{entries_of};
+    ghost use Rattle.simplex_member.specs.Journal.{IsResumed, IsNotResumed};
+    ghost use Rattle.simplex_member.specs.Start.{start_facts};
+
+    /// A member that goes on from its journal: `entries` is the record as it was stored last, and `stored` what was stored
+    /// beside it. It begins a new life just as `restart` does that drops and prunes nothing.
+    ///
+    /// The elector's members are the scheme's participants. That what is handed in was stored last, and what `Start` says of
+    /// later lives, is the caller's word.
+    ///
+    /// `EntriesLost` where there are fewer entries than `stored.closed`. `RetentionGrown` where the record was pruned and the
+    /// settings keep more views than a life before. Then the errors of `recover`, and `OutOfMemory`. Each hands the entries
+    /// back as they came.
+    pub fn resume(
+        alloc: Global,
+        start: Start<S, L, D>,
+        stored: Stored,
+        entries: Vec<Artifact<S, D>>,
+    ) -> Result<Member<S, L, D>, NotResumed<S, D>>
+        requires { L.members start.settings.elector ≡ length (S.participants start.settings.scheme) }
+        ensures resumed { IfOk result (IsResumed D.eq L.elect stored
+            (entries_of S.certificate_bytes entries.items)
+            (start_facts S.me S.participants L.terms L.elects_early S.certificate_bytes start)) }
+        ensures refused { IfErr result (λ refusal. IsNotResumed D.eq L.elect stored
+            (entries_of S.certificate_bytes entries.items)
+            (start_facts S.me S.participants L.terms L.elects_early S.certificate_bytes start) refusal.error) }
+        ensures handed_back { IfErr result (λ refusal. refusal.entries.items ≡ entries.items) }
+    {
+        if stored.has_lost(&entries) {
+            return Err(NotResumed {
+                error: ResumeError::EntriesLost,
+                entries,
+            });
+        }
+        let retention = retention_of(&start.settings);
+        if stored.retention_grows(retention) {
+            return Err(not_recovered(RecoverError::RetentionGrown, entries));
+        }
+        let mut artifacts = entries;
+        match renew(alloc, start, &mut artifacts) {
+            Ok(state) => Ok(Member {
+                alloc,
+                state,
+                openings: Openings::new(alloc),
+                artifacts,
+                closed: stored.closed,
+                is_pruned: stored.is_pruned,
+                retention,
+                least_retention: lesser(stored.least_retention, retention),
+                failed: false,
+            }),
+            Err(error) => Err(not_recovered(error, artifacts)),
+        }
+    }
+}
+
+/// That no state was made, with the entries.
+fn not_recovered<S: CertificateScheme, D: Digest>(
+    error: RecoverError,
+    entries: Vec<Artifact<S, D>>,
+) -> NotResumed<S, D>
+    ensures error { result.error ≡ Recover error }
+    ensures entries { result.entries ≡ entries }
+{
+    NotResumed {
+        error: ResumeError::Recover(error),
+        entries,
+    }
+}

@@ -1,0 +1,48 @@
+//! The calls of a member on timeouts, over its state.
+
+ghost use Rattle.std.specs.Prelude.{◌≡◌, ◌++◌, [], None, Bool, true, false, IfOk, IfErr, OnErr, OnOk};
+ghost use Rattle.simplex_voter.specs.Refusals.{is_started};
+ghost use Rattle.simplex_member.specs.Entries.{entries_of};
+ghost use Rattle.simplex_member.specs.Calls.{told};
+ghost use Rattle.simplex_member.specs.Made.{is_ready, due_fault, answer_to, after_asked, recorded_for, family_of, EndsCall};
+ghost use Rattle.simplex_member.specs.Openings.{no_openings};
+ghost use Rattle.simplex_member.specs.Runs.{asked};
+ghost use Rattle.simplex_member.specs.Signed.{is_vote_reply};
+ghost use Rattle.simplex_member.specs.declared.member.serving.Family.TheVariants.{Timeouts};
+
+use super::call_error::CallError;
+use super::calls::{Call, Reply};
+use simplex_types::types::{CertificateScheme, Digest, Elector};
+use simplex_voter::voter::State;
+
+/// Makes a call on a timeout. Nothing of it is recorded.
+pub(super) fn time<S: CertificateScheme, L: Elector<S>, D: Digest>(
+    state: &mut State<S, L, D>,
+    call: Call<S, D>,
+) -> Result<Reply<S, D>, CallError>
+    requires going_on { state.old.failed ≡ false }
+    requires begun { is_started state.old ≡ true }
+    requires allowed { is_ready state.old (asked S.certificate_bytes call) ≡ true }
+    requires family { family_of call ≡ Timeouts }
+    ensures due { OnOk result (due_fault state.old (asked S.certificate_bytes call) ≡ None) }
+    ensures answer { IfOk result (λ reply. told S.certificate_bytes reply
+        ≡ answer_to D.eq L.elect state.old no_openings (asked S.certificate_bytes call)) }
+    ensures unsigned { IfOk result (λ reply. is_vote_reply reply ≡ false) }
+    ensures after { OnOk result (state.new ≡ after_asked D.eq L.elect state.old no_openings (asked S.certificate_bytes call)) }
+    ensures unrecorded { recorded_for D.eq L.elect state.old (asked S.certificate_bytes call) ≡ [] }
+    ensures refused { IfErr result (EndsCall (asked S.certificate_bytes call) state.old state.new) }
+{
+    match call {
+        Call::TriggerTimeout(view, reason, now) => {
+            state
+                .trigger_timeout(view, reason, now)
+                .map_err(CallError::Refused)?;
+            Ok(Reply::Unit)
+        }
+        Call::NextTimeout(now) => {
+            let timeout = state.next_timeout(now).map_err(CallError::Refused)?;
+            Ok(Reply::Timeout(timeout.0, timeout.1))
+        }
+        _ => unreachable!(),
+    }
+}

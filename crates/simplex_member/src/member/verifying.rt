@@ -1,0 +1,56 @@
+//! The calls of a member on the proposals of other leaders, over its state.
+
+ghost use Rattle.std.specs.Prelude.{◌≡◌, ◌++◌, [], None, Bool, true, false, IfOk, IfErr, OnErr, OnOk};
+ghost use Rattle.simplex_voter.specs.Refusals.{is_started};
+ghost use Rattle.simplex_member.specs.Entries.{entries_of};
+ghost use Rattle.simplex_member.specs.Calls.{told};
+ghost use Rattle.simplex_member.specs.Made.{is_ready, due_fault, answer_to, after_asked, recorded_for, family_of, EndsCall};
+ghost use Rattle.simplex_member.specs.Openings.{no_openings};
+ghost use Rattle.simplex_member.specs.Runs.{asked};
+ghost use Rattle.simplex_member.specs.Signed.{is_vote_reply};
+ghost use Rattle.simplex_member.specs.declared.member.serving.Family.TheVariants.{Verifications};
+
+use super::call_error::CallError;
+use super::calls::{Call, Reply};
+use simplex_types::types::{CertificateScheme, Digest, Elector};
+use simplex_voter::voter::State;
+
+/// Makes a call on a proposal of another leader. Nothing of it is recorded.
+pub(super) fn verify<S: CertificateScheme, L: Elector<S>, D: Digest>(
+    state: &mut State<S, L, D>,
+    call: Call<S, D>,
+) -> Result<Reply<S, D>, CallError>
+    requires going_on { state.old.failed ≡ false }
+    requires begun { is_started state.old ≡ true }
+    requires allowed { is_ready state.old (asked S.certificate_bytes call) ≡ true }
+    requires family { family_of call ≡ Verifications }
+    ensures due { OnOk result (due_fault state.old (asked S.certificate_bytes call) ≡ None) }
+    ensures answer { IfOk result (λ reply. told S.certificate_bytes reply
+        ≡ answer_to D.eq L.elect state.old no_openings (asked S.certificate_bytes call)) }
+    ensures unsigned { IfOk result (λ reply. is_vote_reply reply ≡ false) }
+    ensures after { OnOk result (state.new ≡ after_asked D.eq L.elect state.old no_openings (asked S.certificate_bytes call)) }
+    ensures unrecorded { recorded_for D.eq L.elect state.old (asked S.certificate_bytes call) ≡ [] }
+    ensures refused { IfErr result (EndsCall (asked S.certificate_bytes call) state.old state.new) }
+{
+    match call {
+        Call::SetProposal(view, proposal) => {
+            let is_new = state.set_proposal(view, &proposal).map_err(CallError::of)?;
+            Ok(Reply::Flag(is_new))
+        }
+        Call::TryVerify => {
+            let verify = state.try_verify().map_err(CallError::Refused)?;
+            Ok(Reply::Work(verify))
+        }
+        Call::Verified(view) => {
+            let marked = state.verified(view).map_err(CallError::Refused)?;
+            Ok(Reply::Flag(marked))
+        }
+        Call::VerificationFailed(view, reason, now) => {
+            state
+                .verification_failed(view, reason, now)
+                .map_err(CallError::Refused)?;
+            Ok(Reply::Unit)
+        }
+        _ => unreachable!(),
+    }
+}

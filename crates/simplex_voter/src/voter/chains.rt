@@ -1,0 +1,149 @@
+//! What a view offers to the views that build on it, down the chain of votes that it rests on.
+
+ghost use Rattle.std.specs.Prelude.{◌≡◌, ◌≤◌, ◌+◌, OnSome, true, option_map};
+ghost use Rattle.std.specs.Option.{option_map_or};
+ghost use Rattle.simplex_voter.specs.Chains.{payload_of};
+
+use super::state::State;
+use simplex_round::round::Round;
+use simplex_types::types::{CertificateScheme, Digest, Elector, Proposal, View};
+
+/// What a view's payload rests on.
+#[derive(Clone, Copy)]
+pub enum Basis<D: Digest> {
+    /// Genesis or a certificate.
+    Certain(D),
+    /// This member's vote for the proposal, with the payload that the parent had when it was bound to one.
+    Vote(Proposal<D>, Option<D>),
+}
+
+impl<D: Digest> Basis<D> {
+    /// The payload that is offered, where all that it rests on holds.
+    fn payload(&self) -> D
+        ensures { result ≡ payload_of self.now }
+    {
+        match self {
+            Basis::Certain(payload) => *payload,
+            Basis::Vote(proposal, _) => proposal.payload,
+        }
+    }
+}
+
+/// Whether a vote that was bound to a payload of its parent, if to one, still stands on this payload.
+fn holds<D: Digest>(bound: Option<D>, payload: D) -> bool
+    ensures { result ≡ option_map_or (λ d. D.eq payload d) bound true }
+{
+    match bound {
+        Some(other) => payload == other,
+        None => true,
+    }
+}
+
+/// The payload that the round's parent had when the round was bound to one.
+fn bound_payload<S: CertificateScheme, D: Digest>(round: &Round<S, D>) -> Option<D>
+    ensures { result ≡ option_map (λ bound. bound.1) round.now.binding }
+{
+    let bound = round.verifying()?;
+    Some(bound.1)
+}
+
+impl<S: CertificateScheme, L: Elector<S>, D: Digest> State<S, L, D> {
+    ghost use Rattle.simplex_voter.specs.Payloads.{has_failed, serves, follows, optimistic_payload};
+    ghost use Rattle.simplex_voter.specs.Rounds.{largest_tracked};
+    ghost use Rattle.simplex_voter.specs.Chains.{unrefused_payload, served_proposal, basis_of, basis_at};
+
+    /// What the view offers before it is certified: the payload of its certificate, where no rejection stands in its term
+    /// up to it; else that of a verified proposal that this member voted for, on a parent that offers what the vote was
+    /// bound to.
+    pub(super) fn optimistic_payload(&self, view: View) -> Option<D>
+        ensures payload { result ≡ optimistic_payload D.eq L.elect self.now view }
+        ensures in_range { OnSome result (view ≤ largest_tracked) }
+    {
+        let top = self.basis_at(view)?;
+        let mut basis = top;
+        while let Basis::Vote(proposal, bound) = basis {
+            let below = self.basis_at(proposal.parent)?;
+            if !holds(bound, below.payload()) {
+                return None;
+            }
+            basis = below;
+        }
+        Some(top.payload())
+    }
+
+    /// What the view's payload rests on, if it may offer one.
+    fn basis_at(&self, view: View) -> Option<Basis<D>>
+        ensures basis { result ≡ basis_at L.elect self.now view }
+        ensures in_range { OnSome result (view ≤ largest_tracked) }
+    {
+        if view.is_zero() {
+            return Some(Basis::Certain(self.genesis?));
+        }
+        let round = self.round_at(view)?;
+        self.basis_of(view, view.next(), round)
+    }
+
+    /// What the payload of a view with this round rests on; with the next view.
+    fn basis_of(&self, view: View, next: View, round: &Round<S, D>) -> Option<Basis<D>>
+        requires { next ≡ view + 1 }
+        ensures { result ≡ basis_of L.elect self.now view round.now }
+    {
+        if round.is_directly_notarized() {
+            return Some(Basis::Certain(self.unrefused_payload(view, round)?));
+        }
+        let proposal = self.served_proposal(view, next, round)?;
+        Some(Basis::Vote(proposal, bound_payload(round)))
+    }
+
+    /// The payload of the view's certificate, where no rejection stands in its term up to it.
+    fn unrefused_payload(&self, view: View, round: &Round<S, D>) -> Option<D>
+        ensures { result ≡ unrefused_payload self.now view round.now }
+    {
+        if self.has_failed(view) {
+            return None;
+        }
+        round.certificate_ancestry_payload().copied()
+    }
+
+    /// Whether the view, or one below it in its term, was certified false, and no finalization overrides that.
+    fn has_failed(&self, view: View) -> bool
+        ensures { result ≡ has_failed self.now view }
+    {
+        let start = view.term_start(self.elector.terms().term_length);
+        self.rounds.has_refused_between(self.finalized, start, view)
+    }
+
+    /// The proposal that this member voted for, where that may serve and stands on its parent; with the next view.
+    fn served_proposal(&self, view: View, next: View, round: &Round<S, D>) -> Option<Proposal<D>>
+        requires { next ≡ view + 1 }
+        ensures { result ≡ served_proposal L.elect self.now view round.now }
+    {
+        if !self.serves(view, next, round) {
+            return None;
+        }
+        let proposal = *round.proposal()?;
+        if !self.follows(view, proposal.parent) {
+            return None;
+        }
+        Some(proposal)
+    }
+
+    /// Whether this member voted for what the view holds, where that may serve before any certificate; with the next view.
+    #[tactic(auto, unfolding(crate::specs::Payloads::serves))]
+    fn serves(&self, view: View, next: View, round: &Round<S, D>) -> bool
+        requires { next ≡ view + 1 }
+        ensures { result ≡ serves L.elect self.now view round.now }
+    {
+        (self.in_window(next) || self.is_handoff_parent(view, next))
+            && round.is_verified()
+            && round.broadcast_notarize()
+    }
+
+    /// Whether a view that was voted for may stand on this parent.
+    #[tactic(auto, unfolding(crate::specs::Payloads::follows))]
+    fn follows(&self, view: View, parent: View) -> bool
+        ensures { result ≡ follows self.now view parent }
+    {
+        parent >= self.finalized && parent < view && self.is_gapless(parent, view)
+    }
+}
