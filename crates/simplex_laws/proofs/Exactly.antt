@@ -1,5 +1,5 @@
 -- Each vote is told exactly where its rule holds.
-use Rattle.std.proofs.Common.{◌≡◌, refl, sym, subst, ℕ, zero, suc, inl, inr, Bool, true, false, ◌&&◌, List, [], ◌∷◌, ◌++◌, length, Contains, Option, Some, None, Result, Ok, Err, arith}
+use Rattle.std.proofs.Common.{◌≡◌, refl, sym, subst, ℕ, zero, suc, inl, inr, Bool, true, false, ◌&&◌, List, [], ◌∷◌, Contains, Option, Some, None, Result, Ok, Err, arith}
 use Rattle.std.specs.Prelude.{is_some, if◌then◌else◌, option_map, option_and_then}
 use Rattle.std.proofs.lemmas.Bool.{false≢true}
 use Rattle.simplex_types.specs.Certificates.{NotarizeVote, NullifyVote, FinalizeVote}
@@ -22,7 +22,7 @@ use Rattle.simplex_member.specs.Runs.{StepFacts, Calls, Works, Restarts, restart
 use Rattle.simplex_member.specs.Restarts.{RestartFacts}
 use Rattle.simplex_member.specs.Start.{started}
 use Rattle.simplex_member.specs.Work.{WorkCall, ConstructNotarize, work_allowed, work_fault, work_answer, work_reply, IsWorkOf, IsWork}
-use Rattle.simplex_laws.specs.Exactly.{is_refused, IsSignedFor, IsExact, held, ExactAt, SignsExactly}
+use Rattle.simplex_laws.specs.Exactly.{is_refused, IsSignedFor, IsExact, held, ExactAt, RunsExactly, SignsExactly}
 use Rattle.simplex_laws.specs.Deeds.{Deed, Signs, signed_in}
 use Rattle.simplex_laws.specs.Stories.{Story}
 
@@ -155,20 +155,13 @@ module _ {K L D : Type 0} (same : D → D → Bool) (elect : Elect L) where
   step_exact m next (Works call) told is_step = work_exact m next call told is_step
   step_exact m next (Restarts r) told (result, restarts, is) = rw is (restart_exact m.life r result)
 
-  -- a run comes apart at each of its steps
-  parted : (m end : MemberFacts K L D) (before after : List (StepFacts K L D)) (step : StepFacts K L D) (heard rest : List (Told K D)) (told : Told K D) → length before ≡ length heard → IsRun same elect m (before ++ step ∷ after) (heard ++ told ∷ rest) end
-      → (k : MemberFacts K L D) × IsRun same elect m before heard k × ExactAt same elect k.life step told
-  parted m end [] after step [] rest told long (next, is_step, run) = (m, refl, step_exact m next step told is_step)
-  parted m end [] after step (h ∷ heard) rest told long run = absurd (omega arith)
-  parted m end (s ∷ before) after step [] rest told long run = absurd (omega arith)
-  parted m end (s ∷ before) after step (h ∷ heard) rest told long (next, is_step, run) =
-      let found = parted next end before after step heard rest told (omega arith) run in
-      (found.0, (next, is_step, found.1), found.2)
+  exact_steps : (m end : MemberFacts K L D) (steps : List (StepFacts K L D)) (replies : List (Told K D)) → IsRun same elect m steps replies end → RunsExactly same elect m steps replies
+  exact_steps m end [] [] run = tt
+  exact_steps m end [] (told ∷ replies) run = absurd run
+  exact_steps m end (step ∷ steps) [] run = absurd run
+  exact_steps m end (step ∷ steps) (told ∷ replies) (next, is_step, run) =
+      (step_exact m next step told is_step, next, is_step, exact_steps next end steps replies run)
 
   pub run_exact : (s : Story K L D) → IsRunFrom same elect s.start s.steps s.replies → SignsExactly same elect s
   unfolding IsRunFrom
-  run_exact s (accepted, end, run) before after step heard rest told steps_are replies_are long =
-      let m = started same elect s.start.fresh s.start.floor s.start.now in
-      let split : IsRun same elect m (before ++ step ∷ after) s.replies end = subst (λ (xs : List (StepFacts K L D)). IsRun same elect m xs s.replies end) steps_are run in
-      let whole : IsRun same elect m (before ++ step ∷ after) (heard ++ told ∷ rest) end = subst (λ (xs : List (Told K D)). IsRun same elect m (before ++ step ∷ after) xs end) replies_are split in
-      parted m end before after step heard rest told long whole
+  run_exact s (accepted, end, run) = exact_steps (started same elect s.start.fresh s.start.floor s.start.now) end s.steps s.replies run

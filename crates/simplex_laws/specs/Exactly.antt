@@ -1,5 +1,5 @@
 -- Which votes are signed, and when.
-use Rattle.std.specs.Prelude.{◌≡◌, ℕ, Bool, true, false, List, [], ◌∷◌, ◌++◌, length, Contains, Option, Some, None, option_map}
+use Rattle.std.specs.Prelude.{◌≡◌, ℕ, ⊤, Bool, true, false, List, [], ◌∷◌, Contains, Option, Some, None, option_map}
 use Rattle.simplex_types.specs.declared.types.messages.Proposal.{Proposal}
 use Rattle.simplex_types.specs.declared.types.messages.Subject.{Subject}
 use Rattle.simplex_types.specs.declared.types.messages.Subject.TheVariants as subject
@@ -7,7 +7,7 @@ use Rattle.simplex_voter.specs.Facts.{Facts, Elect, round_of, round_number}
 use Rattle.simplex_voter.specs.Rules.{NotarizeRule, NullifyRule, FinalizeRule}
 use Rattle.simplex_member.specs.Calls.{ConstructNullify, ConstructFinalize, Told, Refused}
 use Rattle.simplex_member.specs.Lives.{MemberFacts}
-use Rattle.simplex_member.specs.Runs.{StepFacts, Calls, Works, IsRun}
+use Rattle.simplex_member.specs.Runs.{StepFacts, Calls, Works, IsStep}
 use Rattle.simplex_member.specs.Start.{started}
 use Rattle.simplex_member.specs.Work.{ConstructNotarize}
 use Rattle.simplex_laws.specs.Deeds.{Deed, Signs, signed_in}
@@ -42,9 +42,14 @@ module _ {K L D : Type 0} (same : D → D → Bool) (elect : Elect L) where
   ExactAt (Some x) (Works (ConstructNotarize v)) told = IsExact (NotarizeRule same elect x v) x.me (option_map subject.Notarize (held x v)) told
   ExactAt (Some x) _ told = signed_in told ≡ []
 
-  -- so it is at each step, of the member that the steps before it lead to
+  -- so it is at each step of a run, of the very member that the steps before it left
+  abbrev pub RunsExactly : MemberFacts K L D → List (StepFacts K L D) → List (Told K D) → Type 0
+  RunsExactly m [] [] = ⊤
+  RunsExactly m [] (told ∷ replies) = ⊥
+  RunsExactly m (step ∷ steps) [] = ⊥
+  RunsExactly m (step ∷ steps) (told ∷ replies) =
+      ExactAt m.life step told × ((next : MemberFacts K L D) × IsStep same elect m step told next × RunsExactly next steps replies)
+
+  -- so it is from the start on
   abbrev pub SignsExactly : Story K L D → Type 0
-  SignsExactly s =
-      (before after : List (StepFacts K L D)) (step : StepFacts K L D) (heard rest : List (Told K D)) (told : Told K D)
-      → s.steps ≡ before ++ step ∷ after → s.replies ≡ heard ++ told ∷ rest → length before ≡ length heard
-      → (m : MemberFacts K L D) × IsRun same elect (started same elect s.start.fresh s.start.floor s.start.now) before heard m × ExactAt m.life step told
+  SignsExactly s = RunsExactly (started same elect s.start.fresh s.start.floor s.start.now) s.steps s.replies

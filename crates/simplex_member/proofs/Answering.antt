@@ -10,7 +10,7 @@ use Rattle.simplex_voter.specs.Refusals.{is_started}
 use Rattle.simplex_voter.specs.Certification.{takes_certify_handle}
 use Rattle.simplex_member.specs.declared.member.calls.Call.{Call}
 use Rattle.simplex_member.specs.declared.member.calls.Call.TheVariants as call
-use Rattle.simplex_member.specs.Calls.{AddNotarization, AddNullification, AddFinalization, Certified, ConstructNullify, ConstructFinalize, BroadcastNotarization, BroadcastNullification, BroadcastFinalization, GetBestCertificate, Prune, Told, Refused, NotAllowed, may_fall}
+use Rattle.simplex_member.specs.Calls.{AddNotarization, AddNullification, AddFinalization, Certified, ConstructNullify, ConstructFinalize, BroadcastNotarization, BroadcastNullification, BroadcastFinalization, GetBestCertificate, Prune, Told, Refused, NotAllowed, may_fall, may_want}
 use Rattle.simplex_member.specs.Lives.{MemberFacts, fallen, IsCall}
 use Rattle.simplex_member.specs.declared.member.serving.Family.TheVariants as family
 use Rattle.simplex_member.specs.Openings.{Openings, no_openings, is_offered}
@@ -20,6 +20,10 @@ use Rattle.simplex_member.specs.Runs.{StepFacts, Calls, Works, Restarts, asked, 
 use Rattle.simplex_member.specs.Made.{is_restart, is_permitted, is_ready, due_fault, wants_memory, loses_state, answer_to, after_asked, recorded_for, openings_left, opens, family_of, IsWant, IsLoss, closing_of, left_open, now_open}
 use Rattle.simplex_member.proofs.Going.{Goes, goes, stays}
 use Rattle.simplex_member.proofs.Working.{work_goes}
+
+and_left : (a b : Bool) → (a && b) ≡ true → a ≡ true
+and_left true b is = refl
+and_left false b is = absurd (false≢true is)
 
 and_right : (a b : Bool) → (a && b) ≡ true → b ≡ true
 and_right true b is = is
@@ -56,10 +60,10 @@ module _ {K L D : Type 0} (same : D → D → Bool) (elect : Elect L) (x : Facts
   asked_goes_on o step y is going started = rw is ((asked_goes o step).failed ∙ going, (asked_goes o step).started started)
 
   -- what an answer opens is opened by a call that may find no memory
-  pub opening_loses : (o : Openings K D) (step : StepFacts K L D) (told : Told K D) → told ≡ answer_to same elect x o step → opens told ≡ true → (wants_memory step ≡ true) × (loses_state step ≡ true) × (recorded_for same elect x step ≡ [])
+  pub opening_loses : (o : Openings K D) (step : StepFacts K L D) (told : Told K D) → told ≡ answer_to same elect x o step → opens told ≡ true → (wants_memory x step ≡ true) × (loses_state x step ≡ true) × (recorded_for same elect x step ≡ [])
   opening_loses o step told is opening = by_step step (ap opens (sym is) ∙ opening)
     where
-      by_step : (s : StepFacts K L D) → opens (answer_to same elect x o s) ≡ true → (wants_memory s ≡ true) × (loses_state s ≡ true) × (recorded_for same elect x s ≡ [])
+      by_step : (s : StepFacts K L D) → opens (answer_to same elect x o s) ≡ true → (wants_memory x s ≡ true) × (loses_state x s ≡ true) × (recorded_for same elect x s ≡ [])
       by_step (Calls (AddNotarization c)) h = absurd (false≢true h)
       by_step (Calls (AddNullification c now)) h = absurd (false≢true h)
       by_step (Calls (AddFinalization c now)) h = absurd (false≢true h)
@@ -186,18 +190,19 @@ call_no_restart L bytes_of (call.NextTimeout now) = refl
 call_no_restart L bytes_of call.Prune = refl
 
 -- the state is lost only by a call that may find no memory
-pub losing : {K L D : Type 0} (step : StepFacts K L D) (due : Option Fault) → IsLoss (loses_state step) due → (due ≡ None) × (wants_memory step ≡ true) × (loses_state step ≡ true)
-losing (Calls call) due is = by_loss (may_fall call) is
+pub losing : {K L D : Type 0} (x : Facts K L D) (step : StepFacts K L D) (due : Option Fault) → IsLoss (loses_state x step) due → (due ≡ None) × (wants_memory x step ≡ true) × (loses_state x step ≡ true)
+losing x (Calls call) due is = by_loss (may_fall call) (may_want x call) is
   where
-    by_loss : (b : Bool) → IsLoss b due → (due ≡ None) × (true ≡ true) × (b ≡ true)
-    by_loss true lost = (lost, refl, refl)
-    by_loss false lost = absurd lost
-losing (Works call) due is = by_loss (takes_memory call) is
+    by_loss : (falls wants : Bool) → IsLoss (falls && wants) due → (due ≡ None) × (wants ≡ true) × (falls && wants ≡ true)
+    by_loss true true lost = (lost, refl, refl)
+    by_loss true false lost = absurd lost
+    by_loss false wants lost = absurd lost
+losing x (Works call) due is = by_loss (takes_memory call) is
   where
     by_loss : (b : Bool) → IsLoss b due → (due ≡ None) × (b ≡ true) × (b ≡ true)
     by_loss true lost = (lost, refl, refl)
     by_loss false lost = absurd lost
-losing (Restarts r) due is = absurd is
+losing x (Restarts r) due is = absurd is
 
 -- what a result says that is an error, or none
 pub err_says : (b : Bool) (r : Result (Unit {0}) Fault) → is_err r ≡ true → IfErr r (λ f. (f ≡ fault.OutOfMemory) × (b ≡ true)) → b ≡ true
@@ -233,10 +238,14 @@ module _ {K L D : Type 0} (same : D → D → Bool) (elect : Elect L) (m : Membe
     answered_step (Restarts r) told y p entries allowed no_fault answer after open_now recorded = absurd (false≢true allowed)
 
     -- a fault that was due, or want of memory, with nothing changed
-    pub refused_step : (step : StepFacts K L D) (found : Fault) → is_permitted x m.openings step ≡ true → (due_fault x step ≡ Some found) ⊎ IsWant (wants_memory step) found → IsStep same elect m step (Refused found) m
+    pub refused_step : (step : StepFacts K L D) (found : Fault) → is_permitted x m.openings step ≡ true → (due_fault x step ≡ Some found) ⊎ IsWant (wants_memory x step) found → IsStep same elect m step (Refused found) m
     unfolding IsCall IsWork
     refused_step (Calls call) found allowed (inl due) = rw (alive, allowed, due) (inl (refl, refl))
-    refused_step (Calls call) found allowed (inr want) = rw alive (inr (allowed, ap Refused want, inl refl))
+    refused_step (Calls call) found allowed (inr want) = wanting (may_want x call) refl want
+      where
+        wanting : (b : Bool) → may_want x call ≡ b → IsWant b found → IsStep same elect m (Calls call) (Refused found) m
+        wanting true wants memory = rw alive (inr (rw (wants, allowed) refl, ap Refused memory, inl refl))
+        wanting false wants memory = absurd memory
     refused_step (Works call) found allowed (inl due) = rw (alive, allowed, due) (inl (refl, refl))
     refused_step (Works call) found allowed (inr want) = wanting (takes_memory call) refl want
       where
@@ -246,8 +255,8 @@ module _ {K L D : Type 0} (same : D → D → Bool) (elect : Elect L) (m : Membe
     refused_step (Restarts r) found allowed due = absurd (false≢true allowed)
 
     -- the state is lost for want of memory
-    pub lost_step : (step : StepFacts K L D) → is_permitted x m.openings step ≡ true → due_fault x step ≡ None → wants_memory step ≡ true → loses_state step ≡ true → IsStep same elect m step (Refused fault.OutOfMemory) (fallen m)
+    pub lost_step : (step : StepFacts K L D) → is_permitted x m.openings step ≡ true → due_fault x step ≡ None → wants_memory x step ≡ true → loses_state x step ≡ true → IsStep same elect m step (Refused fault.OutOfMemory) (fallen m)
     unfolding IsCall IsWork
-    lost_step (Calls call) allowed no_fault wants loses = rw alive (inr (allowed, refl, inr (no_fault, loses, refl)))
+    lost_step (Calls call) allowed no_fault wants loses = rw alive (inr (rw (wants, allowed) refl, refl, inr (no_fault, and_left (may_fall call) (may_want x call) loses, refl)))
     lost_step (Works call) allowed no_fault wants loses = rw alive (inr (rw (wants, allowed) refl, refl, inr (no_fault, refl)))
     lost_step (Restarts r) allowed no_fault wants loses = absurd (false≢true allowed)

@@ -1,5 +1,5 @@
 -- What is asked of a member and what it answers, as plain data, and what a call makes of its state and its record.
-use Rattle.std.specs.Prelude.{ℕ, Bool, true, false, if◌then◌else◌, List, [], ◌∷◌, Option, Some, None, option_map, option_and_then}
+use Rattle.std.specs.Prelude.{ℕ, Bool, true, false, if◌then◌else◌, List, [], ◌∷◌, Option, Some, None, is_some, option_map, option_and_then}
 use Rattle.simplex_types.specs.Certificates.{ProposalFacts, NullificationFacts, CertificateFacts, Notarized, Nullified, Finalized, ArtifactFacts, NotarizeVote, NullifyVote, FinalizeVote, Verdict, Accepted, notarization_facts, certificate_facts}
 use Rattle.simplex_types.specs.declared.types.fault.Fault.{Fault}
 use Rattle.simplex_types.specs.declared.types.messages.Nullify as vote
@@ -110,6 +110,14 @@ module _ {K L D : Type 0} where
 abbrev pub may_fall : {D : Type 0} → CallFacts D → Bool
 may_fall GetBestCertificate = false
 may_fall _ = true
+
+module _ {K L D : Type 0} where
+  -- a growth or a copy may be refused: a broadcast of nothing makes none
+  abbrev pub may_want : Facts K L D → CallFacts D → Bool
+  may_want x (BroadcastNotarization v) = is_some (broadcast_notarization_answer x v)
+  may_want x (BroadcastNullification v) = is_some (broadcast_nullification_answer x v)
+  may_want x (BroadcastFinalization v) = is_some (broadcast_finalization_answer x v)
+  may_want x _ = true
 
 module _ {K L D : Type 0} where
   -- the vote to nullify a view that is answered, with whether it is a repeat

@@ -1,11 +1,11 @@
 -- What is known of a member, and what a call makes of it.
-use Rattle.std.specs.Prelude.{ℕ, Bool, true, ◌≡◌, ◌⊎◌, if◌then◌else◌, List, ◌++◌, Option, Some, None}
+use Rattle.std.specs.Prelude.{ℕ, Bool, true, ◌&&◌, ◌≡◌, ◌⊎◌, if◌then◌else◌, List, ◌++◌, Option, Some, None}
 use Rattle.simplex_types.specs.Certificates.{ArtifactFacts}
 use Rattle.simplex_types.specs.declared.types.fault.Fault.{Fault}
 use Rattle.simplex_types.specs.declared.types.fault.Fault.TheVariants as fault
 use Rattle.simplex_voter.specs.Facts.{Facts, Elect}
 use Rattle.simplex_member.specs.Openings.{Openings, no_openings, without_offer}
-use Rattle.simplex_member.specs.Calls.{CallFacts, Certified, Told, Refused, NotAllowed, is_allowed, fault_of, may_fall, answer, after_call, recorded_by}
+use Rattle.simplex_member.specs.Calls.{CallFacts, Certified, Told, Refused, NotAllowed, is_allowed, fault_of, may_fall, may_want, answer, after_call, recorded_by}
 
 pub record MemberFacts (K L D : Type 0) : Type 0 where
   -- what its state knows; none while the member has failed
@@ -72,7 +72,7 @@ module _ {K L D : Type 0} (same : D → D → Bool) (elect : Elect L) where
   abbrev pub Answers : Facts K L D → MemberFacts K L D → CallFacts D → Told K D → MemberFacts K L D → Type 0
   Answers x m call told left =
       ((told ≡ reply_of x call) × (left ≡ left_of x m call))
-      ⊎ ((is_allowed x call ≡ true) × (told ≡ Refused fault.OutOfMemory)
+      ⊎ ((may_want x call && is_allowed x call ≡ true) × (told ≡ Refused fault.OutOfMemory)
       × ((left ≡ m) ⊎ ((fault_of x call ≡ None) × (may_fall call ≡ true) × (left ≡ fallen m))))
 
   abbrev pub AnswersAlive : Option (Facts K L D) → MemberFacts K L D → CallFacts D → Told K D → MemberFacts K L D → Type 0

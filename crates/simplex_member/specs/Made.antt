@@ -1,6 +1,6 @@
 -- The parts of a call: what either kind of call asks and makes, the families of calls, how a part ends without an answer, and
 -- what is opened and closed. No public clause names this.
-use Rattle.std.specs.Prelude.{◌≡◌, ◌⊎◌, Bool, true, false, if◌then◌else◌, List, [], Option, Some, None}
+use Rattle.std.specs.Prelude.{◌≡◌, ◌⊎◌, Bool, true, false, ◌&&◌, if◌then◌else◌, List, [], Option, Some, None}
 use Rattle.simplex_types.specs.Certificates.{ArtifactFacts}
 use Rattle.simplex_types.specs.declared.types.fault.Fault.{Fault}
 use Rattle.simplex_types.specs.declared.types.fault.Fault.TheVariants.{OutOfMemory}
@@ -10,7 +10,7 @@ use Rattle.simplex_voter.specs.Timeouts.{has_timeout}
 use Rattle.simplex_voter.specs.Verifying.{takes_proposal}
 use Rattle.simplex_member.specs.Openings.{Openings, no_openings, without_context, with_request, without_verification, with_verification, without_offer, with_offers}
 use Rattle.simplex_member.specs.Work.{SetProposal, SetCertifyHandle, NextTimeout, work_allowed, work_fault, work_answer, after_work, recorded_by_work, openings_after, takes_memory}
-use Rattle.simplex_member.specs.Calls.{Told, Answered, Requested, Standing, Candidates, Restarted, is_allowed, fault_of, may_fall, answer, after_call, recorded_by}
+use Rattle.simplex_member.specs.Calls.{Told, Answered, Requested, Standing, Candidates, Restarted, is_allowed, fault_of, may_fall, may_want, answer, after_call, recorded_by}
 use Rattle.simplex_member.specs.Lives.{closed_by}
 use Rattle.simplex_member.specs.Runs.{StepFacts, Calls, Works, Restarts}
 use Rattle.simplex_member.specs.declared.member.calls.Call.{Call}
@@ -26,12 +26,6 @@ use Rattle.simplex_member.specs.declared.member.call_error.CallError.TheVariants
 abbrev pub call_error : Fault → CallError
 call_error OutOfMemory = Lost
 call_error fault = Refused fault
-
-module _ {K L D : Type 0} where
-  -- refused for the fault that was due or for want of memory, with all as it was; or lost, where no fault was due
-  abbrev pub EndsBy : Option Fault → Facts K L D → Facts K L D → CallError → Type 0
-  EndsBy due x y (Refused fault) = ((due ≡ Some fault) ⊎ (fault ≡ OutOfMemory)) × (y ≡ x)
-  EndsBy due x y Lost = due ≡ None
 
 module _ {K L D : Type 0} where
   -- what is asked by a call, told, made and recorded, of either kind of call; a restart is no call
@@ -59,15 +53,15 @@ module _ {K L D : Type 0} where
   is_restart _ = false
 
   -- whether it may find no memory, and whether the state may be lost then
-  abbrev pub wants_memory : StepFacts K L D → Bool
-  wants_memory (Calls call) = true
-  wants_memory (Works call) = takes_memory call
-  wants_memory (Restarts _) = false
+  abbrev pub wants_memory : Facts K L D → StepFacts K L D → Bool
+  wants_memory x (Calls call) = may_want x call
+  wants_memory x (Works call) = takes_memory call
+  wants_memory x (Restarts _) = false
 
-  abbrev pub loses_state : StepFacts K L D → Bool
-  loses_state (Calls call) = may_fall call
-  loses_state (Works call) = takes_memory call
-  loses_state (Restarts _) = false
+  abbrev pub loses_state : Facts K L D → StepFacts K L D → Bool
+  loses_state x (Calls call) = may_fall call && may_want x call
+  loses_state x (Works call) = takes_memory call
+  loses_state x (Restarts _) = false
 
 module _ {K L D : Type 0} (same : D → D → Bool) (elect : Elect L) where
   abbrev pub answer_to : Facts K L D → Openings K D → StepFacts K L D → Told K D
@@ -101,10 +95,17 @@ IsLoss true due = due ≡ None
 IsLoss false due = ⊥
 
 module _ {K L D : Type 0} where
-  -- a call is refused for the fault that was due or for want of memory, with all as it was; or the state is lost
+  -- refused for the fault that was due or, where it may want memory, for that, with all as it was; or the state is lost,
+  -- where it may be and no fault was due
+  abbrev pub Ends : (wants loses : Bool) → Option Fault → Facts K L D → Facts K L D → CallError → Type 0
+  Ends wants loses due x y (Refused fault) = ((due ≡ Some fault) ⊎ IsWant wants fault) × (y ≡ x)
+  Ends wants loses due x y Lost = IsLoss loses due
+
+  abbrev pub EndsBy : Option Fault → Facts K L D → Facts K L D → CallError → Type 0
+  EndsBy due x y error = Ends true true due x y error
+
   abbrev pub EndsCall : StepFacts K L D → Facts K L D → Facts K L D → CallError → Type 0
-  EndsCall step x y (Refused fault) = ((due_fault x step ≡ Some fault) ⊎ IsWant (wants_memory step) fault) × (y ≡ x)
-  EndsCall step x y Lost = IsLoss (loses_state step) (due_fault x step)
+  EndsCall step x y error = Ends (wants_memory x step) (loses_state x step) (due_fault x step) x y error
 
 module _ {S D K G C : Type 0} where
   -- the families of calls

@@ -5,13 +5,9 @@ use Rattle.std.specs.Option.{option_or, option_map_or}
 use Rattle.simplex_types.specs.Terms.{covers}
 use Rattle.simplex_types.specs.Certificates.{ProposalFacts, NullificationFacts, CertificateFacts, Notarized, Nullified, Finalized}
 use Rattle.simplex_types.specs.declared.types.messages.Proposal.{Proposal}
-use Rattle.simplex_round.specs.Round.{forwardable, start_of, elapsed, token_of, is_aborted}
+use Rattle.simplex_round.specs.Round.{once, forwardable, start_of, elapsed, token_of, is_aborted}
 use Rattle.simplex_voter.specs.Facts.{Facts, round_at, round_of, with_tracked}
 use Rattle.simplex_voter.specs.Windows.{is_start, min_active}
-
--- unless it was handed out
-abbrev pub once : {C : Type 0} → Bool → Option C → Option C
-once sent certificate = if sent then None else certificate
 
 module _ {K L D : Type 0} where
   -- the plain getters, of a view that is tracked

@@ -11,14 +11,13 @@ use simplex_types::types::{Digest, Elector, Scheme};
 /// Agreement of a network of members, and the laws of votes that it rests on: for every list of calls and restarts of every
 /// honest member, over payloads `D` and terms of any length but 0. It does nothing: its contract is the law.
 ///
-/// What a member does is its story: a start, then calls, calls on the work of a view, and restarts in whatever order, each
-/// with its reply, as the member's definitions have them. (The calls to build and verify proposals and to vote to notarize
-/// have definitions, but no code yet.) Its deeds are the certificates that it accepted and the votes that it signed, over all
-/// its lives. `Ran`: in each life it signs as one member of the network, `i`, or not at all, and terms have one length.
+/// What a member does is its story: a start, then calls and restarts in whatever order, each with its reply, as `run` gives
+/// them. Its deeds are the certificates that it accepted and the votes that it signed, over all its lives. `Ran`: in each life
+/// it signs as one member of the network, `i`, or not at all, and terms have one length.
 ///
 /// - `exact`: a vote is signed exactly where its rule allows. It is told on request alone, only where its rule holds of what
-///   the state knows then, with the member's key, on the view's round or the proposal that is held; and where the rule holds
-///   and there is a key it is told, unless the call is refused.
+///   the state that the steps before left knows, with the member's key, on the view's round or the proposal that is held; and
+///   where the rule holds and there is a key it is told, unless the call is refused.
 /// - `lawful`: the deeds keep the voting rules, `IsLawful`, over all lives.
 ///
 /// The premises of the other claims, `IsNetworkOf`: of n members at most f = (n - 1) / 3 are faulty, or else fewer than

@@ -1,11 +1,11 @@
 //! The calls of a member that hand out certificates or drop views, over its state.
 
-ghost use Rattle.std.specs.Prelude.{◌≡◌, [], None, Bool, true, false, IfOk, IfErr, OnOk, option_map};
+ghost use Rattle.std.specs.Prelude.{◌≡◌, [], None, Bool, true, false, IfOk, IfErr, OnOk, is_some, option_map};
 ghost use Rattle.simplex_types.specs.Certificates.{certificate_facts, Notarized, Nullified, Finalized};
 ghost use Rattle.simplex_voter.specs.Refusals.{plain_refusal, is_started};
 ghost use Rattle.simplex_voter.specs.Serving.{broadcast_notarization_answer, after_broadcast_notarization, broadcast_nullification_answer, after_broadcast_nullification, broadcast_finalization_answer, after_broadcast_finalization};
 ghost use Rattle.simplex_member.specs.Calls.{told};
-ghost use Rattle.simplex_member.specs.Made.{EndsBy, is_ready, due_fault, answer_to, after_asked, recorded_for, family_of, EndsCall};
+ghost use Rattle.simplex_member.specs.Made.{Ends, is_ready, due_fault, answer_to, after_asked, recorded_for, family_of, EndsCall};
 ghost use Rattle.simplex_member.specs.Openings.{no_openings};
 ghost use Rattle.simplex_member.specs.Runs.{asked};
 ghost use Rattle.simplex_member.specs.Signed.{is_vote_reply};
@@ -67,7 +67,8 @@ fn broadcast_notarization<S: CertificateScheme, L: Elector<S>, D: Digest>(
     ensures answer { IfOk result (λ c. option_map (certificate_facts S.certificate_bytes) c
         ≡ option_map Notarized (broadcast_notarization_answer state.old view)) }
     ensures after { OnOk result (state.new ≡ after_broadcast_notarization state.old view) }
-    ensures refused { IfErr result (EndsBy (plain_refusal state.old) state.old state.new) }
+    ensures refused { IfErr result (Ends (is_some (broadcast_notarization_answer state.old view)) (is_some (broadcast_notarization_answer state.old view))
+        (plain_refusal state.old) state.old state.new) }
 {
     let notarization = state.broadcast_notarization(view).map_err(CallError::of)?;
     match notarization {
@@ -86,7 +87,8 @@ fn broadcast_nullification<S: CertificateScheme, L: Elector<S>, D: Digest>(
     ensures answer { IfOk result (λ c. option_map (certificate_facts S.certificate_bytes) c
         ≡ option_map Nullified (broadcast_nullification_answer state.old view)) }
     ensures after { OnOk result (state.new ≡ after_broadcast_nullification state.old view) }
-    ensures refused { IfErr result (EndsBy (plain_refusal state.old) state.old state.new) }
+    ensures refused { IfErr result (Ends (is_some (broadcast_nullification_answer state.old view)) (is_some (broadcast_nullification_answer state.old view))
+        (plain_refusal state.old) state.old state.new) }
 {
     let nullification = state.broadcast_nullification(view).map_err(CallError::of)?;
     match nullification {
@@ -105,7 +107,8 @@ fn broadcast_finalization<S: CertificateScheme, L: Elector<S>, D: Digest>(
     ensures answer { IfOk result (λ c. option_map (certificate_facts S.certificate_bytes) c
         ≡ option_map Finalized (broadcast_finalization_answer state.old view)) }
     ensures after { OnOk result (state.new ≡ after_broadcast_finalization state.old view) }
-    ensures refused { IfErr result (EndsBy (plain_refusal state.old) state.old state.new) }
+    ensures refused { IfErr result (Ends (is_some (broadcast_finalization_answer state.old view)) (is_some (broadcast_finalization_answer state.old view))
+        (plain_refusal state.old) state.old state.new) }
 {
     let finalization = state.broadcast_finalization(view).map_err(CallError::of)?;
     match finalization {

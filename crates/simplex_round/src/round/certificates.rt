@@ -1,10 +1,10 @@
 //! The certificates of a view: at most one of a kind is kept, and each is handed out once.
 
-ghost use Rattle.std.specs.Prelude.{◌≡◌, ◌||◌, IfOk, OnOk, OnErr, IsOkUnless, Some, None, true, false, not, is_some, option_map, if◌then◌else◌};
+ghost use Rattle.std.specs.Prelude.{◌≡◌, ◌||◌, IfOk, OnOk, OnErr, IsOkUnless, Some, true, false, None, not, is_some, option_map, if◌then◌else◌};
 ghost use Rattle.std.specs.Option.{option_copied};
 ghost use Rattle.simplex_types.specs.Proposal.{same_proposal};
 ghost use Rattle.simplex_types.specs.Certificates.{notarization_facts, nullification_facts, finalization_facts};
-ghost use Rattle.simplex_round.specs.Round.{certificate_payload, equivocator, forwardable, with_finalization, with_notarization, with_nullification, with_recovered};
+ghost use Rattle.simplex_round.specs.Round.{certificate_payload, equivocator, forwardable, once, with_finalization, with_notarization, with_nullification, with_recovered};
 
 use super::{Certification, Round};
 use crate::slot::Change;
@@ -109,15 +109,16 @@ impl<S: CertificateScheme, D: Digest> Round<S, D> {
     }
 
     /// A copy of the notarization to send to others, once. None where there is none or it was
-    /// handed out before. Only want of memory is refused, and then nothing has changed.
+    /// handed out before. Only want of memory for the copy is refused, and then nothing has changed.
     pub fn broadcast_notarization(
         &mut self,
         alloc: Global,
     ) -> Result<Option<Notarization<S, D>>, Fault>
         ensures refused { IsOkUnless result Fault.OutOfMemory }
+        ensures refused_only_a_copy { OnErr result (is_some (once self.old.notarization_broadcast self.old.notarization) ≡ true) }
         ensures unchanged { OnErr result (self.new ≡ self.old) }
         ensures answer { IfOk result (λ c. option_map (notarization_facts S.certificate_bytes) c
-            ≡ (if self.old.notarization_broadcast then None else self.old.notarization)) }
+            ≡ once self.old.notarization_broadcast self.old.notarization) }
         ensures facts { OnOk result (self.new ≡ record self.old { notarization_broadcast = self.old.notarization_broadcast || is_some self.old.notarization }) }
     {
         if self.notarization_broadcast {
@@ -137,9 +138,10 @@ impl<S: CertificateScheme, D: Digest> Round<S, D> {
         alloc: Global,
     ) -> Result<Option<Nullification<S>>, Fault>
         ensures refused { IsOkUnless result Fault.OutOfMemory }
+        ensures refused_only_a_copy { OnErr result (is_some (once self.old.nullification_broadcast self.old.nullification) ≡ true) }
         ensures unchanged { OnErr result (self.new ≡ self.old) }
         ensures answer { IfOk result (λ c. option_map (nullification_facts S.certificate_bytes) c
-            ≡ (if self.old.nullification_broadcast then None else self.old.nullification)) }
+            ≡ once self.old.nullification_broadcast self.old.nullification) }
         ensures facts { OnOk result (self.new ≡ record self.old {
           nullification_broadcast = self.old.nullification_broadcast || is_some self.old.nullification;
         }) }
@@ -161,9 +163,10 @@ impl<S: CertificateScheme, D: Digest> Round<S, D> {
         alloc: Global,
     ) -> Result<Option<Finalization<S, D>>, Fault>
         ensures refused { IsOkUnless result Fault.OutOfMemory }
+        ensures refused_only_a_copy { OnErr result (is_some (once self.old.finalization_broadcast self.old.finalization) ≡ true) }
         ensures unchanged { OnErr result (self.new ≡ self.old) }
         ensures answer { IfOk result (λ c. option_map (finalization_facts S.certificate_bytes) c
-            ≡ (if self.old.finalization_broadcast then None else self.old.finalization)) }
+            ≡ once self.old.finalization_broadcast self.old.finalization) }
         ensures facts { OnOk result (self.new ≡ record self.old { finalization_broadcast = self.old.finalization_broadcast || is_some self.old.finalization }) }
     {
         if self.finalization_broadcast {

@@ -1,6 +1,6 @@
 //! Certificates that are handed out to be broadcast, each once.
 
-ghost use Rattle.std.specs.Prelude.{◌≡◌, IfSome, IfOk, IfErr, OnOk, Err, None, true, option_map};
+ghost use Rattle.std.specs.Prelude.{◌≡◌, IfSome, IfOk, IfErr, OnOk, OnErr, Err, None, true, is_some, option_map};
 ghost use Rattle.simplex_types.specs.Certificates.{notarization_facts, nullification_facts, finalization_facts};
 ghost use Rattle.simplex_types.specs.declared.types.fault.Fault.TheVariants.{OutOfMemory};
 
@@ -16,7 +16,7 @@ impl<S: CertificateScheme, L: Elector<S>, D: Digest> State<S, L, D> {
 
     /// Hands out the notarization of a tracked view, if it is there and was not handed out or replayed before.
     ///
-    /// The state has a floor.
+    /// The state has a floor. Memory is taken for a copy alone, so nothing that is not handed out finds none.
     pub fn broadcast_notarization(
         &mut self,
         view: View,
@@ -26,6 +26,7 @@ impl<S: CertificateScheme, L: Elector<S>, D: Digest> State<S, L, D> {
         ensures answer { IfOk result (λ c. option_map (notarization_facts S.certificate_bytes) c ≡ broadcast_notarization_answer self.old view) }
         ensures after { OnOk result (self.new ≡ after_broadcast_notarization self.old view) }
         ensures out_of_memory { plain_refusal self.old ≡ None → IfErr result (λ fault. (fault ≡ OutOfMemory) × HasFailed self.old self.new) }
+        ensures refused_only_a_copy { plain_refusal self.old ≡ None → OnErr result (is_some (broadcast_notarization_answer self.old view) ≡ true) }
     {
         if self.is_failed() {
             return Err(Fault::Failed);
@@ -43,6 +44,7 @@ impl<S: CertificateScheme, L: Elector<S>, D: Digest> State<S, L, D> {
         ensures answer { IfOk result (λ c. option_map (notarization_facts S.certificate_bytes) c ≡ broadcast_notarization_answer self.old view) }
         ensures handed_out { OnOk result (self.new ≡ after_broadcast_notarization self.old view) }
         ensures refused { IfErr result (λ fault. fault ≡ OutOfMemory) }
+        ensures refused_only_a_copy { OnErr result (is_some (broadcast_notarization_answer self.old view) ≡ true) }
         ensures setup { HasSameSetup self.old self.new }
     {
         self.rounds.hand_out_notarization(view)
@@ -50,13 +52,14 @@ impl<S: CertificateScheme, L: Elector<S>, D: Digest> State<S, L, D> {
 
     /// Hands out the nullification of a tracked view, if it is there and was not handed out or replayed before.
     ///
-    /// The state has a floor.
+    /// The state has a floor. Memory is taken for a copy alone, so nothing that is not handed out finds none.
     pub fn broadcast_nullification(&mut self, view: View) -> Result<Option<Nullification<S>>, Fault>
         requires { is_started self.old ≡ true }
         ensures refused { IfSome (plain_refusal self.old) (λ fault. (result ≡ Err fault) × (self.new ≡ self.old)) }
         ensures answer { IfOk result (λ c. option_map (nullification_facts S.certificate_bytes) c ≡ broadcast_nullification_answer self.old view) }
         ensures after { OnOk result (self.new ≡ after_broadcast_nullification self.old view) }
         ensures out_of_memory { plain_refusal self.old ≡ None → IfErr result (λ fault. (fault ≡ OutOfMemory) × HasFailed self.old self.new) }
+        ensures refused_only_a_copy { plain_refusal self.old ≡ None → OnErr result (is_some (broadcast_nullification_answer self.old view) ≡ true) }
     {
         if self.is_failed() {
             return Err(Fault::Failed);
@@ -74,6 +77,7 @@ impl<S: CertificateScheme, L: Elector<S>, D: Digest> State<S, L, D> {
         ensures answer { IfOk result (λ c. option_map (nullification_facts S.certificate_bytes) c ≡ broadcast_nullification_answer self.old view) }
         ensures handed_out { OnOk result (self.new ≡ after_broadcast_nullification self.old view) }
         ensures refused { IfErr result (λ fault. fault ≡ OutOfMemory) }
+        ensures refused_only_a_copy { OnErr result (is_some (broadcast_nullification_answer self.old view) ≡ true) }
         ensures setup { HasSameSetup self.old self.new }
     {
         self.rounds.hand_out_nullification(view)
@@ -81,7 +85,7 @@ impl<S: CertificateScheme, L: Elector<S>, D: Digest> State<S, L, D> {
 
     /// Hands out the finalization of a tracked view, if it is there and was not handed out or replayed before.
     ///
-    /// The state has a floor.
+    /// The state has a floor. Memory is taken for a copy alone, so nothing that is not handed out finds none.
     pub fn broadcast_finalization(
         &mut self,
         view: View,
@@ -91,6 +95,7 @@ impl<S: CertificateScheme, L: Elector<S>, D: Digest> State<S, L, D> {
         ensures answer { IfOk result (λ c. option_map (finalization_facts S.certificate_bytes) c ≡ broadcast_finalization_answer self.old view) }
         ensures after { OnOk result (self.new ≡ after_broadcast_finalization self.old view) }
         ensures out_of_memory { plain_refusal self.old ≡ None → IfErr result (λ fault. (fault ≡ OutOfMemory) × HasFailed self.old self.new) }
+        ensures refused_only_a_copy { plain_refusal self.old ≡ None → OnErr result (is_some (broadcast_finalization_answer self.old view) ≡ true) }
     {
         if self.is_failed() {
             return Err(Fault::Failed);
@@ -108,6 +113,7 @@ impl<S: CertificateScheme, L: Elector<S>, D: Digest> State<S, L, D> {
         ensures answer { IfOk result (λ c. option_map (finalization_facts S.certificate_bytes) c ≡ broadcast_finalization_answer self.old view) }
         ensures handed_out { OnOk result (self.new ≡ after_broadcast_finalization self.old view) }
         ensures refused { IfErr result (λ fault. fault ≡ OutOfMemory) }
+        ensures refused_only_a_copy { OnErr result (is_some (broadcast_finalization_answer self.old view) ≡ true) }
         ensures setup { HasSameSetup self.old self.new }
     {
         self.rounds.hand_out_finalization(view)

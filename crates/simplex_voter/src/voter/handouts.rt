@@ -1,6 +1,6 @@
 //! Certificates as the rounds of tracked views hand them out, each once. Where a view isn't tracked, nothing changes.
 
-ghost use Rattle.std.specs.Prelude.{◌≡◌, ◌||◌, IfErr, IfOk, OnOk, is_some, option_map, option_and_then};
+ghost use Rattle.std.specs.Prelude.{◌≡◌, ◌||◌, IfErr, IfOk, OnOk, OnErr, true, is_some, option_map, option_and_then};
 ghost use Rattle.simplex_types.specs.Certificates.{notarization_facts, nullification_facts, finalization_facts};
 ghost use Rattle.simplex_types.specs.declared.types.fault.Fault.TheVariants.{OutOfMemory};
 
@@ -11,7 +11,7 @@ use simplex_types::types::{
 
 impl<S: CertificateScheme, D: Digest> Rounds<S, D> {
     ghost use Rattle.simplex_voter.specs.Rounds.{round_at, changed_in_place, HasSameOrigin};
-    ghost use Rattle.simplex_voter.specs.Serving.{once};
+    ghost use Rattle.simplex_round.specs.Round.{once};
 
     /// Hands out the notarization of a view, once.
     pub fn hand_out_notarization(&mut self, view: View) -> Result<Option<Notarization<S, D>>, Fault>
@@ -21,6 +21,8 @@ impl<S: CertificateScheme, D: Digest> Rounds<S, D> {
         ensures handed_out { OnOk result (self.new ≡ changed_in_place self.old view (λ r.
             record r { notarization_broadcast = r.notarization_broadcast || is_some r.notarization })) }
         ensures refused { IfErr result (λ fault. fault ≡ OutOfMemory) }
+        ensures refused_only_a_copy { OnErr result (is_some
+            (option_and_then (λ r. once r.notarization_broadcast r.notarization) (round_at self.old view)) ≡ true) }
         ensures origin { HasSameOrigin self.old self.new }
     {
         let Some(round) = self.by_view.get_mut(view) else {
@@ -37,6 +39,8 @@ impl<S: CertificateScheme, D: Digest> Rounds<S, D> {
         ensures handed_out { OnOk result (self.new ≡ changed_in_place self.old view (λ r.
             record r { nullification_broadcast = r.nullification_broadcast || is_some r.nullification })) }
         ensures refused { IfErr result (λ fault. fault ≡ OutOfMemory) }
+        ensures refused_only_a_copy { OnErr result (is_some
+            (option_and_then (λ r. once r.nullification_broadcast r.nullification) (round_at self.old view)) ≡ true) }
         ensures origin { HasSameOrigin self.old self.new }
     {
         let Some(round) = self.by_view.get_mut(view) else {
@@ -53,6 +57,8 @@ impl<S: CertificateScheme, D: Digest> Rounds<S, D> {
         ensures handed_out { OnOk result (self.new ≡ changed_in_place self.old view (λ r.
             record r { finalization_broadcast = r.finalization_broadcast || is_some r.finalization })) }
         ensures refused { IfErr result (λ fault. fault ≡ OutOfMemory) }
+        ensures refused_only_a_copy { OnErr result (is_some
+            (option_and_then (λ r. once r.finalization_broadcast r.finalization) (round_at self.old view)) ≡ true) }
         ensures origin { HasSameOrigin self.old self.new }
     {
         let Some(round) = self.by_view.get_mut(view) else {

@@ -77,6 +77,6 @@ returns-in-Err-Lost-clause-made g c =
     let m : MemberFacts _ _ _ = record { life = living false i.state; openings = open_while false i.openings; entries = entries_of bytes_of i.artifacts.items; closed = i.closed; is_pruned = i.is_pruned; retention = i.retention; least_retention = i.least_retention } in
     let Ends = EndsCall step i.state c.serve.new.state in
     let ended = subst Ends c.in-Err-Lost.field-0-is c.in-Err-Lost.ensures.refused in
-    let lost = losing step (due_fault i.state step) ended in
+    let lost = losing i.state step (due_fault i.state step) ended in
     rw (← c.self.view_is, c.if-self.false, c.in-Err-Lost.ensures.same_record)
     (lost_step g.D.PartialEq.eq g.L.Elector.elect m i.state refl step (sym c.is_allowed.ensures ∙ c.if-not-is_allowed.false) lost.0 lost.1 lost.2)

@@ -1,6 +1,6 @@
 use Rattle.std.proofs.Common.{ap, sym, refl, ◌∙◌, ◌||◌, is_some}
 use Rattle.std.specs.Prelude.{option_and_then}
-use Rattle.simplex_voter.specs.Serving.{once}
+use Rattle.simplex_round.specs.Round.{once}
 use Rattle.simplex_voter.proofs.Shown.{on_ok}
 use Rattle.simplex_voter.proofs.Alike.{handed_out_alike}
 use Rattle.simplex_voter.proofs.Changed.{found_at, kept_changed, changed_there, untouched}
@@ -25,3 +25,8 @@ returns-clause-answer g c =
 pub returns-clause-handed_out : goal.returns-clause-handed_out
 returns-clause-handed_out g c =
     on_ok c.broadcast_notarization.result (λ is. rw (← c.self.view_is) (changed_there _ _ refl _ _ _ (λ r. record r { notarization_broadcast = r.notarization_broadcast || is_some r.notarization }) c.in-Some.ensures.value is)) c.broadcast_notarization.ensures.facts
+
+pub returns-clause-refused_only_a_copy : goal.returns-clause-refused_only_a_copy
+returns-clause-refused_only_a_copy g c =
+    let here = c.in-Some.ensures.value ∙ sym (found_at c.args.self.now _ (sym (ap (λ x. x.by_view) c.self.view_is)) c.args.view) in
+    rw (← here) c.broadcast_notarization.ensures.refused_only_a_copy
