@@ -160,7 +160,7 @@ module _ {K L D : Type 0} (same : D → D → Bool) (elect : Elect L) where
   exact_steps m end [] (told ∷ replies) run = absurd run
   exact_steps m end (step ∷ steps) [] run = absurd run
   exact_steps m end (step ∷ steps) (told ∷ replies) (next, is_step, run) =
-      (step_exact m next step told is_step, next, is_step, exact_steps next end steps replies run)
+      (step_exact m next step told is_step, (next, is_step, exact_steps next end steps replies run))
 
   pub run_exact : (s : Story K L D) → IsRunFrom same elect s.start s.steps s.replies → SignsExactly same elect s
   unfolding IsRunFrom
