@@ -393,7 +393,7 @@ stands t [] long named = record {
 }
 stands t (c ∷ calls) long named = next t calls (facts_of t calls) c long named.0 (stands t calls long named.1)
 
-all_fetched : (t : ℕ) (calls : List Call) → 0 < t → AllByRecursion NamesAView calls → Fetched (facts_of t calls) (effects_of t calls)
+pub all_fetched : (t : ℕ) (calls : List Call) → 0 < t → AllByRecursion NamesAView calls → Fetched (facts_of t calls) (effects_of t calls)
 all_fetched t [] long named = record { at_rest = λ rests. (refl, λ v. refl); quiet = λ runs. absurd (cc) }
 all_fetched t (c ∷ calls) long named =
     let x = facts_of t calls in

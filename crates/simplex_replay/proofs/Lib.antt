@@ -1,0 +1,4 @@
+pub mod Newest
+pub mod Sound
+pub mod Going
+pub mod Replayed

@@ -1,0 +1,6 @@
+//! A member's record, handed to a resolver.
+#![tactic(auto)]
+
+pub mod replay;
+#[cfg(test)]
+mod tests;
