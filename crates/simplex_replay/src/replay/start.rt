@@ -37,8 +37,7 @@ fn replay<S: CertificateScheme, D: Digest>(
 /// last notarization of its view before it, and then the end of the replay. Votes tell it nothing. Answered with the
 /// resolver are the fetches to open.
 ///
-/// For the resolver, the record may stand in any order that has a view's notarization before its verdict, as a member's
-/// own record does.
+/// The record may stand in any order that has a view's notarization before its verdicts.
 ///
 /// # Errors
 ///
