@@ -1,0 +1,72 @@
+"""A network: the correct members, each a process of the built program, and the votes that they cast.
+
+After every reply the bench takes all certificates that the votes back, whether anybody makes them or not, and checks
+the laws of `checks.py`. A certificate is handed in only where the votes back it."""
+
+from checks import Broken, MemberLaws, NetworkLaws
+from member import Member
+from protocol import certificate_in, is_restart
+
+
+class NotBacked(Exception):
+    """A schedule hands in a certificate that the votes do not back."""
+
+
+class Network:
+    """Members 0 to n - 1, of which some are faulty: these have no process, and count for each vote."""
+
+    def __init__(self, program, members, faulty, terms):
+        self.size = members
+        self.faulty = frozenset(faulty)
+        self.terms = terms
+        self.now = 0
+        self.laws = NetworkLaws(members, self.faulty, terms)
+        self.correct = [index for index in range(members) if index not in self.faulty]
+        self.member_laws = {index: MemberLaws(terms, f"member {index}") for index in self.correct}
+        self.log = []
+        self.restarts = 0
+        self.members = {index: Member(program, members, index, terms) for index in self.correct}
+
+    def leader(self, view):
+        return self.terms.index(view) % self.size
+
+    def ask(self, index, line):
+        """Asks one correct member, and checks the reply."""
+        return self.ask_all(index, [line])[0]
+
+    def ask_all(self, index, lines):
+        """Asks one correct member some lines at once, and checks each reply."""
+        for line in lines:
+            self._see(line)
+        replies = self.members[index].ask_all(lines)
+        for line, reply in zip(lines, replies):
+            self._take(index, line, reply)
+        return replies
+
+    def _see(self, line):
+        certificate = certificate_in(line)
+        if certificate is not None and not self.laws.is_backed(certificate):
+            raise NotBacked(f"{line!r}: the votes of {self.laws.count(certificate)} do not back it")
+
+    def _take(self, index, line, reply):
+        self.log.append((index, line, reply))
+        self.restarts += is_restart(line)
+        vote = self.member_laws[index].take(line, reply)
+        if is_restart(line) and reply != "ok":
+            raise Broken(f"member {index}: {line!r} was refused: {reply}")
+        if vote is not None:
+            self.laws.take(index, vote)
+
+    def backed(self):
+        """All certificates that the votes back, in the order in which they came to be."""
+        return self.laws.backed
+
+    def close(self):
+        """Ends all processes; whether each ended well."""
+        return all([member.end() == 0 for member in self.members.values()])
+
+    def __enter__(self):
+        return self
+
+    def __exit__(self, *raised):
+        self.close()

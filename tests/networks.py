@@ -1,0 +1,137 @@
+#!/usr/bin/env python3
+"""A bench of networks of the built program: stored schedules, random ones with an adversary, and fair ones.
+
+Each correct member is a process of `viewstate voter`. After every reply all certificates that the votes back are taken, made
+or not, and the laws of `checks.py` are looked for: agreement, and the rules of each member's votes over all its lives. A
+fair run has to let every correct member finalize views besides.
+
+    tests/networks.py                             all of it, at the default counts
+    tests/networks.py --only random --seed 7 --count 1 --draw
+    tests/networks.py --only stored --name gate --draw
+
+Everything is made by its seed. It ends with status 1 where something is broken, with the last lines before it."""
+
+import argparse
+import sys
+import tempfile
+import time
+from collections import Counter
+from concurrent.futures import ProcessPoolExecutor
+from functools import partial
+
+import fair_runs
+import hostile_runs
+import program
+import schedules
+from checks import Broken
+from draw import drawn
+from fair_runs import Stalled
+from member import ProgramEnded
+from network import Network, NotBacked
+
+FAILURES = (Broken, Stalled, ProgramEnded, NotBacked, schedules.NotShown)
+LINES_SHOWN = 12
+
+
+def options():
+    parser = argparse.ArgumentParser(description=__doc__, formatter_class=argparse.RawDescriptionHelpFormatter)
+    program.add_option(parser)
+    parser.add_argument("--only", choices=("stored", "random", "fair"), help="one part alone")
+    parser.add_argument("--name", help="the stored schedule of this name alone")
+    parser.add_argument("--seed", type=int, default=1, help="the first seed")
+    parser.add_argument("--count", type=int, default=800, help="how many random and how many fair runs")
+    parser.add_argument("--members", type=int, help="so many members in each network, 4 or more (else 4 to 10, by the seed)")
+    parser.add_argument("--steps", type=int, default=300, help="the steps of a random run")
+    parser.add_argument("--goal", type=int, default=20, help="the view that each correct member finalizes in a fair run")
+    parser.add_argument("--jobs", type=int, default=2, help="how many runs go side by side")
+    parser.add_argument("--draw", action="store_true", help="draws each run (with a small count, or with --name)")
+    return parser.parse_args()
+
+
+def stored_run(path, name):
+    """Plays the stored schedule of a name; its network."""
+    schedule = next(it for it in schedules.all_schedules() if it.name == name)
+    network = Network(path, 4, {0}, schedule.terms)
+    with network:
+        try:
+            schedules.play(schedule, network)
+        except FAILURES as broken:
+            broken.network = network
+            raise
+    return network
+
+
+def tally(network):
+    """What one run saw."""
+    laws = network.laws
+    return Counter({
+        "runs": 1,
+        "calls": len(network.log),
+        "certificates": len(laws.backed),
+        "views finalized": len(laws.finalized),
+        "views nullified": len(laws.nullified),
+        "conflicts tried": laws.conflicts(),
+        "restarts": network.restarts,
+        "runs with more than f faulty": len(network.faulty) > (network.size - 1) // 3,
+    })
+
+
+def told(play, is_drawn, run):
+    """Plays one run; what it saw, its picture if it is drawn, and what is broken or None."""
+    try:
+        network, broken = play(run), None
+    except FAILURES as failure:
+        network, broken = failure.network, f"{type(failure).__name__}: {failure}\n{last_lines(failure.network)}"
+    return tally(network), drawn(network) if is_drawn else None, broken
+
+
+def last_lines(network):
+    return "\n".join(f"  member {index}: {line} => {reply}" for index, line, reply in network.log[-LINES_SHOWN:])
+
+
+def parts(given, path):
+    """The parts that are asked for: a name, how a run is played, and the runs."""
+    names = [it.name for it in schedules.all_schedules() if given.name in (None, it.name)]
+    seeds = range(given.seed, given.seed + given.count)
+    all_parts = (
+        ("stored", partial(stored_run, path), names),
+        ("random", partial(random_run, path, given.steps, given.members), seeds),
+        ("fair", partial(fair_run, path, given.goal, given.members), seeds),
+    )
+    wanted = "stored" if given.name else given.only
+    return [it for it in all_parts if wanted in (None, it[0])]
+
+
+def random_run(path, steps, members, seed):
+    return hostile_runs.play(path, seed, steps, members)
+
+
+def fair_run(path, goal, members, seed):
+    return fair_runs.play(path, seed, goal, members)
+
+
+def play_part(pool, name, play, runs, is_drawn):
+    """Plays the runs of a part, and tells what it saw; how many are broken."""
+    seen, failed, start = Counter(), 0, time.monotonic()
+    for run, (saw, picture, broken) in zip(runs, pool.map(partial(told, play, is_drawn), runs, chunksize=4)):
+        seen += saw
+        failed += broken is not None
+        if picture:
+            print(f"{name} {run}:\n{picture}\n")
+        if broken:
+            print(f"{name} {run}: {broken}")
+    told_all = ", ".join(f"{count} {what}" for what, count in seen.items())
+    print(f"{name}: {told_all}; {failed} broken; {time.monotonic() - start:.1f} s", flush=True)
+    return failed
+
+
+def main():
+    given = options()
+    with tempfile.TemporaryDirectory() as folder, ProcessPoolExecutor(given.jobs) as pool:
+        path = program.find(given.program, folder)
+        failed = sum(play_part(pool, *part, given.draw) for part in parts(given, path))
+    return 1 if failed else 0
+
+
+if __name__ == "__main__":
+    sys.exit(main())
