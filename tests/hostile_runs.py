@@ -41,12 +41,12 @@ def drawn_temper(chance):
     )
 
 
-def drawn_network(program, chance, members):
+def drawn_network(program, chance, members, watches_votes):
     """A network of a random size, terms and faulty members; half of the runs have as many of these as agreement may bear."""
     size = members or chance.randint(4, 10)
     most = chance.choice((max_faults(size), most_faults(size)))
     faulty = chance.sample(range(size), chance.randint(1, most))
-    return Network(program, size, faulty, Terms(chance.randint(1, 5), chance.randint(0, 4)))
+    return Network(program, size, faulty, Terms(chance.randint(1, 5), chance.randint(0, 4)), watches_votes)
 
 
 class HostileRun:
@@ -171,10 +171,10 @@ class HostileRun:
         return choice(forms)
 
 
-def play(program, seed, steps, members=None):
+def play(program, seed, steps, members=None, watches_votes=True):
     """Plays the run of a seed; its network, whose processes have ended. What is broken is raised with the network in it."""
     chance = Random(seed)
-    network = drawn_network(program, chance, members)
+    network = drawn_network(program, chance, members, watches_votes)
     with network:
         try:
             HostileRun(network, chance).play(steps)

@@ -5,7 +5,7 @@ the laws of `checks.py`. A certificate is handed in only where the votes back it
 
 from checks import Broken, MemberLaws, NetworkLaws
 from member import Member
-from protocol import certificate_in, is_restart
+from protocol import certificate_in, is_restart, vote_in
 
 
 class NotBacked(Exception):
@@ -13,9 +13,12 @@ class NotBacked(Exception):
 
 
 class Network:
-    """Members 0 to n - 1, of which some are faulty: these have no process, and count for each vote."""
+    """Members 0 to n - 1, of which some are faulty: these have no process, and count for each vote.
 
-    def __init__(self, program, members, faulty, terms):
+    Where it does not watch votes, it looks for agreement alone."""
+
+    def __init__(self, program, members, faulty, terms, watches_votes=True):
+        self.watches_votes = watches_votes
         self.size = members
         self.faulty = frozenset(faulty)
         self.terms = terms
@@ -51,8 +54,8 @@ class Network:
     def _take(self, index, line, reply):
         self.log.append((index, line, reply))
         self.restarts += is_restart(line)
-        vote = self.member_laws[index].take(line, reply)
-        if is_restart(line) and reply != "ok":
+        vote = self.member_laws[index].take(line, reply) if self.watches_votes else vote_in(line, reply)
+        if self.watches_votes and is_restart(line) and reply != "ok":
             raise Broken(f"member {index}: {line!r} was refused: {reply}")
         if vote is not None:
             self.laws.take(index, vote)

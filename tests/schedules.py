@@ -76,6 +76,15 @@ GATE = joined(
     "1: finalization 1 0 7 21 => added true -",
     "1: finalize 2 => finalize 2 1 9",
 )
+GATE_OF_EARLIER_LIFE = joined(
+    SKIPPED_BY_ONE,
+    verified("2 3", 2, 1, 9),
+    certified("1", 2, 1, 9, 20),
+    "1: restart-pruned 0 21 => ok",
+    "1: finalize 2 => none",
+    "1: finalization 1 0 7 22 => added true -",
+    "1: finalize 2 => finalize 2 1 9",
+)
 CHAIN = joined(*(verified("1 2 3", view, view - 1, view + 6) for view in (1, 2, 3)))
 HANDOFF = joined(
     verified("1 2 3", 1, 0, 7),
@@ -150,6 +159,11 @@ FIRST_SCHEDULES = (
     Schedule(
         "gate", "who voted to skip a view votes to finalize a later one of the term only once a finalization shows it not skipped",
         Terms(5, 0), steps_in(GATE),
+        {finalization(1, 0, 7): 3, finalization(2, 1, 9): 2, nullification(1): 2},
+    ),
+    Schedule(
+        "gate-of-an-earlier-life", "the same, where the vote to skip was cast in a life before",
+        Terms(5, 0), steps_in(GATE_OF_EARLIER_LIFE),
         {finalization(1, 0, 7): 3, finalization(2, 1, 9): 2, nullification(1): 2},
     ),
     Schedule(

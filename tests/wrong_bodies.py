@@ -1,0 +1,155 @@
+#!/usr/bin/env python3
+"""That the bench of networks can fail: wrong bodies, each built unproved, and the schedule that finds each.
+
+A wrong body is an edit of `crates/NAME/must-fail`, made in a copy of the repository and built by `rt try`, which proves
+nothing. The stored schedules come first, then random ones. A law of one member's votes is mostly what breaks first; with
+`--agreement` these laws are left alone, and random networks go on until the members disagree.
+
+    tests/wrong_bodies.py                              all of those below; half a minute each
+    tests/wrong_bodies.py --only without_the_gate --draw
+
+It ends with status 1 where a wrong body is not found."""
+
+import argparse
+import shutil
+import sys
+import tempfile
+import time
+from concurrent.futures import ProcessPoolExecutor
+from functools import partial
+from pathlib import Path
+from typing import NamedTuple
+
+import hostile_runs
+import program
+import schedules
+from checks import Broken
+from draw import drawn
+from member import ProgramEnded
+from network import Network, NotBacked
+from program import ROOT
+
+WRONG_BODIES = (
+    "simplex_voter/finalize_votes_without_the_gate",
+    "simplex_voter/the_gate_opens_at_the_current_view",
+    "simplex_voter/pruning_drops_later_nullify_votes",
+    "simplex_voter/a_replayed_nullify_vote_is_forgotten",
+    "simplex_voter/a_replayed_vote_to_notarize_is_forgotten",
+    "simplex_voter/prefers_a_parent_below_a_gap",
+    "simplex_round/nullify_after_finalize",
+    "simplex_member/a_pruning_that_takes_later_votes_to_nullify",
+    "simplex_member/a_drop_that_takes_votes",
+)
+RUNS_AT_ONCE = 16
+
+
+class Found(NamedTuple):
+    """A schedule that a wrong body breaks, what it broke, after how many runs, and its picture."""
+
+    schedule: str
+    broken: str
+    runs: int
+    picture: str
+
+
+def options():
+    parser = argparse.ArgumentParser(description=__doc__, formatter_class=argparse.RawDescriptionHelpFormatter)
+    parser.add_argument("--only", default="", help="those alone whose name holds this")
+    parser.add_argument("--count", type=int, default=400, help="the most random runs of each")
+    parser.add_argument("--steps", type=int, default=300, help="the steps of a random run")
+    parser.add_argument("--jobs", type=int, default=2, help="how many runs go side by side")
+    parser.add_argument("--agreement", action="store_true", help="looks for disagreement alone, not for laws of one member's votes")
+    parser.add_argument("--draw", action="store_true", help="draws each schedule that is found")
+    return parser.parse_args()
+
+
+def apply_edit(root, name):
+    """Makes an edit in a copy of the repository."""
+    crate, edit = name.split("/")
+    file = old = None
+    for row in (ROOT / f"crates/{crate}/must-fail/{edit}.edit").read_text().splitlines():
+        key, _, text = row.partition(": ")
+        if key == "file":
+            file = root / "crates" / crate / text
+        elif key == "old":
+            old = text
+        elif key == "new":
+            held = file.read_text()
+            if held.count(old) != 1:
+                raise ValueError(f"{name}: {old!r} stands in {file} {held.count(old)} times")
+            file.write_text(held.replace(old, text))
+
+
+def wrong_program(folder, name):
+    """Builds the program with a wrong body into a folder; its path."""
+    root = Path(folder) / "repository"
+    shutil.copytree(ROOT, root, ignore=shutil.ignore_patterns("out", ".git", "__pycache__"))
+    apply_edit(root, name)
+    path = program.build(root / "crates/viewstate", Path(folder))
+    shutil.rmtree(root)
+    return path
+
+
+def stored_runs(path):
+    """Plays the stored schedules, up to the first that breaks a law."""
+    for count, schedule in enumerate(schedules.all_schedules(), 1):
+        with Network(path, 4, {0}, schedule.terms) as network:
+            try:
+                schedules.play(schedule, network)
+            except Broken as broken:
+                return Found(f"stored {schedule.name}", str(broken), count, drawn(network))
+            except (schedules.NotShown, NotBacked, ProgramEnded):
+                continue
+    return None
+
+
+def random_run(path, steps, watches_votes, seed):
+    """Plays a random run; what it broke, or None."""
+    try:
+        hostile_runs.play(path, seed, steps, watches_votes=watches_votes)
+    except Broken as broken:
+        return Found(f"random --seed {seed} --steps {steps}", str(broken), seed, drawn(broken.network))
+    except ProgramEnded:
+        pass
+    return None
+
+
+def find(pool, path, given):
+    """The first schedule that breaks a law of the wrong body, or None."""
+    found = None if given.agreement else stored_runs(path)
+    for start in range(1, given.count + 1, RUNS_AT_ONCE):
+        if found:
+            break
+        seeds = range(start, start + RUNS_AT_ONCE)
+        found = next((it for it in pool.map(partial(random_run, path, given.steps, not given.agreement), seeds) if it), None)
+    return found
+
+
+def try_one(pool, name, given):
+    """Builds one wrong body and looks for what it breaks; whether that was found."""
+    start = time.monotonic()
+    with tempfile.TemporaryDirectory() as folder:
+        path = wrong_program(folder, name)
+        built = time.monotonic()
+        found = find(pool, path, given)
+    times = f"built in {built - start:.0f} s, found in {time.monotonic() - built:.1f} s"
+    if found is None:
+        print(f"{name}: NOT FOUND; {times}", flush=True)
+        return False
+    print(f"{name}: {found.schedule} (run {found.runs}): {found.broken}; {times}", flush=True)
+    if given.draw:
+        print(found.picture + "\n")
+    return True
+
+
+def main():
+    given = options()
+    names = [it for it in WRONG_BODIES if given.only in it]
+    with ProcessPoolExecutor(given.jobs) as pool:
+        missed = [name for name in names if not try_one(pool, name, given)]
+    print(f"wrong bodies: {len(names) - len(missed)} found, {len(missed)} not found")
+    return 1 if missed or not names else 0
+
+
+if __name__ == "__main__":
+    sys.exit(main())
