@@ -11,7 +11,7 @@ from network import Network
 from protocol import FINALIZATION, NOTARIZATION, NULLIFICATION, Proposal, Terms, max_faults, most_faults
 
 KINDS = (NOTARIZATION, NULLIFICATION, FINALIZATION)
-REASONS = ("Retry", "Inactivity", "LeaderNullify", "LeaderTimeout", "CertificationTimeout", "StallTimeout", "MissingProposal", "InvalidProposal")
+REASONS = ("Retry", "Inactivity", "LeaderNullify", "LeaderTimeout", "CertificationTimeout", "StallTimeout", "InvalidProposal")
 FAR_AHEAD = 1_000_000
 
 

@@ -4,7 +4,7 @@ After every reply the bench takes all certificates that the votes back, whether 
 the laws of `checks.py`. A certificate is handed in only where the votes back it."""
 
 from checks import Broken, MemberLaws, NetworkLaws
-from member import Member
+from member import Member, ProgramEnded
 from protocol import certificate_in, is_restart, vote_in
 
 
@@ -71,5 +71,6 @@ class Network:
     def __enter__(self):
         return self
 
-    def __exit__(self, *raised):
-        self.close()
+    def __exit__(self, raised, *_):
+        if not self.close() and raised is None:
+            raise ProgramEnded("a member's process did not end with status 0")

@@ -73,8 +73,8 @@ class Refusing:
         """A run with some calls refused, and whether one was."""
         fd = self.mark.fileno()
         self.mark.truncate(0)
-        settings = {key: str(value) for key, value in settings.items()}
-        ended = run(self.path, self.script.arguments, self.script.input, {"LD_PRELOAD": self.preload, "REFUSED_FD": str(fd), **settings}, (fd,))
+        environment = {"LD_PRELOAD": self.preload, "REFUSED_FD": str(fd), **{key: str(value) for key, value in settings.items()}}
+        ended = run(self.path, self.script.arguments, self.script.input, environment, (fd,))
         return ended, os.fstat(fd).st_size > 0
 
     def sweep(self, name, refused, wanted, may_be_cut=False, **settings):
@@ -144,10 +144,14 @@ def case_fault(path, case):
     return f"{' '.join(case.arguments)}: {case.given[:120]!r}: {ended}"
 
 
+def misused_commands():
+    """Those of the repository's tests, bytes that are no text, a thousand words and a long one."""
+    return [*scripts.misused_commands(), ["voter", b"\xff", "0", "1", "0"], ["voter"] * 1000, ["resolver", "1" * 100_000]]
+
+
 def usage_faults(path):
     """Arguments that ask for no mode."""
-    misuses = [*scripts.misused_commands(), ["voter", b"\xff", "0", "1", "0"], ["voter"] * 1000, ["resolver", "1" * 100_000]]
-    for arguments in misuses:
+    for arguments in misused_commands():
         ended = run(path, arguments, b"view\n")
         if (ended.status, ended.output, ended.error.decode()) != (2, b"", USAGE):
             yield f"{arguments[:6]!r}: {ended}"
@@ -198,7 +202,8 @@ def limited():
 
 def told(name, seen, faults, start):
     """Prints a part's figures and its first faults; how many there are."""
-    print(f"{name}: {', '.join(f'{count} {what}' for what, count in seen.items())}; {len(faults)} not as asked; {time.monotonic() - start:.1f} s", flush=True)
+    figures = ", ".join(f"{count} {what}" for what, count in seen.items())
+    print(f"{name}: {figures}; {len(faults)} not as asked; {time.monotonic() - start:.1f} s", flush=True)
     for fault in faults[:FAULTS_SHOWN]:
         print(f"  {fault}")
     return len(faults)
@@ -219,7 +224,7 @@ def ask_all(pool, path, folder):
     faults = [it for it in pool.map(partial(case_fault, path), cases, chunksize=16) if it]
     usage = [*usage_faults(path)]
     closed = [*file_faults(path, folder), *unread_faults(path)]
-    seen = {"inputs": len(cases), "misused commands": len(scripts.misused_commands()) + 3, "closed, full and other files": len([*files()]) + 1}
+    seen = {"inputs": len(cases), "misused commands": len(misused_commands()), "closed, full and other files": len([*files()]) + 1}
     return told("hostile inputs", seen, faults + usage + closed, start)
 
 
@@ -228,8 +233,8 @@ def main():
     with tempfile.TemporaryDirectory() as folder:
         path = program.find(given.program, folder)
         if program.has_checks_of_memory(path):
-            print("refusals: skipped: this program was built with checks of its own memory (rt run builds one without, in crates/viewstate)")
-            return 0
+            print("refusals: this program was built with checks of its own memory, which no preload refuses: name another one")
+            return 2
         preload = compiled(folder)
         with ProcessPoolExecutor(given.jobs, initializer=limited) as pool:
             failed = refuse_all(pool, path, preload, given.every) + ask_all(pool, path, folder)

@@ -3,10 +3,10 @@
 
 A wrong body is an edit of `crates/NAME/must-fail`, made in a copy of the repository and built by `rt try`, which proves
 nothing. The stored schedules come first, then random ones. A law of one member's votes is mostly what breaks first; with
-`--agreement` these laws are left alone, and random networks go on until the members disagree.
+`--agreement` random networks go on besides, with these laws left alone, until the members disagree.
 
     tests/wrong_bodies.py                              all of those below; half a minute each
-    tests/wrong_bodies.py --only without_the_gate --draw
+    tests/wrong_bodies.py --only without_the_gate --agreement --draw
 
 It ends with status 1 where a wrong body is not found."""
 
@@ -36,7 +36,8 @@ WRONG_BODIES = (
     "simplex_voter/a_replayed_nullify_vote_is_forgotten",
     "simplex_voter/a_replayed_vote_to_notarize_is_forgotten",
     "simplex_voter/prefers_a_parent_below_a_gap",
-    "simplex_round/nullify_after_finalize",
+    "simplex_voter/notarizes_a_view_twice",
+    "simplex_round/finalize_without_certification",
     "simplex_member/a_pruning_that_takes_later_votes_to_nullify",
     "simplex_member/a_drop_that_takes_votes",
 )
@@ -58,7 +59,7 @@ def options():
     parser.add_argument("--count", type=int, default=400, help="the most random runs of each")
     parser.add_argument("--steps", type=int, default=300, help="the steps of a random run")
     parser.add_argument("--jobs", type=int, default=2, help="how many runs go side by side")
-    parser.add_argument("--agreement", action="store_true", help="looks for disagreement alone, not for laws of one member's votes")
+    parser.add_argument("--agreement", action="store_true", help="looks for disagreement besides")
     parser.add_argument("--draw", action="store_true", help="draws each schedule that is found")
     return parser.parse_args()
 
@@ -114,15 +115,21 @@ def random_run(path, steps, watches_votes, seed):
     return None
 
 
-def find(pool, path, given):
-    """The first schedule that breaks a law of the wrong body, or None."""
-    found = None if given.agreement else stored_runs(path)
+def first_random(pool, path, given, watches_votes):
+    """The first random run that breaks a law of the wrong body, or None."""
     for start in range(1, given.count + 1, RUNS_AT_ONCE):
-        if found:
-            break
         seeds = range(start, start + RUNS_AT_ONCE)
-        found = next((it for it in pool.map(partial(random_run, path, given.steps, not given.agreement), seeds) if it), None)
-    return found
+        found = next((it for it in pool.map(partial(random_run, path, given.steps, watches_votes), seeds) if it), None)
+        if found:
+            return found
+    return None
+
+
+def show(name, found, is_drawn):
+    """Prints what was found, if anything was."""
+    print(f"{name}: {found.schedule} (run {found.runs}): {found.broken}" if found else f"{name}: NOT FOUND", flush=True)
+    if found and is_drawn:
+        print(found.picture + "\n")
 
 
 def try_one(pool, name, given):
@@ -131,15 +138,12 @@ def try_one(pool, name, given):
     with tempfile.TemporaryDirectory() as folder:
         path = wrong_program(folder, name)
         built = time.monotonic()
-        found = find(pool, path, given)
-    times = f"built in {built - start:.0f} s, found in {time.monotonic() - built:.1f} s"
-    if found is None:
-        print(f"{name}: NOT FOUND; {times}", flush=True)
-        return False
-    print(f"{name}: {found.schedule} (run {found.runs}): {found.broken}; {times}", flush=True)
-    if given.draw:
-        print(found.picture + "\n")
-    return True
+        found = stored_runs(path) or first_random(pool, path, given, watches_votes=True)
+        show(name, found, given.draw)
+        if given.agreement:
+            show(f"{name}, disagreement", first_random(pool, path, given, watches_votes=False), given.draw)
+    print(f"  built in {built - start:.0f} s, tried for {time.monotonic() - built:.1f} s", flush=True)
+    return found is not None
 
 
 def main():
