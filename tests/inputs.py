@@ -10,6 +10,7 @@ KINDS = ("notarization", "nullification", "finalization")
 BEFORE = ("", "notarization 1 0 7\nverdict 1 true 10\nfinalize 1\nnullify 2\n", "finalization 9223372036854775807 5 9 10\n")
 
 VOTER = ("voter", "4", "0", "1", "0")
+WIDE_VOTER = ("voter", "1000", "999", "4294967295", "3")
 RESOLVER = ("resolver", "5")
 VOTER_FORMS = (
     "notarization # # #", "finalization # # # #", "nullification # #", "proposal # # #", "verified #", "rejected # #",
@@ -52,10 +53,10 @@ def limit_lines(forms):
 
 def limit_cases():
     """The lines at the limits, one by one and all in turn, in a new state and in others."""
-    for arguments, forms in ((VOTER, VOTER_FORMS), (RESOLVER, RESOLVER_FORMS)):
+    voter, resolver = (VOTER_FORMS, BARE_LINES, BEFORE), (RESOLVER_FORMS, ("outstanding", "replayed"), ("", "replayed\n"))
+    for arguments, (forms, asked, befores) in ((VOTER, voter), (WIDE_VOTER, voter), (RESOLVER, resolver)):
         lines = list(limit_lines(forms))
-        asked = BARE_LINES if arguments == VOTER else ("outstanding", "replayed")
-        for before in BEFORE if arguments == VOTER else ("", "replayed\n"):
+        for before in befores:
             for line in lines:
                 text = before + "\n".join([line, *asked]) + "\n"
                 yield Case(arguments, text.encode(), text.count("\n"), 0)

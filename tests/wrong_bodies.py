@@ -36,7 +36,6 @@ WRONG_BODIES = (
     "simplex_voter/a_replayed_nullify_vote_is_forgotten",
     "simplex_voter/a_replayed_vote_to_notarize_is_forgotten",
     "simplex_voter/prefers_a_parent_below_a_gap",
-    "simplex_voter/notarizes_a_view_twice",
     "simplex_round/finalize_without_certification",
     "simplex_member/a_pruning_that_takes_later_votes_to_nullify",
     "simplex_member/a_drop_that_takes_votes",
