@@ -7,6 +7,7 @@ from dataclasses import dataclass
 from random import Random
 
 from adversary import Leaders
+from member import ProgramEnded
 from network import Network
 from protocol import FINALIZATION, NOTARIZATION, NULLIFICATION, Proposal, Terms, max_faults, most_faults
 
@@ -79,7 +80,10 @@ class HostileRun:
             self.time_out(index)
         else:
             self.work(index)
-        _, current, finalized, _ = self.network.ask(index, "view").split(" ")
+        reply = self.network.ask(index, "view")
+        if not reply.startswith("view "):
+            raise ProgramEnded(f"member {index} serves no more: it answers {reply!r}")
+        _, current, finalized, _ = reply.split(" ")
         self.waited[index] = self.waited[index] + 1 if int(current) == self.views[index][0] else 0
         self.views[index] = int(current), int(finalized)
 
