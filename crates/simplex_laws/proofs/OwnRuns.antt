@@ -14,7 +14,7 @@ use Rattle.simplex_member.specs.Check.{stands}
 use Rattle.simplex_member.specs.Cuts.{may_drop, without_last, finalized_in, pruned}
 use Rattle.simplex_member.specs.Entries.{entry_view}
 use Rattle.simplex_member.specs.Lives.{MemberFacts, IsCall, AnswersAlive, reply_of, left_of, fallen}
-use Rattle.simplex_laws.specs.Outside.{IsFromOutside, IsExcused}
+use Rattle.simplex_laws.specs.Outside.{IsFromOutside, IsExcused, VerdictsFollowNotarizations}
 use Rattle.simplex_member.specs.Recovery.{recover_error, recovered, is_finalization, with_floor}
 use Rattle.simplex_member.specs.Restarts.{RestartFacts, IsByView, cut, new_life, retention_grows, GoesOn, IsRestart, IsRestartWhere}
 use Rattle.simplex_member.specs.Work.{WorkCall, work_allowed, work_fault, work_reply, left_of_work, IsWorkOf, IsWork}
@@ -268,6 +268,12 @@ module _ {K L D : Type 0} (same : D → D → Bool) (decides : (d e : D) → sam
     own_record_outside replies end next copy found run by_view is =
         let own = run_own same decides itself elect term_length begins.some steps replies (of_floor start.floor) (started same elect start.fresh start.floor start.now) end fresh start_own run in
         copy_outside same decides itself elect term_length begins.some own.0 end next copy found own.1 by_view is
+
+    -- behind its verdicts stand notarizations, in its own order
+    pub own_verdicts_follow : (replies : List (Told K D)) (end : MemberFacts K L D) → IsRun same elect (started same elect start.fresh start.floor start.now) steps replies end → VerdictsFollowNotarizations end
+    own_verdicts_follow replies end run =
+        let own = run_own same decides itself elect term_length begins.some steps replies (of_floor start.floor) (started same elect start.fresh start.floor start.now) end fresh start_own run in
+        (own_of own.0 end.entries end.life own.1.tells).notarized
 
     -- so is a restart, but for its retention and want of memory
     pub own_restart_excused : (replies : List (Told K D)) (end left : MemberFacts K L D) (next : RestartFacts K L D) (found : RecoverError) → IsRun same elect (started same elect start.fresh start.floor start.now) steps replies end → IsRestart same elect end next (Err found) left → IsExcused found

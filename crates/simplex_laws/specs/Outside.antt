@@ -1,6 +1,7 @@
 -- What a member's own record may be refused for.
-use Rattle.std.specs.Prelude.{◌≡◌, ◌⊎◌, ℕ, Bool, List, Some, Err}
-use Rattle.simplex_types.specs.Certificates.{ArtifactFacts}
+use Rattle.std.specs.Prelude.{◌≡◌, ◌⊎◌, ℕ, Bool, List, ◌∷◌, ◌++◌, Contains, Some, Err}
+use Rattle.simplex_types.specs.Certificates.{ProposalFacts, Notarized, ArtifactFacts, Verdict, Accepted}
+use Rattle.simplex_types.specs.declared.types.numbers.Round.{Round}
 use Rattle.simplex_voter.specs.Facts.{Elect}
 use Rattle.simplex_member.specs.declared.member.error.RecoverError.{RecoverError}
 use Rattle.simplex_member.specs.declared.member.error.RecoverError.TheVariants as error
@@ -26,6 +27,13 @@ IsFromOutside _ = ⊥
 -- what a restart is refused for: that, or more views to be kept of a pruned record, or want of memory
 abbrev pub IsExcused : RecoverError → Type 0
 IsExcused found = IsFromOutside found ⊎ (found ≡ error.RetentionGrown) ⊎ (found ≡ error.OutOfMemory)
+
+-- before each verdict of its record, in the record's own order, stands a notarization of the view
+abbrev pub VerdictsFollowNotarizations : {K L D : Type 0} → MemberFacts K L D → Type 0
+VerdictsFollowNotarizations {K} {L} {D} m =
+    (before after : List (ArtifactFacts D)) (round : Round) (success : Bool)
+    → m.entries ≡ before ++ Verdict round success ∷ after
+    → (c : ProposalFacts D) × Contains before (Accepted (Notarized c)) × (c.proposal.round.view ≡ round.view)
 
 module _ (K : Type 0) {L D : Type 0} (same : D → D → Bool) (elect : Elect L) where
   -- of each member that a run leads to, where each life begins freshly
