@@ -1,9 +1,8 @@
 -- A walk over the terms for a view that is not covered.
-use Rattle.std.proofs.Common.{◌≡◌, ◌⊎◌, ℕ, ◌+◌, ◌*◌, ◌/◌, ◌-◌, ◌<◌, ◌≤◌, Bool, true, false, ◌&&◌, ◌||◌, leb, List, [], ◌∷◌, length, Option, Some, None, is_some, slice_get, filter, refl, ap, sym, subst, get_or, drop, zero, suc, ◌∙◌, inl, inr, arith}
+use Rattle.std.proofs.Common.{◌≡◌, ◌⊎◌, ℕ, ◌+◌, ◌*◌, ◌/◌, ◌-◌, ◌<◌, ◌≤◌, Bool, true, false, ◌&&◌, ◌||◌, leb, List, [], ◌∷◌, length, Option, Some, None, is_some, slice_get, filter, refl, ap, sym, ◌∙◌, inl, inr, arith}
 use Rattle.std.specs.List.{list_any}
 use Rattle.std.specs.Ordering.{nat_cmp, is_ge, is_lt, is_gt}
 use Rattle.std.specs.Option.{option_map}
-use Rattle.std.proofs.lemmas.List.{drop_more}
 use Rattle.std.specs.FinMap as fin
 use Rattle.std.specs.Prelude.{map}
 use Rattle.std.specs.FinMap.{FinMap, find}
@@ -118,18 +117,6 @@ module _ {W : Type 0} (t : FinMap nat_cmp W) where
 
   pub rest_end : (s : ℕ) → IsRest s [] → fin.get t s ≡ None
   rest_end s r = sym (r.1 s (omega arith))
-
-  pub item_rest : (s : ℕ) (es : List (ℕ × W)) (i : ℕ) (e : ℕ × W) → i < length es → e ≡ get_or es i e → IsRest s (drop i es) → IsRest s (e ∷ drop (i + 1) es)
-  item_rest s es i e within read r = subst (λ f. IsRest s (f ∷ drop (i + 1) es)) (sym read) (subst (λ fs. IsRest s fs) (drop_more es i e within) r)
-
-  past : (es : List (ℕ × W)) (i : ℕ) → length es ≤ i → drop i es ≡ []
-  past [] zero h = refl
-  past [] (suc i) h = refl
-  past (e ∷ es) zero h = absurd (omega arith)
-  past (e ∷ es) (suc i) h = past es i (omega arith)
-
-  pub past_rest : (s : ℕ) (es : List (ℕ × W)) (i : ℕ) → length es ≤ i → IsRest s (drop i es) → fin.get t s ≡ None
-  past_rest s es i h r = rest_end s (subst (λ fs. IsRest s fs) (past es i h) r)
 
 pub ge_no : (x y : ℕ) → false ≡ is_ge (nat_cmp x y) → x < y
 ge_no x y h = elim (cases_lt x y) [

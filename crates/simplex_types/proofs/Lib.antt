@@ -1,6 +1,7 @@
 pub mod Proposal
 pub mod Entries
 pub mod Maps
+pub mod Unboxed
 pub mod Digits
 pub mod Joined
 pub mod Gaps

@@ -1,6 +1,7 @@
 -- A finite map from views, by its entries.
 use Rattle.std.proofs.Common.{◌≡◌, ◌⊎◌, ℕ, ◌+◌, ◌<◌, ◌≤◌, Bool, true, false, cond, ltb, leb, not, List, [], length, get_or, take, drop, set, Option, Some, None, slice_get, is_some, filter, T, eqb, refl, ap, sym, ◌∙◌, subst, inl, inr, arith}
-use Rattle.std.specs.List.{insert}
+use Rattle.std.specs.List.{insert, remove}
+use Rattle.std.proofs.lemmas.List.{take_all}
 use Rattle.std.specs.Ordering.{nat_cmp, is_lt, eq_by_cmp}
 use Rattle.std.proofs.lemmas.Bool.{cases_eq, cases_lt, lt-ltb, le-ltb, eq-eqb, ne_eqb, eqb-true, false≢true}
 use Rattle.std.proofs.lemmas.Option.{slice_get_cases, get_or_from_slice_get}
@@ -9,7 +10,7 @@ use Rattle.std.specs.Cmp.{nat_cmp_total}
 use Rattle.std.specs.FinMap as map
 use Rattle.std.specs.FinMap.Entries.{where_key, is_sorted-where_key, find-where_key}
 use Rattle.simplex_types.specs.Tracked.{below, at_or_above}
-use Rattle.simplex_types.proofs.Entries.{Rises, rises, place, lower-take, upper-drop, place-le-length, below_place, value_if_at, find_at, place-next, put_absent, put_present}
+use Rattle.simplex_types.proofs.Entries.{Rises, rises, place, lower-take, upper-drop, place-le-length, below_place, value_if_at, find_at, place-next, put_absent, put_present, removed_at}
 
 true_from_T : (b : Bool) → T b → b ≡ true
 true_from_T true t = refl
@@ -82,13 +83,8 @@ module _ {V : Type 0} where
       ∙ sym (map.get-from_sorted nat_cmp kept q sorted ∙ find-where_key nat_cmp p q (λ x tied. ap p (sym (map.nat_cmp-IsAntisymmetric q x tied))) (map.entries m))) in
       ap map.entries same ∙ map.entries-from_sorted nat_cmp kept sorted
 
-  -- the entries that are left of a map where those below v are removed
-  pub kept_entries : (es fs : List (ℕ × V)) (m : map.FinMap nat_cmp V) (v : ℕ) → es ≡ map.entries m → fs ≡ filter (λ e. leb v e.0) es → fs ≡ map.entries (at_or_above m v)
-  kept_entries es fs m v e f = f ∙ ap (filter (λ e. leb v e.0)) e ∙ sym (entries-retain_keys m (λ key. leb v key))
-
-  -- the entries that are left of a map where that of v is removed
-  pub other_entries : (es fs : List (ℕ × V)) (m : map.FinMap nat_cmp V) (v : ℕ) → es ≡ map.entries m → fs ≡ filter (λ e. not (eqb e.0 v)) es → fs ≡ map.entries (map.remove m v)
-  other_entries es fs m v e f = f ∙ ap (filter (λ e. not (eqb e.0 v))) e ∙ sym (ap map.entries without ∙ entries-retain_keys m (λ key. not (eqb key v)))
+  pub entries-remove : (m : map.FinMap nat_cmp V) (v : ℕ) → map.entries (map.remove m v) ≡ filter (λ e. not (eqb e.0 v)) (map.entries m)
+  entries-remove m v = ap map.entries without ∙ entries-retain_keys m (λ key. not (eqb key v))
     where
       without : map.remove m v ≡ map.retain_keys m (λ key. not (eqb key v))
       without = same_maps _ _ (λ q. map.get-remove nat_cmp_total m v q ∙ ap (λ b. cond b None (map.get m q)) (is_eq-nat_cmp q v) ∙ other (eqb q v) (map.get m q) ∙ sym (get-kept m (λ key. not (eqb key v)) q))
@@ -200,6 +196,30 @@ module _ {V : Type 0} where
     pub written : (es : List (ℕ × V)) (r : ℕ) (e : ℕ × V) (x : V) → es ≡ map.entries m → r ≡ map.len (below m v) → map.contains_key m v ≡ true → e ≡ get_or es r e → set es r (e.0, x) ≡ map.entries (map.insert m v x)
     written es r e x same at_place there read = rw (view_at es r same at_place there e read, same, at_place) (entries-insert_present x there)
 
+    -- the list after the entry at v's place is removed, where v is there
+    pub removed : (es fs : List (ℕ × V)) (r : ℕ) → es ≡ map.entries m → r ≡ map.len (below m v) → map.contains_key m v ≡ true → fs ≡ remove es r → fs ≡ map.entries (map.remove m v)
+    removed es fs r same at_place there left =
+        left ∙ rw (same, at_place, len-below) (sym (removed_at v _ (map_rises m) (rw (map.get-entries m v) at there))) ∙ sym (entries-remove m v)
+
+    -- where v is not there, nothing is removed
+    pub remove_absent : map.contains_key m v ≡ false → m ≡ map.remove m v
+    remove_absent none = same_maps _ _ (λ q. sym (map.get-remove nat_cmp_total m v q ∙ ap (λ b. cond b None (map.get m q)) (is_eq-nat_cmp q v) ∙ elim (cases_eq q v) [
+      | inl same ↦ rw (eq-eqb q v same, same, absent none) refl
+      | inr other ↦ rw (ne_eqb q v other) refl
+    ]))
+
   -- the place of a view among the entries below a higher one
   pub place_below : (m : map.FinMap nat_cmp V) (from to r : ℕ) → from ≤ to → r ≡ map.len (below m from) → r ≡ map.len (below (below m to) from)
   place_below m from to r h p = p ∙ ap map.len (sym (below-below m from to h))
+
+  -- the places of two views rise with them
+  pub places_rise : (m : map.FinMap nat_cmp V) (from to r s : ℕ) → from ≤ to → r ≡ map.len (below m from) → s ≡ map.len (below m to) → r ≤ s
+  places_rise m from to r s h p q = rw (q, map.len-entries (below m to)) (place_within (below m to) from _ r refl (place_below m from to r h p))
+
+  -- the entries between the places of two views
+  pub between_read : (m : map.FinMap nat_cmp V) (from to : ℕ) (es : List (ℕ × V)) (r s : ℕ) → from ≤ to → es ≡ map.entries m → r ≡ map.len (below m from) → s ≡ map.len (below m to) → drop r (take s es) ≡ map.entries (at_or_above (below m to) from)
+  between_read m from to es r s h e p q = at_or_above_read (below m to) from (take s es) r (below_read m to es s e q) (place_below m from to r h p)
+
+  -- the entries from a view's place up to the end
+  pub above_read : (m : map.FinMap nat_cmp V) (v : ℕ) (es : List (ℕ × V)) (r s : ℕ) → es ≡ map.entries m → r ≡ map.len (below m v) → s ≡ length es → drop r (take s es) ≡ map.entries (at_or_above m v)
+  above_read m v es r s e p q = ap (drop r) (take_all s es (omega (arith, q))) ∙ at_or_above_read m v es r e p

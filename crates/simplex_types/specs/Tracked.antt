@@ -1,5 +1,5 @@
 -- Words for a finite map from views.
-use Rattle.std.specs.Prelude.{ℕ, ◌<◌, ◌≤◌, ◌^◌, ◌-◌, nat_lt, nat_le, Option, Some, None, Result, Ok, Err, slice_get, length}
+use Rattle.std.specs.Prelude.{ℕ, ◌<◌, ◌≤◌, ◌^◌, ◌-◌, nat_lt, nat_le, Option, Some, None, Result, Ok, Err, slice_get, length, List, map as map_list, Box}
 use Rattle.std.specs.Ordering.{nat_cmp}
 use Rattle.std.specs.FinMap.{FinMap, entries, insert, retain_keys}
 use Rattle.simplex_types.specs.declared.types.fault.AllocFailed.{AllocFailed}
@@ -28,3 +28,7 @@ after_insert m view value (Err refused) = m
 -- count is at most the number of binary digits of n, that is, at most each d for which d digits are enough
 abbrev pub IsAtMostBinaryDigits : ℕ → ℕ → Type 0
 IsAtMostBinaryDigits count n = (d : ℕ) → n < 2 ^ d → count ≤ d
+
+-- the entries of a ring whose values stand in boxes
+abbrev pub unboxed : {V A : Type 0} → List (ℕ × Box V A) → List (ℕ × V)
+unboxed es = map_list (λ e. (e.0, e.1.value)) es

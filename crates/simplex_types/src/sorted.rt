@@ -1,9 +1,11 @@
 //! Sorted containers of views: a finite map, a finite map by terms, and sets as maps to `()`.
 
 pub mod by_term;
+pub mod entries;
 #[cfg(test)]
 mod tests;
 pub mod tracked;
 
 pub use by_term::ByTerm;
+pub use entries::Entries;
 pub use tracked::Tracked;

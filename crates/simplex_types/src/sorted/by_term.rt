@@ -142,8 +142,8 @@ fn first_uncovered_in<V>(
         return None;
     }
     let views = u64::from(length.get().get());
-    let rest = terms.at_or_above(cursor.term_start(length));
-    for term in rest {
+    let mut rest = terms.at_or_above(cursor.term_start(length));
+    while let Some(term) = rest.pop_first() {
         if cursor >= before {
             return None;
         }

@@ -50,12 +50,23 @@ fn the_ends_of_a_part(rt: HostRuntime) -> Result<(), Fail> {
     assert_eq!(rt; tracked.first_at(view(5)), Some((view(5), &5)));
     assert_eq!(rt; tracked.first_at(view(10)), None);
     assert_eq!(rt; tracked.last_below(view(5)), Some((view(2), &2)));
-    assert_eq!(rt; tracked.between(view(2), view(9)).len(), 2);
+    let mut between = tracked.between(view(2), view(9));
+    assert_eq!(rt; between.pop_last(), Some((view(5), &5)));
+    assert_eq!(rt; between.pop_first(), Some((view(2), &2)));
+    assert_eq!(rt; between.pop_first(), None);
+    assert_eq!(rt; between.pop_last(), None);
     let below = tracked.views_below(rt.alloc(), view(6))?;
     assert_eq!(rt; below.as_slice(), [view(2), view(5)].as_slice());
     tracked.drop_below(view(5));
     assert_eq!(rt; tracked.len(), 2);
-    assert_eq!(rt; tracked.below(view(6)).len(), 1);
+    assert_eq!(rt; tracked.below(view(6)).pop_first(), Some((view(5), &5)));
+    assert_eq!(rt;
+        tracked.from_to(view(6), view(9)).pop_last(),
+        Some((view(9), &9))
+    );
+    tracked.remove(view(9));
+    tracked.remove(view(8));
+    assert_eq!(rt; tracked.len(), 1);
     Ok(())
 }
 

@@ -1,19 +1,25 @@
-//! Values at the views that are tracked, in a vector sorted by view.
+//! Values at the views that are tracked, in a ring sorted by view.
 
-ghost use Rattle.std.specs.Prelude.{◌≡◌, ◌+◌, ◌<◌, ◌≤◌, IfOk, IfErr, OnErr, Some, None, is_some, option_map, nat_lt, nat_le, not, ◌==◌, filter, if◌then◌else◌};
+ghost use Rattle.std.specs.Prelude.{◌≡◌, ◌+◌, ◌<◌, ◌≤◌, IfOk, IfErr, OnErr, Some, None, is_some, option_map, nat_lt, drop, if◌then◌else◌};
 ghost use Rattle.std.specs.Option.{option_copied};
 ghost use Rattle.std.specs.FinMap as map;
 ghost use Rattle.std.specs.Ordering.{nat_cmp};
+ghost use Rattle.std.specs.List.{remove};
+ghost use Rattle.std.specs.VecDeque.{deque_len};
 ghost use Rattle.simplex_types.specs.Tracked.{below, at_or_above, first_entry, last_entry, after_insert, IsAtMostBinaryDigits};
 
+use crate::sorted::entries::Entries;
 use crate::types::{AllocFailed, View};
 use std::alloc::{AllocError, Global};
+use std::collections::VecDeque;
 use std::marker::Model;
 
 /// A map from views to values.
+///
+/// The values stand out of line, so that an insert moves two words for each entry on the shorter side of its place.
 #[derive(Drop)]
 pub struct Tracked<V> {
-    entries: Vec<(View, V)>,
+    entries: VecDeque<(View, Box<V>)>,
 }
 
 impl<V> Model for Tracked<V> {
@@ -21,14 +27,15 @@ impl<V> Model for Tracked<V> {
     ghost use Rattle.std.specs.FinMap as map;
     ghost use Rattle.std.specs.Ordering.{nat_cmp};
     ghost use Rattle.std.specs.Coded.{coded_ℕ};
+    ghost use Rattle.simplex_types.specs.Tracked.{unboxed};
 
     ghost Value = { map.FinMap nat_cmp V };
 
     ghost coded = { map.code coded_ℕ V.code };
 
-    ghost view = { λ t. map.from_sorted t.entries.items };
+    ghost view = { λ t. map.from_sorted (unboxed t.entries.items) };
 
-    ghost invariant = { λ t. IsTrue (map.is_sorted nat_cmp t.entries.items) };
+    ghost invariant = { λ t. IsTrue (map.is_sorted nat_cmp (unboxed t.entries.items)) };
 }
 
 impl<V> Tracked<V> {
@@ -40,7 +47,7 @@ impl<V> Tracked<V> {
         ensures { result ≡ map.empty }
     {
         Tracked {
-            entries: Vec::new(alloc),
+            entries: VecDeque::new(alloc),
         }
     }
 
@@ -114,7 +121,7 @@ impl<V> Tracked<V> {
     {
         let (place, _) = self.find(view);
         if self.stands_at(place, view) {
-            Some(&self.entries[place].1)
+            Some(&*self.entries[place].1)
         } else {
             None
         }
@@ -130,7 +137,7 @@ impl<V> Tracked<V> {
             return None;
         }
         let entry = self.entries.get_mut(place)?;
-        Some(&mut entry.1)
+        Some(&mut *entry.1)
     }
 
     /// Sets the value of a view that has none. A value that finds another there, or no memory, comes back.
@@ -144,84 +151,92 @@ impl<V> Tracked<V> {
         if self.stands_at(place, view) {
             return Ok(Some(value));
         }
-        if let Err(refused) = self.entries.insert(place, (view, value)) {
-            let (_, value) = refused.value;
-            return Err(AllocFailed { value });
+        let boxed = boxed(*self.entries.allocator(), value)?;
+        if let Err(refused) = self.entries.insert(place, (view, boxed)) {
+            let (_, boxed) = refused.value;
+            return Err(AllocFailed {
+                value: Box::into_inner(boxed),
+            });
         }
         Ok(None)
     }
 
     /// The entries at or above a view, by rising view.
-    pub fn at_or_above(&self, view: View) -> &[(View, V)]
-        ensures { result.now ≡ map.entries (at_or_above self.now view) }
+    pub fn at_or_above(&self, view: View) -> Entries<'_, V>
+        ensures { result ≡ map.entries (at_or_above self.now view) }
     {
-        let (place, _) = self.find(view);
-        &self.entries[place..]
+        let (start, _) = self.find(view);
+        Entries::within(&self.entries, start, self.entries.len())
     }
 
     /// The entries below a view, by rising view.
-    pub fn below(&self, view: View) -> &[(View, V)]
-        ensures { result.now ≡ map.entries (below self.now view) }
+    pub fn below(&self, view: View) -> Entries<'_, V>
+        ensures { result ≡ map.entries (below self.now view) }
     {
-        let (place, _) = self.find(view);
-        &self.entries[..place]
+        let (end, _) = self.find(view);
+        Entries::within(&self.entries, 0, end)
     }
 
     /// The entries at or below a view, by rising view.
-    pub fn up_to(&self, view: View) -> &[(View, V)]
-        ensures { result.now ≡ map.entries (below self.now (view + 1)) }
+    pub fn up_to(&self, view: View) -> Entries<'_, V>
+        ensures { result ≡ map.entries (below self.now (view + 1)) }
     {
-        let end = self.end_of(view);
-        &self.entries[..end]
+        Entries::within(&self.entries, 0, self.end_of(view))
     }
 
     /// The entries of the views from one view on and below another, by rising view.
-    pub fn between(&self, from: View, to: View) -> &[(View, V)]
+    pub fn between(&self, from: View, to: View) -> Entries<'_, V>
         requires { from ≤ to }
-        ensures { result.now ≡ map.entries (at_or_above (below self.now to) from) }
+        ensures { result ≡ map.entries (at_or_above (below self.now to) from) }
     {
         let (start, _) = self.find(from);
-        &self.below(to)[start..]
+        let (end, _) = self.find(to);
+        Entries::within(&self.entries, start, end)
     }
 
     /// The entries of the views from one view up to another, by rising view.
-    pub fn from_to(&self, from: View, last: View) -> &[(View, V)]
+    pub fn from_to(&self, from: View, last: View) -> Entries<'_, V>
         requires { from ≤ last + 1 }
-        ensures { result.now ≡ map.entries (at_or_above (below self.now (last + 1)) from) }
+        ensures { result ≡ map.entries (at_or_above (below self.now (last + 1)) from) }
     {
         let (start, _) = self.find(from);
-        &self.up_to(last)[start..]
+        Entries::within(&self.entries, start, self.end_of(last))
     }
 
     /// The views below a view, rising.
     pub fn views_below(&self, alloc: Global, view: View) -> Result<Vec<View>, AllocError>
         ensures { IfOk result (λ views. views.items ≡ map.keys (below self.now view)) }
     {
-        self.below(view).iter().map(|entry| entry.0).collect(alloc)
+        let mut rest = self.below(view);
+        let mut views = Vec::new(alloc);
+        while let Some(entry) = rest.pop_first() {
+            views.push(entry.0)?;
+        }
+        Ok(views)
     }
 
     /// The entry of the lowest view at or above a view.
     pub fn first_at(&self, view: View) -> Option<(View, &V)>
         ensures { option_map (λ entry. (entry.0, entry.1.now)) result ≡ first_entry (at_or_above self.now view) }
     {
-        let entry = self.at_or_above(view).first()?;
-        Some((entry.0, &entry.1))
+        let mut rest = self.at_or_above(view);
+        rest.pop_first()
     }
 
     /// The entry of the highest view at or below a view.
     pub fn last_at(&self, view: View) -> Option<(View, &V)>
         ensures { option_map (λ entry. (entry.0, entry.1.now)) result ≡ last_entry (below self.now (view + 1)) }
     {
-        let entry = self.up_to(view).last()?;
-        Some((entry.0, &entry.1))
+        let mut rest = self.up_to(view);
+        rest.pop_last()
     }
 
     /// The entry of the highest view below a view.
     pub fn last_below(&self, view: View) -> Option<(View, &V)>
         ensures { option_map (λ entry. (entry.0, entry.1.now)) result ≡ last_entry (below self.now view) }
     {
-        let entry = self.below(view).last()?;
-        Some((entry.0, &entry.1))
+        let mut rest = self.below(view);
+        rest.pop_last()
     }
 }
 
@@ -230,27 +245,47 @@ impl<V: Drop> Tracked<V> {
     pub fn drop_below(&mut self, view: View)
         ensures { self.new ≡ at_or_above self.old view }
     {
-        keep_from(&mut self.entries, view);
+        let (below, _) = self.find(view);
+        drop_first(&mut self.entries, below);
     }
 
     /// Removes the entry of a view, where there is one.
     pub fn remove(&mut self, view: View)
         ensures { self.new ≡ map.remove self.old view }
     {
-        keep_others(&mut self.entries, view);
+        let (place, _) = self.find(view);
+        if self.stands_at(place, view) {
+            drop_at(&mut self.entries, place);
+        }
     }
 }
 
-/// Removes the entry of a view.
-fn keep_others<V: Drop>(entries: &mut Vec<(View, V)>, view: View)
-    ensures { entries.new.items ≡ filter (λ entry. not (entry.0 == view)) entries.old.items }
+/// Puts a value on the heap. Where there is no memory it comes back.
+fn boxed<V>(alloc: Global, value: V) -> Result<Box<V>, AllocFailed<V>>
+    ensures holds { IfOk result (λ boxed. boxed.value ≡ value) }
+    ensures refused { IfErr result (λ refused. refused.value ≡ value) }
 {
-    entries.retain(|entry| entry.0 != view);
+    match Box::new(alloc, value) {
+        Ok(boxed) => Ok(boxed),
+        Err(refused) => Err(AllocFailed {
+            value: refused.value,
+        }),
+    }
 }
 
-/// Removes the entries below a view.
-fn keep_from<V: Drop>(entries: &mut Vec<(View, V)>, view: View)
-    ensures { entries.new.items ≡ filter (λ entry. nat_le view entry.0) entries.old.items }
+/// Removes the first entries, as many as the count says.
+fn drop_first<V: Drop>(entries: &mut VecDeque<(View, Box<V>)>, count: usize)
+    ensures { entries.new.items ≡ drop count entries.old.items }
 {
-    entries.retain(|entry| entry.0 >= view);
+    for _ in 0..count {
+        let _below = entries.pop_front();
+    }
+}
+
+/// Removes the entry at a place.
+fn drop_at<V: Drop>(entries: &mut VecDeque<(View, Box<V>)>, place: usize)
+    requires { place < deque_len entries.old }
+    ensures { entries.new.items ≡ remove entries.old.items place }
+{
+    let _removed = entries.remove(place);
 }

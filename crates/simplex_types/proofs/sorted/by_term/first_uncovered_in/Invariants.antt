@@ -1,4 +1,4 @@
-use Rattle.std.proofs.Common.{◌<◌, drop}
+use Rattle.std.proofs.Common.{◌<◌, length}
 use Rattle.simplex_types.specs.Terms.{term_start}
 use Rattle.simplex_types.specs.ByTerm.{Gapless, map_of_terms}
 use Rattle.simplex_types.proofs.Gaps.{IsRest}
@@ -9,5 +9,8 @@ abbrev pub invariant-loop-term : goal.invariant-loop-term
 invariant-loop-term g l = record {
   above : l.fn.after < l.cursor;
   covered : Gapless (map_of_terms l.length l.terms) l.fn.after l.cursor;
-  rest : IsRest l.terms (term_start l.length l.cursor) (drop l.term-index l.rest);
+  rest : IsRest l.terms (term_start l.length l.cursor) l.rest;
 }
+
+abbrev pub decreases-loop-term : goal.decreases-loop-term
+decreases-loop-term g l = length l.rest

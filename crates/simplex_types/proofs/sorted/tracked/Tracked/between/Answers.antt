@@ -1,20 +1,14 @@
-use Rattle.std.proofs.Common.{◌∙◌, rules}
-use Rattle.std.proofs.lemmas.List.{take_rest}
-use Rattle.simplex_types.proofs.Maps.{place_within, at_or_above_read, place_below}
+use Rattle.std.proofs.Common.{◌∙◌}
+use Rattle.simplex_types.proofs.Maps.{entries_of_made, place_within, places_rise, between_read}
+use Rattle.simplex_types.proofs.Unboxed.{ring_length}
 use Rattle.simplex_types.proofs.sorted.tracked.Tracked.between.Goals as goal
 
-pub offset_bounds-below-start : goal.offset_bounds-below-start
-offset_bounds-below-start g c = place_within _ _ _ _ c.below.ensures (place_below c.args.self.now c.args.from c.args.to _ c.requires c.find-start.ensures.place)
-
-pub slice_bounds-result-count : goal.slice_bounds-result-count
-slice_bounds-result-count g c = offset_bounds-below-start g c
-
-pub slice_bounds-result-start : goal.slice_bounds-result-start
-slice_bounds-result-start g c =
-    let within = place_within _ _ _ _ c.below.ensures (place_below c.args.self.now c.args.from c.args.to _ c.requires c.find-start.ensures.place) in
-    search rules
+pub within-requires : goal.within-requires
+within-requires g c =
+    let within = place_within _ _ _ _ (entries_of_made _ _ c.self.view_is c.self.invariant) c.find-end.ensures.place in
+    (places_rise c.args.self.now c.args.from c.args.to _ _ c.requires c.find-start.ensures.place c.find-end.ensures.place, rw ring_length within)
 
 pub returns : goal.returns
 returns g c =
-    take_rest c.below.result.now c.find-start.result.0
-    ∙ at_or_above_read _ _ _ _ c.below.ensures (place_below c.args.self.now c.args.from c.args.to _ c.requires c.find-start.ensures.place)
+    let same = entries_of_made _ _ c.self.view_is c.self.invariant in
+    c.within.ensures ∙ between_read c.args.self.now c.args.from c.args.to _ _ _ c.requires same c.find-start.ensures.place c.find-end.ensures.place

@@ -1,0 +1,69 @@
+//! The entries of a range of views, taken one at a time from either end.
+
+ghost use Rattle.std.specs.Prelude.{◌≡◌, [], ◌∷◌, ◌++◌, MatchOption};
+
+use crate::types::View;
+use std::collections::VecDeque;
+use std::marker::Model;
+
+/// Entries that are left to be taken, by rising view.
+#[derive(Drop)]
+pub struct Entries<'a, V> {
+    ring: &'a VecDeque<(View, Box<V>)>,
+    // the places from the first entry that is left to past the last
+    start: usize,
+    end: usize,
+}
+
+impl<'a, V> Model for Entries<'a, V> {
+    ghost use Rattle.std.specs.Prelude.{ℕ, List, ◌≤◌, take, drop};
+    ghost use Rattle.std.specs.Coded.{coded_ℕ, coded_list, coded×};
+    ghost use Rattle.std.specs.VecDeque.{deque_len};
+    ghost use Rattle.simplex_types.specs.Tracked.{unboxed};
+
+    ghost Value = { List (ℕ × V) };
+
+    ghost coded = { coded_list (coded× coded_ℕ V.code) };
+
+    ghost view = { λ e. drop e.start (take e.end (unboxed e.ring.now.items)) };
+
+    ghost invariant = { λ e. (e.start ≤ e.end) × (e.end ≤ deque_len e.ring.now) };
+}
+
+impl<'a, V> Entries<'a, V> {
+    ghost use Rattle.std.specs.Prelude.{◌≤◌, take, drop};
+    ghost use Rattle.std.specs.VecDeque.{deque_len};
+    ghost use Rattle.simplex_types.specs.Tracked.{unboxed};
+
+    /// The entries from one place on and before another.
+    pub(super) fn within(ring: &'a VecDeque<(View, Box<V>)>, start: usize, end: usize) -> Self
+        requires { (start ≤ end) × (end ≤ deque_len ring.now) }
+        ensures { result ≡ drop start (take end (unboxed ring.now.items)) }
+    {
+        Entries { ring, start, end }
+    }
+
+    /// Takes the entry of the lowest view that is left.
+    pub fn pop_first(&mut self) -> Option<(View, &'a V)>
+        ensures { MatchOption result ((self.old ≡ []) × (self.new ≡ [])) (λ entry. self.old ≡ (entry.0, entry.1.now) ∷ self.new) }
+    {
+        if self.start == self.end {
+            return None;
+        }
+        let entry = &self.ring[self.start];
+        self.start += 1;
+        Some((entry.0, &*entry.1))
+    }
+
+    /// Takes the entry of the highest view that is left.
+    pub fn pop_last(&mut self) -> Option<(View, &'a V)>
+        ensures { MatchOption result ((self.old ≡ []) × (self.new ≡ [])) (λ entry. self.old ≡ self.new ++ (entry.0, entry.1.now) ∷ []) }
+    {
+        if self.start == self.end {
+            return None;
+        }
+        self.end -= 1;
+        let entry = &self.ring[self.end];
+        Some((entry.0, &*entry.1))
+    }
+}
