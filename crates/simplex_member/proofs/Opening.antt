@@ -5,7 +5,7 @@ use Rattle.std.specs.FinMap as fin
 use Rattle.std.specs.List.{list_any}
 use Rattle.std.specs.Ordering.{nat_cmp, eq_by_cmp}
 use Rattle.std.proofs.lemmas.Bool.Decides.{nat_tests}
-use Rattle.simplex_types.proofs.Maps.{other_entries, made_empty}
+use Rattle.simplex_types.proofs.Maps.{entries-remove, made_empty}
 use Rattle.simplex_voter.proofs.RoundsKept.{filter-keys}
 use Rattle.simplex_member.specs.Openings.{all_but, is_among}
 
@@ -14,7 +14,7 @@ is_eq x y = grind (arith, nat_tests)
 
 module _ {V : Type 0} (m : fin.FinMap nat_cmp V) where
   pub entries-others : (v : ℕ) → fin.entries (fin.remove m v) ≡ filter (λ e. not (eqb e.0 v)) (fin.entries m)
-  entries-others v = sym (other_entries (fin.entries m) (filter (λ e. not (eqb e.0 v)) (fin.entries m)) m v refl refl)
+  entries-others v = entries-remove m v
 
   pub keys-others : (v : ℕ) → fin.keys (fin.remove m v) ≡ all_but v (fin.keys m)
   keys-others v = ap (map (λ e. e.0)) (entries-others v) ∙ filter-keys (λ u. not (eqb u v)) (fin.entries m)

@@ -1,11 +1,10 @@
 -- Notarized views of a window.
-use Rattle.std.proofs.Common.{◌≡◌, ℕ, ◌+◌, ◌<◌, ◌≤◌, Bool, true, false, ◌&&◌, ◌||◌, ltb, leb, IsTrue, List, [], ◌∷◌, filter, length, get_or, drop, refl, ap, sym, ◌∙◌, inl, inr}
+use Rattle.std.proofs.Common.{◌≡◌, ℕ, ◌≤◌, Bool, true, false, ◌&&◌, ◌||◌, ltb, leb, IsTrue, List, [], ◌∷◌, filter, refl, ap, sym, ◌∙◌, inl, inr}
 use Rattle.std.specs.Prelude.{◌==◌}
 use Rattle.std.specs.List.{list_any}
 use Rattle.std.specs.Ordering.{nat_cmp}
 use Rattle.std.specs.FinMap as map
 use Rattle.std.proofs.lemmas.Bool.{false≢true, eqb-true}
-use Rattle.std.proofs.lemmas.List.{drop_more, drop_all}
 use Rattle.simplex_types.specs.Tracked.{at_or_above, below}
 use Rattle.simplex_types.proofs.Maps.{entries-retain_keys}
 use Rattle.simplex_voter.proofs.Gaps.{cases_bool}
@@ -38,12 +37,12 @@ not_zero v never = elim (cases_bool (v == 0)) [
 ]
 
 -- a walk over a list for an element that passes
-module _ {A : Type 0} (test : A → Bool) (xs : List A) (i : ℕ) (rest : list_any test xs ≡ list_any test (drop i xs)) where
-  pub any_found : (x : A) → i < length xs → x ≡ get_or xs i x → true ≡ test x → true ≡ list_any test xs
-  any_found x within read passes = sym (rest ∙ ap (list_any test) (drop_more xs i x within) ∙ rw (← read, ← passes) refl)
+module _ {A : Type 0} (test : A → Bool) (all es : List A) (rest : list_any test all ≡ list_any test es) where
+  pub any_found : (x : A) (xs : List A) → es ≡ x ∷ xs → true ≡ test x → true ≡ list_any test all
+  any_found x xs is passes = sym (rest ∙ ap (list_any test) is ∙ rw (← passes) refl)
 
-  pub any_next : (x : A) → i < length xs → x ≡ get_or xs i x → false ≡ test x → list_any test xs ≡ list_any test (drop (i + 1) xs)
-  any_next x within read fails = rest ∙ ap (list_any test) (drop_more xs i x within) ∙ rw (← read, ← fails) refl
+  pub any_next : (x : A) (xs : List A) → es ≡ x ∷ xs → false ≡ test x → list_any test all ≡ list_any test xs
+  any_next x xs is fails = rest ∙ ap (list_any test) is ∙ rw (← fails) refl
 
-  pub any_end : length xs ≤ i → false ≡ list_any test xs
-  any_end past = sym (rest ∙ ap (list_any test) (drop_all i xs past))
+  pub any_end : es ≡ [] → false ≡ list_any test all
+  any_end is = sym (rest ∙ ap (list_any test) is)

@@ -13,19 +13,17 @@ use Rattle.simplex_types.proofs.Maps.{entries-retain_keys, sorted_from_entries}
 use Rattle.simplex_voter.proofs.Stalls.{filter-filter}
 
 -- a walk over a list for the first element that gives something
-module _ {A B : Type 0} (h : A → Option B) (xs : List A) (i : ℕ) (rest : slice_get (filter_map h xs) 0 ≡ slice_get (filter_map h (drop i xs)) 0) where
-  pub given_here : (x : A) → i < length xs → x ≡ get_or xs i x → (found : Option B) → found ≡ h x → true ≡ is_some found → found ≡ slice_get (filter_map h xs) 0
-  given_here x within read None is some = absurd (false≢true (sym some))
-  given_here x within read (Some b) is some =
-      sym (rest ∙ ap (λ ys. slice_get (filter_map h ys) 0) (drop_more xs i x within) ∙ rw (← read, ← is) refl)
+module _ {A B : Type 0} (h : A → Option B) (all es : List A) (rest : slice_get (filter_map h all) 0 ≡ slice_get (filter_map h es) 0) where
+  pub given_here : (x : A) (xs : List A) → es ≡ x ∷ xs → (found : Option B) → found ≡ h x → true ≡ is_some found → found ≡ slice_get (filter_map h all) 0
+  given_here x xs is None gives some = absurd (false≢true (sym some))
+  given_here x xs is (Some b) gives some = sym (rest ∙ ap (λ ys. slice_get (filter_map h ys) 0) is ∙ rw (← gives) refl)
 
-  pub given_next : (x : A) → i < length xs → x ≡ get_or xs i x → (found : Option B) → found ≡ h x → false ≡ is_some found → slice_get (filter_map h xs) 0 ≡ slice_get (filter_map h (drop (i + 1) xs)) 0
-  given_next x within read None is none =
-      rest ∙ ap (λ ys. slice_get (filter_map h ys) 0) (drop_more xs i x within) ∙ rw (← read, ← is) refl
-  given_next x within read (Some b) is none = absurd (false≢true none)
+  pub given_next : (x : A) (xs : List A) → es ≡ x ∷ xs → (found : Option B) → found ≡ h x → false ≡ is_some found → slice_get (filter_map h all) 0 ≡ slice_get (filter_map h xs) 0
+  given_next x xs is None gives none = rest ∙ ap (λ ys. slice_get (filter_map h ys) 0) is ∙ rw (← gives) refl
+  given_next x xs is (Some b) gives none = absurd (false≢true none)
 
-  pub given_nowhere : length xs ≤ i → None ≡ slice_get (filter_map h xs) 0
-  given_nowhere past = sym (rest ∙ ap (λ ys. slice_get (filter_map h ys) 0) (drop_all i xs past))
+  pub given_nowhere : es ≡ [] → None ≡ slice_get (filter_map h all) 0
+  given_nowhere is = sym (rest ∙ ap (λ ys. slice_get (filter_map h ys) 0) is)
 
 within_both : (low high v : ℕ) → (ltb v (high + 1) && leb low v) ≡ (leb low v && leb v high)
 within_both low high v = grind (arith, nat_tests)

@@ -3,7 +3,6 @@ use Rattle.std.proofs.Common.{◌≡◌, ℕ, ◌+◌, ◌<◌, ◌≤◌, Bool,
 use Rattle.std.specs.Prelude.{option_and_then}
 use Rattle.std.specs.Ordering.{nat_cmp, ord_max}
 use Rattle.std.proofs.lemmas.Bool.Decides.{nat_tests}
-use Rattle.std.proofs.lemmas.List.{drop_more, drop_all}
 use Rattle.simplex_types.specs.Terms.{term_start}
 use Rattle.simplex_types.specs.declared.types.window.Terms.{Terms}
 use Rattle.simplex_round.specs.Round.{RoundFacts}
@@ -12,15 +11,15 @@ use Rattle.simplex_voter.specs.Timeouts.{is_entered_between, is_stalling, standi
 use Rattle.simplex_voter.proofs.Gaps.{cases_bool}
 
 -- a walk over a list for the first element that passes
-module _ {A : Type 0} (test : A → Bool) (xs : List A) (i : ℕ) (rest : slice_get (filter test xs) 0 ≡ slice_get (filter test (drop i xs)) 0) where
-  pub first_found : (x : A) → i < length xs → x ≡ get_or xs i x → true ≡ test x → slice_get (filter test xs) 0 ≡ Some x
-  first_found x within read passes = rest ∙ ap (λ ys. slice_get (filter test ys) 0) (drop_more xs i x within) ∙ rw (← read, ← passes) refl
+module _ {A : Type 0} (test : A → Bool) (all es : List A) (rest : slice_get (filter test all) 0 ≡ slice_get (filter test es) 0) where
+  pub first_found : (x : A) (xs : List A) → es ≡ x ∷ xs → true ≡ test x → slice_get (filter test all) 0 ≡ Some x
+  first_found x xs is passes = rest ∙ ap (λ ys. slice_get (filter test ys) 0) is ∙ rw (← passes) refl
 
-  pub first_next : (x : A) → i < length xs → x ≡ get_or xs i x → false ≡ test x → slice_get (filter test xs) 0 ≡ slice_get (filter test (drop (i + 1) xs)) 0
-  first_next x within read fails = rest ∙ ap (λ ys. slice_get (filter test ys) 0) (drop_more xs i x within) ∙ rw (← read, ← fails) refl
+  pub first_next : (x : A) (xs : List A) → es ≡ x ∷ xs → false ≡ test x → slice_get (filter test all) 0 ≡ slice_get (filter test xs) 0
+  first_next x xs is fails = rest ∙ ap (λ ys. slice_get (filter test ys) 0) is ∙ rw (← fails) refl
 
-  pub first_end : length xs ≤ i → slice_get (filter test xs) 0 ≡ None
-  first_end past = rest ∙ ap (λ ys. slice_get (filter test ys) 0) (drop_all i xs past)
+  pub first_end : es ≡ [] → slice_get (filter test all) 0 ≡ None
+  first_end is = rest ∙ ap (λ ys. slice_get (filter test ys) 0) is
 
 -- a filter of what another left
 pub filter-filter : {A : Type 0} (p q r : A → Bool) → ((x : A) → (p x && q x) ≡ r x) → (xs : List A) → filter q (filter p xs) ≡ filter r xs

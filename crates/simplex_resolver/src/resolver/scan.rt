@@ -74,7 +74,8 @@ pub fn fetch_failures(
     ensures { OnOk result (effects.new.items ≡ effects.old.items ++ failure_fetches
         (filter (λ v. nat_lt floor v && not (is_covered nullifications.now v)) (map.keys views.now))) }
 {
-    for entry in views.at_or_above(View::zero()) {
+    let mut rest = views.at_or_above(View::zero());
+    while let Some(entry) = rest.pop_first() {
         if needs_nullification(nullifications, floor, entry.0) {
             effects.push(Effect::Fetch {
                 view: entry.0,

@@ -5,7 +5,7 @@ ghost use Rattle.std.specs.List.{filter_map, cons_option};
 ghost use Rattle.simplex_types.specs.declared.types.fault.Fault.TheVariants.{OutOfMemory};
 
 use super::state::State;
-use simplex_types::sorted::Tracked;
+use simplex_types::sorted::{Entries, Tracked};
 use simplex_types::types::{CertificateScheme, Digest, Elector, Fault, Proposal, View};
 
 /// A notarization that the certification of a proposal waits for.
@@ -74,15 +74,15 @@ impl<S: CertificateScheme, L: Elector<S>, D: Digest> State<S, L, D> {
     /// What is offered of these views, and what they have to fetch.
     fn candidates_of(
         &self,
-        views: &[(View, ())],
+        mut views: Entries<'_, ()>,
     ) -> Result<(Vec<Proposal<D>>, Vec<CertificateFetch>), Fault>
-        ensures offers { IfOk result (λ answer. answer.0.items ≡ filter_map (λ e. offered_of D.eq L.elect self.now e.0) views.now) }
-        ensures fetches { IfOk result (λ answer. answer.1.items ≡ filter_map (λ e. fetched_of L.elect self.now e.0) views.now) }
+        ensures offers { IfOk result (λ answer. answer.0.items ≡ filter_map (λ e. offered_of D.eq L.elect self.now e.0) views.entry) }
+        ensures fetches { IfOk result (λ answer. answer.1.items ≡ filter_map (λ e. fetched_of L.elect self.now e.0) views.entry) }
         ensures refused { IfErr result (λ fault. fault ≡ OutOfMemory) }
     {
         let mut offers = Vec::new(self.alloc);
         let mut fetches = Vec::new(self.alloc);
-        for entry in views {
+        while let Some(entry) = views.pop_first() {
             append(&mut offers, self.offer(entry.0))?;
             append(&mut fetches, self.fetch(entry.0))?;
         }

@@ -7,6 +7,7 @@ ghost use Rattle.simplex_voter.specs.Parents.{is_payload, is_parent, at_view};
 use super::state::State;
 use super::terms::before;
 use simplex_round::round::Round;
+use simplex_types::sorted::Entries;
 use simplex_types::types::{CertificateScheme, Digest, Elector, Proposal, View};
 
 /// A view with its payload, where it has one.
@@ -117,10 +118,10 @@ impl<S: CertificateScheme, L: Elector<S>, D: Digest> State<S, L, D> {
     }
 
     /// The last of the views that has an explicit payload.
-    fn last_explicit(&self, entries: &[(View, Round<S, D>)]) -> Option<(View, D)>
-        ensures { result ≡ last_or None (filter_map (explicit_at self.now) entries.now) }
+    fn last_explicit(&self, mut entries: Entries<'_, Round<S, D>>) -> Option<(View, D)>
+        ensures { result ≡ last_or None (filter_map (explicit_at self.now) entries.entry) }
     {
-        for entry in entries.iter().rev() {
+        while let Some(entry) = entries.pop_last() {
             let found = self.explicit_at(entry.0);
             if found.is_some() {
                 return found;

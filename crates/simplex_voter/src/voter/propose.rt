@@ -8,6 +8,7 @@ ghost use Rattle.simplex_round.specs.Round.{should_propose};
 use super::proposal_request::ProposalRequest;
 use super::state::State;
 use simplex_round::round::{Leader, Round};
+use simplex_types::sorted::Entries;
 use simplex_types::types::{CertificateScheme, Context, Digest, Elector, Fault, View, Viewable};
 
 impl<S: CertificateScheme, L: Elector<S>, D: Digest> State<S, L, D> {
@@ -59,18 +60,18 @@ impl<S: CertificateScheme, L: Elector<S>, D: Digest> State<S, L, D> {
     }
 
     /// The tracked views from the current one to the next term's start, by rising view.
-    fn views_ahead(&self) -> &[(View, Round<S, D>)]
+    fn views_ahead(&self) -> Entries<'_, Round<S, D>>
         requires { 1 ≤ self.now.current }
-        ensures ahead { result.now ≡ views_ahead self.now }
+        ensures ahead { result ≡ views_ahead self.now }
         ensures ordered { is_sorted nat_cmp self.now.rounds ≡ true }
     {
         self.views_within(self.current, self.last_ahead())
     }
 
     /// The tracked views from one view to another, by rising view.
-    pub(super) fn views_within(&self, low: View, high: View) -> &[(View, Round<S, D>)]
+    pub(super) fn views_within(&self, low: View, high: View) -> Entries<'_, Round<S, D>>
         requires { (low ≤ high + 1) × (high + 1 < 2 ^ 64) }
-        ensures within { result.now ≡ views_within self.now low high }
+        ensures within { result ≡ views_within self.now low high }
         ensures ordered { is_sorted nat_cmp self.now.rounds ≡ true }
     {
         self.rounds.within(low, high)
@@ -90,12 +91,12 @@ impl<S: CertificateScheme, L: Elector<S>, D: Digest> State<S, L, D> {
     /// The request of the first of some views that has one.
     fn first_request(
         &self,
-        entries: &[(View, Round<S, D>)],
+        mut entries: Entries<'_, Round<S, D>>,
     ) -> Option<ProposalRequest<D, S::PublicKey>>
-        ensures { result ≡ slice_get (filter_map (request_in D.eq L.elect self.now) entries.now) 0 }
+        ensures { result ≡ slice_get (filter_map (request_in D.eq L.elect self.now) entries.entry) 0 }
     {
-        for entry in entries {
-            let request = self.request_in(entry.0, &entry.1);
+        while let Some(entry) = entries.pop_first() {
+            let request = self.request_in(entry.0, entry.1);
             if request.is_some() {
                 return request;
             }

@@ -11,14 +11,14 @@ ghost use Rattle.simplex_voter.specs.Certification.{without_token};
 
 use super::rounds::Rounds;
 use simplex_round::round::{Certification, Round};
-use simplex_types::sorted::Tracked;
+use simplex_types::sorted::{Entries, Tracked};
 use simplex_types::types::{CertificateScheme, Digest, Fault, View};
 
 /// Whether one of the rounds is notarized or finalized.
-fn has_notarized<S: CertificateScheme, D: Digest>(entries: &[(View, Round<S, D>)]) -> bool
-    ensures { result ≡ list_any (λ e. is_notarized e.1) entries.now }
+fn has_notarized<S: CertificateScheme, D: Digest>(mut entries: Entries<'_, Round<S, D>>) -> bool
+    ensures { result ≡ list_any (λ e. is_notarized e.1) entries.entry }
 {
-    for entry in entries {
+    while let Some(entry) = entries.pop_first() {
         if entry.1.is_directly_notarized() {
             return true;
         }
@@ -36,25 +36,26 @@ fn was_refused<S: CertificateScheme, D: Digest>(round: &Round<S, D>) -> bool
     }
 }
 
-/// Whether the entry's view is above another, and its round was certified false.
+/// Whether the view is above another, and its round was certified false.
 fn was_refused_above<S: CertificateScheme, D: Digest>(
-    entry: &(View, Round<S, D>),
+    view: View,
+    round: &Round<S, D>,
     above: View,
 ) -> bool
-    ensures { result ≡ (nat_lt above entry.now.0 && is_judged false entry.now.1.certification) }
+    ensures { result ≡ (nat_lt above view && is_judged false round.now.certification) }
 {
-    entry.0 > above && was_refused(&entry.1)
+    view > above && was_refused(round)
 }
 
 /// Whether one of the rounds above a view was certified false.
 fn has_refused<S: CertificateScheme, D: Digest>(
-    entries: &[(View, Round<S, D>)],
+    mut entries: Entries<'_, Round<S, D>>,
     above: View,
 ) -> bool
-    ensures { result ≡ list_any (λ e. nat_lt above e.0 && is_judged false e.1.certification) entries.now }
+    ensures { result ≡ list_any (λ e. nat_lt above e.0 && is_judged false e.1.certification) entries.entry }
 {
-    for entry in entries {
-        if was_refused_above(entry, above) {
+    while let Some(entry) = entries.pop_first() {
+        if was_refused_above(entry.0, entry.1, above) {
             return true;
         }
     }
@@ -99,23 +100,23 @@ impl<S: CertificateScheme, D: Digest> Rounds<S, D> {
     ghost use Rattle.simplex_voter.specs.Rounds.{is_refused_between};
 
     /// The rounds of the tracked views below a view, by rising view.
-    pub fn below(&self, view: View) -> &[(View, Round<S, D>)]
-        ensures { result.now ≡ filter (λ e. nat_lt e.0 view) self.now.by_view }
+    pub fn below(&self, view: View) -> Entries<'_, Round<S, D>>
+        ensures { result ≡ filter (λ e. nat_lt e.0 view) self.now.by_view }
     {
         self.by_view.below(view)
     }
 
     /// The rounds of the tracked views at or above a view, by rising view.
-    pub fn at_or_above(&self, view: View) -> &[(View, Round<S, D>)]
-        ensures { result.now ≡ filter (λ e. nat_le view e.0) self.now.by_view }
+    pub fn at_or_above(&self, view: View) -> Entries<'_, Round<S, D>>
+        ensures { result ≡ filter (λ e. nat_le view e.0) self.now.by_view }
     {
         self.by_view.at_or_above(view)
     }
 
     /// The rounds of the tracked views from one view to another, by rising view.
-    pub fn within(&self, low: View, high: View) -> &[(View, Round<S, D>)]
+    pub fn within(&self, low: View, high: View) -> Entries<'_, Round<S, D>>
         requires { (low ≤ high + 1) × (high + 1 < 2 ^ 64) }
-        ensures within { result.now ≡ filter (λ e. nat_le low e.0 && nat_le e.0 high) self.now.by_view }
+        ensures within { result ≡ filter (λ e. nat_le low e.0 && nat_le e.0 high) self.now.by_view }
         ensures ordered { is_sorted nat_cmp self.now.by_view ≡ true }
     {
         self.by_view.between(low, high.next())

@@ -5,18 +5,19 @@ ghost use Rattle.simplex_voter.specs.Timeouts.{is_entered_between, standing_dead
 
 use super::state::State;
 use simplex_round::round::Round;
+use simplex_types::sorted::Entries;
 use simplex_types::types::{CertificateScheme, Digest, Elector, View};
 
 /// The stall deadline of the first of the rounds that was entered, above one view and not above another.
 fn first_deadline<S: CertificateScheme, D: Digest>(
-    entries: &[(View, Round<S, D>)],
+    mut entries: Entries<'_, Round<S, D>>,
     finalized: View,
     current: View,
 ) -> Option<u64>
-    ensures { result ≡ option_and_then (λ e. standing_deadline e.1) (slice_get (filter (is_entered_between finalized current) entries.now) 0) }
+    ensures { result ≡ option_and_then (λ e. standing_deadline e.1) (slice_get (filter (is_entered_between finalized current) entries.entry) 0) }
 {
-    for entry in entries {
-        if is_entered_between(entry, finalized, current) {
+    while let Some(entry) = entries.pop_first() {
+        if is_entered_between(entry.0, entry.1, finalized, current) {
             return entry.1.stall_deadline();
         }
     }
@@ -25,13 +26,14 @@ fn first_deadline<S: CertificateScheme, D: Digest>(
 
 /// Whether a view was entered, above one view and not above another.
 fn is_entered_between<S: CertificateScheme, D: Digest>(
-    entry: &(View, Round<S, D>),
+    view: View,
+    round: &Round<S, D>,
     finalized: View,
     current: View,
 ) -> bool
-    ensures { result ≡ is_entered_between finalized current entry.now }
+    ensures { result ≡ is_entered_between finalized current (view, round.now) }
 {
-    entry.0 > finalized && entry.0 <= current && is_entered(&entry.1)
+    view > finalized && view <= current && is_entered(round)
 }
 
 /// Whether the view was entered.

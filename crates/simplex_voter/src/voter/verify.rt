@@ -67,7 +67,7 @@ impl<S: CertificateScheme, L: Elector<S>, D: Digest> State<S, L, D> {
         ensures found { result ≡ option_map (λ e. e.0) (slice_get (views_within self.now low high) 0) }
         ensures ordered { is_sorted nat_cmp self.now.rounds ≡ true }
     {
-        match self.views_within(low, high).first() {
+        match self.views_within(low, high).pop_first() {
             Some(entry) => Some(entry.0),
             None => None,
         }

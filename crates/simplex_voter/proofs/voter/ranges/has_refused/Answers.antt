@@ -7,10 +7,10 @@ pub loop-entry-init : goal.loop-entry-init
 loop-entry-init g c = refl
 
 pub returns-then-was_refused_above : goal.returns-then-was_refused_above
-returns-then-was_refused_above g c = any_found (failed_above c.args.above) _ _ c.loop-entry.invariant _ c.loop-entry-test.true c.entry-item.is c.if-was_refused_above.ensures
+returns-then-was_refused_above g c = any_found (failed_above c.args.above) _ _ c.loop-entry.invariant _ _ c.in-Some.ensures c.if-was_refused_above.ensures
 
 pub loop-entry-preserved : goal.loop-entry-preserved
-loop-entry-preserved g c = any_next (failed_above c.args.above) _ _ c.loop-entry.invariant _ c.loop-entry-test.true c.entry-item.is c.if-was_refused_above.ensures
+loop-entry-preserved g c = any_next (failed_above c.args.above) _ _ c.loop-entry.invariant _ _ c.in-Some.ensures c.if-was_refused_above.ensures
 
 pub returns : goal.returns
-returns g c = any_end (failed_above c.args.above) _ _ c.loop-entry.invariant c.loop-entry-test.false
+returns g c = any_end (failed_above c.args.above) _ _ c.loop-entry.invariant c.in_default.ensures.0

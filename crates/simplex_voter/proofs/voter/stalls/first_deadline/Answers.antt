@@ -7,10 +7,10 @@ use Rattle.simplex_voter.proofs.voter.stalls.first_deadline.Goals as goal
 pub returns-then-is_entered_between : goal.returns-then-is_entered_between
 returns-then-is_entered_between g c =
     c.stall_deadline.ensures
-    ∙ ap (option_and_then (λ e. standing_deadline e.1)) (sym (first_found (is_entered_between c.args.finalized c.args.current) _ _ c.loop-entry.invariant _ c.loop-entry-test.true c.entry-item.is c.if-is_entered_between.ensures))
+    ∙ ap (option_and_then (λ e. standing_deadline e.1)) (sym (first_found (is_entered_between c.args.finalized c.args.current) _ _ c.loop-entry.invariant _ _ c.in-Some.ensures c.if-is_entered_between.ensures))
 
 pub loop-entry-preserved : goal.loop-entry-preserved
-loop-entry-preserved g c = first_next (is_entered_between c.args.finalized c.args.current) _ _ c.loop-entry.invariant _ c.loop-entry-test.true c.entry-item.is c.if-is_entered_between.ensures
+loop-entry-preserved g c = first_next (is_entered_between c.args.finalized c.args.current) _ _ c.loop-entry.invariant _ _ c.in-Some.ensures c.if-is_entered_between.ensures
 
 pub returns : goal.returns
-returns g c = ap (option_and_then (λ e. standing_deadline e.1)) (sym (first_end (is_entered_between c.args.finalized c.args.current) _ _ c.loop-entry.invariant c.loop-entry-test.false))
+returns g c = ap (option_and_then (λ e. standing_deadline e.1)) (sym (first_end (is_entered_between c.args.finalized c.args.current) _ _ c.loop-entry.invariant c.in_default.ensures.0))

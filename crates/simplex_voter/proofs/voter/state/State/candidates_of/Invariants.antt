@@ -1,3 +1,4 @@
+use Rattle.std.proofs.Common.{length}
 use Rattle.simplex_voter.specs.Certification.{offered_of, fetched_of}
 use Rattle.simplex_voter.proofs.Offers.{Gathers}
 use Rattle.simplex_voter.proofs.voter.state.State.candidates_of.Given as goal
@@ -5,6 +6,9 @@ use Rattle.simplex_voter.proofs.voter.state.State.candidates_of.Given as goal
 -- both lists, with what the rest gives, are the answer
 abbrev pub invariant-loop-entry : goal.invariant-loop-entry
 invariant-loop-entry g l = record {
-  offers : Gathers (λ e. offered_of g.D.PartialEq.eq g.L.Elector.elect l.self e.0) l.views l.offers.items l.entry-index;
-  fetches : Gathers (λ e. fetched_of g.L.Elector.elect l.self e.0) l.views l.fetches.items l.entry-index;
+  offers : Gathers (λ e. offered_of g.D.PartialEq.eq g.L.Elector.elect l.self e.0) l.fn.views l.offers.items l.views;
+  fetches : Gathers (λ e. fetched_of g.L.Elector.elect l.self e.0) l.fn.views l.fetches.items l.views;
 }
+
+abbrev pub decreases-loop-entry : goal.decreases-loop-entry
+decreases-loop-entry g l = length l.views

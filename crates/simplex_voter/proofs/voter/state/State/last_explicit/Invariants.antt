@@ -1,12 +1,11 @@
-use Rattle.std.proofs.Common.{◌≡◌, None}
+use Rattle.std.proofs.Common.{◌≡◌, None, length}
 use Rattle.std.specs.List.{filter_map, last_or}
 use Rattle.simplex_voter.specs.Parents.{explicit_at}
 use Rattle.simplex_voter.proofs.voter.state.State.last_explicit.Given as goal
 
 -- the last one stands in what is left
 abbrev pub invariant-loop-entry : goal.invariant-loop-entry
-invariant-loop-entry g l = record {
-  can_next : (goal.iterator-loop-entry g).can_next l.entry-iterator;
-  finite : (goal.iterator-loop-entry g).is_finite l.entry-iterator;
-  rest : last_or None (filter_map (explicit_at l.self) l.fn.entries) ≡ last_or None (filter_map (explicit_at l.self) l.entry-iterator.iter.rest.now);
-}
+invariant-loop-entry g l = last_or None (filter_map (explicit_at l.self) l.fn.entries) ≡ last_or None (filter_map (explicit_at l.self) l.entries)
+
+abbrev pub decreases-loop-entry : goal.decreases-loop-entry
+decreases-loop-entry g l = length l.entries
