@@ -10,3 +10,4 @@ pub mod Kept
 pub mod Last
 pub mod AnswersLaw
 pub mod Again
+pub mod Ranges

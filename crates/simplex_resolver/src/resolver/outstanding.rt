@@ -1,6 +1,6 @@
 //! The views whose fetch is open.
 
-ghost use Rattle.std.specs.Prelude.{◌≡◌, ℕ, ◌≤◌, ◌==◌, ◌&&◌, ◌||◌, not, nat_le, length, take, OnOk, OnErr, IsOkUnless};
+ghost use Rattle.std.specs.Prelude.{◌≡◌, ℕ, ◌≤◌, ◌==◌, ◌&&◌, ◌||◌, not, nat_le, filter, slice_get, length, take, OnOk, OnErr, IsOkUnless};
 ghost use Rattle.simplex_resolver.specs.Repair.{has, fetches, settles, IsApplied, KeepsOutstanding};
 
 use crate::resolver::effect::Effect;
@@ -18,11 +18,24 @@ fn add_view(views: &mut BTreeSet<View>, view: View) -> Result<(), AllocError>
     Ok(())
 }
 
-/// Drops the views of the range.
+/// The lowest view of the range that is among the views.
+fn first_within(views: &BTreeSet<View>, start: View, end: View) -> Option<View>
+    requires { start ≤ end }
+    ensures { result ≡ slice_get (filter (λ v. nat_le start v && nat_le v end) views.now.keys) 0 }
+{
+    views.range(start..=end).next().copied()
+}
+
+/// Drops the views of the range, at the cost of those that are dropped.
 fn drop_range(views: &mut BTreeSet<View>, start: View, end: View)
     ensures { (v : ℕ) → has views.new.keys v ≡ (not (nat_le start v && nat_le v end) && has views.old.keys v) }
 {
-    views.retain(|view| *view < start || *view > end);
+    if start > end {
+        return;
+    }
+    while let Some(view) = first_within(views, start, end) {
+        views.remove(&view);
+    }
 }
 
 fn apply_one(outstanding: &mut BTreeSet<View>, effect: &Effect) -> Result<(), AllocError>

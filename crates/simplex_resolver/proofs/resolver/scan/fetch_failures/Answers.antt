@@ -1,9 +1,9 @@
-use Rattle.std.proofs.Common.{◌≡◌, ℕ, Bool, ◌&&◌, ◌++◌, ◌∙◌, sym, ap, not, nat_lt, true, false, filter, map, append-nil}
+use Rattle.std.proofs.Common.{ℕ, Bool, ◌&&◌, ◌++◌, ◌∙◌, sym, ap, not, nat_lt, filter, map, append-nil}
 use Rattle.std.specs.FinMap.{entries}
 use Rattle.simplex_types.specs.Tracked.{at_or_above}
 use Rattle.simplex_types.specs.ByTerm.{is_covered}
 use Rattle.simplex_resolver.specs.Steps.{failure_fetches}
-use Rattle.simplex_resolver.proofs.Failures.{failure_turn, views_of_all}
+use Rattle.simplex_resolver.proofs.Failures.{views_of_all}
 use Rattle.simplex_resolver.proofs.resolver.scan.fetch_failures.Goals as goal
 
 pub loop-entry-init : goal.loop-entry-init
