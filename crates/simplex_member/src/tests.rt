@@ -1,4 +1,8 @@
-//! A member of plain parts that goes on from its journal.
+//! Members of plain parts: one that goes on from its journal, one that begins at a floor, and their timeouts.
+
+mod floors;
+mod records;
+mod timeouts;
 
 ghost use Rattle.std.specs.Prelude.{◌≡◌, IfOk, length};
 ghost use Rattle.simplex_types.specs.Plain.{members_of, keys_of};
