@@ -4,8 +4,10 @@ use Rattle.std.specs.Prelude.{option_map}
 use Rattle.simplex_types.specs.Certificates.{CertificateFacts, Notarized, Nullified, Finalized}
 use Rattle.simplex_voter.specs.Facts.{Facts, Elect}
 use Rattle.simplex_voter.specs.Serving.{broadcast_notarization_answer, broadcast_nullification_answer, broadcast_finalization_answer}
-use Rattle.simplex_member.specs.Calls.{CallFacts, BroadcastNotarization, BroadcastNullification, BroadcastFinalization, GetBestCertificate, Told, Handed, answer}
+use Rattle.simplex_member.specs.Calls.{CallFacts, BroadcastNotarization, BroadcastNullification, BroadcastFinalization, GetBestCertificate, Told, Handed}
 use Rattle.simplex_member.specs.Entries.{certificate_round}
+use Rattle.simplex_member.specs.Made.{answer}
+use Rattle.simplex_member.specs.Openings.{Openings}
 use Rattle.simplex_laws.specs.LifeLaws.{Kind, Notarization, Nullification, Finalization, kind_of, IsAsAsked}
 use Rattle.simplex_laws.proofs.Sound.{IsPlaced}
 use Rattle.simplex_laws.proofs.HandedOut.{asked}
@@ -60,9 +62,9 @@ nothing_asked K told Nullification v c asks tells = absurd (cc)
 nothing_asked K told Finalization v c asks tells = absurd (cc)
 
 module _ {K L D : Type 0} (same : D → D → Bool) (elect : Elect L) where
-  pub call_as_asked : (x : Facts K L D) (call : CallFacts D) → IsPlaced x → IsAsAsked call (answer same elect x call)
-  call_as_asked x (BroadcastNotarization v) placed = notarization_right x placed v
-  call_as_asked x (BroadcastNullification v) placed = nullification_right x placed v
-  call_as_asked x (BroadcastFinalization v) placed = finalization_right x placed v
-  call_as_asked x GetBestCertificate placed = nothing_asked K _
-  call_as_asked x _ placed = λ kind v d asks tells. absurd (cc)
+  pub call_as_asked : (x : Facts K L D) (o : Openings K D) (call : CallFacts D) → IsPlaced x → IsAsAsked call (answer same elect x o call)
+  call_as_asked x o (BroadcastNotarization v) placed = notarization_right x placed v
+  call_as_asked x o (BroadcastNullification v) placed = nullification_right x placed v
+  call_as_asked x o (BroadcastFinalization v) placed = finalization_right x placed v
+  call_as_asked x o GetBestCertificate placed = nothing_asked K _
+  call_as_asked x o _ placed = λ kind v d asks tells. absurd (cc)

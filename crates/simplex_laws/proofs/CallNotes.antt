@@ -5,7 +5,7 @@ use Rattle.std.specs.declared.cmp.Ordering.{Ordering}
 use Rattle.std.specs.declared.cmp.Ordering.TheVariants.{Less, Equal, Greater}
 use Rattle.std.specs.BTreeSet.{insert_key}
 use Rattle.std.specs.FinMap.Entries.{find, find-where_key}
-use Rattle.std.proofs.lemmas.Bool.{false≢true, le-leb}
+use Rattle.std.proofs.lemmas.Bool.{false≢true, true≢false, le-leb}
 use Rattle.std.proofs.lemmas.Bool.Decides.{nat_tests}
 use Rattle.std.proofs.lemmas.List.Elements.{Contains-append_right}
 use Rattle.simplex_types.specs.Terms.{next_term_start}
@@ -20,9 +20,10 @@ use Rattle.simplex_voter.specs.Windows.{min_active}
 use Rattle.simplex_voter.specs.Refusals.{is_started, takes_round}
 use Rattle.simplex_voter.specs.Serving.{after_prune}
 use Rattle.simplex_voter.proofs.Gaps.{and_parts}
-use Rattle.simplex_member.specs.Calls.{CallFacts, AddNotarization, AddNullification, AddFinalization, Certified, ConstructNullify, ConstructFinalize, BroadcastNotarization, BroadcastNullification, BroadcastFinalization, GetBestCertificate, Prune, is_allowed, answer, after_call}
-use Rattle.simplex_member.specs.Lives.{closed_by}
-use Rattle.simplex_member.specs.Openings.{Openings, is_verifying, context_at}
+use Rattle.simplex_member.specs.Calls.{CallFacts, AddNotarization, AddNullification, AddFinalization, Certified, ConstructNullify, ConstructFinalize, BroadcastNotarization, BroadcastNullification, BroadcastFinalization, GetBestCertificate, Prune}
+use Rattle.simplex_member.specs.Allowed.{is_allowed}
+use Rattle.simplex_member.specs.Made.{answer, after_call, openings_after}
+use Rattle.simplex_member.specs.Openings.{Openings, is_verifying, context_at, without_offer}
 use Rattle.simplex_laws.specs.Deeds.{Deed, Accepts, deeds_of_call}
 use Rattle.simplex_laws.proofs.Signed.{signed_none}
 use Rattle.simplex_laws.proofs.Splits.{Contains-cases, Contains-cons_rest}
@@ -32,6 +33,7 @@ use Rattle.simplex_laws.proofs.Calm.{calm_alike}
 use Rattle.simplex_laws.proofs.CalmOn.{CalmOn, on_same, on_tracked}
 use Rattle.simplex_laws.proofs.CalmCalls.{on_add_notarization, on_nullification_kept, on_add_finalization, on_certified, on_nullify, on_finalize}
 use Rattle.simplex_laws.proofs.Tidy.{Tidy}
+use Rattle.simplex_laws.proofs.WorkCalls.{is_work}
 use Rattle.simplex_laws.proofs.Notes.{NotesStand, notes_acted, notes_calm}
 use Rattle.simplex_laws.proofs.NotesRemembered.{calls_cast_none}
 
@@ -48,9 +50,9 @@ among_more k u (x ∷ xs) h = by_order (nat_cmp k x) (among_more k u xs) h
       | inr rest ↦ elim (behind rest) [ inl at ↦ inl at | inr old ↦ inr (Contains-cons_rest x xs u old) ]
     ]
 
--- offers say nothing of votes to notarize
-closed_offer : {K L D : Type 0} (base low : ℕ) (deeds : List (Deed D)) (o : Openings K D) (call : CallFacts D) (y : Facts K L D) → NotesStand base low deeds o y → NotesStand base low deeds (closed_by o call) y
-closed_offer base low deeds o (Certified v success now) y notes = record {
+-- what is offered says nothing of votes to notarize
+other_offers : {K L D : Type 0} (base low : ℕ) (deeds : List (Deed D)) (o : Openings K D) (v : ℕ) (y : Facts K L D) → NotesStand base low deeds o y → NotesStand base low deeds (without_offer o v) y
+other_offers base low deeds o v y notes = record {
   above = notes.above;
   active = notes.active;
   reached = notes.reached;
@@ -63,15 +65,14 @@ closed_offer base low deeds o (Certified v success now) y notes = record {
   voted = notes.voted;
   covered = notes.covered;
 }
-closed_offer base low deeds o call y notes = notes
 
 module _ {K L D : Type 0} (same : D → D → Bool) (elect : Elect L) (base low : ℕ) (deeds : List (Deed D)) (o : Openings K D) (x : Facts K L D) (notes : NotesStand base low deeds o x) where
   -- the deeds of the call, and a change that leaves the work on each view
-  acted : (call : CallFacts D) → CalmOn base x (after_call same elect x call) → NotesStand base low (deeds ++ deeds_of_call {K = K} call (answer same elect x call)) o (after_call same elect x call)
-  acted call left =
-      let y = after_call same elect x call in
-      let more = deeds_of_call {K = K} call (answer same elect x call) in
-      notes_calm base low (deeds ++ more) o o x y left (λ v is. is) (λ v c is. is) (notes_acted base low deeds more o x (calls_cast_none same elect x call) notes)
+  acted : (call : CallFacts D) → is_work call ≡ false → CalmOn base x (after_call same elect x o call) → NotesStand base low (deeds ++ deeds_of_call {K = K} call (answer same elect x o call)) o (after_call same elect x o call)
+  acted call plain left =
+      let y = after_call same elect x o call in
+      let more = deeds_of_call {K = K} call (answer same elect x o call) in
+      notes_calm base low (deeds ++ more) o o x y left (λ v is. is) (λ v c is. is) (notes_acted base low deeds more o x (calls_cast_none same elect x o call plain) notes)
 
   active_view : (round : Round) → takes_round x round ≡ true → (1 ≤ round.view) × (base ≤ round.view)
   active_view round takes =
@@ -79,13 +80,13 @@ module _ {K L D : Type 0} (same : D → D → Bool) (elect : Elect L) (base low 
       let parts = and_parts (nat_le 1 round.view) (nat_le (min_active x) round.view) admitted in
       (grind (arith, nat_tests, parts.0), (let over : min_active x ≤ round.view = grind (arith, nat_tests, parts.1) in omega (arith, over, notes.active)))
 
-  nullification_notes : (c : NullificationFacts) (now : ℕ) → 0 < x.terms.term_length → takes_round x c.round ≡ true → NotesStand base low (deeds ++ Accepts (subject.Nullify c.round) ∷ []) o (after_call same elect x (AddNullification c now))
+  nullification_notes : (c : NullificationFacts) (now : ℕ) → 0 < x.terms.term_length → takes_round x c.round ≡ true → NotesStand base low (deeds ++ Accepts (subject.Nullify c.round) ∷ []) o (after_call same elect x o (AddNullification c now))
   nullification_notes c now some takes =
       let view = active_view c.round takes in
       let more = Accepts (subject.Nullify c.round) ∷ [] in
       let next : c.round.view < next_term_start x.terms.term_length c.round.view = next_above x.terms.term_length c.round.view some view.0 in
       let left = on_nullification_kept base same elect x c now view.1 (omega (arith, next, view.1)) in
-      let acted_notes = notes_acted base low deeds more o x (calls_cast_none same elect x (AddNullification c now)) notes in
+      let acted_notes = notes_acted base low deeds more o x (calls_cast_none same elect x o (AddNullification c now) refl) notes in
       let kept = notes_calm base low (deeds ++ more) o o x _ left (λ v is. is) (λ v c is. is) acted_notes in
       record {
         above = kept.above;
@@ -141,25 +142,20 @@ module _ {K L D : Type 0} (same : D → D → Bool) (elect : Elect L) (base low 
       worked_still v true is verified un = notes.worked v (sym (ap (λ (r : RoundFacts K D). r.slot.verified) (round_by v true is)) ∙ verified) (sym (ap (λ (r : RoundFacts K D). r.notarize_decided) (round_by v true is)) ∙ un)
       worked_still v false is verified un = absurd (false≢true (sym (ap (λ (r : RoundFacts K D). r.slot.verified) (round_by v false is)) ∙ verified))
 
-  -- a call that is allowed, whatever is open
-  open_notes : (call : CallFacts D) → 0 < x.terms.term_length → x.finalized < x.current → is_allowed x call ≡ true → (b : ℕ) × NotesStand b low (deeds ++ deeds_of_call {K = K} call (answer same elect x call)) o (after_call same elect x call)
-  open_notes (AddNotarization c) some ahead allowed = (base, acted (AddNotarization c) (on_add_notarization base same elect x c (active_view c.proposal.round allowed).1))
-  open_notes (AddNullification c now) some ahead allowed = (base, nullification_notes c now some allowed)
-  open_notes (AddFinalization c now) some ahead allowed = (base, acted (AddFinalization c now) (on_add_finalization base same elect x c now (active_view c.proposal.round allowed).1))
-  open_notes (Certified v success now) some ahead allowed = (base, acted (Certified v success now) (on_certified base elect x v success now (λ tracked. notes.above v tracked)))
-  open_notes (ConstructNullify v) some ahead allowed = (base, acted (ConstructNullify v) (on_nullify base elect x v (omega (arith, notes.active, ahead))))
-  open_notes (ConstructFinalize v) some ahead allowed = (base, acted (ConstructFinalize v) (on_finalize base elect x v (omega (arith, notes.active))))
-  open_notes (BroadcastNotarization v) some ahead allowed = (base, acted (BroadcastNotarization v) (on_tracked base x v _ (calm_alike v (round_of x v) _ refl refl refl refl refl)))
-  open_notes (BroadcastNullification v) some ahead allowed = (base, acted (BroadcastNullification v) (on_tracked base x v _ (calm_alike v (round_of x v) _ refl refl refl refl refl)))
-  open_notes (BroadcastFinalization v) some ahead allowed = (base, acted (BroadcastFinalization v) (on_tracked base x v _ (calm_alike v (round_of x v) _ refl refl refl refl refl)))
-  open_notes GetBestCertificate some ahead allowed = (base, acted GetBestCertificate (on_same base x))
-  open_notes Prune some ahead allowed = (min_active x, notes_nothing)
+  -- a call that is allowed, and not on the work of a view
+  pub call_notes : (call : CallFacts D) → is_work call ≡ false → 0 < x.terms.term_length → x.finalized < x.current → is_allowed x o call ≡ true → (b : ℕ) × NotesStand b low (deeds ++ deeds_of_call {K = K} call (answer same elect x o call)) (openings_after same elect x o call) (after_call same elect x o call)
+  call_notes (AddNotarization c) plain some ahead allowed = (base, acted (AddNotarization c) refl (on_add_notarization base same elect x c (active_view c.proposal.round allowed).1))
+  call_notes (AddNullification c now) plain some ahead allowed = (base, nullification_notes c now some allowed)
+  call_notes (AddFinalization c now) plain some ahead allowed = (base, acted (AddFinalization c now) refl (on_add_finalization base same elect x c now (active_view c.proposal.round allowed).1))
+  call_notes (Certified v success now) plain some ahead allowed = (base, other_offers base low (deeds ++ []) o v _ (acted (Certified v success now) refl (on_certified base elect x v success now (λ tracked. notes.above v tracked))))
+  call_notes (ConstructNullify v) plain some ahead allowed = (base, acted (ConstructNullify v) refl (on_nullify base elect x v (omega (arith, notes.active, ahead))))
+  call_notes (ConstructFinalize v) plain some ahead allowed = (base, acted (ConstructFinalize v) refl (on_finalize base elect x v (omega (arith, notes.active))))
+  call_notes (BroadcastNotarization v) plain some ahead allowed = (base, acted (BroadcastNotarization v) refl (on_tracked base x v _ (calm_alike v (round_of x v) _ refl refl refl refl refl)))
+  call_notes (BroadcastNullification v) plain some ahead allowed = (base, acted (BroadcastNullification v) refl (on_tracked base x v _ (calm_alike v (round_of x v) _ refl refl refl refl refl)))
+  call_notes (BroadcastFinalization v) plain some ahead allowed = (base, acted (BroadcastFinalization v) refl (on_tracked base x v _ (calm_alike v (round_of x v) _ refl refl refl refl refl)))
+  call_notes GetBestCertificate plain some ahead allowed = (base, acted GetBestCertificate refl (on_same base x))
+  call_notes Prune plain some ahead allowed = (min_active x, notes_nothing)
     where
       notes_nothing : NotesStand (min_active x) low (deeds ++ []) o (after_prune x)
       notes_nothing = notes_acted (min_active x) low deeds [] o (after_prune x) (λ p h. absurd (signed_none (subject.Notarize p) h)) pruned_notes
-
-  -- with the offer closed that a verdict closes
-  pub call_notes : (call : CallFacts D) → 0 < x.terms.term_length → x.finalized < x.current → is_allowed x call ≡ true → (b : ℕ) × NotesStand b low (deeds ++ deeds_of_call {K = K} call (answer same elect x call)) (closed_by o call) (after_call same elect x call)
-  call_notes call some ahead allowed =
-      let left = open_notes call some ahead allowed in
-      (left.0, closed_offer left.0 low (deeds ++ deeds_of_call {K = K} call (answer same elect x call)) o call (after_call same elect x call) left.1)
+  call_notes _ plain some ahead allowed = absurd (true≢false plain)

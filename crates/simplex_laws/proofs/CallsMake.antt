@@ -2,6 +2,7 @@
 -- after each call and in each new life.
 use Rattle.std.proofs.Common.{◌≡◌, refl, sym, subst, ℕ, Bool, true, false, if◌then◌else◌, nat_lt, List, [], ◌∷◌, Option, Some, None}
 use Rattle.std.specs.Option.{option_map_or}
+use Rattle.std.proofs.lemmas.Bool.{false≢true}
 use Rattle.simplex_types.specs.Certificates.{Notarized, Nullified, Finalized, ArtifactFacts, NotarizeVote, NullifyVote, FinalizeVote, Verdict, Accepted}
 use Rattle.simplex_types.specs.Config.{FloorFacts}
 use Rattle.simplex_types.specs.declared.types.messages.Context.{Context}
@@ -11,15 +12,15 @@ use Rattle.simplex_voter.specs.Certification.{takes_certify_handle}
 use Rattle.simplex_voter.specs.Acceptance.{after_set_floor}
 use Rattle.simplex_voter.proofs.Gaps.{and_parts}
 use Rattle.simplex_member.specs.Calls as calls
-use Rattle.simplex_member.specs.Calls.{CallFacts, is_allowed, after_call}
+use Rattle.simplex_member.specs.Allowed.{is_allowed}
+use Rattle.simplex_member.specs.Calls.{CallFacts}
 use Rattle.simplex_member.specs.Entries.{entry_view}
+use Rattle.simplex_member.specs.Made.{after_call}
 use Rattle.simplex_member.specs.Openings.{Openings, context_at, is_offered}
 use Rattle.simplex_member.specs.Recovery.{replayed, retaken, taken, all_taken, recovered}
-use Rattle.simplex_member.specs.Work as work
-use Rattle.simplex_member.specs.Work.{WorkCall, work_allowed, after_work}
-use Rattle.simplex_laws.specs.Events.{Event, IsEvent, after_event, SetFloor, AddNotarization, AddNullification, AddFinalization, Certified, Proposed, Supersede, Replay, events_of}
-use Rattle.simplex_laws.specs.Histories.{in_context, work_events}
+use Rattle.simplex_laws.specs.Events.{Event, IsEvent, after_event, SetFloor, AddNotarization, AddNullification, AddFinalization, Certified, Proposed, Supersede, Replay, in_context, events_of}
 use Rattle.simplex_laws.proofs.Steps.{IsSilent}
+use Rattle.simplex_laws.proofs.WorkCalls.{is_work}
 
 -- how a life begins
 abbrev pub is_floor : {K D : Type 0} → Event K D → Bool
@@ -44,56 +45,39 @@ module _ {K L D : Type 0} (same : D → D → Bool) (elect : Elect L) (x : Facts
   by_any P still each [] = still
   by_any P still each (e ∷ rest) = each e
 
-  -- calls
-
-  call_is : (call : CallFacts D) → after_call same elect x call ≡ after_one (events_of call)
-  call_is calls.GetBestCertificate = refl
-  call_is _ = refl
-
-  call_taken : (call : CallFacts D) → is_allowed x call ≡ true → IsOneTaken (events_of call)
-  call_taken (calls.AddNotarization c) is = (is, refl, refl)
-  call_taken (calls.AddNullification c now) is = (is, refl, refl)
-  call_taken (calls.AddFinalization c now) is = (is, refl, refl)
-  call_taken (calls.Certified v success now) is = (is, refl, refl)
-  call_taken calls.GetBestCertificate is = tt
-  call_taken _ is = (tt, refl, refl)
-
-  -- what holds of no change and of each event that is taken holds of a call that is allowed
-  pub call_by_event : (P : List (Event K D) → Facts K L D → Type 0) → P [] x → ((e : Event K D) → IsEvent x e → is_floor e ≡ false → P (e ∷ []) (after_event same elect x e)) → (call : CallFacts D) → is_allowed x call ≡ true → P (events_of call) (after_call same elect x call)
-  call_by_event P still each call allowed = subst (P (events_of call)) (sym (call_is call)) (by_one P still each (events_of call) (call_taken call allowed))
-
-  -- and what holds of each event in any case, of each call
-  pub call_by_any : (P : Facts K L D → Type 0) → P x → ((e : Event K D) → P (after_event same elect x e)) → (call : CallFacts D) → P (after_call same elect x call)
-  call_by_any P still each call = subst P (sym (call_is call)) (by_any P still each (events_of call))
-
-  -- calls on the work of a view
-
   in_context_is : (f : Context D K → Facts K L D) (event : Context D K → Event K D) → ((c : Context D K) → f c ≡ after_event same elect x (event c)) → (context : Option (Context D K)) → option_map_or f context x ≡ after_one (in_context event context)
   in_context_is f event is None = refl
   in_context_is f event is (Some c) = is c
 
-  work_is : (o : Openings K D) (call : WorkCall D) → after_work same elect x o call ≡ after_one (work_events o call)
-  work_is o (work.Proposed v payload now) = in_context_is _ (λ c. Proposed c payload now) (λ c. refl) (context_at o v)
-  work_is o (work.SupersedeProposalRequest v) = in_context_is _ Supersede (λ c. refl) (context_at o v)
-  work_is o _ = refl
+  call_is : (o : Openings K D) (call : CallFacts D) → after_call same elect x o call ≡ after_one (events_of o call)
+  call_is o (calls.Proposed v payload now) = in_context_is _ (λ c. Proposed c payload now) (λ c. refl) (context_at o v)
+  call_is o (calls.SupersedeProposalRequest v) = in_context_is _ Supersede (λ c. refl) (context_at o v)
+  call_is o _ = refl
 
   in_context_taken : (event : Context D K → Event K D) → ((c : Context D K) → IsEvent x (event c) × (is_floor (event c) ≡ false)) → (context : Option (Context D K)) → IsOneTaken (in_context event context)
   in_context_taken event taken None = tt
   in_context_taken event taken (Some c) = ((taken c).0, (taken c).1, refl)
 
-  work_taken : (o : Openings K D) (call : WorkCall D) → work_allowed x o call ≡ true → IsOneTaken (work_events o call)
-  work_taken o (work.SetProposal v p) is = (is, refl, refl)
-  work_taken o (work.Proposed v payload now) is = in_context_taken (λ c. Proposed c payload now) (λ c. (tt, refl)) (context_at o v)
-  work_taken o (work.SupersedeProposalRequest v) is = in_context_taken Supersede (λ c. (tt, refl)) (context_at o v)
-  work_taken o (work.PendingHandoffAbandonment v) is = tt
-  work_taken o (work.SetCertifyHandle v token) is = ((and_parts (is_offered o v) (takes_certify_handle x v) is).1, refl, refl)
-  work_taken o _ is = (tt, refl, refl)
+  call_taken : (o : Openings K D) (call : CallFacts D) → is_allowed x o call ≡ true → IsOneTaken (events_of o call)
+  call_taken o (calls.AddNotarization c) is = (is, refl, refl)
+  call_taken o (calls.AddNullification c now) is = (is, refl, refl)
+  call_taken o (calls.AddFinalization c now) is = (is, refl, refl)
+  call_taken o (calls.SetProposal v p) is = (is, refl, refl)
+  call_taken o (calls.Proposed v payload now) is = in_context_taken (λ c. Proposed c payload now) (λ c. (tt, refl)) (context_at o v)
+  call_taken o (calls.SupersedeProposalRequest v) is = in_context_taken Supersede (λ c. (tt, refl)) (context_at o v)
+  call_taken o (calls.PendingHandoffAbandonment v) is = tt
+  call_taken o (calls.SetCertifyHandle v token) is = ((and_parts (is_offered o v) (takes_certify_handle x v) is).1, refl, refl)
+  call_taken o (calls.Certified v success now) is = (is, refl, refl)
+  call_taken o calls.GetBestCertificate is = tt
+  call_taken o _ is = (tt, refl, refl)
 
-  pub work_by_event : (o : Openings K D) (P : List (Event K D) → Facts K L D → Type 0) → P [] x → ((e : Event K D) → IsEvent x e → is_floor e ≡ false → P (e ∷ []) (after_event same elect x e)) → (call : WorkCall D) → work_allowed x o call ≡ true → P (work_events o call) (after_work same elect x o call)
-  work_by_event o P still each call allowed = subst (P (work_events o call)) (sym (work_is o call)) (by_one P still each (work_events o call) (work_taken o call allowed))
+  -- what holds of no change and of each event that is taken holds of a call that is allowed
+  pub call_by_event : (o : Openings K D) (P : List (Event K D) → Facts K L D → Type 0) → P [] x → ((e : Event K D) → IsEvent x e → is_floor e ≡ false → P (e ∷ []) (after_event same elect x e)) → (call : CallFacts D) → is_allowed x o call ≡ true → P (events_of o call) (after_call same elect x o call)
+  call_by_event o P still each call allowed = subst (P (events_of o call)) (sym (call_is o call)) (by_one P still each (events_of o call) (call_taken o call allowed))
 
-  pub work_by_any : (o : Openings K D) (P : Facts K L D → Type 0) → P x → ((e : Event K D) → P (after_event same elect x e)) → (call : WorkCall D) → P (after_work same elect x o call)
-  work_by_any o P still each call = subst P (sym (work_is o call)) (by_any P still each (work_events o call))
+  -- and what holds of each event in any case, of each call
+  pub call_by_any : (o : Openings K D) (P : Facts K L D → Type 0) → P x → ((e : Event K D) → P (after_event same elect x e)) → (call : CallFacts D) → P (after_call same elect x o call)
+  call_by_any o P still each call = subst P (sym (call_is o call)) (by_any P still each (events_of o call))
 
 -- calls on the work of a view are silent
 
@@ -106,11 +90,22 @@ module _ {K D : Type 0} where
   in_context_silent event silent None = tt
   in_context_silent event silent (Some c) = (silent c, tt)
 
-  pub work_silent : (o : Openings K D) (call : WorkCall D) → AreSilent (work_events o call)
-  work_silent o (work.Proposed v payload now) = in_context_silent (λ c. Proposed c payload now) (λ c. record { notarization = refl; nullification = refl; finalization = refl; verdict = refl; note = refl; nullify = refl; finalize = refl; final = refl; prune = refl }) (context_at o v)
-  work_silent o (work.SupersedeProposalRequest v) = in_context_silent Supersede (λ c. record { notarization = refl; nullification = refl; finalization = refl; verdict = refl; note = refl; nullify = refl; finalize = refl; final = refl; prune = refl }) (context_at o v)
-  work_silent o (work.PendingHandoffAbandonment v) = tt
-  work_silent o _ = (record { notarization = refl; nullification = refl; finalization = refl; verdict = refl; note = refl; nullify = refl; finalize = refl; final = refl; prune = refl }, tt)
+  pub work_silent : (o : Openings K D) (call : CallFacts D) → is_work call ≡ true → AreSilent (events_of o call)
+  work_silent o (calls.Proposed v payload now) work = in_context_silent (λ c. Proposed c payload now) (λ c. record { notarization = refl; nullification = refl; finalization = refl; verdict = refl; note = refl; nullify = refl; finalize = refl; final = refl; prune = refl }) (context_at o v)
+  work_silent o (calls.SupersedeProposalRequest v) work = in_context_silent Supersede (λ c. record { notarization = refl; nullification = refl; finalization = refl; verdict = refl; note = refl; nullify = refl; finalize = refl; final = refl; prune = refl }) (context_at o v)
+  work_silent o (calls.PendingHandoffAbandonment v) work = tt
+  work_silent o (calls.AddNotarization c) work = absurd (false≢true work)
+  work_silent o (calls.AddNullification c now) work = absurd (false≢true work)
+  work_silent o (calls.AddFinalization c now) work = absurd (false≢true work)
+  work_silent o (calls.Certified v success now) work = absurd (false≢true work)
+  work_silent o (calls.ConstructNullify v) work = absurd (false≢true work)
+  work_silent o (calls.ConstructFinalize v) work = absurd (false≢true work)
+  work_silent o (calls.BroadcastNotarization v) work = absurd (false≢true work)
+  work_silent o (calls.BroadcastNullification v) work = absurd (false≢true work)
+  work_silent o (calls.BroadcastFinalization v) work = absurd (false≢true work)
+  work_silent o calls.GetBestCertificate work = absurd (false≢true work)
+  work_silent o calls.Prune work = absurd (false≢true work)
+  work_silent o _ work = (record { notarization = refl; nullification = refl; finalization = refl; verdict = refl; note = refl; nullify = refl; finalize = refl; final = refl; prune = refl }, tt)
 
 -- what each event keeps, whether it is taken or not, holds of each new life
 

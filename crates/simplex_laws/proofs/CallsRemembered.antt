@@ -1,7 +1,7 @@
 -- Each call of a life is remembered by the record that it leaves.
 use Rattle.std.proofs.Common.{◌≡◌, refl, ap, sym, ◌∙◌, subst, ℕ, Bool, true, false, ◌&&◌, not, List, [], ◌∷◌, ◌++◌, Contains, Option, Some, None, is_some, unwrap_or, arith}
 use Rattle.std.specs.Option.{option_map_or}
-use Rattle.std.proofs.lemmas.Bool.{false≢true}
+use Rattle.std.proofs.lemmas.Bool.{false≢true, true≢false}
 use Rattle.std.proofs.lemmas.List.Elements.{Contains-append_left, Contains-append_right}
 use Rattle.simplex_types.specs.Certificates.{CertificateFacts, Notarized, Nullified, Finalized, ArtifactFacts, NullifyVote, FinalizeVote, Verdict, Accepted}
 use Rattle.simplex_types.specs.declared.types.messages.Proposal.{Proposal}
@@ -17,9 +17,13 @@ use Rattle.simplex_voter.specs.Votes.{after_construct_nullify, after_construct_f
 use Rattle.simplex_voter.specs.Acceptance.{notarization_added, nullification_added, finalization_added}
 use Rattle.simplex_voter.proofs.Gaps.{and_parts}
 use Rattle.simplex_voter.proofs.Rules.{nullify_parts, finalize_parts}
-use Rattle.simplex_member.specs.Calls.{CallFacts, AddNotarization, AddNullification, AddFinalization, Certified, ConstructNullify, ConstructFinalize, BroadcastNotarization, BroadcastNullification, BroadcastFinalization, GetBestCertificate, Prune, Nullify, Finalize, nullify_vote, finalize_vote, newly, first_vote, vote_entry, is_allowed, answer, after_call, recorded_by}
+use Rattle.simplex_member.specs.Calls.{CallFacts, AddNotarization, AddNullification, AddFinalization, Certified, ConstructNullify, ConstructFinalize, BroadcastNotarization, BroadcastNullification, BroadcastFinalization, GetBestCertificate, Prune, Nullify, Finalize}
+use Rattle.simplex_member.specs.Allowed.{is_allowed}
+use Rattle.simplex_member.specs.Made.{nullify_vote, finalize_vote, newly, first_vote, vote_entry, answer, after_call, recorded_by}
+use Rattle.simplex_member.specs.Openings.{Openings}
 use Rattle.simplex_laws.specs.Deeds.{Deed, Accepts, Signs, deeds_of_call}
 use Rattle.simplex_laws.proofs.Standing.{Stays}
+use Rattle.simplex_laws.proofs.WorkCalls.{is_work}
 use Rattle.simplex_laws.proofs.StandingVotes.{held_notarized}
 use Rattle.simplex_laws.proofs.LifeCalls.{nullify_silent, nullify_told, finalize_silent, finalize_told, no_key, no_rule}
 use Rattle.simplex_laws.proofs.Recalls.{Remembers}
@@ -188,16 +192,17 @@ module _ {K L D : Type 0} (same : D → D → Bool) (elect : Elect L) (term_leng
       by_rule true may = by_key x.me refl may
       by_rule false barred = untold (finalize_silent elect x v (no_rule (may_finalize elect x v) x.me barred))
 
-  -- each call that is allowed and not refused
-  pub call_follows : (call : CallFacts D) → is_allowed x call ≡ true → Follows (deeds ++ deeds_of_call call (answer same elect x call)) kept (entries ++ recorded_by same elect x call) (after_call same elect x call)
-  call_follows (AddNotarization c) allowed = certificate_follows (notarization_added same elect x c).0 (Notarized c) (event.AddNotarization c) refl refl
-  call_follows (AddNullification c now) allowed = certificate_follows (nullification_added x c) (Nullified c) (event.AddNullification c now) refl refl
-  call_follows (AddFinalization c now) allowed = certificate_follows (finalization_added same elect x c).0 (Finalized c) (event.AddFinalization c now) refl refl
-  call_follows (Certified v success now) allowed = certified_follows v success now allowed
-  call_follows (ConstructNullify v) allowed = nullify_follows v
-  call_follows (ConstructFinalize v) allowed = finalize_follows v
-  call_follows (BroadcastNotarization v) allowed = quiet_follows (event.BroadcastNotarization v) refl refl
-  call_follows (BroadcastNullification v) allowed = quiet_follows (event.BroadcastNullification v) refl refl
-  call_follows (BroadcastFinalization v) allowed = quiet_follows (event.BroadcastFinalization v) refl refl
-  call_follows GetBestCertificate allowed = nothing_follows x follows.marked
-  call_follows Prune allowed = quiet_follows event.Prune refl refl
+  -- each call that is allowed and not refused, and not on the work of a view
+  pub call_follows : (o : Openings K D) (call : CallFacts D) → is_work call ≡ false → is_allowed x o call ≡ true → Follows (deeds ++ deeds_of_call call (answer same elect x o call)) kept (entries ++ recorded_by same elect x call) (after_call same elect x o call)
+  call_follows o (AddNotarization c) plain allowed = certificate_follows (notarization_added same elect x c).0 (Notarized c) (event.AddNotarization c) refl refl
+  call_follows o (AddNullification c now) plain allowed = certificate_follows (nullification_added x c) (Nullified c) (event.AddNullification c now) refl refl
+  call_follows o (AddFinalization c now) plain allowed = certificate_follows (finalization_added same elect x c).0 (Finalized c) (event.AddFinalization c now) refl refl
+  call_follows o (Certified v success now) plain allowed = certified_follows v success now allowed
+  call_follows o (ConstructNullify v) plain allowed = nullify_follows v
+  call_follows o (ConstructFinalize v) plain allowed = finalize_follows v
+  call_follows o (BroadcastNotarization v) plain allowed = quiet_follows (event.BroadcastNotarization v) refl refl
+  call_follows o (BroadcastNullification v) plain allowed = quiet_follows (event.BroadcastNullification v) refl refl
+  call_follows o (BroadcastFinalization v) plain allowed = quiet_follows (event.BroadcastFinalization v) refl refl
+  call_follows o GetBestCertificate plain allowed = nothing_follows x follows.marked
+  call_follows o Prune plain allowed = quiet_follows event.Prune refl refl
+  call_follows o _ plain allowed = absurd (true≢false plain)

@@ -3,15 +3,15 @@ use Rattle.std.proofs.Common.{◌≡◌, refl, subst, ℕ, ◌≤◌, inl, inr, 
 use Rattle.std.proofs.lemmas.List.Elements.{Contains-append_left}
 use Rattle.simplex_voter.specs.Facts.{Facts, Elect}
 use Rattle.simplex_voter.specs.Windows.{min_active}
-use Rattle.simplex_member.specs.Calls.{CallFacts, Told, Refused, NotAllowed, is_allowed, answer, after_call}
-use Rattle.simplex_laws.specs.LifeLaws.{LifeCall, as_step, IsLife, WhileAlive, IsDropped, ConflictsStay}
-use Rattle.simplex_member.specs.Lives.{MemberFacts}
+use Rattle.simplex_member.specs.Allowed.{is_allowed}
+use Rattle.simplex_member.specs.Calls.{CallFacts, Told, Refused, NotAllowed}
+use Rattle.simplex_laws.specs.LifeLaws.{IsLife, WhileAlive, IsDropped, ConflictsStay}
+use Rattle.simplex_member.specs.Lives.{MemberFacts, IsCall}
+use Rattle.simplex_member.specs.Made.{answer, after_call}
 use Rattle.simplex_member.specs.Openings.{Openings}
-use Rattle.simplex_member.specs.Runs.{IsStep}
-use Rattle.simplex_member.specs.Work.{WorkCall, work_allowed, work_answer, after_work}
 use Rattle.simplex_laws.proofs.Splits.{Contains-cons_rest}
-use Rattle.simplex_laws.proofs.Rising.{floor_goes, call_goes, work_goes}
-use Rattle.simplex_laws.proofs.Lasting.{call_lasts, work_lasts}
+use Rattle.simplex_laws.proofs.Rising.{floor_goes, call_goes}
+use Rattle.simplex_laws.proofs.Lasting.{call_lasts}
 use Rattle.simplex_laws.proofs.Paths.{tracked_by}
 use Rattle.simplex_laws.proofs.WithinLives.{alive_still, alive_joined, each_call}
 
@@ -44,32 +44,25 @@ module _ {K L D : Type 0} where
       ]
 
 module _ {K L D : Type 0} (same : D → D → Bool) (elect : Elect L) where
-  call_keeps : (call : CallFacts D) (x : Facts K L D) → is_allowed x call ≡ true → Keeps (answer same elect x call ∷ []) x (after_call same elect x call)
-  call_keeps call x allowed = record { floor = floor; conflicts = conflicts }
+  call_keeps : (call : CallFacts D) (x : Facts K L D) (o : Openings K D) → is_allowed x o call ≡ true → Keeps (answer same elect x o call ∷ []) x (after_call same elect x o call)
+  call_keeps call x o allowed = record { floor = floor; conflicts = conflicts }
     where
-      floor : min_active x ≤ min_active (after_call same elect x call)
-      floor = floor_goes x _ (call_goes same elect x call)
+      floor : min_active x ≤ min_active (after_call same elect x o call)
+      floor = floor_goes x _ (call_goes same elect x o call)
 
-      conflicts : ConflictsStay (answer same elect x call ∷ []) x (after_call same elect x call)
-      conflicts v is = elim (call_lasts same elect x call allowed v) [
+      conflicts : ConflictsStay (answer same elect x o call ∷ []) x (after_call same elect x o call)
+      conflicts v is = elim (call_lasts same elect x o call allowed v) [
         | inl lasts ↦ inl (lasts.conflict is)
         | inr drops ↦ inr (record { dropped = drops.dropped (tracked_by x v (λ r. r.slot.conflict) refl is); below = omega (arith, drops.gone.below, floor) })
       ]
 
-  work_keeps : (call : WorkCall D) (x : Facts K L D) (o : Openings K D) → work_allowed x o call ≡ true → Keeps (work_answer same elect x o call ∷ []) x (after_work same elect x o call)
-  work_keeps call x o allowed = record {
-    floor = floor_goes x _ (work_goes same elect x o call);
-    conflicts = λ v is. inl ((work_lasts same elect x o call allowed v).conflict is);
-  }
-
-  told_keeps : (m : MemberFacts K L D) (call : LifeCall D) (told : Told K D) (left : MemberFacts K L D) → IsStep same elect m (as_step call) told left → WhileAlive (Keeps (told ∷ [])) m.life left.life
+  told_keeps : (m : MemberFacts K L D) (call : CallFacts D) (told : Told K D) (left : MemberFacts K L D) → IsCall same elect m call told left → WhileAlive (Keeps (told ∷ [])) m.life left.life
   told_keeps =
       each_call same elect (λ call told. Keeps (told ∷ []))
       (λ call fault x. keeps (Refused fault ∷ []) x) (λ call x. keeps (NotAllowed ∷ []) x)
-      (λ call x allowed. call_keeps call x allowed)
-      (λ call x o allowed. work_keeps call x o allowed)
+      (λ call x o allowed. call_keeps call x o allowed)
 
-  pub life_keeps : (m end : MemberFacts K L D) (calls : List (LifeCall D)) (replies : List (Told K D)) → IsLife same elect m calls replies end → WhileAlive (Keeps replies) m.life end.life
+  pub life_keeps : (m end : MemberFacts K L D) (calls : List (CallFacts D)) (replies : List (Told K D)) → IsLife same elect m calls replies end → WhileAlive (Keeps replies) m.life end.life
   life_keeps m end [] [] life = subst (λ n. WhileAlive (Keeps []) m.life n.life) life (alive_still (Keeps []) m.life (λ x. keeps [] x))
   life_keeps m end [] (told ∷ replies) life = absurd life
   life_keeps m end (call ∷ calls) [] life = absurd life

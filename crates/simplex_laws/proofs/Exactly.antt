@@ -15,13 +15,14 @@ use Rattle.simplex_round.specs.Round.{is_nullify}
 use Rattle.simplex_voter.specs.Rules.{may_notarize, may_nullify, may_finalize, NotarizeRule, NullifyRule, FinalizeRule}
 use Rattle.simplex_voter.proofs.Rules.{nullify_parts, nullify_whole, finalize_parts, finalize_whole, notarize_parts, notarize_whole}
 use Rattle.simplex_member.specs.declared.member.error.RecoverError.{RecoverError}
-use Rattle.simplex_member.specs.Calls.{CallFacts, ConstructNullify, ConstructFinalize, Told, Nullify, Finalize, Notarize, Refused, NotAllowed, is_allowed, fault_of, answer}
+use Rattle.simplex_member.specs.Allowed.{is_allowed, fault_of}
+use Rattle.simplex_member.specs.Calls.{CallFacts, ConstructNotarize, ConstructNullify, ConstructFinalize, Told, Nullify, Finalize, Notarize, Refused, NotAllowed}
+use Rattle.simplex_member.specs.Made.{answer}
 use Rattle.simplex_member.specs.Lives.{MemberFacts, IsCall, AnswersAlive, reply_of, unless_refused}
 use Rattle.simplex_member.specs.Openings.{Openings}
-use Rattle.simplex_member.specs.Runs.{StepFacts, Calls, Works, Restarts, restart_told, IsStep, IsRun, IsRunFrom}
+use Rattle.simplex_member.specs.Runs.{StepFacts, Calls, Restarts, restart_told, IsStep, IsRun, IsRunFrom}
 use Rattle.simplex_member.specs.Restarts.{RestartFacts}
 use Rattle.simplex_member.specs.Start.{started}
-use Rattle.simplex_member.specs.Work.{WorkCall, ConstructNotarize, work_allowed, work_fault, work_answer, work_reply, IsWorkOf, IsWork}
 use Rattle.simplex_laws.specs.Exactly.{is_refused, IsSignedFor, IsExact, held, ExactAt, RunsExactly, SignsExactly}
 use Rattle.simplex_laws.specs.Deeds.{Deed, Signs, signed_in}
 use Rattle.simplex_laws.specs.Stories.{Story}
@@ -98,20 +99,26 @@ module _ {K L D : Type 0} (same : D → D → Bool) (elect : Elect L) where
   call_refused : (x : Facts K L D) (call : CallFacts D) (f : Fault) → ExactAt same elect (Some x) (Calls call) (Refused f)
   call_refused x (ConstructNullify v) f = refused (NullifyRule x v) x.me (Some (subject.Nullify (round_number x v))) f
   call_refused x (ConstructFinalize v) f = refused (FinalizeRule elect x v) x.me (option_map subject.Finalize (held x v)) f
+  call_refused x (ConstructNotarize v) f = refused (NotarizeRule same elect x v) x.me (option_map subject.Notarize (held x v)) f
   call_refused x _ f = refl
 
-  call_told : (x : Facts K L D) (call : CallFacts D) → ExactAt same elect (Some x) (Calls call) (reply_of same elect x call)
-  call_told x (ConstructNullify v) = by_fault (plain_refusal x)
+  call_told : (x : Facts K L D) (o : Openings K D) (call : CallFacts D) → ExactAt same elect (Some x) (Calls call) (reply_of same elect x o call)
+  call_told x o (ConstructNullify v) = by_fault (plain_refusal x)
     where
-      by_fault : (f : Option Fault) → IsExact (NullifyRule x v) x.me (Some (subject.Nullify (round_number x v))) (unless_refused f (answer same elect x (ConstructNullify v)))
+      by_fault : (f : Option Fault) → IsExact (NullifyRule x v) x.me (Some (subject.Nullify (round_number x v))) (unless_refused f (answer same elect x o (ConstructNullify v)))
       by_fault (Some f) = call_refused x (ConstructNullify v) f
       by_fault None = exact_nullify (NullifyRule x v) (may_nullify x v) (nullify_whole x v) (nullify_parts x v) (may_nullify x v) refl x.me (is_nullify (round_of x v).decision) (round_number x v)
-  call_told x (ConstructFinalize v) = by_fault (plain_refusal x)
+  call_told x o (ConstructFinalize v) = by_fault (plain_refusal x)
     where
-      by_fault : (f : Option Fault) → IsExact (FinalizeRule elect x v) x.me (option_map subject.Finalize (held x v)) (unless_refused f (answer same elect x (ConstructFinalize v)))
+      by_fault : (f : Option Fault) → IsExact (FinalizeRule elect x v) x.me (option_map subject.Finalize (held x v)) (unless_refused f (answer same elect x o (ConstructFinalize v)))
       by_fault (Some f) = call_refused x (ConstructFinalize v) f
       by_fault None = exact_finalize (FinalizeRule elect x v) (may_finalize elect x v) (finalize_whole elect x v) (finalize_parts elect x v) (may_finalize elect x v) refl x.me (held x v)
-  call_told x call = still_none (is_allowed x call) (fault_of x call) (answer same elect x call) refl
+  call_told x o (ConstructNotarize v) = by_fault (plain_refusal x)
+    where
+      by_fault : (f : Option Fault) → IsExact (NotarizeRule same elect x v) x.me (option_map subject.Notarize (held x v)) (unless_refused f (answer same elect x o (ConstructNotarize v)))
+      by_fault (Some f) = call_refused x (ConstructNotarize v) f
+      by_fault None = exact_notarize (NotarizeRule same elect x v) (may_notarize same elect x v) (notarize_whole same elect x v) (notarize_parts same elect x v) (may_notarize same elect x v) refl x.me (held x v)
+  call_told x o call = still_none (is_allowed x o call) (fault_of x call) (answer same elect x o call) refl
 
   pub call_exact : (m next : MemberFacts K L D) (call : CallFacts D) (told : Told K D) → IsCall same elect m call told next → ExactAt same elect m.life (Calls call) told
   unfolding IsCall
@@ -119,32 +126,8 @@ module _ {K L D : Type 0} (same : D → D → Bool) (elect : Elect L) where
     where
       by_life : (o : Option (Facts K L D)) → AnswersAlive same elect o m call told next → ExactAt same elect o (Calls call) told
       by_life None (tells, leaves) = rw tells refl
-      by_life (Some x) (inl (tells, leaves)) = rw tells (call_told x call)
+      by_life (Some x) (inl (tells, leaves)) = rw tells (call_told x m.openings call)
       by_life (Some x) (inr (allowed, tells, leaves)) = rw tells (call_refused x call fault.OutOfMemory)
-
-  work_refused : (x : Facts K L D) (call : WorkCall D) (f : Fault) → ExactAt same elect (Some x) (Works call) (Refused f)
-  work_refused x (ConstructNotarize v) f = refused (NotarizeRule same elect x v) x.me (option_map subject.Notarize (held x v)) f
-  work_refused x _ f = refl
-
-  silent : (x : Facts K L D) (o : Openings K D) (call : WorkCall D) → signed_in (work_answer same elect x o call) ≡ [] → signed_in (work_reply same elect x o call) ≡ []
-  silent x o call none = still_none (work_allowed x o call) (work_fault x call) (work_answer same elect x o call) none
-
-  work_told : (x : Facts K L D) (o : Openings K D) (call : WorkCall D) → ExactAt same elect (Some x) (Works call) (work_reply same elect x o call)
-  work_told x o (ConstructNotarize v) = by_fault (plain_refusal x)
-    where
-      by_fault : (f : Option Fault) → IsExact (NotarizeRule same elect x v) x.me (option_map subject.Notarize (held x v)) (unless_refused f (work_answer same elect x o (ConstructNotarize v)))
-      by_fault (Some f) = work_refused x (ConstructNotarize v) f
-      by_fault None = exact_notarize (NotarizeRule same elect x v) (may_notarize same elect x v) (notarize_whole same elect x v) (notarize_parts same elect x v) (may_notarize same elect x v) refl x.me (held x v)
-  work_told x o call = silent x o call refl
-
-  pub work_exact : (m next : MemberFacts K L D) (call : WorkCall D) (told : Told K D) → IsWork same elect m call told next → ExactAt same elect m.life (Works call) told
-  unfolding IsWork
-  work_exact m next call told is_work = by_life m.life is_work
-    where
-      by_life : (o : Option (Facts K L D)) → IsWorkOf same elect o m call told next → ExactAt same elect o (Works call) told
-      by_life None (tells, leaves) = rw tells refl
-      by_life (Some x) (inl (tells, leaves)) = rw tells (work_told x m.openings call)
-      by_life (Some x) (inr (allowed, tells, leaves)) = rw tells (work_refused x call fault.OutOfMemory)
 
   pub restart_exact : (life : Option (Facts K L D)) (r : RestartFacts K L D) (result : Result (Unit {0}) RecoverError) → ExactAt same elect life (Restarts r) (restart_told result)
   restart_exact None r result = restart_signs_none K D result
@@ -152,7 +135,6 @@ module _ {K L D : Type 0} (same : D → D → Bool) (elect : Elect L) where
 
   pub step_exact : (m next : MemberFacts K L D) (step : StepFacts K L D) (told : Told K D) → IsStep same elect m step told next → ExactAt same elect m.life step told
   step_exact m next (Calls call) told is_step = call_exact m next call told is_step
-  step_exact m next (Works call) told is_step = work_exact m next call told is_step
   step_exact m next (Restarts r) told (result, restarts, is) = rw is (restart_exact m.life r result)
 
   exact_steps : (m end : MemberFacts K L D) (steps : List (StepFacts K L D)) (replies : List (Told K D)) → IsRun same elect m steps replies end → RunsExactly same elect m steps replies

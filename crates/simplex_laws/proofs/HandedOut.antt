@@ -9,14 +9,14 @@ use Rattle.simplex_round.specs.Round.{RoundFacts, new_round, once}
 use Rattle.simplex_voter.specs.Facts.{Facts, Elect, round_at, round_of, round_number, is_tracked, with_round}
 use Rattle.simplex_voter.specs.Windows.{min_active}
 use Rattle.simplex_voter.specs.Serving.{broadcast_notarization_answer, after_broadcast_notarization, broadcast_nullification_answer, after_broadcast_nullification, broadcast_finalization_answer, after_broadcast_finalization, best_certificate}
-use Rattle.simplex_member.specs.Calls.{CallFacts, BroadcastNotarization, BroadcastNullification, BroadcastFinalization, GetBestCertificate, Told, Handed, Refused, NotAllowed, is_allowed, answer, after_call}
-use Rattle.simplex_laws.specs.LifeLaws.{LifeCall, Calling, Working, as_step, IsLife, Kind, Notarization, Nullification, Finalization, asked_by, handed_by, handed_in, HandedOnce}
-use Rattle.simplex_member.specs.Lives.{MemberFacts}
+use Rattle.simplex_member.specs.Allowed.{is_allowed}
+use Rattle.simplex_member.specs.Calls.{CallFacts, BroadcastNotarization, BroadcastNullification, BroadcastFinalization, GetBestCertificate, Told, Handed, Refused, NotAllowed}
+use Rattle.simplex_laws.specs.LifeLaws.{IsLife, Kind, Notarization, Nullification, Finalization, asked_by, handed_by, handed_in, HandedOnce}
+use Rattle.simplex_member.specs.Lives.{MemberFacts, IsCall}
+use Rattle.simplex_member.specs.Made.{answer, after_call}
 use Rattle.simplex_member.specs.Openings.{Openings}
-use Rattle.simplex_member.specs.Runs.{IsStep}
-use Rattle.simplex_member.specs.Work.{WorkCall, work_allowed, after_work}
 use Rattle.simplex_laws.proofs.Lasting.{is_handed, standing_view, handed, none_comes, brings_kept, event_lasts}
-use Rattle.simplex_laws.proofs.CallsMake.{is_floor, call_by_event, work_by_event}
+use Rattle.simplex_laws.proofs.CallsMake.{is_floor, call_by_event}
 use Rattle.simplex_laws.proofs.Rising.{floor_goes, event_goes}
 use Rattle.simplex_laws.proofs.Sound.{nothing_stands}
 use Rattle.simplex_laws.specs.Events.{Event, IsEvent, after_event}
@@ -32,7 +32,7 @@ IsSpent kind v x =
 abbrev pub Hands : {K L D : Type 0} → Kind → List ℕ → Facts K L D → Facts K L D → Type 0
 Hands kind views x y = (views ≡ []) ⊎ ((v : ℕ) × (views ≡ v ∷ []) × (IsSpent kind v x → ⊥) × IsSpent kind v y)
 
-pub record HandsOut {K L D : Type 0} (call : LifeCall D) (told : Told K D) (x y : Facts K L D) : Type 0 where
+pub record HandsOut {K L D : Type 0} (call : CallFacts D) (told : Told K D) (x y : Facts K L D) : Type 0 where
   pub spent : (kind : Kind) (v : ℕ) → IsSpent kind v x → IsSpent kind v y
   pub hands : (kind : Kind) → Hands kind (handed_by kind call told) x y
 
@@ -86,9 +86,9 @@ module _ {K L D : Type 0} where
       (inl (ap (is_handed kind) (round_put x v r) ∙ sent))
 
 module _ {K L D : Type 0} where
-  hands_notarization : (x : Facts K L D) (v : ℕ) (kind : Kind) → Hands kind (handed_by {K = K} {D = D} kind (Calling (BroadcastNotarization v)) (Handed (option_map Notarized (broadcast_notarization_answer x v)))) x (after_broadcast_notarization x v)
+  hands_notarization : (x : Facts K L D) (v : ℕ) (kind : Kind) → Hands kind (handed_by {K = K} {D = D} kind (BroadcastNotarization v) (Handed (option_map Notarized (broadcast_notarization_answer x v)))) x (after_broadcast_notarization x v)
   hands_notarization x v kind = elim (asked (λ r. r.notarization_broadcast) (λ r. r.notarization) x v) [
-    | inl none ↦ inl (ap (λ o. handed_by {K = K} {D = D} kind (Calling (BroadcastNotarization v)) (Handed (option_map Notarized o))) none)
+    | inl none ↦ inl (ap (λ o. handed_by {K = K} {D = D} kind (BroadcastNotarization v) (Handed (option_map Notarized o))) none)
     | inr (c, some, first) ↦ rw some (by_kind kind c first)
   ]
     where
@@ -102,9 +102,9 @@ module _ {K L D : Type 0} where
       by_kind Nullification c first = inl refl
       by_kind Finalization c first = inl refl
 
-  hands_nullification : (x : Facts K L D) (v : ℕ) (kind : Kind) → Hands kind (handed_by {K = K} {D = D} kind (Calling (BroadcastNullification v)) (Handed (option_map Nullified (broadcast_nullification_answer x v)))) x (after_broadcast_nullification x v)
+  hands_nullification : (x : Facts K L D) (v : ℕ) (kind : Kind) → Hands kind (handed_by {K = K} {D = D} kind (BroadcastNullification v) (Handed (option_map Nullified (broadcast_nullification_answer x v)))) x (after_broadcast_nullification x v)
   hands_nullification x v kind = elim (asked (λ r. r.nullification_broadcast) (λ r. r.nullification) x v) [
-    | inl none ↦ inl (ap (λ o. handed_by {K = K} {D = D} kind (Calling (BroadcastNullification v)) (Handed (option_map Nullified o))) none)
+    | inl none ↦ inl (ap (λ o. handed_by {K = K} {D = D} kind (BroadcastNullification v) (Handed (option_map Nullified o))) none)
     | inr (c, some, first) ↦ rw some (by_kind kind c first)
   ]
     where
@@ -118,9 +118,9 @@ module _ {K L D : Type 0} where
       )
       by_kind Finalization c first = inl refl
 
-  hands_finalization : (x : Facts K L D) (v : ℕ) (kind : Kind) → Hands kind (handed_by {K = K} {D = D} kind (Calling (BroadcastFinalization v)) (Handed (option_map Finalized (broadcast_finalization_answer x v)))) x (after_broadcast_finalization x v)
+  hands_finalization : (x : Facts K L D) (v : ℕ) (kind : Kind) → Hands kind (handed_by {K = K} {D = D} kind (BroadcastFinalization v) (Handed (option_map Finalized (broadcast_finalization_answer x v)))) x (after_broadcast_finalization x v)
   hands_finalization x v kind = elim (asked (λ r. r.finalization_broadcast) (λ r. r.finalization) x v) [
-    | inl none ↦ inl (ap (λ o. handed_by {K = K} {D = D} kind (Calling (BroadcastFinalization v)) (Handed (option_map Finalized o))) none)
+    | inl none ↦ inl (ap (λ o. handed_by {K = K} {D = D} kind (BroadcastFinalization v) (Handed (option_map Finalized o))) none)
     | inr (c, some, first) ↦ rw some (by_kind kind c first)
   ]
     where
@@ -134,23 +134,13 @@ module _ {K L D : Type 0} where
         now_spent Finalization x v _ first.tracked (or_some (round_of x v).finalization_broadcast (round_of x v).finalization c first.stands),
       )
 
-best_unasked : (K : Type 0) {D : Type 0} (kind : Kind) (best : Option (CertificateFacts D)) → handed_by {K = K} {D = D} kind (Calling GetBestCertificate) (Handed best) ≡ []
+best_unasked : (K : Type 0) {D : Type 0} (kind : Kind) (best : Option (CertificateFacts D)) → handed_by {K = K} {D = D} kind GetBestCertificate (Handed best) ≡ []
 best_unasked K Notarization None = refl
 best_unasked K Nullification None = refl
 best_unasked K Finalization None = refl
 best_unasked K Notarization (Some c) = refl
 best_unasked K Nullification (Some c) = refl
 best_unasked K Finalization (Some c) = refl
-
-module _ (K : Type 0) {D : Type 0} (kind : Kind) where
-  -- a call that is refused is handed nothing
-  refused_none : (call : LifeCall D) (fault : Fault) → handed_by {K = K} kind call (Refused fault) ≡ []
-  refused_none (Calling call) fault = refl
-  refused_none (Working call) fault = refl
-
-  not_allowed_none : (call : LifeCall D) → handed_by {K = K} kind call NotAllowed ≡ []
-  not_allowed_none (Calling call) = refl
-  not_allowed_none (Working call) = refl
 
 module _ {K L D : Type 0} (same : D → D → Bool) (elect : Elect L) where
   event_spends : (x : Facts K L D) → (e : Event K D) → IsEvent x e → is_floor e ≡ false → (kind : Kind) (v : ℕ) → IsSpent kind v x → IsSpent kind v (after_event same elect x e)
@@ -165,26 +155,22 @@ module _ {K L D : Type 0} (same : D → D → Bool) (elect : Elect L) where
         ]
       ]
 
-  call_spends : (x : Facts K L D) → (call : CallFacts D) → is_allowed x call ≡ true → (kind : Kind) (v : ℕ) → IsSpent kind v x → IsSpent kind v (after_call same elect x call)
-  call_spends x call allowed = call_by_event same elect x (λ es y. (kind : Kind) (v : ℕ) → IsSpent kind v x → IsSpent kind v y) (λ kind v spent. spent) (λ e. event_spends x e) call allowed
+  call_spends : (x : Facts K L D) → (o : Openings K D) (call : CallFacts D) → is_allowed x o call ≡ true → (kind : Kind) (v : ℕ) → IsSpent kind v x → IsSpent kind v (after_call same elect x o call)
+  call_spends x o call allowed = call_by_event same elect x o (λ es y. (kind : Kind) (v : ℕ) → IsSpent kind v x → IsSpent kind v y) (λ kind v spent. spent) (λ e. event_spends x e) call allowed
 
-  call_hands : (x : Facts K L D) (call : CallFacts D) (kind : Kind) → Hands kind (handed_by kind (Calling call) (answer same elect x call)) x (after_call same elect x call)
-  call_hands x (BroadcastNotarization v) kind = hands_notarization x v kind
-  call_hands x (BroadcastNullification v) kind = hands_nullification x v kind
-  call_hands x (BroadcastFinalization v) kind = hands_finalization x v kind
-  call_hands x GetBestCertificate kind = inl (best_unasked K kind (best_certificate x))
-  call_hands x _ kind = inl refl
+  call_hands : (x : Facts K L D) (o : Openings K D) (call : CallFacts D) (kind : Kind) → Hands kind (handed_by kind call (answer same elect x o call)) x (after_call same elect x o call)
+  call_hands x o (BroadcastNotarization v) kind = hands_notarization x v kind
+  call_hands x o (BroadcastNullification v) kind = hands_nullification x v kind
+  call_hands x o (BroadcastFinalization v) kind = hands_finalization x v kind
+  call_hands x o GetBestCertificate kind = inl (best_unasked K kind (best_certificate x))
+  call_hands x o _ kind = inl refl
 
-  work_spends : (x : Facts K L D) → (o : Openings K D) (call : WorkCall D) → work_allowed x o call ≡ true → (kind : Kind) (v : ℕ) → IsSpent kind v x → IsSpent kind v (after_work same elect x o call)
-  work_spends x o call allowed = work_by_event same elect x o (λ es y. (kind : Kind) (v : ℕ) → IsSpent kind v x → IsSpent kind v y) (λ kind v spent. spent) (λ e. event_spends x e) call allowed
-
-  outcome : (m : MemberFacts K L D) (call : LifeCall D) (told : Told K D) (left : MemberFacts K L D) → IsStep same elect m (as_step call) told left → ((fault : Fault) × (told ≡ Refused fault) × (left.life ≡ None)) ⊎ ((x y : Facts K L D) × (m.life ≡ Some x) × (left.life ≡ Some y) × HandsOut call told x y)
+  outcome : (m : MemberFacts K L D) (call : CallFacts D) (told : Told K D) (left : MemberFacts K L D) → IsCall same elect m call told left → ((fault : Fault) × (told ≡ Refused fault) × (left.life ≡ None)) ⊎ ((x y : Facts K L D) × (m.life ≡ Some x) × (left.life ≡ Some y) × HandsOut call told x y)
   outcome =
       call_outcome same elect HandsOut
-      (λ call fault x. record { spent = λ kind v s. s; hands = λ kind. inl (refused_none K kind call fault) })
-      (λ call x. record { spent = λ kind v s. s; hands = λ kind. inl (not_allowed_none K kind call) })
-      (λ call x allowed. record { spent = call_spends x call allowed; hands = call_hands x call })
-      (λ call x o allowed. record { spent = work_spends x o call allowed; hands = λ kind. inl refl })
+      (λ call fault x. record { spent = λ kind v s. s; hands = λ kind. inl refl })
+      (λ call x. record { spent = λ kind v s. s; hands = λ kind. inl refl })
+      (λ call x o allowed. record { spent = call_spends x o call allowed; hands = call_hands x o call })
 
 -- a member without a state hands nothing out
 abbrev pub IsSpentIn : {K L D : Type 0} → Kind → ℕ → Option (Facts K L D) → Type 0
@@ -193,12 +179,12 @@ IsSpentIn kind v (Some x) = IsSpent kind v x
 
 module _ {K L D : Type 0} (same : D → D → Bool) (elect : Elect L) (kind : Kind) where
   -- what is spent is not handed out any more
-  never_again : (v : ℕ) (m end : MemberFacts K L D) (calls : List (LifeCall D)) (replies : List (Told K D)) → IsSpentIn kind v m.life → IsLife same elect m calls replies end → AllByRecursion (λ w. nat_eq v w ≡ false) (handed_in kind calls replies)
+  never_again : (v : ℕ) (m end : MemberFacts K L D) (calls : List (CallFacts D)) (replies : List (Told K D)) → IsSpentIn kind v m.life → IsLife same elect m calls replies end → AllByRecursion (λ w. nat_eq v w ≡ false) (handed_in kind calls replies)
   never_again v m end [] [] spent life = tt
   never_again v m end [] (told ∷ replies) spent life = absurd life
   never_again v m end (call ∷ calls) [] spent life = absurd life
   never_again v m end (call ∷ calls) (told ∷ replies) spent (next, is_call, rest) = elim (outcome same elect m call told next is_call) [
-    | inl (fault, tells, dies) ↦ rw (tells, refused_none K kind call fault) (never_again v next end calls replies (subst (IsSpentIn kind v) (sym dies) tt) rest)
+    | inl (fault, tells, dies) ↦ rw tells (never_again v next end calls replies (subst (IsSpentIn kind v) (sym dies) tt) rest)
     | inr (x, y, alive, lives, out) ↦ (
         let here : IsSpent kind v x = subst (IsSpentIn kind v) alive spent in
         let later = never_again v next end calls replies (subst (IsSpentIn kind v) (sym lives) (out.spent kind v here)) rest in
@@ -212,13 +198,13 @@ module _ {K L D : Type 0} (same : D → D → Bool) (elect : Elect L) (kind : Ki
         )
   ]
 
-  handed_once : (m end : MemberFacts K L D) (calls : List (LifeCall D)) (replies : List (Told K D)) → IsLife same elect m calls replies end → IsDistinct nat_eq (handed_in kind calls replies)
+  handed_once : (m end : MemberFacts K L D) (calls : List (CallFacts D)) (replies : List (Told K D)) → IsLife same elect m calls replies end → IsDistinct nat_eq (handed_in kind calls replies)
   unfolding IsDistinct
   handed_once m end [] [] life = tt
   handed_once m end [] (told ∷ replies) life = absurd life
   handed_once m end (call ∷ calls) [] life = absurd life
   handed_once m end (call ∷ calls) (told ∷ replies) (next, is_call, rest) = elim (outcome same elect m call told next is_call) [
-    | inl (fault, tells, dies) ↦ rw (tells, refused_none K kind call fault) (handed_once next end calls replies rest)
+    | inl (fault, tells, dies) ↦ rw tells (handed_once next end calls replies rest)
     | inr (x, y, alive, lives, out) ↦ (
         let later = handed_once next end calls replies rest in
         elim (out.hands kind) [
@@ -229,5 +215,5 @@ module _ {K L D : Type 0} (same : D → D → Bool) (elect : Elect L) (kind : Ki
   ]
 
 module _ {K L D : Type 0} (same : D → D → Bool) (elect : Elect L) where
-  pub life_hands_once : (m end : MemberFacts K L D) (calls : List (LifeCall D)) (replies : List (Told K D)) → IsLife same elect m calls replies end → HandedOnce calls replies
+  pub life_hands_once : (m end : MemberFacts K L D) (calls : List (CallFacts D)) (replies : List (Told K D)) → IsLife same elect m calls replies end → HandedOnce calls replies
   life_hands_once m end calls replies life kind = handed_once same elect kind m end calls replies life

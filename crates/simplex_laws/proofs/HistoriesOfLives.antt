@@ -9,25 +9,25 @@ use Rattle.simplex_voter.specs.Windows.{min_active}
 use Rattle.simplex_voter.specs.Acceptance.{after_set_floor, after_add_notarization, after_add_nullification, after_add_finalization}
 use Rattle.simplex_member.specs.declared.member.error.RecoverError.{RecoverError}
 use Rattle.simplex_member.specs.Openings.{Openings}
-use Rattle.simplex_member.specs.Work as work
-use Rattle.simplex_member.specs.Work.{WorkCall, work_allowed, work_fault, work_answer, after_work, work_reply, left_of_work, IsWorkOf, IsWork}
 use Rattle.simplex_member.specs.Calls as calls
-use Rattle.simplex_member.specs.Calls.{CallFacts, Told, Restarted, NotRestarted, is_allowed, fault_of, answer, after_call}
+use Rattle.simplex_member.specs.Calls.{CallFacts, Told, Restarted, NotRestarted}
+use Rattle.simplex_member.specs.Allowed.{is_allowed, fault_of}
+use Rattle.simplex_member.specs.Made.{answer, after_call}
 use Rattle.simplex_member.specs.Check.{first_error, floor_rules, first_broken_after, first_broken_rule}
 use Rattle.simplex_member.specs.Entries.{entry_view, entries_of}
 use Rattle.simplex_laws.specs.Events.{History, with_event, SetFloor, AddNotarization, AddNullification, AddFinalization, Certified, Replay, events_of}
-use Rattle.simplex_laws.specs.Histories.{work_events, with_work, retaken_events, with_events, with_call, with_entry, with_entries, recovery, IsShown, LeadsTo}
+use Rattle.simplex_laws.specs.Histories.{retaken_events, with_events, with_call, with_entry, with_entries, recovery, IsShown, LeadsTo}
 use Rattle.simplex_member.specs.Lives.{MemberFacts, fallen, reply_of, left_of, AnswersAlive, IsCall}
 use Rattle.simplex_member.specs.Recovery.{as_artifact, replayed, retaken, taken, all_taken, recovered, recover_error, TakesEntry, TakesEntries}
 use Rattle.simplex_member.specs.Restarts.{RestartFacts, IsByView, IsRestart, IsRestartWhere, GoesOn, new_life, cut, retention_grows}
-use Rattle.simplex_member.specs.Runs.{StepFacts, Calls, Works, Restarts, restart_told, IsRun}
+use Rattle.simplex_member.specs.Runs.{StepFacts, Calls, Restarts, restart_told, IsStep, IsRun}
 use Rattle.simplex_laws.specs.Shows.{Shows}
 use Rattle.simplex_member.specs.Start.{StartFacts, started}
 use Rattle.simplex_laws.specs.Sums.{finalized_in}
 use Rattle.simplex_member.proofs.Allowing.{new_bears}
 use Rattle.simplex_member.proofs.Bearing.{BearsAll}
 use Rattle.simplex_laws.specs.Fresh.{IsFresh, BeginFresh}
-use Rattle.simplex_laws.proofs.CallsMake.{call_by_event, work_by_event}
+use Rattle.simplex_laws.proofs.CallsMake.{call_by_event}
 use Rattle.simplex_laws.proofs.Histories.{event_shown}
 use Rattle.simplex_laws.proofs.NewLives.{first_none}
 use Rattle.simplex_member.proofs.Remaking.{set_takes}
@@ -76,22 +76,14 @@ module _ {K L D : Type 0} (same : D → D → Bool) (elect : Elect L) where
   })
 
   -- what is answered is not refused
-  told_events : (history : History K L D) (x : Facts K L D) (call : CallFacts D) → with_call history call (answer same elect x call) ≡ with_events history (events_of call)
-  told_events history x calls.GetBestCertificate = refl
-  told_events history x _ = refl
-
-  told_work : (history : History K L D) (x : Facts K L D) (o : Openings K D) (call : WorkCall D) → with_work history o call (work_answer same elect x o call) ≡ with_events history (work_events o call)
-  told_work history x o work.TryPropose = refl
-  told_work history x o _ = refl
+  told_events : (history : History K L D) (x : Facts K L D) (o : Openings K D) (call : CallFacts D) → with_call history o call (answer same elect x o call) ≡ with_events history (events_of o call)
+  told_events history x o calls.GetBestCertificate = refl
+  told_events history x o _ = refl
 
 module _ {K L D : Type 0} (same : D → D → Bool) (decides : (d e : D) → same d e ≡ true → d ≡ e) (elect : Elect L) (history : History K L D) (x : Facts K L D) (shows : Shows same elect history x) where
   -- a call makes of the facts what its events make of them
-  call_shown : (call : CallFacts D) → is_allowed x call ≡ true → Shows same elect (with_events history (events_of call)) (after_call same elect x call)
-  call_shown call allowed = call_by_event same elect x (λ es y. Shows same elect (with_events history es) y) shows (λ e takes floor. event_shown same elect history x shows decides e takes) call allowed
-
-  -- so does one on the work of a view
-  work_shown : (o : Openings K D) (call : WorkCall D) → work_allowed x o call ≡ true → Shows same elect (with_events history (work_events o call)) (after_work same elect x o call)
-  work_shown o call allowed = work_by_event same elect x o (λ es y. Shows same elect (with_events history es) y) shows (λ e takes floor. event_shown same elect history x shows decides e takes) call allowed
+  call_shown : (o : Openings K D) (call : CallFacts D) → is_allowed x o call ≡ true → Shows same elect (with_events history (events_of o call)) (after_call same elect x o call)
+  call_shown o call allowed = call_by_event same elect x o (λ es y. Shows same elect (with_events history es) y) shows (λ e takes floor. event_shown same elect history x shows decides e takes) call allowed
 
   -- an entry that is taken again
 
@@ -160,49 +152,26 @@ module _ {K L D : Type 0} (same : D → D → Bool) (decides : (d e : D) → sam
 module _ {K L D : Type 0} (same : D → D → Bool) (decides : (d e : D) → same d e ≡ true → d ≡ e) (elect : Elect L) (m : MemberFacts K L D) where
   -- a call
 
-  answered : (history : History K L D) (call : CallFacts D) (x : Facts K L D) → IsShown same elect history m → Shows same elect history x → IsShown same elect (with_call history call (reply_of same elect x call)) (left_of same elect x m call)
-  answered history call x shown shows = by_allowed (is_allowed x call) refl
+  answered : (history : History K L D) (call : CallFacts D) (x : Facts K L D) → IsShown same elect history m → Shows same elect history x → IsShown same elect (with_call history m.openings call (reply_of same elect x m.openings call)) (left_of same elect x m call)
+  answered history call x shown shows = by_allowed (is_allowed x m.openings call) refl
     where
-      by_fault : (o : Option Fault) → fault_of x call ≡ o → is_allowed x call ≡ true → IsShown same elect (with_call history call (reply_of same elect x call)) (left_of same elect x m call)
-      by_fault None no_fault allowed = rw (allowed, no_fault) (subst (λ h. Shows same elect h (after_call same elect x call)) (sym (told_events same elect history x call)) (call_shown same decides elect history x shows call allowed))
+      by_fault : (o : Option Fault) → fault_of x call ≡ o → is_allowed x m.openings call ≡ true → IsShown same elect (with_call history m.openings call (reply_of same elect x m.openings call)) (left_of same elect x m call)
+      by_fault None no_fault allowed = rw (allowed, no_fault) (subst (λ h. Shows same elect h (after_call same elect x m.openings call)) (sym (told_events same elect history x m.openings call)) (call_shown same decides elect history x shows m.openings call allowed))
       by_fault (Some f) refused allowed = rw (allowed, refused) shown
 
-      by_allowed : (b : Bool) → is_allowed x call ≡ b → IsShown same elect (with_call history call (reply_of same elect x call)) (left_of same elect x m call)
+      by_allowed : (b : Bool) → is_allowed x m.openings call ≡ b → IsShown same elect (with_call history m.openings call (reply_of same elect x m.openings call)) (left_of same elect x m call)
       by_allowed true allowed = by_fault (fault_of x call) refl allowed
       by_allowed false not_allowed = rw not_allowed shown
 
-  pub called_shown : (history : History K L D) (left : MemberFacts K L D) (call : CallFacts D) (told : Told K D) → IsShown same elect history m → IsCall same elect m call told left → IsShown same elect (with_call history call told) left
+  pub called_shown : (history : History K L D) (left : MemberFacts K L D) (call : CallFacts D) (told : Told K D) → IsShown same elect history m → IsCall same elect m call told left → IsShown same elect (with_call history m.openings call told) left
   unfolding IsCall
   called_shown history left call told shown is_call = by_life m.life refl is_call
     where
-      by_life : (o : Option (Facts K L D)) → m.life ≡ o → AnswersAlive same elect o m call told left → IsShown same elect (with_call history call told) left
+      by_life : (o : Option (Facts K L D)) → m.life ≡ o → AnswersAlive same elect o m call told left → IsShown same elect (with_call history m.openings call told) left
       by_life None dead (tells, leaves) = rw (tells, leaves) shown
       by_life (Some x) alive (inl (tells, leaves)) = rw (tells, leaves) (answered history call x shown (subst (λ o. MatchOption o (Unit {0}) (Shows same elect history)) alive shown))
       by_life (Some x) alive (inr (_, tells, inl leaves)) = rw (tells, leaves) shown
       by_life (Some x) alive (inr (_, tells, inr (_, _, leaves))) = rw (tells, leaves) tt
-
-  -- a call on the work of a view
-
-  worked : (history : History K L D) (call : WorkCall D) (x : Facts K L D) → IsShown same elect history m → Shows same elect history x → IsShown same elect (with_work history m.openings call (work_reply same elect x m.openings call)) (left_of_work same elect x m call)
-  worked history call x shown shows = by_allowed (work_allowed x m.openings call) refl
-    where
-      by_fault : (f : Option Fault) → work_fault x call ≡ f → work_allowed x m.openings call ≡ true → IsShown same elect (with_work history m.openings call (work_reply same elect x m.openings call)) (left_of_work same elect x m call)
-      by_fault None no_fault allowed = rw (allowed, no_fault) (subst (λ h. Shows same elect h (after_work same elect x m.openings call)) (sym (told_work same elect history x m.openings call)) (work_shown same decides elect history x shows m.openings call allowed))
-      by_fault (Some f) refused allowed = rw (allowed, refused) shown
-
-      by_allowed : (b : Bool) → work_allowed x m.openings call ≡ b → IsShown same elect (with_work history m.openings call (work_reply same elect x m.openings call)) (left_of_work same elect x m call)
-      by_allowed true allowed = by_fault (work_fault x call) refl allowed
-      by_allowed false not_allowed = rw not_allowed shown
-
-  worked_shown : (history : History K L D) (left : MemberFacts K L D) (call : WorkCall D) (told : Told K D) → IsShown same elect history m → IsWork same elect m call told left → IsShown same elect (with_work history m.openings call told) left
-  unfolding IsWork
-  worked_shown history left call told shown is_work = by_life m.life refl is_work
-    where
-      by_life : (o : Option (Facts K L D)) → m.life ≡ o → IsWorkOf same elect o m call told left → IsShown same elect (with_work history m.openings call told) left
-      by_life None dead (tells, leaves) = rw (tells, leaves) shown
-      by_life (Some x) alive (inl (tells, leaves)) = rw (tells, leaves) (worked history call x shown (subst (λ o. MatchOption o (Unit {0}) (Shows same elect history)) alive shown))
-      by_life (Some x) alive (inr (_, tells, inl leaves)) = rw (tells, leaves) shown
-      by_life (Some x) alive (inr (_, tells, inr (_, leaves))) = rw (tells, leaves) tt
 
   -- a restart that is refused leaves a member that has failed, or the one that it was
   refused_shown : (history : History K L D) (left : MemberFacts K L D) (r : RestartFacts K L D) (result : Result (Unit {0}) RecoverError) (found : RecoverError) → result ≡ Err found → IsShown same elect history m → IsRestart same elect m r result left → IsShown same elect history left
@@ -243,37 +212,35 @@ module _ {K L D : Type 0} (same : D → D → Bool) (decides : (d e : D) → sam
       by_test false goes = by_going goes
 
 module _ {K L D : Type 0} (same : D → D → Bool) (decides : (d e : D) → same d e ≡ true → d ≡ e) (elect : Elect L) (term_length : ℕ) where
-  run_shown : (steps : List (StepFacts K L D)) (replies : List (Told K D)) (history : History K L D) (m end : MemberFacts K L D) → BeginFresh term_length steps → IsShown same elect history m → IsRun same elect m steps replies end → (last : History K L D) × LeadsTo history steps replies last × IsShown same elect last end
-  run_shown [] [] history m end fresh shown run = (history, refl, subst (IsShown same elect history) run shown)
+  run_shown : (steps : List (StepFacts K L D)) (replies : List (Told K D)) (history : History K L D) (m end : MemberFacts K L D) → BeginFresh term_length steps → IsShown same elect history m → IsRun same elect m steps replies end → (last : History K L D) × LeadsTo same elect m history steps replies last end × IsShown same elect last end
+  run_shown [] [] history m end fresh shown run = (history, (refl, run), subst (IsShown same elect history) run shown)
   run_shown [] (told ∷ replies) history m end fresh shown run = absurd run
   run_shown (step ∷ steps) [] history m end fresh shown run = absurd run
   run_shown (Calls call ∷ steps) (told ∷ replies) history m end fresh shown (next, is_step, rest) =
-      run_shown steps replies (with_call history call told) next end fresh (called_shown same decides elect m history next call told shown is_step) rest
-  run_shown (Works call ∷ steps) (told ∷ replies) history m end fresh shown (next, is_step, rest) =
-      let later = run_shown steps replies (with_work history m.openings call told) next end fresh (worked_shown same decides elect m history next call told shown is_step) rest in
-      (later.0, (m.openings, later.1), later.2)
+      let later = run_shown steps replies (with_call history m.openings call told) next end fresh (called_shown same decides elect m history next call told shown is_step) rest in
+      (later.0, (next, is_step, later.1), later.2)
   run_shown (Restarts r ∷ steps) (told ∷ replies) history m end fresh shown (next, (result, is_restart, tells), rest) =
       by_result result refl is_restart (tells ∙ refl) (λ left_shown. run_shown steps replies history next end fresh.1 left_shown rest) (λ copy copy_shown. run_shown steps replies (recovery r.start copy) next end fresh.1 copy_shown rest)
     where
       After : Told K D → Type 0
-      After t = (last : History K L D) × LeadsTo history (Restarts r ∷ steps) (t ∷ replies) last × IsShown same elect last end
+      After t = (last : History K L D) × LeadsTo same elect m history (Restarts r ∷ steps) (t ∷ replies) last end × IsShown same elect last end
 
       by_result : (found : Result (Unit {0}) RecoverError) → result ≡ found → IsRestart same elect m r result next → told ≡ restart_told result
-          → (IsShown same elect history next → (last : History K L D) × LeadsTo history steps replies last × IsShown same elect last end)
-          → ((copy : List (ArtifactFacts D)) → IsShown same elect (recovery r.start copy) next → (last : History K L D) × LeadsTo (recovery r.start copy) steps replies last × IsShown same elect last end)
+          → (IsShown same elect history next → (last : History K L D) × LeadsTo same elect next history steps replies last end × IsShown same elect last end)
+          → ((copy : List (ArtifactFacts D)) → IsShown same elect (recovery r.start copy) next → (last : History K L D) × LeadsTo same elect next (recovery r.start copy) steps replies last end × IsShown same elect last end)
           → After told
       by_result (Ok _) is restarts tells behind renewed =
           let found = restarted_shown same decides elect m term_length next r result is fresh.0 restarts in
           let later = renewed found.0 found.2 in
           let so : told ≡ Restarted = tells ∙ ap restart_told is in
-          subst After (sym so) (later.0, (found.0, later.1), later.2)
+          subst After (sym so) (later.0, (next, (result, restarts, sym (ap restart_told is)), (found.0, found.1, later.1)), later.2)
       by_result (Err e) is restarts tells behind renewed =
           let later = behind (refused_shown same decides elect m history next r result e is shown restarts) in
           let so : told ≡ NotRestarted e = tells ∙ ap restart_told is in
-          subst After (sym so) later
+          subst After (sym so) (later.0, (next, (result, restarts, sym (ap restart_told is)), later.1), later.2)
 
   -- from the start on
-  pub ran_shown : (start : StartFacts K L D) (steps : List (StepFacts K L D)) (replies : List (Told K D)) (end : MemberFacts K L D) → IsFresh term_length start.fresh → BeginFresh term_length steps → recover_error same start.fresh start.floor start.now [] ≡ None → IsRun same elect (started same elect start.fresh start.floor start.now) steps replies end → (last : History K L D) × LeadsTo (recovery start []) steps replies last × IsShown same elect last end
+  pub ran_shown : (start : StartFacts K L D) (steps : List (StepFacts K L D)) (replies : List (Told K D)) (end : MemberFacts K L D) → IsFresh term_length start.fresh → BeginFresh term_length steps → recover_error same start.fresh start.floor start.now [] ≡ None → IsRun same elect (started same elect start.fresh start.floor start.now) steps replies end → (last : History K L D) × LeadsTo same elect (started same elect start.fresh start.floor start.now) (recovery start []) steps replies last end × IsShown same elect last end
   unfolding recovered
   ran_shown start steps replies end begins fresh good run =
       run_shown steps replies (recovery start []) (started same elect start.fresh start.floor start.now) end fresh (recovered_shown same decides elect start term_length begins [] good) run

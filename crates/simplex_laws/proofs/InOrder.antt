@@ -12,12 +12,12 @@ use Rattle.simplex_voter.specs.Windows.{min_active}
 use Rattle.simplex_voter.specs.Certification.{without_token}
 use Rattle.simplex_voter.specs.Verifying.{scan_left}
 use Rattle.simplex_voter.proofs.Walked.{sorted-changed}
-use Rattle.simplex_member.specs.Calls.{CallFacts, after_call}
+use Rattle.simplex_member.specs.Calls.{CallFacts}
+use Rattle.simplex_member.specs.Made.{after_call}
 use Rattle.simplex_member.specs.Openings.{Openings}
 use Rattle.simplex_member.specs.Recovery.{recovered}
-use Rattle.simplex_member.specs.Work.{WorkCall, after_work}
 use Rattle.simplex_laws.specs.Events.{Event, after_event}
-use Rattle.simplex_laws.proofs.CallsMake.{call_by_any, work_by_any, recovered_keeps}
+use Rattle.simplex_laws.proofs.CallsMake.{call_by_any, recovered_keeps}
 use Rattle.simplex_laws.proofs.Paths.{event_path, asked_of_all}
 use Rattle.simplex_laws.proofs.Steps.{Step, Puts, Raises, Scans, Prunes, along}
 
@@ -36,13 +36,9 @@ module _ {K L D : Type 0} (same : D → D → Bool) (elect : Elect L) where
   pub event_in_order : (x : Facts K L D) (e : Event K D) → InOrder x → InOrder (after_event same elect x e)
   event_in_order x e ordered = along same elect x e 0 InOrder (step_in_order x e) x (after_event same elect x e) (event_path same elect 0 x e (omega arith) (asked_of_all x e)) ordered
 
-module _ {K L D : Type 0} (same : D → D → Bool) (elect : Elect L) (x : Facts K L D) (ordered : InOrder x) where
-  pub order_call : (call : CallFacts D) → InOrder (after_call same elect x call)
-  order_call call = call_by_any same elect x InOrder ordered (λ e. event_in_order same elect x e ordered) call
-
 module _ {K L D : Type 0} (same : D → D → Bool) (elect : Elect L) (x : Facts K L D) (o : Openings K D) (ordered : InOrder x) where
-  pub order_work : (call : WorkCall D) → InOrder (after_work same elect x o call)
-  order_work call = work_by_any same elect x o InOrder ordered (λ e. event_in_order same elect x e ordered) call
+  pub order_call : (call : CallFacts D) → InOrder (after_call same elect x o call)
+  order_call call = call_by_any same elect x o InOrder ordered (λ e. event_in_order same elect x e ordered) call
 
 module _ {K L D : Type 0} (same : D → D → Bool) (elect : Elect L) (settings : Settings) (me : Option ℕ) (members : List K) (elector : L) (terms : Terms) (early : Bool) where
   pub order_recovered : (floor : FloorFacts D) (now : ℕ) (copy : List (ArtifactFacts D)) → InOrder (recovered same elect (new_facts settings me members elector terms early) floor now copy)

@@ -5,16 +5,18 @@ use Rattle.std.specs.Option.{option_map_or}
 use Rattle.std.proofs.lemmas.Bool.{true≢false, cases_eq, ne_eqb}
 use Rattle.simplex_types.specs.Proposal.{same_proposal}
 use Rattle.simplex_types.specs.Certificates.{ProposalFacts, NullificationFacts}
+use Rattle.simplex_types.specs.declared.types.messages.Context.{Context}
 use Rattle.simplex_types.specs.declared.types.messages.Proposal.{Proposal}
 use Rattle.simplex_round.specs.Slot.{SlotFacts, holds_or_empty, after_own, after_vote, after_certificate}
 use Rattle.simplex_round.specs.Round.{RoundFacts}
 use Rattle.simplex_voter.specs.Facts.{Facts, Elect, round_of, is_tracked}
 use Rattle.simplex_voter.specs.Windows.{min_active}
 use Rattle.simplex_laws.specs.Events as event
-use Rattle.simplex_laws.specs.Events.{Event, IsEvent, after_event, events_of}
-use Rattle.simplex_member.specs.Calls.{CallFacts, Prune, Told, is_allowed, answer, after_call}
-use Rattle.simplex_member.specs.Openings.{Openings}
-use Rattle.simplex_member.specs.Work.{WorkCall, work_allowed, after_work}
+use Rattle.simplex_laws.specs.Events.{Event, IsEvent, after_event, in_context, events_of}
+use Rattle.simplex_member.specs.Allowed.{is_allowed}
+use Rattle.simplex_member.specs.Calls.{CallFacts, Proposed, SupersedeProposalRequest, Prune, Told}
+use Rattle.simplex_member.specs.Made.{answer, after_call}
+use Rattle.simplex_member.specs.Openings.{Openings, context_at}
 use Rattle.simplex_voter.specs.Serving.{prune_answer}
 use Rattle.simplex_types.proofs.Maps.{is_eq-nat_cmp}
 use Rattle.std.specs.FinMap.Entries.{find}
@@ -23,7 +25,7 @@ use Rattle.std.specs.List.{list_any}
 use Rattle.std.proofs.lemmas.Bool.Decides.{nat_tests}
 use Rattle.simplex_laws.specs.LifeLaws.{Kind, Notarization, Nullification, Finalization, IsDropped}
 use Rattle.simplex_laws.specs.Sums.{is_prune}
-use Rattle.simplex_laws.proofs.CallsMake.{is_floor, call_by_event, work_by_event, AreSilent, work_silent}
+use Rattle.simplex_laws.proofs.CallsMake.{is_floor, call_by_event}
 use Rattle.simplex_laws.proofs.Splits.{Contains-cons_rest}
 use Rattle.simplex_laws.proofs.EachRound.{IsGone, rounds_or_gone}
 use Rattle.simplex_laws.proofs.Paths.{event_path, asked_of_all}
@@ -207,6 +209,10 @@ pub record Drops {K L D : Type 0} (x y : Facts K L D) (told : Told K D) (v : ℕ
 abbrev pub AllLast : {K L D : Type 0} → Facts K L D → List (Event K D) → Facts K L D → Type 0
 AllLast x es y = (v : ℕ) → RoundLasts (min_active x) v (round_of x v) (round_of y v) ⊎ ((list_any is_prune es ≡ true) × IsGone x y v)
 
+in_context_prunes : {K D : Type 0} (event : Context D K → Event K D) → ((c : Context D K) → is_prune (event c) ≡ false) → (context : Option (Context D K)) → list_any is_prune (in_context event context) ≡ false
+in_context_prunes event none None = refl
+in_context_prunes event none (Some c) = rw (none c) refl
+
 none_lasts : {K L D : Type 0} (x : Facts K L D) → AllLast x [] x
 none_lasts x v = inl (still (min_active x) v (round_of x v))
 
@@ -214,20 +220,14 @@ module _ {K L D : Type 0} (same : D → D → Bool) (elect : Elect L) (x : Facts
   taken_lasts : (e : Event K D) → IsEvent x e → is_floor e ≡ false → AllLast x (e ∷ []) (after_event same elect x e)
   taken_lasts e takes none v = elim (event_lasts same elect x e (min_active x) (brings_kept x e takes none) v) [ inl lasts ↦ inl lasts | inr (prunes, gone) ↦ inr (rw prunes refl, gone) ]
 
-  pub call_lasts : (call : CallFacts D) → is_allowed x call ≡ true → (v : ℕ) → RoundLasts (min_active x) v (round_of x v) (round_of (after_call same elect x call) v) ⊎ Drops x (after_call same elect x call) (answer same elect x call) v
-  call_lasts call allowed v = elim (call_by_event same elect x (AllLast x) (none_lasts x) taken_lasts call allowed v) [
+  pub call_lasts : (o : Openings K D) (call : CallFacts D) → is_allowed x o call ≡ true → (v : ℕ) → RoundLasts (min_active x) v (round_of x v) (round_of (after_call same elect x o call) v) ⊎ Drops x (after_call same elect x o call) (answer same elect x o call) v
+  call_lasts o call allowed v = elim (call_by_event same elect x o (AllLast x) (none_lasts x) taken_lasts call allowed v) [
     | inl lasts ↦ inl lasts
     | inr (prunes, gone) ↦ inr (record { gone = gone; dropped = λ tracked. told call prunes gone.below tracked })
   ]
     where
-      told : (call : CallFacts D) → list_any is_prune (events_of {K = K} call) ≡ true → v < min_active x → is_tracked x v ≡ true → IsDropped (answer same elect x call ∷ []) v
+      told : (call : CallFacts D) → list_any is_prune (events_of o call) ≡ true → v < min_active x → is_tracked x v ≡ true → IsDropped (answer same elect x o call ∷ []) v
       told Prune prunes below tracked = (let under : nat_lt v (min_active x) ≡ true = grind (arith, nat_tests) in (prune_answer x, (0, omega arith, refl), found_key (λ u. nat_lt u (min_active x)) v x.rounds tracked under))
+      told (Proposed w payload now) prunes below tracked = absurd (true≢false (sym prunes ∙ in_context_prunes (λ c. event.Proposed c payload now) (λ c. refl) (context_at o w)))
+      told (SupersedeProposalRequest w) prunes below tracked = absurd (true≢false (sym prunes ∙ in_context_prunes event.Supersede (λ c. refl) (context_at o w)))
       told _ prunes below tracked = absurd (true≢false (sym prunes))
-
-module _ {K L D : Type 0} (same : D → D → Bool) (elect : Elect L) (x : Facts K L D) where
-  pub work_lasts : (o : Openings K D) (call : WorkCall D) → work_allowed x o call ≡ true → (v : ℕ) → RoundLasts (min_active x) v (round_of x v) (round_of (after_work same elect x o call) v)
-  work_lasts o call allowed =
-      work_by_event same elect x o (λ es y. AreSilent es → (v : ℕ) → RoundLasts (min_active x) v (round_of x v) (round_of y v))
-      (λ silent v. still (min_active x) v (round_of x v))
-      (λ e takes none silent v. elim (event_lasts same elect x e (min_active x) (brings_kept x e takes none) v) [ inl lasts ↦ lasts | inr (prunes, gone) ↦ absurd (true≢false (sym prunes ∙ silent.0.prune)) ])
-      call allowed (work_silent o call)

@@ -90,6 +90,7 @@ pub mod WorkElections
 pub mod WorkHanded
 pub mod Steps
 pub mod Paths
+pub mod WorkCalls
 pub mod CallsMake
 pub mod EachRound
 pub mod Sound

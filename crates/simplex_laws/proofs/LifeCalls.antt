@@ -1,7 +1,7 @@
 -- Each call of a life keeps the voting rules, with the deeds that it shows.
 use Rattle.std.proofs.Common.{◌≡◌, refl, ap, sym, ◌∙◌, subst, ℕ, Bool, true, false, ◌&&◌, List, [], ◌∷◌, ◌++◌, Option, Some, None, is_some}
 use Rattle.std.specs.Prelude.{option_map, option_and_then}
-use Rattle.std.proofs.lemmas.Bool.{false≢true}
+use Rattle.std.proofs.lemmas.Bool.{false≢true, true≢false}
 use Rattle.std.proofs.lemmas.List.{append-nil}
 use Rattle.simplex_types.specs.Certificates.{NullifyVote, FinalizeVote}
 use Rattle.simplex_types.specs.declared.types.messages.Proposal.{Proposal}
@@ -13,10 +13,13 @@ use Rattle.simplex_voter.specs.Rules.{may_nullify, may_finalize}
 use Rattle.simplex_voter.specs.Votes.{nullify_answer, after_construct_nullify, finalize_answer, after_construct_finalize}
 use Rattle.simplex_voter.proofs.Gaps.{and_parts}
 use Rattle.simplex_voter.proofs.Rules.{nullify_parts, finalize_parts}
-use Rattle.simplex_member.specs.Calls.{CallFacts, AddNotarization, AddNullification, AddFinalization, Certified, ConstructNullify, ConstructFinalize, BroadcastNotarization, BroadcastNullification, BroadcastFinalization, GetBestCertificate, Prune, Nullify, Finalize, nullify_vote, finalize_vote, answer, after_call}
+use Rattle.simplex_member.specs.Calls.{CallFacts, AddNotarization, AddNullification, AddFinalization, Certified, ConstructNullify, ConstructFinalize, BroadcastNotarization, BroadcastNullification, BroadcastFinalization, GetBestCertificate, Prune, Nullify, Finalize}
+use Rattle.simplex_member.specs.Made.{nullify_vote, finalize_vote, answer, after_call}
+use Rattle.simplex_member.specs.Openings.{Openings}
 use Rattle.simplex_laws.specs.Deeds.{Deed, Accepts, Signs, deeds_of_call}
 use Rattle.simplex_laws.specs.Lawful.{IsLawful}
 use Rattle.simplex_laws.proofs.Standing.{Stays}
+use Rattle.simplex_laws.proofs.WorkCalls.{is_work}
 use Rattle.simplex_laws.proofs.Lawful.{lawful_push}
 use Rattle.simplex_laws.proofs.StandingCalls.{certified_stays, notarization_stays, nullification_stays, finalization_stays}
 use Rattle.simplex_laws.proofs.StandingSteps.{plain_suits, stays_on}
@@ -135,16 +138,17 @@ module _ {K L D : Type 0} (same : D → D → Bool) (decides : (d e : D) → sam
   quiet e notarization final verdict nullify finalize =
       shows_nothing (after_event same elect x e) (stays_on same decides elect term_length deeds x e (plain_suits deeds _ x e notarization final nullify finalize (λ v says. absurd (cc))) keeps.stays)
 
-  -- a call that is allowed and not refused
-  pub call_keeps : (call : CallFacts D) → KeepsRules term_length (deeds ++ deeds_of_call call (answer same elect x call)) (after_call same elect x call)
-  call_keeps (AddNotarization c) = record { lawful = accepts (subject.Notarize c.proposal); stays = notarization_stays same decides elect term_length deeds x keeps.stays c }
-  call_keeps (AddNullification c now) = record { lawful = accepts (subject.Nullify c.round); stays = nullification_stays same decides elect term_length deeds x keeps.stays c now }
-  call_keeps (AddFinalization c now) = record { lawful = accepts (subject.Finalize c.proposal); stays = finalization_stays same decides elect term_length deeds x keeps.stays c now }
-  call_keeps (Certified v success now) = shows_nothing _ (certified_stays same decides elect term_length deeds x keeps.stays v success now)
-  call_keeps (ConstructNullify v) = nullify_keeps elect term_length deeds x v keeps
-  call_keeps (ConstructFinalize v) = finalize_keeps elect term_length deeds x v keeps
-  call_keeps (BroadcastNotarization v) = quiet (event.BroadcastNotarization v) refl refl refl refl refl
-  call_keeps (BroadcastNullification v) = quiet (event.BroadcastNullification v) refl refl refl refl refl
-  call_keeps (BroadcastFinalization v) = quiet (event.BroadcastFinalization v) refl refl refl refl refl
-  call_keeps GetBestCertificate = shows_nothing x keeps.stays
-  call_keeps Prune = quiet event.Prune refl refl refl refl refl
+  -- a call that is allowed and not refused, and not on the work of a view
+  pub call_keeps : (o : Openings K D) (call : CallFacts D) → is_work call ≡ false → KeepsRules term_length (deeds ++ deeds_of_call call (answer same elect x o call)) (after_call same elect x o call)
+  call_keeps o (AddNotarization c) plain = record { lawful = accepts (subject.Notarize c.proposal); stays = notarization_stays same decides elect term_length deeds x keeps.stays c }
+  call_keeps o (AddNullification c now) plain = record { lawful = accepts (subject.Nullify c.round); stays = nullification_stays same decides elect term_length deeds x keeps.stays c now }
+  call_keeps o (AddFinalization c now) plain = record { lawful = accepts (subject.Finalize c.proposal); stays = finalization_stays same decides elect term_length deeds x keeps.stays c now }
+  call_keeps o (Certified v success now) plain = shows_nothing _ (certified_stays same decides elect term_length deeds x keeps.stays v success now)
+  call_keeps o (ConstructNullify v) plain = nullify_keeps elect term_length deeds x v keeps
+  call_keeps o (ConstructFinalize v) plain = finalize_keeps elect term_length deeds x v keeps
+  call_keeps o (BroadcastNotarization v) plain = quiet (event.BroadcastNotarization v) refl refl refl refl refl
+  call_keeps o (BroadcastNullification v) plain = quiet (event.BroadcastNullification v) refl refl refl refl refl
+  call_keeps o (BroadcastFinalization v) plain = quiet (event.BroadcastFinalization v) refl refl refl refl refl
+  call_keeps o GetBestCertificate plain = shows_nothing x keeps.stays
+  call_keeps o Prune plain = quiet event.Prune refl refl refl refl refl
+  call_keeps o _ plain = absurd (true≢false plain)

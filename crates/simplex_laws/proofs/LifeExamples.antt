@@ -9,10 +9,11 @@ use Rattle.simplex_voter.specs.Windows.{min_active, in_window}
 use Rattle.simplex_voter.specs.Parents.{binding_matches}
 use Rattle.simplex_voter.specs.Acceptance.{after_set_floor}
 use Rattle.simplex_voter.specs.Serving.{prune_answer}
-use Rattle.simplex_member.specs.Calls.{CallFacts, AddNotarization, AddNullification, AddFinalization, BroadcastNotarization, BroadcastFinalization, GetBestCertificate, Prune, Told, is_allowed, answer, after_call}
-use Rattle.simplex_laws.specs.LifeLaws.{Calling, is_conflicted, Kind, Notarization, Finalization, handed_in}
+use Rattle.simplex_member.specs.Allowed.{is_allowed}
+use Rattle.simplex_member.specs.Calls.{CallFacts, AddNotarization, AddNullification, AddFinalization, SetProposal, ReleaseProposalRequest, Verified, BroadcastNotarization, BroadcastFinalization, GetBestCertificate, Prune, Told}
+use Rattle.simplex_member.specs.Made.{answer, after_call}
+use Rattle.simplex_laws.specs.LifeLaws.{is_conflicted, Kind, Notarization, Finalization, handed_in}
 use Rattle.simplex_member.specs.Openings.{no_openings}
-use Rattle.simplex_member.specs.Work.{WorkCall, SetProposal, ReleaseProposalRequest, Verified, after_work}
 use Rattle.simplex_member.proofs.Examples.{proposal}
 use Rattle.simplex_member.proofs.RecoveryExamples.{in_turn, settings}
 
@@ -30,13 +31,13 @@ abbrev begun_in : ℕ → State
 begun_in term_length =
     after_set_floor nat_eq in_turn (new_facts (record settings { view_retention = 5 }) (Some 0) (0 ∷ 1 ∷ 2 ∷ 3 ∷ []) 1 (record { term_length = term_length; optimistic_views = 0; stall_timeout = None }) true) (Genesis 0) 0
 
--- what allowed calls leave, and what they are told
+-- what allowed calls leave, and what they are told; none of them is answered by what is open
 abbrev after_all : State → List Call → State
-after_all x calls = fold (λ y call. after_call nat_eq in_turn y call) x calls
+after_all x calls = fold (λ y call. after_call nat_eq in_turn y no_openings call) x calls
 
 abbrev replies_from : State → List Call → List Reply
 replies_from x [] = []
-replies_from x (call ∷ calls) = answer nat_eq in_turn x call ∷ replies_from (after_call nat_eq in_turn x call) calls
+replies_from x (call ∷ calls) = answer nat_eq in_turn x no_openings call ∷ replies_from (after_call nat_eq in_turn x no_openings call) calls
 
 abbrev after : List Call → State
 after calls = after_all (begun_in 1) calls
@@ -46,7 +47,7 @@ abbrev certificate : ℕ → ℕ → ProposalFacts ℕ
 certificate v payload = record { proposal = proposal v 0 payload; bytes = [] }
 
 abbrev handed : Kind → List Call → List ℕ
-handed kind calls = handed_in kind (map (λ call. Calling call) calls) (replies_from (begun_in 1) calls)
+handed kind calls = handed_in kind calls (replies_from (begun_in 1) calls)
 
 abbrev asked_often : List Call
 asked_often =
@@ -102,18 +103,15 @@ untracked_now = refl
 kept_from : min_active pruned ≡ 15
 kept_from = refl
 
-not_again : is_allowed pruned (AddNotarization (certificate 1 0)) ≡ false
+not_again : is_allowed pruned no_openings (AddNotarization (certificate 1 0)) ≡ false
 not_again = refl
 
 -- another proposal that a vote shows contradicts too, and an answer of a verification settles nothing
 
-abbrev after_works : State → List (WorkCall ℕ) → State
-after_works x calls = fold (λ y call. after_work nat_eq in_turn y no_openings call) x calls
-
 abbrev seen_twice : State
-seen_twice = after_works (begun_in 1) (SetProposal 1 (proposal 1 0 7) ∷ SetProposal 1 (proposal 1 0 9) ∷ [])
+seen_twice = after_all (begun_in 1) (SetProposal 1 (proposal 1 0 7) ∷ SetProposal 1 (proposal 1 0 9) ∷ [])
 
-one_seen : is_conflicted (after_works (begun_in 1) (SetProposal 1 (proposal 1 0 7) ∷ SetProposal 1 (proposal 1 0 7) ∷ [])) 1 ≡ false
+one_seen : is_conflicted (after_all (begun_in 1) (SetProposal 1 (proposal 1 0 7) ∷ SetProposal 1 (proposal 1 0 7) ∷ [])) 1 ≡ false
 unfolding in_window
 one_seen = refl
 
@@ -121,7 +119,7 @@ two_seen : is_conflicted seen_twice 1 ≡ true
 unfolding in_window
 two_seen = refl
 
-never_settled : is_conflicted (after_works seen_twice (Verified 1 ∷ SetProposal 1 (proposal 1 0 7) ∷ ReleaseProposalRequest 1 ∷ [])) 1 ≡ true
+never_settled : is_conflicted (after_all seen_twice (Verified 1 ∷ SetProposal 1 (proposal 1 0 7) ∷ ReleaseProposalRequest 1 ∷ [])) 1 ≡ true
 unfolding in_window binding_matches
 never_settled = refl
 

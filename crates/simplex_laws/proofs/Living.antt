@@ -4,11 +4,11 @@ use Rattle.std.specs.Prelude.{IfOk}
 use Rattle.std.proofs.lemmas.List.Elements.{Contains-append_cases}
 use Rattle.simplex_voter.specs.Facts.{Elect}
 use Rattle.simplex_member.specs.declared.member.error.RecoverError.{RecoverError}
-use Rattle.simplex_member.specs.Calls.{Told}
-use Rattle.simplex_member.specs.Lives.{MemberFacts}
+use Rattle.simplex_member.specs.Calls.{CallFacts, Told}
+use Rattle.simplex_member.specs.Lives.{MemberFacts, IsCall}
 use Rattle.simplex_member.specs.Recovery.{recover_error}
 use Rattle.simplex_member.specs.Restarts.{RestartFacts, IsRestart}
-use Rattle.simplex_member.specs.Runs.{StepFacts, Restarts, restart_told, IsStep, IsRun, IsRunFrom}
+use Rattle.simplex_member.specs.Runs.{StepFacts, Calls, Restarts, restart_told, IsStep, IsRun, IsRunFrom}
 use Rattle.simplex_member.specs.Start.{StartFacts, started}
 use Rattle.std.proofs.lemmas.List.{append-nil}
 use Rattle.simplex_laws.specs.Living.{new_story, with_step, HasStory, HasDone}
@@ -57,8 +57,8 @@ module _ {K L D : Type 0} (same : D → D → Bool) (elect : Elect L) where
       run = sym is;
     }
 
-    pub call_on : (s : Story K L D) (m next : MemberFacts K L D) (step : StepFacts K L D) (told : Told K D) → ((r : RestartFacts K L D) → Restarts r ≡ step → ⊥) → IsStep same elect m step told next → HasStory same elect term_length i s m → HasStory same elect term_length i (with_step s step told) next
-    call_on s m next step told no_restart is_step has = step_on s m next step told (λ r e. absurd (no_restart r (sym e))) has is_step
+    pub call_on : (s : Story K L D) (m next : MemberFacts K L D) (call : CallFacts D) (told : Told K D) → IsCall same elect m call told next → HasStory same elect term_length i s m → HasStory same elect term_length i (with_step s (Calls call) told) next
+    call_on s m next call told is_call has = step_on s m next (Calls call) told (λ r e. absurd (cc)) has is_call
 
     pub restart_on : (s : Story K L D) (m next : MemberFacts K L D) (q : RestartFacts K L D) (result : Result (Unit {0}) RecoverError) → IsRestart same elect m q result next → BeginsAs term_length i q.start.fresh → HasStory same elect term_length i s m → HasStory same elect term_length i (with_step s (Restarts q) (restart_told result)) next
     restart_on s m next q result restarts begins has = step_on s m next (Restarts q) (restart_told result) (λ r e. subst (λ (p : RestartFacts K L D). BeginsAs term_length i p.start.fresh) (same_restart q r e) begins) has (result, restarts, refl)
@@ -86,8 +86,8 @@ module _ {K L D : Type 0} (same : D → D → Bool) (elect : Elect L) where
     pub start_done : (start : StartFacts K L D) (m : MemberFacts K L D) (all : List (Deed D)) → BeginsAs term_length i start.fresh → recover_error same start.fresh start.floor start.now [] ≡ None → m ≡ started same elect start.fresh start.floor start.now → of_floor start.floor ≡ all → HasDone same elect term_length i all m
     start_done start m all begins none is shows = record { story = new_story start; told = begin_story start m begins none is; same_deeds = append-nil (of_floor start.floor) ∙ shows }
 
-    pub call_done : (m next : MemberFacts K L D) (step : StepFacts K L D) (told : Told K D) (all more : List (Deed D)) → ((r : RestartFacts K L D) → Restarts r ≡ step → ⊥) → IsStep same elect m step told next → deeds_at step told ≡ more → HasDone same elect term_length i all m → HasDone same elect term_length i (all ++ more) next
-    call_done m next step told all more no_restart is_step shows done = done_on done.story m next step told all more done.told done.same_deeds shows (call_on done.story m next step told no_restart is_step done.told)
+    pub call_done : (m next : MemberFacts K L D) (call : CallFacts D) (told : Told K D) (all more : List (Deed D)) → IsCall same elect m call told next → deeds_at {L = L} (Calls call) told ≡ more → HasDone same elect term_length i all m → HasDone same elect term_length i (all ++ more) next
+    call_done m next call told all more is_call shows done = done_on done.story m next (Calls call) told all more done.told done.same_deeds shows (call_on done.story m next call told is_call done.told)
 
     pub restart_done : (m next : MemberFacts K L D) (q : RestartFacts K L D) (result : Result (Unit {0}) RecoverError) (all more : List (Deed D)) → IsRestart same elect m q result next → BeginsAs term_length i q.start.fresh → deeds_at (Restarts q) (restart_told {K = K} {D = D} result) ≡ more → HasDone same elect term_length i all m → HasDone same elect term_length i (all ++ more) next
     restart_done m next q result all more restarts begins shows done = done_on done.story m next (Restarts q) (restart_told result) all more done.told done.same_deeds shows (restart_on done.story m next q result restarts begins done.told)

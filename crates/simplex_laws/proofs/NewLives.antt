@@ -11,7 +11,9 @@ use Rattle.simplex_types.specs.declared.types.messages.Subject.TheVariants as su
 use Rattle.simplex_types.specs.declared.types.window.Terms.{Terms}
 use Rattle.simplex_voter.specs.Facts.{Settings, Facts, Elect, new_facts, round_number}
 use Rattle.simplex_member.specs.declared.member.error.RecoverError.{RecoverError}
-use Rattle.simplex_member.specs.Calls.{CallFacts, is_allowed, answer, after_call, recorded_by}
+use Rattle.simplex_member.specs.Allowed.{is_allowed}
+use Rattle.simplex_member.specs.Calls.{CallFacts}
+use Rattle.simplex_member.specs.Made.{answer, after_call, openings_after, recorded_by}
 use Rattle.simplex_member.specs.Check.{first_error, entry_rules, first_broken_after, stands}
 use Rattle.simplex_member.specs.Entries.{entry_round, entry_view}
 use Rattle.simplex_member.specs.Recovery.{recovered, with_floor, is_finalization}
@@ -19,6 +21,7 @@ use Rattle.simplex_laws.specs.Deeds.{Deed, Accepts, of_floor, deeds_of_call}
 use Rattle.simplex_laws.specs.Lawful.{IsLawful}
 use Rattle.simplex_laws.proofs.Lawful.{lawful_push}
 use Rattle.simplex_laws.proofs.Splits.{Contains-cases}
+use Rattle.simplex_laws.proofs.WorkCalls.{is_work}
 use Rattle.simplex_laws.proofs.LifeCalls.{KeepsRules, call_keeps}
 use Rattle.simplex_laws.proofs.RecoveredVotes.{recovered_stays}
 use Rattle.simplex_laws.proofs.RecoveredMarks.{recovered_marked}
@@ -27,7 +30,6 @@ use Rattle.simplex_laws.proofs.CallsRemembered.{Follows, call_follows}
 use Rattle.simplex_laws.proofs.CutsRemembered.{in_copy, in_record, copy_remembers, floor_remembers}
 use Rattle.simplex_laws.proofs.InOrder.{InOrder, order_call, order_recovered}
 use Rattle.simplex_member.specs.Openings.{Openings, no_openings}
-use Rattle.simplex_member.specs.Lives.{closed_by}
 use Rattle.simplex_laws.proofs.Notes.{NotesStand, RemembersNotes, notes_acted}
 use Rattle.simplex_laws.proofs.NotesRemembered.{notes_copied, notes_floored, notes_called, floor_casts_none}
 use Rattle.simplex_laws.proofs.NotesRecovered.{recovered_notes}
@@ -149,16 +151,16 @@ module _ {K L D : Type 0} (same : D → D → Bool) (decides : (d e : D) → sam
       }
 
 module _ {K L D : Type 0} (same : D → D → Bool) (decides : (d e : D) → same d e ≡ true → d ≡ e) (elect : Elect L) (term_length : ℕ) (deeds : List (Deed D)) (closed kept : ℕ) (entries : List (ArtifactFacts D)) (x : Facts K L D) where
-  -- a call that is allowed and not refused
-  pub call_lives : (o : Openings K D) (call : CallFacts D) → 0 < term_length → is_allowed x call ≡ true → Living term_length deeds closed kept entries o x → Living term_length (deeds ++ deeds_of_call call (answer same elect x call)) closed kept (entries ++ recorded_by same elect x call) (closed_by o call) (after_call same elect x call)
-  call_lives o call some allowed living = record {
-    keeps = call_keeps same decides elect term_length deeds x living.keeps call;
-    follows = call_follows same elect term_length deeds kept entries x living.keeps.stays living.follows call allowed;
-    in_order = order_call same elect x living.in_order call;
-    notes = notes_called same elect x deeds kept entries call living.notes;
+  -- a call that is allowed and not refused, and not on the work of a view
+  pub plain_lives : (o : Openings K D) (call : CallFacts D) → 0 < term_length → is_work call ≡ false → is_allowed x o call ≡ true → Living term_length deeds closed kept entries o x → Living term_length (deeds ++ deeds_of_call call (answer same elect x o call)) closed kept (entries ++ recorded_by same elect x call) (openings_after same elect x o call) (after_call same elect x o call)
+  plain_lives o call some plain allowed living = record {
+    keeps = call_keeps same decides elect term_length deeds x living.keeps o call plain;
+    follows = call_follows same elect term_length deeds kept entries x living.keeps.stays living.follows o call plain allowed;
+    in_order = order_call same elect x o living.in_order call;
+    notes = notes_called same elect x o deeds kept entries call plain living.notes;
     noted =
         (let noted = living.noted in
-        let left = call_notes same elect noted.0 noted.1 deeds o x noted.2 call (omega (arith, some, living.keeps.stays.stands.terms)) living.keeps.stays.ahead allowed in
+        let left = call_notes same elect noted.0 noted.1 deeds o x noted.2 call plain (omega (arith, some, living.keeps.stays.stands.terms)) living.keeps.stays.ahead allowed in
         (left.0, noted.1, left.1));
     high = high_more closed kept entries (recorded_by same elect x call) living.high;
     within = within_more closed entries (recorded_by same elect x call) living.within;

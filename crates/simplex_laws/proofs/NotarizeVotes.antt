@@ -18,7 +18,7 @@ use Rattle.simplex_voter.specs.Votes.{notarize_answer}
 use Rattle.simplex_voter.proofs.Gaps.{and_parts, not_true}
 use Rattle.simplex_voter.proofs.Rules.{notarize_parts}
 use Rattle.simplex_member.specs.Openings.{Openings}
-use Rattle.simplex_member.specs.Work.{notarize_vote}
+use Rattle.simplex_member.specs.Made.{notarize_vote}
 use Rattle.simplex_laws.specs.Deeds.{Deed, Accepts, Signs}
 use Rattle.simplex_laws.proofs.Signed.{signed_push}
 use Rattle.simplex_laws.proofs.LifeCalls.{none_follows}

@@ -1,7 +1,7 @@
 -- What a record remembers of the votes to notarize is kept: by each deed, by a copy of the record, and where it is cut.
 use Rattle.std.proofs.Common.{◌≡◌, refl, sym, subst, ℕ, inl, inr, Bool, true, false, nat_le, max, if◌then◌else◌, List, [], ◌∷◌, ◌++◌, Contains, filter, Option, Some, None, arith}
 use Rattle.std.specs.Prelude.{◌==◌, option_map, option_and_then}
-use Rattle.std.proofs.lemmas.Bool.{cases_Bool, false≢true, eq-eqb, leb-false}
+use Rattle.std.proofs.lemmas.Bool.{cases_Bool, false≢true, true≢false, eq-eqb, leb-false}
 use Rattle.std.proofs.lemmas.List.{append-nil}
 use Rattle.std.proofs.lemmas.List.Elements.{Contains-append_left, Contains-append_right, Contains-append_cases}
 use Rattle.simplex_types.specs.Certificates.{Notarized, Nullified, Finalized, ArtifactFacts, NotarizeVote, NullifyVote, FinalizeVote, Verdict, Accepted}
@@ -14,7 +14,9 @@ use Rattle.simplex_voter.specs.Facts.{Facts, Elect, round_number}
 use Rattle.simplex_voter.specs.Votes.{nullify_answer, finalize_answer}
 use Rattle.simplex_voter.specs.Acceptance.{notarization_added, nullification_added, finalization_added}
 use Rattle.simplex_voter.specs.Certification.{is_first_verdict}
-use Rattle.simplex_member.specs.Calls.{CallFacts, AddNotarization, AddNullification, AddFinalization, Certified, ConstructNullify, ConstructFinalize, Nullify, Finalize, newly, first_vote, vote_entry, answer, recorded_by}
+use Rattle.simplex_member.specs.Calls.{CallFacts, AddNotarization, AddNullification, AddFinalization, ConstructNotarize, Certified, ConstructNullify, ConstructFinalize, Nullify, Finalize}
+use Rattle.simplex_member.specs.Made.{newly, first_vote, vote_entry, answer, recorded_by}
+use Rattle.simplex_member.specs.Openings.{Openings}
 use Rattle.simplex_member.specs.Check.{stands}
 use Rattle.simplex_member.specs.Cuts.{is_vote}
 use Rattle.simplex_member.specs.Entries.{entry_view}
@@ -25,6 +27,7 @@ use Rattle.simplex_laws.proofs.Signed.{signed_none, signed_left, signed_cases, s
 use Rattle.simplex_laws.proofs.Filters.{Contains-filter, Contains-filtered}
 use Rattle.simplex_laws.proofs.Recalls.{only_one}
 use Rattle.simplex_laws.proofs.Notes.{RemembersNotes, CastsNone}
+use Rattle.simplex_laws.proofs.WorkCalls.{is_work}
 
 -- no entry of them is a vote to notarize
 abbrev pub NotesNone : {D : Type 0} → List (ArtifactFacts D) → Type 0
@@ -185,25 +188,27 @@ module _ {D : Type 0} where
   finalize_notes_none (Some m) None = notes_nothing
   finalize_notes_none (Some m) (Some q) = notes_accepted (FinalizeVote q m) (λ p n e. absurd (cc))
 
-module _ {K L D : Type 0} (same : D → D → Bool) (elect : Elect L) (x : Facts K L D) where
-  -- no call of these casts a vote to notarize, nor records one
+module _ {K L D : Type 0} (same : D → D → Bool) (elect : Elect L) (x : Facts K L D) (o : Openings K D) where
+  -- no call but those on the work of a view casts a vote to notarize, or records one
 
-  pub calls_cast_none : (call : CallFacts D) → CastsNone (deeds_of_call call (answer same elect x call))
-  calls_cast_none (AddNotarization c) = casts_accepted (subject.Notarize c.proposal)
-  calls_cast_none (AddNullification c now) = casts_accepted (subject.Nullify c.round)
-  calls_cast_none (AddFinalization c now) = casts_accepted (subject.Finalize c.proposal)
-  calls_cast_none (ConstructNullify v) = nullify_casts_none (round_number x v) K v x.me (nullify_answer x v)
-  calls_cast_none (ConstructFinalize v) = finalize_casts_none K v x.me (finalize_answer elect x v)
-  calls_cast_none _ = casts_nothing
+  pub calls_cast_none : (call : CallFacts D) → is_work call ≡ false → CastsNone (deeds_of_call call (answer same elect x o call))
+  calls_cast_none (AddNotarization c) plain = casts_accepted (subject.Notarize c.proposal)
+  calls_cast_none (AddNullification c now) plain = casts_accepted (subject.Nullify c.round)
+  calls_cast_none (AddFinalization c now) plain = casts_accepted (subject.Finalize c.proposal)
+  calls_cast_none (ConstructNullify v) plain = nullify_casts_none (round_number x v) K v x.me (nullify_answer x v)
+  calls_cast_none (ConstructFinalize v) plain = finalize_casts_none K v x.me (finalize_answer elect x v)
+  calls_cast_none (ConstructNotarize v) plain = absurd (true≢false plain)
+  calls_cast_none _ plain = casts_nothing
 
-  pub calls_record_none : (call : CallFacts D) → NotesNone (recorded_by same elect x call)
-  calls_record_none (AddNotarization c) = notes_newly (notarization_added same elect x c).0 (Accepted (Notarized c)) (λ p m e. absurd (cc))
-  calls_record_none (AddNullification c now) = notes_newly (nullification_added x c) (Accepted (Nullified c)) (λ p m e. absurd (cc))
-  calls_record_none (AddFinalization c now) = notes_newly (finalization_added same elect x c).0 (Accepted (Finalized c)) (λ p m e. absurd (cc))
-  calls_record_none (Certified v success now) = notes_newly (is_first_verdict x v) (Verdict (round_number x v) success) (λ p m e. absurd (cc))
-  calls_record_none (ConstructNullify v) = nullify_notes_none (round_number x v) x.me (nullify_answer x v)
-  calls_record_none (ConstructFinalize v) = finalize_notes_none x.me (finalize_answer elect x v)
-  calls_record_none _ = notes_nothing
+  pub calls_record_none : (call : CallFacts D) → is_work call ≡ false → NotesNone (recorded_by same elect x call)
+  calls_record_none (AddNotarization c) plain = notes_newly (notarization_added same elect x c).0 (Accepted (Notarized c)) (λ p m e. absurd (cc))
+  calls_record_none (AddNullification c now) plain = notes_newly (nullification_added x c) (Accepted (Nullified c)) (λ p m e. absurd (cc))
+  calls_record_none (AddFinalization c now) plain = notes_newly (finalization_added same elect x c).0 (Accepted (Finalized c)) (λ p m e. absurd (cc))
+  calls_record_none (Certified v success now) plain = notes_newly (is_first_verdict x v) (Verdict (round_number x v) success) (λ p m e. absurd (cc))
+  calls_record_none (ConstructNullify v) plain = nullify_notes_none (round_number x v) x.me (nullify_answer x v)
+  calls_record_none (ConstructFinalize v) plain = finalize_notes_none x.me (finalize_answer elect x v)
+  calls_record_none (ConstructNotarize v) plain = absurd (true≢false plain)
+  calls_record_none _ plain = notes_nothing
 
-  pub notes_called : (deeds : List (Deed D)) (kept : ℕ) (entries : List (ArtifactFacts D)) (call : CallFacts D) → RemembersNotes deeds kept entries → RemembersNotes (deeds ++ deeds_of_call call (answer same elect x call)) kept (entries ++ recorded_by same elect x call)
-  notes_called deeds kept entries call = notes_grow deeds (deeds_of_call call (answer same elect x call)) kept entries (recorded_by same elect x call) (calls_cast_none call) (calls_record_none call)
+  pub notes_called : (deeds : List (Deed D)) (kept : ℕ) (entries : List (ArtifactFacts D)) (call : CallFacts D) → is_work call ≡ false → RemembersNotes deeds kept entries → RemembersNotes (deeds ++ deeds_of_call call (answer same elect x o call)) kept (entries ++ recorded_by same elect x call)
+  notes_called deeds kept entries call plain = notes_grow deeds (deeds_of_call call (answer same elect x o call)) kept entries (recorded_by same elect x call) (calls_cast_none call plain) (calls_record_none call plain)

@@ -9,7 +9,8 @@ use Rattle.simplex_types.specs.declared.types.fault.Fault.{Fault}
 use Rattle.simplex_voter.specs.Facts.{Facts, Elect}
 use Rattle.simplex_member.specs.declared.member.error.RecoverError.{RecoverError}
 use Rattle.simplex_member.specs.declared.member.error.RecoverError.TheVariants as error
-use Rattle.simplex_member.specs.Calls.{CallFacts, Told, is_allowed, fault_of}
+use Rattle.simplex_member.specs.Allowed.{is_allowed, fault_of}
+use Rattle.simplex_member.specs.Calls.{CallFacts, Told}
 use Rattle.simplex_member.specs.Check.{stands}
 use Rattle.simplex_member.specs.Cuts.{may_drop, without_last, finalized_in, pruned}
 use Rattle.simplex_member.specs.Entries.{entry_view}
@@ -17,8 +18,7 @@ use Rattle.simplex_member.specs.Lives.{MemberFacts, IsCall, AnswersAlive, reply_
 use Rattle.simplex_laws.specs.Outside.{IsFromOutside, IsExcused, VerdictsFollowNotarizations}
 use Rattle.simplex_member.specs.Recovery.{recover_error, recovered, is_finalization, with_floor}
 use Rattle.simplex_member.specs.Restarts.{RestartFacts, IsByView, cut, new_life, retention_grows, GoesOn, IsRestart, IsRestartWhere}
-use Rattle.simplex_member.specs.Work.{WorkCall, work_allowed, work_fault, work_reply, left_of_work, IsWorkOf, IsWork}
-use Rattle.simplex_member.specs.Runs.{StepFacts, Calls, Works, Restarts, restart_told, IsRun, EndsRun, EndsRunFrom}
+use Rattle.simplex_member.specs.Runs.{StepFacts, Calls, Restarts, restart_told, IsRun, EndsRun, EndsRunFrom}
 use Rattle.simplex_member.specs.Start.{StartFacts, started}
 use Rattle.simplex_member.proofs.Cuts.{none_dropped}
 use Rattle.simplex_laws.specs.Deeds.{Deed, of_floor, signed_in, deeds_of_call, deeds_at}
@@ -28,9 +28,9 @@ use Rattle.simplex_laws.proofs.Outside.{Fit, error_outside}
 use Rattle.simplex_laws.proofs.OwnRecords.{OwnRecord, own_together, own_nothing, HasNoVerdict, own_floor, own_left, own_bounded, own_copy, same_entries}
 use Rattle.simplex_laws.proofs.Recalls.{only_one}
 use Rattle.simplex_laws.proofs.RecoveredVerdicts.{recovered_shows}
-use Rattle.simplex_laws.proofs.RunsLawful.{MemberLives, between_of, cut_between, call_lives_on, work_lives_on, restart_lives_on, start_lives}
-use Rattle.simplex_laws.proofs.WorkVerdicts.{work_told}
-use Rattle.simplex_laws.proofs.ShownVerdicts.{Tells, shows_more, call_told}
+use Rattle.simplex_laws.proofs.RunsLawful.{MemberLives, between_of, cut_between, call_lives_on, restart_lives_on, start_lives}
+use Rattle.simplex_laws.proofs.WorkVerdicts.{call_told}
+use Rattle.simplex_laws.proofs.ShownVerdicts.{Tells, shows_more}
 use Rattle.simplex_laws.proofs.Verdicts.{Shows}
 use Rattle.simplex_laws.proofs.Together.{record_fits}
 
@@ -99,14 +99,14 @@ module _ {K L D : Type 0} where
 module _ {K L D : Type 0} (same : D → D → Bool) (elect : Elect L) (term_length : ℕ) (deeds : List (Deed D)) (m : MemberFacts K L D) where
   -- a call
 
-  answered : (call : CallFacts D) (x : Facts K L D) → m.life ≡ Some x → MemberTells deeds m → MemberTells (deeds ++ deeds_of_call call (reply_of same elect x call)) (left_of same elect x m call)
-  answered call x alive tells = by_allowed (is_allowed x call) refl
+  answered : (call : CallFacts D) (x : Facts K L D) → m.life ≡ Some x → MemberTells deeds m → MemberTells (deeds ++ deeds_of_call call (reply_of same elect x m.openings call)) (left_of same elect x m call)
+  answered call x alive tells = by_allowed (is_allowed x m.openings call) refl
     where
-      by_fault : (o : Option Fault) → fault_of x call ≡ o → is_allowed x call ≡ true → MemberTells (deeds ++ deeds_of_call call (reply_of same elect x call)) (left_of same elect x m call)
-      by_fault None no_fault allowed = rw (allowed, no_fault) (call_told same elect deeds m.entries x (subst (λ life. TellsOn deeds m.entries life) alive tells) call allowed)
+      by_fault : (o : Option Fault) → fault_of x call ≡ o → is_allowed x m.openings call ≡ true → MemberTells (deeds ++ deeds_of_call call (reply_of same elect x m.openings call)) (left_of same elect x m call)
+      by_fault None no_fault allowed = rw (allowed, no_fault) (call_told same elect deeds m.entries x m.openings (subst (λ life. TellsOn deeds m.entries life) alive tells) call allowed)
       by_fault (Some f) refused allowed = rw (allowed, refused) (untold deeds m tells)
 
-      by_allowed : (b : Bool) → is_allowed x call ≡ b → MemberTells (deeds ++ deeds_of_call call (reply_of same elect x call)) (left_of same elect x m call)
+      by_allowed : (b : Bool) → is_allowed x m.openings call ≡ b → MemberTells (deeds ++ deeds_of_call call (reply_of same elect x m.openings call)) (left_of same elect x m call)
       by_allowed true allowed = by_fault (fault_of x call) refl allowed
       by_allowed false not_allowed = rw not_allowed (untold deeds m tells)
 
@@ -119,29 +119,6 @@ module _ {K L D : Type 0} (same : D → D → Bool) (elect : Elect L) (term_leng
       by_life (Some x) alive (inl (tell, leaves)) = rw (tell, leaves) (answered call x alive tells)
       by_life (Some x) alive (inr (_, tell, inl leaves)) = rw (tell, leaves) (untold deeds m tells)
       by_life (Some x) alive (inr (_, tell, inr (_, _, leaves))) = rw (tell, leaves) (untold deeds (fallen m) (own_of deeds m.entries m.life tells))
-
-  -- a call on the work of a view
-
-  worked : (call : WorkCall D) (x : Facts K L D) → m.life ≡ Some x → MemberTells deeds m → MemberTells (deeds ++ signed_in (work_reply same elect x m.openings call)) (left_of_work same elect x m call)
-  worked call x alive tells = by_allowed (work_allowed x m.openings call) refl
-    where
-      by_fault : (f : Option Fault) → work_fault x call ≡ f → work_allowed x m.openings call ≡ true → MemberTells (deeds ++ signed_in (work_reply same elect x m.openings call)) (left_of_work same elect x m call)
-      by_fault None no_fault allowed = rw (allowed, no_fault) (work_told same elect deeds m.entries x m.openings (subst (λ life. TellsOn deeds m.entries life) alive tells) call allowed)
-      by_fault (Some f) refused allowed = rw (allowed, refused) (untold deeds m tells)
-
-      by_allowed : (b : Bool) → work_allowed x m.openings call ≡ b → MemberTells (deeds ++ signed_in (work_reply same elect x m.openings call)) (left_of_work same elect x m call)
-      by_allowed true allowed = by_fault (work_fault x call) refl allowed
-      by_allowed false not_allowed = rw not_allowed (untold deeds m tells)
-
-  work_tells_on : (call : WorkCall D) (told : Told K D) (left : MemberFacts K L D) → MemberTells deeds m → IsWork same elect m call told left → MemberTells (deeds ++ signed_in told) left
-  unfolding IsWork
-  work_tells_on call told left tells is_work = by_life m.life refl is_work
-    where
-      by_life : (o : Option (Facts K L D)) → m.life ≡ o → IsWorkOf same elect o m call told left → MemberTells (deeds ++ signed_in told) left
-      by_life None dead (tell, leaves) = rw (tell, leaves) (untold deeds m tells)
-      by_life (Some x) alive (inl (tell, leaves)) = rw (tell, leaves) (worked call x alive tells)
-      by_life (Some x) alive (inr (_, tell, inl leaves)) = rw (tell, leaves) (untold deeds m tells)
-      by_life (Some x) alive (inr (_, tell, inr (_, leaves))) = rw (tell, leaves) (untold deeds (fallen m) (own_of deeds m.entries m.life tells))
 
   -- a restart
 
@@ -191,12 +168,6 @@ module _ {K L D : Type 0} (same : D → D → Bool) (decides : (d e : D) → sam
     tells = call_tells_on same elect term_length deeds m call told next own.tells is;
   }
 
-  worked_on : (deeds : List (Deed D)) (m next : MemberFacts K L D) (call : WorkCall D) (told : Told K D) → KeepsRecord term_length deeds m → IsWork same elect m call told next → KeepsRecord term_length (deeds ++ signed_in told) next
-  worked_on deeds m next call told own is = record {
-    lives = work_lives_on same decides elect term_length some deeds m call told next own.lives is;
-    tells = work_tells_on same elect term_length deeds m call told next own.tells is;
-  }
-
   restarted : (deeds : List (Deed D)) (m next : MemberFacts K L D) (r : RestartFacts K L D) (told : Told K D) → IsFresh term_length r.start.fresh → KeepsRecord term_length deeds m → (result : Result (Unit {0}) RecoverError) × IsRestart same elect m r result next × (told ≡ restart_told result) → KeepsRecord term_length (deeds ++ deeds_at (Restarts r) told) next
   restarted deeds m next r told fresh own (result, is, tell) = rw tell (record {
     lives = restart_lives_on same decides elect term_length some deeds m r result next fresh own.lives is;
@@ -209,7 +180,6 @@ module _ {K L D : Type 0} (same : D → D → Bool) (decides : (d e : D) → sam
   run_own [] (told ∷ replies) deeds m end fresh own run = absurd run
   run_own (step ∷ steps) [] deeds m end fresh own run = absurd run
   run_own (Calls call ∷ steps) (told ∷ replies) deeds m end fresh own (next, is_step, rest) = run_own steps replies (deeds ++ deeds_of_call call told) next end fresh (called deeds m next call told own is_step) rest
-  run_own (Works call ∷ steps) (told ∷ replies) deeds m end fresh own (next, is_step, rest) = run_own steps replies (deeds ++ signed_in told) next end fresh (worked_on deeds m next call told own is_step) rest
   run_own (Restarts r ∷ steps) (told ∷ replies) deeds m end fresh own (next, is_step, rest) = run_own steps replies (deeds ++ deeds_at (Restarts r) told) next end fresh.1 (restarted deeds m next r told fresh.0 own is_step) rest
 
   -- a copy of what any cut leaves breaks no rule on how entries stand beside one another
@@ -241,8 +211,6 @@ module _ {K L D : Type 0} (same : D → D → Bool) (decides : (d e : D) → sam
   run_excused [] deeds m found fresh own ends = absurd ends
   run_excused (Calls call ∷ steps) deeds m found fresh own (inl refused) = absurd refused
   run_excused (Calls call ∷ steps) deeds m found fresh own (inr (told, next, is_step, served, later)) = run_excused steps (deeds ++ deeds_of_call call told) next found fresh (called deeds m next call told own is_step) later
-  run_excused (Works call ∷ steps) deeds m found fresh own (inl refused) = absurd refused
-  run_excused (Works call ∷ steps) deeds m found fresh own (inr (told, next, is_step, served, later)) = run_excused steps (deeds ++ signed_in told) next found fresh (worked_on deeds m next call told own is_step) later
   run_excused (Restarts r ∷ steps) deeds m found fresh own (inl (left, refused)) = restart_excused deeds m left r (Err found) found refl own refused
   run_excused (Restarts r ∷ steps) deeds m found fresh own (inr (told, next, is_step, served, later)) = run_excused steps (deeds ++ deeds_at (Restarts r) told) next found fresh.1 (restarted deeds m next r told fresh.0 own is_step) later
 

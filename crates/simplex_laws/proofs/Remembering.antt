@@ -5,7 +5,7 @@ use Rattle.simplex_types.specs.Certificates.{CertificateFacts, ArtifactFacts, Nu
 use Rattle.simplex_types.specs.declared.types.messages.Proposal.{Proposal}
 use Rattle.simplex_types.specs.declared.types.messages.Subject.TheVariants as subject
 use Rattle.simplex_types.specs.declared.types.numbers.Round.{Round}
-use Rattle.simplex_member.specs.Calls.{newly}
+use Rattle.simplex_member.specs.Made.{newly}
 use Rattle.simplex_laws.specs.Deeds.{Deed, Accepts, Signs}
 use Rattle.simplex_laws.specs.Lawful.{HasSigned}
 use Rattle.simplex_laws.proofs.Signed.{signed_none, signed_left, signed_cases, signed_last, only_signed}

@@ -10,7 +10,9 @@ use Rattle.simplex_voter.specs.Facts.{Facts, Elect}
 use Rattle.simplex_member.specs.declared.member.error.RecoverError.{RecoverError}
 use Rattle.simplex_member.specs.declared.member.journal.Stored.{Stored}
 use Rattle.simplex_member.specs.declared.member.resume.ResumeError.TheVariants.{Recover}
-use Rattle.simplex_member.specs.Calls.{CallFacts, Told, Restarted, is_allowed, fault_of, recorded_by}
+use Rattle.simplex_member.specs.Allowed.{is_allowed, fault_of}
+use Rattle.simplex_member.specs.Calls.{CallFacts, Told, Restarted}
+use Rattle.simplex_member.specs.Made.{recorded_by}
 use Rattle.simplex_member.specs.Check.{stands}
 use Rattle.simplex_member.specs.Cuts.{may_drop, without_last}
 use Rattle.simplex_member.specs.Journal.{stored_of, stored_facts, uncut, IsResumed, IsNotResumed}
@@ -18,9 +20,8 @@ use Rattle.simplex_member.specs.Lives.{MemberFacts, fallen, left_of, AnswersAliv
 use Rattle.simplex_member.specs.Openings.{Openings, no_openings}
 use Rattle.simplex_member.specs.Recovery.{recover_error, is_finalization, with_floor}
 use Rattle.simplex_member.specs.Restarts.{RestartFacts, cut, retention_grows, new_life, GoesOn, IsRestartWhere, IsRestart}
-use Rattle.simplex_member.specs.Runs.{StepFacts, Calls, Works, Restarts, IsStep, IsRun, IsRefused}
+use Rattle.simplex_member.specs.Runs.{StepFacts, Calls, Restarts, IsStep, IsRun, IsRefused}
 use Rattle.simplex_member.specs.Start.{StartFacts, started}
-use Rattle.simplex_member.specs.Work.{WorkCall, work_allowed, work_fault, recorded_by_work, left_of_work, IsWorkOf, IsWork}
 use Rattle.simplex_laws.specs.Resumes.{LosesNothing}
 
 -- all that was closed stands in its record
@@ -71,37 +72,19 @@ module _ {K L D : Type 0} (same : D → D → Bool) (elect : Elect L) (m : Membe
   unfolding IsCall
   call_within call told left is_call = by_life m.life is_call
     where
-      by_fault : (x : Facts K L D) (f : Option Fault) → fault_of x call ≡ f → is_allowed x call ≡ true → Within (left_of same elect x m call)
+      by_fault : (x : Facts K L D) (f : Option Fault) → fault_of x call ≡ f → is_allowed x m.openings call ≡ true → Within (left_of same elect x m call)
       by_fault x None no_fault allowed = rw (allowed, no_fault) (more_within (recorded_by same elect x call))
       by_fault x (Some f) refused allowed = rw (allowed, refused) within
 
-      by_allowed : (x : Facts K L D) (b : Bool) → is_allowed x call ≡ b → Within (left_of same elect x m call)
+      by_allowed : (x : Facts K L D) (b : Bool) → is_allowed x m.openings call ≡ b → Within (left_of same elect x m call)
       by_allowed x true allowed = by_fault x (fault_of x call) refl allowed
       by_allowed x false not_allowed = rw not_allowed within
 
       by_life : (o : Option (Facts K L D)) → AnswersAlive same elect o m call told left → Within left
       by_life None (tell, leaves) = rw leaves within
-      by_life (Some x) (inl (tell, leaves)) = rw leaves (by_allowed x (is_allowed x call) refl)
+      by_life (Some x) (inl (tell, leaves)) = rw leaves (by_allowed x (is_allowed x m.openings call) refl)
       by_life (Some x) (inr (_, tell, inl leaves)) = rw leaves within
       by_life (Some x) (inr (_, tell, inr (_, _, leaves))) = rw leaves within
-
-  work_within : (call : WorkCall D) (told : Told K D) (left : MemberFacts K L D) → IsWork same elect m call told left → Within left
-  unfolding IsWork
-  work_within call told left is_work = by_life m.life is_work
-    where
-      by_fault : (x : Facts K L D) (f : Option Fault) → work_fault x call ≡ f → work_allowed x m.openings call ≡ true → Within (left_of_work same elect x m call)
-      by_fault x None no_fault allowed = rw (allowed, no_fault) (more_within (recorded_by_work same elect x call))
-      by_fault x (Some f) refused allowed = rw (allowed, refused) within
-
-      by_allowed : (x : Facts K L D) (b : Bool) → work_allowed x m.openings call ≡ b → Within (left_of_work same elect x m call)
-      by_allowed x true allowed = by_fault x (work_fault x call) refl allowed
-      by_allowed x false not_allowed = rw not_allowed within
-
-      by_life : (o : Option (Facts K L D)) → IsWorkOf same elect o m call told left → Within left
-      by_life None (tell, leaves) = rw leaves within
-      by_life (Some x) (inl (tell, leaves)) = rw leaves (by_allowed x (work_allowed x m.openings call) refl)
-      by_life (Some x) (inr (_, tell, inl leaves)) = rw leaves within
-      by_life (Some x) (inr (_, tell, inr (_, leaves))) = rw leaves within
 
 module _ {K L D : Type 0} (same : D → D → Bool) (elect : Elect L) where
   goes_on_within : (n : MemberFacts K L D) (start : StartFacts K L D) (result : Result (Unit {0}) RecoverError) (left : MemberFacts K L D) → Within n → GoesOn same elect n start result left → Within left
@@ -125,7 +108,6 @@ module _ {K L D : Type 0} (same : D → D → Bool) (elect : Elect L) where
   run_within m end [] (told ∷ replies) within run = absurd run
   run_within m end (step ∷ steps) [] within run = absurd run
   run_within m end (Calls call ∷ steps) (told ∷ replies) within (next, is_step, rest) = run_within next end steps replies (call_within same elect m within call told next is_step) rest
-  run_within m end (Works call ∷ steps) (told ∷ replies) within (next, is_step, rest) = run_within next end steps replies (work_within same elect m within call told next is_step) rest
   run_within m end (Restarts r ∷ steps) (told ∷ replies) within (next, (result, restarts, tell), rest) = run_within next end steps replies (restart_within m r result next within restarts) rest
 
   pub run_loses_nothing : (start : StartFacts K L D) (steps : List (StepFacts K L D)) (replies : List (Told K D)) (m : MemberFacts K L D) → IsRun same elect (started same elect start.fresh start.floor start.now) steps replies m → LosesNothing m

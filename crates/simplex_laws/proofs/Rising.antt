@@ -7,13 +7,13 @@ use Rattle.simplex_voter.specs.Windows.{min_active}
 use Rattle.simplex_voter.specs.Entering.{at_moment}
 use Rattle.simplex_voter.specs.Certification.{raised}
 use Rattle.simplex_voter.specs.Acceptance.{after_add_finalization}
-use Rattle.simplex_member.specs.Calls.{CallFacts, after_call}
+use Rattle.simplex_member.specs.Calls.{CallFacts}
+use Rattle.simplex_member.specs.Made.{after_call}
 use Rattle.simplex_member.specs.Openings.{Openings}
-use Rattle.simplex_member.specs.Work.{WorkCall, after_work}
 use Rattle.simplex_laws.specs.Events.{Event, AddFinalization, after_event}
 use Rattle.simplex_laws.specs.LifeLaws.{NeverFalls}
 use Rattle.simplex_laws.specs.Sums.{finalized_by}
-use Rattle.simplex_laws.proofs.CallsMake.{call_by_any, work_by_any}
+use Rattle.simplex_laws.proofs.CallsMake.{call_by_any}
 use Rattle.simplex_laws.proofs.Paths.{event_path, asked_of_all, from_raised}
 use Rattle.simplex_laws.proofs.Steps.{Step, Path, Reaches, Raises, Still, along}
 
@@ -70,12 +70,8 @@ module _ {K L D : Type 0} (same : D → D → Bool) (elect : Elect L) (x : Facts
       keeps y z _ p = p
 
 module _ {K L D : Type 0} (same : D → D → Bool) (elect : Elect L) (x : Facts K L D) where
-  pub call_goes : (call : CallFacts D) → GoesOn x (after_call same elect x call)
-  call_goes call = call_by_any same elect x (GoesOn x) (goes_still x) (λ e. event_goes same elect x e) call
-
-module _ {K L D : Type 0} (same : D → D → Bool) (elect : Elect L) (x : Facts K L D) where
-  pub work_goes : (o : Openings K D) (call : WorkCall D) → GoesOn x (after_work same elect x o call)
-  work_goes o call = work_by_any same elect x o (GoesOn x) (goes_still x) (λ e. event_goes same elect x e) call
+  pub call_goes : (o : Openings K D) (call : CallFacts D) → GoesOn x (after_call same elect x o call)
+  call_goes o call = call_by_any same elect x o (GoesOn x) (goes_still x) (λ e. event_goes same elect x e) call
 
 -- finalizations
 

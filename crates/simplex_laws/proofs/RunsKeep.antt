@@ -5,16 +5,15 @@ use Rattle.simplex_types.specs.Config.{FloorFacts}
 use Rattle.simplex_voter.specs.Facts.{Facts, Elect}
 use Rattle.simplex_voter.specs.Acceptance.{after_set_floor}
 use Rattle.simplex_member.specs.declared.member.error.RecoverError.{RecoverError}
-use Rattle.simplex_member.specs.Calls.{Told}
+use Rattle.simplex_member.specs.Calls.{CallFacts, Told}
 use Rattle.simplex_laws.specs.Events.{Event, after_event}
-use Rattle.simplex_laws.specs.LifeLaws.{LifeCall, Calling, Working, as_step}
-use Rattle.simplex_member.specs.Lives.{MemberFacts, fallen}
+use Rattle.simplex_member.specs.Lives.{MemberFacts, IsCall, fallen}
 use Rattle.simplex_member.specs.Recovery.{recover_error}
 use Rattle.simplex_member.specs.Restarts.{RestartFacts, cut, new_life, retention_grows, GoesOn, IsRestart, IsRestartWhere}
-use Rattle.simplex_member.specs.Runs.{StepFacts, Calls, Works, Restarts, IsStep, IsRun}
+use Rattle.simplex_member.specs.Runs.{StepFacts, Calls, Restarts, IsRun}
 use Rattle.simplex_member.specs.Start.{StartFacts, started}
 use Rattle.simplex_laws.specs.Fresh.{IsFresh, BeginFresh}
-use Rattle.simplex_laws.proofs.CallsMake.{call_by_any, work_by_any, floor_then_all_keep}
+use Rattle.simplex_laws.proofs.CallsMake.{call_by_any, floor_then_all_keep}
 use Rattle.simplex_laws.proofs.WithinLives.{call_outcome}
 
 -- while the member lives
@@ -42,10 +41,10 @@ module _ {K L D : Type 0} (same : D → D → Bool) (elect : Elect L) (term_leng
       by_test true (_, leaves) = rw leaves sound
       by_test false goes = from_copy (cut m r.drop r.prune) r.start result left fresh goes
 
-  told_keeps : (m : MemberFacts K L D) (call : LifeCall D) (told : Told K D) (left : MemberFacts K L D) → IsStep same elect m (as_step call) told left → HoldsIn P m.life → HoldsIn P left.life
+  told_keeps : (m : MemberFacts K L D) (call : CallFacts D) (told : Told K D) (left : MemberFacts K L D) → IsCall same elect m call told left → HoldsIn P m.life → HoldsIn P left.life
   told_keeps m call told left is_step sound =
       elim (call_outcome same elect (λ c t x y. P x → P y) (λ c f x s. s) (λ c x s. s)
-      (λ c x allowed s. call_by_any same elect x P s (λ e. keeps x e s) c) (λ c x o allowed s. work_by_any same elect x o P s (λ e. keeps x e s) c) m call told left is_step) [
+      (λ c x o allowed s. call_by_any same elect x o P s (λ e. keeps x e s) c) m call told left is_step) [
         | inl (fault, tells, dies) ↦ subst (HoldsIn P) (sym dies) tt
         | inr (x, y, alive, lives, leads) ↦ subst (HoldsIn P) (sym lives) (leads (subst (HoldsIn P) alive sound))
       ]
@@ -56,9 +55,7 @@ module _ {K L D : Type 0} (same : D → D → Bool) (elect : Elect L) (term_leng
   run_keeps [] (told ∷ replies) m end fresh sound run = absurd run
   run_keeps (step ∷ steps) [] m end fresh sound run = absurd run
   run_keeps (Calls call ∷ steps) (told ∷ replies) m end fresh sound (next, is_step, rest) =
-      run_keeps steps replies next end fresh (told_keeps m (Calling call) told next is_step sound) rest
-  run_keeps (Works call ∷ steps) (told ∷ replies) m end fresh sound (next, is_step, rest) =
-      run_keeps steps replies next end fresh (told_keeps m (Working call) told next is_step sound) rest
+      run_keeps steps replies next end fresh (told_keeps m call told next is_step sound) rest
   run_keeps (Restarts r ∷ steps) (told ∷ replies) m end fresh sound (next, is_step, rest) =
       run_keeps steps replies next end fresh.1 (restart_keeps m r is_step.0 next fresh.0 sound is_step.1) rest
 

@@ -8,7 +8,8 @@ use Rattle.simplex_types.specs.declared.types.fault.Fault.{Fault}
 use Rattle.simplex_types.specs.declared.types.messages.Subject.TheVariants as subject
 use Rattle.simplex_voter.specs.Facts.{Facts, Elect}
 use Rattle.simplex_member.specs.declared.member.error.RecoverError.{RecoverError}
-use Rattle.simplex_member.specs.Calls.{CallFacts, Told, is_allowed, fault_of}
+use Rattle.simplex_member.specs.Allowed.{is_allowed, fault_of}
+use Rattle.simplex_member.specs.Calls.{CallFacts, Told}
 use Rattle.simplex_member.specs.Check.{first_broken_rule, first_broken_after, first_error, floor_rules}
 use Rattle.simplex_member.specs.Cuts.{without_last}
 use Rattle.simplex_member.specs.Openings.{Openings, no_openings}
@@ -21,15 +22,14 @@ use Rattle.simplex_laws.specs.Stories.{Story, deeds_of, BeginsAs, Ran}
 use Rattle.simplex_laws.proofs.Signed.{signed_none}
 use Rattle.simplex_laws.proofs.Splits.{Contains-cons_rest}
 use Rattle.simplex_laws.specs.Fresh.{IsFresh, BeginFresh}
-use Rattle.simplex_member.specs.Work.{WorkCall, work_allowed, work_fault, work_reply, left_of_work, IsWorkOf, IsWork}
-use Rattle.simplex_member.specs.Runs.{StepFacts, Calls, Works, Restarts, restart_told, IsRun, IsRunFrom}
+use Rattle.simplex_member.specs.Runs.{StepFacts, Calls, Restarts, restart_told, IsRun, IsRunFrom}
 use Rattle.simplex_member.specs.Start.{StartFacts, started}
 use Rattle.simplex_laws.proofs.Lawful.{lawful_start}
 use Rattle.simplex_laws.proofs.Remembering.{none_split}
 use Rattle.simplex_laws.proofs.Lifetimes.{Between, dropped_between, pruned_between}
-use Rattle.simplex_laws.proofs.NewLives.{Living, living_between, all_of_epoch, first_none, new_life_lives, call_lives}
+use Rattle.simplex_laws.proofs.NewLives.{Living, living_between, all_of_epoch, first_none, new_life_lives}
 use Rattle.simplex_laws.proofs.NotesRemembered.{nothing_noted}
-use Rattle.simplex_laws.proofs.WorkLives.{work_lives}
+use Rattle.simplex_laws.proofs.WorkLives.{call_lives}
 
 -- a member's record remembers its deeds, and while it lives its state shows them
 abbrev pub LivesOn : {K L D : Type 0} → ℕ → List (Deed D) → ℕ → ℕ → List (ArtifactFacts D) → Openings K D → Option (Facts K L D) → Type 0
@@ -62,14 +62,14 @@ module _ {K L D : Type 0} where
 module _ {K L D : Type 0} (same : D → D → Bool) (decides : (d e : D) → same d e ≡ true → d ≡ e) (elect : Elect L) (term_length : ℕ) (some : 0 < term_length) (deeds : List (Deed D)) (m : MemberFacts K L D) where
   -- a call
 
-  answered : (call : CallFacts D) (x : Facts K L D) → m.life ≡ Some x → MemberLives term_length deeds m → MemberLives term_length (deeds ++ deeds_of_call call (reply_of same elect x call)) (left_of same elect x m call)
-  answered call x alive lives = by_allowed (is_allowed x call) refl
+  answered : (call : CallFacts D) (x : Facts K L D) → m.life ≡ Some x → MemberLives term_length deeds m → MemberLives term_length (deeds ++ deeds_of_call call (reply_of same elect x m.openings call)) (left_of same elect x m call)
+  answered call x alive lives = by_allowed (is_allowed x m.openings call) refl
     where
-      by_fault : (o : Option Fault) → fault_of x call ≡ o → is_allowed x call ≡ true → MemberLives term_length (deeds ++ deeds_of_call call (reply_of same elect x call)) (left_of same elect x m call)
-      by_fault None no_fault allowed = rw (allowed, no_fault) (lives.0, call_lives same decides elect term_length deeds m.closed lives.0 m.entries x m.openings call some allowed (subst (λ life. LivesOn term_length deeds m.closed lives.0 m.entries m.openings life) alive lives.1))
+      by_fault : (o : Option Fault) → fault_of x call ≡ o → is_allowed x m.openings call ≡ true → MemberLives term_length (deeds ++ deeds_of_call call (reply_of same elect x m.openings call)) (left_of same elect x m call)
+      by_fault None no_fault allowed = rw (allowed, no_fault) (lives.0, call_lives same decides elect term_length some deeds m.closed lives.0 m.entries m.openings x (subst (λ life. LivesOn term_length deeds m.closed lives.0 m.entries m.openings life) alive lives.1) call allowed)
       by_fault (Some f) refused allowed = rw (allowed, refused) (quiet term_length deeds m lives)
 
-      by_allowed : (b : Bool) → is_allowed x call ≡ b → MemberLives term_length (deeds ++ deeds_of_call call (reply_of same elect x call)) (left_of same elect x m call)
+      by_allowed : (b : Bool) → is_allowed x m.openings call ≡ b → MemberLives term_length (deeds ++ deeds_of_call call (reply_of same elect x m.openings call)) (left_of same elect x m call)
       by_allowed true allowed = by_fault (fault_of x call) refl allowed
       by_allowed false not_allowed = rw not_allowed (quiet term_length deeds m lives)
 
@@ -82,29 +82,6 @@ module _ {K L D : Type 0} (same : D → D → Bool) (decides : (d e : D) → sam
       by_life (Some x) alive (inl (tells, leaves)) = rw (tells, leaves) (answered call x alive lives)
       by_life (Some x) alive (inr (_, tells, inl leaves)) = rw (tells, leaves) (quiet term_length deeds m lives)
       by_life (Some x) alive (inr (_, tells, inr (_, _, leaves))) = rw (tells, leaves) (quiet term_length deeds (fallen m) (lives.0, between_of term_length deeds m.closed lives.0 m.entries m.openings m.life lives.1))
-
-  -- a call on the work of a view
-
-  worked : (call : WorkCall D) (x : Facts K L D) → m.life ≡ Some x → MemberLives term_length deeds m → MemberLives term_length (deeds ++ signed_in (work_reply same elect x m.openings call)) (left_of_work same elect x m call)
-  worked call x alive lives = by_allowed (work_allowed x m.openings call) refl
-    where
-      by_fault : (f : Option Fault) → work_fault x call ≡ f → work_allowed x m.openings call ≡ true → MemberLives term_length (deeds ++ signed_in (work_reply same elect x m.openings call)) (left_of_work same elect x m call)
-      by_fault None no_fault allowed = rw (allowed, no_fault) (lives.0, work_lives same decides elect term_length some deeds m.closed lives.0 m.entries m.openings x (subst (λ life. LivesOn term_length deeds m.closed lives.0 m.entries m.openings life) alive lives.1) call allowed)
-      by_fault (Some f) refused allowed = rw (allowed, refused) (quiet term_length deeds m lives)
-
-      by_allowed : (b : Bool) → work_allowed x m.openings call ≡ b → MemberLives term_length (deeds ++ signed_in (work_reply same elect x m.openings call)) (left_of_work same elect x m call)
-      by_allowed true allowed = by_fault (work_fault x call) refl allowed
-      by_allowed false not_allowed = rw not_allowed (quiet term_length deeds m lives)
-
-  pub work_lives_on : (call : WorkCall D) (told : Told K D) (left : MemberFacts K L D) → MemberLives term_length deeds m → IsWork same elect m call told left → MemberLives term_length (deeds ++ signed_in told) left
-  unfolding IsWork
-  work_lives_on call told left lives is_work = by_life m.life refl is_work
-    where
-      by_life : (o : Option (Facts K L D)) → m.life ≡ o → IsWorkOf same elect o m call told left → MemberLives term_length (deeds ++ signed_in told) left
-      by_life None dead (tells, leaves) = rw (tells, leaves) (quiet term_length deeds m lives)
-      by_life (Some x) alive (inl (tells, leaves)) = rw (tells, leaves) (worked call x alive lives)
-      by_life (Some x) alive (inr (_, tells, inl leaves)) = rw (tells, leaves) (quiet term_length deeds m lives)
-      by_life (Some x) alive (inr (_, tells, inr (_, leaves))) = rw (tells, leaves) (quiet term_length deeds (fallen m) (lives.0, between_of term_length deeds m.closed lives.0 m.entries m.openings m.life lives.1))
 
   -- a restart
 
@@ -150,9 +127,6 @@ module _ {K L D : Type 0} (same : D → D → Bool) (decides : (d e : D) → sam
   run_lawful (Calls call ∷ steps) (told ∷ replies) deeds m end fresh lives (next, is_step, rest) =
       let kept = call_lives_on same decides elect term_length some deeds m call told next lives is_step in
       subst (IsLawful term_length) (append_assoc deeds (deeds_of_call call told) (deeds_of_steps steps replies)) (run_lawful steps replies (deeds ++ deeds_of_call call told) next end fresh kept rest)
-  run_lawful (Works call ∷ steps) (told ∷ replies) deeds m end fresh lives (next, is_step, rest) =
-      let kept = work_lives_on same decides elect term_length some deeds m call told next lives is_step in
-      subst (IsLawful term_length) (append_assoc deeds (signed_in told) (deeds_of_steps steps replies)) (run_lawful steps replies (deeds ++ signed_in told) next end fresh kept rest)
   run_lawful (Restarts r ∷ steps) (told ∷ replies) deeds m end fresh lives (next, is_step, rest) =
       let kept = restart_lives_on same decides elect term_length some deeds m r is_step.0 next fresh.0 lives is_step.1 in
       let so_told : MemberLives term_length (deeds ++ deeds_at (Restarts r) told) next = rw is_step.2 kept in
@@ -196,7 +170,6 @@ module _ {K L D : Type 0} (same : D → D → Bool) (decides : (d e : D) → sam
 begin_fresh : {K L D : Type 0} (term_length i : ℕ) (steps : List (StepFacts K L D)) → ((r : RestartFacts K L D) → Contains steps (Restarts r) → BeginsAs term_length i r.start.fresh) → BeginFresh term_length steps
 begin_fresh term_length i [] later = tt
 begin_fresh term_length i (Calls call ∷ steps) later = begin_fresh term_length i steps (λ r h. later r (Contains-cons_rest (Calls call) steps (Restarts r) h))
-begin_fresh term_length i (Works call ∷ steps) later = begin_fresh term_length i steps (λ r h. later r (Contains-cons_rest (Works call) steps (Restarts r) h))
 begin_fresh term_length i (Restarts q ∷ steps) later = ((later q (0, omega arith, refl)).fresh, begin_fresh term_length i steps (λ r h. later r (Contains-cons_rest (Restarts q) steps (Restarts r) h)))
 
 module _ {K L D : Type 0} (same : D → D → Bool) (decides : (d e : D) → same d e ≡ true → d ≡ e) (elect : Elect L) (term_length : ℕ) where

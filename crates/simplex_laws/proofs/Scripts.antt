@@ -24,9 +24,8 @@ use Rattle.simplex_member.specs.Entries.{entry_view}
 use Rattle.simplex_member.specs.Lives.{MemberFacts, AnswersAlive, IsCall, reply_of, left_of}
 use Rattle.simplex_member.specs.Recovery.{recover_error, recovered, taken}
 use Rattle.simplex_member.specs.Restarts.{RestartFacts, cut, new_life, retention_grows, GoesOnFrom, IsRestart, IsRestartWhere}
-use Rattle.simplex_member.specs.Runs.{StepFacts, Calls, Works, Restarts, IsRun, IsRunFrom}
+use Rattle.simplex_member.specs.Runs.{StepFacts, Calls, Restarts, IsRun, IsRunFrom}
 use Rattle.simplex_member.specs.Start.{StartFacts, started}
-use Rattle.simplex_member.specs.Work.{WorkCall, IsWorkOf, IsWork, work_reply, left_of_work}
 use Rattle.simplex_laws.specs.Places.{Honest, Backed, IsNetworkOf}
 use Rattle.simplex_laws.specs.Scripts.{leader, start_at, round, proposal, certificate, one, two, impatient, patient, forgetful, four, restarting, skipping, five}
 use Rattle.simplex_laws.specs.Deeds.{Accepts}
@@ -38,17 +37,13 @@ module _ {K L D : Type 0} (same : D → D → Bool) (elect : Elect L) where
   abbrev pub reply_then : Option (Facts K L D) → MemberFacts K L D → StepFacts K L D → Told K D
   reply_then life m (Restarts r) = Restarted
   reply_then None m (Calls call) = Refused fault.Failed
-  reply_then None m (Works call) = Refused fault.Failed
-  reply_then (Some x) m (Calls call) = reply_of same elect x call
-  reply_then (Some x) m (Works call) = work_reply same elect x m.openings call
+  reply_then (Some x) m (Calls call) = reply_of same elect x m.openings call
 
   -- and what is left
   abbrev pub next_then : Option (Facts K L D) → MemberFacts K L D → StepFacts K L D → MemberFacts K L D
   next_then life m (Restarts r) = new_life same elect (cut m r.drop r.prune) r.start (cut m r.drop r.prune).entries
   next_then None m (Calls call) = m
-  next_then None m (Works call) = m
   next_then (Some x) m (Calls call) = left_of same elect x m call
-  next_then (Some x) m (Works call) = left_of_work same elect x m call
 
   abbrev pub replies_from : MemberFacts K L D → List (StepFacts K L D) → List (Told K D)
   replies_from m [] = []
@@ -67,23 +62,14 @@ module _ {K L D : Type 0} (same : D → D → Bool) (elect : Elect L) where
       × (recover_error same r.start.fresh r.start.floor r.start.now (cut m r.drop r.prune).entries ≡ None)
       × Fits (next_then m.life m (Restarts r)) steps
   Fits m (Calls call ∷ steps) = Fits (next_then m.life m (Calls call)) steps
-  Fits m (Works call ∷ steps) = Fits (next_then m.life m (Works call)) steps
 
   call_answered : (life : Option (Facts K L D)) (m : MemberFacts K L D) (call : CallFacts D) → AnswersAlive same elect life m call (reply_then life m (Calls call)) (next_then life m (Calls call))
   call_answered None m call = (refl, refl)
   call_answered (Some x) m call = inl (refl, refl)
 
-  work_answered : (life : Option (Facts K L D)) (m : MemberFacts K L D) (call : WorkCall D) → IsWorkOf same elect life m call (reply_then life m (Works call)) (next_then life m (Works call))
-  work_answered None m call = (refl, refl)
-  work_answered (Some x) m call = inl (refl, refl)
-
   call_made : (m : MemberFacts K L D) (call : CallFacts D) → IsCall same elect m call (reply_then m.life m (Calls call)) (next_then m.life m (Calls call))
   unfolding IsCall
   call_made m call = call_answered m.life m call
-
-  work_made : (m : MemberFacts K L D) (call : WorkCall D) → IsWork same elect m call (reply_then m.life m (Works call)) (next_then m.life m (Works call))
-  unfolding IsWork
-  work_made m call = work_answered m.life m call
 
   goes_on : (m : MemberFacts K L D) (start : StartFacts K L D) → recover_error same start.fresh start.floor start.now m.entries ≡ None → GoesOnFrom same elect m start m.entries (Ok tt) (new_life same elect m start m.entries)
   goes_on m start none = rw none (refl, refl)
@@ -98,7 +84,6 @@ module _ {K L D : Type 0} (same : D → D → Bool) (elect : Elect L) where
   pub fits_run : (m : MemberFacts K L D) (steps : List (StepFacts K L D)) → Fits m steps → IsRun same elect m steps (replies_from m steps) (end_from m steps)
   fits_run m [] fits = refl
   fits_run m (Calls call ∷ steps) fits = (next_then m.life m (Calls call), call_made m call, fits_run (next_then m.life m (Calls call)) steps fits)
-  fits_run m (Works call ∷ steps) fits = (next_then m.life m (Works call), work_made m call, fits_run (next_then m.life m (Works call)) steps fits)
   fits_run m (Restarts r ∷ steps) fits = (next_then m.life m (Restarts r), (Ok tt, restart_made m r fits.0 fits.1 fits.2, refl), fits_run (next_then m.life m (Restarts r)) steps fits.3)
 
   abbrev pub begun : StartFacts K L D → MemberFacts K L D
@@ -133,7 +118,6 @@ rises n low (x ∷ xs) is (suc i) (suc j) d le less = rises n (n x) xs (and_part
 abbrev pub AllBegin : {K L D : Type 0} → ℕ → ℕ → List (StepFacts K L D) → Type 0
 AllBegin term_length i [] = Unit {0}
 AllBegin term_length i (Calls call ∷ steps) = AllBegin term_length i steps
-AllBegin term_length i (Works call ∷ steps) = AllBegin term_length i steps
 AllBegin term_length i (Restarts r ∷ steps) = BeginsAs term_length i r.start.fresh × AllBegin term_length i steps
 
 same_restart : {K L D : Type 0} (q r : RestartFacts K L D) → Restarts q ≡ Restarts r → q ≡ r
@@ -142,7 +126,6 @@ same_restart q r e = cc
 each_begins : {K L D : Type 0} (term_length i : ℕ) (steps : List (StepFacts K L D)) → AllBegin term_length i steps → (r : RestartFacts K L D) → Contains steps (Restarts r) → BeginsAs term_length i r.start.fresh
 each_begins term_length i [] all r h = absurd (omega (arith, h.1))
 each_begins term_length i (Calls call ∷ steps) all r h = elim (Contains-cases (Calls call) steps (Restarts r) h) [ inl here ↦ absurd (cc) | inr later ↦ each_begins term_length i steps all r later ]
-each_begins term_length i (Works call ∷ steps) all r h = elim (Contains-cases (Works call) steps (Restarts r) h) [ inl here ↦ absurd (cc) | inr later ↦ each_begins term_length i steps all r later ]
 each_begins {K} {L} {D} term_length i (Restarts q ∷ steps) all r h = elim (Contains-cases (Restarts q) steps (Restarts r) h) [
   | inl here ↦ subst (λ (p : RestartFacts K L D). BeginsAs term_length i p.start.fresh) (same_restart q r here) all.0
   | inr later ↦ each_begins term_length i steps all.1 r later

@@ -13,10 +13,10 @@ use Rattle.simplex_member.specs.declared.member.runs.Step.TheVariants as step
 use Rattle.simplex_member.specs.declared.member.start.Start.{Start}
 use Rattle.simplex_types.specs.Certificates.{notarization_facts, nullification_facts, finalization_facts}
 use Rattle.simplex_member.specs.Calls as facts
-use Rattle.simplex_member.specs.Calls.{Told, told, CallFacts, Added}
+use Rattle.simplex_member.specs.Calls.{Told, told, asked, CallFacts, Added}
 use Rattle.simplex_member.specs.declared.member.restart.Restart.{Restart}
 use Rattle.simplex_member.specs.Restarts.{RestartFacts, restart_facts}
-use Rattle.simplex_member.specs.Runs.{StepFacts, Restarts, asked, step_facts, steps_of, restart_told}
+use Rattle.simplex_member.specs.Runs.{StepFacts, Calls, Restarts, step_facts, steps_of, restart_told}
 use Rattle.simplex_member.specs.Start.{start_facts}
 use Rattle.simplex_member.specs.declared.member.error.RecoverError.{RecoverError}
 use Rattle.std.proofs.lemmas.Bool.{false≢true}
@@ -50,83 +50,23 @@ accepted_where : {K D : Type 0} (call : CallFacts D) (t : Told K D) → accepted
 accepted_where call (Added newly leader) = refl
 accepted_where call _ = refl
 
-nothing_added : {K D : Type 0} (t : Told K D) → [] ≡ where_added t []
-nothing_added (Added newly leader) = refl
-nothing_added _ = refl
-
-abbrev is_restart : {K L D : Type 0} → StepFacts K L D → Bool
-is_restart (Restarts _) = true
-is_restart _ = false
-
 module _ (L : Type 0) {S D K G C : Type 0} (bytes_of : C → List ℕ) where
-  asked_accepts : (c : Call S D K G C) (t : Told K D) → accepted_at {L = L} (asked bytes_of c) t ≡ where_added t (certificates_in c)
-  asked_accepts (call.AddNotarization c) t = accepted_where (facts.AddNotarization (notarization_facts bytes_of c)) t
-  asked_accepts (call.AddNullification c now) t = accepted_where (facts.AddNullification (nullification_facts bytes_of c) now) t
-  asked_accepts (call.AddFinalization c now) t = accepted_where (facts.AddFinalization (finalization_facts bytes_of c) now) t
-  asked_accepts (call.SetProposal v p) t = nothing_added t
-  asked_accepts call.TryPropose t = nothing_added t
-  asked_accepts (call.Proposed v payload now) t = nothing_added t
-  asked_accepts (call.SupersedeProposalRequest v) t = nothing_added t
-  asked_accepts (call.PendingHandoffAbandonment v) t = nothing_added t
-  asked_accepts (call.ReleaseProposalRequest v) t = nothing_added t
-  asked_accepts call.TryVerify t = nothing_added t
-  asked_accepts (call.Verified v) t = nothing_added t
-  asked_accepts (call.VerificationFailed v reason now) t = nothing_added t
-  asked_accepts (call.ConstructNotarize v) t = nothing_added t
-  asked_accepts call.CertifyCandidates t = nothing_added t
-  asked_accepts (call.SetCertifyHandle v token) t = nothing_added t
-  asked_accepts (call.Certified v success now) t = accepted_where (facts.Certified v success now) t
-  asked_accepts (call.ConstructNullify v reason) t = accepted_where (facts.ConstructNullify v) t
-  asked_accepts (call.ConstructFinalize v) t = accepted_where (facts.ConstructFinalize v) t
-  asked_accepts (call.BroadcastNotarization v) t = accepted_where (facts.BroadcastNotarization v) t
-  asked_accepts (call.BroadcastNullification v) t = accepted_where (facts.BroadcastNullification v) t
-  asked_accepts (call.BroadcastFinalization v) t = accepted_where (facts.BroadcastFinalization v) t
-  asked_accepts call.GetBestCertificate t = accepted_where facts.GetBestCertificate t
-  asked_accepts (call.TriggerTimeout v reason now) t = nothing_added t
-  asked_accepts (call.NextTimeout now) t = nothing_added t
-  asked_accepts call.Prune t = accepted_where facts.Prune t
+  asked_hands : (c : Call S D K G C) → handed_in (asked bytes_of c) ≡ certificates_in c
+  asked_hands (call.AddNotarization c) = refl
+  asked_hands (call.AddNullification c now) = refl
+  asked_hands (call.AddFinalization c now) = refl
+  asked_hands _ = refl
 
   taken_where : (c : Call S D K G C) (r : Reply S D K G C) → taken_by c r ≡ where_added (told bytes_of r) (certificates_in c)
   taken_where c (reply.Added newly leader) = refl
   taken_where c (reply.AddedNullification newly) = refl
   taken_where c _ = refl
 
-  call_shown : (c : Call S D K G C) (r : Reply S D K G C) → taken_by c r ≡ accepted_at {L = L} (asked bytes_of c) (told bytes_of r)
-  call_shown c r = taken_where c r ∙ sym (asked_accepts c (told bytes_of r))
+  call_shown : (c : Call S D K G C) (r : Reply S D K G C) → taken_by c r ≡ accepted_by (asked bytes_of c) (told bytes_of r)
+  call_shown c r = taken_where c r ∙ sym (accepted_where (asked bytes_of c) (told bytes_of r) ∙ ap (where_added (told bytes_of r)) (asked_hands c))
 
-  pub made_shown : (c : Call S D K G C) (r : Reply S D K G C) → deeds_at {L = L} (asked bytes_of c) (told bytes_of r) ≡ taken_by c r ++ votes_in r
-  made_shown c r = sym (ap (λ ds. ds ++ votes_in r) (call_shown c r) ∙ ap (λ ds. accepted_at {L = L} (asked bytes_of c) (told bytes_of r) ++ ds) (votes_shown bytes_of r))
-
-  -- a call is no restart
-  call_is_none : (c : Call S D K G C) → is_restart (asked {L = L} bytes_of c) ≡ false
-  call_is_none (call.AddNotarization c) = refl
-  call_is_none (call.AddNullification c now) = refl
-  call_is_none (call.AddFinalization c now) = refl
-  call_is_none (call.SetProposal v p) = refl
-  call_is_none call.TryPropose = refl
-  call_is_none (call.Proposed v payload now) = refl
-  call_is_none (call.SupersedeProposalRequest v) = refl
-  call_is_none (call.PendingHandoffAbandonment v) = refl
-  call_is_none (call.ReleaseProposalRequest v) = refl
-  call_is_none call.TryVerify = refl
-  call_is_none (call.Verified v) = refl
-  call_is_none (call.VerificationFailed v reason now) = refl
-  call_is_none (call.ConstructNotarize v) = refl
-  call_is_none call.CertifyCandidates = refl
-  call_is_none (call.SetCertifyHandle v token) = refl
-  call_is_none (call.Certified v success now) = refl
-  call_is_none (call.ConstructNullify v reason) = refl
-  call_is_none (call.ConstructFinalize v) = refl
-  call_is_none (call.BroadcastNotarization v) = refl
-  call_is_none (call.BroadcastNullification v) = refl
-  call_is_none (call.BroadcastFinalization v) = refl
-  call_is_none call.GetBestCertificate = refl
-  call_is_none (call.TriggerTimeout v reason now) = refl
-  call_is_none (call.NextTimeout now) = refl
-  call_is_none call.Prune = refl
-
-  pub call_no_restart : (c : Call S D K G C) (r : RestartFacts K L D) → Restarts r ≡ asked bytes_of c → ⊥
-  call_no_restart c r at = false≢true (sym (call_is_none c) ∙ sym (ap is_restart at))
+  pub made_shown : (c : Call S D K G C) (r : Reply S D K G C) → deeds_at {L = L} (Calls (asked bytes_of c)) (told bytes_of r) ≡ taken_by c r ++ votes_in r
+  made_shown c r = sym (ap (λ ds. ds ++ votes_in r) (call_shown c r) ∙ ap (λ ds. accepted_by (asked bytes_of c) (told bytes_of r) ++ ds) (votes_shown bytes_of r))
 
 module _ {S L D K G C : Type 0} (me : S → Option ℕ) (members : S → List K) (terms : L → Terms) (elects_early : L → Bool) (bytes_of : C → List ℕ) where
   taken_shown : (s : Step S L D K G C) (r : Reply S D K G C) → taken_in s r ≡ accepted_at (step_facts me members terms elects_early bytes_of s) (told bytes_of r)
@@ -159,7 +99,7 @@ module _ {S L D K G C : Type 0} (me : S → Option ℕ) (members : S → List K)
   ]
     where
       by_step : (t : Step S L D K G C) → step_facts me members terms elects_early bytes_of t ≡ Restarts q → ((r : Restart S L D K G C) → t ≡ step.Restart r → IsSetUpAs me terms term_length i r.start) → BeginsAs term_length i q.start.fresh
-      by_step (step.Call c) is holds = absurd (call_no_restart L bytes_of c q (sym is))
+      by_step (step.Call c) is holds = absurd (cc)
       by_step (step.Restart r) is holds =
           let same : restart_facts me members terms elects_early bytes_of r ≡ q = cc in
           subst (λ (p : RestartFacts K L D). BeginsAs term_length i p.start.fresh) same (begins_as term_length i r.start (holds r refl))

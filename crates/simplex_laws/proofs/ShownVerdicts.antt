@@ -2,7 +2,7 @@
 use Rattle.std.proofs.Common.{◌≡◌, refl, ap, sym, ◌∙◌, subst, ℕ, inl, inr, Bool, true, false, not, ◌&&◌, List, [], ◌∷◌, ◌++◌, Contains, Option, Some, None, is_some, unwrap_or, arith}
 use Rattle.std.specs.Prelude.{option_map, option_and_then}
 use Rattle.std.specs.Option.{option_map_or}
-use Rattle.std.proofs.lemmas.Bool.{false≢true}
+use Rattle.std.proofs.lemmas.Bool.{false≢true, true≢false}
 use Rattle.std.proofs.lemmas.List.Elements.{Contains-append_left, Contains-append_right, Contains-append_cases}
 use Rattle.simplex_types.specs.Certificates.{ProposalFacts, Notarized, Nullified, Finalized, ArtifactFacts, NullifyVote, FinalizeVote, Verdict, Accepted}
 use Rattle.simplex_types.specs.declared.types.messages.Proposal.{Proposal}
@@ -15,10 +15,14 @@ use Rattle.simplex_voter.specs.Certification.{after_certified, takes_verdict, is
 use Rattle.simplex_voter.specs.Acceptance.{notarization_added, nullification_added, finalization_added, after_add_notarization, takes_proposal_certificate}
 use Rattle.simplex_voter.specs.Votes.{nullify_answer, finalize_answer}
 use Rattle.simplex_voter.proofs.Gaps.{and_parts, not_true}
-use Rattle.simplex_member.specs.Calls.{CallFacts, AddNotarization, AddNullification, AddFinalization, Certified, ConstructNullify, ConstructFinalize, BroadcastNotarization, BroadcastNullification, BroadcastFinalization, GetBestCertificate, Prune, nullify_vote, finalize_vote, newly, first_vote, vote_entry, is_allowed, answer, after_call, recorded_by}
+use Rattle.simplex_member.specs.Calls.{CallFacts, AddNotarization, AddNullification, AddFinalization, Certified, ConstructNullify, ConstructFinalize, BroadcastNotarization, BroadcastNullification, BroadcastFinalization, GetBestCertificate, Prune}
+use Rattle.simplex_member.specs.Allowed.{is_allowed}
+use Rattle.simplex_member.specs.Made.{nullify_vote, finalize_vote, newly, first_vote, vote_entry, answer, after_call, recorded_by}
+use Rattle.simplex_member.specs.Openings.{Openings}
 use Rattle.simplex_laws.specs.Deeds.{Deed, deeds_of_call}
 use Rattle.simplex_laws.proofs.OwnRecords.{OwnRecord, AreQuiet, quiet_none, quiet_newly, HasNoVerdict, no_verdict, own_quiet, own_verdict}
 use Rattle.simplex_laws.proofs.Recalls.{only_one}
+use Rattle.simplex_laws.proofs.WorkCalls.{is_work}
 use Rattle.simplex_laws.specs.Events as event
 use Rattle.simplex_laws.specs.Events.{Event, IsEvent, after_event}
 use Rattle.simplex_laws.proofs.Lasting.{brings_kept}
@@ -145,16 +149,17 @@ module _ {K L D : Type 0} (same : D → D → Bool) (elect : Elect L) (deeds : L
   told : (more : List (Deed D)) (new : List (ArtifactFacts D)) (e : Event K D) → IsEvent x e → notarization_by e ≡ None → verdict_by e ≡ None → AreQuiet new → Tells (deeds ++ more) (entries ++ new) (after_event same elect x e)
   told = quiet_told same elect deeds entries x tells
 
-  -- each call that is allowed and not refused
-  pub call_told : (call : CallFacts D) → is_allowed x call ≡ true → Tells (deeds ++ deeds_of_call call (answer same elect x call)) (entries ++ recorded_by same elect x call) (after_call same elect x call)
-  call_told (AddNotarization c) allowed = notarization_told same elect deeds entries x tells _ c allowed
-  call_told (AddNullification c now) allowed = told _ _ (event.AddNullification c now) allowed refl refl (quiet_newly (nullification_added x c) (Accepted (Nullified c)) refl)
-  call_told (AddFinalization c now) allowed = told _ _ (event.AddFinalization c now) allowed refl refl (quiet_newly (finalization_added same elect x c).0 (Accepted (Finalized c)) refl)
-  call_told (Certified v success now) allowed = verdict_told same elect deeds entries x tells _ v success now allowed
-  call_told (ConstructNullify v) allowed = told _ _ (event.ConstructNullify v) tt refl refl (quiet_nullify v)
-  call_told (ConstructFinalize v) allowed = told _ _ (event.ConstructFinalize v) tt refl refl (quiet_finalize v)
-  call_told (BroadcastNotarization v) allowed = told _ [] (event.BroadcastNotarization v) tt refl refl quiet_none
-  call_told (BroadcastNullification v) allowed = told _ [] (event.BroadcastNullification v) tt refl refl quiet_none
-  call_told (BroadcastFinalization v) allowed = told _ [] (event.BroadcastFinalization v) tt refl refl quiet_none
-  call_told GetBestCertificate allowed = record { own = own_quiet deeds entries tells.own [] [] quiet_none; shows = shows_more entries [] x (no_verdict [] quiet_none) tells.shows }
-  call_told Prune allowed = told _ [] event.Prune tt refl refl quiet_none
+  -- each call that is allowed and not refused, and not on the work of a view
+  pub plain_told : (o : Openings K D) (call : CallFacts D) → is_work call ≡ false → is_allowed x o call ≡ true → Tells (deeds ++ deeds_of_call call (answer same elect x o call)) (entries ++ recorded_by same elect x call) (after_call same elect x o call)
+  plain_told o (AddNotarization c) plain allowed = notarization_told same elect deeds entries x tells _ c allowed
+  plain_told o (AddNullification c now) plain allowed = told _ _ (event.AddNullification c now) allowed refl refl (quiet_newly (nullification_added x c) (Accepted (Nullified c)) refl)
+  plain_told o (AddFinalization c now) plain allowed = told _ _ (event.AddFinalization c now) allowed refl refl (quiet_newly (finalization_added same elect x c).0 (Accepted (Finalized c)) refl)
+  plain_told o (Certified v success now) plain allowed = verdict_told same elect deeds entries x tells _ v success now allowed
+  plain_told o (ConstructNullify v) plain allowed = told _ _ (event.ConstructNullify v) tt refl refl (quiet_nullify v)
+  plain_told o (ConstructFinalize v) plain allowed = told _ _ (event.ConstructFinalize v) tt refl refl (quiet_finalize v)
+  plain_told o (BroadcastNotarization v) plain allowed = told _ [] (event.BroadcastNotarization v) tt refl refl quiet_none
+  plain_told o (BroadcastNullification v) plain allowed = told _ [] (event.BroadcastNullification v) tt refl refl quiet_none
+  plain_told o (BroadcastFinalization v) plain allowed = told _ [] (event.BroadcastFinalization v) tt refl refl quiet_none
+  plain_told o GetBestCertificate plain allowed = record { own = own_quiet deeds entries tells.own [] [] quiet_none; shows = shows_more entries [] x (no_verdict [] quiet_none) tells.shows }
+  plain_told o Prune plain allowed = told _ [] event.Prune tt refl refl quiet_none
+  plain_told o _ plain allowed = absurd (true≢false plain)

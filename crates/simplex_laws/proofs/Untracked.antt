@@ -1,4 +1,4 @@
--- Where no view below some other is tracked, none comes to be: with each event, call and call on the work of a view.
+-- Where no view below some other is tracked, none comes to be: with each event and each call.
 use Rattle.std.proofs.Common.{◌≡◌, ◌≢◌, refl, ap, sym, ◌∙◌, subst, ℕ, ◌<◌, ◌≤◌, inl, inr, Bool, true, false, ◌&&◌, cond, if◌then◌else◌, nat_lt, nat_le, List, [], ◌∷◌, Contains, Some, None, is_some, arith}
 use Rattle.std.specs.Prelude.{map, filter, ◌==◌}
 use Rattle.std.specs.Ordering.{nat_cmp}
@@ -20,15 +20,16 @@ use Rattle.simplex_voter.specs.Verifying.{scan_left}
 use Rattle.simplex_voter.specs.Replay.{artifact_round}
 use Rattle.simplex_voter.specs.Serving.{prune_answer}
 use Rattle.simplex_voter.proofs.Gaps.{and_parts}
-use Rattle.simplex_member.specs.Calls.{CallFacts, Prune, Dropped, is_allowed, answer, after_call}
+use Rattle.simplex_member.specs.Allowed.{is_allowed}
+use Rattle.simplex_member.specs.Calls.{CallFacts, Prune, Dropped}
 use Rattle.simplex_member.specs.Entries.{entry_view}
+use Rattle.simplex_member.specs.Made.{answer, after_call}
 use Rattle.simplex_member.specs.Openings.{Openings}
 use Rattle.simplex_member.specs.Recovery.{as_artifact}
-use Rattle.simplex_member.specs.Work.{WorkCall, work_allowed, after_work}
 use Rattle.simplex_laws.specs.Events as event
 use Rattle.simplex_laws.specs.Events.{Event, IsEvent, after_event}
 use Rattle.simplex_laws.specs.Sums.{is_prune}
-use Rattle.simplex_laws.proofs.CallsMake.{call_by_event, work_by_event}
+use Rattle.simplex_laws.proofs.CallsMake.{call_by_event}
 use Rattle.simplex_laws.proofs.EachRound.{pruned_view}
 use Rattle.simplex_laws.proofs.Paths.{AskedFrom, event_path}
 use Rattle.simplex_laws.proofs.Rounds.{tracked_changed}
@@ -102,12 +103,8 @@ module _ {K L D : Type 0} (same : D → D → Bool) (elect : Elect L) (low : ℕ
   pub event_clear : (e : Event K D) → IsEvent x e → IsClear low (after_event same elect x e)
   event_clear e takes = clear_along same elect low x e reached (asked_in_life x low e under reached some clear takes) clear
 
-  pub call_clear : (call : CallFacts D) → is_allowed x call ≡ true → IsClear low (after_call same elect x call)
-  call_clear call allowed = call_by_event same elect x (λ es y. IsClear low y) clear (λ e takes none. event_clear e takes) call allowed
-
-module _ {K L D : Type 0} (same : D → D → Bool) (elect : Elect L) (low : ℕ) (x : Facts K L D) (under : low ≤ min_active x) (reached : low ≤ x.current) (some : 0 < x.terms.term_length) (clear : IsClear low x) where
-  pub work_clear : (o : Openings K D) (call : WorkCall D) → work_allowed x o call ≡ true → IsClear low (after_work same elect x o call)
-  work_clear o call allowed = work_by_event same elect x o (λ es y. IsClear low y) clear (λ e takes none. event_clear same elect low x under reached some clear e takes) call allowed
+  pub call_clear : (o : Openings K D) (call : CallFacts D) → is_allowed x o call ≡ true → IsClear low (after_call same elect x o call)
+  call_clear o call allowed = call_by_event same elect x o (λ es y. IsClear low y) clear (λ e takes none. event_clear e takes) call allowed
 
 -- prunes
 
@@ -130,10 +127,10 @@ module _ {K L D : Type 0} (same : D → D → Bool) (elect : Elect L) (x : Facts
   event_dropped _ v below = absurd (omega (arith, below))
 
   -- only a prune is told what was dropped
-  pub call_drops : (call : CallFacts D) (views : List ℕ) (v : ℕ) → answer same elect x call ≡ Dropped views → Contains views v → (v < min_active x) × IsClear (min_active x) (after_call same elect x call)
-  call_drops Prune views v tells among =
+  pub call_drops : (o : Openings K D) (call : CallFacts D) (views : List ℕ) (v : ℕ) → answer same elect x o call ≡ Dropped views → Contains views v → (v < min_active x) × IsClear (min_active x) (after_call same elect x o call)
+  call_drops o Prune views v tells among =
       let same_views : prune_answer x ≡ views = cc in
       let under = key_passes (λ u. nat_lt u (min_active x)) v x.rounds (subst (λ vs. Contains vs v) (sym same_views) among) in
       let below : v < min_active x = grind (arith, nat_tests) in
       (below, record { views = λ u under. event_dropped event.Prune u under })
-  call_drops _ views v tells among = absurd (cc)
+  call_drops o _ views v tells among = absurd (cc)

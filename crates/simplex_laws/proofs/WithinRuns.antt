@@ -1,15 +1,16 @@
 -- The lives of a run from a start, and what each of them keeps.
-use Rattle.std.proofs.Common.{◌≡◌, refl, sym, ◌∙◌, subst, ℕ, ◌<◌, ◌≤◌, inl, inr, Bool, true, List, [], ◌∷◌, ◌++◌, length, Option, Some, None, arith}
+use Rattle.std.proofs.Common.{◌≡◌, refl, sym, ◌∙◌, subst, ℕ, ◌<◌, ◌≤◌, inl, inr, Bool, true, List, [], ◌∷◌, ◌++◌, length, map, Option, Some, None, arith}
 use Rattle.std.proofs.lemmas.List.{length-map}
 use Rattle.simplex_types.specs.declared.types.fault.Fault.{Fault}
 use Rattle.simplex_voter.specs.Facts.{Facts, Elect}
 use Rattle.simplex_voter.specs.Windows.{min_active}
-use Rattle.simplex_member.specs.Calls.{CallFacts, Told, Dropped, Refused, NotAllowed, is_allowed, answer, after_call}
-use Rattle.simplex_laws.specs.LifeLaws.{LifeCall, Calling, Working, as_step, as_steps, IsLife, IsLifeOfRun, WhileAlive, IsDropped, ConflictsStay, DroppedForGood, HandedOnce, IsAsAsked, HandedAsAsked}
-use Rattle.simplex_member.specs.Lives.{MemberFacts}
+use Rattle.simplex_member.specs.Allowed.{is_allowed}
+use Rattle.simplex_member.specs.Calls.{CallFacts, Told, Dropped, Refused, NotAllowed}
+use Rattle.simplex_laws.specs.LifeLaws.{IsLife, IsLifeOfRun, WhileAlive, IsDropped, ConflictsStay, DroppedForGood, HandedOnce, IsAsAsked, HandedAsAsked}
+use Rattle.simplex_member.specs.Lives.{MemberFacts, IsCall}
+use Rattle.simplex_member.specs.Made.{answer, after_call}
 use Rattle.simplex_member.specs.Openings.{Openings}
-use Rattle.simplex_member.specs.Work.{WorkCall, TryPropose, work_allowed, work_answer, after_work}
-use Rattle.simplex_member.specs.Runs.{StepFacts, IsStep, IsRun, IsRunFrom}
+use Rattle.simplex_member.specs.Runs.{StepFacts, Calls, IsRun, IsRunFrom}
 use Rattle.simplex_member.specs.Start.{StartFacts, started}
 use Rattle.simplex_laws.specs.Fresh.{IsFresh, BeginFresh}
 use Rattle.simplex_laws.proofs.Conflicts.{Keeps, life_keeps}
@@ -17,9 +18,9 @@ use Rattle.simplex_laws.proofs.HandedOut.{life_hands_once}
 use Rattle.simplex_laws.proofs.AsAsked.{call_as_asked}
 use Rattle.simplex_laws.proofs.Recalls.{only_one}
 use Rattle.simplex_laws.proofs.Splits.{Contains-cases}
-use Rattle.simplex_laws.proofs.Untracked.{IsClear, call_clear, work_clear, call_drops}
-use Rattle.simplex_laws.proofs.CallsMake.{call_by_any, work_by_any}
-use Rattle.simplex_laws.proofs.Rising.{floor_goes, call_goes, work_goes}
+use Rattle.simplex_laws.proofs.Untracked.{IsClear, call_clear, call_drops}
+use Rattle.simplex_laws.proofs.CallsMake.{call_by_any}
+use Rattle.simplex_laws.proofs.Rising.{floor_goes, call_goes}
 use Rattle.simplex_laws.proofs.Sound.{IsSound, event_sound, floor_sound}
 use Rattle.simplex_laws.proofs.RunsKeep.{HoldsIn, run_induction}
 use Rattle.simplex_laws.proofs.WithinLives.{alive_still, alive_joined, each_call, call_outcome}
@@ -59,51 +60,31 @@ module _ {K L D : Type 0} where
       ]
 
 module _ {K L D : Type 0} (same : D → D → Bool) (elect : Elect L) (term_length : ℕ) where
-  call_sound : (call : CallFacts D) (x : Facts K L D) → IsSound term_length x → IsSound term_length (after_call same elect x call)
-  call_sound call x sound = call_by_any same elect x (IsSound term_length) sound (λ e. event_sound same elect term_length x e sound) call
+  call_sound : (call : CallFacts D) (x : Facts K L D) (o : Openings K D) → IsSound term_length x → IsSound term_length (after_call same elect x o call)
+  call_sound call x o sound = call_by_any same elect x o (IsSound term_length) sound (λ e. event_sound same elect term_length x e sound) call
 
-  work_sound : (call : WorkCall D) (x : Facts K L D) (o : Openings K D) → IsSound term_length x → IsSound term_length (after_work same elect x o call)
-  work_sound call x o sound = work_by_any same elect x o (IsSound term_length) sound (λ e. event_sound same elect term_length x e sound) call
-
-  -- a call on the work of a view is told of no drop
-  work_drops : (x : Facts K L D) (o : Openings K D) (call : WorkCall D) (views : List ℕ) → work_answer same elect x o call ≡ Dropped views → ⊥
-  work_drops x o TryPropose views is = cc
-  work_drops x o _ views is = cc
-
-  call_away : 0 < term_length → (call : CallFacts D) (x : Facts K L D) → is_allowed x call ≡ true → SoundlyAway term_length (answer same elect x call ∷ []) x (after_call same elect x call)
-  call_away some call x allowed sound =
-      let floor = floor_goes x _ (call_goes same elect x call) in (
-        call_sound call x sound,
+  call_away : 0 < term_length → (call : CallFacts D) (x : Facts K L D) (o : Openings K D) → is_allowed x o call ≡ true → SoundlyAway term_length (answer same elect x o call ∷ []) x (after_call same elect x o call)
+  call_away some call x o allowed sound =
+      let floor = floor_goes x _ (call_goes same elect x o call) in (
+        call_sound call x o sound,
         record {
           floor = floor;
-          clear = λ low under clear. call_clear same elect low x under (omega (arith, under, sound.ahead)) (omega (arith, some, sound.terms)) clear call allowed;
+          clear = λ low under clear. call_clear same elect low x under (omega (arith, under, sound.ahead)) (omega (arith, some, sound.terms)) clear o call allowed;
           dropped = λ v is. (
-              let gone = call_drops same elect x call is.0 v (only_one (answer same elect x call) (Dropped is.0) is.1) is.2 in
+              let gone = call_drops same elect x o call is.0 v (only_one (answer same elect x o call) (Dropped is.0) is.1) is.2 in
               (min_active x, gone.0, floor, gone.1)
               );
         },
       )
 
-  work_away : 0 < term_length → (call : WorkCall D) (x : Facts K L D) (o : Openings K D) → work_allowed x o call ≡ true → SoundlyAway term_length (work_answer same elect x o call ∷ []) x (after_work same elect x o call)
-  work_away some call x o allowed sound =
-      let told = work_answer same elect x o call in (
-        work_sound call x o sound,
-        record {
-          floor = floor_goes x _ (work_goes same elect x o call);
-          clear = λ low under clear. work_clear same elect low x under (omega (arith, under, sound.ahead)) (omega (arith, some, sound.terms)) clear o call allowed;
-          dropped = λ v is. absurd (work_drops x o call is.0 (only_one told (Dropped is.0) is.1));
-        },
-      )
-
-  told_away : 0 < term_length → (m : MemberFacts K L D) (call : LifeCall D) (told : Told K D) (left : MemberFacts K L D) → IsStep same elect m (as_step call) told left → WhileAlive (SoundlyAway term_length (told ∷ [])) m.life left.life
+  told_away : 0 < term_length → (m : MemberFacts K L D) (call : CallFacts D) (told : Told K D) (left : MemberFacts K L D) → IsCall same elect m call told left → WhileAlive (SoundlyAway term_length (told ∷ [])) m.life left.life
   told_away some =
       each_call same elect (λ call told. SoundlyAway term_length (told ∷ []))
       (λ call fault x sound. (sound, nothing_away (Refused fault) x (λ views is. absurd (cc))))
       (λ call x sound. (sound, nothing_away NotAllowed x (λ views is. absurd (cc))))
-      (λ call x allowed. call_away some call x allowed)
-      (λ call x o allowed. work_away some call x o allowed)
+      (λ call x o allowed. call_away some call x o allowed)
 
-  life_away : 0 < term_length → (m end : MemberFacts K L D) (calls : List (LifeCall D)) (replies : List (Told K D)) → IsLife same elect m calls replies end → WhileAlive (SoundlyAway term_length replies) m.life end.life
+  life_away : 0 < term_length → (m end : MemberFacts K L D) (calls : List (CallFacts D)) (replies : List (Told K D)) → IsLife same elect m calls replies end → WhileAlive (SoundlyAway term_length replies) m.life end.life
   life_away some m end [] [] life = subst (λ n. WhileAlive (SoundlyAway term_length []) m.life n.life) life (alive_still (SoundlyAway term_length []) m.life (λ x sound. (sound, away_still x)))
   life_away some m end [] (told ∷ replies) life = absurd life
   life_away some m end (call ∷ calls) [] life = absurd life
@@ -119,7 +100,7 @@ IsSoundIn term_length life = HoldsIn (IsSound term_length) life
 
 module _ {K L D : Type 0} (same : D → D → Bool) (elect : Elect L) (term_length : ℕ) where
   -- a life of a run begins with a sound state
-  pub life_sound : (start : StartFacts K L D) (steps : List (StepFacts K L D)) (told : List (Told K D)) (m end : MemberFacts K L D) (calls : List (LifeCall D)) (replies : List (Told K D)) → IsFresh term_length start.fresh → BeginFresh term_length steps → IsLifeOfRun same elect start steps told m calls replies end → IsSoundIn term_length m.life
+  pub life_sound : (start : StartFacts K L D) (steps : List (StepFacts K L D)) (told : List (Told K D)) (m end : MemberFacts K L D) (calls : List (CallFacts D)) (replies : List (Told K D)) → IsFresh term_length start.fresh → BeginFresh term_length steps → IsLifeOfRun same elect start steps told m calls replies end → IsSoundIn term_length m.life
   life_sound start steps told m end calls replies begins fresh of_run =
       run_induction same elect term_length (IsSound term_length) (λ x floor now new. floor_sound same elect term_length x floor now new) (λ x e sound. event_sound same elect term_length x e sound) start steps told m begins fresh of_run.reached
 
@@ -128,7 +109,7 @@ module _ {K L D : Type 0} (same : D → D → Bool) (elect : Elect L) (term_leng
   for_good replies None (Some y) sound away = absurd away
   for_good replies (Some x) (Some y) sound away = λ v is. (let gone = (away sound).1.dropped v is in gone.3.views v gone.1)
 
-  pub life_drops_for_good : (start : StartFacts K L D) (steps : List (StepFacts K L D)) (told : List (Told K D)) (m end : MemberFacts K L D) (calls : List (LifeCall D)) (replies : List (Told K D)) → IsFresh term_length start.fresh → BeginFresh term_length steps → IsLifeOfRun same elect start steps told m calls replies end → WhileAlive (DroppedForGood replies) m.life end.life
+  pub life_drops_for_good : (start : StartFacts K L D) (steps : List (StepFacts K L D)) (told : List (Told K D)) (m end : MemberFacts K L D) (calls : List (CallFacts D)) (replies : List (Told K D)) → IsFresh term_length start.fresh → BeginFresh term_length steps → IsLifeOfRun same elect start steps told m calls replies end → WhileAlive (DroppedForGood replies) m.life end.life
   life_drops_for_good start steps told m end calls replies begins fresh of_run =
       for_good replies m.life end.life (life_sound start steps told m end calls replies begins fresh of_run) (life_away same elect term_length begins.some m end calls replies of_run.life)
 
@@ -137,51 +118,42 @@ module _ {K L D : Type 0} (same : D → D → Bool) (elect : Elect L) (term_leng
   stay_in replies None (Some y) keeps = absurd keeps
   stay_in replies (Some x) (Some y) keeps = keeps.conflicts
 
-  pub life_conflicts : (start : StartFacts K L D) (steps : List (StepFacts K L D)) (told : List (Told K D)) (m end : MemberFacts K L D) (calls : List (LifeCall D)) (replies : List (Told K D)) → IsFresh term_length start.fresh → BeginFresh term_length steps → IsLifeOfRun same elect start steps told m calls replies end → WhileAlive (ConflictsStay replies) m.life end.life
+  pub life_conflicts : (start : StartFacts K L D) (steps : List (StepFacts K L D)) (told : List (Told K D)) (m end : MemberFacts K L D) (calls : List (CallFacts D)) (replies : List (Told K D)) → IsFresh term_length start.fresh → BeginFresh term_length steps → IsLifeOfRun same elect start steps told m calls replies end → WhileAlive (ConflictsStay replies) m.life end.life
   life_conflicts start steps told m end calls replies begins fresh of_run =
       stay_in replies m.life end.life (life_keeps same elect m end calls replies of_run.life)
 
-  pub life_hands_out_once : (start : StartFacts K L D) (steps : List (StepFacts K L D)) (told : List (Told K D)) (m end : MemberFacts K L D) (calls : List (LifeCall D)) (replies : List (Told K D)) → IsFresh term_length start.fresh → BeginFresh term_length steps → IsLifeOfRun same elect start steps told m calls replies end → HandedOnce calls replies
+  pub life_hands_out_once : (start : StartFacts K L D) (steps : List (StepFacts K L D)) (told : List (Told K D)) (m end : MemberFacts K L D) (calls : List (CallFacts D)) (replies : List (Told K D)) → IsFresh term_length start.fresh → BeginFresh term_length steps → IsLifeOfRun same elect start steps told m calls replies end → HandedOnce calls replies
   life_hands_out_once start steps told m end calls replies begins fresh of_run =
       life_hands_once same elect m end calls replies of_run.life
 
--- what a call is told is as asked
-abbrev pub RightlyTold : {K D : Type 0} → LifeCall D → Told K D → Type 0
-RightlyTold (Calling call) told = IsAsAsked call told
-RightlyTold (Working call) told = Unit {0}
-
 module _ (K : Type 0) {D : Type 0} where
-  refused_rightly : (call : LifeCall D) (fault : Fault) → RightlyTold {K = K} call (Refused fault)
-  refused_rightly (Calling call) fault = λ kind v d asks tells. absurd (cc)
-  refused_rightly (Working call) fault = tt
+  -- what a call is told that is refused is as asked
+  refused_rightly : (call : CallFacts D) (fault : Fault) → IsAsAsked {K = K} call (Refused fault)
+  refused_rightly call fault = λ kind v d asks tells. absurd (cc)
 
-  not_allowed_rightly : (call : LifeCall D) → RightlyTold {K = K} call NotAllowed
-  not_allowed_rightly (Calling call) = λ kind v d asks tells. absurd (cc)
-  not_allowed_rightly (Working call) = tt
+  not_allowed_rightly : (call : CallFacts D) → IsAsAsked {K = K} call NotAllowed
+  not_allowed_rightly call = λ kind v d asks tells. absurd (cc)
 
 module _ {K L D : Type 0} (same : D → D → Bool) (elect : Elect L) (term_length : ℕ) where
   -- so it is of each call from a sound state on
-  told_as_asked : (m : MemberFacts K L D) (call : LifeCall D) (told : Told K D) (left : MemberFacts K L D) → IsStep same elect m (as_step call) told left → IsSoundIn term_length m.life → RightlyTold call told × IsSoundIn term_length left.life
-  told_as_asked m call told left is_step sound =
-      elim (call_outcome same elect (λ c t x y. IsSound term_length x → RightlyTold c t × IsSound term_length y)
+  told_as_asked : (m : MemberFacts K L D) (call : CallFacts D) (told : Told K D) (left : MemberFacts K L D) → IsCall same elect m call told left → IsSoundIn term_length m.life → IsAsAsked call told × IsSoundIn term_length left.life
+  told_as_asked m call told left is_call sound =
+      elim (call_outcome same elect (λ c t x y. IsSound term_length x → IsAsAsked c t × IsSound term_length y)
       (λ c f x s. (refused_rightly K c f, s)) (λ c x s. (not_allowed_rightly K c, s))
-      (λ c x allowed s. (call_as_asked same elect x c s.placed, call_sound same elect term_length c x s))
-      (λ c x o allowed s. (tt, work_sound same elect term_length c x o s)) m call told left is_step) [
-        | inl (fault, refuses, dies) ↦ (subst (RightlyTold call) (sym refuses) (refused_rightly K call fault), subst (IsSoundIn term_length) (sym dies) tt)
+      (λ c x o allowed s. (call_as_asked same elect x o c s.placed, call_sound same elect term_length c x o s)) m call told left is_call) [
+        | inl (fault, refuses, dies) ↦ (subst (IsAsAsked call) (sym refuses) (refused_rightly K call fault), subst (IsSoundIn term_length) (sym dies) tt)
         | inr (x, y, alive, lives, keeps) ↦ (let kept = keeps (subst (IsSoundIn term_length) alive sound) in (kept.0, subst (IsSoundIn term_length) (sym lives) kept.1))
       ]
 
-  life_as_asked : (m end : MemberFacts K L D) (calls : List (LifeCall D)) (replies : List (Told K D)) → IsSoundIn term_length m.life → IsLife same elect m calls replies end → HandedAsAsked calls replies
+  life_as_asked : (m end : MemberFacts K L D) (calls : List (CallFacts D)) (replies : List (Told K D)) → IsSoundIn term_length m.life → IsLife same elect m calls replies end → HandedAsAsked calls replies
   life_as_asked m end [] [] sound life = tt
   life_as_asked m end [] (told ∷ replies) sound life = absurd life
   life_as_asked m end (call ∷ calls) [] sound life = absurd life
-  life_as_asked m end (Calling call ∷ calls) (told ∷ replies) sound (next, is_call, rest) =
-      let first = told_as_asked m (Calling call) told next is_call sound in
+  life_as_asked m end (call ∷ calls) (told ∷ replies) sound (next, is_call, rest) =
+      let first = told_as_asked m call told next is_call sound in
       (first.0, life_as_asked next end calls replies first.1 rest)
-  life_as_asked m end (Working call ∷ calls) (told ∷ replies) sound (next, is_call, rest) =
-      life_as_asked next end calls replies (told_as_asked m (Working call) told next is_call sound).1 rest
 
-  pub life_hands_as_asked : (start : StartFacts K L D) (steps : List (StepFacts K L D)) (told : List (Told K D)) (m end : MemberFacts K L D) (calls : List (LifeCall D)) (replies : List (Told K D)) → IsFresh term_length start.fresh → BeginFresh term_length steps → IsLifeOfRun same elect start steps told m calls replies end → HandedAsAsked calls replies
+  pub life_hands_as_asked : (start : StartFacts K L D) (steps : List (StepFacts K L D)) (told : List (Told K D)) (m end : MemberFacts K L D) (calls : List (CallFacts D)) (replies : List (Told K D)) → IsFresh term_length start.fresh → BeginFresh term_length steps → IsLifeOfRun same elect start steps told m calls replies end → HandedAsAsked calls replies
   life_hands_as_asked start steps told m end calls replies begins fresh of_run =
       life_as_asked m end calls replies (life_sound same elect term_length start steps told m end calls replies begins fresh of_run) of_run.life
 
@@ -196,9 +168,10 @@ module _ {K L D : Type 0} (same : D → D → Bool) (elect : Elect L) where
       (parts.0, (next, is_step, parts.1), parts.2)
 
   -- calls of a run without a restart among them go on from a member that the run leads to
-  pub stretch_is_life : (start : StartFacts K L D) (steps after : List (StepFacts K L D)) (calls : List (LifeCall D)) (told replies rest : List (Told K D)) → length steps ≡ length told → length calls ≡ length replies → IsRunFrom same elect start (steps ++ (as_steps calls ++ after)) (told ++ (replies ++ rest)) → (m end : MemberFacts K L D) × IsLifeOfRun same elect start steps told m calls replies end
+  pub stretch_is_life : (start : StartFacts K L D) (steps after : List (StepFacts K L D)) (calls : List (CallFacts D)) (told replies rest : List (Told K D)) → length steps ≡ length told → length calls ≡ length replies → IsRunFrom same elect start (steps ++ (map Calls calls ++ after)) (told ++ (replies ++ rest)) → (m end : MemberFacts K L D) × IsLifeOfRun same elect start steps told m calls replies end
   unfolding IsRunFrom
   stretch_is_life start steps after calls told replies rest as_many as_told (accepted, last, run) =
-      let first = run_apart steps (as_steps calls ++ after) told (replies ++ rest) (started same elect start.fresh start.floor start.now) last as_many run in
-      let second = run_apart (as_steps calls) after replies rest first.0 last (length-map calls (λ call. as_step {K = K} {L = L} call) ∙ as_told) first.2 in
+      let first = run_apart steps (map Calls calls ++ after) told (replies ++ rest) (started same elect start.fresh start.floor start.now) last as_many run in
+      let step_of : CallFacts D → StepFacts K L D = λ call. Calls call in
+      let second = run_apart (map Calls calls) after replies rest first.0 last (length-map calls step_of ∙ as_told) first.2 in
       (first.0, second.0, record { accepted = accepted; reached = first.1; life = second.1 })

@@ -1,6 +1,6 @@
--- Each call on the work of a view keeps the voting rules, and leaves a record that remembers it.
+-- Each call keeps the voting rules, and leaves a record that remembers it.
 use Rattle.std.proofs.Common.{◌≡◌, refl, ap, sym, ◌∙◌, subst, ℕ, ◌<◌, Bool, true, false, not, List, [], ◌∷◌, ◌++◌, Option, Some, None, is_some, arith}
-use Rattle.std.proofs.lemmas.Bool.{false≢true}
+use Rattle.std.proofs.lemmas.Bool.{false≢true, true≢false}
 use Rattle.std.proofs.lemmas.List.{append-nil}
 use Rattle.simplex_types.specs.Certificates.{ArtifactFacts, NotarizeVote, NullifyVote, FinalizeVote, Accepted}
 use Rattle.simplex_types.specs.declared.types.messages.Proposal.{Proposal}
@@ -11,26 +11,28 @@ use Rattle.simplex_voter.specs.Rules.{may_notarize}
 use Rattle.simplex_voter.specs.Votes.{after_construct_notarize}
 use Rattle.simplex_voter.proofs.Gaps.{and_parts}
 use Rattle.simplex_voter.proofs.Rules.{notarize_parts}
-use Rattle.simplex_member.specs.Calls.{Notarize, vote_entry}
+use Rattle.simplex_member.specs.Allowed.{is_allowed}
+use Rattle.simplex_member.specs.Calls.{CallFacts, AddNotarization, AddNullification, AddFinalization, ConstructNotarize, Certified, ConstructNullify, ConstructFinalize, BroadcastNotarization, BroadcastNullification, BroadcastFinalization, GetBestCertificate, Prune, Notarize}
 use Rattle.simplex_member.specs.Openings.{Openings}
-use Rattle.simplex_member.specs.Work.{WorkCall, ConstructNotarize, notarize_vote, recorded_by_work, work_allowed, work_answer, after_work, openings_after}
-use Rattle.simplex_laws.specs.Deeds.{Deed, Signs, signed_in}
+use Rattle.simplex_member.specs.Made.{notarize_vote, vote_entry, answer, after_call, openings_after, recorded_by}
+use Rattle.simplex_laws.specs.Deeds.{Deed, Signs, signed_in, deeds_of_call}
 use Rattle.simplex_laws.proofs.Signed.{only_signed}
 use Rattle.simplex_laws.proofs.Lawful.{lawful_push}
 use Rattle.simplex_laws.proofs.LifeCalls.{no_key, no_rule}
 use Rattle.simplex_laws.proofs.Marks.{Marked, marked_more, quiet_marked}
-use Rattle.simplex_laws.proofs.CallsMake.{AreSilent, work_silent, work_by_event}
+use Rattle.simplex_laws.proofs.CallsMake.{AreSilent, work_silent, call_by_event}
 use Rattle.simplex_laws.proofs.Standing.{Stays}
 use Rattle.simplex_laws.proofs.StandingSteps.{silent_suits, stays_on}
 use Rattle.simplex_laws.proofs.Recalls.{only_one}
 use Rattle.simplex_laws.proofs.Remembering.{Grows, remembers_more, single_split}
 use Rattle.simplex_laws.proofs.Retaken.{notarize_cast_stays}
-use Rattle.simplex_laws.proofs.InOrder.{order_work}
+use Rattle.simplex_laws.proofs.InOrder.{order_call}
 use Rattle.simplex_laws.proofs.Notes.{NotesStand}
 use Rattle.simplex_laws.proofs.NotesRemembered.{notes_cast}
-use Rattle.simplex_laws.proofs.WorkNotes.{is_silent, work_notes, decided_notes}
+use Rattle.simplex_laws.proofs.WorkNotes.{work_notes, decided_notes}
+use Rattle.simplex_laws.proofs.WorkCalls.{is_work, is_silent, silent_work}
 use Rattle.simplex_laws.proofs.NotarizeVotes.{notarize_silent, notarize_told, notarize_allowed, notarize_noted, voted_tracked}
-use Rattle.simplex_laws.proofs.NewLives.{Living, high_more, within_more}
+use Rattle.simplex_laws.proofs.NewLives.{Living, high_more, within_more, plain_lives}
 
 -- a vote to notarize is recorded
 grows_notarize : {D : Type 0} (deeds : List (Deed D)) (entries : List (ArtifactFacts D)) (p : Proposal D) (m : ℕ) → Grows deeds (Signs m (subject.Notarize p) ∷ []) entries (NotarizeVote p m ∷ [])
@@ -44,13 +46,35 @@ grows_notarize deeds entries p m = record {
 }
 
 module _ {K L D : Type 0} (same : D → D → Bool) (elect : Elect L) (x : Facts K L D) (o : Openings K D) where
-  -- a call that is no vote to notarize is no deed, and records nothing
-  pub silent_deeds : (call : WorkCall D) → is_silent call ≡ true → signed_in (work_answer same elect x o call) ≡ []
+  -- a call on the work of a view that is no vote to notarize is no deed, and records nothing
+  pub silent_deeds : (call : CallFacts D) → is_silent call ≡ true → deeds_of_call call (answer same elect x o call) ≡ []
   silent_deeds (ConstructNotarize v) silent = absurd (false≢true silent)
+  silent_deeds (AddNotarization c) silent = absurd (false≢true silent)
+  silent_deeds (AddNullification c now) silent = absurd (false≢true silent)
+  silent_deeds (AddFinalization c now) silent = absurd (false≢true silent)
+  silent_deeds (Certified v success now) silent = absurd (false≢true silent)
+  silent_deeds (ConstructNullify v) silent = absurd (false≢true silent)
+  silent_deeds (ConstructFinalize v) silent = absurd (false≢true silent)
+  silent_deeds (BroadcastNotarization v) silent = absurd (false≢true silent)
+  silent_deeds (BroadcastNullification v) silent = absurd (false≢true silent)
+  silent_deeds (BroadcastFinalization v) silent = absurd (false≢true silent)
+  silent_deeds GetBestCertificate silent = absurd (false≢true silent)
+  silent_deeds Prune silent = absurd (false≢true silent)
   silent_deeds _ silent = refl
 
-  pub silent_record : (call : WorkCall D) → is_silent call ≡ true → recorded_by_work same elect x call ≡ []
+  pub silent_record : (call : CallFacts D) → is_silent call ≡ true → recorded_by same elect x call ≡ []
   silent_record (ConstructNotarize v) silent = absurd (false≢true silent)
+  silent_record (AddNotarization c) silent = absurd (false≢true silent)
+  silent_record (AddNullification c now) silent = absurd (false≢true silent)
+  silent_record (AddFinalization c now) silent = absurd (false≢true silent)
+  silent_record (Certified v success now) silent = absurd (false≢true silent)
+  silent_record (ConstructNullify v) silent = absurd (false≢true silent)
+  silent_record (ConstructFinalize v) silent = absurd (false≢true silent)
+  silent_record (BroadcastNotarization v) silent = absurd (false≢true silent)
+  silent_record (BroadcastNullification v) silent = absurd (false≢true silent)
+  silent_record (BroadcastFinalization v) silent = absurd (false≢true silent)
+  silent_record GetBestCertificate silent = absurd (false≢true silent)
+  silent_record Prune silent = absurd (false≢true silent)
   silent_record _ silent = refl
 
 module _ {K L D : Type 0} (same : D → D → Bool) (decides : (d e : D) → same d e ≡ true → d ≡ e) (elect : Elect L) (term_length : ℕ) (some : 0 < term_length) (deeds : List (Deed D)) (closed kept : ℕ) (entries : List (ArtifactFacts D)) (o : Openings K D) (x : Facts K L D) (living : Living term_length deeds closed kept entries o x) where
@@ -60,23 +84,23 @@ module _ {K L D : Type 0} (same : D → D → Bool) (decides : (d e : D) → sam
 
   -- what stands of the votes and what the record shows, after a call on the work of a view
 
-  stays_worked : (call : WorkCall D) → work_allowed x o call ≡ true → Stays term_length deeds (after_work same elect x o call)
-  stays_worked call allowed =
-      work_by_event same elect x o (λ es y. AreSilent es → Stays term_length deeds y) (λ silent. living.keeps.stays)
-      (λ e takes floor silent. stays_on same decides elect term_length deeds x e (silent_suits deeds _ x e silent.0) living.keeps.stays) call allowed (work_silent o call)
+  stays_worked : (call : CallFacts D) → is_work call ≡ true → is_allowed x o call ≡ true → Stays term_length deeds (after_call same elect x o call)
+  stays_worked call work allowed =
+      call_by_event same elect x o (λ es y. AreSilent es → Stays term_length deeds y) (λ silent. living.keeps.stays)
+      (λ e takes floor silent. stays_on same decides elect term_length deeds x e (silent_suits deeds _ x e silent.0) living.keeps.stays) call allowed (work_silent o call work)
 
-  marked_worked : (call : WorkCall D) → work_allowed x o call ≡ true → Marked entries (after_work same elect x o call)
-  marked_worked call allowed =
-      work_by_event same elect x o (λ es y. AreSilent es → Marked entries y) (λ silent. living.follows.marked)
-      (λ e takes floor silent. quiet_marked same elect x e entries silent.0.verdict silent.0.nullify living.follows.marked) call allowed (work_silent o call)
+  marked_worked : (call : CallFacts D) → is_work call ≡ true → is_allowed x o call ≡ true → Marked entries (after_call same elect x o call)
+  marked_worked call work allowed =
+      call_by_event same elect x o (λ es y. AreSilent es → Marked entries y) (λ silent. living.follows.marked)
+      (λ e takes floor silent. quiet_marked same elect x e entries silent.0.verdict silent.0.nullify living.follows.marked) call allowed (work_silent o call work)
 
-  silent_lives : (call : WorkCall D) → work_allowed x o call ≡ true → is_silent call ≡ true → Living term_length deeds closed kept entries (openings_after same elect x o call) (after_work same elect x o call)
+  silent_lives : (call : CallFacts D) → is_allowed x o call ≡ true → is_silent call ≡ true → Living term_length deeds closed kept entries (openings_after same elect x o call) (after_call same elect x o call)
   silent_lives call allowed silent =
       let noted = living.noted in
       record {
-        keeps = record { lawful = living.keeps.lawful; stays = stays_worked call allowed };
-        follows = record { remembers = living.follows.remembers; marked = marked_worked call allowed };
-        in_order = order_work same elect x o living.in_order call;
+        keeps = record { lawful = living.keeps.lawful; stays = stays_worked call (silent_work call silent) allowed };
+        follows = record { remembers = living.follows.remembers; marked = marked_worked call (silent_work call silent) allowed };
+        in_order = order_call same elect x o living.in_order call;
         notes = living.notes;
         noted = (noted.0, noted.1, work_notes same decides elect noted.0 noted.1 deeds o x noted.2 call living.in_order allowed silent);
         high = living.high;
@@ -89,9 +113,9 @@ module _ {K L D : Type 0} (same : D → D → Bool) (decides : (d e : D) → sam
   decided_lives v base low noted =
       let y = after_construct_notarize same elect x v in
       record {
-        keeps = record { lawful = living.keeps.lawful; stays = stays_worked (ConstructNotarize v) refl };
-        follows = record { remembers = living.follows.remembers; marked = marked_worked (ConstructNotarize v) refl };
-        in_order = order_work same elect x o living.in_order (ConstructNotarize v);
+        keeps = record { lawful = living.keeps.lawful; stays = stays_worked (ConstructNotarize v) refl refl };
+        follows = record { remembers = living.follows.remembers; marked = marked_worked (ConstructNotarize v) refl refl };
+        in_order = order_call same elect x o living.in_order (ConstructNotarize v);
         notes = living.notes;
         noted = (base, low, noted);
         high = living.high;
@@ -108,13 +132,13 @@ module _ {K L D : Type 0} (same : D → D → Bool) (decides : (d e : D) → sam
       record {
         keeps = record {
           lawful = lawful_push term_length deeds (Signs m (subject.Notarize h)) living.keeps.lawful (notarize_allowed same decides elect term_length noted.0 noted.1 deeds o x positive terms noted.2 v may h holds);
-          stays = notarize_cast_stays term_length deeds y (stays_worked (ConstructNotarize v) refl) h m;
+          stays = notarize_cast_stays term_length deeds y (stays_worked (ConstructNotarize v) refl refl) h m;
         };
         follows = record {
           remembers = remembers_more deeds entries kept (Signs m (subject.Notarize h) ∷ []) (vote ∷ []) (grows_notarize deeds entries h m) living.follows.remembers;
-          marked = marked_more entries (vote ∷ []) y (marked_worked (ConstructNotarize v) refl);
+          marked = marked_more entries (vote ∷ []) y (marked_worked (ConstructNotarize v) refl refl);
         };
-        in_order = order_work same elect x o living.in_order (ConstructNotarize v);
+        in_order = order_call same elect x o living.in_order (ConstructNotarize v);
         notes = notes_cast deeds kept entries h m living.notes;
         noted = (noted.0, noted.1, rw may (notarize_noted same decides elect term_length noted.0 noted.1 deeds o x positive terms noted.2 v may h m holds));
         high = high_more closed kept entries (vote ∷ []) living.high;
@@ -150,24 +174,22 @@ module _ {K L D : Type 0} (same : D → D → Bool) (decides : (d e : D) → sam
       by_rule false may = (let noted = living.noted in untold noted.0 noted.1 (rw may noted.2) (notarize_silent same elect x v (no_rule (may_notarize same elect x v) x.me may)))
 
   -- a call that is allowed and not refused
-  abbrev pub WorkLives : WorkCall D → Type 0
-  WorkLives call = Living term_length (deeds ++ signed_in (work_answer same elect x o call)) closed kept (entries ++ recorded_by_work same elect x call) (openings_after same elect x o call) (after_work same elect x o call)
+  abbrev pub CallLives : CallFacts D → Type 0
+  CallLives call = Living term_length (deeds ++ deeds_of_call call (answer same elect x o call)) closed kept (entries ++ recorded_by same elect x call) (openings_after same elect x o call) (after_call same elect x o call)
 
-  pub work_lives : (call : WorkCall D) → work_allowed x o call ≡ true → WorkLives call
-  work_lives call allowed = by_kind (is_silent call) refl
+  silent_call : (call : CallFacts D) → is_allowed x o call ≡ true → is_silent call ≡ true → CallLives call
+  silent_call call allowed silent =
+      let next = openings_after same elect x o call in
+      let y = after_call same elect x o call in
+      subst (λ a. Living term_length (deeds ++ a) closed kept (entries ++ recorded_by same elect x call) next y) (sym (silent_deeds same elect x o call silent))
+      (subst (λ es. Living term_length (deeds ++ []) closed kept (entries ++ es) next y) (sym (silent_record same elect x o call silent))
+      (nothing_done next y (silent_lives call allowed silent)))
+
+  pub call_lives : (call : CallFacts D) → is_allowed x o call ≡ true → CallLives call
+  call_lives call allowed = by_kind call (is_silent call) (is_work call) refl refl allowed
     where
-      quiet : is_silent call ≡ true → WorkLives call
-      quiet silent =
-          let next = openings_after same elect x o call in
-          let y = after_work same elect x o call in
-          subst (λ a. Living term_length (deeds ++ a) closed kept (entries ++ recorded_by_work same elect x call) next y) (sym (silent_deeds same elect x o call silent))
-          (subst (λ es. Living term_length (deeds ++ []) closed kept (entries ++ es) next y) (sym (silent_record same elect x o call silent))
-          (nothing_done next y (silent_lives call allowed silent)))
-
-      voting : (w : WorkCall D) → is_silent w ≡ false → WorkLives w
-      voting (ConstructNotarize v) silent = notarize_lives v
-      voting _ silent = absurd (false≢true (sym silent))
-
-      by_kind : (b : Bool) → is_silent call ≡ b → WorkLives call
-      by_kind true silent = quiet silent
-      by_kind false silent = voting call silent
+      by_kind : (w : CallFacts D) (silent work : Bool) → is_silent w ≡ silent → is_work w ≡ work → is_allowed x o w ≡ true → CallLives w
+      by_kind w true work silent is may = silent_call w may silent
+      by_kind w false false loud plain may = plain_lives same decides elect term_length deeds closed kept entries x o w some plain may living
+      by_kind (ConstructNotarize v) false true loud work may = notarize_lives v
+      by_kind _ false true loud work may = absurd (cc)

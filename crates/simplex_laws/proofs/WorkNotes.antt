@@ -34,12 +34,15 @@ use Rattle.simplex_voter.specs.Certification.{after_candidates}
 use Rattle.simplex_voter.proofs.Elsewhere.{round_of-with_round}
 use Rattle.simplex_voter.proofs.Gaps.{and_parts, not_true}
 use Rattle.simplex_member.specs.Openings.{Openings, context_at, without_context, with_context, with_request, is_verifying, without_verification, with_verification}
-use Rattle.simplex_member.specs.Work.{WorkCall, SetProposal, TryPropose, Proposed, SupersedeProposalRequest, PendingHandoffAbandonment, ReleaseProposalRequest, TryVerify, Verified, VerificationFailed, ConstructNotarize, CertifyCandidates, SetCertifyHandle, TriggerTimeout, NextTimeout, work_allowed, after_work, openings_after}
+use Rattle.simplex_member.specs.Allowed.{is_allowed}
+use Rattle.simplex_member.specs.Calls.{CallFacts, SetProposal, TryPropose, Proposed, SupersedeProposalRequest, PendingHandoffAbandonment, ReleaseProposalRequest, TryVerify, Verified, VerificationFailed, CertifyCandidates, SetCertifyHandle, TriggerTimeout, NextTimeout}
+use Rattle.simplex_member.specs.Made.{after_call, openings_after}
 use Rattle.simplex_laws.specs.Deeds.{Deed}
 use Rattle.simplex_laws.specs.Requested.{is_given_out}
 use Rattle.simplex_laws.proofs.Rounds.{round_put}
 use Rattle.simplex_laws.proofs.Calm.{leads_round, Grown, Calm, calm, calm_alike, calm_decided, calm_retry, calm_proposal, slot_in_round}
 use Rattle.simplex_laws.proofs.CalmOn.{CalmOn, above_put, on_joined, on_same, on_if, on_put, on_there, on_tracked, on_moment, on_prepared, on_triggered}
+use Rattle.simplex_laws.proofs.WorkCalls.{is_silent}
 use Rattle.simplex_laws.proofs.Tidy.{Tidy, contrary, opposite, answered, given_out, proposes, reopened, tidy_calm}
 use Rattle.simplex_laws.proofs.Notes.{NotesStand, notes_calm}
 use Rattle.simplex_laws.proofs.Openings.{among_others, now_among, got_others, still_open, now_open, some_still, still_placed, ArePlaced, NoMoreContexts}
@@ -508,12 +511,7 @@ module _ {K L D : Type 0} (same : D → D → Bool) (elect : Elect L) (base low 
     covered = notes.covered;
   }
 
--- the call is no vote to notarize
-abbrev pub is_silent : {D : Type 0} → WorkCall D → Bool
-is_silent (ConstructNotarize v) = false
-is_silent _ = true
-
--- all calls but a vote to notarize
+-- all calls on the work of a view but a vote to notarize
 module _ {K L D : Type 0} (same : D → D → Bool) (decides : (d e : D) → same d e ≡ true → d ≡ e) (elect : Elect L) (base low : ℕ) (deeds : List (Deed D)) (o : Openings K D) (x : Facts K L D) (notes : NotesStand base low deeds o x) where
   pub decided_notes : (v : ℕ) → may_notarize same elect x v ≡ true → is_tracked x v ≡ true → NotesStand base low deeds o (prepared elect (with_round x v (record (round_of x v) { notarize_decided = true })) v)
   decided_notes v may tracked =
@@ -530,7 +528,7 @@ module _ {K L D : Type 0} (same : D → D → Bool) (decides : (d e : D) → sam
       closes true left = closed_notes same decides elect base low deeds o x notes v (after_supersede same elect x c) left
       closes false left = left_notes same decides elect base low deeds o x notes (after_supersede same elect x c) left
 
-  pub work_notes : (call : WorkCall D) → InOrder x → work_allowed x o call ≡ true → is_silent call ≡ true → NotesStand base low deeds (openings_after same elect x o call) (after_work same elect x o call)
+  pub work_notes : (call : CallFacts D) → InOrder x → is_allowed x o call ≡ true → is_silent call ≡ true → NotesStand base low deeds (openings_after same elect x o call) (after_call same elect x o call)
   work_notes (SetProposal v p) ordered allowed silent = proposal_notes same decides elect base low deeds o x notes v p allowed
   work_notes TryPropose ordered allowed silent = requested_notes same decides elect base low deeds o x notes ordered (propose_answer same elect x) refl
   work_notes (Proposed v payload now) ordered allowed silent = proposed_notes same decides elect base low deeds o x notes v (context_at o v) payload now refl
@@ -540,7 +538,6 @@ module _ {K L D : Type 0} (same : D → D → Bool) (decides : (d e : D) → sam
   work_notes TryVerify ordered allowed silent = try_verify_notes same elect base low deeds o x ordered notes
   work_notes (Verified v) ordered allowed silent = verified_notes same decides elect base low deeds o x notes v allowed
   work_notes (VerificationFailed v reason now) ordered allowed silent = failed_notes same decides elect base low deeds o x notes v reason now allowed
-  work_notes (ConstructNotarize v) ordered allowed silent = absurd (false≢true silent)
   work_notes CertifyCandidates ordered allowed silent = notes_calm base low deeds o (openings_after same elect x o CertifyCandidates) x (after_candidates x) (record { settings = refl; current = omega arith; finalized = omega arith; nullified = refl; above = λ above. above; rounds = λ v. calm v (round_of x v) }) (λ v is. is) (λ v c is. is) notes
   work_notes (SetCertifyHandle v token) ordered allowed silent = left_notes same decides elect base low deeds o x notes _ (on_tracked base x v _ (calm_alike v (round_of x v) _ refl refl refl refl refl))
   work_notes (TriggerTimeout v reason now) ordered allowed silent =
@@ -549,3 +546,4 @@ module _ {K L D : Type 0} (same : D → D → Bool) (decides : (d e : D) → sam
   work_notes (NextTimeout now) ordered allowed silent =
       let m = at_moment x now in
       left_notes same decides elect base low deeds o x notes (after_next_timeout x now) (on_joined base x m (after_next_timeout x now) (on_moment base x now) (on_tracked base m x.current _ (calm_retry x.current (round_of x x.current) now x.settings.timeout_retry)))
+  work_notes _ ordered allowed silent = absurd (false≢true silent)

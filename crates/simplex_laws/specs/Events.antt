@@ -1,5 +1,5 @@
 -- The events of a life as plain data, and what each makes of a state's facts.
-use Rattle.std.specs.Prelude.{◌≡◌, ℕ, Bool, true, List, [], ◌∷◌}
+use Rattle.std.specs.Prelude.{◌≡◌, ℕ, Bool, true, List, [], ◌∷◌, Option, Some, None}
 use Rattle.simplex_types.specs.Certificates.{ProposalFacts, NullificationFacts, ArtifactFacts}
 use Rattle.simplex_types.specs.Config.{FloorFacts}
 use Rattle.simplex_types.specs.declared.reasons.TimeoutReason.{TimeoutReason}
@@ -16,6 +16,7 @@ use Rattle.simplex_voter.specs.Verifying.{takes_proposal, after_set_proposal, af
 use Rattle.simplex_voter.specs.Votes.{after_construct_notarize, after_construct_nullify, after_construct_finalize}
 use Rattle.simplex_member.specs.Calls as calls
 use Rattle.simplex_member.specs.Calls.{CallFacts}
+use Rattle.simplex_member.specs.Openings.{Openings, context_at}
 use Rattle.simplex_member.specs.Recovery.{as_artifact, replayed}
 
 -- what happens to a state, with each certificate by its facts; the last number of an event that carries a moment is that
@@ -98,16 +99,35 @@ pub record History (K L D : Type 0) : Type 0 where
 abbrev pub with_event : {K L D : Type 0} → History K L D → Event K D → History K L D
 with_event history e = record history { events = e ∷ history.events }
 
--- the events of a call of a member: one, but for a call that changes nothing
-abbrev pub events_of : {K D : Type 0} → CallFacts D → List (Event K D)
-events_of (calls.AddNotarization c) = AddNotarization c ∷ []
-events_of (calls.AddNullification c now) = AddNullification c now ∷ []
-events_of (calls.AddFinalization c now) = AddFinalization c now ∷ []
-events_of (calls.Certified v success now) = Certified v success now ∷ []
-events_of (calls.ConstructNullify v) = ConstructNullify v ∷ []
-events_of (calls.ConstructFinalize v) = ConstructFinalize v ∷ []
-events_of (calls.BroadcastNotarization v) = BroadcastNotarization v ∷ []
-events_of (calls.BroadcastNullification v) = BroadcastNullification v ∷ []
-events_of (calls.BroadcastFinalization v) = BroadcastFinalization v ∷ []
-events_of calls.GetBestCertificate = []
-events_of calls.Prune = Prune ∷ []
+-- the event of what a call does in a context, where one is open
+abbrev pub in_context : {K D : Type 0} → (Context D K → Event K D) → Option (Context D K) → List (Event K D)
+in_context event None = []
+in_context event (Some context) = event context ∷ []
+
+-- the events of a call of a member, with what it has open then: one, but for a call that changes nothing
+abbrev pub events_of : {K D : Type 0} → Openings K D → CallFacts D → List (Event K D)
+events_of o (calls.AddNotarization c) = AddNotarization c ∷ []
+events_of o (calls.AddNullification c now) = AddNullification c now ∷ []
+events_of o (calls.AddFinalization c now) = AddFinalization c now ∷ []
+events_of o (calls.SetProposal v p) = SetProposal v p ∷ []
+events_of o calls.TryPropose = TryPropose ∷ []
+events_of o (calls.Proposed v payload now) = in_context (λ context. Proposed context payload now) (context_at o v)
+events_of o (calls.SupersedeProposalRequest v) = in_context Supersede (context_at o v)
+events_of o (calls.PendingHandoffAbandonment _) = []
+events_of o (calls.ReleaseProposalRequest v) = Release v ∷ []
+events_of o calls.TryVerify = TryVerify ∷ []
+events_of o (calls.Verified v) = Verified v ∷ []
+events_of o (calls.VerificationFailed v reason now) = VerificationFailed v reason now ∷ []
+events_of o (calls.ConstructNotarize v) = ConstructNotarize v ∷ []
+events_of o calls.CertifyCandidates = CertifyCandidates ∷ []
+events_of o (calls.SetCertifyHandle v token) = SetCertifyHandle v token ∷ []
+events_of o (calls.Certified v success now) = Certified v success now ∷ []
+events_of o (calls.ConstructNullify v) = ConstructNullify v ∷ []
+events_of o (calls.ConstructFinalize v) = ConstructFinalize v ∷ []
+events_of o (calls.BroadcastNotarization v) = BroadcastNotarization v ∷ []
+events_of o (calls.BroadcastNullification v) = BroadcastNullification v ∷ []
+events_of o (calls.BroadcastFinalization v) = BroadcastFinalization v ∷ []
+events_of o calls.GetBestCertificate = []
+events_of o (calls.TriggerTimeout v reason now) = TriggerTimeout v reason now ∷ []
+events_of o (calls.NextTimeout now) = NextTimeout now ∷ []
+events_of o calls.Prune = Prune ∷ []

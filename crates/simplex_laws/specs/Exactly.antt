@@ -5,11 +5,10 @@ use Rattle.simplex_types.specs.declared.types.messages.Subject.{Subject}
 use Rattle.simplex_types.specs.declared.types.messages.Subject.TheVariants as subject
 use Rattle.simplex_voter.specs.Facts.{Facts, Elect, round_of, round_number}
 use Rattle.simplex_voter.specs.Rules.{NotarizeRule, NullifyRule, FinalizeRule}
-use Rattle.simplex_member.specs.Calls.{ConstructNullify, ConstructFinalize, Told, Refused}
+use Rattle.simplex_member.specs.Calls.{ConstructNotarize, ConstructNullify, ConstructFinalize, Told, Refused}
 use Rattle.simplex_member.specs.Lives.{MemberFacts}
-use Rattle.simplex_member.specs.Runs.{StepFacts, Calls, Works, IsStep}
+use Rattle.simplex_member.specs.Runs.{StepFacts, Calls, IsStep}
 use Rattle.simplex_member.specs.Start.{started}
-use Rattle.simplex_member.specs.Work.{ConstructNotarize}
 use Rattle.simplex_laws.specs.Deeds.{Deed, Signs, signed_in}
 use Rattle.simplex_laws.specs.Stories.{Story}
 
@@ -39,7 +38,7 @@ module _ {K L D : Type 0} (same : D → D → Bool) (elect : Elect L) where
   ExactAt None step told = signed_in told ≡ []
   ExactAt (Some x) (Calls (ConstructNullify v)) told = IsExact (NullifyRule x v) x.me (Some (subject.Nullify (round_number x v))) told
   ExactAt (Some x) (Calls (ConstructFinalize v)) told = IsExact (FinalizeRule elect x v) x.me (option_map subject.Finalize (held x v)) told
-  ExactAt (Some x) (Works (ConstructNotarize v)) told = IsExact (NotarizeRule same elect x v) x.me (option_map subject.Notarize (held x v)) told
+  ExactAt (Some x) (Calls (ConstructNotarize v)) told = IsExact (NotarizeRule same elect x v) x.me (option_map subject.Notarize (held x v)) told
   ExactAt (Some x) _ told = signed_in told ≡ []
 
   -- so it is at each step of a run, of the very member that the steps before it left

@@ -1,7 +1,7 @@
 -- The state that a life begins with.
 use Rattle.std.specs.Prelude.{◌≡◌, ◌<◌, ℕ, List, [], ◌∷◌}
 use Rattle.simplex_voter.specs.Facts.{Facts, new_facts}
-use Rattle.simplex_member.specs.Runs.{StepFacts, Calls, Works, Restarts}
+use Rattle.simplex_member.specs.Runs.{StepFacts, Calls, Restarts}
 
 module _ {K L D : Type 0} where
   -- a state that knows nothing but how it was set up, with terms of this length, which have views
@@ -14,5 +14,4 @@ module _ {K L D : Type 0} where
   abbrev pub BeginFresh : ℕ → List (StepFacts K L D) → Type 0
   BeginFresh term_length [] = Unit {0}
   BeginFresh term_length (Calls call ∷ steps) = BeginFresh term_length steps
-  BeginFresh term_length (Works call ∷ steps) = BeginFresh term_length steps
   BeginFresh term_length (Restarts r ∷ steps) = IsFresh term_length r.start.fresh × BeginFresh term_length steps

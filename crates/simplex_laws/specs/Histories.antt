@@ -2,18 +2,15 @@
 use Rattle.std.specs.Prelude.{◌≡◌, ℕ, Bool, ◌-◌, nat_lt, if◌then◌else◌, List, [], ◌∷◌, ◌++◌, Option, Some, None, MatchOption, Ok}
 use Rattle.simplex_types.specs.Certificates.{ArtifactFacts, Verdict, Accepted, Notarized, Nullified, Finalized}
 use Rattle.simplex_voter.specs.Facts.{Facts, Elect}
-use Rattle.simplex_types.specs.declared.types.messages.Context.{Context}
 use Rattle.simplex_member.specs.Calls.{CallFacts, Told, Refused, NotAllowed, NotRestarted}
-use Rattle.simplex_member.specs.Openings.{Openings, context_at}
-use Rattle.simplex_member.specs.Work as work
-use Rattle.simplex_member.specs.Work.{WorkCall}
+use Rattle.simplex_member.specs.Openings.{Openings}
 use Rattle.simplex_member.specs.Entries.{entry_view}
-use Rattle.simplex_laws.specs.Events.{Event, History, SetFloor, AddNotarization, AddNullification, AddFinalization, Certified, ConstructNotarize, SetProposal, TryPropose, Proposed, Supersede, Release, TryVerify, Verified, VerificationFailed, CertifyCandidates, SetCertifyHandle, TriggerTimeout, NextTimeout, Replay, IsEvent, after_event, with_event, events_of}
+use Rattle.simplex_laws.specs.Events.{Event, History, SetFloor, AddNotarization, AddNullification, AddFinalization, Certified, Replay, IsEvent, after_event, with_event, events_of}
 use Rattle.simplex_laws.specs.Fresh.{IsFresh, BeginFresh}
 use Rattle.simplex_member.specs.Lives.{MemberFacts, IsCall}
 use Rattle.simplex_member.specs.Recovery.{recovered, recover_error}
 use Rattle.simplex_member.specs.Restarts.{RestartFacts, IsByView, IsRestart, cut}
-use Rattle.simplex_member.specs.Runs.{StepFacts, Calls, Works, Restarts, IsRun}
+use Rattle.simplex_member.specs.Runs.{StepFacts, Calls, Restarts, IsStep, IsRun}
 use Rattle.simplex_laws.specs.Shows.{Shows}
 use Rattle.simplex_member.specs.Start.{StartFacts, started}
 use Rattle.simplex_laws.specs.Sums.{finalized_in}
@@ -26,44 +23,16 @@ retaken_events now (Accepted (Finalized c)) = Replay (Accepted (Finalized c)) �
 retaken_events now (Verdict round success) = Certified round.view success now ∷ Replay (Verdict round success) ∷ []
 retaken_events now vote = Replay vote ∷ []
 
--- the event of what a call does in a context, where one is open
-abbrev pub in_context : {K D : Type 0} → (Context D K → Event K D) → Option (Context D K) → List (Event K D)
-in_context event None = []
-in_context event (Some context) = event context ∷ []
-
--- the event of a call on the work of a view, with what is open then
-abbrev pub work_events : {K D : Type 0} → Openings K D → WorkCall D → List (Event K D)
-work_events o (work.SetProposal v p) = SetProposal v p ∷ []
-work_events o work.TryPropose = TryPropose ∷ []
-work_events o (work.Proposed v payload now) = in_context (λ context. Proposed context payload now) (context_at o v)
-work_events o (work.SupersedeProposalRequest v) = in_context Supersede (context_at o v)
-work_events o (work.PendingHandoffAbandonment _) = []
-work_events o (work.ReleaseProposalRequest v) = Release v ∷ []
-work_events o work.TryVerify = TryVerify ∷ []
-work_events o (work.Verified v) = Verified v ∷ []
-work_events o (work.VerificationFailed v reason now) = VerificationFailed v reason now ∷ []
-work_events o (work.ConstructNotarize v) = ConstructNotarize v ∷ []
-work_events o work.CertifyCandidates = CertifyCandidates ∷ []
-work_events o (work.SetCertifyHandle v token) = SetCertifyHandle v token ∷ []
-work_events o (work.TriggerTimeout v reason now) = TriggerTimeout v reason now ∷ []
-work_events o (work.NextTimeout now) = NextTimeout now ∷ []
-
 module _ {K L D : Type 0} where
   -- with these events more, the latest first
   abbrev pub with_events : History K L D → List (Event K D) → History K L D
   with_events history new = record history { events = new ++ history.events }
 
-  -- with the call, unless it is refused
-  abbrev pub with_call : History K L D → CallFacts D → Told K D → History K L D
-  with_call history call (Refused _) = history
-  with_call history call NotAllowed = history
-  with_call history call _ = with_events history (events_of call)
-
-  -- with the call on the work of a view, unless it is refused
-  abbrev pub with_work : History K L D → Openings K D → WorkCall D → Told K D → History K L D
-  with_work history o call (Refused _) = history
-  with_work history o call NotAllowed = history
-  with_work history o call _ = with_events history (work_events o call)
+  -- with the call, by what is open then, unless it is refused
+  abbrev pub with_call : History K L D → Openings K D → CallFacts D → Told K D → History K L D
+  with_call history o call (Refused _) = history
+  with_call history o call NotAllowed = history
+  with_call history o call _ = with_events history (events_of o call)
 
   -- with an entry that is taken again; one below the views that are kept is passed over
   abbrev pub with_entry : History K L D → ℕ → ArtifactFacts D → History K L D
@@ -81,22 +50,29 @@ module _ {K L D : Type 0} where
   recovery start entries =
       with_entries (record { fresh = start.fresh; events = SetFloor start.floor start.now ∷ [] }) start.now entries
 
-  -- how steps and what they are told lead from one history to another: a call with what was open then; a restart that is
-  -- not refused takes again some order of what is left of the record
-  abbrev pub LeadsTo : History K L D → List (StepFacts K L D) → List (Told K D) → History K L D → Type 0
-  LeadsTo history [] [] last = last ≡ history
-  LeadsTo history [] (told ∷ rest) last = ⊥
-  LeadsTo history (step ∷ steps) [] last = ⊥
-  LeadsTo history (Calls call ∷ steps) (told ∷ rest) last = LeadsTo (with_call history call told) steps rest last
-  LeadsTo history (Works call ∷ steps) (told ∷ rest) last = (o : Openings K D) × LeadsTo (with_work history o call told) steps rest last
-  LeadsTo history (Restarts r ∷ steps) (NotRestarted _ ∷ rest) last = LeadsTo history steps rest last
-  LeadsTo history (Restarts r ∷ steps) (told ∷ rest) last =
-      (copy : List (ArtifactFacts D)) × LeadsTo (recovery r.start copy) steps rest last
-
 module _ {K L D : Type 0} (same : D → D → Bool) (elect : Elect L) where
   -- while the member lives, its state knows what the history says
   abbrev pub IsShown : History K L D → MemberFacts K L D → Type 0
   IsShown history m = MatchOption m.life (Unit {0}) (Shows same elect history)
+
+  -- how a member's run leads from one history to another: each call by what the member has open then; a restart that is not
+  -- refused takes again, in some order by view, what the cuts leave of its record
+  abbrev pub LeadsTo : MemberFacts K L D → History K L D → List (StepFacts K L D) → List (Told K D) → History K L D → MemberFacts K L D → Type 0
+  LeadsTo m history [] [] last end = (last ≡ history) × (m ≡ end)
+  LeadsTo m history [] (told ∷ rest) last end = ⊥
+  LeadsTo m history (step ∷ steps) [] last end = ⊥
+  LeadsTo m history (Calls call ∷ steps) (told ∷ rest) last end =
+      (next : MemberFacts K L D)
+      × IsStep same elect m (Calls call) told next
+      × LeadsTo next (with_call history m.openings call told) steps rest last end
+  LeadsTo m history (Restarts r ∷ steps) (NotRestarted error ∷ rest) last end =
+      (next : MemberFacts K L D)
+      × IsStep same elect m (Restarts r) (NotRestarted error) next
+      × LeadsTo next history steps rest last end
+  LeadsTo m history (Restarts r ∷ steps) (told ∷ rest) last end =
+      (next : MemberFacts K L D)
+      × IsStep same elect m (Restarts r) told next
+      × ((copy : List (ArtifactFacts D)) × IsByView (cut m r.drop r.prune).entries copy × LeadsTo next (recovery r.start copy) steps rest last end)
 
 module _ (K : Type 0) {L D : Type 0} (same : D → D → Bool) (elect : Elect L) where
   -- of a new state nothing was said
@@ -113,7 +89,7 @@ module _ (K : Type 0) {L D : Type 0} (same : D → D → Bool) (elect : Elect L)
       (history : History K L D) (m left : MemberFacts K L D) (call : CallFacts D) (told : Told K D)
       → IsShown same elect history m
       → IsCall same elect m call told left
-      → IsShown same elect (with_call history call told) left
+      → IsShown same elect (with_call history m.openings call told) left
 
   abbrev pub RecoveriesAreShown : Type 0
   RecoveriesAreShown =
@@ -138,4 +114,6 @@ module _ (K : Type 0) {L D : Type 0} (same : D → D → Bool) (elect : Elect L)
       → BeginFresh term_length steps
       → recover_error same start.fresh start.floor start.now [] ≡ None
       → IsRun same elect (started same elect start.fresh start.floor start.now) steps replies end
-      → (last : History K L D) × LeadsTo (recovery start []) steps replies last × IsShown same elect last end
+      → (last : History K L D)
+      × LeadsTo same elect (started same elect start.fresh start.floor start.now) (recovery start []) steps replies last end
+      × IsShown same elect last end

@@ -10,32 +10,17 @@ use Rattle.simplex_member.specs.Calls.{CallFacts, BroadcastNotarization, Broadca
 use Rattle.simplex_member.specs.Entries.{certificate_round}
 use Rattle.simplex_member.specs.Lives.{MemberFacts}
 use Rattle.simplex_member.specs.Recovery.{recover_error}
-use Rattle.simplex_member.specs.Runs.{StepFacts, Calls, Works, IsRun, IsRunFrom}
+use Rattle.simplex_member.specs.Runs.{StepFacts, Calls, IsRun, IsRunFrom}
 use Rattle.simplex_member.specs.Start.{StartFacts, started}
-use Rattle.simplex_member.specs.Work.{WorkCall}
 use Rattle.simplex_laws.specs.Fresh.{IsFresh, BeginFresh}
-
--- a call of a life: any but a restart
-pub data LifeCall (D : Type 0) : Type 0 where
-  Calling : CallFacts D → LifeCall D
-  Working : WorkCall D → LifeCall D
-
-module _ {K L D : Type 0} where
-  -- as the step of a run
-  abbrev pub as_step : LifeCall D → StepFacts K L D
-  as_step (Calling call) = Calls call
-  as_step (Working call) = Works call
-
-  abbrev pub as_steps : List (LifeCall D) → List (StepFacts K L D)
-  as_steps calls = map (λ call. as_step call) calls
 
 module _ {K L D : Type 0} (same : D → D → Bool) (elect : Elect L) where
   -- calls within one life, one reply a call: a run without a restart
-  abbrev pub IsLife : MemberFacts K L D → List (LifeCall D) → List (Told K D) → MemberFacts K L D → Type 0
-  IsLife m calls replies end = IsRun same elect m (as_steps calls) replies end
+  abbrev pub IsLife : MemberFacts K L D → List (CallFacts D) → List (Told K D) → MemberFacts K L D → Type 0
+  IsLife m calls replies end = IsRun same elect m (map Calls calls) replies end
 
   -- a run from a start leads to a member, and these calls go on from there within its life
-  pub record IsLifeOfRun (start : StartFacts K L D) (steps : List (StepFacts K L D)) (told : List (Told K D)) (m : MemberFacts K L D) (calls : List (LifeCall D)) (replies : List (Told K D)) (end : MemberFacts K L D) : Type 0 where
+  pub record IsLifeOfRun (start : StartFacts K L D) (steps : List (StepFacts K L D)) (told : List (Told K D)) (m : MemberFacts K L D) (calls : List (CallFacts D)) (replies : List (Told K D)) (end : MemberFacts K L D) : Type 0 where
     pub accepted : recover_error same start.fresh start.floor start.now [] ≡ None
     pub reached : IsRun same elect (started same elect start.fresh start.floor start.now) steps told m
     pub life : IsLife m calls replies end
@@ -95,18 +80,17 @@ module _ {D : Type 0} where
 
 module _ {K D : Type 0} where
   -- that view, where the call is told a certificate
-  abbrev pub handed_by : Kind → LifeCall D → Told K D → List ℕ
-  handed_by kind (Calling call) (Handed (Some _)) = asked_by kind call
-  handed_by kind (Calling call) _ = []
-  handed_by kind (Working call) _ = []
+  abbrev pub handed_by : Kind → CallFacts D → Told K D → List ℕ
+  handed_by kind call (Handed (Some _)) = asked_by kind call
+  handed_by kind call _ = []
 
   -- the views whose certificates of this kind are handed out to broadcast, in turn
-  abbrev pub handed_in : Kind → List (LifeCall D) → List (Told K D) → List ℕ
+  abbrev pub handed_in : Kind → List (CallFacts D) → List (Told K D) → List ℕ
   handed_in kind (call ∷ calls) (told ∷ replies) = handed_by kind call told ++ handed_in kind calls replies
   handed_in kind _ _ = []
 
   -- none is handed out twice
-  abbrev pub HandedOnce : List (LifeCall D) → List (Told K D) → Type 0
+  abbrev pub HandedOnce : List (CallFacts D) → List (Told K D) → Type 0
   HandedOnce calls replies = (kind : Kind) → IsDistinct nat_eq (handed_in kind calls replies)
 
 module _ {D : Type 0} where
@@ -122,21 +106,20 @@ module _ {K D : Type 0} where
       (kind : Kind) (v : ℕ) (c : CertificateFacts D) → asked_by kind call ≡ v ∷ [] → told ≡ Handed (Some c) → (kind_of c ≡ kind) × ((certificate_round c).view ≡ v)
 
   -- so it is of each call
-  abbrev pub HandedAsAsked : List (LifeCall D) → List (Told K D) → Type 0
-  HandedAsAsked (Calling call ∷ calls) (told ∷ replies) = IsAsAsked call told × HandedAsAsked calls replies
-  HandedAsAsked (Working call ∷ calls) (told ∷ replies) = HandedAsAsked calls replies
+  abbrev pub HandedAsAsked : List (CallFacts D) → List (Told K D) → Type 0
+  HandedAsAsked (call ∷ calls) (told ∷ replies) = IsAsAsked call told × HandedAsAsked calls replies
   HandedAsAsked _ _ = Unit {0}
 
 module _ (K : Type 0) {L D : Type 0} (same : D → D → Bool) (elect : Elect L) where
   -- of each life, of whatever member
-  abbrev pub OfEachLife : (MemberFacts K L D → List (LifeCall D) → List (Told K D) → MemberFacts K L D → Type 0) → Type 0
+  abbrev pub OfEachLife : (MemberFacts K L D → List (CallFacts D) → List (Told K D) → MemberFacts K L D → Type 0) → Type 0
   OfEachLife Holds =
-      (m end : MemberFacts K L D) (calls : List (LifeCall D)) (replies : List (Told K D)) → IsLife same elect m calls replies end → Holds m calls replies end
+      (m end : MemberFacts K L D) (calls : List (CallFacts D)) (replies : List (Told K D)) → IsLife same elect m calls replies end → Holds m calls replies end
 
   -- of each stretch of a life that a run leads to, where each life begins freshly
-  abbrev pub OfEachStretch : (MemberFacts K L D → List (LifeCall D) → List (Told K D) → MemberFacts K L D → Type 0) → Type 0
+  abbrev pub OfEachStretch : (MemberFacts K L D → List (CallFacts D) → List (Told K D) → MemberFacts K L D → Type 0) → Type 0
   OfEachStretch Holds =
-      (term_length : ℕ) (start : StartFacts K L D) (before : List (StepFacts K L D)) (told : List (Told K D)) (m end : MemberFacts K L D) (calls : List (LifeCall D)) (replies : List (Told K D))
+      (term_length : ℕ) (start : StartFacts K L D) (before : List (StepFacts K L D)) (told : List (Told K D)) (m end : MemberFacts K L D) (calls : List (CallFacts D)) (replies : List (Told K D))
       → IsFresh term_length start.fresh
       → BeginFresh term_length before
       → IsLifeOfRun same elect start before told m calls replies end
@@ -154,8 +137,8 @@ module _ (K : Type 0) {L D : Type 0} (same : D → D → Bool) (elect : Elect L)
   -- calls of a run with no restart among them are such a stretch
   abbrev pub StretchesAreLives : Type 0
   StretchesAreLives =
-      (start : StartFacts K L D) (before after : List (StepFacts K L D)) (calls : List (LifeCall D)) (told replies rest : List (Told K D))
+      (start : StartFacts K L D) (before after : List (StepFacts K L D)) (calls : List (CallFacts D)) (told replies rest : List (Told K D))
       → length before ≡ length told
       → length calls ≡ length replies
-      → IsRunFrom same elect start (before ++ (as_steps calls ++ after)) (told ++ (replies ++ rest))
+      → IsRunFrom same elect start (before ++ (map Calls calls ++ after)) (told ++ (replies ++ rest))
       → (m end : MemberFacts K L D) × IsLifeOfRun same elect start before told m calls replies end

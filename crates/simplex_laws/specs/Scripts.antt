@@ -7,10 +7,9 @@ use Rattle.simplex_types.specs.declared.types.messages.Proposal.{Proposal}
 use Rattle.simplex_types.specs.declared.types.numbers.Round.{Round}
 use Rattle.simplex_voter.specs.Facts.{Facts, Settings, Elect, new_facts}
 use Rattle.simplex_voter.specs.declared.voter.verification.Verify.TheVariants.{Ready}
-use Rattle.simplex_member.specs.Calls.{AddNotarization, AddNullification, AddFinalization, Certified, ConstructNullify, ConstructFinalize, Told, Added, Judged, Nullify, Finalize, Notarize, Standing, Answered, Restarted}
-use Rattle.simplex_member.specs.Runs.{Calls, Works, Restarts}
+use Rattle.simplex_member.specs.Calls.{AddNotarization, AddNullification, AddFinalization, SetProposal, TryVerify, Verified, ConstructNotarize, Certified, ConstructNullify, ConstructFinalize, Told, Added, Judged, Nullify, Finalize, Notarize, Standing, Answered, Restarted}
+use Rattle.simplex_member.specs.Runs.{Calls, Restarts}
 use Rattle.simplex_member.specs.Start.{StartFacts}
-use Rattle.simplex_member.specs.Work.{SetProposal, TryVerify, Verified, ConstructNotarize}
 use Rattle.simplex_laws.specs.Places.{Place, Faulty, Honest}
 use Rattle.simplex_laws.specs.Stories.{Story}
 
@@ -94,17 +93,17 @@ abbrev pub patient : ℕ → Story ℕ ℕ ℕ
 patient me = record {
   start = start_at 5 (Genesis 0) me;
   steps =
-      Works (SetProposal 1 one)
-      ∷ Works TryVerify
-      ∷ Works (Verified 1)
-      ∷ Works (ConstructNotarize 1)
+      Calls (SetProposal 1 one)
+      ∷ Calls TryVerify
+      ∷ Calls (Verified 1)
+      ∷ Calls (ConstructNotarize 1)
       ∷ Calls (AddNotarization (certificate one))
       ∷ Calls (Certified 1 true 0)
       ∷ Calls (ConstructFinalize 1)
-      ∷ Works (SetProposal 2 two)
-      ∷ Works TryVerify
-      ∷ Works (Verified 2)
-      ∷ Works (ConstructNotarize 2)
+      ∷ Calls (SetProposal 2 two)
+      ∷ Calls TryVerify
+      ∷ Calls (Verified 2)
+      ∷ Calls (ConstructNotarize 2)
       ∷ Calls (AddNotarization (certificate two))
       ∷ Calls (Certified 2 true 0)
       ∷ Calls (ConstructFinalize 2)
@@ -133,10 +132,10 @@ abbrev pub forgetful : Story ℕ ℕ ℕ
 forgetful = record {
   start = start_at 5 (Genesis 0) 2;
   steps =
-      Works (SetProposal 1 one)
-      ∷ Works TryVerify
-      ∷ Works (Verified 1)
-      ∷ Works (ConstructNotarize 1)
+      Calls (SetProposal 1 one)
+      ∷ Calls TryVerify
+      ∷ Calls (Verified 1)
+      ∷ Calls (ConstructNotarize 1)
       ∷ Calls (AddNotarization (certificate one))
       ∷ Calls (Certified 1 true 0)
       ∷ Calls (ConstructFinalize 1)
@@ -144,10 +143,10 @@ forgetful = record {
       ∷ Restarts (record { drop = 5; prune = true; start = start_at 5 (Genesis 0) 2 })
       ∷ Calls (ConstructFinalize 1)
       ∷ Calls (AddFinalization (certificate one) 0)
-      ∷ Works (SetProposal 2 two)
-      ∷ Works TryVerify
-      ∷ Works (Verified 2)
-      ∷ Works (ConstructNotarize 2)
+      ∷ Calls (SetProposal 2 two)
+      ∷ Calls TryVerify
+      ∷ Calls (Verified 2)
+      ∷ Calls (ConstructNotarize 2)
       ∷ Calls (AddNotarization (certificate two))
       ∷ Calls (Certified 2 true 0)
       ∷ Calls (ConstructFinalize 2)
@@ -224,18 +223,18 @@ abbrev pub skipping : ℕ → Story ℕ ℕ ℕ
 skipping me = record {
   start = start_at 1 (Genesis 0) me;
   steps =
-      Works (SetProposal 1 one)
-      ∷ Works TryVerify
-      ∷ Works (Verified 1)
-      ∷ Works (ConstructNotarize 1)
+      Calls (SetProposal 1 one)
+      ∷ Calls TryVerify
+      ∷ Calls (Verified 1)
+      ∷ Calls (ConstructNotarize 1)
       ∷ Calls (AddNotarization (certificate one))
       ∷ Calls (Certified 1 true 0)
       ∷ Calls (ConstructNullify 2)
       ∷ Calls (AddNullification (nullification 2) 0)
-      ∷ Works (SetProposal 3 (proposal 3 1))
-      ∷ Works TryVerify
-      ∷ Works (Verified 3)
-      ∷ Works (ConstructNotarize 3)
+      ∷ Calls (SetProposal 3 (proposal 3 1))
+      ∷ Calls TryVerify
+      ∷ Calls (Verified 3)
+      ∷ Calls (ConstructNotarize 3)
       ∷ Calls (AddNotarization (certificate (proposal 3 1)))
       ∷ Calls (Certified 3 true 0)
       ∷ Calls (ConstructFinalize 3)

@@ -8,7 +8,7 @@ use Rattle.simplex_laws.specs.Deeds.{Deed, of_floor, deeds_of_steps}
 use Rattle.simplex_laws.specs.Fresh.{IsFresh, BeginFresh}
 use Rattle.simplex_laws.specs.Lawful.{IsLawful}
 
--- a start, then steps, each with its reply: calls, calls on the work of a view, restarts
+-- a start, then steps, each with its reply: calls and restarts
 pub record Story (K L D : Type 0) : Type 0 where
   pub start : StartFacts K L D
   pub steps : List (StepFacts K L D)

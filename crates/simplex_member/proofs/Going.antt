@@ -1,4 +1,4 @@
--- A call that was made leaves a state that goes on: it has not failed, and its current view is no genesis.
+-- What is made of a state leaves one that goes on: it has not failed, and its current view is no genesis.
 use Rattle.std.proofs.Common.{◌≡◌, refl, ap, ◌∙◌, ℕ, ◌+◌, ◌-◌, Bool, true, false, ◌&&◌, not, if◌then◌else◌, nat_lt, nat_le, List, [], ◌∷◌, Option, Some, None, ◌≤◌, is_some, arith}
 use Rattle.std.proofs.lemmas.Bool.Decides.{nat_tests}
 use Rattle.std.specs.List.{fold}
@@ -19,7 +19,6 @@ use Rattle.simplex_voter.specs.Certification.{named_also, raised, waits_for, wok
 use Rattle.simplex_voter.specs.Acceptance.{nullified_also, with_notarization_at, with_nullification_at, with_finalization_at, after_add_notarization, after_add_nullification, after_add_finalization, after_set_floor}
 use Rattle.simplex_voter.specs.Rules.{may_nullify, may_finalize}
 use Rattle.simplex_voter.specs.Votes.{nullify_cast, finalize_cast, after_construct_nullify, after_construct_finalize}
-use Rattle.simplex_member.specs.Calls.{CallFacts, AddNotarization, AddNullification, AddFinalization, Certified, ConstructNullify, ConstructFinalize, BroadcastNotarization, BroadcastNullification, BroadcastFinalization, GetBestCertificate, Prune, after_call}
 
 -- what a call keeps
 pub record Goes {K L D : Type 0} (x y : Facts K L D) : Type 0 where
@@ -184,20 +183,3 @@ module _ {K L D : Type 0} (same : D → D → Bool) (elect : Elect L) where
       let g = elected_goes elect y 1 None in
       (g.failed ∙ (entered_goes noted 1 now).failed ∙ going, g.started (reached noted 1 now (omega arith)))
   floor_goes x (Finalized c) now going = ((finalization_goes same elect x c now).failed ∙ going, finalization_starts x c now)
-
-module _ {K L D : Type 0} (same : D → D → Bool) (elect : Elect L) where
-  pub goes : (x : Facts K L D) (call : CallFacts D) → Goes x (after_call same elect x call)
-  goes x (AddNotarization c) = notarization_goes same elect x c
-  goes x (AddNullification c now) = nullification_goes elect x c now
-  goes x (AddFinalization c now) = finalization_goes same elect x c now
-  goes x (Certified v success now) = certified_goes elect x v success now
-  goes x (ConstructNullify v) = nullify_goes x v
-  goes x (ConstructFinalize v) = finalize_goes elect x v
-  goes x (BroadcastNotarization v) = tracked_goes x v _
-  goes x (BroadcastNullification v) = tracked_goes x v _
-  goes x (BroadcastFinalization v) = tracked_goes x v _
-  goes x GetBestCertificate = stays x
-  goes x Prune = record { failed = refl; settings = refl; terms = refl; started = λ h. h }
-
-  pub goes_on : (x : Facts K L D) (call : CallFacts D) (y : Facts K L D) → y ≡ after_call same elect x call → x.failed ≡ false → is_started x ≡ true → (y.failed ≡ false) × (is_started y ≡ true)
-  goes_on x call y made failed started = let g = goes x call in (ap (λ z. z.failed) made ∙ g.failed ∙ failed, ap is_started made ∙ g.started started)

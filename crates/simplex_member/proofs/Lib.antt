@@ -16,6 +16,6 @@ pub mod EntryRules
 pub mod Bearing
 pub mod Allowing
 pub mod Remaking
-pub mod Working
+pub mod GoingCalls
 pub mod Answering
 pub mod Opening

@@ -5,13 +5,14 @@ pub mod Seen
 pub mod Cuts
 pub mod Recovery
 pub mod Calls
+pub mod Allowed
 pub mod Signed
 pub mod Openings
+pub mod Made
 pub mod Lives
-pub mod Work
 pub mod Start
 pub mod Restarts
 pub mod Journal
 pub mod Remade
 pub mod Runs
-pub mod Made
+pub mod Parts

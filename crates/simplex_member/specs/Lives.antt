@@ -4,8 +4,10 @@ use Rattle.simplex_types.specs.Certificates.{ArtifactFacts}
 use Rattle.simplex_types.specs.declared.types.fault.Fault.{Fault}
 use Rattle.simplex_types.specs.declared.types.fault.Fault.TheVariants as fault
 use Rattle.simplex_voter.specs.Facts.{Facts, Elect}
-use Rattle.simplex_member.specs.Openings.{Openings, no_openings, without_offer}
-use Rattle.simplex_member.specs.Calls.{CallFacts, Certified, Told, Refused, NotAllowed, is_allowed, fault_of, may_fall, may_want, answer, after_call, recorded_by}
+use Rattle.simplex_member.specs.Allowed.{is_allowed, fault_of, may_fall, may_want}
+use Rattle.simplex_member.specs.Calls.{CallFacts, Told, Refused, NotAllowed}
+use Rattle.simplex_member.specs.Made.{answer, after_call, openings_after, recorded_by}
+use Rattle.simplex_member.specs.Openings.{Openings, no_openings}
 
 pub record MemberFacts (K L D : Type 0) : Type 0 where
   -- what its state knows; none while the member has failed
@@ -29,11 +31,6 @@ living failed x = if failed then None else Some x
 abbrev pub open_while : {K D : Type 0} → Bool → Openings K D → Openings K D
 open_while failed o = if failed then no_openings else o
 
--- the verdict of a view's certification closes its offer
-abbrev pub closed_by : {K D : Type 0} → Openings K D → CallFacts D → Openings K D
-closed_by o (Certified v _ _) = without_offer o v
-closed_by o _ = o
-
 module _ {K D : Type 0} where
   -- told, unless a fault is due
   abbrev pub unless_refused : Option Fault → Told K D → Told K D
@@ -52,27 +49,26 @@ module _ {K L D : Type 0} where
 
 module _ {K L D : Type 0} (same : D → D → Bool) (elect : Elect L) where
   -- what a living member tells
-  abbrev pub reply_of : Facts K L D → CallFacts D → Told K D
-  reply_of x call =
-      if is_allowed x call then unless_refused (fault_of x call) (answer same elect x call) else NotAllowed
+  abbrev pub reply_of : Facts K L D → Openings K D → CallFacts D → Told K D
+  reply_of x o call = if is_allowed x o call then unless_refused (fault_of x call) (answer same elect x o call) else NotAllowed
 
   -- with what a call makes of the state and of what is open, and with what the record grows by
   abbrev pub with_call : Facts K L D → MemberFacts K L D → CallFacts D → MemberFacts K L D
   with_call x m call = record m {
-    life = Some (after_call same elect x call);
-    openings = closed_by m.openings call;
+    life = Some (after_call same elect x m.openings call);
+    openings = openings_after same elect x m.openings call;
     entries = m.entries ++ recorded_by same elect x call;
   }
 
   -- what is left of a living member
   abbrev pub left_of : Facts K L D → MemberFacts K L D → CallFacts D → MemberFacts K L D
-  left_of x m call = if is_allowed x call then unless_kept (fault_of x call) m (with_call x m call) else m
+  left_of x m call = if is_allowed x m.openings call then unless_kept (fault_of x call) m (with_call x m call) else m
 
   -- a living member answers by the definitions; or a growth was refused, and nothing has changed or the member has failed
   abbrev pub Answers : Facts K L D → MemberFacts K L D → CallFacts D → Told K D → MemberFacts K L D → Type 0
   Answers x m call told left =
-      ((told ≡ reply_of x call) × (left ≡ left_of x m call))
-      ⊎ ((may_want x call && is_allowed x call ≡ true) × (told ≡ Refused fault.OutOfMemory)
+      ((told ≡ reply_of x m.openings call) × (left ≡ left_of x m call))
+      ⊎ ((may_want x call && is_allowed x m.openings call ≡ true) × (told ≡ Refused fault.OutOfMemory)
       × ((left ≡ m) ⊎ ((fault_of x call ≡ None) × (may_fall call ≡ true) × (left ≡ fallen m))))
 
   abbrev pub AnswersAlive : Option (Facts K L D) → MemberFacts K L D → CallFacts D → Told K D → MemberFacts K L D → Type 0

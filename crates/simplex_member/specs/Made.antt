@@ -1,171 +1,137 @@
--- The parts of a call: what either kind of call asks and makes, the families of calls, how a part ends without an answer, and
--- what is opened and closed. No public clause names this.
-use Rattle.std.specs.Prelude.{◌≡◌, ◌⊎◌, Bool, true, false, ◌&&◌, if◌then◌else◌, List, [], Option, Some, None}
-use Rattle.simplex_types.specs.Certificates.{ArtifactFacts}
-use Rattle.simplex_types.specs.declared.types.fault.Fault.{Fault}
-use Rattle.simplex_types.specs.declared.types.fault.Fault.TheVariants.{OutOfMemory}
-use Rattle.simplex_voter.specs.Facts.{Facts, Elect}
-use Rattle.simplex_voter.specs.Certification.{takes_certify_handle}
-use Rattle.simplex_voter.specs.Timeouts.{has_timeout}
-use Rattle.simplex_voter.specs.Verifying.{takes_proposal}
-use Rattle.simplex_member.specs.Openings.{Openings, no_openings, without_context, with_request, without_verification, with_verification, without_offer, with_offers}
-use Rattle.simplex_member.specs.Work.{SetProposal, SetCertifyHandle, NextTimeout, work_allowed, work_fault, work_answer, after_work, recorded_by_work, openings_after, takes_memory}
-use Rattle.simplex_member.specs.Calls.{Told, Answered, Requested, Standing, Candidates, Restarted, is_allowed, fault_of, may_fall, may_want, answer, after_call, recorded_by}
-use Rattle.simplex_member.specs.Lives.{closed_by}
-use Rattle.simplex_member.specs.Runs.{StepFacts, Calls, Works, Restarts}
-use Rattle.simplex_member.specs.declared.member.calls.Call.{Call}
-use Rattle.simplex_member.specs.declared.member.calls.Call.TheVariants as call
-use Rattle.simplex_member.specs.declared.member.serving.Family.{Family}
-use Rattle.simplex_member.specs.declared.member.serving.Family.TheVariants as family
-use Rattle.simplex_member.specs.declared.member.closing.Closing.{Closing}
-use Rattle.simplex_member.specs.declared.member.closing.Closing.TheVariants as closing
-use Rattle.simplex_member.specs.declared.member.call_error.CallError.{CallError}
-use Rattle.simplex_member.specs.declared.member.call_error.CallError.TheVariants.{Refused, Lost}
-
--- what the state's fault makes of the call
-abbrev pub call_error : Fault → CallError
-call_error OutOfMemory = Lost
-call_error fault = Refused fault
+-- What a call is told that is allowed and not refused, and what it makes of the state, of what is open and of the record.
+use Rattle.std.specs.Prelude.{ℕ, Bool, false, if◌then◌else◌, List, [], ◌∷◌, Option, Some, None, option_map, option_and_then}
+use Rattle.std.specs.Option.{option_map_or}
+use Rattle.simplex_types.specs.Certificates.{Notarized, Nullified, Finalized, ArtifactFacts, NotarizeVote, NullifyVote, FinalizeVote, Verdict, Accepted}
+use Rattle.simplex_voter.specs.Facts.{Facts, Elect, round_number}
+use Rattle.simplex_voter.specs.Acceptance.{notarization_added, nullification_added, finalization_added, after_add_notarization, after_add_nullification, after_add_finalization}
+use Rattle.simplex_voter.specs.Certification.{candidates_answer, after_candidates, after_set_certify_handle, is_first_verdict, certified_answer, after_certified}
+use Rattle.simplex_voter.specs.Proposing.{propose_answer, after_try_propose, proposed_answer, after_proposed, supersede_answer, after_supersede, abandonment_answer, after_release}
+use Rattle.simplex_voter.specs.Serving.{broadcast_notarization_answer, after_broadcast_notarization, broadcast_nullification_answer, after_broadcast_nullification, broadcast_finalization_answer, after_broadcast_finalization, best_certificate, prune_answer, after_prune}
+use Rattle.simplex_voter.specs.Timeouts.{after_trigger_timeout, next_timeout_answer, after_next_timeout}
+use Rattle.simplex_voter.specs.Verifying.{set_proposal_answer, after_set_proposal, verify_answer, after_try_verify, verified_answer, after_verified, after_verification_failed}
+use Rattle.simplex_voter.specs.Votes.{notarize_answer, after_construct_notarize, nullify_answer, after_construct_nullify, finalize_answer, after_construct_finalize}
+use Rattle.simplex_member.specs.Calls.{CallFacts, AddNotarization, AddNullification, AddFinalization, SetProposal, TryPropose, Proposed, SupersedeProposalRequest, PendingHandoffAbandonment, ReleaseProposalRequest, TryVerify, Verified, VerificationFailed, ConstructNotarize, CertifyCandidates, SetCertifyHandle, Certified, ConstructNullify, ConstructFinalize, BroadcastNotarization, BroadcastNullification, BroadcastFinalization, GetBestCertificate, TriggerTimeout, NextTimeout, Prune, Told, Added, Judged, Nullify, Finalize, Notarize, Handed, Dropped, Requested, Standing, Answered, Abandoned, Candidates, TimesOut, Done}
+use Rattle.simplex_member.specs.Openings.{Openings, context_at, without_context, with_request, without_verification, with_verification, without_offer, with_offers}
 
 module _ {K L D : Type 0} where
-  -- what is asked by a call, told, made and recorded, of either kind of call; a restart is no call
+  -- the vote to nullify a view that is answered, with whether it is a repeat
+  abbrev pub nullify_vote : Facts K L D → ℕ → Option (Bool × ArtifactFacts D)
+  nullify_vote x v =
+      option_and_then
+      (λ m. option_map
+      (λ retry. (retry, NullifyVote (round_number x v) m))
+      (nullify_answer x v))
+      x.me
 
-  abbrev pub is_permitted : Facts K L D → Openings K D → StepFacts K L D → Bool
-  is_permitted x o (Calls call) = is_allowed x call
-  is_permitted x o (Works call) = work_allowed x o call
-  is_permitted x o (Restarts _) = false
-
-  -- what a call asks of the state alone
-  abbrev pub is_ready : Facts K L D → StepFacts K L D → Bool
-  is_ready x (Calls call) = is_allowed x call
-  is_ready x (Works (SetProposal v p)) = takes_proposal x v p
-  is_ready x (Works (SetCertifyHandle v _)) = takes_certify_handle x v
-  is_ready x (Works (NextTimeout _)) = has_timeout x
-  is_ready x _ = true
-
-  abbrev pub due_fault : Facts K L D → StepFacts K L D → Option Fault
-  due_fault x (Calls call) = fault_of x call
-  due_fault x (Works call) = work_fault x call
-  due_fault x (Restarts _) = None
-
-  abbrev pub is_restart : StepFacts K L D → Bool
-  is_restart (Restarts _) = true
-  is_restart _ = false
-
-  -- whether it may find no memory, and whether the state may be lost then
-  abbrev pub wants_memory : Facts K L D → StepFacts K L D → Bool
-  wants_memory x (Calls call) = may_want x call
-  wants_memory x (Works call) = takes_memory call
-  wants_memory x (Restarts _) = false
-
-  abbrev pub loses_state : Facts K L D → StepFacts K L D → Bool
-  loses_state x (Calls call) = may_fall call && may_want x call
-  loses_state x (Works call) = takes_memory call
-  loses_state x (Restarts _) = false
+module _ {K L D : Type 0} (elect : Elect L) where
+  -- the vote to finalize a view that is answered
+  abbrev pub finalize_vote : Facts K L D → ℕ → Option (ArtifactFacts D)
+  finalize_vote x v =
+      option_and_then
+      (λ m. option_map (λ p. FinalizeVote p m) (finalize_answer elect x v))
+      x.me
 
 module _ {K L D : Type 0} (same : D → D → Bool) (elect : Elect L) where
-  abbrev pub answer_to : Facts K L D → Openings K D → StepFacts K L D → Told K D
-  answer_to x o (Calls call) = answer same elect x call
-  answer_to x o (Works call) = work_answer same elect x o call
-  answer_to x o (Restarts _) = Restarted
+  -- the vote to notarize a view that is answered
+  abbrev pub notarize_vote : Facts K L D → ℕ → Option (ArtifactFacts D)
+  notarize_vote x v =
+      option_and_then
+      (λ m. option_map (λ p. NotarizeVote p m) (notarize_answer same elect x v))
+      x.me
 
-  abbrev pub after_asked : Facts K L D → Openings K D → StepFacts K L D → Facts K L D
-  after_asked x o (Calls call) = after_call same elect x call
-  after_asked x o (Works call) = after_work same elect x o call
-  after_asked x o (Restarts _) = x
+-- what is newly there
+abbrev pub newly : {D : Type 0} → Bool → ArtifactFacts D → List (ArtifactFacts D)
+newly is_new e = if is_new then e ∷ [] else []
 
-  abbrev pub recorded_for : Facts K L D → StepFacts K L D → List (ArtifactFacts D)
-  recorded_for x (Calls call) = recorded_by same elect x call
-  recorded_for x (Works call) = recorded_by_work same elect x call
-  recorded_for x (Restarts _) = []
+-- a vote that is no repeat
+abbrev pub first_vote : {D : Type 0} → Option (Bool × ArtifactFacts D) → List (ArtifactFacts D)
+first_vote None = []
+first_vote (Some (retry, vote)) = if retry then [] else vote ∷ []
 
-  abbrev pub openings_left : Facts K L D → Openings K D → StepFacts K L D → Openings K D
-  openings_left x o (Calls call) = closed_by o call
-  openings_left x o (Works call) = openings_after same elect x o call
-  openings_left x o (Restarts _) = no_openings
+abbrev pub vote_entry : {D : Type 0} → Option (ArtifactFacts D) → List (ArtifactFacts D)
+vote_entry None = []
+vote_entry (Some vote) = vote ∷ []
 
--- want of memory, where there may be any
-abbrev pub IsWant : Bool → Fault → Type 0
-IsWant true fault = fault ≡ OutOfMemory
-IsWant false fault = ⊥
+module _ {K L D : Type 0} (same : D → D → Bool) (elect : Elect L) where
+  -- what a call is told
+  abbrev pub answer : Facts K L D → Openings K D → CallFacts D → Told K D
+  answer x o (AddNotarization c) = Added (notarization_added same elect x c).0 (notarization_added same elect x c).1
+  answer x o (AddNullification c _) = Added (nullification_added x c) None
+  answer x o (AddFinalization c _) = Added (finalization_added same elect x c).0 (finalization_added same elect x c).1
+  answer x o (SetProposal v p) = Answered (set_proposal_answer x v)
+  answer x o TryPropose = Requested (propose_answer same elect x)
+  answer x o (Proposed v payload _) = Answered (option_map_or (λ context. proposed_answer same elect x context payload) (context_at o v) false)
+  answer x o (SupersedeProposalRequest v) = Answered (option_map_or (λ context. supersede_answer same elect x context) (context_at o v) false)
+  answer x o (PendingHandoffAbandonment v) = Abandoned (option_map_or (λ context. abandonment_answer same elect x context) (context_at o v) None)
+  answer x o (ReleaseProposalRequest _) = Done
+  answer x o TryVerify = Standing (verify_answer same elect x)
+  answer x o (Verified v) = Answered (verified_answer same elect x v)
+  answer x o (VerificationFailed _ _ _) = Done
+  answer x o (ConstructNotarize v) = Notarize (notarize_vote same elect x v)
+  answer x o CertifyCandidates = Candidates (candidates_answer same elect x).0 (candidates_answer same elect x).1
+  answer x o (SetCertifyHandle _ _) = Done
+  answer x o (Certified v _ _) = Judged (certified_answer x v)
+  answer x o (ConstructNullify v) = Nullify (nullify_vote x v)
+  answer x o (ConstructFinalize v) = Finalize (finalize_vote elect x v)
+  answer x o (BroadcastNotarization v) = Handed (option_map Notarized (broadcast_notarization_answer x v))
+  answer x o (BroadcastNullification v) = Handed (option_map Nullified (broadcast_nullification_answer x v))
+  answer x o (BroadcastFinalization v) = Handed (option_map Finalized (broadcast_finalization_answer x v))
+  answer x o GetBestCertificate = Handed (best_certificate x)
+  answer x o (TriggerTimeout _ _ _) = Done
+  answer x o (NextTimeout now) = TimesOut (next_timeout_answer x now)
+  answer x o Prune = Dropped (prune_answer x)
 
--- the state is lost, where it may be and no fault was due
-abbrev pub IsLoss : Bool → Option Fault → Type 0
-IsLoss true due = due ≡ None
-IsLoss false due = ⊥
+module _ {K L D : Type 0} (same : D → D → Bool) (elect : Elect L) where
+  -- what it makes of the state
+  abbrev pub after_call : Facts K L D → Openings K D → CallFacts D → Facts K L D
+  after_call x o (AddNotarization c) = after_add_notarization same elect x c
+  after_call x o (AddNullification c now) = after_add_nullification elect x c now
+  after_call x o (AddFinalization c now) = after_add_finalization same elect x c now
+  after_call x o (SetProposal v p) = after_set_proposal same elect x v p
+  after_call x o TryPropose = after_try_propose same elect x
+  after_call x o (Proposed v payload now) = option_map_or (λ context. after_proposed same elect x context payload now) (context_at o v) x
+  after_call x o (SupersedeProposalRequest v) = option_map_or (λ context. after_supersede same elect x context) (context_at o v) x
+  after_call x o (PendingHandoffAbandonment _) = x
+  after_call x o (ReleaseProposalRequest v) = after_release x v
+  after_call x o TryVerify = after_try_verify same elect x
+  after_call x o (Verified v) = after_verified same elect x v
+  after_call x o (VerificationFailed v reason now) = after_verification_failed same elect x v reason now
+  after_call x o (ConstructNotarize v) = after_construct_notarize same elect x v
+  after_call x o CertifyCandidates = after_candidates x
+  after_call x o (SetCertifyHandle v token) = after_set_certify_handle x v token
+  after_call x o (Certified v success now) = after_certified elect x v success now
+  after_call x o (ConstructNullify v) = after_construct_nullify x v
+  after_call x o (ConstructFinalize v) = after_construct_finalize elect x v
+  after_call x o (BroadcastNotarization v) = after_broadcast_notarization x v
+  after_call x o (BroadcastNullification v) = after_broadcast_nullification x v
+  after_call x o (BroadcastFinalization v) = after_broadcast_finalization x v
+  after_call x o GetBestCertificate = x
+  after_call x o (TriggerTimeout v reason now) = after_trigger_timeout x v reason now
+  after_call x o (NextTimeout now) = after_next_timeout x now
+  after_call x o Prune = after_prune x
 
-module _ {K L D : Type 0} where
-  -- refused for the fault that was due or, where it may want memory, for that, with all as it was; or the state is lost,
-  -- where it may be and no fault was due
-  abbrev pub Ends : (wants loses : Bool) → Option Fault → Facts K L D → Facts K L D → CallError → Type 0
-  Ends wants loses due x y (Refused fault) = ((due ≡ Some fault) ⊎ IsWant wants fault) × (y ≡ x)
-  Ends wants loses due x y Lost = IsLoss loses due
+  -- what is open then: a request opens a view's context, which is closed once a payload was built in it, or the request was
+  -- superseded or released; a proposal to verify is open until its answer, and an offer until its verdict
+  abbrev pub openings_after : Facts K L D → Openings K D → CallFacts D → Openings K D
+  openings_after x o TryPropose = with_request o (propose_answer same elect x)
+  openings_after x o (Proposed v _ _) = without_context o v
+  openings_after x o (SupersedeProposalRequest v) =
+      if option_map_or (λ context. supersede_answer same elect x context) (context_at o v) false then without_context o v else o
+  openings_after x o (ReleaseProposalRequest v) = without_context o v
+  openings_after x o TryVerify = with_verification o (verify_answer same elect x)
+  openings_after x o (Verified v) = without_verification o v
+  openings_after x o (VerificationFailed v _ _) = without_verification o v
+  openings_after x o CertifyCandidates = with_offers o (candidates_answer same elect x).0
+  openings_after x o (Certified v _ _) = without_offer o v
+  openings_after x o _ = o
 
-  abbrev pub EndsBy : Option Fault → Facts K L D → Facts K L D → CallError → Type 0
-  EndsBy due x y error = Ends true true due x y error
-
-  abbrev pub EndsCall : StepFacts K L D → Facts K L D → Facts K L D → CallError → Type 0
-  EndsCall step x y error = Ends (wants_memory x step) (loses_state x step) (due_fault x step) x y error
-
-module _ {S D K G C : Type 0} where
-  -- the families of calls
-  abbrev pub family_of : Call S D K G C → Family
-  family_of (call.AddNotarization _) = family.Certificates
-  family_of (call.AddNullification _ _) = family.Certificates
-  family_of (call.AddFinalization _ _) = family.Certificates
-  family_of (call.SetProposal _ _) = family.Verifications
-  family_of call.TryPropose = family.Proposals
-  family_of (call.Proposed _ _ _) = family.Proposals
-  family_of (call.SupersedeProposalRequest _) = family.Proposals
-  family_of (call.PendingHandoffAbandonment _) = family.Proposals
-  family_of (call.ReleaseProposalRequest _) = family.Proposals
-  family_of call.TryVerify = family.Verifications
-  family_of (call.Verified _) = family.Verifications
-  family_of (call.VerificationFailed _ _ _) = family.Verifications
-  family_of (call.ConstructNotarize _) = family.Votes
-  family_of call.CertifyCandidates = family.Certifications
-  family_of (call.SetCertifyHandle _ _) = family.Certifications
-  family_of (call.Certified _ _ _) = family.Certifications
-  family_of (call.ConstructNullify _ _) = family.Votes
-  family_of (call.ConstructFinalize _) = family.Votes
-  family_of (call.BroadcastNotarization _) = family.Servings
-  family_of (call.BroadcastNullification _) = family.Servings
-  family_of (call.BroadcastFinalization _) = family.Servings
-  family_of call.GetBestCertificate = family.Servings
-  family_of (call.TriggerTimeout _ _ _) = family.Timeouts
-  family_of (call.NextTimeout _) = family.Timeouts
-  family_of call.Prune = family.Servings
-
-  -- what a call closes of what is open, once it is answered
-  abbrev pub closing_of : Call S D K G C → Closing
-  closing_of (call.Certified v _ _) = closing.Offer v
-  closing_of (call.Proposed v _ _) = closing.Context v
-  closing_of (call.SupersedeProposalRequest v) = closing.ContextIfTrue v
-  closing_of (call.ReleaseProposalRequest v) = closing.Context v
-  closing_of (call.Verified v) = closing.Verification v
-  closing_of (call.VerificationFailed v _ _) = closing.Verification v
-  closing_of _ = closing.Nothing
-
-module _ {K D : Type 0} where
-  -- what is left open by what a call closes, with what it was told
-  abbrev pub left_open : Openings K D → Closing → Told K D → Openings K D
-  left_open o (closing.Offer v) told = without_offer o v
-  left_open o (closing.Context v) told = without_context o v
-  left_open o (closing.ContextIfTrue v) (Answered taken) = if taken then without_context o v else o
-  left_open o (closing.ContextIfTrue v) told = o
-  left_open o (closing.Verification v) told = without_verification o v
-  left_open o closing.Nothing told = o
-
-  -- an answer opens something, or may
-  abbrev pub opens : Told K D → Bool
-  opens (Requested request) = true
-  opens (Standing verify) = true
-  opens (Candidates proposals fetches) = true
-  opens _ = false
-
-  -- what an answer opens
-  abbrev pub now_open : Openings K D → Told K D → Openings K D
-  now_open o (Requested request) = with_request o request
-  now_open o (Standing verify) = with_verification o verify
-  now_open o (Candidates proposals fetches) = with_offers o proposals
-  now_open o _ = o
+  -- what the record grows by: certificates that are newly added, a view's first verdict, votes that are no repeat
+  abbrev pub recorded_by : Facts K L D → CallFacts D → List (ArtifactFacts D)
+  recorded_by x (AddNotarization c) = newly (notarization_added same elect x c).0 (Accepted (Notarized c))
+  recorded_by x (AddNullification c _) = newly (nullification_added x c) (Accepted (Nullified c))
+  recorded_by x (AddFinalization c _) = newly (finalization_added same elect x c).0 (Accepted (Finalized c))
+  recorded_by x (ConstructNotarize v) = vote_entry (notarize_vote same elect x v)
+  recorded_by x (Certified v success _) = newly (is_first_verdict x v) (Verdict (round_number x v) success)
+  recorded_by x (ConstructNullify v) = first_vote (nullify_vote x v)
+  recorded_by x (ConstructFinalize v) = vote_entry (finalize_vote elect x v)
+  recorded_by x _ = []

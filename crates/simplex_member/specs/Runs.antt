@@ -6,52 +6,19 @@ use Rattle.simplex_member.specs.declared.member.error.RecoverError.{RecoverError
 use Rattle.simplex_member.specs.declared.member.error.RecoverError.TheVariants as error
 use Rattle.simplex_member.specs.declared.member.runs.Step.{Step}
 use Rattle.simplex_member.specs.declared.member.runs.Step.TheVariants as step
-use Rattle.simplex_member.specs.declared.member.calls.Call.{Call}
-use Rattle.simplex_member.specs.declared.member.calls.Call.TheVariants as call
-use Rattle.simplex_member.specs.Calls.{CallFacts, AddNotarization, AddNullification, AddFinalization, Certified, ConstructNullify, ConstructFinalize, BroadcastNotarization, BroadcastNullification, BroadcastFinalization, GetBestCertificate, Prune, Told, Restarted, NotRestarted}
-use Rattle.simplex_types.specs.Certificates.{notarization_facts, nullification_facts, finalization_facts}
+use Rattle.simplex_member.specs.Calls.{CallFacts, Told, Restarted, NotRestarted, asked}
 use Rattle.simplex_member.specs.Lives.{MemberFacts, IsCall}
-use Rattle.simplex_member.specs.Work.{WorkCall, SetProposal, TryPropose, Proposed, SupersedeProposalRequest, PendingHandoffAbandonment, ReleaseProposalRequest, TryVerify, Verified, VerificationFailed, ConstructNotarize, CertifyCandidates, SetCertifyHandle, TriggerTimeout, NextTimeout, IsWork}
 use Rattle.simplex_member.specs.Recovery.{recover_error}
 use Rattle.simplex_member.specs.Restarts.{RestartFacts, restart_facts, IsRestart}
 use Rattle.simplex_member.specs.Start.{StartFacts, started}
 
--- a step of a run: a call, one on the work of a view, or a restart
+-- a step of a run: a call, or a restart
 pub data StepFacts (K L D : Type 0) : Type 0 where
   Calls : CallFacts D → StepFacts K L D
-  Works : WorkCall D → StepFacts K L D
   Restarts : RestartFacts K L D → StepFacts K L D
 
--- a call of a member as a step, with each certificate by its facts
-abbrev pub asked : {S L D K G C : Type 0} → (C → List ℕ) → Call S D K G C → StepFacts K L D
-asked bytes_of (call.AddNotarization c) = Calls (AddNotarization (notarization_facts bytes_of c))
-asked bytes_of (call.AddNullification c now) = Calls (AddNullification (nullification_facts bytes_of c) now)
-asked bytes_of (call.AddFinalization c now) = Calls (AddFinalization (finalization_facts bytes_of c) now)
-asked bytes_of (call.SetProposal v p) = Works (SetProposal v p)
-asked bytes_of call.TryPropose = Works TryPropose
-asked bytes_of (call.Proposed v payload now) = Works (Proposed v payload now)
-asked bytes_of (call.SupersedeProposalRequest v) = Works (SupersedeProposalRequest v)
-asked bytes_of (call.PendingHandoffAbandonment v) = Works (PendingHandoffAbandonment v)
-asked bytes_of (call.ReleaseProposalRequest v) = Works (ReleaseProposalRequest v)
-asked bytes_of call.TryVerify = Works TryVerify
-asked bytes_of (call.Verified v) = Works (Verified v)
-asked bytes_of (call.VerificationFailed v reason now) = Works (VerificationFailed v reason now)
-asked bytes_of (call.ConstructNotarize v) = Works (ConstructNotarize v)
-asked bytes_of call.CertifyCandidates = Works CertifyCandidates
-asked bytes_of (call.SetCertifyHandle v token) = Works (SetCertifyHandle v token)
-asked bytes_of (call.Certified v success now) = Calls (Certified v success now)
-asked bytes_of (call.ConstructNullify v _) = Calls (ConstructNullify v)
-asked bytes_of (call.ConstructFinalize v) = Calls (ConstructFinalize v)
-asked bytes_of (call.BroadcastNotarization v) = Calls (BroadcastNotarization v)
-asked bytes_of (call.BroadcastNullification v) = Calls (BroadcastNullification v)
-asked bytes_of (call.BroadcastFinalization v) = Calls (BroadcastFinalization v)
-asked bytes_of call.GetBestCertificate = Calls GetBestCertificate
-asked bytes_of (call.TriggerTimeout v reason now) = Works (TriggerTimeout v reason now)
-asked bytes_of (call.NextTimeout now) = Works (NextTimeout now)
-asked bytes_of call.Prune = Calls Prune
-
 abbrev pub step_facts : {S L D K G C : Type 0} → (S → Option ℕ) → (S → List K) → (L → Terms) → (L → Bool) → (C → List ℕ) → Step S L D K G C → StepFacts K L D
-step_facts me members terms elects_early bytes_of (step.Call call) = asked bytes_of call
+step_facts me members terms elects_early bytes_of (step.Call call) = Calls (asked bytes_of call)
 step_facts me members terms elects_early bytes_of (step.Restart restart) = Restarts (restart_facts me members terms elects_early bytes_of restart)
 
 abbrev pub steps_of : {S L D K G C : Type 0} → (S → Option ℕ) → (S → List K) → (L → Terms) → (L → Bool) → (C → List ℕ) → List (Step S L D K G C) → List (StepFacts K L D)
@@ -81,7 +48,6 @@ module _ {K L D : Type 0} (same : D → D → Bool) (elect : Elect L) where
   -- a call is answered, and a restart succeeds or is refused
   abbrev pub IsStep : MemberFacts K L D → StepFacts K L D → Told K D → MemberFacts K L D → Type 0
   IsStep m (Calls call) told next = IsCall same elect m call told next
-  IsStep m (Works call) told next = IsWork same elect m call told next
   IsStep m (Restarts r) told next =
       (result : Result (Unit {0}) RecoverError) × IsRestart same elect m r result next × (told ≡ restart_told result)
 
@@ -96,7 +62,6 @@ module _ {K L D : Type 0} (same : D → D → Bool) (elect : Elect L) where
   -- a step is a restart that is refused by this error
   abbrev pub IsRefused : MemberFacts K L D → StepFacts K L D → RecoverError → Type 0
   IsRefused m (Calls call) found = ⊥
-  IsRefused m (Works call) found = ⊥
   IsRefused m (Restarts r) found = (left : MemberFacts K L D) × IsRestart same elect m r (Err found) left
 
   -- some step is, and none before it

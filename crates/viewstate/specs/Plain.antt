@@ -7,8 +7,8 @@ use Rattle.simplex_types.specs.declared.types.plain.PlainDigest.{PlainDigest}
 use Rattle.simplex_types.specs.declared.types.plain.PlainElector.{PlainElector}
 use Rattle.simplex_types.specs.declared.types.plain.PlainKey.{PlainKey}
 use Rattle.simplex_types.specs.Plain.{digest_bytes, leader_in_turn}
+use Rattle.simplex_member.specs.Calls.{CallFacts}
 use Rattle.simplex_member.specs.Lives.{MemberFacts}
-use Rattle.simplex_member.specs.Runs.{StepFacts}
 
 abbrev pub same_payload : PlainDigest → PlainDigest → Bool
 same_payload d e = bytes_eq (digest_bytes d) (digest_bytes e)
@@ -23,6 +23,6 @@ plain_bytes c = (if c.good then 1 else 0) ∷ []
 abbrev pub PlainMember : Type 0
 PlainMember = MemberFacts PlainKey PlainElector PlainDigest
 
--- a step of one
-abbrev pub PlainStep : Type 0
-PlainStep = StepFacts PlainKey PlainElector PlainDigest
+-- a call of one
+abbrev pub PlainCall : Type 0
+PlainCall = CallFacts PlainDigest

@@ -10,18 +10,17 @@ use Rattle.simplex_types.specs.declared.reasons.TimeoutReason.TheVariants.{Inval
 use Rattle.simplex_types.specs.Plain.{digest_bytes}
 use Rattle.simplex_voter.specs.Facts.{Facts}
 use Rattle.simplex_voter.specs.Windows.{min_active}
-use Rattle.simplex_member.specs.Calls.{AddNotarization, AddNullification, AddFinalization, Certified, ConstructNullify, ConstructFinalize, BroadcastNotarization, BroadcastNullification, BroadcastFinalization, GetBestCertificate, Prune as PruneCall, told}
+use Rattle.simplex_member.specs.Calls.{AddNotarization, AddNullification, AddFinalization, SetProposal, TryPropose, Proposed, SupersedeProposalRequest, PendingHandoffAbandonment, ReleaseProposalRequest, TryVerify, Verified, VerificationFailed, ConstructNotarize, CertifyCandidates, SetCertifyHandle, Certified, ConstructNullify, ConstructFinalize, BroadcastNotarization, BroadcastNullification, BroadcastFinalization, GetBestCertificate, TriggerTimeout, NextTimeout, Prune as PruneCall, told}
+use Rattle.simplex_member.specs.Lives.{IsCall}
 use Rattle.simplex_member.specs.Restarts.{IsRestart}
-use Rattle.simplex_member.specs.Runs.{Calls, Works, IsStep}
 use Rattle.simplex_member.specs.Start.{StartFacts}
-use Rattle.simplex_member.specs.Work.{SetProposal, TryPropose, Proposed, SupersedeProposalRequest, PendingHandoffAbandonment, ReleaseProposalRequest, TryVerify, Verified, VerificationFailed, ConstructNotarize, CertifyCandidates, SetCertifyHandle, TriggerTimeout, NextTimeout}
 use Rattle.viewstate.specs.declared.network.Network.{Network}
 use Rattle.viewstate.specs.declared.voter_line.CertificateKind.TheVariants as kind
 use Rattle.viewstate.specs.declared.voter_line.VoterLine.{VoterLine}
 use Rattle.viewstate.specs.declared.voter_line.VoterLine.TheVariants.{Notarization, Nullification, Finalization, Verdict, Notarize, Nullify, Finalize, Broadcast, Best, Prune, Proposal as ProposalOf, Release, Propose, Proposed as Built, Supersede, Abandon, Verify, Verified as FoundValid, Rejected, Candidates, Token, Trigger, Timeout, Restart, RestartPruned, Record, Views}
 use Rattle.viewstate.specs.declared.voter.VoterAnswer.{VoterAnswer}
 use Rattle.viewstate.specs.declared.voter.VoterAnswer.TheVariants as answer
-use Rattle.viewstate.specs.Plain.{PlainMember, PlainStep, same_payload, plain_leader, plain_bytes}
+use Rattle.viewstate.specs.Plain.{PlainMember, PlainCall, same_payload, plain_leader, plain_bytes}
 use Rattle.viewstate.specs.Setup.{IsGenesisStart}
 
 -- the round, the payload and the proposal that the numbers of a line stand for
@@ -39,32 +38,32 @@ pub record IsProposal (v p d : ℕ) (q : Proposal PlainDigest) : Type 0 where
 
 -- the call that a line stands for; its certificate is good, its proposal is of the view that it is handed in for, and a
 -- proposal that is rejected is invalid
-abbrev pub StandsFor : VoterLine → PlainStep → Type 0
-StandsFor (Notarization v p d) (Calls (AddNotarization c)) = IsProposal v p d c.proposal × (c.bytes ≡ 1 ∷ [])
-StandsFor (Nullification v now) (Calls (AddNullification c moment)) = (c.round ≡ round_in_epoch v) × (c.bytes ≡ 1 ∷ []) × (moment ≡ now)
-StandsFor (Finalization v p d now) (Calls (AddFinalization c moment)) = IsProposal v p d c.proposal × (c.bytes ≡ 1 ∷ []) × (moment ≡ now)
-StandsFor (Verdict v success now) step = step ≡ Calls (Certified v success now)
-StandsFor (ProposalOf v p d) (Works (SetProposal w q)) = (w ≡ v) × IsProposal v p d q
-StandsFor Propose step = step ≡ Works TryPropose
-StandsFor (Built v d now) (Works (Proposed w payload moment)) = (w ≡ v) × IsPayload d payload × (moment ≡ now)
-StandsFor (Supersede v) step = step ≡ Works (SupersedeProposalRequest v)
-StandsFor (Abandon v) step = step ≡ Works (PendingHandoffAbandonment v)
-StandsFor (Release v) step = step ≡ Works (ReleaseProposalRequest v)
-StandsFor Verify step = step ≡ Works TryVerify
-StandsFor (FoundValid v) step = step ≡ Works (Verified v)
-StandsFor (Rejected v now) step = step ≡ Works (VerificationFailed v InvalidProposal now)
-StandsFor Candidates step = step ≡ Works CertifyCandidates
-StandsFor (Token v token) step = step ≡ Works (SetCertifyHandle v token)
-StandsFor (Notarize v) step = step ≡ Works (ConstructNotarize v)
-StandsFor (Nullify v) step = step ≡ Calls (ConstructNullify v)
-StandsFor (Finalize v) step = step ≡ Calls (ConstructFinalize v)
-StandsFor (Broadcast kind.Notarization v) step = step ≡ Calls (BroadcastNotarization v)
-StandsFor (Broadcast kind.Nullification v) step = step ≡ Calls (BroadcastNullification v)
-StandsFor (Broadcast kind.Finalization v) step = step ≡ Calls (BroadcastFinalization v)
-StandsFor Best step = step ≡ Calls GetBestCertificate
-StandsFor (Trigger v reason now) step = step ≡ Works (TriggerTimeout v reason now)
-StandsFor (Timeout now) step = step ≡ Works (NextTimeout now)
-StandsFor Prune step = step ≡ Calls PruneCall
+abbrev pub StandsFor : VoterLine → PlainCall → Type 0
+StandsFor (Notarization v p d) (AddNotarization c) = IsProposal v p d c.proposal × (c.bytes ≡ 1 ∷ [])
+StandsFor (Nullification v now) (AddNullification c moment) = (c.round ≡ round_in_epoch v) × (c.bytes ≡ 1 ∷ []) × (moment ≡ now)
+StandsFor (Finalization v p d now) (AddFinalization c moment) = IsProposal v p d c.proposal × (c.bytes ≡ 1 ∷ []) × (moment ≡ now)
+StandsFor (Verdict v success now) call = call ≡ Certified v success now
+StandsFor (ProposalOf v p d) (SetProposal w q) = (w ≡ v) × IsProposal v p d q
+StandsFor Propose call = call ≡ TryPropose
+StandsFor (Built v d now) (Proposed w payload moment) = (w ≡ v) × IsPayload d payload × (moment ≡ now)
+StandsFor (Supersede v) call = call ≡ SupersedeProposalRequest v
+StandsFor (Abandon v) call = call ≡ PendingHandoffAbandonment v
+StandsFor (Release v) call = call ≡ ReleaseProposalRequest v
+StandsFor Verify call = call ≡ TryVerify
+StandsFor (FoundValid v) call = call ≡ Verified v
+StandsFor (Rejected v now) call = call ≡ VerificationFailed v InvalidProposal now
+StandsFor Candidates call = call ≡ CertifyCandidates
+StandsFor (Token v token) call = call ≡ SetCertifyHandle v token
+StandsFor (Notarize v) call = call ≡ ConstructNotarize v
+StandsFor (Nullify v) call = call ≡ ConstructNullify v
+StandsFor (Finalize v) call = call ≡ ConstructFinalize v
+StandsFor (Broadcast kind.Notarization v) call = call ≡ BroadcastNotarization v
+StandsFor (Broadcast kind.Nullification v) call = call ≡ BroadcastNullification v
+StandsFor (Broadcast kind.Finalization v) call = call ≡ BroadcastFinalization v
+StandsFor Best call = call ≡ GetBestCertificate
+StandsFor (Trigger v reason now) call = call ≡ TriggerTimeout v reason now
+StandsFor (Timeout now) call = call ≡ NextTimeout now
+StandsFor Prune call = call ≡ PruneCall
 StandsFor _ _ = ⊥
 
 -- the lines that stand for calls: a certificate or a verdict is brought
@@ -112,8 +111,8 @@ views_of None = answer.Failed
 views_of (Some x) = answer.Views x.current x.finalized (min_active x)
 
 -- the reply to a call, and what it leaves
-abbrev pub IsReplied : PlainMember → PlainStep → VoterAnswer → PlainMember → Type 0
-IsReplied m step (answer.Reply reply) left = IsStep same_payload plain_leader m step (told plain_bytes reply) left
+abbrev pub IsReplied : PlainMember → PlainCall → VoterAnswer → PlainMember → Type 0
+IsReplied m call (answer.Reply reply) left = IsCall same_payload plain_leader m call (told plain_bytes reply) left
 IsReplied _ _ _ _ = ⊥
 
 -- what a restart of the network's member answers, and what it leaves; the record is cut as asked, and pruned or not
@@ -143,4 +142,4 @@ IsDone n m _ a left = (a ≡ views_of m.life) × (left ≡ m)
 abbrev pub VoterAnswers : Network → PlainMember → VoterLine → VoterAnswer → PlainMember → Type 0
 VoterAnswers n m line a left =
     ((is_no_call line ≡ true) × IsDone n m line a left)
-    ⊎ ((step : PlainStep) × StandsFor line step × IsReplied m step a left)
+    ⊎ ((call : PlainCall) × StandsFor line call × IsReplied m call a left)

@@ -2,7 +2,7 @@
 
 ghost use Rattle.std.specs.Prelude.{◌≡◌, false, true, IfOk, length};
 ghost use Rattle.simplex_types.specs.Plain.{members_of, keys_of};
-ghost use Rattle.simplex_member.specs.Runs.{asked};
+ghost use Rattle.simplex_member.specs.Calls.{asked};
 ghost use Rattle.viewstate.specs.Voter.{VoterAnswers, IsReplied, IsRestarted, IsDone, is_no_call, views_of};
 ghost use Rattle.viewstate.specs.Plain.{plain_bytes};
 ghost use Rattle.viewstate.specs.Setup.{IsSetUp, IsGenesisStart, StartsAtGenesis, plain_start};

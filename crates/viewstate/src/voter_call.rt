@@ -2,7 +2,7 @@
 
 ghost use Rattle.std.specs.Prelude.{◌≡◌, MatchOption, true, false};
 ghost use Rattle.simplex_types.specs.Plain.{digest_bytes};
-ghost use Rattle.simplex_member.specs.Runs.{asked};
+ghost use Rattle.simplex_member.specs.Calls.{asked};
 ghost use Rattle.viewstate.specs.declared.voter_line.VoterLine.TheVariants.{Broadcast};
 ghost use Rattle.viewstate.specs.Plain.{plain_bytes};
 ghost use Rattle.viewstate.specs.Voter.{StandsFor, IsProposal, is_no_call, brings, builds, judges, asks, round_in_epoch};

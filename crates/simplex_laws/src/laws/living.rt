@@ -70,8 +70,9 @@ impl<S: CertificateScheme, L: Elector<S>, D: Digest> Model for LawfulMember<S, L
 impl<S: Scheme<D>, L: Elector<S>, D: Digest> LawfulMember<S, L, D> {
     ghost use Rattle.std.specs.Prelude.{[], ◌++◌};
     ghost use Rattle.simplex_types.specs.Config.{floor_facts};
-    ghost use Rattle.simplex_member.specs.Calls.{told};
-    ghost use Rattle.simplex_member.specs.Runs.{asked, IsStep};
+    ghost use Rattle.simplex_member.specs.Calls.{told, asked};
+    ghost use Rattle.simplex_member.specs.Lives.{IsCall};
+    ghost use Rattle.simplex_member.specs.Runs.{Calls};
     ghost use Rattle.simplex_member.specs.Signed.{IsSignedReply};
     ghost use Rattle.simplex_member.specs.Recovery.{recover_error};
     ghost use Rattle.simplex_member.specs.Restarts.{restart_facts, IsRestart};
@@ -112,9 +113,9 @@ impl<S: Scheme<D>, L: Elector<S>, D: Digest> LawfulMember<S, L, D> {
     /// - `exact`: a request for a vote is answered exactly by its rule, and nothing else by a vote.
     /// - `goes_on`: what the member has done grows by the certificate that is accepted and the vote that is told.
     pub fn call(&mut self, call: Call<S, D>) -> Reply<S, D>
-        ensures answered { IsStep D.eq L.elect self.old (asked S.certificate_bytes call) (told S.certificate_bytes result) self.new }
+        ensures answered { IsCall D.eq L.elect self.old (asked S.certificate_bytes call) (told S.certificate_bytes result) self.new }
         ensures signed { IfSome self.old.life (IsSignedReply S.IsSignature result) }
-        ensures exact { ExactAt D.eq L.elect self.old.life (asked S.certificate_bytes call) (told S.certificate_bytes result) }
+        ensures exact { ExactAt D.eq L.elect self.old.life (Calls (asked S.certificate_bytes call)) (told S.certificate_bytes result) }
         ensures goes_on { DoesMore D.eq L.elect self.old (taken_by call result ++ votes_in result) self.new }
     {
         self.member.call(call)

@@ -2,7 +2,7 @@
 
 ghost use Rattle.std.specs.Prelude.{◌≡◌};
 ghost use Rattle.simplex_types.specs.declared.types.fault.Fault.TheVariants.{OutOfMemory};
-ghost use Rattle.simplex_member.specs.Made.{call_error};
+ghost use Rattle.simplex_member.specs.Parts.{call_error};
 
 use simplex_types::types::Fault;
 use std::alloc::AllocError;

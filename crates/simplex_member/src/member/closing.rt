@@ -3,7 +3,7 @@
 ghost use Rattle.std.specs.Prelude.{◌≡◌, true, OnOk, IfErr};
 ghost use Rattle.simplex_types.specs.declared.types.fault.Fault.TheVariants.{OutOfMemory};
 ghost use Rattle.simplex_member.specs.Calls.{told};
-ghost use Rattle.simplex_member.specs.Made.{closing_of, left_open, opens, now_open};
+ghost use Rattle.simplex_member.specs.Parts.{closing_of, left_open, opens, now_open};
 
 use super::calls::{Call, Reply};
 use super::openings::Openings;

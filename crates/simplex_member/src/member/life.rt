@@ -62,8 +62,8 @@ impl<S: CertificateScheme, L: Elector<S>, D: Digest> Model for Member<S, L, D> {
 
 impl<S: CertificateScheme, L: Elector<S>, D: Digest> Member<S, L, D> {
     ghost use Rattle.simplex_member.specs.Entries.{entries_of};
-    ghost use Rattle.simplex_member.specs.Calls.{told};
-    ghost use Rattle.simplex_member.specs.Runs.{asked, IsStep};
+    ghost use Rattle.simplex_member.specs.Calls.{told, asked};
+    ghost use Rattle.simplex_member.specs.Lives.{IsCall};
     ghost use Rattle.simplex_member.specs.Signed.{IsSignedReply};
     ghost use Rattle.simplex_member.specs.Recovery.{recover_error};
     ghost use Rattle.simplex_member.specs.Start.{set_up, started, IsDue};
@@ -133,7 +133,7 @@ impl<S: CertificateScheme, L: Elector<S>, D: Digest> Member<S, L, D> {
     pub fn call(&mut self, call: Call<S, D>) -> Reply<S, D>
     where
         S: Scheme<D>,
-        ensures made { IsStep D.eq L.elect self.old (asked S.certificate_bytes call) (told S.certificate_bytes result) self.new }
+        ensures made { IsCall D.eq L.elect self.old (asked S.certificate_bytes call) (told S.certificate_bytes result) self.new }
         ensures signed { IfSome self.old.life (IsSignedReply S.IsSignature result) }
     {
         if self.failed {

@@ -3,10 +3,11 @@
 ghost use Rattle.std.specs.Prelude.{◌≡◌, ◌++◌, [], None, Bool, true, false, IfOk, IfErr, OnErr, OnOk};
 ghost use Rattle.simplex_voter.specs.Refusals.{is_started};
 ghost use Rattle.simplex_member.specs.Entries.{entries_of};
-ghost use Rattle.simplex_member.specs.Calls.{told};
-ghost use Rattle.simplex_member.specs.Made.{is_permitted, due_fault, answer_to, after_asked, recorded_for, family_of, EndsCall};
+ghost use Rattle.simplex_member.specs.Calls.{told, asked};
+ghost use Rattle.simplex_member.specs.Allowed.{is_allowed, fault_of};
+ghost use Rattle.simplex_member.specs.Made.{answer, after_call, recorded_by};
+ghost use Rattle.simplex_member.specs.Parts.{family_of, EndsCall};
 ghost use Rattle.simplex_member.specs.Openings.{no_openings};
-ghost use Rattle.simplex_member.specs.Runs.{asked};
 ghost use Rattle.simplex_member.specs.Signed.{IsSignedReply};
 ghost use Rattle.simplex_member.specs.declared.member.serving.Family.TheVariants.{Certificates, Proposals, Verifications, Votes, Certifications, Servings, Timeouts};
 
@@ -72,7 +73,7 @@ pub(super) fn is_allowed<S: CertificateScheme, L: Elector<S>, D: Digest>(
     openings: &Openings<D, S::PublicKey>,
     call: &Call<S, D>,
 ) -> bool
-    ensures { result ≡ is_permitted state.now openings.now (asked S.certificate_bytes call.now) }
+    ensures { result ≡ is_allowed state.now openings.now (asked S.certificate_bytes call.now) }
 {
     match call {
         Call::AddNotarization(notarization) => state.takes_round(&notarization.proposal.round),
@@ -102,14 +103,14 @@ pub(super) fn serve<S: Scheme<D>, L: Elector<S>, D: Digest>(
 ) -> Result<Reply<S, D>, CallError>
     requires going_on { state.old.failed ≡ false }
     requires begun { is_started state.old ≡ true }
-    requires allowed { is_permitted state.old openings.now (asked S.certificate_bytes call) ≡ true }
-    ensures due { OnOk result (due_fault state.old (asked S.certificate_bytes call) ≡ None) }
+    requires allowed { is_allowed state.old openings.now (asked S.certificate_bytes call) ≡ true }
+    ensures due { OnOk result (fault_of state.old (asked S.certificate_bytes call) ≡ None) }
     ensures answer { IfOk result (λ reply. told S.certificate_bytes reply
-        ≡ answer_to D.eq L.elect state.old openings.now (asked S.certificate_bytes call)) }
+        ≡ answer D.eq L.elect state.old openings.now (asked S.certificate_bytes call)) }
     ensures signed { IfOk result (λ reply. IsSignedReply S.IsSignature reply state.old) }
-    ensures after { OnOk result (state.new ≡ after_asked D.eq L.elect state.old openings.now (asked S.certificate_bytes call)) }
+    ensures after { OnOk result (state.new ≡ after_call D.eq L.elect state.old openings.now (asked S.certificate_bytes call)) }
     ensures recorded { OnOk result (entries_of S.certificate_bytes artifacts.new.items
-        ≡ entries_of S.certificate_bytes artifacts.old.items ++ recorded_for D.eq L.elect state.old (asked S.certificate_bytes call)) }
+        ≡ entries_of S.certificate_bytes artifacts.old.items ++ recorded_by D.eq L.elect state.old (asked S.certificate_bytes call)) }
     ensures refused { IfErr result (EndsCall (asked S.certificate_bytes call) state.old state.new) }
     ensures same_record { OnErr result (entries_of S.certificate_bytes artifacts.new.items
         ≡ entries_of S.certificate_bytes artifacts.old.items) }

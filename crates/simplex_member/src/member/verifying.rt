@@ -3,10 +3,11 @@
 ghost use Rattle.std.specs.Prelude.{◌≡◌, ◌++◌, [], None, Bool, true, false, IfOk, IfErr, OnErr, OnOk};
 ghost use Rattle.simplex_voter.specs.Refusals.{is_started};
 ghost use Rattle.simplex_member.specs.Entries.{entries_of};
-ghost use Rattle.simplex_member.specs.Calls.{told};
-ghost use Rattle.simplex_member.specs.Made.{is_ready, due_fault, answer_to, after_asked, recorded_for, family_of, EndsCall};
+ghost use Rattle.simplex_member.specs.Calls.{told, asked};
+ghost use Rattle.simplex_member.specs.Allowed.{fault_of};
+ghost use Rattle.simplex_member.specs.Made.{answer, after_call, recorded_by};
+ghost use Rattle.simplex_member.specs.Parts.{is_ready, family_of, EndsCall};
 ghost use Rattle.simplex_member.specs.Openings.{no_openings};
-ghost use Rattle.simplex_member.specs.Runs.{asked};
 ghost use Rattle.simplex_member.specs.Signed.{is_vote_reply};
 ghost use Rattle.simplex_member.specs.declared.member.serving.Family.TheVariants.{Verifications};
 
@@ -24,12 +25,12 @@ pub(super) fn verify<S: CertificateScheme, L: Elector<S>, D: Digest>(
     requires begun { is_started state.old ≡ true }
     requires allowed { is_ready state.old (asked S.certificate_bytes call) ≡ true }
     requires family { family_of call ≡ Verifications }
-    ensures due { OnOk result (due_fault state.old (asked S.certificate_bytes call) ≡ None) }
+    ensures due { OnOk result (fault_of state.old (asked S.certificate_bytes call) ≡ None) }
     ensures answer { IfOk result (λ reply. told S.certificate_bytes reply
-        ≡ answer_to D.eq L.elect state.old no_openings (asked S.certificate_bytes call)) }
+        ≡ answer D.eq L.elect state.old no_openings (asked S.certificate_bytes call)) }
     ensures unsigned { IfOk result (λ reply. is_vote_reply reply ≡ false) }
-    ensures after { OnOk result (state.new ≡ after_asked D.eq L.elect state.old no_openings (asked S.certificate_bytes call)) }
-    ensures unrecorded { recorded_for D.eq L.elect state.old (asked S.certificate_bytes call) ≡ [] }
+    ensures after { OnOk result (state.new ≡ after_call D.eq L.elect state.old no_openings (asked S.certificate_bytes call)) }
+    ensures unrecorded { recorded_by D.eq L.elect state.old (asked S.certificate_bytes call) ≡ [] }
     ensures refused { IfErr result (EndsCall (asked S.certificate_bytes call) state.old state.new) }
 {
     match call {

@@ -7,11 +7,11 @@ ghost use Rattle.simplex_types.specs.declared.types.fault.Fault.TheVariants.{Out
 ghost use Rattle.simplex_voter.specs.Refusals.{plain_refusal, is_started};
 ghost use Rattle.simplex_voter.specs.Votes.{after_construct_notarize, after_construct_nullify, after_construct_finalize};
 ghost use Rattle.simplex_member.specs.Entries.{entries_of};
-ghost use Rattle.simplex_member.specs.Calls.{told, told_notarize, told_nullify, told_finalize, nullify_vote, finalize_vote, first_vote, vote_entry};
-ghost use Rattle.simplex_member.specs.Made.{EndsBy, due_fault, answer_to, after_asked, recorded_for, family_of, EndsCall};
+ghost use Rattle.simplex_member.specs.Calls.{told, told_notarize, told_nullify, told_finalize, asked};
+ghost use Rattle.simplex_member.specs.Allowed.{fault_of};
+ghost use Rattle.simplex_member.specs.Made.{notarize_vote, nullify_vote, finalize_vote, first_vote, vote_entry, answer, after_call, recorded_by};
+ghost use Rattle.simplex_member.specs.Parts.{EndsBy, family_of, EndsCall};
 ghost use Rattle.simplex_member.specs.Openings.{no_openings};
-ghost use Rattle.simplex_member.specs.Runs.{asked};
-ghost use Rattle.simplex_member.specs.Work.{notarize_vote};
 ghost use Rattle.simplex_member.specs.declared.member.serving.Family.TheVariants.{Votes};
 ghost use Rattle.simplex_member.specs.Signed.{IsSignedReply, signatures_of, notarize_signature, nullify_signature, finalize_signature};
 ghost use Rattle.simplex_types.specs.Signing.{IsSignedAs};
@@ -37,13 +37,13 @@ pub(super) fn vote<S: Scheme<D>, L: Elector<S>, D: Digest>(
     requires going_on { state.old.failed ≡ false }
     requires begun { is_started state.old ≡ true }
     requires family { family_of call ≡ Votes }
-    ensures due { OnOk result (due_fault state.old (asked S.certificate_bytes call) ≡ None) }
+    ensures due { OnOk result (fault_of state.old (asked S.certificate_bytes call) ≡ None) }
     ensures answer { IfOk result (λ reply. told S.certificate_bytes reply
-        ≡ answer_to D.eq L.elect state.old no_openings (asked S.certificate_bytes call)) }
+        ≡ answer D.eq L.elect state.old no_openings (asked S.certificate_bytes call)) }
     ensures signed { IfOk result (λ reply. IsSignedReply S.IsSignature reply state.old) }
-    ensures after { OnOk result (state.new ≡ after_asked D.eq L.elect state.old no_openings (asked S.certificate_bytes call)) }
+    ensures after { OnOk result (state.new ≡ after_call D.eq L.elect state.old no_openings (asked S.certificate_bytes call)) }
     ensures recorded { OnOk result (entries_of S.certificate_bytes artifacts.new.items
-        ≡ entries_of S.certificate_bytes artifacts.old.items ++ recorded_for D.eq L.elect state.old (asked S.certificate_bytes call)) }
+        ≡ entries_of S.certificate_bytes artifacts.old.items ++ recorded_by D.eq L.elect state.old (asked S.certificate_bytes call)) }
     ensures refused { IfErr result (EndsCall (asked S.certificate_bytes call) state.old state.new) }
     ensures same_record { OnErr result (entries_of S.certificate_bytes artifacts.new.items
         ≡ entries_of S.certificate_bytes artifacts.old.items) }

@@ -1,0 +1,62 @@
+-- What a call asks of its caller, why it is refused, and where memory may be wanted.
+use Rattle.std.specs.Prelude.{Bool, true, false, ◌&&◌, Option, is_some}
+use Rattle.simplex_types.specs.declared.types.fault.Fault.{Fault}
+use Rattle.simplex_voter.specs.Facts.{Facts}
+use Rattle.simplex_voter.specs.Refusals.{plain_refusal, proposal_refusal}
+use Rattle.simplex_voter.specs.Acceptance.{takes_proposal_certificate, takes_nullification, notarization_refusal, nullification_refusal, finalization_refusal}
+use Rattle.simplex_voter.specs.Certification.{takes_verdict, takes_certify_handle, certified_refusal}
+use Rattle.simplex_voter.specs.Serving.{broadcast_notarization_answer, broadcast_nullification_answer, broadcast_finalization_answer}
+use Rattle.simplex_voter.specs.Timeouts.{has_timeout, next_timeout_refusal}
+use Rattle.simplex_voter.specs.Verifying.{takes_proposal}
+use Rattle.simplex_member.specs.Calls.{CallFacts, AddNotarization, AddNullification, AddFinalization, SetProposal, Proposed, SupersedeProposalRequest, PendingHandoffAbandonment, ReleaseProposalRequest, Verified, VerificationFailed, SetCertifyHandle, Certified, BroadcastNotarization, BroadcastNullification, BroadcastFinalization, GetBestCertificate, TriggerTimeout, NextTimeout}
+use Rattle.simplex_member.specs.Openings.{Openings, context_at, is_verifying, is_offered}
+
+module _ {K L D : Type 0} where
+  -- what a call asks of its caller: a certificate or a proposal of this epoch and of a view that is kept; an open request to
+  -- build; a proposal that is being verified; an offer that has no verdict; a verdict that may be given; or a timeout
+  abbrev pub is_allowed : Facts K L D → Openings K D → CallFacts D → Bool
+  is_allowed x o (AddNotarization c) = takes_proposal_certificate x c
+  is_allowed x o (AddNullification c _) = takes_nullification x c
+  is_allowed x o (AddFinalization c _) = takes_proposal_certificate x c
+  is_allowed x o (SetProposal v p) = takes_proposal x v p
+  is_allowed x o (Proposed v _ _) = is_some (context_at o v)
+  is_allowed x o (SupersedeProposalRequest v) = is_some (context_at o v)
+  is_allowed x o (PendingHandoffAbandonment v) = is_some (context_at o v)
+  is_allowed x o (Verified v) = is_verifying o v
+  is_allowed x o (VerificationFailed v _ _) = is_verifying o v
+  is_allowed x o (SetCertifyHandle v _) = is_offered o v && takes_certify_handle x v
+  is_allowed x o (Certified v success _) = takes_verdict x v success
+  is_allowed x o (NextTimeout _) = has_timeout x
+  is_allowed x o _ = true
+
+  -- why it is refused, but for want of memory
+  abbrev pub fault_of : Facts K L D → CallFacts D → Option Fault
+  fault_of x (AddNotarization c) = notarization_refusal x c
+  fault_of x (AddNullification c now) = nullification_refusal x c now
+  fault_of x (AddFinalization c now) = finalization_refusal x c.proposal now
+  fault_of x (SetProposal v p) = proposal_refusal x p
+  fault_of x (Certified v success now) = certified_refusal x v success now
+  fault_of x (NextTimeout now) = next_timeout_refusal x now
+  fault_of x _ = plain_refusal x
+
+  -- a growth or a copy may be refused, of the state's rounds and lists, of the record, or of what is open: there is none
+  -- where a request to build is answered or given up, a verification is answered or a view times out, nor where a broadcast
+  -- has nothing to hand out
+  abbrev pub may_want : Facts K L D → CallFacts D → Bool
+  may_want x (Proposed _ _ _) = false
+  may_want x (SupersedeProposalRequest _) = false
+  may_want x (PendingHandoffAbandonment _) = false
+  may_want x (ReleaseProposalRequest _) = false
+  may_want x (Verified _) = false
+  may_want x (VerificationFailed _ _ _) = false
+  may_want x (BroadcastNotarization v) = is_some (broadcast_notarization_answer x v)
+  may_want x (BroadcastNullification v) = is_some (broadcast_nullification_answer x v)
+  may_want x (BroadcastFinalization v) = is_some (broadcast_finalization_answer x v)
+  may_want x (TriggerTimeout _ _ _) = false
+  may_want x (NextTimeout _) = false
+  may_want x _ = true
+
+-- the state may be lost where memory is wanted: it never is by what it only shows
+abbrev pub may_fall : {D : Type 0} → CallFacts D → Bool
+may_fall GetBestCertificate = false
+may_fall _ = true
