@@ -20,7 +20,7 @@ use Rattle.simplex_laws.specs.Histories.{retaken_events, with_events, with_call,
 use Rattle.simplex_member.specs.Lives.{MemberFacts, fallen, reply_of, left_of, AnswersAlive, IsCall}
 use Rattle.simplex_member.specs.Recovery.{as_artifact, replayed, retaken, taken, all_taken, recovered, recover_error, TakesEntry, TakesEntries}
 use Rattle.simplex_member.specs.Restarts.{RestartFacts, IsByView, IsRestart, IsRestartWhere, GoesOn, new_life, cut, retention_grows}
-use Rattle.simplex_member.specs.Runs.{StepFacts, Calls, Restarts, restart_told, IsStep, IsRun}
+use Rattle.simplex_member.specs.Runs.{StepFacts, Calls, Restarts, restart_told, IsRun}
 use Rattle.simplex_laws.specs.Shows.{Shows}
 use Rattle.simplex_member.specs.Start.{StartFacts, started}
 use Rattle.simplex_laws.specs.Sums.{finalized_in}

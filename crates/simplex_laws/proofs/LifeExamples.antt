@@ -1,6 +1,5 @@
 -- Calls of one life by the definitions, of member 0 of the recoveries' examples, who keeps 5 views.
 use Rattle.std.proofs.Common.{◌≡◌, refl, ℕ, true, false, List, [], ◌∷◌, Some, None, nat_eq}
-use Rattle.std.specs.Prelude.{map}
 use Rattle.std.specs.List.{fold}
 use Rattle.simplex_types.specs.Config.{Genesis}
 use Rattle.simplex_types.specs.Certificates.{ProposalFacts}

@@ -21,7 +21,7 @@ use Rattle.simplex_member.specs.Restarts.{RestartFacts, IsByView, cut, new_life,
 use Rattle.simplex_member.specs.Runs.{StepFacts, Calls, Restarts, restart_told, IsRun, EndsRun, EndsRunFrom}
 use Rattle.simplex_member.specs.Start.{StartFacts, started}
 use Rattle.simplex_member.proofs.Cuts.{none_dropped}
-use Rattle.simplex_laws.specs.Deeds.{Deed, of_floor, signed_in, deeds_of_call, deeds_at}
+use Rattle.simplex_laws.specs.Deeds.{Deed, of_floor, deeds_of_call, deeds_at}
 use Rattle.simplex_laws.specs.Fresh.{IsFresh, BeginFresh}
 use Rattle.simplex_laws.proofs.CutsRemembered.{copy_remembers}
 use Rattle.simplex_laws.proofs.Outside.{Fit, error_outside}

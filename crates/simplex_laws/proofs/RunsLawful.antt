@@ -16,7 +16,7 @@ use Rattle.simplex_member.specs.Openings.{Openings, no_openings}
 use Rattle.simplex_member.specs.Lives.{MemberFacts, IsCall, AnswersAlive, reply_of, left_of, fallen}
 use Rattle.simplex_member.specs.Recovery.{recover_error, recovered, with_floor}
 use Rattle.simplex_member.specs.Restarts.{RestartFacts, IsByView, cut, new_life, retention_grows, GoesOn, IsRestart, IsRestartWhere}
-use Rattle.simplex_laws.specs.Deeds.{Deed, of_floor, signed_in, deeds_of_call, deeds_at, deeds_of_steps}
+use Rattle.simplex_laws.specs.Deeds.{Deed, of_floor, deeds_of_call, deeds_at, deeds_of_steps}
 use Rattle.simplex_laws.specs.Lawful.{IsLawful}
 use Rattle.simplex_laws.specs.Stories.{Story, deeds_of, BeginsAs, Ran}
 use Rattle.simplex_laws.proofs.Signed.{signed_none}

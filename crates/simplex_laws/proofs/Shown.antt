@@ -1,5 +1,5 @@
 -- What the code's steps and replies show is what the story of them says.
-use Rattle.std.proofs.Common.{◌≡◌, refl, ap, sym, subst, ◌∙◌, ℕ, inl, inr, Option, Bool, true, false, List, [], ◌∷◌, ◌++◌, map, Contains, Some, None, Result, Ok, Err, arith}
+use Rattle.std.proofs.Common.{◌≡◌, refl, ap, sym, subst, ◌∙◌, ℕ, inl, inr, Option, Bool, List, [], ◌∷◌, ◌++◌, map, Contains, Some, None, Result, Ok, Err, arith}
 use Rattle.simplex_types.specs.Config.{floor_facts}
 use Rattle.simplex_types.specs.declared.config.Floor.{Floor}
 use Rattle.simplex_types.specs.declared.config.Floor.TheVariants as floor
@@ -11,15 +11,12 @@ use Rattle.simplex_member.specs.declared.member.calls.Reply.TheVariants as reply
 use Rattle.simplex_member.specs.declared.member.runs.Step.{Step}
 use Rattle.simplex_member.specs.declared.member.runs.Step.TheVariants as step
 use Rattle.simplex_member.specs.declared.member.start.Start.{Start}
-use Rattle.simplex_types.specs.Certificates.{notarization_facts, nullification_facts, finalization_facts}
-use Rattle.simplex_member.specs.Calls as facts
 use Rattle.simplex_member.specs.Calls.{Told, told, asked, CallFacts, Added}
 use Rattle.simplex_member.specs.declared.member.restart.Restart.{Restart}
 use Rattle.simplex_member.specs.Restarts.{RestartFacts, restart_facts}
-use Rattle.simplex_member.specs.Runs.{StepFacts, Calls, Restarts, step_facts, steps_of, restart_told}
+use Rattle.simplex_member.specs.Runs.{Calls, Restarts, step_facts, steps_of, restart_told}
 use Rattle.simplex_member.specs.Start.{start_facts}
 use Rattle.simplex_member.specs.declared.member.error.RecoverError.{RecoverError}
-use Rattle.std.proofs.lemmas.Bool.{false≢true}
 use Rattle.std.proofs.lemmas.List.{append-nil}
 use Rattle.simplex_laws.specs.Living.{story_of}
 use Rattle.simplex_laws.specs.Shown.{votes_in, certificates_in, floor_in, taken_by, taken_in, begun_by, shown_by, shown, IsSetUpAs, AreSetUpAs}

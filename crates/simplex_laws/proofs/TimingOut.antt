@@ -1,11 +1,10 @@
 -- The current view lies above the last finalized one, no finalization stands from it on, and it times out.
-use Rattle.std.proofs.Common.{◌≡◌, refl, ap, sym, ◌∙◌, subst, ℕ, ◌+◌, ◌<◌, ◌≤◌, ◌⊎◌, inl, inr, Bool, true, false, ◌||◌, ◌&&◌, not, List, Option, Some, None, is_some, unwrap_or, option_map, arith}
+use Rattle.std.proofs.Common.{◌≡◌, refl, ap, sym, ◌∙◌, subst, ℕ, ◌+◌, ◌<◌, ◌≤◌, ◌⊎◌, inl, inr, Bool, true, false, ◌||◌, ◌&&◌, not, List, Option, Some, None, is_some, unwrap_or, arith}
 use Rattle.std.specs.Option.{option_map_or}
 use Rattle.std.specs.Prelude.{if◌then◌else◌, MatchOption}
 use Rattle.std.proofs.lemmas.Bool.{false≢true, true≢false}
 use Rattle.simplex_types.specs.Certificates.{ProposalFacts}
 use Rattle.simplex_types.specs.Config.{FloorFacts, Finalized as FinalizedFloor}
-use Rattle.simplex_types.specs.Proposal.{same_proposal}
 use Rattle.simplex_types.specs.declared.reasons.TimeoutReason.{TimeoutReason}
 use Rattle.simplex_types.specs.declared.reasons.TimeoutReason.TheVariants.{LeaderTimeout, CertificationTimeout}
 use Rattle.simplex_types.specs.declared.types.window.Terms.{Terms}

@@ -45,7 +45,7 @@ use Rattle.simplex_laws.proofs.CalmOn.{CalmOn, above_put, on_joined, on_same, on
 use Rattle.simplex_laws.proofs.WorkCalls.{is_silent}
 use Rattle.simplex_laws.proofs.Tidy.{Tidy, contrary, opposite, answered, given_out, proposes, reopened, tidy_calm}
 use Rattle.simplex_laws.proofs.Notes.{NotesStand, notes_calm}
-use Rattle.simplex_laws.proofs.Openings.{among_others, now_among, got_others, still_open, now_open, some_still, still_placed, ArePlaced, NoMoreContexts}
+use Rattle.simplex_laws.proofs.Openings.{among_others, now_among, got_others, still_open, now_open, some_still, still_placed, NoMoreContexts}
 use Rattle.simplex_laws.proofs.InOrder.{InOrder}
 use Rattle.simplex_laws.proofs.Filters.{Contains-filtered, filtered_passes}
 use Rattle.simplex_laws.proofs.Ordered.{found_in_order}

@@ -1,5 +1,5 @@
 -- How the history of a member's life grows: by its calls, and anew by each recovery.
-use Rattle.std.specs.Prelude.{◌≡◌, ℕ, Bool, ◌-◌, nat_lt, if◌then◌else◌, List, [], ◌∷◌, ◌++◌, Option, Some, None, MatchOption, Ok}
+use Rattle.std.specs.Prelude.{◌≡◌, ℕ, Bool, ◌-◌, nat_lt, if◌then◌else◌, List, [], ◌∷◌, ◌++◌, None, MatchOption, Ok}
 use Rattle.simplex_types.specs.Certificates.{ArtifactFacts, Verdict, Accepted, Notarized, Nullified, Finalized}
 use Rattle.simplex_voter.specs.Facts.{Facts, Elect}
 use Rattle.simplex_member.specs.Calls.{CallFacts, Told, Refused, NotAllowed, NotRestarted}

@@ -11,7 +11,8 @@ use simplex_types::types::{Digest, Elector, Scheme};
 /// - `called`: so does each call of a member where it is answered; one that is refused is no event.
 /// - `recovered`: a state that is made from a floor and a record knows what their events say.
 /// - `restarted`: so does the state that a restart makes, from an order by view of what is left of the record.
-/// - `ran`: and so, whatever the calls and restarts of a run, does the state at its end.
+/// - `ran`: and so, whatever the calls and restarts of a run, does the state at its end; its history goes by what the member
+///   itself has open at each call, and at each restart by what is left of its own record.
 pub fn histories_are_shown<S: Scheme<D>, L: Elector<S>, D: Digest>()
     ensures begun { NothingSaid S.PublicKey D.eq L.elect }
     ensures kept { EventsAreShown S.PublicKey D.eq L.elect }
