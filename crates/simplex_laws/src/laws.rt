@@ -1,12 +1,9 @@
 //! The laws of members: agreement and the laws of votes, networks in which they are exercised, what lives keep in order, and
-//! what holds of records and histories. Nothing here does anything but `living` and `journaled`: the
-//! contracts are the laws.
+//! what holds of records and histories. Nothing here does anything: the contracts are the laws.
 
 mod histories;
 mod instances;
-mod journaled;
 mod lives;
-mod living;
 mod network;
 mod own_record;
 mod resumes;
@@ -14,7 +11,6 @@ mod resumes;
 pub use histories::histories_are_shown;
 pub use instances::{restarts_are_runs, skipped_views_are_agreed_on, terms_are_agreed_on};
 pub use lives::{current_views_time_out, lives_keep_order, runs_keep_order};
-pub use living::{LawfulMember, run_lawfully};
 pub use network::{agreement, votes_are_lawful};
 pub use own_record::own_record_is_taken;
 pub use resumes::resumes_are_restarts;

@@ -2,5 +2,3 @@
 #![tactic(auto)]
 
 pub mod member;
-#[cfg(test)]
-mod tests;

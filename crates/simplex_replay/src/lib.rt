@@ -2,5 +2,3 @@
 #![tactic(auto)]
 
 pub mod replay;
-#[cfg(test)]
-mod tests;

@@ -12,8 +12,6 @@ mod laws;
 mod outstanding;
 mod scan;
 mod state;
-#[cfg(test)]
-mod tests;
 
 pub use effect::Effect;
 pub use laws::{answers, repair};

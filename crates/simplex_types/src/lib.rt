@@ -4,6 +4,4 @@
 pub mod config;
 pub mod reasons;
 pub mod sorted;
-#[cfg(test)]
-mod tests;
 pub mod types;

@@ -2,8 +2,6 @@
 
 pub mod by_term;
 pub mod entries;
-#[cfg(test)]
-mod tests;
 pub mod tracked;
 
 pub use by_term::ByTerm;

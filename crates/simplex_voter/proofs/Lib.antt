@@ -1,4 +1,3 @@
-pub mod Examples
 pub mod RoundsKept
 pub mod Alike
 pub mod Changed
@@ -6,12 +5,10 @@ pub mod Shown
 pub mod Faults
 pub mod Gaps
 pub mod Payloads
-pub mod Parents
 pub mod Rules
 pub mod Windows
 pub mod Gate
 pub mod Containers
-pub mod Opened
 pub mod Waiting
 pub mod Verdicts
 pub mod Highest

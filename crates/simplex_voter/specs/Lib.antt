@@ -20,4 +20,3 @@ pub mod Proposing
 pub mod Verifying
 pub mod Serving
 pub mod Replay
-pub mod Laws

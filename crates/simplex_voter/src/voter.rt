@@ -15,7 +15,6 @@ mod handles;
 mod handouts;
 mod in_place;
 mod kept;
-pub mod laws;
 mod leaders;
 mod notarizations;
 mod notarize;

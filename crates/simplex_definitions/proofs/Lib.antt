@@ -1,0 +1,3 @@
+pub mod Examples
+pub mod Opened
+pub mod Parents

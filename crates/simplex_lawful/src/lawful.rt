@@ -1,0 +1,6 @@
+//! Runs and members by the code's own steps and replies, with the laws of votes over all that they did so far.
+
+mod journaled;
+mod living;
+
+pub use living::{LawfulMember, run_lawfully};

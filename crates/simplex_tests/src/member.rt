@@ -1,0 +1,173 @@
+//! Members of plain parts: one that goes on from its journal, one that begins at a floor, and their timeouts.
+
+mod floors;
+mod records;
+mod timeouts;
+
+ghost use Rattle.std.specs.Prelude.{◌≡◌, IfOk, length};
+ghost use Rattle.simplex_types.specs.Plain.{members_of, keys_of};
+
+use simplex_member::member::{Call, Member, RecoverError, Reply, Restart, ResumeError, Start, Stored};
+use simplex_types::config::Floor;
+use simplex_types::reasons::TimeoutReason;
+use simplex_types::types::plain::{PlainCertificate, PlainDigest, PlainElector, PlainScheme};
+use simplex_types::types::{
+    Artifact, Epoch, Fault, Notarization, Participant, Proposal, Round, TermLength, Terms, View,
+    ViewDelta,
+};
+use simplex_voter::voter::Config;
+use std::alloc::{AllocError, Global};
+use std::num::NonZeroU32;
+use std::test::Fail;
+
+type PlainMember = Member<PlainScheme, PlainElector, PlainDigest>;
+
+type PlainArtifact = Artifact<PlainScheme, PlainDigest>;
+
+/// How member 0 of four starts at genesis, in terms of one view, with so many views kept.
+fn start(
+    alloc: Global,
+    retention: u64,
+) -> Result<Start<PlainScheme, PlainElector, PlainDigest>, AllocError>
+    ensures { IfOk result (λ start. members_of start.settings.elector ≡ length (keys_of start.settings.scheme)) }
+{
+    let terms = Terms {
+        term_length: TermLength::new(NonZeroU32::MIN),
+        optimistic_views: 0,
+        stall_timeout: None,
+    };
+    let settings = Config {
+        scheme: PlainScheme::new(alloc, 4, Some(Participant::new(0)))?,
+        elector: PlainElector::new(4, terms),
+        epoch: Epoch::new(1),
+        view_retention: ViewDelta::new(retention),
+        leader_timeout: 1000,
+        certification_timeout: 2000,
+        timeout_retry: 500,
+        skip_budget: 4,
+    };
+    Ok(Start {
+        settings,
+        floor: Floor::Genesis(PlainDigest::new(0)),
+        now: 0,
+    })
+}
+
+fn first_notarization() -> Notarization<PlainScheme, PlainDigest> {
+    let round = Round {
+        epoch: Epoch::new(1),
+        view: View::new(1),
+    };
+    Notarization {
+        proposal: Proposal {
+            round,
+            parent: View::zero(),
+            payload: PlainDigest::new(7),
+        },
+        certificate: PlainCertificate { good: true },
+    }
+}
+
+fn finalizes_first(member: &mut PlainMember) -> bool {
+    let reply = member.call(Call::ConstructFinalize(View::new(1)));
+    matches!(reply, Reply::Finalize(Some(_)))
+}
+
+fn nullifies_first(member: &mut PlainMember) -> bool {
+    let reply = member.call(Call::ConstructNullify(View::new(1), TimeoutReason::LeaderTimeout));
+    matches!(reply, Reply::Nullify(Some(_)))
+}
+
+/// A member that may vote to finalize view 1.
+fn certified(alloc: Global) -> Result<PlainMember, Fail> {
+    let mut member = Member::start(alloc, start(alloc, 10)?)?;
+    member.call(Call::AddNotarization(first_notarization()));
+    member.call(Call::Certified(View::new(1), true, 10));
+    Ok(member)
+}
+
+/// What a journal reads back of a member.
+fn read_back(alloc: Global, member: &PlainMember) -> Result<(Stored, Vec<PlainArtifact>), Fault> {
+    let mut entries = Vec::new(alloc);
+    for artifact in member.record_since(0) {
+        entries.push(artifact.clone(alloc)?)?;
+    }
+    Ok((member.stored(), entries))
+}
+
+/// A member that voted to finalize view 1 and was pruned, as a journal reads it back.
+fn pruned(alloc: Global) -> Result<(Stored, Vec<PlainArtifact>), Fail> {
+    let mut member = certified(alloc)?;
+    finalizes_first(&mut member);
+    member.restart(Restart {
+        drop: 0,
+        prune: true,
+        start: start(alloc, 10)?,
+    })?;
+    Ok(read_back(alloc, &member)?)
+}
+
+/// Why a member does not go on from a journal, with the entries.
+fn refused(
+    alloc: Global,
+    retention: u64,
+    stored: Stored,
+    entries: Vec<PlainArtifact>,
+) -> Result<(ResumeError, Vec<PlainArtifact>), Fail> {
+    match Member::resume(alloc, start(alloc, retention)?, stored, entries) {
+        Ok(_) => Err(Fail::from("resumed")),
+        Err(refusal) => Ok((refusal.error, refusal.entries)),
+    }
+}
+
+#[test]
+fn a_member_that_resumes_does_not_vote_again(rt: HostRuntime) -> Result<(), Fail> {
+    let alloc = rt.alloc();
+    let mut member = certified(alloc)?;
+    assert!(rt; finalizes_first(&mut member));
+    let (stored, entries) = read_back(alloc, &member)?;
+    assert_eq!(rt; entries.len(), 3);
+    let Ok(mut resumed) = Member::resume(alloc, start(alloc, 10)?, stored, entries) else {
+        return Err(Fail::from("refused"));
+    };
+    assert!(rt; !finalizes_first(&mut resumed));
+    assert!(rt; !nullifies_first(&mut resumed));
+    assert!(rt; resumed.record_since(3).is_empty());
+    assert_eq!(rt; resumed.stored(), stored);
+    Ok(())
+}
+
+#[test]
+fn a_member_that_did_not_vote_votes_after_it_resumed(rt: HostRuntime) -> Result<(), Fail> {
+    let alloc = rt.alloc();
+    let (stored, entries) = read_back(alloc, &certified(alloc)?)?;
+    let Ok(mut resumed) = Member::resume(alloc, start(alloc, 10)?, stored, entries) else {
+        return Err(Fail::from("refused"));
+    };
+    assert!(rt; finalizes_first(&mut resumed));
+    assert_eq!(rt; resumed.record_since(2).len(), 1);
+    Ok(())
+}
+
+#[test]
+fn a_shorter_record_is_refused(rt: HostRuntime) -> Result<(), Fail> {
+    let alloc = rt.alloc();
+    let (stored, mut entries) = pruned(alloc)?;
+    assert_eq!(rt; stored.closed, 3);
+    entries.truncate(2);
+    let (error, entries) = refused(alloc, 10, stored, entries)?;
+    assert_eq!(rt; error, ResumeError::EntriesLost);
+    assert_eq!(rt; entries.len(), 2);
+    Ok(())
+}
+
+#[test]
+fn a_larger_retention_is_refused(rt: HostRuntime) -> Result<(), Fail> {
+    let alloc = rt.alloc();
+    let (stored, entries) = pruned(alloc)?;
+    let (error, entries) = refused(alloc, 11, stored, entries)?;
+    assert_eq!(rt; error, ResumeError::Recover(RecoverError::RetentionGrown));
+    let again = Member::resume(alloc, start(alloc, 10)?, stored, entries);
+    assert!(rt; again.is_ok());
+    Ok(())
+}

@@ -1,0 +1,53 @@
+//! Timeouts of a member of plain parts: a skip budget, a stall, a vote without a key, and a moment past 64 bits.
+
+use super::{PlainMember, first_notarization, start};
+use simplex_member::member::{Call, Member, RecoverError, Reply};
+use simplex_types::reasons::TimeoutReason;
+use simplex_types::types::View;
+use std::alloc::Global;
+use std::test::Fail;
+
+/// The next timeout with its reason, if there is one.
+fn next_timeout(member: &mut PlainMember, now: u64) -> Option<(u64, TimeoutReason)> {
+    match member.call(Call::NextTimeout(now)) {
+        Reply::Timeout(moment, reason) => Some((moment, reason)),
+        _ => None,
+    }
+}
+
+/// A member in view 1 with a proposal, whose leader gave the view up at 5 milliseconds.
+fn given_up(alloc: Global, skip_budget: u64) -> Result<PlainMember, Fail> {
+    let mut begun = start(alloc, 10)?;
+    begun.settings.skip_budget = skip_budget;
+    let mut member = Member::start(alloc, begun)?;
+    let proposal = first_notarization().proposal;
+    member.call(Call::SetProposal(View::new(1), proposal));
+    member.call(Call::TriggerTimeout(View::new(1), TimeoutReason::LeaderNullify, 5));
+    Ok(member)
+}
+
+#[test]
+fn a_latched_timeout_counts_within_the_skip_budget(rt: HostRuntime) -> Result<(), Fail> {
+    let alloc = rt.alloc();
+    let mut patient = given_up(alloc, 0)?;
+    let waits = Some((2000, TimeoutReason::CertificationTimeout));
+    assert_eq!(rt; next_timeout(&mut patient, 5), waits);
+    let mut eager = given_up(alloc, 1)?;
+    let skips = Some((5, TimeoutReason::LeaderNullify));
+    assert_eq!(rt; next_timeout(&mut eager, 5), skips);
+    Ok(())
+}
+
+#[test]
+fn a_start_whose_deadline_passes_64_bits_is_refused(rt: HostRuntime) -> Result<(), Fail> {
+    let alloc = rt.alloc();
+    let mut begun = start(alloc, 10)?;
+    begun.now = u64::MAX;
+    match Member::start(alloc, begun) {
+        Ok(_) => Err(Fail::from("started")),
+        Err(error) => {
+            assert_eq!(rt; error, RecoverError::TimeOverflow);
+            Ok(())
+        }
+    }
+}
