@@ -39,6 +39,7 @@ pub mod NewLives
 pub mod WorkLives
 pub mod RunsLawful
 pub mod Quorums
+pub mod TwoVotes
 pub mod Claims
 pub mod Rising
 pub mod WithinLives
@@ -102,3 +103,4 @@ pub mod Exactly
 pub mod Scripts
 pub mod Living
 pub mod Shown
+pub mod Accountability

@@ -15,7 +15,7 @@ module _ {X : Type 0} where
   AtLeastFrom-le-length P i (suc a) (x ∷ xs) (inr h) = let k = AtLeastFrom-le-length P (suc i) (suc a) xs h in omega arith
 
   -- where a of the items have P and b have Q, as many as a and b are more than the items have both
-  AtLeastFrom-both : (P Q : ℕ → X → Type 0) (i a b c : ℕ) (xs : List X) → length xs + c ≤ a + b → AtLeastFrom i a P xs → AtLeastFrom i b Q xs → AtLeastFrom i c (λ j x. P j x × Q j x) xs
+  pub AtLeastFrom-both : (P Q : ℕ → X → Type 0) (i a b c : ℕ) (xs : List X) → length xs + c ≤ a + b → AtLeastFrom i a P xs → AtLeastFrom i b Q xs → AtLeastFrom i c (λ j x. P j x × Q j x) xs
   AtLeastFrom-both P Q i a b zero xs e h k = tt
   AtLeastFrom-both P Q i zero b (suc c) xs e h k = let l = AtLeastFrom-le-length Q i b xs k in absurd (omega arith)
   AtLeastFrom-both P Q i (suc a) zero (suc c) xs e h k = let l = AtLeastFrom-le-length P i (suc a) xs h in absurd (omega arith)
@@ -24,6 +24,13 @@ module _ {X : Type 0} where
   AtLeastFrom-both P Q i (suc a) (suc b) (suc c) (x ∷ xs) e (inl h) (inr k) = inr (AtLeastFrom-both P Q (suc i) a (suc b) (suc c) xs (omega arith) h.1 k)
   AtLeastFrom-both P Q i (suc a) (suc b) (suc c) (x ∷ xs) e (inr h) (inl k) = inr (AtLeastFrom-both P Q (suc i) (suc a) b (suc c) xs (omega arith) h k.1)
   AtLeastFrom-both P Q i (suc a) (suc b) (suc c) (x ∷ xs) e (inr h) (inr k) = inr (AtLeastFrom-both P Q (suc i) (suc a) (suc b) (suc c) xs (omega arith) h k)
+
+  -- what holds wherever another does
+  pub AtLeastFrom-map : (P Q : ℕ → X → Type 0) (i count : ℕ) (xs : List X) → ((j : ℕ) (x : X) → P j x → Q j x) → AtLeastFrom i count P xs → AtLeastFrom i count Q xs
+  AtLeastFrom-map P Q i zero xs f h = tt
+  AtLeastFrom-map P Q i (suc count) [] f h = absurd h
+  AtLeastFrom-map P Q i (suc count) (x ∷ xs) f (inl h) = inl (f i x h.0, AtLeastFrom-map P Q (suc i) count xs f h.1)
+  AtLeastFrom-map P Q i (suc count) (x ∷ xs) f (inr h) = inr (AtLeastFrom-map P Q (suc i) (suc count) xs f h)
 
 module _ {K L D : Type 0} where
   one_more : (p : Place K L D) (network : List (Place K L D)) → faults (p ∷ network) ≡ cond (is_faulty p) 1 0 + faults network

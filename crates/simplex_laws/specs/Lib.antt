@@ -1,5 +1,6 @@
 pub mod Deeds
 pub mod Lawful
+pub mod Accountability
 pub mod Fresh
 pub mod LifeLaws
 pub mod Outside

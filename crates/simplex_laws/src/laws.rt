@@ -1,6 +1,7 @@
 //! The laws of members: agreement and the laws of votes, networks in which they are exercised, what lives keep in order, and
 //! what holds of records and histories. Nothing here does anything: the contracts are the laws.
 
+mod contradictions;
 mod histories;
 mod instances;
 mod lives;
@@ -8,6 +9,7 @@ mod network;
 mod own_record;
 mod resumes;
 
+pub use contradictions::accountability;
 pub use histories::histories_are_shown;
 pub use instances::{restarts_are_runs, skipped_views_are_agreed_on, terms_are_agreed_on};
 pub use lives::{current_views_time_out, lives_keep_order, runs_keep_order};

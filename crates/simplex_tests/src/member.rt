@@ -2,12 +2,16 @@
 
 mod floors;
 mod records;
+mod retentions;
+mod runs;
 mod timeouts;
 
 ghost use Rattle.std.specs.Prelude.{◌≡◌, IfOk, length};
 ghost use Rattle.simplex_types.specs.Plain.{members_of, keys_of};
 
-use simplex_member::member::{Call, Member, RecoverError, Reply, Restart, ResumeError, Start, Stored};
+use simplex_member::member::{
+    Call, Member, RecoverError, Reply, Restart, ResumeError, Start, Stored,
+};
 use simplex_types::config::Floor;
 use simplex_types::reasons::TimeoutReason;
 use simplex_types::types::plain::{PlainCertificate, PlainDigest, PlainElector, PlainScheme};
@@ -24,6 +28,15 @@ type PlainMember = Member<PlainScheme, PlainElector, PlainDigest>;
 
 type PlainArtifact = Artifact<PlainScheme, PlainDigest>;
 
+/// Terms of one view.
+fn terms_of_one() -> Terms {
+    Terms {
+        term_length: TermLength::new(NonZeroU32::MIN),
+        optimistic_views: 0,
+        stall_timeout: None,
+    }
+}
+
 /// How member 0 of four starts at genesis, in terms of one view, with so many views kept.
 fn start(
     alloc: Global,
@@ -31,11 +44,17 @@ fn start(
 ) -> Result<Start<PlainScheme, PlainElector, PlainDigest>, AllocError>
     ensures { IfOk result (λ start. members_of start.settings.elector ≡ length (keys_of start.settings.scheme)) }
 {
-    let terms = Terms {
-        term_length: TermLength::new(NonZeroU32::MIN),
-        optimistic_views: 0,
-        stall_timeout: None,
-    };
+    start_in(alloc, retention, terms_of_one())
+}
+
+/// How member 0 of four starts at genesis, in such terms, with so many views kept.
+fn start_in(
+    alloc: Global,
+    retention: u64,
+    terms: Terms,
+) -> Result<Start<PlainScheme, PlainElector, PlainDigest>, AllocError>
+    ensures { IfOk result (λ start. members_of start.settings.elector ≡ length (keys_of start.settings.scheme)) }
+{
     let settings = Config {
         scheme: PlainScheme::new(alloc, 4, Some(Participant::new(0)))?,
         elector: PlainElector::new(4, terms),
@@ -53,19 +72,30 @@ fn start(
     })
 }
 
-fn first_notarization() -> Notarization<PlainScheme, PlainDigest> {
-    let round = Round {
+fn round(view: u64) -> Round {
+    Round {
         epoch: Epoch::new(1),
-        view: View::new(1),
-    };
+        view: View::new(view),
+    }
+}
+
+fn proposal(view: u64, parent: u64, payload: u64) -> Proposal<PlainDigest> {
+    Proposal {
+        round: round(view),
+        parent: View::new(parent),
+        payload: PlainDigest::new(payload),
+    }
+}
+
+fn notarization(view: u64, parent: u64, payload: u64) -> Notarization<PlainScheme, PlainDigest> {
     Notarization {
-        proposal: Proposal {
-            round,
-            parent: View::zero(),
-            payload: PlainDigest::new(7),
-        },
+        proposal: proposal(view, parent, payload),
         certificate: PlainCertificate { good: true },
     }
+}
+
+fn first_notarization() -> Notarization<PlainScheme, PlainDigest> {
+    notarization(1, 0, 7)
 }
 
 fn finalizes_first(member: &mut PlainMember) -> bool {

@@ -4,9 +4,7 @@
 ghost use Rattle.std.specs.Prelude.{◌≤◌};
 ghost use Rattle.simplex_types.specs.Viewed.{certificate_view};
 
-use simplex_resolver::resolver::Effect;
-use simplex_resolver::resolver::apply;
-use simplex_resolver::resolver::State;
+use simplex_resolver::resolver::{Effect, State, apply};
 use simplex_types::reasons::Kind;
 use simplex_types::types::plain::{PlainCertificate, PlainDigest, PlainScheme};
 use simplex_types::types::{

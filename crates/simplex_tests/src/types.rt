@@ -2,7 +2,9 @@ ghost use Rattle.std.specs.Prelude.{◌≡◌, ◌<◌, ◌≤◌, ◌^◌, IfOk
 ghost use Rattle.std.specs.Option.{ForSome};
 
 use simplex_types::config::{Config, ConfigError, Floor, ForwardPolicy, SkipBudget, SkipPolicy};
-use simplex_types::reasons::{Ask, FetchReason, HandoffAbandonedReason, Kind, TimeoutReason, Until};
+use simplex_types::reasons::{
+    Ask, FetchReason, HandoffAbandonedReason, Kind, TimeoutReason, Until,
+};
 use simplex_types::types::plain::{
     PlainCertificate, PlainDigest, PlainElector, PlainKey, PlainScheme, PlainSignature,
 };

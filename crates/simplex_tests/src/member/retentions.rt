@@ -1,0 +1,81 @@
+//! Retentions that shrink and grow over the lives of a member of plain parts.
+
+use super::{PlainMember, notarization, proposal, start};
+use simplex_member::member::{Call, Member, RecoverError, Reply, Restart};
+use simplex_types::types::plain::PlainCertificate;
+use simplex_types::types::{Finalization, View};
+use std::alloc::Global;
+use std::test::Fail;
+
+/// Another life that keeps so many views.
+fn restart(
+    alloc: Global,
+    member: &mut PlainMember,
+    prune: bool,
+    retention: u64,
+) -> Result<Result<(), RecoverError>, Fail> {
+    Ok(member.restart(Restart {
+        drop: 0,
+        prune,
+        start: start(alloc, retention)?,
+    }))
+}
+
+/// A member that keeps ten views, and accepted a finalization of view 20 and a notarization of view 12.
+fn finalized_at_20(alloc: Global) -> Result<PlainMember, Fail> {
+    let mut member = Member::start(alloc, start(alloc, 10)?)?;
+    let finalization = Finalization {
+        proposal: proposal(20, 19, 7),
+        certificate: PlainCertificate { good: true },
+    };
+    member.call(Call::AddFinalization(finalization, 5));
+    member.call(Call::AddNotarization(notarization(12, 11, 7)));
+    Ok(member)
+}
+
+/// The views that a pruning drops, if it drops any.
+fn dropped(member: &mut PlainMember) -> [Option<View>; 4] {
+    let Reply::Views(views) = member.call(Call::Prune) else {
+        return [None; 4];
+    };
+    [0, 1, 2, 3].map(|place| views.get(place).copied())
+}
+
+#[test]
+fn a_shrunk_retention_leaves_the_record_as_the_last_life_kept_it(
+    rt: HostRuntime,
+) -> Result<(), Fail> {
+    let alloc = rt.alloc();
+    let mut member = finalized_at_20(alloc)?;
+    assert_eq!(rt; restart(alloc, &mut member, true, 5)?, Ok(()));
+    assert_eq!(rt; member.record().len(), 2);
+    let Some(state) = member.state() else {
+        return Err(Fail::from("failed"));
+    };
+    assert_eq!(rt; state.min_active(), View::new(15));
+    assert!(rt; state.notarization(View::new(12)).is_some());
+    let views = [1, 12, 13].map(View::new);
+    assert_eq!(rt;
+        dropped(&mut member),
+        [Some(views[0]), Some(views[1]), Some(views[2]), None]
+    );
+    let Some(state) = member.state() else {
+        return Err(Fail::from("failed"));
+    };
+    assert!(rt; state.notarization(View::new(12)).is_none());
+    Ok(())
+}
+
+#[test]
+fn a_retention_grows_only_while_nothing_was_pruned(rt: HostRuntime) -> Result<(), Fail> {
+    let alloc = rt.alloc();
+    let mut member = finalized_at_20(alloc)?;
+    let grown = Err(RecoverError::RetentionGrown);
+    assert_eq!(rt; restart(alloc, &mut member, true, 11)?, grown);
+    assert_eq!(rt; member.record().len(), 2);
+    assert!(rt; member.state().is_some());
+    assert_eq!(rt; restart(alloc, &mut member, true, 10)?, Ok(()));
+    assert_eq!(rt; restart(alloc, &mut member, false, 11)?, grown);
+    assert_eq!(rt; restart(alloc, &mut member, false, 5)?, Ok(()));
+    Ok(())
+}

@@ -1,0 +1,69 @@
+//! A whole run of a member of plain parts, with a restart in it.
+
+use super::{first_notarization, start};
+use simplex_member::member::{Call, Reply, Restart, Step, run};
+use simplex_types::reasons::TimeoutReason;
+use simplex_types::types::View;
+use simplex_types::types::plain::{PlainDigest, PlainElector, PlainScheme};
+use std::test::Fail;
+
+type PlainStep = Step<PlainScheme, PlainElector, PlainDigest>;
+
+fn nullify_first(reason: TimeoutReason) -> PlainStep {
+    Step::Call(Call::ConstructNullify(View::new(1), reason))
+}
+
+fn finalize_first() -> PlainStep {
+    Step::Call(Call::ConstructFinalize(View::new(1)))
+}
+
+/// What a reply of the run tells.
+fn told(reply: &Reply<PlainScheme, PlainDigest>) -> &'static str {
+    match reply {
+        Reply::Nullify(Some((false, _))) => "a vote to nullify",
+        Reply::Nullify(Some((true, _))) => "the vote to nullify again",
+        Reply::Added(true, None) => "newly added",
+        Reply::Certified(Some(_)) => "certified",
+        Reply::Nullify(None) | Reply::Finalize(None) => "no vote",
+        Reply::Restarted => "restarted",
+        _ => "another reply",
+    }
+}
+
+#[test]
+fn a_member_that_voted_to_nullify_a_view_never_votes_to_finalize_it(
+    rt: HostRuntime,
+) -> Result<(), Fail> {
+    let alloc = rt.alloc();
+    let restart = Restart {
+        drop: 0,
+        prune: false,
+        start: start(alloc, 10)?,
+    };
+    let steps = vec![in alloc;
+        nullify_first(TimeoutReason::LeaderTimeout),
+        nullify_first(TimeoutReason::LeaderTimeout),
+        Step::Call(Call::AddNotarization(first_notarization())),
+        Step::Call(Call::Certified(View::new(1), true, 10)),
+        finalize_first(),
+        Step::Restart(restart),
+        finalize_first(),
+        nullify_first(TimeoutReason::Retry),
+    ]?;
+    let replies = run(alloc, start(alloc, 10)?, steps)?;
+    let wanted = [
+        "a vote to nullify",
+        "the vote to nullify again",
+        "newly added",
+        "certified",
+        "no vote",
+        "restarted",
+        "no vote",
+        "no vote",
+    ];
+    assert_eq!(rt; replies.len(), wanted.len());
+    for (reply, text) in replies.iter().zip(wanted) {
+        assert_eq!(rt; told(reply), text);
+    }
+    Ok(())
+}
