@@ -1,0 +1,54 @@
+//! A digest of as many bytes as its user says.
+
+ghost use Rattle.std.specs.Prelude.{◌≡◌, length};
+
+use simplex_types::types::Digest;
+
+/// A digest of `N` bytes.
+#[derive(Clone, Copy, PartialEq, Eq, PartialOrd, Ord, Hash, Debug)]
+pub struct BytesDigest<const N: usize> {
+    bytes: [u8; N],
+    ghost sized: { length bytes ≡ N },
+}
+
+impl<const N: usize> Digest for BytesDigest<N> {
+    ghost use Rattle.simplex_codec.specs.Digests.{digest_bytes, digest_from_eq, digest_eq_self, same_digest};
+
+    const SIZE: usize = N;
+
+    ghost SIZE = { N };
+
+    ghost bytes = { digest_bytes };
+
+    fn as_bytes(&self) -> &[u8] {
+        &self.bytes
+    }
+
+    ghost length_bytes = { λ d. d.sized };
+
+    ghost equal_is_same = { digest_from_eq };
+
+    ghost same_is_equal = { digest_eq_self };
+
+    ghost bytes_injective = { same_digest };
+}
+
+impl<const N: usize> From<[u8; N]> for BytesDigest<N> {
+    ghost use Rattle.simplex_codec.specs.Digests.{digest_bytes};
+
+    ghost from_gives = { λ bytes digest. digest_bytes digest ≡ bytes };
+
+    fn from(bytes: [u8; N]) -> BytesDigest<N> {
+        BytesDigest { bytes }
+    }
+}
+
+impl<const N: usize> From<BytesDigest<N>> for [u8; N] {
+    ghost use Rattle.simplex_codec.specs.Digests.{digest_bytes};
+
+    ghost from_gives = { λ digest bytes. bytes ≡ digest_bytes digest };
+
+    fn from(digest: BytesDigest<N>) -> [u8; N] {
+        digest.bytes
+    }
+}
