@@ -1,1 +1,3 @@
 pub mod Digests
+pub mod Plain
+pub mod Reading

@@ -2,6 +2,7 @@
 
 ghost use Rattle.std.specs.Prelude.{◌≡◌, length};
 
+use crate::hooks::DigestCodec;
 use simplex_types::types::Digest;
 
 /// A digest of `N` bytes.
@@ -31,6 +32,16 @@ impl<const N: usize> Digest for BytesDigest<N> {
     ghost same_is_equal = { digest_eq_self };
 
     ghost bytes_injective = { same_digest };
+}
+
+impl<const N: usize> DigestCodec for BytesDigest<N> {
+    fn read(bytes: &[u8]) -> Option<BytesDigest<N>> {
+        let (front, rest) = bytes.split_first_chunk::<N>()?;
+        if !rest.is_empty() {
+            return None;
+        }
+        Some(BytesDigest { bytes: *front })
+    }
 }
 
 impl<const N: usize> From<[u8; N]> for BytesDigest<N> {

@@ -2,3 +2,7 @@
 #![tactic(auto)]
 
 pub mod digest;
+pub mod error;
+pub mod hooks;
+mod parts;
+pub mod plain;

@@ -1,0 +1,54 @@
+//! Why bytes are not read back.
+
+use std::alloc::AllocError;
+use std::error::Error;
+use std::fmt;
+
+/// Why bytes were not read back: what is wrong with them, the first fault from left to right, or want of memory.
+#[derive(Clone, Copy, PartialEq, Eq, Debug)]
+pub enum DecodeError {
+    /// A growth was refused for want of memory. It says nothing of the bytes.
+    OutOfMemory,
+    /// The bytes end within the parts that their kind begins with.
+    TooShort,
+    /// The first byte, which is given, marks no kind.
+    UnknownKind(u8),
+    /// The bytes in the payload's place are no digest's.
+    UnreadablePayload,
+    /// The bytes that are left for the certificate are none of the scheme's.
+    UnreadableCertificate,
+    /// The bytes that are left for the signature are none of the scheme's.
+    UnreadableSignature,
+    /// The byte of a verdict, which is given, is neither 0 nor 1.
+    UnknownVerdict(u8),
+    /// Bytes are left over.
+    TrailingBytes,
+}
+
+impl fmt::Display for DecodeError {
+    fn fmt<W: fmt::Write>(&self, f: &mut fmt::Formatter<W>) -> fmt::Result {
+        match self {
+            DecodeError::OutOfMemory => write!(f, "no memory is left"),
+            DecodeError::TooShort => write!(f, "the bytes end early"),
+            DecodeError::UnknownKind(kind) => write!(f, "{kind} is no kind"),
+            DecodeError::UnreadablePayload => write!(f, "the payload is no digest"),
+            DecodeError::UnreadableCertificate => write!(f, "the certificate is not the scheme's"),
+            DecodeError::UnreadableSignature => write!(f, "the signature is not the scheme's"),
+            DecodeError::UnknownVerdict(verdict) => write!(f, "{verdict} is no verdict"),
+            DecodeError::TrailingBytes => write!(f, "bytes are left over"),
+        }
+    }
+}
+
+impl Error for DecodeError {}
+
+impl From<AllocError> for DecodeError {
+    ghost use Rattle.std.specs.Prelude.{◌≡◌};
+    ghost use Rattle.simplex_codec.specs.declared.error.DecodeError.TheVariants.{OutOfMemory};
+
+    ghost from_gives = { λ _ error. error ≡ OutOfMemory };
+
+    fn from(_refused: AllocError) -> DecodeError {
+        DecodeError::OutOfMemory
+    }
+}
