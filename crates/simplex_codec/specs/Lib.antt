@@ -1,3 +1,4 @@
 pub mod Digests
 pub mod Plain
 pub mod Reading
+pub mod Refusals
