@@ -19,7 +19,7 @@ none_read bytes_of bytes None reads is = reads
 none_read bytes_of bytes (Some x) reads is = absurd cc
 
 -- the payload stands behind the numbers
-payload_at : (before payload own : List ℕ) (n size : ℕ) → length before ≡ n → length payload ≡ size → take size (drop n ((before ++ payload) ++ own)) ≡ payload
+pub payload_at : (before payload own : List ℕ) (n size : ℕ) → length before ≡ n → length payload ≡ size → take size (drop n ((before ++ payload) ++ own)) ≡ payload
 payload_at before payload own n size long sized =
     let regrouped : drop (length before) ((before ++ payload) ++ own) ≡ payload ++ own = ap (λ l. drop (length before) l) (append_assoc before payload own) ∙ drop-append_seam before (payload ++ own) in
     let at : drop n ((before ++ payload) ++ own) ≡ payload ++ own = subst (λ k. drop k ((before ++ payload) ++ own) ≡ payload ++ own) long regrouped in
@@ -32,16 +32,16 @@ own_bytes (Nullified c) = c.bytes
 own_bytes (Finalized c) = c.bytes
 
 module _ {D C : Type 0} (payload : D → List ℕ) (size : ℕ) (sized : (d : D) → length (payload d) ≡ size) (bytes_of : C → List ℕ) (apart : EncodingTellsApart payload) where
-  abbrev numbers : Proposal D → List ℕ
+  abbrev pub numbers : Proposal D → List ℕ
   numbers p = round_bytes p.round ++ to_be_bytes w64 p.parent
 
-  numbers_length : (p : Proposal D) → length (numbers p) ≡ 24
+  pub numbers_length : (p : Proposal D) → length (numbers p) ≡ 24
   numbers_length p = refl
 
   same_own : (c d : CertificateFacts D) → c ≡ d → own_bytes c ≡ own_bytes d
   same_own c d same = ap own_bytes same
 
-  no_payload_refusal : (p : Proposal D) (own : List ℕ) (error : DecodeError) → IsPayloadRefusal payload 24 size (proposal_bytes payload p ++ own) error → ⊥
+  pub no_payload_refusal : (p : Proposal D) (own : List ℕ) (error : DecodeError) → IsPayloadRefusal payload 24 size (proposal_bytes payload p ++ own) error → ⊥
   no_payload_refusal p own TooShort refused = absurd (omega (arith, refused, length-append (proposal_bytes payload p) own, length-append (numbers p) (payload p.payload), sized p.payload, numbers_length p))
   no_payload_refusal p own UnreadablePayload refused = refused.1 p.payload (sym (payload_at (numbers p) (payload p.payload) own 24 size (numbers_length p) (sized p.payload)))
   no_payload_refusal p own OutOfMemory refused = refused
@@ -51,13 +51,13 @@ module _ {D C : Type 0} (payload : D → List ℕ) (size : ℕ) (sized : (d : D)
   no_payload_refusal p own (UnknownVerdict v) refused = refused
   no_payload_refusal p own TrailingBytes refused = refused
 
-  no_proposal_refusal : (p : Proposal D) (c : C) → IsEncodableProposal p → (error : DecodeError) → IsProposalRefusal payload size bytes_of (proposal_bytes payload p ++ bytes_of c) error → error ≡ OutOfMemory
+  pub no_proposal_refusal : (p : Proposal D) (c : C) → IsEncodableProposal p → (error : DecodeError) → IsProposalRefusal payload size bytes_of (proposal_bytes payload p ++ bytes_of c) error → error ≡ OutOfMemory
   no_proposal_refusal p c fits OutOfMemory refused = refl
   no_proposal_refusal p c fits UnreadableCertificate refused =
       let known : ProposalFacts D = record { proposal = p; bytes = bytes_of c } in
       let other : ProposalFacts D = record { proposal = refused.proposal; bytes = refused.own } in
       let same = apart (Notarized known) (Notarized other) fits refused.fits (ap (λ l. 0 ∷ l) refused.parts) in
-      absurd (refused.none c (same_own (Notarized known) (Notarized other) same))
+      absurd (refused.unreadable c (same_own (Notarized known) (Notarized other) same))
   no_proposal_refusal p c fits TooShort refused = absurd (no_payload_refusal p (bytes_of c) TooShort refused)
   no_proposal_refusal p c fits UnreadablePayload refused = absurd (no_payload_refusal p (bytes_of c) UnreadablePayload refused)
   no_proposal_refusal p c fits (UnknownKind k) refused = absurd refused
@@ -65,13 +65,13 @@ module _ {D C : Type 0} (payload : D → List ℕ) (size : ℕ) (sized : (d : D)
   no_proposal_refusal p c fits (UnknownVerdict v) refused = absurd refused
   no_proposal_refusal p c fits TrailingBytes refused = absurd refused
 
-  no_round_refusal : (r : Round) (c : C) → IsEncodableRound r → (error : DecodeError) → IsRoundRefusal bytes_of (round_bytes r ++ bytes_of c) error → error ≡ OutOfMemory
+  pub no_round_refusal : (r : Round) (c : C) → IsEncodableRound r → (error : DecodeError) → IsRoundRefusal bytes_of (round_bytes r ++ bytes_of c) error → error ≡ OutOfMemory
   no_round_refusal r c fits OutOfMemory refused = refl
   no_round_refusal r c fits UnreadableCertificate refused =
       let known : NullificationFacts = record { round = r; bytes = bytes_of c } in
       let other : NullificationFacts = record { round = refused.round; bytes = refused.own } in
       let same = apart (Nullified known) (Nullified other) fits refused.fits (ap (λ l. 1 ∷ l) refused.parts) in
-      absurd (refused.none c (same_own (Nullified known) (Nullified other) same))
+      absurd (refused.unreadable c (same_own (Nullified known) (Nullified other) same))
   no_round_refusal r c fits TooShort refused = absurd (omega arith)
   no_round_refusal r c fits UnreadablePayload refused = absurd refused
   no_round_refusal r c fits (UnknownKind k) refused = absurd refused

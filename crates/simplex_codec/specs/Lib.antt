@@ -2,3 +2,4 @@ pub mod Digests
 pub mod Plain
 pub mod Reading
 pub mod Refusals
+pub mod Artifacts

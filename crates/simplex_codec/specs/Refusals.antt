@@ -12,21 +12,21 @@ use Rattle.simplex_codec.specs.Reading.{NoneHas}
 abbrev pub IsEncodableProposal : {D : Type 0} → Proposal D → Type 0
 IsEncodableProposal p = IsEncodableRound p.round × (p.parent < 2 ^ 64)
 
--- a proposal and bytes that no value has
-pub record HasNoneBehindProposal {D X : Type 0} (payload_bytes : D → List ℕ) (bytes_of : X → List ℕ) (bytes : List ℕ) : Type 0 where
+-- a proposal, and behind it bytes that are not readable
+pub record IsUnreadableBehindProposal {D : Type 0} (payload_bytes : D → List ℕ) (is_unreadable : List ℕ → Type 0) (bytes : List ℕ) : Type 0 where
   pub proposal : Proposal D
   pub own : List ℕ
   pub fits : IsEncodableProposal proposal
   pub parts : bytes ≡ proposal_bytes payload_bytes proposal ++ own
-  pub none : NoneHas bytes_of own
+  pub unreadable : is_unreadable own
 
--- a round and bytes that no value has
-pub record HasNoneBehindRound {X : Type 0} (bytes_of : X → List ℕ) (bytes : List ℕ) : Type 0 where
+-- a round, and behind it bytes that are not readable
+pub record IsUnreadableBehindRound (is_unreadable : List ℕ → Type 0) (bytes : List ℕ) : Type 0 where
   pub round : Round
   pub own : List ℕ
   pub fits : IsEncodableRound round
   pub parts : bytes ≡ round_bytes round ++ own
-  pub none : NoneHas bytes_of own
+  pub unreadable : is_unreadable own
 
 -- why bytes are not so many bytes and then a payload of this size
 abbrev pub IsPayloadRefusal : {D : Type 0} → (D → List ℕ) → ℕ → ℕ → List ℕ → DecodeError → Type 0
@@ -37,14 +37,14 @@ IsPayloadRefusal payload_bytes before size bytes _ = ⊥
 -- why bytes are not a proposal, three numbers and a payload, and a certificate behind it
 abbrev pub IsProposalRefusal : {D C : Type 0} → (D → List ℕ) → ℕ → (C → List ℕ) → List ℕ → DecodeError → Type 0
 IsProposalRefusal payload_bytes size bytes_of bytes OutOfMemory = Unit {0}
-IsProposalRefusal payload_bytes size bytes_of bytes UnreadableCertificate = HasNoneBehindProposal payload_bytes bytes_of bytes
+IsProposalRefusal payload_bytes size bytes_of bytes UnreadableCertificate = IsUnreadableBehindProposal payload_bytes (NoneHas bytes_of) bytes
 IsProposalRefusal payload_bytes size bytes_of bytes error = IsPayloadRefusal payload_bytes 24 size bytes error
 
 -- why bytes are not a round and a certificate behind it
 abbrev pub IsRoundRefusal : {C : Type 0} → (C → List ℕ) → List ℕ → DecodeError → Type 0
 IsRoundRefusal bytes_of bytes OutOfMemory = Unit {0}
 IsRoundRefusal bytes_of bytes TooShort = length bytes < 16
-IsRoundRefusal bytes_of bytes UnreadableCertificate = HasNoneBehindRound bytes_of bytes
+IsRoundRefusal bytes_of bytes UnreadableCertificate = IsUnreadableBehindRound (NoneHas bytes_of) bytes
 IsRoundRefusal bytes_of bytes _ = ⊥
 
 -- why bytes are no certificate's encoding: by the kind, which is 0 for a notarization, 1 for a nullification, 2 for a

@@ -7,19 +7,13 @@ ghost use Rattle.simplex_codec.specs.Refusals.{IsEncodableProposal, IsProposalRe
 
 use crate::error::DecodeError;
 use crate::hooks::{DigestCodec, SchemeCodec};
+use crate::kinds::{FINALIZATION, NOTARIZATION, NULLIFICATION};
 use crate::parts::{take_proposal, take_round};
 use simplex_types::types::encoding::encoding_tells_apart;
 use simplex_types::types::{
     Certificate, Finalization, Notarization, Nullification, Proposal, Round,
 };
 use std::alloc::Global;
-
-/// The first byte of an encoded notarization; likewise below.
-const NOTARIZATION: u8 = 0;
-/// The first byte of an encoded nullification.
-const NULLIFICATION: u8 = 1;
-/// The first byte of an encoded finalization.
-const FINALIZATION: u8 = 2;
 
 /// The certificate that `Certificate::encode` wrote these bytes of.
 ///
@@ -32,6 +26,7 @@ pub fn decode_certificate<S: SchemeCodec, D: DigestCodec>(
     bytes: &[u8],
 ) -> Result<Certificate<S, D>, DecodeError>
     ensures decoded { IfOk result (λ c. encoding D.bytes (certificate_facts S.certificate_bytes c) ≡ bytes.now) }
+    ensures fits { IfOk result (λ c. IsEncodable (certificate_facts S.certificate_bytes c)) }
     ensures refused { IfErr result (IsCertificateRefusal D.bytes D.SIZE S.certificate_bytes bytes.now) }
     ensures reads { ReadsCertificates D.bytes S.certificate_bytes bytes.now result }
 {

@@ -1,0 +1,81 @@
+-- The bytes of an artifact: those of a certificate are its encoding; a vote is its kind, its signer in four bytes, what it
+-- is on and last the signature; a verdict is its kind, its round and one byte.
+use Rattle.std.specs.Prelude.{◌≡◌, ◌<◌, ◌≤◌, ◌^◌, ℕ, zero, suc, Bool, List, [], ◌∷◌, ◌++◌, length, get_or, Option, Some, None, IfSome, Result, IfOk, IsOkUnless, if◌then◌else◌}
+use Rattle.std.specs.Int.{w32, to_be_bytes}
+use Rattle.simplex_types.specs.declared.types.messages.Artifact.{Artifact}
+use Rattle.simplex_types.specs.declared.types.messages.Artifact.TheVariants as artifact
+use Rattle.simplex_types.specs.Certificates.{Notarized, Nullified, Finalized, notarization_facts, nullification_facts, finalization_facts, artifact_facts, signature_in}
+use Rattle.simplex_types.specs.Encoding.{round_bytes, proposal_bytes, encoding, IsEncodableRound}
+use Rattle.simplex_codec.specs.declared.error.DecodeError.{DecodeError}
+use Rattle.simplex_codec.specs.declared.error.DecodeError.TheVariants.{OutOfMemory, TooShort, UnreadableSignature, UnknownVerdict, TrailingBytes}
+use Rattle.simplex_codec.specs.Refusals.{IsEncodableProposal, IsUnreadableBehindProposal, IsUnreadableBehindRound, IsPayloadRefusal, IsCertificateRefusal}
+
+abbrev pub verdict_byte : Bool → ℕ
+verdict_byte success = if success then 1 else 0
+
+-- the encoding of an artifact: 0 to 2 mark certificates, 3 a vote to notarize, 4 to nullify, 5 to finalize, 6 a verdict
+abbrev pub artifact_bytes : {S D K G C : Type 0} → (D → List ℕ) → (C → List ℕ) → (G → List ℕ) → Artifact S D K G C → List ℕ
+artifact_bytes payload_bytes bytes_of signature_bytes (artifact.Notarization n) = encoding payload_bytes (Notarized (notarization_facts bytes_of n))
+artifact_bytes payload_bytes bytes_of signature_bytes (artifact.Nullification n) = encoding payload_bytes (Nullified (nullification_facts bytes_of n))
+artifact_bytes payload_bytes bytes_of signature_bytes (artifact.Finalization f) = encoding payload_bytes (Finalized (finalization_facts bytes_of f))
+artifact_bytes payload_bytes bytes_of signature_bytes (artifact.Notarize vote) = 3 ∷ (to_be_bytes w32 vote.signer ++ (proposal_bytes payload_bytes vote.proposal ++ signature_bytes vote.signature))
+artifact_bytes payload_bytes bytes_of signature_bytes (artifact.Nullify vote) = 4 ∷ (to_be_bytes w32 vote.signer ++ (round_bytes vote.round ++ signature_bytes vote.signature))
+artifact_bytes payload_bytes bytes_of signature_bytes (artifact.Finalize vote) = 5 ∷ (to_be_bytes w32 vote.signer ++ (proposal_bytes payload_bytes vote.proposal ++ signature_bytes vote.signature))
+artifact_bytes payload_bytes bytes_of signature_bytes (artifact.Certification round success) = 6 ∷ (round_bytes round ++ (verdict_byte success ∷ []))
+
+-- the numbers of an artifact fit, as those of each artifact of the program do
+abbrev pub IsEncodableArtifact : {S D K G C : Type 0} → Artifact S D K G C → Type 0
+IsEncodableArtifact (artifact.Notarization n) = IsEncodableProposal n.proposal
+IsEncodableArtifact (artifact.Nullification n) = IsEncodableRound n.round
+IsEncodableArtifact (artifact.Finalization f) = IsEncodableProposal f.proposal
+IsEncodableArtifact (artifact.Notarize vote) = IsEncodableProposal vote.proposal × (vote.signer < 2 ^ 32)
+IsEncodableArtifact (artifact.Nullify vote) = IsEncodableRound vote.round × (vote.signer < 2 ^ 32)
+IsEncodableArtifact (artifact.Finalize vote) = IsEncodableProposal vote.proposal × (vote.signer < 2 ^ 32)
+IsEncodableArtifact (artifact.Certification round _) = IsEncodableRound round
+
+-- the signature, where the artifact is a vote, is read back of its bytes
+abbrev pub HasReadableSignature : {S D K G C : Type 0} → (G → List ℕ) → (List ℕ → Option G) → Artifact S D K G C → Type 0
+HasReadableSignature signature_bytes signature_of a = IfSome (signature_in a) (λ s. signature_of (signature_bytes s) ≡ Some s)
+
+-- a signer in four bytes, and what is behind it is refused so
+pub record IsSignedRefusal (is_refusal : List ℕ → Type 0) (bytes : List ℕ) : Type 0 where
+  pub signer : ℕ
+  pub rest : List ℕ
+  pub fits : signer < 2 ^ 32
+  pub parts : bytes ≡ to_be_bytes w32 signer ++ rest
+  pub refused : is_refusal rest
+
+-- why bytes are not a signer, a proposal and a signature
+abbrev pub IsProposalVoteRefusal : {D G : Type 0} → (D → List ℕ) → ℕ → (List ℕ → Option G) → List ℕ → DecodeError → Type 0
+IsProposalVoteRefusal payload_bytes size signature_of bytes OutOfMemory = Unit {0}
+IsProposalVoteRefusal payload_bytes size signature_of bytes UnreadableSignature = IsSignedRefusal (IsUnreadableBehindProposal payload_bytes (λ own. signature_of own ≡ None)) bytes
+IsProposalVoteRefusal payload_bytes size signature_of bytes error = IsPayloadRefusal payload_bytes 28 size bytes error
+
+-- why bytes are not a signer, a round and a signature
+abbrev pub IsRoundVoteRefusal : {G : Type 0} → (List ℕ → Option G) → List ℕ → DecodeError → Type 0
+IsRoundVoteRefusal signature_of bytes OutOfMemory = Unit {0}
+IsRoundVoteRefusal signature_of bytes TooShort = length bytes < 20
+IsRoundVoteRefusal signature_of bytes UnreadableSignature = IsSignedRefusal (IsUnreadableBehindRound (λ own. signature_of own ≡ None)) bytes
+IsRoundVoteRefusal signature_of bytes _ = ⊥
+
+-- why bytes are not a round, in sixteen bytes, and a verdict of one byte, which is 0 or 1
+abbrev pub IsVerdictRefusal : List ℕ → DecodeError → Type 0
+IsVerdictRefusal bytes TooShort = length bytes < 17
+IsVerdictRefusal bytes (UnknownVerdict verdict) = (17 ≤ length bytes) × (get_or bytes 16 0 ≡ verdict) × (1 < verdict)
+IsVerdictRefusal bytes TrailingBytes = (17 < length bytes) × (get_or bytes 16 0 ≤ 1)
+IsVerdictRefusal bytes _ = ⊥
+
+-- why bytes are no artifact's encoding: by the kind it is what is wrong behind it
+abbrev pub IsArtifactRefusal : {D G C : Type 0} → (D → List ℕ) → ℕ → (C → List ℕ) → (List ℕ → Option G) → List ℕ → DecodeError → Type 0
+IsArtifactRefusal payload_bytes size bytes_of signature_of (suc (suc (suc zero)) ∷ rest) error = IsProposalVoteRefusal payload_bytes size signature_of rest error
+IsArtifactRefusal payload_bytes size bytes_of signature_of (suc (suc (suc (suc zero))) ∷ rest) error = IsRoundVoteRefusal signature_of rest error
+IsArtifactRefusal payload_bytes size bytes_of signature_of (suc (suc (suc (suc (suc zero)))) ∷ rest) error = IsProposalVoteRefusal payload_bytes size signature_of rest error
+IsArtifactRefusal payload_bytes size bytes_of signature_of (suc (suc (suc (suc (suc (suc zero))))) ∷ rest) error = IsVerdictRefusal rest error
+IsArtifactRefusal payload_bytes size bytes_of signature_of bytes error = IsCertificateRefusal payload_bytes size bytes_of bytes error
+
+-- an encoding of any artifact is read back, with the same facts and an equal signature, unless memory is wanting
+abbrev pub ReadsArtifacts : {S D K G C : Type 0} → (D → List ℕ) → (C → List ℕ) → (G → List ℕ) → (List ℕ → Option G) → List ℕ → Result (Artifact S D K G C) DecodeError → Type 0
+ReadsArtifacts {S} {D} {K} {G} {C} payload_bytes bytes_of signature_bytes signature_of bytes result =
+    (a : Artifact S D K G C) → IsEncodableArtifact a → HasReadableSignature signature_bytes signature_of a
+    → artifact_bytes payload_bytes bytes_of signature_bytes a ≡ bytes
+    → IfOk result (λ b. (artifact_facts bytes_of b ≡ artifact_facts bytes_of a) × (signature_in b ≡ signature_in a)) × IsOkUnless result OutOfMemory

@@ -1,0 +1,105 @@
+//! The parts of encodings, written behind what is there.
+
+ghost use Rattle.std.specs.Prelude.{◌≡◌, ◌++◌, ◌∷◌, [], OnOk, Some};
+ghost use Rattle.std.specs.Int.{w32, w64, to_be_bytes};
+ghost use Rattle.simplex_types.specs.Encoding.{round_bytes, proposal_bytes};
+ghost use Rattle.simplex_codec.specs.Artifacts.{verdict_byte};
+
+use crate::hooks::SchemeCodec;
+use crate::kinds::VERDICT;
+use bytes::{BufMut, BytesMut};
+use simplex_types::types::{Digest, Participant, Proposal, Round};
+use std::alloc::AllocError;
+
+fn put_round(out: &mut BytesMut, round: Round) -> Result<(), AllocError>
+    ensures { OnOk result (out.new.items ≡ out.old.items ++ round_bytes round) }
+{
+    out.put_u64(round.epoch.get())?;
+    out.put_u64(round.view.get())?;
+    Ok(())
+}
+
+fn put_proposal<D: Digest>(out: &mut BytesMut, proposal: &Proposal<D>) -> Result<(), AllocError>
+    ensures { OnOk result (out.new.items ≡ out.old.items ++ proposal_bytes D.bytes proposal.now) }
+{
+    put_round(out, proposal.round)?;
+    out.put_u64(proposal.parent.get())?;
+    out.put_slice(proposal.payload.as_bytes())?;
+    Ok(())
+}
+
+/// A kind, a proposal and a certificate.
+pub(crate) fn put_proposal_certificate<S: SchemeCodec, D: Digest>(
+    out: &mut BytesMut,
+    kind: u8,
+    proposal: &Proposal<D>,
+    certificate: &S::Certificate,
+) -> Result<(), AllocError>
+    ensures { OnOk result (out.new.items ≡ out.old.items ++ (kind ∷ (proposal_bytes D.bytes proposal.now ++ S.certificate_bytes certificate.now))) }
+{
+    out.put_u8(kind)?;
+    put_proposal(out, proposal)?;
+    out.put_slice(S::certificate_bytes(certificate))?;
+    Ok(())
+}
+
+/// A kind, a round and a certificate.
+pub(crate) fn put_round_certificate<S: SchemeCodec>(
+    out: &mut BytesMut,
+    kind: u8,
+    round: Round,
+    certificate: &S::Certificate,
+) -> Result<(), AllocError>
+    ensures { OnOk result (out.new.items ≡ out.old.items ++ (kind ∷ (round_bytes round ++ S.certificate_bytes certificate.now))) }
+{
+    out.put_u8(kind)?;
+    put_round(out, round)?;
+    out.put_slice(S::certificate_bytes(certificate))?;
+    Ok(())
+}
+
+/// A kind, a signer, a proposal and a signature, which is read back of its bytes.
+pub(crate) fn put_proposal_vote<S: SchemeCodec, D: Digest>(
+    out: &mut BytesMut,
+    kind: u8,
+    signer: Participant,
+    proposal: &Proposal<D>,
+    signature: &S::Signature,
+) -> Result<(), AllocError>
+    ensures written { OnOk result (out.new.items ≡ out.old.items ++ (kind ∷ (to_be_bytes w32 signer ++ (proposal_bytes D.bytes proposal.now ++ S.signature_bytes signature.now)))) }
+    ensures readable { OnOk result (S.signature_of (S.signature_bytes signature.now) ≡ Some signature.now) }
+{
+    out.put_u8(kind)?;
+    out.put_u32(signer.get())?;
+    put_proposal(out, proposal)?;
+    S::write_signature(out, signature)?;
+    Ok(())
+}
+
+/// A kind, a signer, a round and a signature, which is read back of its bytes.
+pub(crate) fn put_round_vote<S: SchemeCodec>(
+    out: &mut BytesMut,
+    kind: u8,
+    signer: Participant,
+    round: Round,
+    signature: &S::Signature,
+) -> Result<(), AllocError>
+    ensures written { OnOk result (out.new.items ≡ out.old.items ++ (kind ∷ (to_be_bytes w32 signer ++ (round_bytes round ++ S.signature_bytes signature.now)))) }
+    ensures readable { OnOk result (S.signature_of (S.signature_bytes signature.now) ≡ Some signature.now) }
+{
+    out.put_u8(kind)?;
+    out.put_u32(signer.get())?;
+    put_round(out, round)?;
+    S::write_signature(out, signature)?;
+    Ok(())
+}
+
+/// A round and its verdict.
+pub(crate) fn put_verdict(out: &mut BytesMut, round: Round, success: bool) -> Result<(), AllocError>
+    ensures { OnOk result (out.new.items ≡ out.old.items ++ (6 ∷ (round_bytes round ++ (verdict_byte success ∷ [])))) }
+{
+    out.put_u8(VERDICT)?;
+    put_round(out, round)?;
+    out.put_u8(u8::from(success))?;
+    Ok(())
+}
