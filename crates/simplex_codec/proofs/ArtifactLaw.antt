@@ -1,5 +1,5 @@
 -- An artifact's encoding is read back: nothing is refused that is one, and one encoding has one artifact's facts.
-use Rattle.std.proofs.Common.{◌≡◌, ℕ, ◌<◌, ◌≤◌, ◌^◌, Bool, true, false, List, [], ◌∷◌, ◌++◌, length, get_or, take, drop, Option, Some, None, Result, Ok, Err, refl, ap, sym, subst, ◌∙◌, length-append, arith}
+use Rattle.std.proofs.Common.{◌≡◌, if◌then◌else◌, ℕ, ◌<◌, ◌≤◌, ◌^◌, Bool, true, false, List, [], ◌∷◌, ◌++◌, length, get_or, take, drop, Option, Some, None, Result, Ok, Err, refl, ap, sym, subst, ◌∙◌, length-append, arith}
 use Rattle.std.specs.Prelude.{IfOk, IfErr}
 use Rattle.std.specs.Int.{w32, w64, to_be_bytes, from_be_bytes}
 use Rattle.std.proofs.lemmas.Nat.{from_be_bytes-to_be_bytes_4}
@@ -12,7 +12,7 @@ use Rattle.simplex_types.specs.Encoding.{round_bytes, proposal_bytes, IsEncodabl
 use Rattle.simplex_codec.specs.declared.error.DecodeError.{DecodeError}
 use Rattle.simplex_codec.specs.declared.error.DecodeError.TheVariants.{OutOfMemory, TooShort, UnknownKind, UnreadablePayload, UnreadableCertificate, UnreadableSignature, UnknownVerdict, TrailingBytes}
 use Rattle.simplex_codec.specs.Refusals.{IsEncodableProposal}
-use Rattle.simplex_codec.specs.Artifacts.{verdict_byte, artifact_bytes, IsEncodableArtifact, HasReadableSignature, IsProposalVoteRefusal, IsRoundVoteRefusal, IsVerdictRefusal, IsArtifactRefusal, ReadsArtifacts}
+use Rattle.simplex_codec.specs.Artifacts.{artifact_bytes, IsEncodableArtifact, HasReadableSignature, IsProposalVoteRefusal, IsRoundVoteRefusal, IsVerdictRefusal, IsArtifactRefusal, ReadsArtifacts}
 use Rattle.simplex_codec.proofs.Laws.{no_proposal_refusal, no_round_refusal, payload_at, numbers}
 
 heads : (x y : ℕ) (xs ys : List ℕ) → x ∷ xs ≡ y ∷ ys → x ≡ y
@@ -25,6 +25,9 @@ signer_is m n xs ys small small' same =
 
 behind_signer : (m n : ℕ) (xs ys : List ℕ) → to_be_bytes w32 m ++ xs ≡ to_be_bytes w32 n ++ ys → xs ≡ ys
 behind_signer m n xs ys same = ap (drop 4) same
+
+abbrev verdict_byte : Bool → ℕ
+verdict_byte b = if b then 1 else 0
 
 same_verdict : (a b : Bool) → verdict_byte a ≡ verdict_byte b → a ≡ b
 same_verdict true true same = refl

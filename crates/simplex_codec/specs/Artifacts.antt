@@ -2,6 +2,8 @@
 -- is on and last the signature; a verdict is its kind, its round and one byte.
 use Rattle.std.specs.Prelude.{◌≡◌, ◌<◌, ◌≤◌, ◌^◌, ℕ, zero, suc, Bool, List, [], ◌∷◌, ◌++◌, length, get_or, Option, Some, None, IfSome, Result, IfOk, IsOkUnless, if◌then◌else◌}
 use Rattle.std.specs.Int.{w32, to_be_bytes}
+use Rattle.simplex_types.specs.declared.types.numbers.Round.{Round}
+use Rattle.simplex_types.specs.declared.types.messages.Proposal.{Proposal}
 use Rattle.simplex_types.specs.declared.types.messages.Artifact.{Artifact}
 use Rattle.simplex_types.specs.declared.types.messages.Artifact.TheVariants as artifact
 use Rattle.simplex_types.specs.Certificates.{Notarized, Nullified, Finalized, notarization_facts, nullification_facts, finalization_facts, artifact_facts, signature_in}
@@ -10,18 +12,26 @@ use Rattle.simplex_codec.specs.declared.error.DecodeError.{DecodeError}
 use Rattle.simplex_codec.specs.declared.error.DecodeError.TheVariants.{OutOfMemory, TooShort, UnreadableSignature, UnknownVerdict, TrailingBytes}
 use Rattle.simplex_codec.specs.Refusals.{IsEncodableProposal, IsUnreadableBehindProposal, IsUnreadableBehindRound, IsPayloadRefusal, IsCertificateRefusal}
 
-abbrev pub verdict_byte : Bool → ℕ
-verdict_byte success = if success then 1 else 0
+-- the signer, the proposal and the signature's bytes
+abbrev pub signed_proposal : {D : Type 0} → (D → List ℕ) → ℕ → Proposal D → List ℕ → List ℕ
+signed_proposal payload_bytes signer proposal own = to_be_bytes w32 signer ++ (proposal_bytes payload_bytes proposal ++ own)
+
+-- the signer, the round and the signature's bytes
+abbrev pub signed_round : ℕ → Round → List ℕ → List ℕ
+signed_round signer round own = to_be_bytes w32 signer ++ (round_bytes round ++ own)
+
+abbrev pub verdict_bytes : Round → Bool → List ℕ
+verdict_bytes round success = round_bytes round ++ ((if success then 1 else 0) ∷ [])
 
 -- the encoding of an artifact: 0 to 2 mark certificates, 3 a vote to notarize, 4 to nullify, 5 to finalize, 6 a verdict
 abbrev pub artifact_bytes : {S D K G C : Type 0} → (D → List ℕ) → (C → List ℕ) → (G → List ℕ) → Artifact S D K G C → List ℕ
-artifact_bytes payload_bytes bytes_of signature_bytes (artifact.Notarization n) = encoding payload_bytes (Notarized (notarization_facts bytes_of n))
-artifact_bytes payload_bytes bytes_of signature_bytes (artifact.Nullification n) = encoding payload_bytes (Nullified (nullification_facts bytes_of n))
-artifact_bytes payload_bytes bytes_of signature_bytes (artifact.Finalization f) = encoding payload_bytes (Finalized (finalization_facts bytes_of f))
-artifact_bytes payload_bytes bytes_of signature_bytes (artifact.Notarize vote) = 3 ∷ (to_be_bytes w32 vote.signer ++ (proposal_bytes payload_bytes vote.proposal ++ signature_bytes vote.signature))
-artifact_bytes payload_bytes bytes_of signature_bytes (artifact.Nullify vote) = 4 ∷ (to_be_bytes w32 vote.signer ++ (round_bytes vote.round ++ signature_bytes vote.signature))
-artifact_bytes payload_bytes bytes_of signature_bytes (artifact.Finalize vote) = 5 ∷ (to_be_bytes w32 vote.signer ++ (proposal_bytes payload_bytes vote.proposal ++ signature_bytes vote.signature))
-artifact_bytes payload_bytes bytes_of signature_bytes (artifact.Certification round success) = 6 ∷ (round_bytes round ++ (verdict_byte success ∷ []))
+artifact_bytes payload_bytes bytes_of _ (artifact.Notarization n) = encoding payload_bytes (Notarized (notarization_facts bytes_of n))
+artifact_bytes payload_bytes bytes_of _ (artifact.Nullification n) = encoding payload_bytes (Nullified (nullification_facts bytes_of n))
+artifact_bytes payload_bytes bytes_of _ (artifact.Finalization f) = encoding payload_bytes (Finalized (finalization_facts bytes_of f))
+artifact_bytes payload_bytes _ signed (artifact.Notarize vote) = 3 ∷ signed_proposal payload_bytes vote.signer vote.proposal (signed vote.signature)
+artifact_bytes payload_bytes _ signed (artifact.Nullify vote) = 4 ∷ signed_round vote.signer vote.round (signed vote.signature)
+artifact_bytes payload_bytes _ signed (artifact.Finalize vote) = 5 ∷ signed_proposal payload_bytes vote.signer vote.proposal (signed vote.signature)
+artifact_bytes _ _ _ (artifact.Certification round success) = 6 ∷ verdict_bytes round success
 
 -- the numbers of an artifact fit, as those of each artifact of the program do
 abbrev pub IsEncodableArtifact : {S D K G C : Type 0} → Artifact S D K G C → Type 0
@@ -48,7 +58,8 @@ pub record IsSignedRefusal (is_refusal : List ℕ → Type 0) (bytes : List ℕ)
 -- why bytes are not a signer, a proposal and a signature
 abbrev pub IsProposalVoteRefusal : {D G : Type 0} → (D → List ℕ) → ℕ → (List ℕ → Option G) → List ℕ → DecodeError → Type 0
 IsProposalVoteRefusal payload_bytes size signature_of bytes OutOfMemory = Unit {0}
-IsProposalVoteRefusal payload_bytes size signature_of bytes UnreadableSignature = IsSignedRefusal (IsUnreadableBehindProposal payload_bytes (λ own. signature_of own ≡ None)) bytes
+IsProposalVoteRefusal payload_bytes size signature_of bytes UnreadableSignature =
+    IsSignedRefusal (IsUnreadableBehindProposal payload_bytes (λ own. signature_of own ≡ None)) bytes
 IsProposalVoteRefusal payload_bytes size signature_of bytes error = IsPayloadRefusal payload_bytes 28 size bytes error
 
 -- why bytes are not a signer, a round and a signature
@@ -67,14 +78,15 @@ IsVerdictRefusal bytes _ = ⊥
 
 -- why bytes are no artifact's encoding: by the kind it is what is wrong behind it
 abbrev pub IsArtifactRefusal : {D G C : Type 0} → (D → List ℕ) → ℕ → (C → List ℕ) → (List ℕ → Option G) → List ℕ → DecodeError → Type 0
-IsArtifactRefusal payload_bytes size bytes_of signature_of (suc (suc (suc zero)) ∷ rest) error = IsProposalVoteRefusal payload_bytes size signature_of rest error
-IsArtifactRefusal payload_bytes size bytes_of signature_of (suc (suc (suc (suc zero))) ∷ rest) error = IsRoundVoteRefusal signature_of rest error
-IsArtifactRefusal payload_bytes size bytes_of signature_of (suc (suc (suc (suc (suc zero)))) ∷ rest) error = IsProposalVoteRefusal payload_bytes size signature_of rest error
-IsArtifactRefusal payload_bytes size bytes_of signature_of (suc (suc (suc (suc (suc (suc zero))))) ∷ rest) error = IsVerdictRefusal rest error
-IsArtifactRefusal payload_bytes size bytes_of signature_of bytes error = IsCertificateRefusal payload_bytes size bytes_of bytes error
+IsArtifactRefusal payload size _ signature_of (suc (suc (suc zero)) ∷ rest) e = IsProposalVoteRefusal payload size signature_of rest e
+IsArtifactRefusal payload size _ signature_of (suc (suc (suc (suc zero))) ∷ rest) e = IsRoundVoteRefusal signature_of rest e
+IsArtifactRefusal payload size _ signature_of (suc (suc (suc (suc (suc zero)))) ∷ rest) e = IsProposalVoteRefusal payload size signature_of rest e
+IsArtifactRefusal payload size _ signature_of (suc (suc (suc (suc (suc (suc zero))))) ∷ rest) e = IsVerdictRefusal rest e
+IsArtifactRefusal payload size bytes_of _ bytes e = IsCertificateRefusal payload size bytes_of bytes e
 
 -- an encoding of any artifact is read back, with the same facts and an equal signature, unless memory is wanting
-abbrev pub ReadsArtifacts : {S D K G C : Type 0} → (D → List ℕ) → (C → List ℕ) → (G → List ℕ) → (List ℕ → Option G) → List ℕ → Result (Artifact S D K G C) DecodeError → Type 0
+abbrev pub ReadsArtifacts : {S D K G C : Type 0} → (D → List ℕ) → (C → List ℕ) → (G → List ℕ) → (List ℕ → Option G) → List ℕ
+    → Result (Artifact S D K G C) DecodeError → Type 0
 ReadsArtifacts {S} {D} {K} {G} {C} payload_bytes bytes_of signature_bytes signature_of bytes result =
     (a : Artifact S D K G C) → IsEncodableArtifact a → HasReadableSignature signature_bytes signature_of a
     → artifact_bytes payload_bytes bytes_of signature_bytes a ≡ bytes

@@ -1,11 +1,12 @@
 //! Artifacts, the entries of a member's record, as bytes and read back.
 
-ghost use Rattle.std.specs.Prelude.{◌≡◌, ◌++◌, ◌∷◌, [], ◌<◌, ◌^◌, IfOk, IfErr, OnOk, Some};
-ghost use Rattle.std.specs.Int.{w32, to_be_bytes};
+ghost use Rattle.std.specs.Prelude.{◌≡◌, ◌++◌, ◌<◌, ◌^◌, IfOk, IfErr, OnOk, Some};
 ghost use Rattle.simplex_types.specs.Certificates.{certificate_facts};
-ghost use Rattle.simplex_types.specs.Encoding.{round_bytes, proposal_bytes, encoding, IsEncodableRound, IsEncodable};
+ghost use Rattle.simplex_types.specs.Encoding.{encoding, IsEncodableRound, IsEncodable};
 ghost use Rattle.simplex_codec.specs.Refusals.{IsEncodableProposal};
-ghost use Rattle.simplex_codec.specs.Artifacts.{artifact_bytes, verdict_byte, IsEncodableArtifact, HasReadableSignature, IsProposalVoteRefusal, IsRoundVoteRefusal, IsVerdictRefusal, IsArtifactRefusal, ReadsArtifacts};
+ghost use Rattle.simplex_codec.specs.Artifacts.{artifact_bytes, signed_proposal, signed_round, verdict_bytes, IsEncodableArtifact};
+ghost use Rattle.simplex_codec.specs.Artifacts.{HasReadableSignature, ReadsArtifacts};
+ghost use Rattle.simplex_codec.specs.Artifacts.{IsProposalVoteRefusal, IsRoundVoteRefusal, IsVerdictRefusal, IsArtifactRefusal};
 
 use crate::certificate::decode_certificate;
 use crate::error::DecodeError;
@@ -135,12 +136,12 @@ fn decode_kind<S: SchemeCodec, D: DigestCodec>(
 }
 
 /// The artifact of an accepted certificate.
-fn accepted<S: SchemeCodec, D: Digest>(certificate: Certificate<S, D>) -> Artifact<S, D>
-    ensures same_bytes { artifact_bytes D.bytes S.certificate_bytes S.signature_bytes result ≡ encoding D.bytes (certificate_facts S.certificate_bytes certificate) }
-    ensures fits { IsEncodable (certificate_facts S.certificate_bytes certificate) → IsEncodableArtifact result }
+fn accepted<S: SchemeCodec, D: Digest>(entry: Certificate<S, D>) -> Artifact<S, D>
+    ensures same { artifact_bytes D.bytes S.certificate_bytes S.signature_bytes result ≡ encoding D.bytes (certificate_facts S.certificate_bytes entry) }
+    ensures fits { IsEncodable (certificate_facts S.certificate_bytes entry) → IsEncodableArtifact result }
     ensures readable { HasReadableSignature S.signature_bytes S.signature_of result }
 {
-    match certificate {
+    match entry {
         Certificate::Notarization(notarization) => Artifact::Notarization(notarization),
         Certificate::Nullification(nullification) => Artifact::Nullification(nullification),
         Certificate::Finalization(finalization) => Artifact::Finalization(finalization),
@@ -152,7 +153,7 @@ fn read_proposal_vote<S: SchemeCodec, D: DigestCodec>(
     alloc: Global,
     bytes: &[u8],
 ) -> Result<(Participant, Proposal<D>, S::Signature), DecodeError>
-    ensures parts { IfOk result (λ x. bytes.now ≡ to_be_bytes w32 x.0 ++ (proposal_bytes D.bytes x.1 ++ S.signature_bytes x.2)) }
+    ensures parts { IfOk result (λ x. bytes.now ≡ signed_proposal D.bytes x.0 x.1 (S.signature_bytes x.2)) }
     ensures fits { IfOk result (λ x. IsEncodableProposal x.1 × (x.0 < 2 ^ 32)) }
     ensures readable { IfOk result (λ x. S.signature_of (S.signature_bytes x.2) ≡ Some x.2) }
     ensures refused { IfErr result (IsProposalVoteRefusal D.bytes D.SIZE S.signature_of bytes.now) }
@@ -172,7 +173,7 @@ fn read_round_vote<S: SchemeCodec>(
     alloc: Global,
     bytes: &[u8],
 ) -> Result<(Participant, Round, S::Signature), DecodeError>
-    ensures parts { IfOk result (λ x. bytes.now ≡ to_be_bytes w32 x.0 ++ (round_bytes x.1 ++ S.signature_bytes x.2)) }
+    ensures parts { IfOk result (λ x. bytes.now ≡ signed_round x.0 x.1 (S.signature_bytes x.2)) }
     ensures fits { IfOk result (λ x. IsEncodableRound x.1 × (x.0 < 2 ^ 32)) }
     ensures readable { IfOk result (λ x. S.signature_of (S.signature_bytes x.2) ≡ Some x.2) }
     ensures refused { IfErr result (IsRoundVoteRefusal S.signature_of bytes.now) }
@@ -191,7 +192,7 @@ fn read_round_vote<S: SchemeCodec>(
 
 /// A round and its verdict, and nothing behind them.
 fn read_verdict(bytes: &[u8]) -> Result<(Round, bool), DecodeError>
-    ensures parts { IfOk result (λ x. bytes.now ≡ round_bytes x.0 ++ (verdict_byte x.1 ∷ [])) }
+    ensures parts { IfOk result (λ x. bytes.now ≡ verdict_bytes x.0 x.1) }
     ensures fits { IfOk result (λ x. IsEncodableRound x.0) }
     ensures refused { IfErr result (IsVerdictRefusal bytes.now) }
 {

@@ -9,4 +9,6 @@ pub mod hooks;
 mod kinds;
 mod parts;
 pub mod plain;
+#[cfg(test)]
+mod tests;
 mod writing;

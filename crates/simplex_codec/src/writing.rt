@@ -3,7 +3,7 @@
 ghost use Rattle.std.specs.Prelude.{◌≡◌, ◌++◌, ◌∷◌, [], OnOk, Some};
 ghost use Rattle.std.specs.Int.{w32, w64, to_be_bytes};
 ghost use Rattle.simplex_types.specs.Encoding.{round_bytes, proposal_bytes};
-ghost use Rattle.simplex_codec.specs.Artifacts.{verdict_byte};
+ghost use Rattle.simplex_codec.specs.Artifacts.{signed_proposal, signed_round, verdict_bytes};
 
 use crate::hooks::SchemeCodec;
 use crate::kinds::VERDICT;
@@ -66,7 +66,7 @@ pub(crate) fn put_proposal_vote<S: SchemeCodec, D: Digest>(
     proposal: &Proposal<D>,
     signature: &S::Signature,
 ) -> Result<(), AllocError>
-    ensures written { OnOk result (out.new.items ≡ out.old.items ++ (kind ∷ (to_be_bytes w32 signer ++ (proposal_bytes D.bytes proposal.now ++ S.signature_bytes signature.now)))) }
+    ensures bytes { OnOk result (out.new.items ≡ out.old.items ++ (kind ∷ signed_proposal D.bytes signer proposal.now (S.signature_bytes signature.now))) }
     ensures readable { OnOk result (S.signature_of (S.signature_bytes signature.now) ≡ Some signature.now) }
 {
     out.put_u8(kind)?;
@@ -84,7 +84,7 @@ pub(crate) fn put_round_vote<S: SchemeCodec>(
     round: Round,
     signature: &S::Signature,
 ) -> Result<(), AllocError>
-    ensures written { OnOk result (out.new.items ≡ out.old.items ++ (kind ∷ (to_be_bytes w32 signer ++ (round_bytes round ++ S.signature_bytes signature.now)))) }
+    ensures bytes { OnOk result (out.new.items ≡ out.old.items ++ (kind ∷ signed_round signer round (S.signature_bytes signature.now))) }
     ensures readable { OnOk result (S.signature_of (S.signature_bytes signature.now) ≡ Some signature.now) }
 {
     out.put_u8(kind)?;
@@ -96,7 +96,7 @@ pub(crate) fn put_round_vote<S: SchemeCodec>(
 
 /// A round and its verdict.
 pub(crate) fn put_verdict(out: &mut BytesMut, round: Round, success: bool) -> Result<(), AllocError>
-    ensures { OnOk result (out.new.items ≡ out.old.items ++ (6 ∷ (round_bytes round ++ (verdict_byte success ∷ [])))) }
+    ensures { OnOk result (out.new.items ≡ out.old.items ++ 6 ∷ verdict_bytes round success) }
 {
     out.put_u8(VERDICT)?;
     put_round(out, round)?;

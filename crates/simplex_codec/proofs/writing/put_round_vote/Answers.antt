@@ -4,8 +4,8 @@ use Rattle.simplex_types.specs.Encoding.{round_bytes}
 use Rattle.simplex_codec.proofs.Appended.{appended}
 use Rattle.simplex_codec.proofs.writing.put_round_vote.Goals as goal
 
-pub returns-clause-written : goal.returns-clause-written
-returns-clause-written g c =
+pub returns-clause-bytes : goal.returns-clause-bytes
+returns-clause-bytes g c =
     let signer = to_be_bytes w32 c.args.signer in
     let front = round_bytes c.args.round in
     let own = g.S.SchemeCodec.signature_bytes c.args.signature.now in

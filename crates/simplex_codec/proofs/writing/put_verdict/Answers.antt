@@ -1,18 +1,20 @@
-use Rattle.std.proofs.Common.{◌≡◌, Bool, true, false, refl, ap, ◌∙◌, ◌++◌, ◌∷◌, []}
+use Rattle.std.proofs.Common.{◌≡◌, ℕ, if◌then◌else◌, Bool, true, false, refl, ap, ◌∙◌, ◌++◌, ◌∷◌, []}
 use Rattle.simplex_types.specs.Encoding.{round_bytes}
-use Rattle.simplex_codec.specs.Artifacts.{verdict_byte}
 use mir.Val.{bool_byte}
 use Rattle.simplex_codec.proofs.Appended.{appended}
 use Rattle.simplex_codec.proofs.writing.put_verdict.Goals as goal
 
-same_byte : (b : Bool) → bool_byte b ≡ verdict_byte b
+abbrev byte : Bool → ℕ
+byte b = if b then 1 else 0
+
+same_byte : (b : Bool) → bool_byte b ≡ byte b
 same_byte true = refl
 same_byte false = refl
 
 pub returns : goal.returns
 returns c =
     let front = round_bytes c.args.round in
-    let own = verdict_byte c.args.success ∷ [] in
+    let own = byte c.args.success ∷ [] in
     appended c.args.out.now.items c.put_u8.new.self.items c.put_u8-2.new.self.items (6 ∷ []) (front ++ own)
     c.in_ok-put_u8.ensures.ok
     (appended c.put_u8.new.self.items c.put_round.new.out.items c.put_u8-2.new.self.items front own c.in_ok-put_round.ensures

@@ -1,0 +1,345 @@
+use crate::artifact::{decode_artifact, encode_artifact};
+use crate::certificate::decode_certificate;
+use crate::digest::BytesDigest;
+use crate::error::DecodeError;
+use crate::hooks::DigestCodec;
+use bytes::Bytes;
+use simplex_types::types::plain::{
+    PlainCertificate, PlainDigest, PlainKey, PlainScheme, PlainSignature,
+};
+use simplex_types::types::{
+    Artifact, Certificate, Digest, Epoch, Finalization, Finalize, Notarization, Notarize,
+    Nullification, Nullify, Participant, Proposal, Round, Subject, View,
+};
+use std::alloc::{AllocError, Global};
+use std::test::Fail;
+
+type PlainArtifact = Artifact<PlainScheme, PlainDigest>;
+
+fn round(view: u64) -> Round {
+    Round {
+        epoch: Epoch::new(1),
+        view: View::new(view),
+    }
+}
+
+fn proposal(view: u64, parent: u64) -> Proposal<PlainDigest> {
+    Proposal {
+        round: round(view),
+        parent: View::new(parent),
+        payload: PlainDigest::new(7),
+    }
+}
+
+fn good() -> PlainCertificate {
+    PlainCertificate { good: true }
+}
+
+/// A proposal at views whose high bytes are not 0.
+fn high_proposal() -> Proposal<PlainDigest> {
+    proposal(0x0102_0304_0506_0708, 0x1112_1314_1516_1718)
+}
+
+fn notarization() -> Notarization<PlainScheme, PlainDigest> {
+    Notarization {
+        proposal: high_proposal(),
+        certificate: good(),
+    }
+}
+
+fn nullification() -> Nullification<PlainScheme> {
+    Nullification {
+        round: round(0x0102_0304_0506_0708),
+        certificate: PlainCertificate { good: false },
+    }
+}
+
+fn finalization() -> Finalization<PlainScheme, PlainDigest> {
+    Finalization {
+        proposal: high_proposal(),
+        certificate: good(),
+    }
+}
+
+/// A certificate of each kind.
+fn certificates() -> [Certificate<PlainScheme, PlainDigest>; 3] {
+    [
+        Certificate::Notarization(notarization()),
+        Certificate::Nullification(nullification()),
+        Certificate::Finalization(finalization()),
+    ]
+}
+
+/// A signature on the subject.
+fn signature(alloc: Global, subject: &Subject<PlainDigest>) -> Result<PlainSignature, AllocError> {
+    PlainSignature::new(alloc, PlainKey(2), subject)
+}
+
+/// An artifact of each kind.
+fn artifacts(alloc: Global) -> Result<[PlainArtifact; 8], AllocError> {
+    let signer = Participant::new(2);
+    Ok([
+        Artifact::Notarize(Notarize {
+            proposal: proposal(3, 2),
+            signer,
+            signature: signature(alloc, &Subject::Notarize(proposal(3, 2)))?,
+        }),
+        Artifact::Notarization(notarization()),
+        Artifact::Certification(round(3), true),
+        Artifact::Certification(round(3), false),
+        Artifact::Nullify(Nullify {
+            round: round(3),
+            signer,
+            signature: signature(alloc, &Subject::Nullify(round(3)))?,
+        }),
+        Artifact::Nullification(nullification()),
+        Artifact::Finalize(Finalize {
+            proposal: proposal(3, 2),
+            signer,
+            signature: signature(alloc, &Subject::Finalize(proposal(3, 2)))?,
+        }),
+        Artifact::Finalization(finalization()),
+    ])
+}
+
+/// Why the bytes are no certificate, if they are none.
+fn certificate_refusal(alloc: Global, bytes: &[u8]) -> Option<DecodeError> {
+    decode_certificate::<PlainScheme, PlainDigest>(alloc, bytes).err()
+}
+
+/// Why the bytes are no artifact, if they are none.
+fn artifact_refusal(alloc: Global, bytes: &[u8]) -> Option<DecodeError> {
+    decode_artifact::<PlainScheme, PlainDigest>(alloc, bytes).err()
+}
+
+#[test]
+fn certificates_are_read_back(rt: HostRuntime) -> Result<(), Fail> {
+    for certificate in certificates() {
+        let bytes = certificate.encode(rt.alloc())?;
+        let read: Certificate<PlainScheme, PlainDigest> = decode_certificate(
+            rt.alloc(),
+            bytes.as_slice(),
+        )?;
+        assert!(rt; read.encode(rt.alloc())? == bytes);
+    }
+    Ok(())
+}
+
+#[test]
+fn a_certificate_is_read_as_the_vector_says(rt: HostRuntime) -> Result<(), Fail> {
+    let bytes = [
+        0, 0, 0, 0, 0, 0, 0, 0, 1, 2, 0, 0, 0, 0, 0, 0, 3, 0, 0, 0, 0, 0, 0, 0, 2, 0, 0, 0, 0, 0,
+        0, 0, 7, 1,
+    ];
+    let read: Certificate<PlainScheme, PlainDigest> = decode_certificate(
+        rt.alloc(),
+        bytes.as_slice(),
+    )?;
+    let Certificate::Notarization(read) = &read else {
+        return Err(Fail::from("a notarization"));
+    };
+    assert_eq!(rt; read.proposal.round.view.get(), 0x0200_0000_0000_0003);
+    assert_eq!(rt; read.proposal.parent.get(), 2);
+    assert_eq!(rt; read.proposal.payload.number(), 7);
+    assert!(rt; read.certificate.good);
+    Ok(())
+}
+
+#[test]
+fn artifacts_are_read_back(rt: HostRuntime) -> Result<(), Fail> {
+    for artifact in artifacts(rt.alloc())? {
+        let bytes = encode_artifact(rt.alloc(), &artifact)?;
+        let read: PlainArtifact = decode_artifact(rt.alloc(), bytes.as_slice())?;
+        assert!(rt; encode_artifact(rt.alloc(), &read)? == bytes);
+    }
+    Ok(())
+}
+
+#[test]
+fn votes_and_verdicts_are_written_as_the_vectors_say(rt: HostRuntime) -> Result<(), Fail> {
+    let verdict: PlainArtifact = Artifact::Certification(round(3), true);
+    let wanted = [6, 0, 0, 0, 0, 0, 0, 0, 1, 0, 0, 0, 0, 0, 0, 0, 3, 1];
+    let bytes = encode_artifact(rt.alloc(), &verdict)?;
+    assert_eq!(rt; bytes.as_slice(), wanted.as_slice());
+    let nullify: PlainArtifact = Artifact::Nullify(Nullify {
+        round: round(3),
+        signer: Participant::new(0x0102_0304),
+        signature: PlainSignature {
+            key: PlainKey(5),
+            text: Bytes::from_static(&[9, 8]),
+        },
+    });
+    let wanted = [
+        4, 1, 2, 3, 4, 0, 0, 0, 0, 0, 0, 0, 1, 0, 0, 0, 0, 0, 0, 0, 3, 0, 0, 0, 5, 9, 8,
+    ];
+    let bytes = encode_artifact(rt.alloc(), &nullify)?;
+    assert_eq!(rt; bytes.as_slice(), wanted.as_slice());
+    Ok(())
+}
+
+/// Whether each front of the bytes is refused as it is to be: one that ends within the parts is too short.
+fn refuses_fronts(alloc: Global, bytes: &[u8], parts: usize) -> bool {
+    for end in 0..bytes.len() {
+        let wanted = if end < parts {
+            DecodeError::TooShort
+        } else {
+            DecodeError::UnreadableCertificate
+        };
+        let front = &bytes[..end];
+        if certificate_refusal(alloc, front) != Some(wanted)
+            || artifact_refusal(alloc, front) != Some(wanted)
+        {
+            return false;
+        }
+    }
+    true
+}
+
+#[test]
+fn certificates_that_end_early_are_refused(rt: HostRuntime) -> Result<(), Fail> {
+    for certificate in certificates() {
+        let parts = match &certificate {
+            Certificate::Nullification(_) => 17,
+            _ => 33,
+        };
+        let bytes = certificate.encode(rt.alloc())?;
+        assert!(rt; refuses_fronts(rt.alloc(), bytes.as_slice(), parts));
+    }
+    Ok(())
+}
+
+#[test]
+fn bytes_that_are_too_many_are_refused(rt: HostRuntime) -> Result<(), Fail> {
+    for certificate in certificates() {
+        let mut bytes = Vec::from_slice(rt.alloc(), certificate.encode(rt.alloc())?.as_slice())?;
+        bytes.push(0)?;
+        let refused = Some(DecodeError::UnreadableCertificate);
+        assert_eq!(rt; certificate_refusal(rt.alloc(), bytes.as_slice()), refused);
+        assert_eq!(rt; artifact_refusal(rt.alloc(), bytes.as_slice()), refused);
+    }
+    let verdict: PlainArtifact = Artifact::Certification(round(3), true);
+    let mut bytes = Vec::from_slice(
+        rt.alloc(),
+        encode_artifact(rt.alloc(), &verdict)?.as_slice(),
+    )?;
+    bytes.push(0)?;
+    assert_eq!(rt;
+        artifact_refusal(rt.alloc(), bytes.as_slice()),
+        Some(DecodeError::TrailingBytes)
+    );
+    Ok(())
+}
+
+#[test]
+fn each_other_refusal_has_its_name(rt: HostRuntime) -> Result<(), Fail> {
+    assert_eq!(rt;
+        certificate_refusal(rt.alloc(), &[3; 40]),
+        Some(DecodeError::UnknownKind(3))
+    );
+    assert_eq!(rt;
+        artifact_refusal(rt.alloc(), &[7; 40]),
+        Some(DecodeError::UnknownKind(7))
+    );
+    assert_eq!(rt;
+        artifact_refusal(rt.alloc(), &[]),
+        Some(DecodeError::TooShort)
+    );
+    // a verdict of 6
+    assert_eq!(rt;
+        artifact_refusal(rt.alloc(), &[6; 18]),
+        Some(DecodeError::UnknownVerdict(6))
+    );
+    assert_eq!(rt;
+        artifact_refusal(rt.alloc(), &[6; 17]),
+        Some(DecodeError::TooShort)
+    );
+    // three bytes of a key, behind a signer and what was voted on
+    assert_eq!(rt;
+        artifact_refusal(rt.alloc(), &[3; 40]),
+        Some(DecodeError::UnreadableSignature)
+    );
+    assert_eq!(rt;
+        artifact_refusal(rt.alloc(), &[4; 24]),
+        Some(DecodeError::UnreadableSignature)
+    );
+    assert_eq!(rt;
+        artifact_refusal(rt.alloc(), &[5; 36]),
+        Some(DecodeError::TooShort)
+    );
+    assert_eq!(rt;
+        artifact_refusal(rt.alloc(), &[4; 20]),
+        Some(DecodeError::TooShort)
+    );
+    Ok(())
+}
+
+/// A small generator of numbers, the same at each run.
+#[derive(Drop)]
+struct Random {
+    state: u64,
+}
+
+impl Random {
+    fn next(&mut self) -> u32 {
+        let state = self.state;
+        self.state = state
+            .wrapping_mul(6_364_136_223_846_793_005)
+            .wrapping_add(1_442_695_040_888_963_407);
+        (state >> 33) as u32
+    }
+}
+
+/// Bytes of a generator, the same at each run: a length below 64, a first byte below 9 and a last one below 3.
+fn some_bytes(alloc: Global, random: &mut Random) -> Result<Vec<u8>, Fail> {
+    let len = random.next() % 64;
+    let mut bytes = Vec::new(alloc);
+    for index in 0..len {
+        let byte = random.next();
+        let byte = if index == 0 {
+            byte % 9
+        } else if index + 1 == len {
+            byte % 3
+        } else {
+            byte % 256
+        };
+        bytes.push(byte as u8)?;
+    }
+    Ok(bytes)
+}
+
+#[test]
+fn random_bytes_are_refused_or_encode_to_themselves(rt: HostRuntime) -> Result<(), Fail> {
+    let mut random = Random { state: 7 };
+    let mut read = 0u32;
+    for _ in 0..40_000 {
+        let bytes = some_bytes(rt.alloc(), &mut random)?;
+        let decoded = decode_artifact::<PlainScheme, PlainDigest>(rt.alloc(), bytes.as_slice());
+        if let Ok(artifact) = decoded {
+            let again = encode_artifact(rt.alloc(), &artifact)?;
+            assert_eq!(rt; again.as_slice(), bytes.as_slice());
+            read = read.wrapping_add(1);
+        }
+        let decoded = decode_certificate::<PlainScheme, PlainDigest>(rt.alloc(), bytes.as_slice());
+        if let Ok(certificate) = decoded {
+            let again = certificate.encode(rt.alloc())?;
+            assert_eq!(rt; again.as_slice(), bytes.as_slice());
+        }
+    }
+    assert!(rt; read > 1000);
+    Ok(())
+}
+
+#[test]
+fn a_digest_of_bytes_is_its_bytes(rt: HostRuntime) -> Result<(), Fail> {
+    let bytes = [7u8; 32];
+    let digest = BytesDigest::from(bytes);
+    assert_eq!(rt; digest.as_bytes(), bytes.as_slice());
+    assert_eq!(rt; BytesDigest::<32>::read(bytes.as_slice()), Some(digest));
+    assert_eq!(rt; BytesDigest::<32>::read(&[7; 31]), None);
+    assert_eq!(rt; BytesDigest::<32>::read(&[7; 33]), None);
+    let back: [u8; 32] = digest.into();
+    assert_eq!(rt; back.as_slice(), bytes.as_slice());
+    let other = BytesDigest::from([8u8; 32]);
+    assert!(rt; digest < other);
+    Ok(())
+}
