@@ -18,12 +18,12 @@ use Rattle.simplex_codec.proofs.Laws.{no_proposal_refusal, no_round_refusal, pay
 heads : (x y : ℕ) (xs ys : List ℕ) → x ∷ xs ≡ y ∷ ys → x ≡ y
 heads x y xs ys same = ap (λ l. get_or l 0 x) same
 
-signer_is : (m n : ℕ) (xs ys : List ℕ) → m < 2 ^ 32 → n < 2 ^ 32 → to_be_bytes w32 m ++ xs ≡ to_be_bytes w32 n ++ ys → m ≡ n
+pub signer_is : (m n : ℕ) (xs ys : List ℕ) → m < 2 ^ 32 → n < 2 ^ 32 → to_be_bytes w32 m ++ xs ≡ to_be_bytes w32 n ++ ys → m ≡ n
 signer_is m n xs ys small small' same =
     let fronts : to_be_bytes w32 m ≡ to_be_bytes w32 n = ap (take 4) same in
     sym (from_be_bytes-to_be_bytes_4 m small) ∙ ap (from_be_bytes w32) fronts ∙ from_be_bytes-to_be_bytes_4 n small'
 
-behind_signer : (m n : ℕ) (xs ys : List ℕ) → to_be_bytes w32 m ++ xs ≡ to_be_bytes w32 n ++ ys → xs ≡ ys
+pub behind_signer : (m n : ℕ) (xs ys : List ℕ) → to_be_bytes w32 m ++ xs ≡ to_be_bytes w32 n ++ ys → xs ≡ ys
 behind_signer m n xs ys same = ap (drop 4) same
 
 abbrev verdict_byte : Bool → ℕ

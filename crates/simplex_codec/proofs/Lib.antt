@@ -2,3 +2,4 @@ pub mod Numbers
 pub mod Laws
 pub mod Appended
 pub mod ArtifactLaw
+pub mod FrameLaw

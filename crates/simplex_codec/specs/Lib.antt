@@ -3,3 +3,4 @@ pub mod Plain
 pub mod Reading
 pub mod Refusals
 pub mod Artifacts
+pub mod Frames

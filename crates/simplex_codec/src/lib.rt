@@ -5,6 +5,7 @@ pub mod artifact;
 pub mod certificate;
 pub mod digest;
 pub mod error;
+pub mod frame;
 pub mod hooks;
 mod kinds;
 mod parts;

@@ -2,13 +2,14 @@ use crate::artifact::{decode_artifact, encode_artifact};
 use crate::certificate::decode_certificate;
 use crate::digest::BytesDigest;
 use crate::error::DecodeError;
+use crate::frame::{DamagedFrame, read_frame, write_frame};
 use crate::hooks::DigestCodec;
-use bytes::Bytes;
+use bytes::{Bytes, BytesMut};
 use simplex_types::types::plain::{
     PlainCertificate, PlainDigest, PlainKey, PlainScheme, PlainSignature,
 };
 use simplex_types::types::{
-    Artifact, Certificate, Digest, Epoch, Finalization, Finalize, Notarization, Notarize,
+    Artifact, Certificate, Digest, Epoch, Fault, Finalization, Finalize, Notarization, Notarize,
     Nullification, Nullify, Participant, Proposal, Round, Subject, View,
 };
 use std::alloc::{AllocError, Global};
@@ -341,5 +342,71 @@ fn a_digest_of_bytes_is_its_bytes(rt: HostRuntime) -> Result<(), Fail> {
     assert_eq!(rt; back.as_slice(), bytes.as_slice());
     let other = BytesDigest::from([8u8; 32]);
     assert!(rt; digest < other);
+    Ok(())
+}
+
+/// Three entries in their frames.
+fn journal(alloc: Global) -> Result<Bytes, Fault> {
+    let mut out = BytesMut::new(alloc);
+    write_frame(&mut out, &[1, 2, 3])?;
+    write_frame(&mut out, &[])?;
+    write_frame(&mut out, &[4; 70])?;
+    Ok(out.freeze()?)
+}
+
+/// How many entries are read, and whether the end is whole.
+fn read_entries(bytes: &[u8]) -> (u32, bool) {
+    let mut rest = bytes;
+    let mut read = 0u32;
+    for _ in 0..bytes.len() {
+        match read_frame(rest) {
+            Ok(Some((_, behind))) => {
+                rest = behind;
+                read = read.wrapping_add(1);
+            }
+            Ok(None) => return (read, true),
+            Err(DamagedFrame) => return (read, false),
+        }
+    }
+    (read, false)
+}
+
+#[test]
+fn entries_of_a_journal_are_read_up_to_a_cut(rt: HostRuntime) -> Result<(), Fail> {
+    let bytes = journal(rt.alloc())?;
+    assert_eq!(rt; bytes.len(), 181);
+    assert_eq!(rt; read_entries(bytes.as_slice()), (3, true));
+    for end in 1..bytes.len() {
+        let wanted = match end {
+            39 => (1, true),
+            75 => (2, true),
+            0..39 => (0, false),
+            40..75 => (1, false),
+            _ => (2, false),
+        };
+        assert_eq!(rt; read_entries(&bytes.as_slice()[..end]), wanted);
+    }
+    Ok(())
+}
+
+#[test]
+fn a_flipped_bit_is_found(rt: HostRuntime) -> Result<(), Fail> {
+    let bytes = journal(rt.alloc())?;
+    for place in 0..bytes.len() {
+        let mut flipped = Vec::from_slice(rt.alloc(), bytes.as_slice())?;
+        if let Some(byte) = flipped.get_mut(place) {
+            *byte ^= 16;
+        }
+        let (read, whole) = read_entries(flipped.as_slice());
+        assert!(rt; !whole);
+        let before = if place < 39 {
+            0
+        } else if place < 75 {
+            1
+        } else {
+            2
+        };
+        assert_eq!(rt; read, before);
+    }
     Ok(())
 }

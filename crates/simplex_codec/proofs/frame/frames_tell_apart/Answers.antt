@@ -1,0 +1,6 @@
+use Rattle.sha2.specs.Sha256.{sha256}
+use Rattle.simplex_codec.proofs.FrameLaw.{told_frames}
+use Rattle.simplex_codec.proofs.frame.frames_tell_apart.Goals as goal
+
+pub returns : goal.returns
+returns c = told_frames sha256
