@@ -23,7 +23,7 @@ impl<S: CertificateScheme, D: Digest> Certificate<S, D> {
     /// The certificate's bytes: the kind, the round or the whole proposal, and the scheme's own bytes.
     ///
     /// Two certificates have equal encodings exactly where their kind, round, proposal and scheme's bytes are equal.
-    /// The only fault is `OutOfMemory`. There is no decoder: members decode by their wire's own codec.
+    /// The only fault is `OutOfMemory`. `decode_certificate` of `simplex_codec` is the way back.
     pub fn encode(&self, alloc: Global) -> Result<Bytes, Fault>
         ensures encoded { IfOk result (λ bytes. bytes ≡ encoding D.bytes (certificate_facts S.certificate_bytes self.now)) }
         ensures refused { IsOkUnless result Fault.OutOfMemory }
