@@ -1,0 +1,6 @@
+use Rattle.std.proofs.Common.{◌≡◌, drop}
+use Rattle.example_engine.specs.Rising.{are_members}
+use Rattle.example_engine.proofs.scheme.are_members.Given as goal
+
+abbrev pub invariant-loop-signer : goal.invariant-loop-signer
+invariant-loop-signer l = are_members l.count l.low (drop l.signer-index l.signers) ≡ are_members l.count 0 l.signers

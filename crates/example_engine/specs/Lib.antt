@@ -1,0 +1,10 @@
+pub mod Ballots
+pub mod Checksum
+pub mod Digests
+pub mod Journals
+pub mod Owing
+pub mod Parts
+pub mod Rising
+pub mod Sealing
+pub mod Told
+pub mod Votes

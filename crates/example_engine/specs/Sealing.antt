@@ -1,0 +1,34 @@
+-- What the scheme of the example signs, and which certificates it takes.
+use Rattle.std.specs.Prelude.{◌≡◌, ℕ, Bool, ◌&&◌, ◌-◌, ◌/◌, List, length, Option, nat_le, nat_lt}
+use Rattle.simplex_types.specs.declared.types.messages.Subject.{Subject}
+use Rattle.simplex_types.specs.Encoding.{subject_bytes}
+use Rattle.example_engine.specs.declared.digest.BlockDigest.{BlockDigest}
+use Rattle.example_engine.specs.declared.scheme.MemberKey.{MemberKey}
+use Rattle.example_engine.specs.declared.scheme.Signature.{Signature}
+use Rattle.example_engine.specs.declared.scheme.Seal.{Seal}
+use Rattle.example_engine.specs.declared.scheme.SealScheme.{SealScheme}
+use Rattle.example_engine.specs.Checksum.{checksum_from}
+use Rattle.example_engine.specs.Digests.{bytes_of}
+use Rattle.example_engine.specs.Rising.{are_members}
+
+abbrev pub signer_of : SealScheme → Option ℕ
+signer_of s = s.signer
+
+abbrev pub keys_of : SealScheme → List MemberKey
+keys_of s = s.keys.items
+
+abbrev pub seal_bytes : Seal → List ℕ
+seal_bytes seal = seal.signers.items
+
+-- the sum of the vote's bytes, begun at the key
+abbrev pub IsSignature : MemberKey → Subject BlockDigest → Signature → Type 0
+IsSignature key subject signature = (signature.key ≡ key) × (signature.sum ≡ checksum_from key.number (subject_bytes bytes_of subject))
+
+-- all members but the faulty ones, fewer than a third
+abbrev pub quorum_of : ℕ → ℕ
+quorum_of members = members - (members - 1) / 3
+
+-- a quorum of rising members
+abbrev pub is_good : SealScheme → Seal → Bool
+is_good s seal =
+    nat_lt 0 (length (keys_of s)) && nat_le (quorum_of (length (keys_of s))) (length (seal_bytes seal)) && are_members (length (keys_of s)) 0 (seal_bytes seal)

@@ -1,0 +1,70 @@
+//! Digests of blocks.
+
+ghost use Rattle.std.specs.Prelude.{◌≡◌, true, length, List, ℕ};
+
+use crate::checksum::checksum;
+use simplex_types::types::{Digest, View};
+use std::fmt;
+
+/// A block's digest, of eight bytes. A real one is a hash that nobody can turn round.
+#[derive(Clone, Copy, PartialEq, Eq, Debug)]
+pub struct BlockDigest {
+    bytes: [u8; 8],
+    ghost sized: { length bytes ≡ 8 },
+}
+
+impl BlockDigest {
+    /// The digest of genesis.
+    pub fn genesis() -> BlockDigest {
+        BlockDigest { bytes: [0; 8] }
+    }
+
+    /// The digest whose bytes are the number's, big-endian.
+    pub fn of_number(number: u64) -> BlockDigest {
+        BlockDigest {
+            bytes: number.to_be_bytes(),
+        }
+    }
+
+    /// The digest of the block that is built in a view on a parent. A leader has several blocks to choose from, which
+    /// `choice` tells apart.
+    pub fn of_block(parent: &BlockDigest, view: View, choice: u64) -> BlockDigest {
+        let number = view.get().to_be_bytes();
+        let seed = checksum(choice % 1000 + 1, &parent.bytes);
+        let low = checksum(seed, &number);
+        let high = checksum(low, &parent.bytes);
+        BlockDigest {
+            bytes: (high * (1 << 32) + low).to_be_bytes(),
+        }
+    }
+}
+
+/// Eight hexadecimal digits of it.
+impl fmt::Display for BlockDigest {
+    fn fmt<W: fmt::Write>(&self, f: &mut fmt::Formatter<W>) -> fmt::Result {
+        let start = u64::from_be_bytes(self.bytes) / (1 << 32);
+        write!(f, "{start:08x}")
+    }
+}
+
+impl Digest for BlockDigest {
+    ghost use Rattle.example_engine.specs.Digests.{bytes_of, from_eq, eq_self, same_bytes};
+
+    const SIZE: usize = 8;
+
+    ghost SIZE = { 8 };
+
+    ghost bytes = { bytes_of };
+
+    fn as_bytes(&self) -> &[u8] {
+        &self.bytes
+    }
+
+    ghost length_bytes = { λ d. d.sized };
+
+    ghost equal_is_same = { from_eq };
+
+    ghost same_is_equal = { eq_self };
+
+    ghost bytes_injective = { same_bytes };
+}

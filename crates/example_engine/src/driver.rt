@@ -1,0 +1,127 @@
+//! The driver: it makes the calls of the core and keeps what the core answered until it is dealt with.
+//!
+//! It owes that no answer is dropped: each call's answer stands in a queue, behind those before it, until it is taken from
+//! the front; and that what the calls recorded is stored.
+
+ghost use Rattle.std.specs.Prelude.{◌≡◌, ◌++◌, ◌∷◌, [], ◌↔◌, drop, length, Contains, IsTrue, IsNone, IfOk, IfSome, OnOk, OnErr, option_to_list};
+ghost use Rattle.simplex_member.specs.Entries.{entries_of};
+ghost use Rattle.simplex_member.specs.Calls.{told};
+ghost use Rattle.simplex_member.specs.Runs.{asked, IsStep};
+ghost use Rattle.example_engine.specs.Sealing.{seal_bytes};
+ghost use Rattle.example_engine.specs.Votes.{entry_of};
+
+use crate::journal::Journal;
+use crate::messages::{Vote, VoteKind};
+use crate::parts::{Block, CoreState};
+use crate::start::{Core, CoreCall, CoreReply};
+use simplex_types::types::{Fault, View};
+use std::alloc::Global;
+use std::collections::VecDeque;
+
+/// What a call was about.
+#[derive(Clone, Copy, PartialEq, Eq)]
+pub enum Topic {
+    /// A certificate of the view came in, of votes of this kind.
+    Accepted(VoteKind, View),
+    /// The view's proposal came in.
+    Proposed(View),
+    /// The application found the view's proposal valid.
+    Verified(View),
+    /// This member built the block.
+    Built(Block),
+    /// The application judged the view's proposal.
+    Judged(View),
+    /// A vote of the view is asked for.
+    Voted(VoteKind, View),
+    /// What comes next: to verify, to build, to certify, to hand out.
+    Next,
+}
+
+/// An answer that is not dealt with yet, and what was called for.
+#[derive(Drop)]
+pub struct Owed {
+    pub topic: Topic,
+    pub reply: CoreReply,
+}
+
+/// A member with its journal, and what it answered.
+#[derive(Drop)]
+pub struct Driver {
+    member: Core,
+    journal: Journal,
+    owed: VecDeque<Owed>,
+}
+
+impl Driver {
+    ghost use Rattle.example_engine.specs.Owing.{IsMade};
+
+    pub fn new(alloc: Global, member: Core, journal: Journal) -> Driver
+        ensures { result.owed.items ≡ [] }
+    {
+        Driver {
+            member,
+            journal,
+            owed: VecDeque::new(alloc),
+        }
+    }
+
+    /// The journal, when the process has ended.
+    pub fn into_journal(self) -> Journal {
+        self.journal
+    }
+
+    /// The state of the core, while it has not failed.
+    pub fn state(&self) -> Option<&CoreState> {
+        self.member.state()
+    }
+
+    pub fn member(&self) -> &Core {
+        &self.member
+    }
+
+    /// Makes a call, and owes its answer.
+    pub fn call(&mut self, topic: Topic, call: CoreCall) -> Result<(), Fault>
+        ensures made { OnOk result (IsMade topic (asked seal_bytes call) self.old self.new) }
+        ensures unmade { OnErr result ((self.new.member ≡ self.old.member) × (self.new.owed.items ≡ self.old.owed.items)) }
+        ensures journal { self.new.journal ≡ self.old.journal }
+    {
+        self.owed.reserve(1)?;
+        let reply = self.member.call(call);
+        self.owed.push_back_reserved(Owed { topic, reply });
+        Ok(())
+    }
+
+    /// The answer that is owed longest.
+    pub fn next(&mut self) -> Option<Owed>
+        ensures front { self.old.owed.items ≡ option_to_list result ++ self.new.owed.items }
+        ensures none { IsNone result → self.new.owed.items ≡ [] }
+    {
+        self.owed.pop_front()
+    }
+
+    /// Whether nothing is owed, so that the member may wait.
+    pub fn is_idle(&self) -> bool
+        ensures { IsTrue result ↔ (self.now.owed.items ≡ []) }
+    {
+        self.owed.is_empty()
+    }
+
+    /// Stores what the calls recorded.
+    pub fn store(&mut self) -> Result<(), Fault>
+        ensures stored { OnOk result (entries_of seal_bytes self.new.journal.entries.items
+            ≡ entries_of seal_bytes self.old.journal.entries.items ++ drop (length self.old.journal.entries.items) self.old.member.entries) }
+        ensures member { self.new.member ≡ self.old.member }
+        ensures owed { self.new.owed.items ≡ self.old.owed.items }
+    {
+        self.journal.append(&self.member)
+    }
+
+    /// This member's vote of the kind and view as it leaves: stored, and read from what is stored.
+    pub fn vote(&mut self, kind: VoteKind, view: View) -> Result<Option<Vote>, Fault>
+        ensures stored { IfOk result (λ vote. IfSome vote (λ v. Contains self.new.journal.entries.items (entry_of v))) }
+        ensures member { self.new.member ≡ self.old.member }
+        ensures owed { self.new.owed.items ≡ self.old.owed.items }
+    {
+        self.journal.hand_out(&self.member, kind, view)
+    }
+}

@@ -1,0 +1,91 @@
+//! What members send each other.
+
+use crate::digest::BlockDigest;
+use crate::parts::{Block, FinalizeVote, NotarizeVote, NullifyVote, Proof};
+use crate::scheme::Signature;
+use bytes::Bytes;
+use simplex_types::types::{Fault, Participant, Subject, View};
+use std::alloc::Global;
+
+/// A vote of any kind.
+#[derive(Drop)]
+pub enum Vote {
+    Notarize(NotarizeVote),
+    Nullify(NullifyVote),
+    Finalize(FinalizeVote),
+}
+
+/// The kinds of votes.
+#[derive(Clone, Copy, PartialEq, Eq, Debug)]
+pub enum VoteKind {
+    Notarize,
+    Nullify,
+    Finalize,
+}
+
+impl Vote {
+    pub fn copy(&self, alloc: Global) -> Result<Vote, Fault> {
+        Ok(match self {
+            Vote::Notarize(vote) => Vote::Notarize(vote.clone(alloc)?),
+            Vote::Nullify(vote) => Vote::Nullify(vote.clone(alloc)?),
+            Vote::Finalize(vote) => Vote::Finalize(vote.clone(alloc)?),
+        })
+    }
+
+    /// What is signed.
+    pub fn subject(&self) -> Subject<BlockDigest> {
+        match self {
+            Vote::Notarize(vote) => Subject::Notarize(vote.proposal),
+            Vote::Nullify(vote) => Subject::Nullify(vote.round),
+            Vote::Finalize(vote) => Subject::Finalize(vote.proposal),
+        }
+    }
+
+    pub fn signature(&self) -> Signature {
+        match self {
+            Vote::Notarize(vote) => vote.signature,
+            Vote::Nullify(vote) => vote.signature,
+            Vote::Finalize(vote) => vote.signature,
+        }
+    }
+
+    pub fn signer(&self) -> Participant {
+        match self {
+            Vote::Notarize(vote) => vote.signer,
+            Vote::Nullify(vote) => vote.signer,
+            Vote::Finalize(vote) => vote.signer,
+        }
+    }
+}
+
+/// A message.
+#[derive(Drop)]
+pub enum Message {
+    /// The leader's proposal.
+    Propose(Block),
+    Vote(Vote),
+    Certificate(Proof),
+    /// A certificate for the view is asked for.
+    Ask(View),
+    /// The bytes of the certificate that was asked for.
+    Served(Bytes),
+}
+
+impl Message {
+    pub fn copy(&self, alloc: Global) -> Result<Message, Fault> {
+        Ok(match self {
+            Message::Propose(block) => Message::Propose(*block),
+            Message::Vote(vote) => Message::Vote(vote.copy(alloc)?),
+            Message::Certificate(proof) => Message::Certificate(proof.clone(alloc)?),
+            Message::Ask(view) => Message::Ask(*view),
+            Message::Served(bytes) => Message::Served(bytes.clone()?),
+        })
+    }
+}
+
+/// A message of a member to another, or to all others.
+#[derive(Drop)]
+pub struct Letter {
+    pub to: Option<u8>,
+    pub message: Message,
+}

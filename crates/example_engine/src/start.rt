@@ -1,0 +1,64 @@
+//! How a member is set up, and the calls that are made of it.
+
+ghost use Rattle.std.specs.Prelude.{◌≡◌, ◌<◌, IfOk, length};
+ghost use Rattle.simplex_types.specs.Plain.{members_of};
+ghost use Rattle.example_engine.specs.Sealing.{keys_of};
+
+use crate::digest::BlockDigest;
+use crate::scheme::SealScheme;
+use simplex_member::member::{Call, Member, Reply, Start};
+use simplex_types::config::Floor;
+use simplex_types::types::plain::PlainElector;
+use simplex_types::types::{Epoch, TermLength, Terms, ViewDelta};
+use simplex_voter::voter::Config;
+use std::alloc::{AllocError, Global};
+
+pub type Core = Member<SealScheme, PlainElector, BlockDigest>;
+
+pub type CoreCall = Call<SealScheme, BlockDigest>;
+
+pub type CoreReply = Reply<SealScheme, BlockDigest>;
+
+pub type CoreStart = Start<SealScheme, PlainElector, BlockDigest>;
+
+/// The epoch that every message is of.
+pub const EPOCH: u64 = 1;
+
+/// How many views below the last finalized one are kept.
+const RETENTION: u64 = 10;
+
+/// From the entry of a view until it times out for want of a proposal, in milliseconds.
+const LEADER_TIMEOUT: u64 = 200;
+
+/// From the entry of a view until it times out for want of its certification, in milliseconds.
+const CERTIFICATION_TIMEOUT: u64 = 400;
+
+/// From a vote to nullify until it is repeated, in milliseconds.
+const TIMEOUT_RETRY: u64 = 300;
+
+/// How a member starts at genesis, in terms of one view.
+pub fn start_of(alloc: Global, members: u8, me: u8, now: u64) -> Result<CoreStart, AllocError>
+    requires { me < members }
+    ensures { IfOk result (λ start. members_of start.settings.elector ≡ length (keys_of start.settings.scheme)) }
+{
+    let terms = Terms {
+        term_length: TermLength::ONE,
+        optimistic_views: 0,
+        stall_timeout: None,
+    };
+    let settings = Config {
+        scheme: SealScheme::new(alloc, members, me)?,
+        elector: PlainElector::new(u32::from(members), terms),
+        epoch: Epoch::new(EPOCH),
+        view_retention: ViewDelta::new(RETENTION),
+        leader_timeout: LEADER_TIMEOUT,
+        certification_timeout: CERTIFICATION_TIMEOUT,
+        timeout_retry: TIMEOUT_RETRY,
+        skip_budget: u64::from(members),
+    };
+    Ok(Start {
+        settings,
+        floor: Floor::Genesis(BlockDigest::genesis()),
+        now,
+    })
+}
