@@ -2,7 +2,7 @@
 use Rattle.std.specs.Prelude.{◌≡◌, ◌++◌, ◌∷◌, []}
 use Rattle.simplex_member.specs.declared.member.calls.Reply.{Reply}
 use Rattle.simplex_member.specs.Calls.{told}
-use Rattle.simplex_member.specs.Runs.{IsStep}
+use Rattle.simplex_member.specs.Lives.{IsCall}
 use Rattle.example_engine.specs.declared.digest.BlockDigest.{BlockDigest}
 use Rattle.example_engine.specs.declared.driver.Driver.{Driver}
 use Rattle.example_engine.specs.declared.driver.Topic.{Topic}
@@ -10,12 +10,12 @@ use Rattle.example_engine.specs.declared.scheme.MemberKey.{MemberKey}
 use Rattle.example_engine.specs.declared.scheme.Seal.{Seal}
 use Rattle.example_engine.specs.declared.scheme.SealScheme.{SealScheme}
 use Rattle.example_engine.specs.declared.scheme.Signature.{Signature}
-use Rattle.example_engine.specs.Parts.{CoreStep, same_block, leader_of_round}
+use Rattle.example_engine.specs.Parts.{CoreCallFacts, same_block, leader_of_round}
 use Rattle.example_engine.specs.Sealing.{seal_bytes}
 
--- the member made this step, and its answer is owed behind what was owed before
-abbrev pub IsMade : Topic → CoreStep → Driver → Driver → Type 0
-IsMade topic step old new =
+-- the member made this call, and its answer is owed behind what was owed before
+abbrev pub IsMade : Topic → CoreCallFacts → Driver → Driver → Type 0
+IsMade topic call old new =
     (reply : Reply SealScheme BlockDigest MemberKey Signature Seal)
-    × IsStep same_block leader_of_round old.member step (told seal_bytes reply) new.member
+    × IsCall same_block leader_of_round old.member call (told seal_bytes reply) new.member
     × (new.owed.items ≡ old.owed.items ++ (record { topic = topic; reply = reply }) ∷ [])

@@ -5,7 +5,7 @@ use Rattle.simplex_types.specs.declared.types.numbers.Round.{Round}
 use Rattle.simplex_types.specs.declared.types.plain.PlainElector.{PlainElector}
 use Rattle.simplex_types.specs.Plain.{leader_in_turn}
 use Rattle.simplex_member.specs.Lives.{MemberFacts}
-use Rattle.simplex_member.specs.Runs.{StepFacts}
+use Rattle.simplex_member.specs.Calls.{CallFacts}
 use Rattle.example_engine.specs.declared.digest.BlockDigest.{BlockDigest}
 use Rattle.example_engine.specs.declared.scheme.MemberKey.{MemberKey}
 use Rattle.example_engine.specs.Digests.{bytes_of}
@@ -16,9 +16,9 @@ same_block d e = bytes_eq (bytes_of d) (bytes_of e)
 abbrev pub leader_of_round : PlainElector → Round → Option (List ℕ) → ℕ
 leader_of_round e round seed = leader_in_turn e round.view
 
--- a member as contracts see it, and a step of one
+-- a member as contracts see it, and a call of one
 abbrev pub CoreFacts : Type 0
 CoreFacts = MemberFacts MemberKey PlainElector BlockDigest
 
-abbrev pub CoreStep : Type 0
-CoreStep = StepFacts MemberKey PlainElector BlockDigest
+abbrev pub CoreCallFacts : Type 0
+CoreCallFacts = CallFacts BlockDigest

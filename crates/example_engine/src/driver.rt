@@ -4,9 +4,9 @@
 //! the front; and that what the calls recorded is stored.
 
 ghost use Rattle.std.specs.Prelude.{◌≡◌, ◌++◌, ◌∷◌, [], ◌↔◌, drop, length, Contains, IsTrue, IsNone, IfOk, IfSome, OnOk, OnErr, option_to_list};
+ghost use Rattle.std.specs.Option.{option_copied};
 ghost use Rattle.simplex_member.specs.Entries.{entries_of};
-ghost use Rattle.simplex_member.specs.Calls.{told};
-ghost use Rattle.simplex_member.specs.Runs.{asked, IsStep};
+ghost use Rattle.simplex_member.specs.Calls.{told, asked};
 ghost use Rattle.example_engine.specs.Sealing.{seal_bytes};
 ghost use Rattle.example_engine.specs.Votes.{entry_of};
 
@@ -55,8 +55,10 @@ pub struct Driver {
 impl Driver {
     ghost use Rattle.example_engine.specs.Owing.{IsMade};
 
+    /// With nothing owed.
     pub fn new(alloc: Global, member: Core, journal: Journal) -> Driver
-        ensures { result.owed.items ≡ [] }
+        ensures parts { (result.member ≡ member) × (result.journal ≡ journal) }
+        ensures idle { result.owed.items ≡ [] }
     {
         Driver {
             member,
@@ -66,16 +68,23 @@ impl Driver {
     }
 
     /// The journal, when the process has ended.
-    pub fn into_journal(self) -> Journal {
+    pub fn into_journal(self) -> Journal
+        ensures { result ≡ self.journal }
+    {
         self.journal
     }
 
     /// The state of the core, while it has not failed.
-    pub fn state(&self) -> Option<&CoreState> {
+    pub fn state(&self) -> Option<&CoreState>
+        ensures { option_copied result ≡ self.now.member.life }
+    {
         self.member.state()
     }
 
-    pub fn member(&self) -> &Core {
+    /// The member whose calls it makes.
+    pub fn member(&self) -> &Core
+        ensures { result.now ≡ self.now.member }
+    {
         &self.member
     }
 
