@@ -1,6 +1,8 @@
 //! Digests of blocks.
 
 ghost use Rattle.std.specs.Prelude.{◌≡◌, true, length, List, ℕ};
+ghost use Rattle.std.specs.Int.{w64, to_be_bytes};
+ghost use Rattle.example_engine.specs.Digests.{bytes_of};
 
 use crate::checksum::checksum;
 use simplex_types::types::{Digest, View};
@@ -20,7 +22,9 @@ impl BlockDigest {
     }
 
     /// The digest whose bytes are the number's, big-endian.
-    pub fn of_number(number: u64) -> BlockDigest {
+    pub fn of_number(number: u64) -> BlockDigest
+        ensures { bytes_of result ≡ to_be_bytes w64 number }
+    {
         BlockDigest {
             bytes: number.to_be_bytes(),
         }
@@ -48,7 +52,7 @@ impl fmt::Display for BlockDigest {
 }
 
 impl Digest for BlockDigest {
-    ghost use Rattle.example_engine.specs.Digests.{bytes_of, from_eq, eq_self, same_bytes};
+    ghost use Rattle.example_engine.specs.Digests.{from_eq, eq_self, same_bytes};
 
     const SIZE: usize = 8;
 

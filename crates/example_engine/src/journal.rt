@@ -44,7 +44,9 @@ impl Journal {
     }
 
     /// How many entries are stored.
-    pub fn count(&self) -> usize {
+    pub fn count(&self) -> usize
+        ensures { result ≡ length self.now.entries.items }
+    {
         self.entries.len()
     }
 

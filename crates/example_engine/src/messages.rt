@@ -1,5 +1,8 @@
 //! What members send each other.
 
+ghost use Rattle.std.specs.Prelude.{◌≡◌};
+ghost use Rattle.example_engine.specs.Votes.{subject_of, signature_of, signer_of};
+
 use crate::digest::BlockDigest;
 use crate::parts::{Block, FinalizeVote, NotarizeVote, NullifyVote, Proof};
 use crate::scheme::Signature;
@@ -24,6 +27,7 @@ pub enum VoteKind {
 }
 
 impl Vote {
+    /// The same vote once more; the only fault is want of memory.
     pub fn copy(&self, alloc: Global) -> Result<Vote, Fault> {
         Ok(match self {
             Vote::Notarize(vote) => Vote::Notarize(vote.clone(alloc)?),
@@ -33,7 +37,9 @@ impl Vote {
     }
 
     /// What is signed.
-    pub fn subject(&self) -> Subject<BlockDigest> {
+    pub fn subject(&self) -> Subject<BlockDigest>
+        ensures { result ≡ subject_of self.now }
+    {
         match self {
             Vote::Notarize(vote) => Subject::Notarize(vote.proposal),
             Vote::Nullify(vote) => Subject::Nullify(vote.round),
@@ -41,7 +47,10 @@ impl Vote {
         }
     }
 
-    pub fn signature(&self) -> Signature {
+    /// The signature on it.
+    pub fn signature(&self) -> Signature
+        ensures { result ≡ signature_of self.now }
+    {
         match self {
             Vote::Notarize(vote) => vote.signature,
             Vote::Nullify(vote) => vote.signature,
@@ -49,7 +58,10 @@ impl Vote {
         }
     }
 
-    pub fn signer(&self) -> Participant {
+    /// The member that signed it.
+    pub fn signer(&self) -> Participant
+        ensures { result ≡ signer_of self.now }
+    {
         match self {
             Vote::Notarize(vote) => vote.signer,
             Vote::Nullify(vote) => vote.signer,
@@ -72,6 +84,7 @@ pub enum Message {
 }
 
 impl Message {
+    /// The same message once more; the only fault is want of memory.
     pub fn copy(&self, alloc: Global) -> Result<Message, Fault> {
         Ok(match self {
             Message::Propose(block) => Message::Propose(*block),

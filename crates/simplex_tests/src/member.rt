@@ -4,6 +4,7 @@ mod floors;
 mod records;
 mod retentions;
 mod runs;
+mod sample;
 mod timeouts;
 
 ghost use Rattle.std.specs.Prelude.{◌≡◌, IfOk, length};

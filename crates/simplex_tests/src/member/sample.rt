@@ -1,0 +1,47 @@
+//! The README's sample: a vote is stored before it is sent.
+
+use super::{PlainArtifact, PlainMember, first_notarization, start};
+use simplex_member::member::{Call, Member, Reply};
+use simplex_types::types::plain::{PlainDigest, PlainScheme};
+use simplex_types::types::{Fault, Finalize, Notarization};
+use std::alloc::Global;
+use std::test::Fail;
+
+type PlainNotarization = Notarization<PlainScheme, PlainDigest>;
+
+type PlainFinalize = Finalize<PlainScheme, PlainDigest>;
+
+/// A good notarization came, and the application found its block valid: the vote to finalize it, once it is stored.
+fn finalize(
+    alloc: Global,
+    member: &mut PlainMember,
+    journal: &mut Vec<PlainArtifact>,
+    notarization: PlainNotarization,
+    now: u64,
+) -> Result<Option<PlainFinalize>, Fault> {
+    let view = notarization.proposal.round.view;
+    member.call(Call::AddNotarization(notarization));
+    member.call(Call::Certified(view, true, now));
+    let reply = member.call(Call::ConstructFinalize(view));
+    for artifact in member.record_since(journal.len()) {
+        journal.push(artifact.clone(alloc)?)?;
+    }
+    match reply {
+        Reply::Finalize(vote) => Ok(vote),
+        _ => Ok(None),
+    }
+}
+
+#[test]
+fn a_vote_is_stored_before_it_is_sent(rt: HostRuntime) -> Result<(), Fail> {
+    let alloc = rt.alloc();
+    let mut member = Member::start(alloc, start(alloc, 10)?)?;
+    let mut journal = Vec::new(alloc);
+    let vote = finalize(alloc, &mut member, &mut journal, first_notarization(), 10)?;
+    assert!(rt; vote.is_some());
+    assert_eq!(rt; journal.len(), 3);
+    let again = finalize(alloc, &mut member, &mut journal, first_notarization(), 20)?;
+    assert!(rt; again.is_none());
+    assert_eq!(rt; journal.len(), 3);
+    Ok(())
+}
