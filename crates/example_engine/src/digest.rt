@@ -2,7 +2,6 @@
 
 ghost use Rattle.std.specs.Prelude.{◌≡◌, true, length, List, ℕ};
 ghost use Rattle.std.specs.Int.{w64, to_be_bytes};
-ghost use Rattle.example_engine.specs.Digests.{bytes_of};
 
 use crate::checksum::checksum;
 use simplex_types::types::{Digest, View};
@@ -16,6 +15,8 @@ pub struct BlockDigest {
 }
 
 impl BlockDigest {
+    ghost use Rattle.example_engine.specs.Digests.{bytes_of};
+
     /// The digest of genesis.
     pub fn genesis() -> BlockDigest {
         BlockDigest { bytes: [0; 8] }
@@ -52,7 +53,7 @@ impl fmt::Display for BlockDigest {
 }
 
 impl Digest for BlockDigest {
-    ghost use Rattle.example_engine.specs.Digests.{from_eq, eq_self, same_bytes};
+    ghost use Rattle.example_engine.specs.Digests.{bytes_of, from_eq, eq_self, same_bytes};
 
     const SIZE: usize = 8;
 
