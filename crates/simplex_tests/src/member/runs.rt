@@ -4,18 +4,8 @@ use super::{first_notarization, start};
 use simplex_member::member::{Call, Reply, Restart, Step, run};
 use simplex_types::reasons::TimeoutReason;
 use simplex_types::types::View;
-use simplex_types::types::plain::{PlainDigest, PlainElector, PlainScheme};
+use simplex_types::types::plain::{PlainDigest, PlainScheme};
 use std::test::Fail;
-
-type PlainStep = Step<PlainScheme, PlainElector, PlainDigest>;
-
-fn nullify_first(reason: TimeoutReason) -> PlainStep {
-    Step::Call(Call::ConstructNullify(View::new(1), reason))
-}
-
-fn finalize_first() -> PlainStep {
-    Step::Call(Call::ConstructFinalize(View::new(1)))
-}
 
 /// What a reply of the run tells.
 fn told(reply: &Reply<PlainScheme, PlainDigest>) -> &'static str {
@@ -41,14 +31,14 @@ fn a_member_that_voted_to_nullify_a_view_never_votes_to_finalize_it(
         start: start(alloc, 10)?,
     };
     let steps = vec![in alloc;
-        nullify_first(TimeoutReason::LeaderTimeout),
-        nullify_first(TimeoutReason::LeaderTimeout),
+        Step::Call(Call::ConstructNullify(View::new(1), TimeoutReason::LeaderTimeout)),
+        Step::Call(Call::ConstructNullify(View::new(1), TimeoutReason::LeaderTimeout)),
         Step::Call(Call::AddNotarization(first_notarization())),
         Step::Call(Call::Certified(View::new(1), true, 10)),
-        finalize_first(),
+        Step::Call(Call::ConstructFinalize(View::new(1))),
         Step::Restart(restart),
-        finalize_first(),
-        nullify_first(TimeoutReason::Retry),
+        Step::Call(Call::ConstructFinalize(View::new(1))),
+        Step::Call(Call::ConstructNullify(View::new(1), TimeoutReason::Retry)),
     ]?;
     let replies = run(alloc, start(alloc, 10)?, steps)?;
     let wanted = [

@@ -3,7 +3,7 @@
 use super::{PlainArtifact, PlainMember, first_notarization, start};
 use simplex_member::member::{Call, Member, Reply};
 use simplex_types::types::plain::{PlainDigest, PlainScheme};
-use simplex_types::types::{Fault, Finalize, Notarization};
+use simplex_types::types::{Fault, Finalize, Notarization, View};
 use std::alloc::Global;
 use std::test::Fail;
 
@@ -11,15 +11,15 @@ type PlainNotarization = Notarization<PlainScheme, PlainDigest>;
 
 type PlainFinalize = Finalize<PlainScheme, PlainDigest>;
 
-/// A good notarization came, and the application found its block valid: the vote to finalize it, once it is stored.
+/// A good notarization of the view came, and the application found its block valid: the vote to finalize it, once it is stored.
 fn finalize(
     alloc: Global,
     member: &mut PlainMember,
     journal: &mut Vec<PlainArtifact>,
+    view: View,
     notarization: PlainNotarization,
     now: u64,
 ) -> Result<Option<PlainFinalize>, Fault> {
-    let view = notarization.proposal.round.view;
     member.call(Call::AddNotarization(notarization));
     member.call(Call::Certified(view, true, now));
     let reply = member.call(Call::ConstructFinalize(view));
@@ -37,10 +37,26 @@ fn a_vote_is_stored_before_it_is_sent(rt: HostRuntime) -> Result<(), Fail> {
     let alloc = rt.alloc();
     let mut member = Member::start(alloc, start(alloc, 10)?)?;
     let mut journal = Vec::new(alloc);
-    let vote = finalize(alloc, &mut member, &mut journal, first_notarization(), 10)?;
+    let first = View::new(1);
+    let vote = finalize(
+        alloc,
+        &mut member,
+        &mut journal,
+        first,
+        first_notarization(),
+        10,
+    )?;
     assert!(rt; vote.is_some());
     assert_eq!(rt; journal.len(), 3);
-    let again = finalize(alloc, &mut member, &mut journal, first_notarization(), 20)?;
+    let first = View::new(1);
+    let again = finalize(
+        alloc,
+        &mut member,
+        &mut journal,
+        first,
+        first_notarization(),
+        20,
+    )?;
     assert!(rt; again.is_none());
     assert_eq!(rt; journal.len(), 3);
     Ok(())
