@@ -2,6 +2,7 @@
 
 ghost use Rattle.std.specs.Prelude.{◌≡◌, true, length, List, ℕ};
 ghost use Rattle.std.specs.Int.{w64, to_be_bytes};
+ghost use Rattle.example_engine.specs.Checksum.{block_number};
 
 use crate::checksum::checksum;
 use simplex_types::types::{Digest, View};
@@ -18,8 +19,10 @@ impl BlockDigest {
     ghost use Rattle.example_engine.specs.Digests.{bytes_of};
 
     /// The digest of genesis.
-    pub fn genesis() -> BlockDigest {
-        BlockDigest { bytes: [0; 8] }
+    pub fn genesis() -> BlockDigest
+        ensures { bytes_of result ≡ to_be_bytes w64 0 }
+    {
+        BlockDigest::of_number(0)
     }
 
     /// The digest whose bytes are the number's, big-endian.
@@ -33,7 +36,9 @@ impl BlockDigest {
 
     /// The digest of the block that is built in a view on a parent. A leader has several blocks to choose from, which
     /// `choice` tells apart.
-    pub fn of_block(parent: &BlockDigest, view: View, choice: u64) -> BlockDigest {
+    pub fn of_block(parent: &BlockDigest, view: View, choice: u64) -> BlockDigest
+        ensures { bytes_of result ≡ to_be_bytes w64 (block_number (bytes_of parent.now) view choice) }
+    {
         let number = view.get().to_be_bytes();
         let seed = checksum(choice % 1000 + 1, &parent.bytes);
         let low = checksum(seed, &number);

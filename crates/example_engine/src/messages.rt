@@ -1,6 +1,6 @@
 //! What members send each other.
 
-ghost use Rattle.std.specs.Prelude.{◌≡◌};
+ghost use Rattle.std.specs.Prelude.{◌≡◌, IfOk};
 ghost use Rattle.example_engine.specs.Votes.{subject_of, signature_of, signer_of};
 
 use crate::digest::BlockDigest;
@@ -28,7 +28,9 @@ pub enum VoteKind {
 
 impl Vote {
     /// The same vote once more; the only fault is want of memory.
-    pub fn copy(&self, alloc: Global) -> Result<Vote, Fault> {
+    pub fn copy(&self, alloc: Global) -> Result<Vote, Fault>
+        ensures { IfOk result (λ vote. vote ≡ self.now) }
+    {
         Ok(match self {
             Vote::Notarize(vote) => Vote::Notarize(vote.clone(alloc)?),
             Vote::Nullify(vote) => Vote::Nullify(vote.clone(alloc)?),

@@ -3,9 +3,11 @@
 //! It owes that its open fetches are, over its whole life, exactly the views that are wanted by what it was told: each effect
 //! of each call is applied, in order.
 
-ghost use Rattle.std.specs.Prelude.{◌≡◌, ◌≤◌, ℕ, ◌∷◌, List, IfOk, OnOk};
+ghost use Rattle.std.specs.Prelude.{◌≡◌, ◌≤◌, ℕ, ◌∷◌, List, false, IfOk, IfErr, OnOk};
+ghost use Rattle.simplex_types.specs.declared.types.fault.Fault.TheVariants.{OutOfMemory};
 ghost use Rattle.simplex_types.specs.Certificates.{certificate_facts, notarization_facts};
 ghost use Rattle.simplex_types.specs.Viewed.{certificate_view};
+ghost use Rattle.simplex_resolver.specs.Held.{served_encoding};
 ghost use Rattle.simplex_resolver.specs.Steps.{Call, update, verdict};
 ghost use Rattle.simplex_replay.specs.Calls.{replay_calls};
 ghost use Rattle.example_engine.specs.Digests.{bytes_of};
@@ -82,7 +84,12 @@ impl PeerResolver {
     }
 
     /// The bytes of the certificate that is served for the view.
-    pub fn serve(&self, view: View) -> Result<Option<Bytes>, Fault> {
+    ///
+    /// `Failed` where the state has failed, and `OutOfMemory`, after which it may be asked again.
+    pub fn serve(&self, view: View) -> Result<Option<Bytes>, Fault>
+        ensures served { IfOk result (λ bytes. bytes ≡ served_encoding self.now.state view) }
+        ensures live { self.now.state.is_failed ≡ false → IfErr result (λ fault. fault ≡ OutOfMemory) }
+    {
         self.state.produce(view)
     }
 }
