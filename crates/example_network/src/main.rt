@@ -1,0 +1,66 @@
+//! Four members that finalize views, in one process: each is the core with the parts of `example_engine` round it.
+#![tactic(auto)]
+
+mod error;
+mod faults;
+mod network;
+mod news;
+mod node;
+mod options;
+mod polls;
+mod report;
+mod world;
+
+use error::EngineError;
+use options::Options;
+use std::process::ExitCode;
+use std::{env, io};
+use world::World;
+
+const USAGE: &str =
+    "usage: example_network [--views N]   (N from 1 to 1000, 100 if none is given) | --help";
+
+const USAGE_STATUS: u8 = 2;
+
+fn main(rt: HostRuntime) -> ExitCode {
+    let Ok(arguments) = arguments(&rt) else {
+        return misused(&rt);
+    };
+    match Options::read(&arguments) {
+        Some(Options::Run(views)) => match simulate(&rt, views) {
+            Ok(()) => ExitCode::SUCCESS,
+            Err(error) => {
+                let _ = eprintln!(rt; "{error}");
+                ExitCode::FAILURE
+            }
+        },
+        Some(Options::Help) => {
+            let _ = println!(rt; "{USAGE}");
+            ExitCode::SUCCESS
+        }
+        None => misused(&rt),
+    }
+}
+
+/// The arguments after the program's name.
+fn arguments(rt: &HostRuntime) -> io::Result<Vec<String>> {
+    let mut words = Vec::new(rt.alloc());
+    for word in env::args(rt)?.skip(1) {
+        words.push(word)?;
+    }
+    Ok(words)
+}
+
+fn misused(rt: &HostRuntime) -> ExitCode {
+    let _ = eprintln!(rt; "{USAGE}");
+    ExitCode::from(USAGE_STATUS)
+}
+
+fn simulate(rt: &HostRuntime, views: u64) -> Result<(), EngineError> {
+    println!(rt;
+        "Four members, {views} views to finalize. Member 3 is faulty where it leads, member 1 crashes."
+    )?;
+    println!(rt; "")?;
+    let mut world = World::start(rt.alloc())?;
+    world.run(rt, views)
+}

@@ -1,0 +1,21 @@
+//! What a member tells the reader.
+
+use example_engine::digest::BlockDigest;
+use simplex_types::types::View;
+
+/// Something that has happened at a member.
+#[derive(Clone, Copy, PartialEq, Eq)]
+pub enum News {
+    /// The view's block is final, on the block of its parent's view.
+    Finalized {
+        view: View,
+        parent: View,
+        block: BlockDigest,
+    },
+    /// The view is passed over.
+    Nullified(View),
+    /// The view's leader signed two proposals.
+    TwoProposals(View),
+    /// A certificate is asked for that covers the view.
+    FetchOpened(View),
+}

@@ -1,0 +1,139 @@
+//! What comes in: messages, and the moment of a timeout.
+
+use super::Node;
+use crate::error::EngineError;
+use example_engine::decode::decode;
+use example_engine::driver::Topic;
+use example_engine::messages::{Message, Vote, VoteKind};
+use example_engine::parts::{Block, Proof};
+use example_engine::start::CoreCall;
+use simplex_member::member::Call;
+use simplex_types::reasons::TimeoutReason;
+use simplex_types::types::{Certificate, Fault, Round, View, Viewable};
+use std::alloc::Global;
+
+impl Node {
+    /// Takes a message of another member.
+    pub fn receive(&mut self, from: u8, message: &Message, now: u64) -> Result<(), EngineError> {
+        match message {
+            Message::Propose(block) => self.take_proposal(from, block)?,
+            Message::Vote(vote) => self.take_vote(vote, now)?,
+            Message::Certificate(proof) => self.take_certificate(proof, now)?,
+            Message::Ask(view) => self.serve(from, *view)?,
+            Message::Served(bytes) => {
+                if let Some(proof) = decode(self.alloc, bytes)? {
+                    self.take_certificate(&proof, now)?;
+                }
+            }
+        }
+        self.settle(now)
+    }
+
+    /// The moment of the next timeout came.
+    pub fn time_out(&mut self, now: u64) -> Result<(), EngineError> {
+        self.wake = None;
+        self.ask_peers()?;
+        self.settle(now)
+    }
+
+    /// A proposal, if it is its view's leader's.
+    fn take_proposal(&mut self, from: u8, block: &Block) -> Result<(), EngineError> {
+        let view = block.round.view;
+        if u32::from(from) == self.leader(block.round) {
+            let call = Call::SetProposal(view, *block);
+            self.driver.call(Topic::Proposed(view), call)?;
+        }
+        Ok(())
+    }
+
+    /// A vote, if its signature is good.
+    pub(super) fn take_vote(&mut self, vote: &Vote, now: u64) -> Result<(), EngineError> {
+        if !self.polls.is_signed(vote)? {
+            return Ok(());
+        }
+        if let Vote::Nullify(it) = vote {
+            self.heed(it.signer.get(), it.round, now)?;
+        }
+        match self.count(vote)? {
+            Some(proof) => self.accept(&proof, now),
+            None => Ok(()),
+        }
+    }
+
+    /// A leader that votes to nullify its own view has given it up.
+    fn heed(&mut self, signer: u32, round: Round, now: u64) -> Result<(), EngineError> {
+        let view = round.view;
+        if signer == self.leader(round) {
+            let call = Call::TriggerTimeout(view, TimeoutReason::LeaderNullify, now);
+            self.driver.call(Topic::Next, call)?;
+        }
+        Ok(())
+    }
+
+    /// Counts a vote. Answers the certificate that it completes.
+    fn count(&mut self, vote: &Vote) -> Result<Option<Proof>, EngineError> {
+        let Some(state) = self.driver.state() else {
+            return Ok(None);
+        };
+        Ok(self.polls.count(state, vote)?)
+    }
+
+    /// A certificate, if it is good.
+    fn take_certificate(&mut self, proof: &Proof, now: u64) -> Result<(), EngineError> {
+        if self.polls.is_good(proof) {
+            self.accept(proof, now)?;
+        }
+        Ok(())
+    }
+
+    /// A good certificate goes to the resolver and to the core, where its view is kept.
+    fn accept(&mut self, proof: &Proof, now: u64) -> Result<(), EngineError> {
+        let view = proof.view();
+        if view.is_zero() || !self.is_kept(view) {
+            return Ok(());
+        }
+        let effects = self.resolver.updated(proof)?;
+        self.ask_for(&effects)?;
+        self.hand_in(proof, now)
+    }
+
+    fn is_kept(&self, view: View) -> bool {
+        match self.driver.state() {
+            Some(state) => state.admits_certificate(view),
+            None => false,
+        }
+    }
+
+    fn hand_in(&mut self, proof: &Proof, now: u64) -> Result<(), EngineError> {
+        let topic = Topic::Accepted(kind_of(proof), proof.view());
+        let call = handed_in(self.alloc, proof, now)?;
+        self.driver.call(topic, call)?;
+        Ok(())
+    }
+
+    /// The certificate that a peer asked for, if there is one.
+    fn serve(&mut self, from: u8, view: View) -> Result<(), EngineError> {
+        if let Some(bytes) = self.resolver.serve(view)? {
+            self.send_to(from, Message::Served(bytes))?;
+        }
+        Ok(())
+    }
+}
+
+/// The kind of votes that a certificate is made of.
+fn kind_of(proof: &Proof) -> VoteKind {
+    match proof {
+        Certificate::Notarization(_) => VoteKind::Notarize,
+        Certificate::Nullification(_) => VoteKind::Nullify,
+        Certificate::Finalization(_) => VoteKind::Finalize,
+    }
+}
+
+/// The call that hands a certificate in.
+fn handed_in(alloc: Global, proof: &Proof, now: u64) -> Result<CoreCall, Fault> {
+    Ok(match proof {
+        Certificate::Notarization(it) => Call::AddNotarization(it.clone(alloc)?),
+        Certificate::Nullification(it) => Call::AddNullification(it.clone(alloc)?, now),
+        Certificate::Finalization(it) => Call::AddFinalization(it.clone(alloc)?, now),
+    })
+}
