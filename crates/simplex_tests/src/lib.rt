@@ -1,4 +1,4 @@
-//! The tests of the crates below, run on their code: worked rows, each refusal by name, and settings at their limits.
+//! Tests of the libraries, run on their code: worked rows, each refusal by name, and settings at their limits.
 #![tactic(auto)]
 
 #[cfg(test)]
