@@ -11,7 +11,7 @@ use Rattle.simplex_member.specs.declared.member.calls.Reply.TheVariants as reply
 use Rattle.simplex_member.specs.declared.member.runs.Step.{Step}
 use Rattle.simplex_member.specs.declared.member.runs.Step.TheVariants as step
 use Rattle.simplex_member.specs.declared.member.start.Start.{Start}
-use Rattle.simplex_member.specs.Calls.{Told, told, asked, CallFacts, Added}
+use Rattle.simplex_member.specs.Calls.{Told, told, asked, CallFacts, Added, AddedNullification}
 use Rattle.simplex_member.specs.declared.member.restart.Restart.{Restart}
 use Rattle.simplex_member.specs.Restarts.{RestartFacts, restart_facts}
 use Rattle.simplex_member.specs.Runs.{Calls, Restarts, step_facts, steps_of, restart_told}
@@ -41,10 +41,12 @@ module _ {S D K G C : Type 0} (bytes_of : C → List ℕ) where
 -- the certificate of a call that is told whether it is new
 abbrev where_added : {K D : Type 0} → Told K D → List (Deed D) → List (Deed D)
 where_added (Added _ _) deeds = deeds
+where_added (AddedNullification _) deeds = deeds
 where_added _ deeds = []
 
 accepted_where : {K D : Type 0} (call : CallFacts D) (t : Told K D) → accepted_by call t ≡ where_added t (handed_in call)
 accepted_where call (Added newly leader) = refl
+accepted_where call (AddedNullification newly) = refl
 accepted_where call _ = refl
 
 module _ (L : Type 0) {S D K G C : Type 0} (bytes_of : C → List ℕ) where

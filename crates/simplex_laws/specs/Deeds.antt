@@ -4,7 +4,7 @@ use Rattle.simplex_types.specs.Certificates.{ArtifactFacts, NotarizeVote, Nullif
 use Rattle.simplex_types.specs.Config.{FloorFacts, Genesis, Finalized}
 use Rattle.simplex_types.specs.declared.types.messages.Subject.{Subject}
 use Rattle.simplex_types.specs.declared.types.messages.Subject.TheVariants as subject
-use Rattle.simplex_member.specs.Calls.{CallFacts, AddNotarization, AddNullification, AddFinalization, Told, Added, Nullify, Finalize, Notarize, Restarted}
+use Rattle.simplex_member.specs.Calls.{CallFacts, AddNotarization, AddNullification, AddFinalization, Told, Added, AddedNullification, Nullify, Finalize, Notarize, Restarted}
 use Rattle.simplex_member.specs.Runs.{StepFacts, Calls, Restarts}
 
 -- a certificate was accepted, or a vote was signed by this member of the network; each is named by what it is about
@@ -43,6 +43,7 @@ module _ {K D : Type 0} where
   -- a certificate is accepted by a call that is told whether it is new
   abbrev pub accepted_by : CallFacts D → Told K D → List (Deed D)
   accepted_by call (Added _ _) = handed_in call
+  accepted_by call (AddedNullification _) = handed_in call
   accepted_by call _ = []
 
   abbrev pub deeds_of_call : CallFacts D → Told K D → List (Deed D)

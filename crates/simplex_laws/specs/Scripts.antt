@@ -7,7 +7,7 @@ use Rattle.simplex_types.specs.declared.types.messages.Proposal.{Proposal}
 use Rattle.simplex_types.specs.declared.types.numbers.Round.{Round}
 use Rattle.simplex_voter.specs.Facts.{Facts, Settings, Elect, new_facts}
 use Rattle.simplex_voter.specs.declared.voter.verification.Verify.TheVariants.{Ready}
-use Rattle.simplex_member.specs.Calls.{AddNotarization, AddNullification, AddFinalization, SetProposal, TryVerify, Verified, ConstructNotarize, Certified, ConstructNullify, ConstructFinalize, Told, Added, Judged, Nullify, Finalize, Notarize, Standing, Answered, Restarted}
+use Rattle.simplex_member.specs.Calls.{AddNotarization, AddNullification, AddFinalization, SetProposal, TryVerify, Verified, ConstructNotarize, Certified, ConstructNullify, ConstructFinalize, Told, Added, AddedNullification, Judged, Nullify, Finalize, Notarize, Standing, Answered, Restarted}
 use Rattle.simplex_member.specs.Runs.{Calls, Restarts}
 use Rattle.simplex_member.specs.Start.{StartFacts}
 use Rattle.simplex_laws.specs.Places.{Place, Faulty, Honest}
@@ -247,7 +247,7 @@ skipping me = record {
       ∷ Added true None
       ∷ Judged (Some (certificate one))
       ∷ nullify_vote me 2
-      ∷ Added true None
+      ∷ AddedNullification true
       ∷ Answered true
       ∷ Standing (Ready (context 3 1) (proposal 3 1))
       ∷ Answered true

@@ -18,4 +18,7 @@ pub mod Allowing
 pub mod Remaking
 pub mod GoingCalls
 pub mod Answering
+pub mod Typed
+pub mod Voted
+pub mod HandedOut
 pub mod Opening

@@ -77,6 +77,7 @@ asked bytes_of call.Prune = Prune
 -- what a reply tells, with votes as the entries that they are recorded as; and why a restart was refused, which no reply tells
 pub data Told (K D : Type 0) : Type 0 where
   Added : Bool → Option K → Told K D
+  AddedNullification : Bool → Told K D
   Judged : Option (ProposalFacts D) → Told K D
   Nullify : Option (Bool × ArtifactFacts D) → Told K D
   Finalize : Option (ArtifactFacts D) → Told K D
@@ -112,7 +113,7 @@ module _ {S D K G C : Type 0} (bytes_of : C → List ℕ) where
   told reply.Unit = Done
   told (reply.Flag taken) = Answered taken
   told (reply.Added newly leader) = Added newly leader
-  told (reply.AddedNullification newly) = Added newly None
+  told (reply.AddedNullification newly) = AddedNullification newly
   told (reply.Request request) = Requested request
   told (reply.Work verify) = Standing verify
   told (reply.Candidates proposals fetches) = Candidates proposals.items fetches.items

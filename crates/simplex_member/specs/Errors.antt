@@ -2,8 +2,14 @@
 use Rattle.std.specs.Prelude.{ℕ, List, codes}
 use Rattle.simplex_member.specs.declared.member.error.RecoverError.{RecoverError}
 use Rattle.simplex_member.specs.declared.member.error.RecoverError.TheVariants as error
+use Rattle.simplex_types.specs.Config.{config_error_name}
+use Rattle.simplex_types.specs.Fault.{fault_name}
+use Rattle.simplex_member.specs.declared.member.refusal.Refusal.{Refusal}
+use Rattle.simplex_member.specs.declared.member.refusal.Refusal.TheVariants as refusal
 use Rattle.simplex_member.specs.declared.member.resume.ResumeError.{ResumeError}
 use Rattle.simplex_member.specs.declared.member.resume.ResumeError.TheVariants as resume_error
+use Rattle.simplex_member.specs.declared.member.settings.StartError.{StartError}
+use Rattle.simplex_member.specs.declared.member.settings.StartError.TheVariants as start_error
 
 abbrev pub recover_error_name : RecoverError → List ℕ
 recover_error_name error.OutOfOrder = codes "OutOfOrder"
@@ -24,3 +30,11 @@ recover_error_name error.RetentionGrown = codes "RetentionGrown"
 abbrev pub resume_error_name : ResumeError → List ℕ
 resume_error_name resume_error.EntriesLost = codes "EntriesLost"
 resume_error_name (resume_error.Recover e) = recover_error_name e
+
+abbrev pub refusal_name : Refusal → List ℕ
+refusal_name (refusal.Fault fault) = fault_name fault
+refusal_name refusal.NotAllowed = codes "NotAllowed"
+
+abbrev pub start_error_name : StartError → List ℕ
+start_error_name (start_error.Config e) = config_error_name e
+start_error_name start_error.OtherMembers = codes "OtherMembers"

@@ -10,7 +10,9 @@ pub mod Signed
 pub mod Openings
 pub mod Made
 pub mod Lives
+pub mod Typed
 pub mod Start
+pub mod Settings
 pub mod Restarts
 pub mod Journal
 pub mod Remade

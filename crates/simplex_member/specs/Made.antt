@@ -10,7 +10,7 @@ use Rattle.simplex_voter.specs.Serving.{broadcast_notarization_answer, after_bro
 use Rattle.simplex_voter.specs.Timeouts.{after_trigger_timeout, next_timeout_answer, after_next_timeout}
 use Rattle.simplex_voter.specs.Verifying.{set_proposal_answer, after_set_proposal, verify_answer, after_try_verify, verified_answer, after_verified, after_verification_failed}
 use Rattle.simplex_voter.specs.Votes.{notarize_answer, after_construct_notarize, nullify_answer, after_construct_nullify, finalize_answer, after_construct_finalize}
-use Rattle.simplex_member.specs.Calls.{CallFacts, AddNotarization, AddNullification, AddFinalization, SetProposal, TryPropose, Proposed, SupersedeProposalRequest, PendingHandoffAbandonment, ReleaseProposalRequest, TryVerify, Verified, VerificationFailed, ConstructNotarize, CertifyCandidates, SetCertifyHandle, Certified, ConstructNullify, ConstructFinalize, BroadcastNotarization, BroadcastNullification, BroadcastFinalization, GetBestCertificate, TriggerTimeout, NextTimeout, Prune, Told, Added, Judged, Nullify, Finalize, Notarize, Handed, Dropped, Requested, Standing, Answered, Abandoned, Candidates, TimesOut, Done}
+use Rattle.simplex_member.specs.Calls.{CallFacts, AddNotarization, AddNullification, AddFinalization, SetProposal, TryPropose, Proposed, SupersedeProposalRequest, PendingHandoffAbandonment, ReleaseProposalRequest, TryVerify, Verified, VerificationFailed, ConstructNotarize, CertifyCandidates, SetCertifyHandle, Certified, ConstructNullify, ConstructFinalize, BroadcastNotarization, BroadcastNullification, BroadcastFinalization, GetBestCertificate, TriggerTimeout, NextTimeout, Prune, Told, Added, AddedNullification, Judged, Nullify, Finalize, Notarize, Handed, Dropped, Requested, Standing, Answered, Abandoned, Candidates, TimesOut, Done}
 use Rattle.simplex_member.specs.Openings.{Openings, context_at, without_context, with_request, without_verification, with_verification, without_offer, with_offers}
 
 module _ {K L D : Type 0} where
@@ -56,7 +56,7 @@ module _ {K L D : Type 0} (same : D → D → Bool) (elect : Elect L) where
   -- what a call is told
   abbrev pub answer : Facts K L D → Openings K D → CallFacts D → Told K D
   answer x o (AddNotarization c) = Added (notarization_added same elect x c).0 (notarization_added same elect x c).1
-  answer x o (AddNullification c _) = Added (nullification_added x c) None
+  answer x o (AddNullification c _) = AddedNullification (nullification_added x c)
   answer x o (AddFinalization c _) = Added (finalization_added same elect x c).0 (finalization_added same elect x c).1
   answer x o (SetProposal v p) = Answered (set_proposal_answer x v)
   answer x o TryPropose = Requested (propose_answer same elect x)

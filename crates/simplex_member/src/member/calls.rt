@@ -1,5 +1,13 @@
 //! What is asked of a member, and what it answers.
 
+mod certificates;
+mod certifications;
+mod proposals;
+mod servings;
+mod timeouts;
+mod verifications;
+mod votes;
+
 use simplex_types::reasons::{HandoffAbandonedReason, TimeoutReason};
 use simplex_types::types::{
     Certificate, CertificateScheme, Digest, Fault, Finalization, Finalize, Notarization, Notarize,

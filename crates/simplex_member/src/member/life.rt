@@ -61,10 +61,12 @@ impl<S: CertificateScheme, L: Elector<S>, D: Digest> Model for Member<S, L, D> {
 }
 
 impl<S: CertificateScheme, L: Elector<S>, D: Digest> Member<S, L, D> {
+    ghost use Rattle.std.specs.Prelude.{true};
     ghost use Rattle.simplex_member.specs.Entries.{entries_of};
     ghost use Rattle.simplex_member.specs.Calls.{told, asked};
     ghost use Rattle.simplex_member.specs.Lives.{IsCall};
     ghost use Rattle.simplex_member.specs.Signed.{IsSignedReply};
+    ghost use Rattle.simplex_member.specs.Typed.{is_reply_to, IfAnswered, IfRefused, IsAnswered, Keeps};
     ghost use Rattle.simplex_member.specs.Recovery.{recover_error};
     ghost use Rattle.simplex_member.specs.Start.{set_up, started, IsDue};
     ghost use Rattle.simplex_types.specs.Config.{floor_facts};
@@ -119,7 +121,7 @@ impl<S: CertificateScheme, L: Elector<S>, D: Digest> Member<S, L, D> {
     }
 
     /// Makes a call of the state and records what came of it: a certificate that was newly added, a view's first verdict,
-    /// and a vote, unless it is a repeat, before it is handed out.
+    /// and a vote, unless it is a repeat, before it is handed out. Each call is also a method, with an answer of its own type.
     ///
     /// What the state asks to build, to verify or to certify is open until it is answered: a request to build until its
     /// payload, a true answer that it is to be replaced, or its release; a verification until its answer; an offer until
@@ -131,6 +133,20 @@ impl<S: CertificateScheme, L: Elector<S>, D: Digest> Member<S, L, D> {
     /// the faults `ViewTooLarge` and `TimeOverflow` change nothing. After `OutOfMemory` nothing has changed, or the member
     /// has failed, and answers `Failed` from then on.
     pub fn call(&mut self, call: Call<S, D>) -> Reply<S, D>
+    where
+        S: Scheme<D>,
+        ensures made { IsCall D.eq L.elect self.old (asked S.certificate_bytes call) (told S.certificate_bytes result) self.new }
+        ensures of_its_kind { is_reply_to (told S.certificate_bytes result) (asked S.certificate_bytes call) ≡ true }
+        ensures answered { IfAnswered (told S.certificate_bytes result)
+            (IsAnswered D.eq L.elect self.old (asked S.certificate_bytes call) (told S.certificate_bytes result) self.new) }
+        ensures kept { IfRefused (told S.certificate_bytes result) (λ refusal. Keeps self.old refusal self.new) }
+        ensures signed { IfSome self.old.life (IsSignedReply S.IsSignature result) }
+    {
+        self.make(call)
+    }
+
+    /// Makes a call, unless the member has failed or what the call asks is not so.
+    fn make(&mut self, call: Call<S, D>) -> Reply<S, D>
     where
         S: Scheme<D>,
         ensures made { IsCall D.eq L.elect self.old (asked S.certificate_bytes call) (told S.certificate_bytes result) self.new }

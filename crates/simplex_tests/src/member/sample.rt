@@ -1,9 +1,9 @@
 //! The README's sample: a vote is stored before it is sent.
 
 use super::{PlainArtifact, PlainMember, first_notarization, start};
-use simplex_member::member::{Call, Member, Reply};
+use simplex_member::member::{Member, Refusal};
 use simplex_types::types::plain::{PlainDigest, PlainScheme};
-use simplex_types::types::{Fault, Finalize, Notarization, View};
+use simplex_types::types::{Finalize, Notarization, View};
 use std::alloc::Global;
 use std::test::Fail;
 
@@ -19,17 +19,14 @@ fn finalize(
     view: View,
     notarization: PlainNotarization,
     now: u64,
-) -> Result<Option<PlainFinalize>, Fault> {
-    member.call(Call::AddNotarization(notarization));
-    member.call(Call::Certified(view, true, now));
-    let reply = member.call(Call::ConstructFinalize(view));
+) -> Result<Option<PlainFinalize>, Refusal> {
+    member.add_notarization(notarization)?;
+    member.certified(view, true, now)?;
+    let vote = member.construct_finalize(view)?;
     for artifact in member.record_since(journal.len()) {
         journal.push(artifact.clone(alloc)?)?;
     }
-    match reply {
-        Reply::Finalize(vote) => Ok(vote),
-        _ => Ok(None),
-    }
+    Ok(vote)
 }
 
 #[test]

@@ -1,82 +1,15 @@
-use Rattle.std.proofs.Common.{false, refl, sym, subst, ap, ◌∙◌, ◌++◌}
-use Rattle.std.proofs.lemmas.List.{append-nil}
-use Rattle.simplex_member.specs.Allowed.{fault_of}
 use Rattle.simplex_member.specs.Calls.{told, asked}
-use Rattle.simplex_member.specs.Entries.{entries_of}
-use Rattle.simplex_member.specs.Lives.{MemberFacts, living, open_while}
-use Rattle.simplex_member.specs.Parts.{EndsCall, opens}
-use Rattle.simplex_member.proofs.Answering.{call_goes_on, opening_loses, open_then, err_says, ok_says, losing, failed_call, forbidden_call, answered_call, refused_call, lost_call}
+use Rattle.simplex_member.proofs.Typed.{typed}
 use Rattle.simplex_member.proofs.member.life.Member.call.Goals as goal
 
-pub returns-then-self-clause-made : goal.returns-then-self-clause-made
-returns-then-self-clause-made g c =
-    let bytes_of = g.S.CertificateScheme.certificate_bytes in
-    let i = c.self.inside in
-    let m : MemberFacts _ _ _ = record { life = living i.failed i.state; openings = open_while i.failed i.openings; entries = entries_of bytes_of i.artifacts.items; closed = i.closed; is_pruned = i.is_pruned; retention = i.retention; least_retention = i.least_retention } in
-    rw (← c.self.view_is) (failed_call g.D.PartialEq.eq g.L.Elector.elect m (asked bytes_of c.args.call) (rw c.if-self.true refl))
+pub returns-clause-of_its_kind : goal.returns-clause-of_its_kind
+returns-clause-of_its_kind g c =
+    (typed g.D.PartialEq.eq g.L.Elector.elect c.args.self.now (asked g.S.CertificateScheme.certificate_bytes c.args.call) (told g.S.CertificateScheme.certificate_bytes c.make.result) c.make.new.self c.make.ensures.made).of_its_kind
 
-pub returns-then-not-is_allowed-clause-made : goal.returns-then-not-is_allowed-clause-made
-returns-then-not-is_allowed-clause-made g c =
-    let bytes_of = g.S.CertificateScheme.certificate_bytes in
-    let i = c.self.inside in
-    let m : MemberFacts _ _ _ = record { life = living false i.state; openings = open_while false i.openings; entries = entries_of bytes_of i.artifacts.items; closed = i.closed; is_pruned = i.is_pruned; retention = i.retention; least_retention = i.least_retention } in
-    rw (← c.self.view_is, c.if-self.false)
-    (forbidden_call g.D.PartialEq.eq g.L.Elector.elect m (asked bytes_of c.args.call) i.state refl (sym c.is_allowed.ensures ∙ c.if-not-is_allowed.true))
+pub returns-clause-answered : goal.returns-clause-answered
+returns-clause-answered g c =
+    (typed g.D.PartialEq.eq g.L.Elector.elect c.args.self.now (asked g.S.CertificateScheme.certificate_bytes c.args.call) (told g.S.CertificateScheme.certificate_bytes c.make.result) c.make.new.self c.make.ensures.made).answered
 
-pub returns-then-is_err-clause-made : goal.returns-then-is_err-clause-made
-returns-then-is_err-clause-made g c =
-    let bytes_of = g.S.CertificateScheme.certificate_bytes in
-    let i = c.self.inside in
-    let call = asked bytes_of c.args.call in
-    let m : MemberFacts _ _ _ = record { life = living false i.state; openings = open_while false i.openings; entries = entries_of bytes_of i.artifacts.items; closed = i.closed; is_pruned = i.is_pruned; retention = i.retention; least_retention = i.least_retention } in
-    let opened = err_says (opens (told bytes_of c.in-Ok.reply)) c.follow.result (sym c.is_err.ensures.value ∙ c.if-is_err.true) c.follow.ensures.refused in
-    let loses = opening_loses g.D.PartialEq.eq g.L.Elector.elect i.state i.openings call (told bytes_of c.in-Ok.reply) c.in-Ok.ensures.answer opened in
-    let unrecorded = c.in-Ok.ensures.recorded ∙ ap (λ new. m.entries ++ new) loses.2 ∙ append-nil m.entries in
-    rw (← c.self.view_is, c.if-self.false, unrecorded)
-    (lost_call g.D.PartialEq.eq g.L.Elector.elect m call i.state refl (sym c.is_allowed.ensures ∙ c.if-not-is_allowed.false) c.in-Ok.ensures.due loses.0 loses.1)
-
-pub invariant_of-self-in-Ok : goal.invariant_of-self-in-Ok
-invariant_of-self-in-Ok g c =
-    let kept = c.self.invariant c.if-self.false in
-    λ _. call_goes_on g.D.PartialEq.eq g.L.Elector.elect c.self.inside.state c.self.inside.openings (asked g.S.CertificateScheme.certificate_bytes c.args.call) c.serve.new.state c.in-Ok.ensures.after kept.0 kept.1
-
-pub invariant_of-self-in-Err-Refused : goal.invariant_of-self-in-Err-Refused
-invariant_of-self-in-Err-Refused g c =
-    let Ends = EndsCall (asked g.S.CertificateScheme.certificate_bytes c.args.call) c.self.inside.state c.serve.new.state in
-    let ended = subst Ends c.in-Err-Refused.field-0-is c.in-Err-Refused.ensures.refused in
-    λ _. rw ended.1 (c.self.invariant c.if-self.false)
-
-pub returns-else-is_err-clause-made : goal.returns-else-is_err-clause-made
-returns-else-is_err-clause-made g c =
-    let bytes_of = g.S.CertificateScheme.certificate_bytes in
-    let i = c.self.inside in
-    let m : MemberFacts _ _ _ = record { life = living false i.state; openings = open_while false i.openings; entries = entries_of bytes_of i.artifacts.items; closed = i.closed; is_pruned = i.is_pruned; retention = i.retention; least_retention = i.least_retention } in
-    let open_now = ok_says c.follow.result (sym c.is_err.ensures.value ∙ c.if-is_err.false) c.follow.ensures.followed in
-    rw (← c.self.view_is, c.if-self.false)
-    (answered_call g.D.PartialEq.eq g.L.Elector.elect m (asked bytes_of c.args.call) i.state refl (told bytes_of c.in-Ok.reply) c.serve.new.state _ _
-    (sym c.is_allowed.ensures ∙ c.if-not-is_allowed.false) c.in-Ok.ensures.due c.in-Ok.ensures.answer c.in-Ok.ensures.after
-    (open_now ∙ rw c.of-closing.ensures (open_then g.D.PartialEq.eq g.L.Elector.elect bytes_of i.state i.openings c.args.call (told bytes_of c.in-Ok.reply) c.in-Ok.ensures.answer))
-    c.in-Ok.ensures.recorded)
-
-pub returns-in-Err-Refused-clause-made : goal.returns-in-Err-Refused-clause-made
-returns-in-Err-Refused-clause-made g c =
-    let bytes_of = g.S.CertificateScheme.certificate_bytes in
-    let i = c.self.inside in
-    let call = asked bytes_of c.args.call in
-    let m : MemberFacts _ _ _ = record { life = living false i.state; openings = open_while false i.openings; entries = entries_of bytes_of i.artifacts.items; closed = i.closed; is_pruned = i.is_pruned; retention = i.retention; least_retention = i.least_retention } in
-    let Ends = EndsCall call i.state c.serve.new.state in
-    let ended = subst Ends c.in-Err-Refused.field-0-is c.in-Err-Refused.ensures.refused in
-    rw (← c.self.view_is, c.if-self.false, ended.1, c.in-Err-Refused.ensures.same_record, c.in-Err-Refused.fault-is)
-    (refused_call g.D.PartialEq.eq g.L.Elector.elect m call i.state refl _ (sym c.is_allowed.ensures ∙ c.if-not-is_allowed.false) ended.0)
-
-pub returns-in-Err-Lost-clause-made : goal.returns-in-Err-Lost-clause-made
-returns-in-Err-Lost-clause-made g c =
-    let bytes_of = g.S.CertificateScheme.certificate_bytes in
-    let i = c.self.inside in
-    let call = asked bytes_of c.args.call in
-    let m : MemberFacts _ _ _ = record { life = living false i.state; openings = open_while false i.openings; entries = entries_of bytes_of i.artifacts.items; closed = i.closed; is_pruned = i.is_pruned; retention = i.retention; least_retention = i.least_retention } in
-    let Ends = EndsCall call i.state c.serve.new.state in
-    let ended = subst Ends c.in-Err-Lost.field-0-is c.in-Err-Lost.ensures.refused in
-    let lost = losing i.state call (fault_of i.state call) ended in
-    rw (← c.self.view_is, c.if-self.false, c.in-Err-Lost.ensures.same_record)
-    (lost_call g.D.PartialEq.eq g.L.Elector.elect m call i.state refl (sym c.is_allowed.ensures ∙ c.if-not-is_allowed.false) lost.0 lost.1 lost.2)
+pub returns-clause-kept : goal.returns-clause-kept
+returns-clause-kept g c =
+    (typed g.D.PartialEq.eq g.L.Elector.elect c.args.self.now (asked g.S.CertificateScheme.certificate_bytes c.args.call) (told g.S.CertificateScheme.certificate_bytes c.make.result) c.make.new.self c.make.ensures.made).kept

@@ -1,0 +1,94 @@
+-- What a call of its own type gives: an answer of its kind, or why there is none.
+use Rattle.std.specs.Prelude.{◌≡◌, ◌⊎◌, ℕ, Bool, true, false, Option, Some, None, IfSome, Result, Ok, Err}
+use Rattle.simplex_types.specs.declared.types.fault.Fault.{Fault}
+use Rattle.simplex_types.specs.declared.types.fault.Fault.TheVariants as fault
+use Rattle.simplex_round.specs.Round.{is_nullify, is_finalize}
+use Rattle.simplex_voter.specs.Facts.{Facts, Elect, round_of}
+use Rattle.simplex_member.specs.Allowed.{is_allowed, fault_of}
+use Rattle.simplex_member.specs.Calls.{CallFacts, AddNotarization, AddNullification, AddFinalization, SetProposal, TryPropose, Proposed, SupersedeProposalRequest, PendingHandoffAbandonment, ReleaseProposalRequest, TryVerify, Verified, VerificationFailed, ConstructNotarize, CertifyCandidates, SetCertifyHandle, Certified, ConstructNullify, ConstructFinalize, BroadcastNotarization, BroadcastNullification, BroadcastFinalization, GetBestCertificate, TriggerTimeout, NextTimeout, Prune, Told, Added, AddedNullification, Judged, Nullify, Finalize, Notarize, Handed, Dropped, Requested, Standing, Answered, Abandoned, Candidates, TimesOut, Done, Refused, NotAllowed}
+use Rattle.simplex_member.specs.Lives.{MemberFacts, fallen, with_call}
+use Rattle.simplex_member.specs.Made.{answer}
+use Rattle.simplex_member.specs.declared.member.refusal.Refusal.{Refusal}
+use Rattle.simplex_member.specs.declared.member.refusal.Refusal.TheVariants as refusal
+
+module _ {K D : Type 0} where
+  -- what is told of a result: its answer, or why there is none
+  abbrev pub told_of : {T : Type 0} → (T → Told K D) → Result T Refusal → Told K D
+  told_of tell (Ok answered) = tell answered
+  told_of tell (Err (refusal.Fault due)) = Refused due
+  told_of tell (Err refusal.NotAllowed) = NotAllowed
+
+  -- whether a call may be told so: an answer of its kind, or refused
+  abbrev pub is_reply_to : Told K D → CallFacts D → Bool
+  is_reply_to (Refused due) call = true
+  is_reply_to NotAllowed call = true
+  is_reply_to (Added _ _) (AddNotarization _) = true
+  is_reply_to (AddedNullification _) (AddNullification _ _) = true
+  is_reply_to (Added _ _) (AddFinalization _ _) = true
+  is_reply_to (Answered _) (SetProposal _ _) = true
+  is_reply_to (Requested _) TryPropose = true
+  is_reply_to (Answered _) (Proposed _ _ _) = true
+  is_reply_to (Answered _) (SupersedeProposalRequest _) = true
+  is_reply_to (Abandoned _) (PendingHandoffAbandonment _) = true
+  is_reply_to Done (ReleaseProposalRequest _) = true
+  is_reply_to (Standing _) TryVerify = true
+  is_reply_to (Answered _) (Verified _) = true
+  is_reply_to Done (VerificationFailed _ _ _) = true
+  is_reply_to (Notarize _) (ConstructNotarize _) = true
+  is_reply_to (Candidates _ _) CertifyCandidates = true
+  is_reply_to Done (SetCertifyHandle _ _) = true
+  is_reply_to (Judged _) (Certified _ _ _) = true
+  is_reply_to (Nullify _) (ConstructNullify _) = true
+  is_reply_to (Finalize _) (ConstructFinalize _) = true
+  is_reply_to (Handed _) (BroadcastNotarization _) = true
+  is_reply_to (Handed _) (BroadcastNullification _) = true
+  is_reply_to (Handed _) (BroadcastFinalization _) = true
+  is_reply_to (Handed _) GetBestCertificate = true
+  is_reply_to Done (TriggerTimeout _ _ _) = true
+  is_reply_to (TimesOut _) (NextTimeout _) = true
+  is_reply_to (Dropped _) Prune = true
+  is_reply_to _ _ = false
+
+  -- a claim of an answer, and one of a refusal
+  abbrev pub IfAnswered : Told K D → Type 0 → Type 0
+  IfAnswered (Refused due) claim = Unit {0}
+  IfAnswered NotAllowed claim = Unit {0}
+  IfAnswered _ claim = claim
+
+  abbrev pub IfRefused : Told K D → (Refusal → Type 0) → Type 0
+  IfRefused (Refused due) claim = claim (refusal.Fault due)
+  IfRefused NotAllowed claim = claim refusal.NotAllowed
+  IfRefused _ claim = Unit {0}
+
+module _ {K L D : Type 0} where
+  -- a refusal changes nothing; but after want of memory the member may have failed
+  abbrev pub Keeps : MemberFacts K L D → Refusal → MemberFacts K L D → Type 0
+  Keeps m (refusal.Fault fault.OutOfMemory) left = (left ≡ m) ⊎ (left ≡ fallen m)
+  Keeps m _ left = left ≡ m
+
+module _ {K L D : Type 0} (same : D → D → Bool) (elect : Elect L) where
+  -- a call that is answered: the member lives, what the call asks is so, and no fault is due; it is told by its definition, and
+  -- leaves what its definition makes of the state, of what is open and of the record
+  pub record IsAnswered (m : MemberFacts K L D) (call : CallFacts D) (told : Told K D) (left : MemberFacts K L D) : Type 0 where
+    pub state : Facts K L D
+    pub alive : m.life ≡ Some state
+    pub allowed : is_allowed state m.openings call ≡ true
+    pub not_due : fault_of state call ≡ None
+    pub told_so : told ≡ answer same elect state m.openings call
+    pub left_so : left ≡ with_call same elect state m call
+
+module _ {K L D : Type 0} where
+  -- while the member lives, it has decided such a vote in the view
+
+  abbrev pub HasNotarized : MemberFacts K L D → ℕ → Type 0
+  HasNotarized m v = IfSome m.life (λ x. (round_of x v).notarize_decided ≡ true)
+
+  abbrev pub HasNullified : MemberFacts K L D → ℕ → Type 0
+  HasNullified m v = IfSome m.life (λ x. is_nullify (round_of x v).decision ≡ true)
+
+  abbrev pub HasFinalized : MemberFacts K L D → ℕ → Type 0
+  HasFinalized m v = IfSome m.life (λ x. is_finalize (round_of x v).decision ≡ true)
+
+  -- while the member lives, nothing of the view is left for such a call to hand out
+  abbrev pub HasNoneLeft : {A : Type 0} → (Facts K L D → ℕ → Option A) → MemberFacts K L D → ℕ → Type 0
+  HasNoneLeft answer m v = IfSome m.life (λ x. answer x v ≡ None)

@@ -1,0 +1,93 @@
+//! The calls that hand in certificates, each as a method.
+//!
+//! Each is `Member::call` of its call, with an answer of its own type.
+
+ghost use Rattle.std.specs.Prelude.{◌++◌, ◌≡◌, IfOk, IfErr};
+ghost use Rattle.simplex_types.specs.Certificates.{notarization_facts, nullification_facts, finalization_facts, Accepted, Notarized, Nullified, Finalized};
+ghost use Rattle.simplex_member.specs.Calls.{AddNotarization, AddNullification, AddFinalization, Added, AddedNullification};
+ghost use Rattle.simplex_member.specs.Lives.{IsCall};
+ghost use Rattle.simplex_member.specs.Made.{newly};
+ghost use Rattle.simplex_member.specs.Typed.{told_of, Keeps, IsAnswered};
+
+use super::{Call, Reply};
+use crate::member::life::Member;
+use crate::member::refusal::Refusal;
+use simplex_types::types::{Digest, Elector, Finalization, Notarization, Nullification, Scheme};
+
+impl<S: Scheme<D>, L: Elector<S>, D: Digest> Member<S, L, D> {
+    /// Takes a notarization: the next view is led by the elector's choice after it, the first of its view is recorded, and its
+    /// view waits for certification. Answers whether it is the first of its view, with the key of a leader found to equivocate.
+    ///
+    /// `NotAllowed` where it is of another epoch or of a view that is not kept. `ViewTooLarge` where its view or its parent's is
+    /// above 2^63 - 1; `OutOfMemory`.
+    pub fn add_notarization(
+        &mut self,
+        notarization: Notarization<S, D>,
+    ) -> Result<(bool, Option<S::PublicKey>), Refusal>
+        ensures made { IsCall D.eq L.elect self.old (AddNotarization (notarization_facts S.certificate_bytes notarization))
+            (told_of (λ added. Added added.0 added.1) result) self.new }
+        ensures answered { IfOk result (λ added. IsAnswered D.eq L.elect self.old (AddNotarization (notarization_facts S.certificate_bytes notarization)) (Added added.0 added.1) self.new) }
+        ensures kept { IfErr result (λ refusal. Keeps self.old refusal self.new) }
+        ensures recorded { IfOk result (λ added. self.new.entries
+            ≡ self.old.entries ++ newly added.0 (Accepted (Notarized (notarization_facts S.certificate_bytes notarization)))) }
+    {
+        match self.call(Call::AddNotarization(notarization)) {
+            Reply::Added(is_new, equivocator) => Ok((is_new, equivocator)),
+            Reply::Fault(fault) => Err(Refusal::Fault(fault)),
+            Reply::NotAllowed => Err(Refusal::NotAllowed),
+            _ => unreachable!(),
+        }
+    }
+
+    /// Takes a nullification: the rest of its term is passed over, the next term's start is entered at this moment, in
+    /// milliseconds, where it is ahead, and the first of its view is recorded. Answers whether it is the first of its view.
+    ///
+    /// `NotAllowed` where it is of another epoch or of a view that is not kept. `ViewTooLarge` where its view is above 2^63 - 1,
+    /// `TimeOverflow` where a deadline of the view that would be entered passes 2^64 - 1 milliseconds; `OutOfMemory`.
+    pub fn add_nullification(
+        &mut self,
+        nullification: Nullification<S>,
+        now: u64,
+    ) -> Result<bool, Refusal>
+        ensures made { IsCall D.eq L.elect self.old (AddNullification (nullification_facts S.certificate_bytes nullification) now)
+            (told_of (λ is_new. AddedNullification is_new) result) self.new }
+        ensures answered { IfOk result (λ is_new. IsAnswered D.eq L.elect self.old (AddNullification (nullification_facts S.certificate_bytes nullification) now) (AddedNullification is_new) self.new) }
+        ensures kept { IfErr result (λ refusal. Keeps self.old refusal self.new) }
+        ensures recorded { IfOk result (λ is_new. self.new.entries
+            ≡ self.old.entries ++ newly is_new (Accepted (Nullified (nullification_facts S.certificate_bytes nullification)))) }
+    {
+        match self.call(Call::AddNullification(nullification, now)) {
+            Reply::AddedNullification(is_new) => Ok(is_new),
+            Reply::Fault(fault) => Err(Refusal::Fault(fault)),
+            Reply::NotAllowed => Err(Refusal::NotAllowed),
+            _ => unreachable!(),
+        }
+    }
+
+    /// Takes a finalization: its view is the last finalized one where that is above the one before, the next view is entered at
+    /// this moment, in milliseconds, where it is ahead, and the first of its view is recorded. Answers whether it is the first of
+    /// its view, with the key of a leader found to equivocate.
+    ///
+    /// `NotAllowed` where it is of another epoch or of a view that is not kept. `ViewTooLarge` where its view or its parent's is
+    /// above 2^63 - 1, `TimeOverflow` where a deadline of the view that would be entered passes 2^64 - 1 milliseconds;
+    /// `OutOfMemory`.
+    pub fn add_finalization(
+        &mut self,
+        finalization: Finalization<S, D>,
+        now: u64,
+    ) -> Result<(bool, Option<S::PublicKey>), Refusal>
+        ensures made { IsCall D.eq L.elect self.old (AddFinalization (finalization_facts S.certificate_bytes finalization) now)
+            (told_of (λ added. Added added.0 added.1) result) self.new }
+        ensures answered { IfOk result (λ added. IsAnswered D.eq L.elect self.old (AddFinalization (finalization_facts S.certificate_bytes finalization) now) (Added added.0 added.1) self.new) }
+        ensures kept { IfErr result (λ refusal. Keeps self.old refusal self.new) }
+        ensures recorded { IfOk result (λ added. self.new.entries
+            ≡ self.old.entries ++ newly added.0 (Accepted (Finalized (finalization_facts S.certificate_bytes finalization)))) }
+    {
+        match self.call(Call::AddFinalization(finalization, now)) {
+            Reply::Added(is_new, equivocator) => Ok((is_new, equivocator)),
+            Reply::Fault(fault) => Err(Refusal::Fault(fault)),
+            Reply::NotAllowed => Err(Refusal::NotAllowed),
+            _ => unreachable!(),
+        }
+    }
+}

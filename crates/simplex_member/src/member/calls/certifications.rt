@@ -1,0 +1,80 @@
+//! The calls on certifications, each as a method.
+//!
+//! Each is `Member::call` of its call, with an answer of its own type.
+
+ghost use Rattle.std.specs.Prelude.{option_map, IfOk, IfErr};
+ghost use Rattle.simplex_types.specs.Certificates.{notarization_facts};
+ghost use Rattle.simplex_member.specs.Calls.{CertifyCandidates, SetCertifyHandle, Certified, Judged, Candidates, Done};
+ghost use Rattle.simplex_member.specs.Lives.{IsCall};
+ghost use Rattle.simplex_member.specs.Typed.{told_of, Keeps, IsAnswered};
+
+use super::{Call, Reply};
+use crate::member::life::Member;
+use crate::member::refusal::Refusal;
+use simplex_types::types::{Digest, Elector, Notarization, Proposal, Scheme, View};
+use simplex_voter::voter::CertificateFetch;
+
+impl<S: Scheme<D>, L: Elector<S>, D: Digest> Member<S, L, D> {
+    /// The proposals that are to be certified next, and the notarizations that others of them want, each by rising view. A
+    /// proposal is open until the verdict of its view.
+    ///
+    /// `OutOfMemory`.
+    pub fn certify_candidates(
+        &mut self,
+    ) -> Result<(Vec<Proposal<D>>, Vec<CertificateFetch>), Refusal>
+        ensures made { IsCall D.eq L.elect self.old CertifyCandidates
+            (told_of (λ candidates. Candidates candidates.0.items candidates.1.items) result) self.new }
+        ensures answered { IfOk result (λ candidates. IsAnswered D.eq L.elect self.old CertifyCandidates
+            (Candidates candidates.0.items candidates.1.items) self.new) }
+        ensures kept { IfErr result (λ refusal. Keeps self.old refusal self.new) }
+    {
+        match self.call(Call::CertifyCandidates) {
+            Reply::Candidates(proposals, fetches) => Ok((proposals, fetches)),
+            Reply::Fault(fault) => Err(Refusal::Fault(fault)),
+            Reply::NotAllowed => Err(Refusal::NotAllowed),
+            _ => unreachable!(),
+        }
+    }
+
+    /// The certification of a view's proposal goes on under a token, in place of an earlier one.
+    ///
+    /// `NotAllowed` where the view's proposal wasn't offered, or has its verdict; `OutOfMemory`.
+    pub fn set_certify_handle(&mut self, view: View, token: u64) -> Result<(), Refusal>
+        ensures made { IsCall D.eq L.elect self.old (SetCertifyHandle view token) (told_of (λ _. Done) result) self.new }
+        ensures answered { IfOk result (λ _. IsAnswered D.eq L.elect self.old (SetCertifyHandle view token) Done self.new) }
+        ensures kept { IfErr result (λ refusal. Keeps self.old refusal self.new) }
+    {
+        match self.call(Call::SetCertifyHandle(view, token)) {
+            Reply::Unit => Ok(()),
+            Reply::Fault(fault) => Err(Refusal::Fault(fault)),
+            Reply::NotAllowed => Err(Refusal::NotAllowed),
+            _ => unreachable!(),
+        }
+    }
+
+    /// The verdict of a view's certification, at a moment in milliseconds. A true one enters the next view where that is ahead,
+    /// and a false one times the view out; the first of a tracked view is recorded. Answers the view's notarization, or none
+    /// where the view isn't tracked.
+    ///
+    /// `NotAllowed` where a tracked view has no notarization or the other verdict. `TimeOverflow` where a deadline of the view
+    /// that would be entered passes 2^64 - 1 milliseconds; `OutOfMemory`.
+    pub fn certified(
+        &mut self,
+        view: View,
+        success: bool,
+        now: u64,
+    ) -> Result<Option<Notarization<S, D>>, Refusal>
+        ensures made { IsCall D.eq L.elect self.old (Certified view success now)
+            (told_of (λ notarization. Judged (option_map (notarization_facts S.certificate_bytes) notarization)) result) self.new }
+        ensures answered { IfOk result (λ notarization. IsAnswered D.eq L.elect self.old (Certified view success now)
+            (Judged (option_map (notarization_facts S.certificate_bytes) notarization)) self.new) }
+        ensures kept { IfErr result (λ refusal. Keeps self.old refusal self.new) }
+    {
+        match self.call(Call::Certified(view, success, now)) {
+            Reply::Certified(notarization) => Ok(notarization),
+            Reply::Fault(fault) => Err(Refusal::Fault(fault)),
+            Reply::NotAllowed => Err(Refusal::NotAllowed),
+            _ => unreachable!(),
+        }
+    }
+}

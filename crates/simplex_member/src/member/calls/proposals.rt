@@ -1,0 +1,104 @@
+//! The calls on proposals of this member's own, each as a method.
+//!
+//! Each is `Member::call` of its call, with an answer of its own type.
+
+ghost use Rattle.std.specs.Prelude.{IfOk, IfErr};
+ghost use Rattle.simplex_member.specs.Calls.{TryPropose, Proposed, SupersedeProposalRequest, PendingHandoffAbandonment, ReleaseProposalRequest, Requested, Answered, Abandoned, Done};
+ghost use Rattle.simplex_member.specs.Lives.{IsCall};
+ghost use Rattle.simplex_member.specs.Typed.{told_of, Keeps, IsAnswered};
+
+use super::{Call, Reply};
+use crate::member::life::Member;
+use crate::member::refusal::Refusal;
+use simplex_types::reasons::HandoffAbandonedReason;
+use simplex_types::types::{Digest, Elector, Scheme, View};
+use simplex_voter::voter::ProposalRequest;
+
+impl<S: Scheme<D>, L: Elector<S>, D: Digest> Member<S, L, D> {
+    /// What this member is to build next, if anything. A request is open in its view until `proposed`, a true
+    /// `supersede_proposal_request`, `release_proposal_request`, or another request there.
+    ///
+    /// `OutOfMemory`.
+    pub fn try_propose(&mut self) -> Result<Option<ProposalRequest<D, S::PublicKey>>, Refusal>
+        ensures made { IsCall D.eq L.elect self.old TryPropose (told_of (λ request. Requested request) result) self.new }
+        ensures answered { IfOk result (λ request. IsAnswered D.eq L.elect self.old TryPropose (Requested request) self.new) }
+        ensures kept { IfErr result (λ refusal. Keeps self.old refusal self.new) }
+    {
+        match self.call(Call::TryPropose) {
+            Reply::Request(request) => Ok(request),
+            Reply::Fault(fault) => Err(Refusal::Fault(fault)),
+            Reply::NotAllowed => Err(Refusal::NotAllowed),
+            _ => unreachable!(),
+        }
+    }
+
+    /// The payload that was built on request in a view, at a moment in milliseconds: it is recorded as this member's proposal,
+    /// verified, unless the captured parent no longer stands or the view was given up. Answers whether it is. The request is
+    /// closed either way.
+    ///
+    /// `NotAllowed` where no request is open in the view.
+    pub fn proposed(&mut self, view: View, payload: D, now: u64) -> Result<bool, Refusal>
+        ensures made { IsCall D.eq L.elect self.old (Proposed view payload now) (told_of (λ is_held. Answered is_held) result) self.new }
+        ensures answered { IfOk result (λ is_held. IsAnswered D.eq L.elect self.old (Proposed view payload now) (Answered is_held) self.new) }
+        ensures kept { IfErr result (λ refusal. Keeps self.old refusal self.new) }
+    {
+        match self.call(Call::Proposed(view, payload, now)) {
+            Reply::Flag(is_held) => Ok(is_held),
+            Reply::Fault(fault) => Err(Refusal::Fault(fault)),
+            Reply::NotAllowed => Err(Refusal::NotAllowed),
+            _ => unreachable!(),
+        }
+    }
+
+    /// Whether another parent can be built on and the captured one no longer: then the request in the view is closed, so that it
+    /// can be asked for again.
+    ///
+    /// `NotAllowed` where no request is open in the view.
+    pub fn supersede_proposal_request(&mut self, view: View) -> Result<bool, Refusal>
+        ensures made { IsCall D.eq L.elect self.old (SupersedeProposalRequest view)
+            (told_of (λ is_superseded. Answered is_superseded) result) self.new }
+        ensures answered { IfOk result (λ is_superseded. IsAnswered D.eq L.elect self.old (SupersedeProposalRequest view) (Answered is_superseded) self.new) }
+        ensures kept { IfErr result (λ refusal. Keeps self.old refusal self.new) }
+    {
+        match self.call(Call::SupersedeProposalRequest(view)) {
+            Reply::Flag(is_superseded) => Ok(is_superseded),
+            Reply::Fault(fault) => Err(Refusal::Fault(fault)),
+            Reply::NotAllowed => Err(Refusal::NotAllowed),
+            _ => unreachable!(),
+        }
+    }
+
+    /// Why a handoff that is being built in a view is to be given up, or none where it may go on.
+    ///
+    /// `NotAllowed` where no request is open in the view.
+    pub fn pending_handoff_abandonment(
+        &mut self,
+        view: View,
+    ) -> Result<Option<HandoffAbandonedReason>, Refusal>
+        ensures made { IsCall D.eq L.elect self.old (PendingHandoffAbandonment view) (told_of (λ reason. Abandoned reason) result) self.new }
+        ensures answered { IfOk result (λ reason. IsAnswered D.eq L.elect self.old (PendingHandoffAbandonment view) (Abandoned reason) self.new) }
+        ensures kept { IfErr result (λ refusal. Keeps self.old refusal self.new) }
+    {
+        match self.call(Call::PendingHandoffAbandonment(view)) {
+            Reply::Abandoned(reason) => Ok(reason),
+            Reply::Fault(fault) => Err(Refusal::Fault(fault)),
+            Reply::NotAllowed => Err(Refusal::NotAllowed),
+            _ => unreachable!(),
+        }
+    }
+
+    /// Closes the request to build in a view, so that it can be asked for again while no proposal is held there. Nothing changes
+    /// where there is none.
+    pub fn release_proposal_request(&mut self, view: View) -> Result<(), Refusal>
+        ensures made { IsCall D.eq L.elect self.old (ReleaseProposalRequest view) (told_of (λ _. Done) result) self.new }
+        ensures answered { IfOk result (λ _. IsAnswered D.eq L.elect self.old (ReleaseProposalRequest view) Done self.new) }
+        ensures kept { IfErr result (λ refusal. Keeps self.old refusal self.new) }
+    {
+        match self.call(Call::ReleaseProposalRequest(view)) {
+            Reply::Unit => Ok(()),
+            Reply::Fault(fault) => Err(Refusal::Fault(fault)),
+            Reply::NotAllowed => Err(Refusal::NotAllowed),
+            _ => unreachable!(),
+        }
+    }
+}
