@@ -1,5 +1,5 @@
--- A certificate that is recorded again opens no fetch.
-use Rattle.std.proofs.Common.{◌≡◌, ℕ, ◌+◌, ◌-◌, ◌<◌, ◌≤◌, Bool, true, false, ◌&&◌, not, nat_lt, cond, List, [], ◌∷◌, ◌++◌, map, inl, inr, max, min, refl, sym, ◌∙◌, ap, subst, arith}
+-- A certificate opens no fetch where one of its kind and view was recorded before.
+use Rattle.std.proofs.Common.{◌≡◌, ℕ, ◌+◌, ◌-◌, ◌<◌, ◌≤◌, Bool, true, false, ◌&&◌, ◌||◌, not, nat_lt, cond, List, [], ◌∷◌, ◌++◌, map, max, min, refl, sym, ◌∙◌, ap, subst, arith}
 use Rattle.std.specs.List.{list_any, AllByRecursion}
 use Rattle.std.specs.FinMap as finmap
 use Rattle.std.proofs.lemmas.Bool.Decides.{nat_tests}
@@ -11,7 +11,7 @@ use Rattle.simplex_resolver.specs.declared.resolver.effect.Effect.{Effect}
 use Rattle.simplex_resolver.specs.declared.resolver.effect.Effect.TheVariants.{Settled, Raised}
 use Rattle.simplex_resolver.specs.Facts.{Facts, term_length, last_finalized, is_term_start}
 use Rattle.simplex_resolver.specs.Steps.{Call, Nullification, Notarization, Finalization, Verdict, Replayed, scan_start, scan_end, scan_fetches, missing_fetches, missing, without_finalized, with_finalization, before_scan, settle_effects, after, effects}
-use Rattle.simplex_resolver.specs.Received.{NamesAView, greatest, floor_view, current_view, is_certificate, WasMade}
+use Rattle.simplex_resolver.specs.Received.{NamesAView, greatest, floor_view, current_view, are_alike}
 use Rattle.simplex_resolver.specs.Repair.{fetches, facts_of, RecordedAgainFetchesNothing}
 use Rattle.simplex_resolver.proofs.Terms.{AreTerms, terms}
 use Rattle.simplex_resolver.proofs.Anchors.{uncovered-none}
@@ -56,12 +56,53 @@ reached t (c ∷ calls) long named =
     let h = changed x c long_x named.0 st.low in
     reached_next x c (subst (λ n. 0 < n) (sym h.length) long_x) (reached t calls long named.1)
 
--- ---- a call that was made before
+-- ---- a certificate that was handed in before
 
-made_under : (view : Call → ℕ) (c : Call) (calls : List Call) → WasMade c calls → view c ≤ greatest (map view calls)
-made_under view c [] made = absurd made
-made_under view c (d ∷ calls) (inl same) = let at = ap view same in omega (arith, at)
-made_under view c (d ∷ calls) (inr earlier) = let rest = made_under view c calls earlier in omega (arith, rest)
+abbrev is_certificate : Call → Bool
+is_certificate (Nullification v encoding) = true
+is_certificate (Notarization v) = true
+is_certificate (Finalization v encoding) = true
+is_certificate call = false
+
+record Alike (c d : Call) : Type 0 where
+  certificate : is_certificate c ≡ true
+  current : current_view c ≡ current_view d
+  floor : floor_view c ≡ floor_view d
+
+alike : (c d : Call) → are_alike c d ≡ true → Alike c d
+alike (Nullification v e) (Nullification u f) is = record { certificate = refl; current = grind (arith, nat_tests, is); floor = refl }
+alike (Nullification v e) (Notarization u) is = absurd (cc)
+alike (Nullification v e) (Finalization u f) is = absurd (cc)
+alike (Nullification v e) (Verdict u f success) is = absurd (cc)
+alike (Nullification v e) Replayed is = absurd (cc)
+alike (Notarization v) (Notarization u) is = record { certificate = refl; current = grind (arith, nat_tests, is); floor = refl }
+alike (Notarization v) (Nullification u f) is = absurd (cc)
+alike (Notarization v) (Finalization u f) is = absurd (cc)
+alike (Notarization v) (Verdict u f success) is = absurd (cc)
+alike (Notarization v) Replayed is = absurd (cc)
+alike (Finalization v e) (Finalization u f) is = record { certificate = refl; current = grind (arith, nat_tests, is); floor = grind (arith, nat_tests, is) }
+alike (Finalization v e) (Nullification u f) is = absurd (cc)
+alike (Finalization v e) (Notarization u) is = absurd (cc)
+alike (Finalization v e) (Verdict u f success) is = absurd (cc)
+alike (Finalization v e) Replayed is = absurd (cc)
+alike (Verdict v e success) d is = absurd (cc)
+alike Replayed d is = absurd (cc)
+
+by_either : (b others : Bool) (P : Type 0) → (b ≡ true → P) → (others ≡ true → P) → (b || others) ≡ true → P
+by_either true others P here there made = here refl
+by_either false others P here there made = there made
+
+made_certificate : (c : Call) (calls : List Call) → list_any (are_alike c) calls ≡ true → is_certificate c ≡ true
+made_certificate c [] made = absurd (cc)
+made_certificate c (d ∷ calls) made =
+    by_either (are_alike c d) (list_any (are_alike c) calls) (is_certificate c ≡ true) (λ h. (alike c d h).certificate) (made_certificate c calls) made
+
+made_under : (view : Call → ℕ) (c : Call) (calls : List Call) → ((d : Call) → are_alike c d ≡ true → view c ≡ view d)
+    → list_any (are_alike c) calls ≡ true → view c ≤ greatest (map view calls)
+made_under view c [] same made = absurd (cc)
+made_under view c (d ∷ calls) same made =
+    by_either (are_alike c d) (list_any (are_alike c) calls) (view c ≤ max (view d) (greatest (map view calls)))
+    (λ h. let at = same d h in omega (arith, at)) (λ h. let rest = made_under view c calls same h in omega (arith, rest)) made
 
 settles_only : (b : Bool) (kind : Kind) (start end v : ℕ) → list_any (fetches v) (cond b (Settled kind start end ∷ []) []) ≡ false
 settles_only true kind start end v = refl
@@ -127,10 +168,11 @@ again x (Verdict u e success) v is done = absurd (cc)
 again x Replayed v is done = absurd (cc)
 
 pub recorded_again : RecordedAgainFetchesNothing
-recorded_again t calls c long named made is v =
+recorded_again t calls c long named made v =
     let x = facts_of t calls in
     let st = stands t calls long named in
-    let current = made_under current_view c calls made in
-    let floor = made_under floor_view c calls made in
+    let is = made_certificate c calls made in
+    let current = made_under current_view c calls (λ d h. (alike c d h).current) made in
+    let floor = made_under floor_view c calls (λ d h. (alike c d h).floor) made in
     let s = same_scan x c is (omega (arith, current, st.current)) (omega (arith, floor, st.floor)) in
     again x c v is (still_done x (before_scan x c) s (reached t calls long named))

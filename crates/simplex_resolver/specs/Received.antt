@@ -18,11 +18,12 @@ abbrev pub WasMade : Call → List Call → Type 0
 WasMade call [] = ⊥
 WasMade call (made ∷ earlier) = (call ≡ made) ⊎ WasMade call earlier
 
-abbrev pub is_certificate : Call → Bool
-is_certificate (Nullification v encoding) = true
-is_certificate (Notarization v) = true
-is_certificate (Finalization v encoding) = true
-is_certificate call = false
+-- two certificates of the same kind and view, whoever signed them and whatever they carry
+abbrev pub are_alike : Call → Call → Bool
+are_alike (Nullification v encoding) (Nullification u other) = v == u
+are_alike (Notarization v) (Notarization u) = v == u
+are_alike (Finalization v encoding) (Finalization u other) = v == u
+are_alike call other = false
 
 abbrev pub is_replayed : Call → Bool
 is_replayed Replayed = true

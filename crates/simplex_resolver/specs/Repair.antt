@@ -6,7 +6,7 @@ use Rattle.simplex_resolver.specs.declared.resolver.effect.Effect.{Effect}
 use Rattle.simplex_resolver.specs.declared.resolver.effect.Effect.TheVariants.{Fetch, Settled, Finalized, Raised}
 use Rattle.simplex_resolver.specs.Facts.{Facts, empty}
 use Rattle.simplex_resolver.specs.Steps.{Call, after, effects}
-use Rattle.simplex_resolver.specs.Received.{is_replayed, is_certificate, NamesAView, WasMade, is_wanted}
+use Rattle.simplex_resolver.specs.Received.{is_replayed, are_alike, NamesAView, is_wanted}
 
 -- ---- the effects
 
@@ -59,9 +59,9 @@ OutstandingIsWanted =
     → list_any is_replayed calls ≡ true
     → (v : ℕ) → is_outstanding (effects_of t calls) v ≡ is_wanted t calls v
 
--- a certificate that was handed in before opens no fetch
+-- a certificate opens no fetch where one of its kind and view was handed in before, with these signers or with others
 abbrev pub RecordedAgainFetchesNothing : Type 0
 RecordedAgainFetchesNothing =
     (t : ℕ) (calls : List Call) (c : Call) → 0 < t → AllByRecursion NamesAView calls
-    → WasMade c calls → is_certificate c ≡ true
+    → list_any (are_alike c) calls ≡ true
     → (v : ℕ) → list_any (fetches v) (effects (facts_of t calls) c) ≡ false

@@ -4,7 +4,8 @@ ghost use Rattle.simplex_resolver.specs.Answers.{AnswersAreOfTheReceived};
 ghost use Rattle.simplex_resolver.specs.Repair.{OutstandingIsWanted, RecordedAgainFetchesNothing};
 
 /// Whatever calls were made, in whatever order: once it was replayed, a resolver's outstanding fetches are
-/// exactly the wanted views, and a certificate that it was given before opens no fetch.
+/// exactly the wanted views, and a certificate opens no fetch where one of its kind and view was given before, with
+/// the same signers or with others.
 pub fn repair()
     ensures wanted { OutstandingIsWanted }
     ensures again { RecordedAgainFetchesNothing }

@@ -4,7 +4,7 @@ mod certificates;
 mod serving;
 mod verdicts;
 
-ghost use Rattle.std.specs.Prelude.{◌≡◌, ◌^◌, ◌<◌, ◌≤◌, IfOk, OnOk, IfErr, false};
+ghost use Rattle.std.specs.Prelude.{◌≡◌, ◌^◌, ◌<◌, ◌≤◌, IfOk, OnOk, IfErr, true, false};
 ghost use Rattle.simplex_types.specs.Certificates.{certificate_facts, notarization_facts, Notarized};
 ghost use Rattle.simplex_types.specs.Encoding.{encoding};
 ghost use Rattle.simplex_types.specs.Viewed.{certificate_view};
@@ -125,11 +125,20 @@ impl State {
         self.term_length
     }
 
-    /// Whether a call has found no memory: then every later call but the plain getters is refused.
+    /// Whether a call has found no memory, or `fail` was called: then every later call but the plain getters is
+    /// refused.
     pub fn is_failed(&self) -> bool
         ensures { result ≡ self.now.is_failed }
     {
         self.failed
+    }
+
+    /// Fails the state, for a caller who keeps the open fetches beside it and had no memory to apply the effects
+    /// of a call.
+    pub fn fail(&mut self)
+        ensures { self.new ≡ record self.old { is_failed = true } }
+    {
+        self.failed = true;
     }
 
     fn last_finalized(&self) -> View
