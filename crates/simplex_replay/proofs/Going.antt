@@ -14,28 +14,31 @@ pub from_empty : (t : ℕ) (calls : List Call) → facts_of t calls ≡ all_afte
 from_empty t [] = refl
 from_empty t (c ∷ calls) = ap (λ y. after y c) (from_empty t calls)
 
--- ---- no call fails
+-- ---- no call fails, and none changes the terms
 
-either_way : (b : Bool) (x y : Facts) (failed : Bool) → x.is_failed ≡ failed → y.is_failed ≡ failed → (cond b x y).is_failed ≡ failed
-either_way true x y failed h k = h
-either_way false x y failed h k = k
+abbrev lasting : Facts → Bool × ℕ
+lasting x = (x.is_failed, term_length x)
 
-scan_goes_on : (x : Facts) → (after_scan x).is_failed ≡ x.is_failed
-scan_goes_on x = either_way x.replaying x _ x.is_failed refl refl
+either_way : (b : Bool) (x y : Facts) (p : Bool × ℕ) → lasting x ≡ p → lasting y ≡ p → lasting (cond b x y) ≡ p
+either_way true x y p h k = h
+either_way false x y p h k = k
 
-raise_goes_on : (x : Facts) (v : ℕ) → (after_raise x v).is_failed ≡ x.is_failed
-raise_goes_on x v = either_way (nat_lt x.floor v) _ x x.is_failed refl refl
+scan_goes_on : (x : Facts) → lasting (after_scan x) ≡ lasting x
+scan_goes_on x = either_way x.replaying x _ (lasting x) refl refl
 
-goes_before_scan : (x : Facts) (c : Call) → (before_scan x c).is_failed ≡ x.is_failed
-goes_before_scan x (Nullification v e) = either_way (nat_lt (last_finalized x) (term_end (term_length x) v)) _ _ x.is_failed refl refl
-goes_before_scan x (Notarization v) = either_way (nat_lt (last_finalized x) v) _ _ x.is_failed refl refl
+raise_goes_on : (x : Facts) (v : ℕ) → lasting (after_raise x v) ≡ lasting x
+raise_goes_on x v = either_way (nat_lt x.floor v) _ x (lasting x) refl refl
+
+goes_before_scan : (x : Facts) (c : Call) → lasting (before_scan x c) ≡ lasting x
+goes_before_scan x (Nullification v e) = either_way (nat_lt (last_finalized x) (term_end (term_length x) v)) _ _ (lasting x) refl refl
+goes_before_scan x (Notarization v) = either_way (nat_lt (last_finalized x) v) _ _ (lasting x) refl refl
 goes_before_scan x (Finalization v e) = raise_goes_on (without_finalized (with_finalization x v e) (max (last_finalized x) v)) v
 goes_before_scan x (Verdict v e true) =
-    raise_goes_on (with_certified x v e) v ∙ either_way (nat_lt (last_finalized x) v) _ x x.is_failed refl refl
-goes_before_scan x (Verdict v e false) = either_way (nat_lt (last_finalized x) v) _ x x.is_failed refl refl
+    raise_goes_on (with_certified x v e) v ∙ either_way (nat_lt (last_finalized x) v) _ x (lasting x) refl refl
+goes_before_scan x (Verdict v e false) = either_way (nat_lt (last_finalized x) v) _ x (lasting x) refl refl
 goes_before_scan x Replayed = refl
 
-goes_on : (x : Facts) (c : Call) → (after x c).is_failed ≡ x.is_failed
+goes_on : (x : Facts) (c : Call) → lasting (after x c) ≡ lasting x
 goes_on x (Nullification v e) = scan_goes_on (before_scan x (Nullification v e)) ∙ goes_before_scan x (Nullification v e)
 goes_on x (Notarization v) = scan_goes_on (before_scan x (Notarization v)) ∙ goes_before_scan x (Notarization v)
 goes_on x (Finalization v e) = scan_goes_on (before_scan x (Finalization v e)) ∙ goes_before_scan x (Finalization v e)
@@ -43,6 +46,9 @@ goes_on x (Verdict v e true) = scan_goes_on (before_scan x (Verdict v e true)) �
 goes_on x (Verdict v e false) = goes_before_scan x (Verdict v e false)
 goes_on x Replayed = scan_goes_on (before_scan x Replayed)
 
+pub same_terms : (x : Facts) (c : Call) → term_length (after x c) ≡ term_length x
+same_terms x c = ap (λ p. p.1) (goes_on x c)
+
 pub all_go_on : (x : Facts) (calls : List Call) → (all_after x calls).is_failed ≡ x.is_failed
 all_go_on x [] = refl
-all_go_on x (c ∷ calls) = goes_on (all_after x calls) c ∙ all_go_on x calls
+all_go_on x (c ∷ calls) = ap (λ p. p.0) (goes_on (all_after x calls) c) ∙ all_go_on x calls

@@ -2,3 +2,5 @@ pub mod Newest
 pub mod Sound
 pub mod Going
 pub mod Replayed
+pub mod Told
+pub mod Made

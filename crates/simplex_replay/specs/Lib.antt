@@ -1,3 +1,4 @@
 pub mod Errors
 pub mod Calls
 pub mod Rules
+pub mod Told

@@ -1,10 +1,12 @@
 //! A resolver is started from a member's record: it is handed the certificates and the verdicts, in order, and then the
-//! end of its replay.
+//! end of its replay. `LawfulResolver` goes on from there, and keeps its open fetches.
 
 mod check;
 mod error;
 mod handing;
+mod lawful;
 mod start;
 
 pub use error::ReplayError;
+pub use lawful::LawfulResolver;
 pub use start::replay_record;
