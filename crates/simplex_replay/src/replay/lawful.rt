@@ -81,7 +81,7 @@ impl LawfulResolver {
     }
 
     /// Tells of a certificate that the member accepted, as `State::updated` does. Answers the effects, which are applied to
-    /// the open fetches.
+    /// the open fetches. A fetch among them may be of a view whose fetch is open already.
     ///
     /// # Errors
     ///
