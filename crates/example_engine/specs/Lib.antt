@@ -6,5 +6,4 @@ pub mod Owing
 pub mod Parts
 pub mod Rising
 pub mod Sealing
-pub mod Told
 pub mod Votes
