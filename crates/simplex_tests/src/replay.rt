@@ -2,7 +2,7 @@
 
 ghost use Rattle.std.specs.Prelude.{◌≡◌};
 
-use simplex_replay::replay::{ReplayError, replay_record};
+use simplex_replay::replay::{LawfulResolver, ReplayError, replay_record};
 use simplex_resolver::resolver::{Effect, State, apply};
 use simplex_types::reasons::{FetchReason, Kind};
 use simplex_types::types::plain::{
@@ -36,7 +36,9 @@ fn round(view: u64) -> Round
     }
 }
 
-fn proposal(view: u64, parent: u64) -> Proposal<PlainDigest> {
+fn proposal(view: u64, parent: u64) -> Proposal<PlainDigest>
+    ensures { result.round.view ≡ view }
+{
     Proposal {
         round: round(view),
         parent: View::new(parent),
@@ -53,6 +55,15 @@ fn notarization_on(view: u64, parent: u64) -> PlainArtifact {
         proposal: proposal(view, parent),
         certificate: good(),
     })
+}
+
+fn notarization_of(view: u64) -> Notarization<PlainScheme, PlainDigest>
+    ensures { result.proposal.round.view ≡ view }
+{
+    Notarization {
+        proposal: proposal(view, 0),
+        certificate: good(),
+    }
 }
 
 fn notarization(view: u64) -> PlainArtifact {
@@ -109,8 +120,8 @@ fn failure_fetch(view: u64) -> Effect {
 }
 
 /// View 1 is finalized, the term of 3 is nullified, 5 has failed, nothing is known of 7, and 9 is notarized.
-fn with_gaps(alloc: Global) -> Result<(State, Vec<Effect>), Fail> {
-    let entries = [
+fn gaps(alloc: Global) -> Result<[PlainArtifact; 8], Fail> {
+    Ok([
         notarization(1),
         verdict(1, true),
         finalization(1),
@@ -119,7 +130,11 @@ fn with_gaps(alloc: Global) -> Result<(State, Vec<Effect>), Fail> {
         notarization(5),
         verdict(5, false),
         notarization(9),
-    ];
+    ])
+}
+
+fn with_gaps(alloc: Global) -> Result<(State, Vec<Effect>), Fail> {
+    let entries = gaps(alloc)?;
     Ok(replay_record(alloc, pairs(), &entries)?)
 }
 
@@ -159,6 +174,40 @@ fn a_resolver_goes_on_behind_its_record(rt: HostRuntime) -> Result<(), Fail> {
     let effects = state.updated(&later)?;
     let expected = [settled, gap_fetch(9, 13), gap_fetch(11, 13)];
     assert_eq!(rt; effects.as_slice(), expected.as_slice());
+    Ok(())
+}
+
+#[test]
+fn a_kept_resolver_starts_with_its_fetches(rt: HostRuntime) -> Result<(), Fail> {
+    let entries = gaps(rt.alloc())?;
+    let mut resolver = LawfulResolver::start(rt.alloc(), pairs(), &entries)?;
+    resolver.keeps_the_laws();
+    assert_eq!(rt; resolver.fetches().len(), 3);
+    let later: Certificate<PlainScheme, PlainDigest> = Certificate::Nullification(nullification_of(
+        7,
+    ));
+    let effects = resolver.updated(&later)?;
+    assert_eq!(rt; effects.len(), 1);
+    assert!(rt; !resolver.fetches().contains(&View::new(7)));
+    assert_eq!(rt; resolver.fetches().len(), 2);
+    Ok(())
+}
+
+#[test]
+fn a_kept_resolver_applies_each_call(rt: HostRuntime) -> Result<(), Fail> {
+    let mut resolver = LawfulResolver::new(rt.alloc(), pairs());
+    let notarization = notarization_of(3);
+    let certificate: Certificate<PlainScheme, PlainDigest> = Certificate::Notarization(
+        notarization,
+    );
+    resolver.updated(&certificate)?;
+    assert!(rt; resolver.fetches().is_empty());
+    let effects = resolver.replayed()?;
+    assert_eq!(rt; effects.as_slice(), [gap_fetch(1, 3)].as_slice());
+    assert!(rt; resolver.fetches().contains(&View::new(1)));
+    resolver.certified(notarization_of(3), true)?;
+    assert!(rt; resolver.fetches().is_empty());
+    assert!(rt; !resolver.state().is_failed());
     Ok(())
 }
 

@@ -96,6 +96,16 @@ fn a_nullification_is_served_whole(rt: HostRuntime) -> Result<(), Fail> {
 }
 
 #[test]
+fn a_failed_resolver_refuses_each_call(rt: HostRuntime) -> Result<(), Fail> {
+    let mut state = State::new(rt.alloc(), term_of_one());
+    state.fail();
+    assert!(rt; state.is_failed());
+    assert!(rt; matches!(state.updated(&nullified(1, 3)), Err(Fault::Failed)));
+    assert!(rt; matches!(state.produce(View::new(3)), Err(Fault::Failed)));
+    Ok(())
+}
+
+#[test]
 fn a_view_above_the_largest_is_refused(rt: HostRuntime) -> Result<(), Fail> {
     let mut state = State::new(rt.alloc(), term_of_one());
     let refused = state.updated(&nullified(1, 0x8000_0000_0000_0000));
