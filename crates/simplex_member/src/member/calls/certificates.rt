@@ -26,7 +26,8 @@ impl<S: Scheme<D>, L: Elector<S>, D: Digest> Member<S, L, D> {
     ) -> Result<(bool, Option<S::PublicKey>), Refusal>
         ensures made { IsCall D.eq L.elect self.old (AddNotarization (notarization_facts S.certificate_bytes notarization))
             (told_of (λ added. Added added.0 added.1) result) self.new }
-        ensures answered { IfOk result (λ added. IsAnswered D.eq L.elect self.old (AddNotarization (notarization_facts S.certificate_bytes notarization)) (Added added.0 added.1) self.new) }
+        ensures answered { IfOk result (λ added. IsAnswered D.eq L.elect self.old
+            (AddNotarization (notarization_facts S.certificate_bytes notarization)) (Added added.0 added.1) self.new) }
         ensures kept { IfErr result (λ refusal. Keeps self.old refusal self.new) }
         ensures recorded { IfOk result (λ added. self.new.entries
             ≡ self.old.entries ++ newly added.0 (Accepted (Notarized (notarization_facts S.certificate_bytes notarization)))) }
@@ -51,7 +52,8 @@ impl<S: Scheme<D>, L: Elector<S>, D: Digest> Member<S, L, D> {
     ) -> Result<bool, Refusal>
         ensures made { IsCall D.eq L.elect self.old (AddNullification (nullification_facts S.certificate_bytes nullification) now)
             (told_of (λ is_new. AddedNullification is_new) result) self.new }
-        ensures answered { IfOk result (λ is_new. IsAnswered D.eq L.elect self.old (AddNullification (nullification_facts S.certificate_bytes nullification) now) (AddedNullification is_new) self.new) }
+        ensures answered { IfOk result (λ is_new. IsAnswered D.eq L.elect self.old
+            (AddNullification (nullification_facts S.certificate_bytes nullification) now) (AddedNullification is_new) self.new) }
         ensures kept { IfErr result (λ refusal. Keeps self.old refusal self.new) }
         ensures recorded { IfOk result (λ is_new. self.new.entries
             ≡ self.old.entries ++ newly is_new (Accepted (Nullified (nullification_facts S.certificate_bytes nullification)))) }
@@ -78,7 +80,8 @@ impl<S: Scheme<D>, L: Elector<S>, D: Digest> Member<S, L, D> {
     ) -> Result<(bool, Option<S::PublicKey>), Refusal>
         ensures made { IsCall D.eq L.elect self.old (AddFinalization (finalization_facts S.certificate_bytes finalization) now)
             (told_of (λ added. Added added.0 added.1) result) self.new }
-        ensures answered { IfOk result (λ added. IsAnswered D.eq L.elect self.old (AddFinalization (finalization_facts S.certificate_bytes finalization) now) (Added added.0 added.1) self.new) }
+        ensures answered { IfOk result (λ added. IsAnswered D.eq L.elect self.old
+            (AddFinalization (finalization_facts S.certificate_bytes finalization) now) (Added added.0 added.1) self.new) }
         ensures kept { IfErr result (λ refusal. Keeps self.old refusal self.new) }
         ensures recorded { IfOk result (λ added. self.new.entries
             ≡ self.old.entries ++ newly added.0 (Accepted (Finalized (finalization_facts S.certificate_bytes finalization)))) }
