@@ -9,3 +9,8 @@ pub mod VoterLine
 pub mod Plain
 pub mod Setup
 pub mod Voter
+pub mod Texts
+pub mod VoterText
+pub mod ResolverText
+pub mod Transcript
+pub mod Session

@@ -1,6 +1,7 @@
 -- Lines, as bytes.
-use Rattle.std.specs.Prelude.{◌≡◌, ℕ, ◌<◌, ◌≤◌, ◌⊎◌, List, length, Option, MatchOption}
-use Rattle.std.specs.Io.BufRead.{strip_last}
+use Rattle.std.specs.Prelude.{◌≡◌, ◌≢◌, ℕ, Bool, true, false, ◌<◌, ◌≤◌, ◌⊎◌, List, [], ◌∷◌, length, take, drop, Option, Some, None, MatchOption, IfSome}
+use Rattle.std.specs.Io.BufRead.{strip_last, take_through}
+use Rattle.std.specs.Io.KnownBytes.{Consumes, IsAtEnd}
 use Rattle.std.specs.Str.{IsUtf8}
 use Rattle.std.specs.Borrow.{Bor}
 
@@ -13,3 +14,23 @@ abbrev pub ReadsText : List ℕ → Option (Bor (List ℕ)) → Type 0
 ReadsText line r = MatchOption r
     ((200 < length (without_feed line)) ⊎ ¬ (IsUtf8 (without_feed line)))
     (λ text. (text.now ≡ without_feed line) × (length (without_feed line) ≤ 200))
+
+-- the first line of the bytes that a reader has left, where they are known, and what is left behind it: the line ends with its
+-- feed or with the bytes, and of a line that is longer than 200 bytes only the first 201 are read
+abbrev pub IsFirstLine : Option (List ℕ) → List ℕ → Option (List ℕ) → Type 0
+IsFirstLine left line rest = IfSome left (λ bytes.
+    (line ≡ take_through 10 (take 201 bytes)) × (rest ≡ Some (drop (length line) bytes)))
+
+-- the next line, of which something is there, and what is left behind it
+abbrev pub IsNextLine : Option (List ℕ) → List ℕ → Option (List ℕ) → Type 0
+IsNextLine left line rest = (line ≢ []) × IsFirstLine left line rest
+
+-- whether there is a next line, and which; there is none only at the end of the bytes
+abbrev pub ReadsNextLine : Bool → Option (List ℕ) → List ℕ → Option (List ℕ) → Type 0
+ReadsNextLine true left line rest = IsNextLine left line rest
+ReadsNextLine false left line rest = IsAtEnd left
+
+-- the first byte that a reader has left, where its bytes are known, and none only at their end
+abbrev pub GivesByte : Option (List ℕ) → Option (List ℕ) → Option ℕ → Type 0
+GivesByte left rest None = Consumes left rest [] × IsAtEnd rest
+GivesByte left rest (Some b) = Consumes left rest (b ∷ [])

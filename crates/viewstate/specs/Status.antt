@@ -1,7 +1,7 @@
 -- How the program ends where it can't serve on.
 use Rattle.std.specs.Prelude.{ℕ}
-use Rattle.viewstate.specs.declared.program.ServeError.{ServeError}
-use Rattle.viewstate.specs.declared.program.ServeError.TheVariants.{NotACall, OutOfMemory, Read, Write}
+use Rattle.viewstate.specs.declared.serve_error.ServeError.{ServeError}
+use Rattle.viewstate.specs.declared.serve_error.ServeError.TheVariants.{NotACall, OutOfMemory, Read, Write}
 
 abbrev pub exit_status : ServeError → ℕ
 exit_status (NotACall _) = 3

@@ -3,11 +3,15 @@
 
 pub mod decimal;
 pub mod line_reader;
+pub mod line_writer;
 pub mod mode;
 pub mod network;
 pub mod program;
 pub mod resolver;
 pub mod resolver_line;
+pub mod resolver_text;
+pub mod serve_error;
+pub mod session;
 #[cfg(test)]
 mod tests;
 pub mod texts;
@@ -37,7 +41,7 @@ fn main(rt: HostRuntime) -> ExitCode {
     let Some(mode) = Mode::read(&arguments) else {
         return misused(&rt);
     };
-    match serve(rt.alloc(), mode, rt.reader(), io::writer(&rt)) {
+    match serve(rt.alloc(), mode, rt.reader(), &mut io::writer(&rt)) {
         Ok(()) => ExitCode::SUCCESS,
         Err(e) => failed(&rt, e),
     }

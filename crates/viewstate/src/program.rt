@@ -1,177 +1,96 @@
 //! Serves lines of calls.
 
-ghost use Rattle.std.specs.Prelude.{◌≡◌};
 ghost use Rattle.viewstate.specs.Mode.{IsServed};
+ghost use Rattle.viewstate.specs.Session.{asked_of};
+ghost use Rattle.viewstate.specs.Transcript.{Transcribes, Continues, Advances};
 
 use crate::line_reader::{LONGEST_LINE, line_text, read_line};
+use crate::line_writer::write_line;
 use crate::mode::Mode;
-use crate::network::Network;
-use crate::resolver::Resolver;
-use crate::resolver_line::ResolverLine;
-use crate::voter::Voter;
-use crate::voter_line::VoterLine;
-use std::alloc::{AllocError, Global};
-use std::fmt::{Display, Write as _};
+pub use crate::serve_error::ServeError;
+use crate::session::Session;
+use std::alloc::Global;
 use std::io::{BufReader, Read, Write};
-use thiserror::Error;
-
-/// Why serving ended before the end of the input.
-#[derive(Debug, Drop, PartialEq, Eq, Error)]
-pub enum ServeError {
-    #[error("line {0}: not a call")]
-    NotACall(u64),
-    #[error("out of memory")]
-    OutOfMemory,
-    #[error("read failed")]
-    Read,
-    #[error("write failed")]
-    Write,
-}
-
-impl ServeError {
-    ghost use Rattle.viewstate.specs.Status.{exit_status};
-
-    /// The program's exit status: 3 for a line that is no call, 4 for want of memory, 5 where reading or writing failed.
-    pub fn status(&self) -> u8
-        ensures { result ≡ exit_status self.now }
-    {
-        match self {
-            ServeError::NotACall(_) => 3,
-            ServeError::OutOfMemory => 4,
-            ServeError::Read | ServeError::Write => 5,
-        }
-    }
-}
 
 /// Answers each line of the reader by a line of the writer, before it reads the next. It asks for a mode that
 /// `Mode::read` can give.
+///
+/// It ends at the end of the reader (or after 2^64 - 2 lines), at the first line that is no call, where a read or a write
+/// fails, or for want of memory. What it wrote is the replies of the lines before, whole and in order; only where a write
+/// failed, a front of one more reply may follow.
 pub fn serve<R: Read + Drop, W: Write + Drop>(
     alloc: Global,
     mode: Mode,
     reader: R,
-    writer: W,
+    writer: &mut W,
 ) -> Result<(), ServeError>
     requires { IsServed mode }
+    ensures { Transcribes mode (R.remaining reader) (W.contents writer.old) result (W.contents writer.new) }
 {
-    let mut session = Session::start(alloc, mode)?;
-    answer_lines(&mut session, alloc, reader, writer)
+    let Ok(mut session) = Session::start(alloc, mode) else {
+        return Err(ServeError::OutOfMemory);
+    };
+    let Ok(mut reader) = BufReader::new(alloc, reader) else {
+        return Err(ServeError::OutOfMemory);
+    };
+    answer_lines(&mut session, alloc, &mut reader, writer)
 }
 
 fn answer_lines<R: Read + Drop, W: Write + Drop>(
     session: &mut Session,
     alloc: Global,
-    reader: R,
-    mut writer: W,
-) -> Result<(), ServeError> {
-    let (Ok(mut reader), Ok(mut line)) = (
-        BufReader::new(alloc, reader),
-        Vec::with_capacity(alloc, LONGEST_LINE + 1),
-    ) else {
+    reader: &mut R,
+    writer: &mut W,
+) -> Result<(), ServeError>
+    ensures { Continues (record { asked = asked_of session.old; left = R.remaining reader.old; held = W.contents writer.old })
+        result (W.contents writer.new) }
+{
+    let Ok(line) = Vec::with_capacity(alloc, LONGEST_LINE + 1) else {
         return Err(ServeError::OutOfMemory);
     };
-    let mut reply = String::new(alloc);
+    let mut room = Room {
+        line,
+        reply: String::new(alloc),
+    };
     for number in 1..u64::MAX {
-        let Ok(found) = read_line(&mut reader, &mut line) else {
-            return Err(ServeError::Read);
-        };
-        if !found {
-            break;
-        }
-        let text = line_text(&line).ok_or(ServeError::NotACall(number))?;
-        reply.clear();
-        session.answer(alloc, number, text, &mut reply)?;
-        if writer.write_all(reply.as_bytes()).is_err() || writer.flush().is_err() {
-            return Err(ServeError::Write);
+        if !answer_line(session, alloc, number, reader, &mut room, writer)? {
+            return Ok(());
         }
     }
     Ok(())
 }
 
-/// What the lines are asked of.
+/// Where a line and its reply stand.
 #[derive(Drop)]
-enum Session {
-    Voter(Voter),
-    Resolver(Resolver),
+struct Room {
+    line: Vec<u8>,
+    reply: String,
 }
 
-impl Session {
-    fn start(alloc: Global, mode: Mode) -> Result<Session, ServeError>
-        requires { IsServed mode }
-    {
-        match mode {
-            Mode::Voter {
-                members,
-                me,
-                term_length,
-                optimistic,
-            } => {
-                let network = Network {
-                    members,
-                    me,
-                    term_length,
-                    optimistic,
-                };
-                match Voter::start(alloc, network) {
-                    Ok(voter) => Ok(Session::Voter(voter)),
-                    Err(AllocError) => Err(ServeError::OutOfMemory),
-                }
-            }
-            Mode::Resolver(term_length) => Ok(Session::Resolver(Resolver::new(alloc, term_length))),
-        }
-    }
-
-    /// Writes the reply to a line, and its line feed.
-    fn answer(
-        &mut self,
-        alloc: Global,
-        number: u64,
-        text: &str,
-        reply: &mut String,
-    ) -> Result<(), ServeError> {
-        match self {
-            Session::Voter(voter) => answer_voter(voter, alloc, number, text, reply),
-            Session::Resolver(resolver) => answer_resolver(resolver, alloc, number, text, reply),
-        }
-    }
-}
-
-fn answer_voter(
-    voter: &mut Voter,
+/// Answers the next line, which has this number. Answers whether there was one.
+fn answer_line<R: Read + Drop, W: Write + Drop>(
+    session: &mut Session,
     alloc: Global,
     number: u64,
-    text: &str,
-    reply: &mut String,
-) -> Result<(), ServeError> {
-    let Ok(line) = VoterLine::parse(alloc, text) else {
-        return Err(ServeError::OutOfMemory);
+    reader: &mut R,
+    room: &mut Room,
+    writer: &mut W,
+) -> Result<bool, ServeError>
+    ensures { Advances (record { asked = asked_of session.old; left = R.remaining reader.old; held = W.contents writer.old })
+        number result (record { asked = asked_of session.new; left = R.remaining reader.new; held = W.contents writer.new }) }
+{
+    let Ok(found) = read_line(reader, &mut room.line) else {
+        return Err(ServeError::Read);
     };
-    let line = line.ok_or(ServeError::NotACall(number))?;
-    match voter.answer(alloc, line) {
-        Ok(answer) => write_line(reply, answer),
-        Err(AllocError) => Err(ServeError::OutOfMemory),
+    if !found {
+        return Ok(false);
     }
-}
-
-fn answer_resolver(
-    resolver: &mut Resolver,
-    alloc: Global,
-    number: u64,
-    text: &str,
-    reply: &mut String,
-) -> Result<(), ServeError> {
-    let Ok(line) = ResolverLine::parse(alloc, text) else {
-        return Err(ServeError::OutOfMemory);
+    let Some(text) = line_text(&room.line) else {
+        return Err(ServeError::NotACall(number));
     };
-    let line = line.ok_or(ServeError::NotACall(number))?;
-    match resolver.answer(alloc, line) {
-        Ok(answer) => write_line(reply, answer),
-        Err(AllocError) => Err(ServeError::OutOfMemory),
-    }
-}
-
-fn write_line<D: Display + Drop>(reply: &mut String, answer: D) -> Result<(), ServeError> {
-    match writeln!(reply, "{answer}") {
-        Ok(()) => Ok(()),
-        Err(_) => Err(ServeError::OutOfMemory),
+    session.answer(alloc, number, text, &mut room.reply)?;
+    match write_line(writer, room.reply.as_bytes()) {
+        Ok(()) => Ok(true),
+        Err(_) => Err(ServeError::Write),
     }
 }

@@ -9,7 +9,6 @@ ghost use Rattle.viewstate.specs.Answers.{Answers, Calls, Reports, IsProposedAt,
 ghost use Rattle.viewstate.specs.declared.resolver.Answer.TheVariants.{Effects as AreEffects, Fault as IsFault};
 
 use crate::resolver_line::ResolverLine;
-use crate::texts::write_fault;
 use bytes::Bytes;
 use simplex_resolver::resolver::{Effect, State, apply};
 use simplex_types::types::plain::{PlainCertificate, PlainDigest, PlainScheme};
@@ -19,8 +18,6 @@ use simplex_types::types::{
 };
 use std::alloc::{AllocError, Global};
 use std::collections::BTreeSet;
-use std::fmt;
-use std::fmt::{Display, Formatter};
 
 /// The epoch of every certificate that a line stands for.
 const EPOCH: u64 = 1;
@@ -222,70 +219,4 @@ fn nullification_of(view: View) -> Nullification<PlainScheme>
         round: round_of(view),
         certificate: PlainCertificate { good: true },
     }
-}
-
-impl Display for Answer {
-    fn fmt<W: fmt::Write>(&self, f: &mut Formatter<W>) -> fmt::Result {
-        match self {
-            Answer::Effects(effects) => write_effects(f, effects.as_slice()),
-            Answer::Flag(flag) => write!(f, "{flag}"),
-            Answer::Encoding(None) => f.write_str("none"),
-            Answer::Encoding(Some(bytes)) => write_hexadecimal(f, bytes.as_slice()),
-            Answer::Outstanding(views) => write_outstanding(f, views),
-            Answer::Fault(fault) => write_fault(f, *fault),
-            Answer::NotAllowed => f.write_str("not-allowed"),
-        }
-    }
-}
-
-fn write_effects<W: fmt::Write>(f: &mut Formatter<W>, effects: &[Effect]) -> fmt::Result {
-    let Some((first, others)) = effects.split_first() else {
-        return f.write_str("-");
-    };
-    write_effect(f, first)?;
-    for effect in others {
-        f.write_str("; ")?;
-        write_effect(f, effect)?;
-    }
-    Ok(())
-}
-
-fn write_effect<W: fmt::Write>(f: &mut Formatter<W>, effect: &Effect) -> fmt::Result {
-    match effect {
-        Effect::Fetch {
-            view,
-            cause,
-            reason,
-        } => write!(
-            f,
-            "fetch {} {} {}",
-            view.get(),
-            cause.get(),
-            reason.as_str()
-        ),
-        Effect::Settled { kind, start, end } => write!(
-            f,
-            "settled {} {} {}",
-            kind.as_str(),
-            start.get(),
-            end.get()
-        ),
-        Effect::Finalized(view) => write!(f, "finalized {}", view.get()),
-        Effect::Raised(view) => write!(f, "raised {}", view.get()),
-    }
-}
-
-fn write_outstanding<W: fmt::Write>(f: &mut Formatter<W>, views: &[View]) -> fmt::Result {
-    f.write_str("outstanding")?;
-    for view in views {
-        write!(f, " {}", view.get())?;
-    }
-    Ok(())
-}
-
-fn write_hexadecimal<W: fmt::Write>(f: &mut Formatter<W>, bytes: &[u8]) -> fmt::Result {
-    for byte in bytes {
-        write!(f, "{byte:02x}")?;
-    }
-    Ok(())
 }

@@ -1,6 +1,14 @@
 //! The reply lines of a voter.
 
-use crate::texts::{write_fault, write_refusal};
+ghost use Rattle.std.specs.Prelude.{◌≡◌, ◌++◌, ◌∷◌, [], map, codes, decimal, Some};
+ghost use Rattle.std.specs.List.{flat_map};
+ghost use Rattle.std.specs.Fmt.{WritesOnOk};
+ghost use Rattle.simplex_types.specs.Viewed.{certificate_view};
+ghost use Rattle.viewstate.specs.Texts.{text_of};
+ghost use Rattle.viewstate.specs.VoterText.{voter_reply_words, reply_words, equivocator_word, request_words, context_words, verify_words, certificate_word, proposal_words, offer_word, fetch_word};
+ghost use Rattle.viewstate.specs.Words.{flag_word};
+
+use crate::texts::{write_fault, write_refusal, write_views};
 use crate::voter::VoterAnswer;
 use simplex_member::member::Reply;
 use simplex_types::types::plain::{PlainDigest, PlainKey, PlainScheme};
@@ -10,6 +18,8 @@ use std::fmt;
 use std::fmt::{Display, Formatter};
 
 impl Display for VoterAnswer {
+    ghost output = { λ answer. Some (text_of (voter_reply_words answer)) };
+
     fn fmt<W: fmt::Write>(&self, f: &mut Formatter<W>) -> fmt::Result {
         match self {
             VoterAnswer::Reply(reply) => write_reply(f, reply),
@@ -35,43 +45,19 @@ impl Display for VoterAnswer {
 fn write_reply<W: fmt::Write>(
     f: &mut Formatter<W>,
     reply: &Reply<PlainScheme, PlainDigest>,
-) -> fmt::Result {
+) -> fmt::Result
+    ensures { WritesOnOk W.write_str_gives f.old result (text_of (reply_words reply.now)) f.new }
+{
     match reply {
         Reply::Unit | Reply::Restarted => f.write_str("ok"),
         Reply::Flag(taken) => write!(f, "{taken}"),
         Reply::Added(added, equivocator) => write_added(f, *added, *equivocator),
         Reply::AddedNullification(added) => write!(f, "added {added}"),
+        Reply::Request(Some(request)) => write_request(f, request),
         Reply::Work(verify) => write_work(f, verify),
         Reply::Candidates(proposals, fetches) => {
             write_candidates(f, proposals.as_slice(), fetches.as_slice())
         }
-        Reply::Timeout(moment, reason) => write!(f, "timeout {moment} {}", reason.as_str()),
-        Reply::Views(views) => write_pruned(f, views.as_slice()),
-        Reply::Fault(fault) => write_fault(f, *fault),
-        Reply::NotAllowed => f.write_str("not-allowed"),
-        _ => write_found(f, reply),
-    }
-}
-
-fn write_added<W: fmt::Write>(
-    f: &mut Formatter<W>,
-    added: bool,
-    equivocator: Option<PlainKey>,
-) -> fmt::Result {
-    match equivocator {
-        Some(PlainKey(index)) => write!(f, "added {added} {index}"),
-        None => write!(f, "added {added} -"),
-    }
-}
-
-/// A request, a reason, a vote or a certificate, or `none`.
-fn write_found<W: fmt::Write>(
-    f: &mut Formatter<W>,
-    reply: &Reply<PlainScheme, PlainDigest>,
-) -> fmt::Result {
-    match reply {
-        Reply::Request(Some(request)) => write_request(f, request),
-        Reply::Abandoned(Some(reason)) => f.write_str(reason.as_str()),
         Reply::Certified(Some(notarization)) => {
             write!(f, "certified {}", notarization.view().get())
         }
@@ -81,32 +67,59 @@ fn write_found<W: fmt::Write>(
         }
         Reply::Finalize(Some(vote)) => write_proposal(f, "finalize", &vote.proposal),
         Reply::Certificate(Some(certificate)) => write_certificate(f, certificate),
-        _ => f.write_str("none"),
+        Reply::Timeout(moment, reason) => write!(f, "timeout {moment} {}", reason.as_str()),
+        Reply::Views(views) => write_pruned(f, views.as_slice()),
+        Reply::Abandoned(Some(reason)) => f.write_str(reason.as_str()),
+        Reply::Fault(fault) => write_fault(f, *fault),
+        Reply::NotAllowed => f.write_str("not-allowed"),
+        Reply::Request(None)
+        | Reply::Certified(None)
+        | Reply::Notarize(None)
+        | Reply::Nullify(None)
+        | Reply::Finalize(None)
+        | Reply::Certificate(None)
+        | Reply::Abandoned(None) => f.write_str("none"),
+    }
+}
+
+fn write_added<W: fmt::Write>(
+    f: &mut Formatter<W>,
+    added: bool,
+    equivocator: Option<PlainKey>,
+) -> fmt::Result
+    ensures { WritesOnOk W.write_str_gives f.old result (text_of (codes "added" ∷ flag_word added ∷ equivocator_word equivocator ∷ [])) f.new }
+{
+    match equivocator {
+        Some(PlainKey(index)) => write!(f, "added {added} {index}"),
+        None => write!(f, "added {added} -"),
     }
 }
 
 fn write_request<W: fmt::Write>(
     f: &mut Formatter<W>,
     request: &ProposalRequest<PlainDigest, PlainKey>,
-) -> fmt::Result {
-    f.write_str(if request.is_handoff() {
-        "prepare"
-    } else {
-        "propose"
-    })?;
-    write_context(f, request.context())
+) -> fmt::Result
+    ensures { WritesOnOk W.write_str_gives f.old result (text_of (request_words request.now)) f.new }
+{
+    match request {
+        ProposalRequest::Prepare(context) => write_context(f, "prepare", context),
+        ProposalRequest::Propose(context) => write_context(f, "propose", context),
+    }
 }
 
-/// A view, its leader, and the view and the payload of the parent to build on.
+/// A word, a view, its leader, and the view and the payload of the parent to build on.
 fn write_context<W: fmt::Write>(
     f: &mut Formatter<W>,
+    first: &str,
     context: &Context<PlainDigest, PlainKey>,
-) -> fmt::Result {
+) -> fmt::Result
+    ensures { WritesOnOk W.write_str_gives f.old result (text_of (context_words first.now context.now [])) f.new }
+{
     let (parent, payload) = context.parent;
     let PlainKey(leader) = context.leader;
     write!(
         f,
-        " {} {leader} {} {}",
+        "{first} {} {leader} {} {}",
         context.round.view.get(),
         parent.get(),
         payload.number()
@@ -116,11 +129,12 @@ fn write_context<W: fmt::Write>(
 fn write_work<W: fmt::Write>(
     f: &mut Formatter<W>,
     verify: &Verify<PlainDigest, PlainKey>,
-) -> fmt::Result {
+) -> fmt::Result
+    ensures { WritesOnOk W.write_str_gives f.old result (text_of (verify_words verify.now)) f.new }
+{
     match verify {
         Verify::Ready(context, proposal) => {
-            f.write_str("ready")?;
-            write_context(f, context)?;
+            write_context(f, "ready", context)?;
             write!(f, " {}", proposal.payload.number())
         }
         Verify::Resolve {
@@ -144,12 +158,33 @@ fn write_candidates<W: fmt::Write>(
     f: &mut Formatter<W>,
     proposals: &[Proposal<PlainDigest>],
     fetches: &[CertificateFetch],
-) -> fmt::Result {
+) -> fmt::Result
+    ensures { WritesOnOk W.write_str_gives f.old result
+        (text_of (codes "candidates" ∷ (map offer_word proposals.now ++ codes "fetch" ∷ map fetch_word fetches.now))) f.new }
+{
     f.write_str("candidates")?;
+    write_offers(f, proposals)?;
+    f.write_str(" fetch")?;
+    write_fetches(f, fetches)
+}
+
+/// Each view behind a space.
+fn write_offers<W: fmt::Write>(
+    f: &mut Formatter<W>,
+    proposals: &[Proposal<PlainDigest>],
+) -> fmt::Result
+    ensures { WritesOnOk W.write_str_gives f.old result (flat_map (λ p. 32 ∷ offer_word p) proposals.now) f.new }
+{
     for proposal in proposals {
         write!(f, " {}", proposal.round.view.get())?;
     }
-    f.write_str(" fetch")?;
+    Ok(())
+}
+
+/// Each pair of views behind a space.
+fn write_fetches<W: fmt::Write>(f: &mut Formatter<W>, fetches: &[CertificateFetch]) -> fmt::Result
+    ensures { WritesOnOk W.write_str_gives f.old result (flat_map (λ fetch. 32 ∷ fetch_word fetch) fetches.now) f.new }
+{
     for fetch in fetches {
         write!(f, " {}:{}", fetch.proposal.get(), fetch.view.get())?;
     }
@@ -159,20 +194,36 @@ fn write_candidates<W: fmt::Write>(
 fn write_certificate<W: fmt::Write>(
     f: &mut Formatter<W>,
     certificate: &Certificate<PlainScheme, PlainDigest>,
-) -> fmt::Result {
-    let kind = match certificate {
+) -> fmt::Result
+    ensures { WritesOnOk W.write_str_gives f.old result
+        (text_of (certificate_word certificate.now ∷ decimal (certificate_view certificate.now) ∷ [])) f.new }
+{
+    write!(
+        f,
+        "{} {}",
+        certificate_kind(certificate),
+        certificate.view().get()
+    )
+}
+
+/// The word for a certificate's kind.
+fn certificate_kind(certificate: &Certificate<PlainScheme, PlainDigest>) -> &'static str
+    ensures { result.now ≡ certificate_word certificate.now }
+{
+    match certificate {
         Certificate::Notarization(_) => "notarization",
         Certificate::Nullification(_) => "nullification",
         Certificate::Finalization(_) => "finalization",
-    };
-    write!(f, "{kind} {}", certificate.view().get())
+    }
 }
 
 fn write_proposal<W: fmt::Write>(
     f: &mut Formatter<W>,
     vote: &str,
     proposal: &Proposal<PlainDigest>,
-) -> fmt::Result {
+) -> fmt::Result
+    ensures { WritesOnOk W.write_str_gives f.old result (text_of (proposal_words vote.now proposal.now)) f.new }
+{
     write!(
         f,
         "{vote} {} {} {}",
@@ -182,10 +233,10 @@ fn write_proposal<W: fmt::Write>(
     )
 }
 
-fn write_pruned<W: fmt::Write>(f: &mut Formatter<W>, views: &[View]) -> fmt::Result {
+/// Pruned views.
+fn write_pruned<W: fmt::Write>(f: &mut Formatter<W>, views: &[View]) -> fmt::Result
+    ensures { WritesOnOk W.write_str_gives f.old result (text_of (codes "pruned" ∷ map decimal views.now)) f.new }
+{
     f.write_str("pruned")?;
-    for view in views {
-        write!(f, " {}", view.get())?;
-    }
-    Ok(())
+    write_views(f, views)
 }
