@@ -6,7 +6,7 @@ use Rattle.simplex_types.specs.Plain.{keys_below, terms_of}
 use Rattle.simplex_types.specs.declared.types.plain.PlainDigest.{PlainDigest}
 use Rattle.simplex_types.specs.declared.types.plain.PlainElector.{PlainElector}
 use Rattle.simplex_types.specs.declared.types.plain.PlainKey.{PlainKey}
-use Rattle.simplex_voter.specs.Facts.{Settings, new_facts}
+use Rattle.simplex_voter.specs.Facts.{Settings}
 use Rattle.simplex_member.specs.Start.{StartFacts}
 
 pub count_of_keys : (n : ℕ) → length (keys_below n) ≡ n
@@ -15,7 +15,7 @@ count_of_keys n = length-map-range_with_len _ 0 n
 -- a start at genesis
 abbrev pub at_genesis : Settings → Option ℕ → List PlainKey → PlainElector → PlainDigest → ℕ → StartFacts PlainKey PlainElector PlainDigest
 at_genesis settings me keys e payload now = record {
-  fresh = new_facts settings me keys e (terms_of e) true;
+  setup = record { settings = settings; me = me; members = keys; elector = e; terms = terms_of e; elects_early = true };
   floor = Genesis payload;
   now = now;
 }

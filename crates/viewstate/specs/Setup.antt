@@ -14,7 +14,7 @@ use Rattle.simplex_voter.specs.Facts.{Settings, new_facts}
 use Rattle.simplex_voter.specs.StateView.{settings_of}
 use Rattle.simplex_voter.specs.declared.voter.state.Config.{Config}
 use Rattle.simplex_member.specs.declared.member.start.Start.{Start}
-use Rattle.simplex_member.specs.Start.{StartFacts, start_facts, started}
+use Rattle.simplex_member.specs.Start.{StartFacts, start_facts, started, new_state}
 use Rattle.viewstate.specs.declared.network.Network.{Network}
 use Rattle.viewstate.specs.Plain.{PlainMember, same_payload, plain_leader, plain_bytes}
 
@@ -49,7 +49,14 @@ pub record IsGenesis (n : Network) (e : PlainElector) (d : PlainDigest) : Type 0
 
 abbrev pub genesis_start : Network → PlainElector → PlainDigest → ℕ → StartFacts PlainKey PlainElector PlainDigest
 genesis_start n e payload now = record {
-  fresh = new_facts (network_settings n) n.me (keys_below n.members) e (terms_of e) true;
+  setup = record {
+    settings = network_settings n;
+    me = n.me;
+    members = keys_below n.members;
+    elector = e;
+    terms = terms_of e;
+    elects_early = true;
+  };
   floor = Genesis payload;
   now = now;
 }
@@ -67,4 +74,4 @@ plain_start start = start_facts signer_of keys_of terms_of (λ _. true) plain_by
 abbrev pub StartsAtGenesis : Network → PlainMember → Type 0
 StartsAtGenesis n m =
     (start : StartFacts PlainKey PlainElector PlainDigest)
-    × IsGenesisStart n 0 start × (m ≡ started same_payload plain_leader start.fresh start.floor start.now)
+    × IsGenesisStart n 0 start × (m ≡ started same_payload plain_leader (new_state start.setup) start.floor start.now)

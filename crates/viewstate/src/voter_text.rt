@@ -37,7 +37,9 @@ fn write_reply<W: fmt::Write>(
     reply: &Reply<PlainScheme, PlainDigest>,
 ) -> fmt::Result {
     match reply {
-        Reply::Unit | Reply::Restarted => f.write_str("ok"),
+        Reply::Unit | Reply::Released(_) | Reply::Triggered(_) | Reply::Restarted => {
+            f.write_str("ok")
+        }
         Reply::Flag(taken) => write!(f, "{taken}"),
         Reply::Added(added, equivocator) => write_added(f, *added, *equivocator),
         Reply::AddedNullification(added) => write!(f, "added {added}"),
@@ -72,7 +74,7 @@ fn write_found<W: fmt::Write>(
     match reply {
         Reply::Request(Some(request)) => write_request(f, request),
         Reply::Abandoned(Some(reason)) => f.write_str(reason.as_str()),
-        Reply::Certified(Some(notarization)) => {
+        Reply::Certified(_, Some(notarization)) => {
             write!(f, "certified {}", notarization.view().get())
         }
         Reply::Notarize(Some(vote)) => write_proposal(f, "notarize", &vote.proposal),
