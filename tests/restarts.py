@@ -25,12 +25,17 @@ RESTARTS = ("restart 0", "restart 1", "restart-pruned 0")
 MOMENTS = {"finalization": 4, "nullification": 2, "rejected": 2, "proposed": 3, "verdict": 3, "trigger": 3, "timeout": 1, "restart": 2, "restart-pruned": 2}
 
 
+def moment_of(line):
+    """The moment that a line carries, or 0."""
+    words = line.split(" ")
+    return int(words[MOMENTS[words[0]]]) if words[0] in MOMENTS else 0
+
+
 def with_restarts(lines, restart, places):
     """The lines with a restart behind each of some places, at the last moment that a line carries."""
     now, made = 0, []
     for place, line in enumerate(lines):
-        words = line.split(" ")
-        now = max(now, int(words[MOMENTS[words[0]]])) if words[0] in MOMENTS else now
+        now = max(now, moment_of(line))
         made.append(line)
         if place in places:
             made += [f"{restart} {now}", "view"]
