@@ -89,11 +89,12 @@ class Sweep:
             if word_of(line) in LIVES:
                 break
             wants(reply == FAILED or word_of(line) == "record", f"request {number}, then {line!r} of a failed member", reply)
-        now = max(moment_of(line) for line, reply in zip(self.lines[:place + 1], self.right) if not reply.startswith("refused"))
-        lines = self.lines[:place + 1] + [f"restart 0 {now}", "view", "entries"] + self.lines[place:]
+        taken = [line for line, reply in zip(self.lines[:place + 1], self.right) if not reply.startswith(("refused", "fault"))]
+        restart = [f"restart 0 {max(map(moment_of, taken), default=0)}", "view", "entries"]
+        wanted, _ = self.program.ask(self.kind, self.script, self.lines[:place] + restart)
+        lines = self.lines[:place + 1] + restart + self.lines[place:]
         replies, _ = self.program.ask(self.kind, self.script, lines, number)
-        restarted, _, recorded = replies[place + 1:place + 4]
-        wants(restarted == "ok" and recorded == entries, f"request {number}, restarted", replies)
+        wants(replies[place + 1:place + 4] == wanted[place:], f"request {number}, restarted, not {wanted[place:]}", replies)
         self.keeps_laws(f"request {number}, over both lives", lines, replies)
 
     def begins_later(self, number, place, shown):
