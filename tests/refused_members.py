@@ -3,9 +3,8 @@
 from collections import Counter
 
 from checks import Broken, MemberLaws
-from protocol import Terms
+from protocol import Terms, moment_of
 from refused_states import FAILED, OUT_OF_MEMORY, SHOWS, word_of
-from restarts import moment_of
 from scripts import ANY, NotAsAsked, wants
 
 NOT_RESTARTED = "refused 13 OutOfMemory"

@@ -25,7 +25,7 @@ import program
 import schedules
 from checks import Broken
 from draw import drawn
-from member import ProgramEnded
+from member import ProgramEnded, Served
 from network import Network, NotBacked
 from program import ROOT
 
@@ -93,7 +93,7 @@ def wrong_program(folder, name):
 def stored_runs(path):
     """Plays the stored schedules, up to the first that breaks a law."""
     for count, schedule in enumerate(schedules.all_schedules(), 1):
-        with Network(path, 4, {0}, schedule.terms) as network:
+        with Network(Served(path), 4, {0}, schedule.terms) as network:
             try:
                 schedules.play(schedule, network)
             except Broken as broken:
@@ -106,7 +106,7 @@ def stored_runs(path):
 def random_run(path, steps, watches_votes, seed):
     """Plays a random run; what it broke, or None."""
     try:
-        hostile_runs.play(path, seed, steps, watches_votes=watches_votes)
+        hostile_runs.play(Served(path), seed, steps, watches_votes=watches_votes)
     except Broken as broken:
         return Found(f"random --seed {seed} --steps {steps}", str(broken), seed, drawn(broken.network))
     except ProgramEnded:
