@@ -114,7 +114,7 @@ def listed_names():
     listed = {line.partition(":")[0].split(" ")[0] for line in text_of("crates.txt").splitlines()}
     told = {first.strip("`") for first, _ in table_rows("README.md") if first.strip("`") in crates | listed}
     yield from (f"{what} has other crates than stand: {names ^ crates}" for what, names in (("crates.txt", listed), ("README.md", told)) if names != crates)
-    for name in wrong_bodies.WRONG_BODIES:
+    for name in wrong_bodies.WRONG_BODIES + wrong_bodies.WRONG_WITHOUT_MEMORY:
         crate, edit = name.split("/")
         if not (ROOT / f"crates/{crate}/must-fail/{edit}.edit").is_file():
             yield f"no edit {edit} of {crate}"

@@ -72,6 +72,15 @@ def swept_script(path, preload, every, script):
     return seen, faults
 
 
+def sweep_all(pool, path, preload, every):
+    """All refusals of all scripts: what was seen, and what is not as asked."""
+    seen, faults = Counter(), []
+    for saw, wrong in pool.map(partial(swept_script, path, preload, every), scripts.all_scripts()):
+        seen += saw
+        faults += wrong
+    return seen, faults
+
+
 def options():
     parser = argparse.ArgumentParser(description=__doc__, formatter_class=argparse.RawDescriptionHelpFormatter)
     program.add_enduring_option(parser)
@@ -84,10 +93,8 @@ def main():
     given = options()
     with tempfile.TemporaryDirectory() as folder, ProcessPoolExecutor(given.jobs, initializer=limited) as pool:
         path, preload = program.find_enduring(given.enduring, folder), compiled(folder)
-        start, seen, faults = time.monotonic(), Counter(), []
-        for saw, wrong in pool.map(partial(swept_script, path, preload, given.every), scripts.all_scripts()):
-            seen += saw
-            faults += wrong
+        start = time.monotonic()
+        seen, faults = sweep_all(pool, path, preload, given.every)
     figures = ", ".join(f"{count} {what}" for what, count in seen.items())
     print(f"refused memory: {figures}; {len(faults)} not as asked; {time.monotonic() - start:.1f} s")
     print("".join(f"  {fault}\n" for fault in faults[:FAULTS_SHOWN]), end="")

@@ -39,7 +39,7 @@ def views_in(reply):
 class Sweep:
     """Refusals of one script that is asked of a resolver's state, each `produce` twice and with some more calls in the end."""
 
-    kind = "resolver"
+    kind, name = "resolver", "a resolver's state"
 
     def __init__(self, program, script):
         self.program, self.script, self.seen = program, script, Counter()
@@ -77,7 +77,7 @@ class Sweep:
         if not is_met:
             wants(replies == self.right and fetches == self.open, "a run that meets no refusal", replies)
             return False
-        self.seen[f"requests refused to a {self.kind}"] += 1
+        self.seen[f"requests refused to {self.name}"] += 1
         place = next((place for place, reply in enumerate(replies) if reply in (OUT_OF_MEMORY, STOPPED)), None)
         if place is None:
             raise NotAsAsked(f"request {number} is not told of: {replies}")
@@ -109,7 +109,7 @@ class Sweep:
 class KeptSweep(Sweep):
     """The same, of the resolver that a driver keeps: it applies its effects itself."""
 
-    kind = "kept"
+    kind, name = "kept", "a kept resolver"
 
     def may_have_applied(self, reply):
         return True

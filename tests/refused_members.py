@@ -8,7 +8,7 @@ from refused_states import FAILED, OUT_OF_MEMORY, SHOWS, word_of
 from scripts import ANY, NotAsAsked, wants
 
 NOT_RESTARTED = "refused 13 OutOfMemory"
-LIVES = ("restart", "restart-pruned", "crash", "recover")
+LIVES = {"restart": "restarts", "restart-pruned": "restarts", "crash": "resumes", "recover": "recoveries"}
 
 
 def terms_of(script):
@@ -82,6 +82,7 @@ class Sweep:
     def goes_on(self, number, place, told, shown):
         """The member has failed, with its record as it was; each call is refused until a restart goes on."""
         self.seen["members restarted"] += 1
+        wants(self.lines[place] != "best", f"request {number}: a member fails in `best`", told)
         entries = self.before(place)[1] if place else "entries"
         wants(shown[place][1] == entries, f"request {number}: the record has changed", shown[place])
         for line, reply in zip(self.lines[place + 1:], told[place + 1:]):
@@ -99,7 +100,7 @@ class Sweep:
     def begins_later(self, number, place, shown):
         """A life that did not begin leaves the record, as it was cut, and begins when it is asked for again."""
         word = word_of(self.lines[place])
-        self.seen[f"{'resumes' if word == 'crash' else f'{word}s'} asked again"] += 1
+        self.seen[f"{LIVES[word]} begun again"] += 1
         wants(shown[place][1] == self.shown[place][1], f"request {number}: {self.lines[place]!r} left another record", shown[place])
         is_cut = word.startswith("restart")
         again = f"restart 0 {self.lines[place].split(' ')[2]}" if is_cut else self.lines[place]
