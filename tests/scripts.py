@@ -64,6 +64,16 @@ def misused_commands():
     return [command.split(" ")[1:] for _, command in MISUSE.findall((TABLES / "misuses.rt").read_text())]
 
 
+class NotAsAsked(Exception):
+    """Something that is not as a script, or what is asked besides, has it."""
+
+
+def wants(holds, what, seen):
+    """Raises what was seen instead, unless it holds."""
+    if not holds:
+        raise NotAsAsked(f"{what}: {seen}")
+
+
 class Ended(NamedTuple):
     """How a run of the program ended."""
 
