@@ -2,7 +2,7 @@
 """That what stands twice in the repository stands there with the same content.
 
 The program is deterministic: the same lines behind the same arguments have the same reply wherever they are written, in the
-tables of `crates/viewstate/src/tests`, in the README, `docs/PROGRAM.md`, the program's own run and the stored schedules. And
+tables of `crates/simplex_tests/src/program`, in the README, `docs/PROGRAM.md`, the program's own run and the stored schedules. And
 copies of source, output, numbers and names in the docs are those of what they are copied from.
 
     tests/copies.py [--program PATH]       with a built program, the picture in docs/TESTED.md too
@@ -94,12 +94,12 @@ def source_copies():
 
 def numbered_names():
     """The numbers of faults and refusals, the program's usage and its words, as the source and the pages have them."""
-    source = text_of("crates/viewstate/src/texts.rt")
+    source = text_of("crates/simplex_program/src/texts.rt")
     refusals = {(name, number) for name, number in re.findall(r"RecoverError::(\w+) => (\d+)", source) if name != "OutOfMemory"}
     told = {(name, number) for number, name in re.findall(r"^\| (\d+) `(\w+)` \|", text_of("docs/PROGRAM.md"), re.MULTILINE)}
     faults = {(name, number) for name, number in re.findall(r"Fault::(\w+) => (\d+)", source) if name != "OutOfMemory"}
     told_faults = {(name, number) for number, name in re.findall(r"^\| `fault (\d+) (\w+)` \|", text_of("docs/PROGRAM.md"), re.MULTILINE)}
-    reasons = set(re.findall(r"Some\(TimeoutReason::(\w+)\)", text_of("crates/viewstate/src/words.rt")))
+    reasons = set(re.findall(r"Some\(TimeoutReason::(\w+)\)", text_of("crates/simplex_program/src/words.rt")))
     told_reasons = set(re.findall(r"`(\w+)`", re.search(r"`REASON` is (.*)", text_of("docs/PROGRAM.md"))[1]))
     usages = {usage.replace("\\|", "|") for path in ("crates/viewstate/src/main.rt", "docs/PROGRAM.md")
               for usage in re.findall(r"usage: viewstate [^\"`]*", text_of(path))}
