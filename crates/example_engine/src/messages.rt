@@ -1,6 +1,8 @@
 //! What members send each other.
 
-ghost use Rattle.std.specs.Prelude.{◌≡◌, IfOk};
+ghost use Rattle.std.specs.Prelude.{◌≡◌, IfOk, IsOkUnless};
+ghost use Rattle.simplex_types.specs.declared.types.fault.Fault.TheVariants.{OutOfMemory};
+ghost use Rattle.example_engine.specs.Messages.{message_facts};
 ghost use Rattle.example_engine.specs.Votes.{subject_of, signature_of, signer_of};
 
 use crate::digest::BlockDigest;
@@ -29,7 +31,8 @@ pub enum VoteKind {
 impl Vote {
     /// The same vote once more; the only fault is want of memory.
     pub fn copy(&self, alloc: Global) -> Result<Vote, Fault>
-        ensures { IfOk result (λ vote. vote ≡ self.now) }
+        ensures same { IfOk result (λ vote. vote ≡ self.now) }
+        ensures refused { IsOkUnless result OutOfMemory }
     {
         Ok(match self {
             Vote::Notarize(vote) => Vote::Notarize(vote.clone(alloc)?),
@@ -87,7 +90,10 @@ pub enum Message {
 
 impl Message {
     /// The same message once more; the only fault is want of memory.
-    pub fn copy(&self, alloc: Global) -> Result<Message, Fault> {
+    pub fn copy(&self, alloc: Global) -> Result<Message, Fault>
+        ensures same { IfOk result (λ message. message_facts message ≡ message_facts self.now) }
+        ensures refused { IsOkUnless result OutOfMemory }
+    {
         Ok(match self {
             Message::Propose(block) => Message::Propose(*block),
             Message::Vote(vote) => Message::Vote(vote.copy(alloc)?),

@@ -1,6 +1,6 @@
 //! Who signs, and what certificates are. No security is meant: a real scheme has signatures that nobody else can make.
 
-ghost use Rattle.std.specs.Prelude.{◌≡◌, ◌<◌, ◌^◌, ◌-◌, ◌/◌, ◌&&◌, ℕ, true, List, Option, Some, None, length, map, nat_le, IfOk, option_map};
+ghost use Rattle.std.specs.Prelude.{◌≡◌, ◌<◌, ◌^◌, ◌-◌, ◌/◌, ◌&&◌, ◌↔◌, ℕ, true, IsTrue, List, Option, Some, None, length, map, nat_le, IfOk, option_map};
 ghost use Rattle.std.specs.Option.{ForSome};
 ghost use Rattle.example_engine.specs.Rising.{are_members};
 
@@ -8,6 +8,8 @@ use crate::checksum::checksum;
 use crate::digest::BlockDigest;
 use simplex_types::types::{CertificateScheme, Participant, PublicKey, Scheme, Subject};
 use std::alloc::{AllocError, Global};
+
+mod codec;
 
 /// A member's key, by which it signs and is known.
 #[derive(Clone, Copy, PartialEq, Eq, Debug)]
@@ -47,7 +49,7 @@ pub struct SealScheme {
 }
 
 impl SealScheme {
-    ghost use Rattle.example_engine.specs.Sealing.{keys_of, signer_of};
+    ghost use Rattle.example_engine.specs.Sealing.{keys_of, signer_of, IsSignedBy};
 
     /// The scheme of so many members, for one of them.
     pub fn new(alloc: Global, members: u8, me: u8) -> Result<SealScheme, AllocError>
@@ -74,7 +76,9 @@ impl SealScheme {
         member: Participant,
         subject: &Subject<BlockDigest>,
         signature: Signature,
-    ) -> Result<bool, AllocError> {
+    ) -> Result<bool, AllocError>
+        ensures { IfOk result (λ good. IsTrue good ↔ IsSignedBy self.now member subject.now signature) }
+    {
         match self.keys.get(member.get() as usize) {
             Some(key) => Ok(Signature::of(alloc, *key, subject)? == signature),
             None => Ok(false),
