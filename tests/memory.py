@@ -7,7 +7,7 @@ tests, and the Nth request for memory within the core fails, for each N until a 
   a voter's state      the failing call fails it, and each later one is refused; after a refusal in `best` it goes on
   a member             nothing has changed, and the call asked again answers as ever; or it has failed, its record stands, and a
                        restart goes on with the laws of votes over both lives
-  restart, resume, recover   the record stays, and what is asked again answers as ever
+  restart, resume, recover, and the start of a resolver   the record stays, and what is asked again answers as ever
   run                  no replies, or those of a member that failed
   a resolver           as a voter's state, and `produce` as `best`; the set of open fetches is that of a beginning of the effects
 
