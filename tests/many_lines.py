@@ -96,10 +96,13 @@ class NotBounded(Exception):
 
 
 def write_lines(pipe, lines):
-    """Writes the lines, a thousand at a time."""
-    while batch := list(islice(lines, 1000)):
-        pipe.write("".join(f"{line}\n" for line in batch).encode())
-    pipe.flush()
+    """Writes the lines, a thousand at a time, as long as they are read."""
+    try:
+        while batch := list(islice(lines, 1000)):
+            pipe.write("".join(f"{line}\n" for line in batch).encode())
+        pipe.flush()
+    except BrokenPipeError:
+        return
 
 
 def peak_of(process):
@@ -115,11 +118,13 @@ def peak(path, part, count):
         writer.start()
         look = of_rounds if part.name == "shown" else of_served
         replies = look(islice(running.stdout, count))
+        if replies != count:
+            raise NotBounded(f"{replies} replies to {count} lines, and status {running.wait()}")
         reached = peak_of(running.pid)
         writer.join()
         running.stdin.close()
-        if running.wait() != 0 or replies != count:
-            raise NotBounded(f"{part.name}: {replies} replies to {count} lines, and status {running.returncode}")
+        if running.wait() != 0:
+            raise NotBounded(f"it ended with status {running.returncode}")
     return reached
 
 
@@ -131,7 +136,7 @@ def of_rounds(replies):
     while reply_round := list(islice(replies, len(SHOWN))):
         count += len(reply_round)
         if reply_round != first[:len(reply_round)]:
-            raise NotBounded(f"shown: another round has other replies: {reply_round}")
+            raise NotBounded(f"another round has other replies: {reply_round}")
     return count
 
 
@@ -148,7 +153,11 @@ def of_served(replies):
 def try_part(path, part, lines):
     """Compares the peaks of a part; what it took, and whether that is as asked."""
     start, count = time.monotonic(), int(lines * part.share)
-    low, high = peak(path, part, count // 10), peak(path, part, count)
+    try:
+        low, high = peak(path, part, count // 10), peak(path, part, count)
+    except (NotBounded, BrokenPipeError) as fault:
+        print(f"{part.name}: {fault}")
+        return False
     bound = SPARE + int(count * 0.9 * part.entries_a_line * BYTES_OF_AN_ENTRY / 1024)
     is_bounded = high - low <= bound
     verdict = "" if is_bounded else f", more than {bound} KiB apart"

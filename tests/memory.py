@@ -7,13 +7,14 @@ tests, and the Nth request for memory within the core fails, for each N until a 
   a voter's state      the failing call fails it, and each later one is refused; after a refusal in `best` it goes on
   a member             nothing has changed, and the call asked again answers as ever; or it has failed, its record stands, and a
                        restart goes on with the laws of votes over both lives
-  restart, resume, recover   the record stays, and what is asked again answers as ever
+  restart, resume, recover, and the start of a resolver   the record stays, and what is asked again answers as ever
   run                  no replies, or those of a member that failed
   a resolver           as a voter's state, and `produce` as `best`; the set of open fetches is that of a beginning of the effects
 
 A run that meets no refusal answers as the script has it.
 
     tests/memory.py [--enduring PATH] [--every N]
+    tests/memory.py --schedules          what the stored schedules of networks ask each member besides
 
 It ends with status 1 where something is not as asked. It takes a C compiler, `cc`."""
 
@@ -30,6 +31,7 @@ import program
 import refused_fetches
 import refused_members
 import refused_states
+import schedules
 import scripts
 from preload import compiled, limited
 
@@ -72,10 +74,20 @@ def swept_script(path, preload, every, script):
     return seen, faults
 
 
-def sweep_all(pool, path, preload, every):
+def schedule_scripts():
+    """What the stored schedules of networks ask of each member."""
+    for schedule in schedules.all_schedules():
+        for member in (1, 2, 3):
+            steps = [(line, reply or scripts.ANY) for index, line, reply in schedule.steps if index == member]
+            lines, replies = zip(*steps)
+            arguments = ("voter", "4", str(member), str(schedule.terms.length), str(schedule.terms.optimistic))
+            yield scripts.Script(f"{schedule.name}, member {member}", arguments, lines, replies, True)
+
+
+def sweep_all(pool, path, preload, every, others=()):
     """All refusals of all scripts: what was seen, and what is not as asked."""
     seen, faults = Counter(), []
-    for saw, wrong in pool.map(partial(swept_script, path, preload, every), scripts.all_scripts()):
+    for saw, wrong in pool.map(partial(swept_script, path, preload, every), [*scripts.all_scripts(), *others]):
         seen += saw
         faults += wrong
     return seen, faults
@@ -85,6 +97,7 @@ def options():
     parser = argparse.ArgumentParser(description=__doc__, formatter_class=argparse.RawDescriptionHelpFormatter)
     program.add_enduring_option(parser)
     parser.add_argument("--every", type=int, default=1, help="refuses every so many-th request alone, from the first on")
+    parser.add_argument("--schedules", action="store_true", help="asks what the stored schedules of networks ask besides")
     parser.add_argument("--jobs", type=int, default=2, help="how many scripts go side by side")
     return parser.parse_args()
 
@@ -94,7 +107,7 @@ def main():
     with tempfile.TemporaryDirectory() as folder, ProcessPoolExecutor(given.jobs, initializer=limited) as pool:
         path, preload = program.find_enduring(given.enduring, folder), compiled(folder)
         start = time.monotonic()
-        seen, faults = sweep_all(pool, path, preload, given.every)
+        seen, faults = sweep_all(pool, path, preload, given.every, schedule_scripts() if given.schedules else ())
     figures = ", ".join(f"{count} {what}" for what, count in seen.items())
     print(f"refused memory: {figures}; {len(faults)} not as asked; {time.monotonic() - start:.1f} s")
     print("".join(f"  {fault}\n" for fault in faults[:FAULTS_SHOWN]), end="")

@@ -1,9 +1,9 @@
 #!/usr/bin/env python3
 """A bench of networks of the built program: stored schedules, random ones with an adversary, and fair ones.
 
-Each correct member is a process of `viewstate voter`. After every reply all certificates that the votes back are taken, made
-or not, and the laws of `checks.py` are looked for: agreement, and the rules of each member's votes over all its lives. A
-fair run has to let every correct member finalize views besides.
+Each correct member is a process of `viewstate voter`, or of `enduring member voter`. After every reply all certificates that
+the votes back are taken, made or not, and the laws of `checks.py` are looked for: agreement, and the rules of each member's
+votes over all its lives. A fair run has to let every correct member finalize views besides.
 
     tests/networks.py                             all of it, at the default counts
     tests/networks.py --only random --seed 7 --count 1 --draw

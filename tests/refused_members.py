@@ -8,15 +8,21 @@ from refused_states import FAILED, OUT_OF_MEMORY, SHOWS, word_of
 from scripts import ANY, NotAsAsked, wants
 
 NOT_RESTARTED = "refused 13 OutOfMemory"
-LIVES = {"restart": "restarts", "restart-pruned": "restarts", "crash": "resumes", "recover": "recoveries"}
+LIVES = {"restart": "restarts", "restart-pruned": "restarts", "crash": "resumes", "recover": "recoveries", "replay": "resolvers"}
+FAR_AHEAD = 1000
 
 
 def terms_of(script):
     return Terms(int(script.arguments[3]), int(script.arguments[4]))
 
 
+def is_far_ahead(lines):
+    """Whether a view is told of so far ahead that a resolver would open more fetches below it than there is memory for."""
+    return any(int(number) > FAR_AHEAD for line in lines for number in line.split(" ")[1:2] if number.isdecimal())
+
+
 class Sweep:
-    """Refusals of one script that is asked of a member; in the end its journal is recovered from, and it crashes."""
+    """Refusals of one script that is asked of a member; in the end a state and a resolver start from its record, and it crashes."""
 
     kind = "member"
 
@@ -24,7 +30,8 @@ class Sweep:
         self.program, self.script, self.seen = program, script, Counter()
         asked = list(script.lines[:len(script.replies)])
         self.now = max(map(moment_of, asked), default=0)
-        self.lines = [*asked, f"recover {self.now}", f"crash {self.now}", "view"]
+        replay = [] if is_far_ahead(asked) else ["replay"]
+        self.lines = [*asked, f"recover {self.now}", *replay, f"crash {self.now}", "view"]
         self.right = self.shown = None
 
     def watched(self, lines):
@@ -98,7 +105,7 @@ class Sweep:
         self.keeps_laws(f"request {number}, over both lives", lines, replies)
 
     def begins_later(self, number, place, shown):
-        """A life that did not begin leaves the record, as it was cut, and begins when it is asked for again."""
+        """A life or a resolver that did not begin leaves the record, as it was cut, and begins when it is asked for again."""
         word = word_of(self.lines[place])
         self.seen[f"{LIVES[word]} begun again"] += 1
         wants(shown[place][1] == self.shown[place][1], f"request {number}: {self.lines[place]!r} left another record", shown[place])
