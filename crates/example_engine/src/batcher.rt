@@ -17,8 +17,11 @@ use std::alloc::{AllocError, Global};
 /// A vote of one kind: for what, in which view, and whose.
 #[derive(Clone, Copy)]
 pub struct Ballot<C: Copy> {
+    /// In which view.
     pub view: View,
+    /// For what.
     pub choice: C,
+    /// Whose it is, by index.
     pub signer: u8,
 }
 

@@ -15,16 +15,22 @@ use std::alloc::Global;
 /// A vote of any kind.
 #[derive(Drop)]
 pub enum Vote {
+    /// To notarize a proposal.
     Notarize(NotarizeVote),
+    /// To nullify a view.
     Nullify(NullifyVote),
+    /// To finalize a proposal.
     Finalize(FinalizeVote),
 }
 
 /// The kinds of votes.
 #[derive(Clone, Copy, PartialEq, Eq, Debug)]
 pub enum VoteKind {
+    /// Votes to notarize.
     Notarize,
+    /// Votes to nullify.
     Nullify,
+    /// Votes to finalize.
     Finalize,
 }
 
@@ -80,7 +86,9 @@ impl Vote {
 pub enum Message {
     /// The leader's proposal.
     Propose(Block),
+    /// A member's vote.
     Vote(Vote),
+    /// A certificate, as its maker has it.
     Certificate(Proof),
     /// A certificate for the view is asked for.
     Ask(View),
@@ -107,6 +115,8 @@ impl Message {
 /// A message of a member to another, or to all others.
 #[derive(Drop)]
 pub struct Letter {
+    /// To whom, by index; to all others where there is none.
     pub to: Option<u8>,
+    /// What is sent.
     pub message: Message,
 }

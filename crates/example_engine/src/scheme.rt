@@ -22,13 +22,16 @@ impl PublicKey for MemberKey {}
 /// A member's signature: its key, and a sum over the key and the bytes of the vote.
 #[derive(Clone, Copy, PartialEq, Eq, Debug)]
 pub struct Signature {
+    /// The key that it was made under.
     pub key: MemberKey,
+    /// The sum, below 2^32.
     pub sum: u64,
 }
 
 /// A certificate: the indexes of its signers, rising.
 #[derive(Drop)]
 pub struct Seal {
+    /// One byte a signer.
     pub signers: Vec<u8>,
 }
 
