@@ -134,7 +134,7 @@ module _ {K L D : Type 0} (same : D → D → Bool) (decides : (d e : D) → sam
   floor_shown : first_error (floor_rules start.setup.settings.epoch start.floor) ≡ None → Shows same elect (record { fresh = new_state start.setup; events = SetFloor start.floor start.now ∷ [] }) (after_set_floor same elect (new_state start.setup) start.floor start.now)
   floor_shown good = event_shown same elect (record { fresh = new_state start.setup; events = [] }) (new_state start.setup) (begun_shown same elect start.setup) decides (SetFloor start.floor start.now) (good_floor (new_state start.setup) refl start.floor good)
 
-  unbroken_shown : (entries : List (ArtifactFacts D)) → first_broken_rule same start.setup.settings.epoch (new_state start.setup).me start.floor entries ≡ None → Shows same elect (recovery start entries) (recovered same elect (new_state start.setup) start.floor start.now entries)
+  unbroken_shown : (entries : List (ArtifactFacts D)) → first_broken_rule same start.setup.settings.epoch start.setup.me start.floor entries ≡ None → Shows same elect (recovery start entries) (recovered same elect (new_state start.setup) start.floor start.now entries)
   unfolding recovered first_broken_rule
   unbroken_shown entries none =
       let x = new_state start.setup in
@@ -146,7 +146,7 @@ module _ {K L D : Type 0} (same : D → D → Bool) (decides : (d e : D) → sam
       entries_shown same decides elect start.now entries (record { fresh = x; events = SetFloor start.floor start.now ∷ [] }) y (floor_shown good) takes
 
   pub recovered_shown : (entries : List (ArtifactFacts D)) → recover_error same (new_state start.setup) start.floor start.now entries ≡ None → Shows same elect (recovery start entries) (recovered same elect (new_state start.setup) start.floor start.now entries)
-  recovered_shown entries none = unbroken_shown entries (first_none (first_broken_rule same start.setup.settings.epoch (new_state start.setup).me start.floor entries) _ none).0
+  recovered_shown entries none = unbroken_shown entries (first_none (first_broken_rule same start.setup.settings.epoch start.setup.me start.floor entries) _ none).0
 
 module _ {K L D : Type 0} (same : D → D → Bool) (decides : (d e : D) → same d e ≡ true → d ≡ e) (elect : Elect L) (m : MemberFacts K L D) where
   -- a call

@@ -1,5 +1,5 @@
 -- The current view of each state of a run can be left.
-use Rattle.std.proofs.Common.{◌≡◌, refl, ap, sym, ◌∙◌, subst, ℕ, ◌+◌, ◌-◌, ◌<◌, ◌≤◌, max, Bool, true, false, ◌&&◌, not, nat_lt, nat_le, if◌then◌else◌, List, Option, Some, None, is_some, unwrap_or, arith}
+use Rattle.std.proofs.Common.{◌≡◌, refl, ap, sym, ◌∙◌, subst, ℕ, ◌+◌, ◌-◌, ◌<◌, ◌≤◌, max, Bool, true, false, ◌&&◌, not, nat_lt, nat_le, if◌then◌else◌, inl, inr, List, Option, Some, None, is_some, unwrap_or, arith}
 use Rattle.std.specs.Prelude.{◌==◌, MatchOption}
 use Rattle.std.specs.Option.{option_map_or}
 use Rattle.std.proofs.Math.Nat.{le-max_right}
@@ -25,11 +25,11 @@ use Rattle.simplex_laws.specs.Events as event
 use Rattle.simplex_laws.specs.Events.{Event, after_event}
 use Rattle.simplex_laws.specs.Progress.{GoesPast, CallsGoPast, CanBeLeft}
 use Rattle.simplex_laws.specs.TermLengths.{HasTerms, KeepTerms}
-use Rattle.simplex_laws.proofs.FollowingHanded.{and_false, finalization_follows, nullification_follows, verdict_follows}
+use Rattle.simplex_laws.proofs.FollowingHanded.{and_false, nullification_follows, verdict_follows}
 use Rattle.simplex_laws.proofs.Fresh.{IsFresh}
 use Rattle.simplex_laws.proofs.Rising.{event_goes}
 use Rattle.simplex_laws.proofs.RunsKeep.{HoldsIn, run_induction}
-use Rattle.simplex_laws.proofs.Sound.{IsSound, event_sound, floor_sound}
+use Rattle.simplex_laws.proofs.Sound.{IsSound, event_passes, event_sound, floor_sound}
 
 -- no fault is due where none of its reasons holds
 no_fault_due : (failed too_large late : Bool) → failed ≡ false → too_large ≡ false → late ≡ false → first_fault failed too_large late ≡ None
@@ -80,12 +80,14 @@ module _ {K L D : Type 0} (same : D → D → Bool) (elect : Elect L) (term_leng
     finalization_goes c at fits =
         let next = c.proposal.round.view + 1 in
         let view = ap (λ (r : Round). r.view) at in
-        let follows = (finalization_follows same elect x c now).current in
-        let reaches = le-max_right x.current next in
+        let ahead = goes.sound.ahead in
         record {
           allowed = ap (takes_round x) at ∙ takes_current;
           no_fault = no_fault_due x.failed (names_too_large c.proposal) (nat_lt x.current next && has_late_deadline x now) goes.alive fits (never_late (nat_lt x.current next) (has_late_deadline x now) early);
-          past = omega (arith, view, follows, reaches);
+          past = elim (event_passes same elect x (event.AddFinalization c now)) [
+            | inl silent ↦ absurd (let none : c.proposal.round.view ≡ 0 = silent.1 in omega (arith, none, view, ahead))
+            | inr above ↦ omega (arith, above, view)
+          ];
         }
 
     -- a notarized view is tracked

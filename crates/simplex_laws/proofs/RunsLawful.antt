@@ -85,14 +85,13 @@ module _ {K L D : Type 0} (same : D → D → Bool) (decides : (d e : D) → sam
 
   -- a restart
 
-  from_copy : (n : MemberFacts K L D) (start : StartFacts K L D) (kept : ℕ) (copy : List (ArtifactFacts D)) → HasTerms term_length start.setup → Between term_length deeds n.closed kept n.entries → IsByView n.entries copy → first_broken_rule same start.setup.settings.epoch (new_state start.setup).me start.floor copy ≡ None → MemberLives term_length (deeds ++ of_floor start.floor) (new_life same elect n start copy)
+  from_copy : (n : MemberFacts K L D) (start : StartFacts K L D) (kept : ℕ) (copy : List (ArtifactFacts D)) → HasTerms term_length start.setup → Between term_length deeds n.closed kept n.entries → IsByView n.entries copy → first_broken_rule same start.setup.settings.epoch start.setup.me start.floor copy ≡ None → MemberLives term_length (deeds ++ of_floor start.floor) (new_life same elect n start copy)
   from_copy n start kept copy fresh between by_view none =
       let x = new_state start.setup in
       let epochs = all_of_epoch same x.settings.epoch x.me [] copy (unbroken same x.settings.epoch x.me start.floor copy none) in
       let here : Between x.terms.term_length deeds n.closed kept n.entries = subst (λ t. Between t deeds n.closed kept n.entries) (sym fresh.terms) between in
       let lives = new_life_lives same decides elect x.settings x.me x.members x.elector x.terms x.elects_early deeds n.closed kept n.entries copy start.floor start.now here by_view.of_each_view epochs in
-      let made = ap (λ y. recovered same elect y start.floor start.now copy) fresh.fresh in
-      (kept, subst (λ t. Living t (deeds ++ of_floor start.floor) n.closed kept (new_life same elect n start copy).entries no_openings (recovered same elect x start.floor start.now copy)) fresh.terms (subst (λ y. Living x.terms.term_length (deeds ++ of_floor start.floor) n.closed kept (new_life same elect n start copy).entries no_openings y) (sym made) lives))
+      (kept, subst (λ t. Living t (deeds ++ of_floor start.floor) n.closed kept (new_life same elect n start copy).entries no_openings (recovered same elect x start.floor start.now copy)) fresh.terms lives)
 
   -- where a life is refused, what is left of the record is kept
   refused_life : (n : MemberFacts K L D) (kept : ℕ) → Between term_length deeds n.closed kept n.entries → MemberLives term_length (deeds ++ []) (fallen n)
@@ -106,7 +105,7 @@ module _ {K L D : Type 0} (same : D → D → Bool) (decides : (d e : D) → sam
       by_error None none (is, leaves) =
           rw (is, leaves)
           (subst (λ more. MemberLives term_length (deeds ++ more) (new_life same elect n r.start copy)) (sym (append-nil (of_floor r.start.floor)))
-          (from_copy n r.start kept copy fresh between by_view (first_none (first_broken_rule same r.start.setup.settings.epoch (new_state r.start.setup).me r.start.floor copy) _ none).0))
+          (from_copy n r.start kept copy fresh between by_view (first_none (first_broken_rule same r.start.setup.settings.epoch r.start.setup.me r.start.floor copy) _ none).0))
       by_error (Some e) due (is, leaves) = rw (is, leaves) (refused_life n kept between)
 
   pub restart_lives_on : (r : RestartFacts K L D) (result : Result (Unit {0}) RecoverError) (left : MemberFacts K L D) → HasTerms term_length r.start.setup → MemberLives term_length deeds m → IsRestart same elect m r result left → MemberLives term_length (deeds ++ deeds_at (Restarts r) (restart_told {K = K} {D = D} result)) left

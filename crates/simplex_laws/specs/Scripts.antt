@@ -5,11 +5,11 @@ use Rattle.simplex_types.specs.Config.{FloorFacts, Genesis, Finalized}
 use Rattle.simplex_types.specs.declared.types.messages.Context.{Context}
 use Rattle.simplex_types.specs.declared.types.messages.Proposal.{Proposal}
 use Rattle.simplex_types.specs.declared.types.numbers.Round.{Round}
-use Rattle.simplex_voter.specs.Facts.{Facts, Settings, Elect, new_facts}
+use Rattle.simplex_voter.specs.Facts.{Settings, Elect}
 use Rattle.simplex_voter.specs.declared.voter.verification.Verify.TheVariants.{Ready}
 use Rattle.simplex_member.specs.Calls.{AddNotarization, AddNullification, AddFinalization, SetProposal, TryVerify, Verified, ConstructNotarize, Certified, ConstructNullify, ConstructFinalize, Told, Added, AddedNullification, Judged, Nullify, Finalize, Notarize, Standing, Answered, Restarted}
 use Rattle.simplex_member.specs.Runs.{Calls, Restarts}
-use Rattle.simplex_member.specs.Start.{StartFacts}
+use Rattle.simplex_member.specs.Start.{Setup, StartFacts}
 use Rattle.simplex_laws.specs.Places.{Place, Faulty, Honest}
 use Rattle.simplex_laws.specs.Stories.{Story}
 
