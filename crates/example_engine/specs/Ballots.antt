@@ -1,7 +1,9 @@
 -- The votes of one kind that a batcher took.
-use Rattle.std.specs.Prelude.{◌≡◌, ℕ, ◌<◌, Bool, true, false, ◌&&◌, ◌==◌, List, filter}
+use Rattle.std.specs.Prelude.{◌≡◌, ◌⊎◌, ℕ, ◌<◌, ◌≤◌, Bool, true, false, ◌&&◌, ◌==◌, List, [], ◌∷◌, ◌++◌, length, filter, Option, None, MatchOption}
 use Rattle.std.specs.List.{list_any, range_with_len}
 use Rattle.example_engine.specs.declared.batcher.Ballot.{Ballot}
+use Rattle.example_engine.specs.declared.scheme.Seal.{Seal}
+use Rattle.example_engine.specs.Sealing.{quorum_of}
 
 module _ {C : Type 0} where
   -- a vote of the member in the view
@@ -26,3 +28,16 @@ module _ {C : Type 0} (same : C → C → Bool) where
   -- the members whose votes for the choice in the view were taken, rising
   abbrev pub signers_of : ℕ → List (Ballot C) → ℕ → C → List ℕ
   signers_of members ballots view choice = filter (has_chosen ballots view choice) (range_with_len 0 members)
+
+module _ {C : Type 0} where
+  -- the votes are as they were, or this one is behind them
+  abbrev pub KeepsOrAdds : List (Ballot C) → Ballot C → List (Ballot C) → Type 0
+  KeepsOrAdds old ballot new = (new ≡ old) ⊎ (new ≡ old ++ ballot ∷ [])
+
+  -- a vote that may be taken stands behind the others, and there is a certificate of all who chose the same just where they are
+  -- a quorum; one that may not changes nothing
+  abbrev pub IsCounted : (C → C → Bool) → ℕ → Type 0 → List (Ballot C) → Ballot C → List (Ballot C) → Option Seal → Type 0
+  IsCounted same members May old ballot new seal =
+      let signers = signers_of same members new ballot.view ballot.choice in
+      (May × (new ≡ old ++ ballot ∷ []) × MatchOption seal (length signers < quorum_of members) (λ s. (s.signers.items ≡ signers) × (quorum_of members ≤ length signers)))
+      ⊎ ((¬ May) × (new ≡ old) × (seal ≡ None))

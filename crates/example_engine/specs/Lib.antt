@@ -2,6 +2,7 @@ pub mod Ballots
 pub mod Checksum
 pub mod Digests
 pub mod Journals
+pub mod Messages
 pub mod Owing
 pub mod Parts
 pub mod Rising

@@ -1,5 +1,6 @@
 -- What the scheme of the example signs, and which certificates it takes.
-use Rattle.std.specs.Prelude.{◌≡◌, ℕ, Bool, ◌&&◌, ◌-◌, ◌/◌, List, length, Option, nat_le, nat_lt}
+use Rattle.std.specs.Prelude.{◌≡◌, ℕ, Bool, ◌&&◌, ◌==◌, ◌-◌, ◌/◌, List, ◌++◌, length, take, drop, slice_get, Option, Some, None, MatchOption, if◌then◌else◌, nat_le, nat_lt}
+use Rattle.std.specs.Int.{w32, w64, to_be_bytes, from_be_bytes}
 use Rattle.simplex_types.specs.declared.types.messages.Subject.{Subject}
 use Rattle.simplex_types.specs.Encoding.{subject_bytes}
 use Rattle.example_engine.specs.declared.digest.BlockDigest.{BlockDigest}
@@ -23,6 +24,20 @@ seal_bytes seal = seal.signers.items
 -- the sum of the vote's bytes, begun at the key
 abbrev pub IsSignature : MemberKey → Subject BlockDigest → Signature → Type 0
 IsSignature key subject signature = (signature.key ≡ key) × (signature.sum ≡ checksum_from key.number (subject_bytes bytes_of subject))
+
+-- the signature is one of the member's key on the subject
+abbrev pub IsSignedBy : SealScheme → ℕ → Subject BlockDigest → Signature → Type 0
+IsSignedBy s member subject signature = MatchOption (slice_get (keys_of s) member) ⊥ (λ key. IsSignature key subject signature)
+
+-- the key in four bytes, and then the sum in eight, big-endian
+abbrev pub signature_bytes : Signature → List ℕ
+signature_bytes s = to_be_bytes w32 s.key.number ++ to_be_bytes w64 s.sum
+
+abbrev pub signature_from_bytes : List ℕ → Option Signature
+signature_from_bytes bytes =
+    if length bytes == 12
+    then Some (record { key = record { number = from_be_bytes w32 (take 4 bytes) }; sum = from_be_bytes w64 (drop 4 bytes) })
+    else None
 
 -- all members but the faulty ones, fewer than a third
 abbrev pub quorum_of : ℕ → ℕ

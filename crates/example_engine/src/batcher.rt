@@ -17,9 +17,25 @@ use std::alloc::{AllocError, Global};
 /// A vote of one kind: for what, in which view, and whose.
 #[derive(Clone, Copy)]
 pub struct Ballot<C: Copy> {
+    /// In which view.
     pub view: View,
+    /// For what.
     pub choice: C,
+    /// Whose it is, by index.
     pub signer: u8,
+}
+
+impl<C: Copy> Ballot<C> {
+    /// A member's vote in a view.
+    pub fn new(view: View, choice: C, signer: u8) -> Ballot<C>
+        ensures { (result.view ≡ view) × (result.choice ≡ choice) × (result.signer ≡ signer) }
+    {
+        Ballot {
+            view,
+            choice,
+            signer,
+        }
+    }
 }
 
 /// The votes of one kind that were taken.
@@ -31,7 +47,7 @@ pub struct Batcher<C: Copy + Eq> {
 }
 
 impl<C: Copy + Eq> Batcher<C> {
-    ghost use Rattle.example_engine.specs.Ballots.{has_voted, has_chosen, signers_of, IsTaken};
+    ghost use Rattle.example_engine.specs.Ballots.{has_voted, has_chosen, signers_of, IsTaken, IsCounted, KeepsOrAdds};
 
     /// A batcher of so many members that has taken nothing.
     pub fn new(alloc: Global, members: u8) -> Batcher<C>
@@ -60,6 +76,25 @@ impl<C: Copy + Eq> Batcher<C> {
         }
         self.ballots.push(ballot)?;
         Ok(true)
+    }
+
+    /// Takes a vote, and answers the certificate for its choice where it was taken and completes one, or comes to one.
+    pub fn count(
+        &mut self,
+        alloc: Global,
+        state: &CoreState,
+        ballot: Ballot<C>,
+    ) -> Result<Option<Seal>, AllocError>
+        ensures counted { IfOk result (IsCounted C.eq self.old.members
+            (IsTaken (is_started state.now && admits_vote state.now ballot.view) self.old.members self.old.ballots.items ballot.view ballot.signer)
+            self.old.ballots.items ballot self.new.ballots.items) }
+        ensures refused { OnErr result (KeepsOrAdds self.old.ballots.items ballot self.new.ballots.items) }
+        ensures same_members { self.new.members ≡ self.old.members }
+    {
+        if !self.take(state, ballot)? {
+            return Ok(None);
+        }
+        self.seal(alloc, ballot.view, ballot.choice)
     }
 
     /// Whether a vote of the signer in the view is taken.

@@ -1,87 +1,27 @@
-//! What `Certificate::encode` wrote, read back.
+//! What `Certificate::encode` wrote, read back: the codec's decoder at this crate's digest and scheme.
 
-use crate::digest::BlockDigest;
-use crate::parts::{Finalized, Notarized, Nullified, Proof};
-use crate::scheme::Seal;
-use simplex_types::types::{Certificate, Epoch, Proposal, Round, View};
-use std::alloc::{AllocError, Global};
+ghost use Rattle.std.specs.Prelude.{◌≡◌, IfOk, IfErr};
+ghost use Rattle.simplex_types.specs.Certificates.{certificate_facts};
+ghost use Rattle.simplex_types.specs.Encoding.{encoding, IsEncodable};
+ghost use Rattle.simplex_codec.specs.Refusals.{IsCertificateRefusal, ReadsCertificates};
+ghost use Rattle.example_engine.specs.Digests.{bytes_of};
+ghost use Rattle.example_engine.specs.Sealing.{seal_bytes};
 
-/// The epoch and the view.
-const ROUND_BYTES: usize = 16;
+use crate::parts::Proof;
+use simplex_codec::certificate::decode_certificate;
+use simplex_codec::error::DecodeError;
+use std::alloc::Global;
 
-/// The epoch, the view, the parent and the payload.
-const PROPOSAL_BYTES: usize = 32;
-
-/// The certificate whose encoding the bytes are; none where they are no encoding.
-pub fn decode(alloc: Global, bytes: &[u8]) -> Result<Option<Proof>, AllocError> {
-    let Some((kind, rest)) = bytes.split_first() else {
-        return Ok(None);
-    };
-    match *kind {
-        1 => decode_nullification(alloc, rest),
-        0 => Ok(match decode_proposal(alloc, rest)? {
-            Some((proposal, certificate)) => Some(Certificate::Notarization(Notarized {
-                proposal,
-                certificate,
-            })),
-            None => None,
-        }),
-        2 => Ok(match decode_proposal(alloc, rest)? {
-            Some((proposal, certificate)) => Some(Certificate::Finalization(Finalized {
-                proposal,
-                certificate,
-            })),
-            None => None,
-        }),
-        _ => Ok(None),
-    }
-}
-
-fn decode_nullification(alloc: Global, bytes: &[u8]) -> Result<Option<Proof>, AllocError> {
-    let (Some(round), Some(signers)) = (read_round(bytes), bytes.get(ROUND_BYTES..)) else {
-        return Ok(None);
-    };
-    let certificate = Seal {
-        signers: Vec::from_slice(alloc, signers)?,
-    };
-    Ok(Some(Certificate::Nullification(Nullified { round, certificate })))
-}
-
-/// A proposal and the seal behind it.
-fn decode_proposal(
-    alloc: Global,
-    bytes: &[u8],
-) -> Result<Option<(Proposal<BlockDigest>, Seal)>, AllocError> {
-    let (Some(proposal), Some(signers)) = (read_proposal(bytes), bytes.get(PROPOSAL_BYTES..)) else {
-        return Ok(None);
-    };
-    let certificate = Seal {
-        signers: Vec::from_slice(alloc, signers)?,
-    };
-    Ok(Some((proposal, certificate)))
-}
-
-fn read_proposal(bytes: &[u8]) -> Option<Proposal<BlockDigest>> {
-    Some(Proposal {
-        round: read_round(bytes)?,
-        parent: View::new(number_at(bytes, 16)?),
-        payload: BlockDigest::of_number(number_at(bytes, 24)?),
-    })
-}
-
-fn read_round(bytes: &[u8]) -> Option<Round> {
-    Some(Round {
-        epoch: Epoch::new(number_at(bytes, 0)?),
-        view: View::new(number_at(bytes, 8)?),
-    })
-}
-
-/// The number of eight bytes, big-endian, that begins at the place.
-fn number_at(bytes: &[u8], place: usize) -> Option<u64> {
-    match bytes.get(place..)? {
-        [a, b, c, d, e, f, g, h, ..] => {
-            Some(u64::from_be_bytes([*a, *b, *c, *d, *e, *f, *g, *h]))
-        }
-        _ => None,
-    }
+/// The certificate whose encoding the bytes are: a kind, then the epoch, the view, and of a proposal the parent and the
+/// payload, in eight bytes each, and behind them the signers.
+///
+/// Bytes of no certificate are refused: each error says what is wrong with them, but `OutOfMemory`. Whether the
+/// certificate is good is tested by `Scheme::verify`.
+pub fn decode(alloc: Global, bytes: &[u8]) -> Result<Proof, DecodeError>
+    ensures decoded { IfOk result (λ proof. encoding bytes_of (certificate_facts seal_bytes proof) ≡ bytes.now) }
+    ensures fits { IfOk result (λ proof. IsEncodable (certificate_facts seal_bytes proof)) }
+    ensures refused { IfErr result (IsCertificateRefusal bytes_of 8 seal_bytes bytes.now) }
+    ensures reads { ReadsCertificates bytes_of seal_bytes bytes.now result }
+{
+    decode_certificate(alloc, bytes)
 }

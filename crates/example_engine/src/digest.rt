@@ -5,6 +5,7 @@ ghost use Rattle.std.specs.Int.{w64, to_be_bytes};
 ghost use Rattle.example_engine.specs.Checksum.{block_number};
 
 use crate::checksum::checksum;
+use simplex_codec::hooks::DigestCodec;
 use simplex_types::types::{Digest, View};
 use std::fmt;
 
@@ -77,4 +78,14 @@ impl Digest for BlockDigest {
     ghost same_is_equal = { eq_self };
 
     ghost bytes_injective = { same_bytes };
+}
+
+impl DigestCodec for BlockDigest {
+    fn read(bytes: &[u8]) -> Option<BlockDigest> {
+        let (front, rest) = bytes.split_first_chunk::<8>()?;
+        if !rest.is_empty() {
+            return None;
+        }
+        Some(BlockDigest { bytes: *front })
+    }
 }

@@ -40,7 +40,9 @@ pub enum Topic {
 /// An answer that is not dealt with yet, and what was called for.
 #[derive(Drop)]
 pub struct Owed {
+    /// What was called for.
     pub topic: Topic,
+    /// What was answered.
     pub reply: CoreReply,
 }
 

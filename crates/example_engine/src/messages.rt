@@ -1,6 +1,8 @@
 //! What members send each other.
 
-ghost use Rattle.std.specs.Prelude.{◌≡◌, IfOk};
+ghost use Rattle.std.specs.Prelude.{◌≡◌, IfOk, IsOkUnless};
+ghost use Rattle.simplex_types.specs.declared.types.fault.Fault.TheVariants.{OutOfMemory};
+ghost use Rattle.example_engine.specs.Messages.{message_facts};
 ghost use Rattle.example_engine.specs.Votes.{subject_of, signature_of, signer_of};
 
 use crate::digest::BlockDigest;
@@ -13,23 +15,30 @@ use std::alloc::Global;
 /// A vote of any kind.
 #[derive(Drop)]
 pub enum Vote {
+    /// To notarize a proposal.
     Notarize(NotarizeVote),
+    /// To nullify a view.
     Nullify(NullifyVote),
+    /// To finalize a proposal.
     Finalize(FinalizeVote),
 }
 
 /// The kinds of votes.
 #[derive(Clone, Copy, PartialEq, Eq, Debug)]
 pub enum VoteKind {
+    /// Votes to notarize.
     Notarize,
+    /// Votes to nullify.
     Nullify,
+    /// Votes to finalize.
     Finalize,
 }
 
 impl Vote {
     /// The same vote once more; the only fault is want of memory.
     pub fn copy(&self, alloc: Global) -> Result<Vote, Fault>
-        ensures { IfOk result (λ vote. vote ≡ self.now) }
+        ensures same { IfOk result (λ vote. vote ≡ self.now) }
+        ensures refused { IsOkUnless result OutOfMemory }
     {
         Ok(match self {
             Vote::Notarize(vote) => Vote::Notarize(vote.clone(alloc)?),
@@ -77,7 +86,9 @@ impl Vote {
 pub enum Message {
     /// The leader's proposal.
     Propose(Block),
+    /// A member's vote.
     Vote(Vote),
+    /// A certificate, as its maker has it.
     Certificate(Proof),
     /// A certificate for the view is asked for.
     Ask(View),
@@ -87,7 +98,10 @@ pub enum Message {
 
 impl Message {
     /// The same message once more; the only fault is want of memory.
-    pub fn copy(&self, alloc: Global) -> Result<Message, Fault> {
+    pub fn copy(&self, alloc: Global) -> Result<Message, Fault>
+        ensures same { IfOk result (λ message. message_facts message ≡ message_facts self.now) }
+        ensures refused { IsOkUnless result OutOfMemory }
+    {
         Ok(match self {
             Message::Propose(block) => Message::Propose(*block),
             Message::Vote(vote) => Message::Vote(vote.copy(alloc)?),
@@ -101,6 +115,8 @@ impl Message {
 /// A message of a member to another, or to all others.
 #[derive(Drop)]
 pub struct Letter {
+    /// To whom, by index; to all others where there is none.
     pub to: Option<u8>,
+    /// What is sent.
     pub message: Message,
 }

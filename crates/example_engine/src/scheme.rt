@@ -1,6 +1,6 @@
 //! Who signs, and what certificates are. No security is meant: a real scheme has signatures that nobody else can make.
 
-ghost use Rattle.std.specs.Prelude.{◌≡◌, ◌<◌, ◌^◌, ◌-◌, ◌/◌, ◌&&◌, ℕ, true, List, Option, Some, None, length, map, nat_le, IfOk, option_map};
+ghost use Rattle.std.specs.Prelude.{◌≡◌, ◌<◌, ◌^◌, ◌-◌, ◌/◌, ◌&&◌, ◌↔◌, ℕ, true, IsTrue, List, Option, Some, None, length, map, nat_le, IfOk, option_map};
 ghost use Rattle.std.specs.Option.{ForSome};
 ghost use Rattle.example_engine.specs.Rising.{are_members};
 
@@ -8,6 +8,8 @@ use crate::checksum::checksum;
 use crate::digest::BlockDigest;
 use simplex_types::types::{CertificateScheme, Participant, PublicKey, Scheme, Subject};
 use std::alloc::{AllocError, Global};
+
+mod codec;
 
 /// A member's key, by which it signs and is known.
 #[derive(Clone, Copy, PartialEq, Eq, Debug)]
@@ -20,13 +22,16 @@ impl PublicKey for MemberKey {}
 /// A member's signature: its key, and a sum over the key and the bytes of the vote.
 #[derive(Clone, Copy, PartialEq, Eq, Debug)]
 pub struct Signature {
+    /// The key that it was made under.
     pub key: MemberKey,
+    /// The sum, below 2^32.
     pub sum: u64,
 }
 
 /// A certificate: the indexes of its signers, rising.
 #[derive(Drop)]
 pub struct Seal {
+    /// One byte a signer.
     pub signers: Vec<u8>,
 }
 
@@ -47,7 +52,7 @@ pub struct SealScheme {
 }
 
 impl SealScheme {
-    ghost use Rattle.example_engine.specs.Sealing.{keys_of, signer_of};
+    ghost use Rattle.example_engine.specs.Sealing.{keys_of, signer_of, IsSignedBy};
 
     /// The scheme of so many members, for one of them.
     pub fn new(alloc: Global, members: u8, me: u8) -> Result<SealScheme, AllocError>
@@ -74,7 +79,9 @@ impl SealScheme {
         member: Participant,
         subject: &Subject<BlockDigest>,
         signature: Signature,
-    ) -> Result<bool, AllocError> {
+    ) -> Result<bool, AllocError>
+        ensures { IfOk result (λ good. IsTrue good ↔ IsSignedBy self.now member subject.now signature) }
+    {
         match self.keys.get(member.get() as usize) {
             Some(key) => Ok(Signature::of(alloc, *key, subject)? == signature),
             None => Ok(false),

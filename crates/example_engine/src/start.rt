@@ -13,12 +13,16 @@ use simplex_types::types::{Epoch, TermLength, Terms, ViewDelta};
 use simplex_voter::voter::Config;
 use std::alloc::{AllocError, Global};
 
+/// The member that an engine drives.
 pub type Core = Member<SealScheme, PlainElector, BlockDigest>;
 
+/// A call of it.
 pub type CoreCall = Call<SealScheme, BlockDigest>;
 
+/// What it answers.
 pub type CoreReply = Reply<SealScheme, BlockDigest>;
 
+/// How it starts.
 pub type CoreStart = Start<SealScheme, PlainElector, BlockDigest>;
 
 /// The epoch that every message is of.

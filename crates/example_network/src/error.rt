@@ -7,6 +7,7 @@ use std::alloc::AllocError;
 use std::io;
 use thiserror::Error;
 
+/// Why a run of the network ends before its views are finalized.
 #[derive(Debug, Drop, Error)]
 pub enum EngineError {
     #[error("out of memory")]

@@ -20,6 +20,7 @@ pub struct Network {
 }
 
 impl Network {
+    /// Nothing is under way.
     pub fn new(alloc: Global) -> Network {
         Network {
             parcels: Vec::new(alloc),
@@ -31,6 +32,7 @@ impl Network {
         10 + (u64::from(from) * 7 + u64::from(to) * 3) % 5
     }
 
+    /// Sends a message behind those that are under way.
     pub fn send(&mut self, parcel: Parcel) -> Result<(), AllocError> {
         self.parcels.push(parcel)?;
         Ok(())

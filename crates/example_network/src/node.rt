@@ -23,6 +23,7 @@ mod arrivals;
 /// The most answers that are carried out in a row.
 const MOST_ANSWERS: u32 = 100_000;
 
+/// A member that takes part in the network.
 #[derive(Drop)]
 pub struct Node {
     alloc: Global,
@@ -114,10 +115,12 @@ impl Node {
         self.driver.into_journal()
     }
 
+    /// The moment of the next timeout, in milliseconds.
     pub fn wake(&self) -> Option<u64> {
         self.wake
     }
 
+    /// The view that was entered last; 0 where the core has failed.
     pub fn current_view(&self) -> View {
         match self.driver.state() {
             Some(state) => state.current_view(),
@@ -125,6 +128,7 @@ impl Node {
         }
     }
 
+    /// The highest finalized view; 0 where the core has failed.
     pub fn last_finalized(&self) -> View {
         match self.driver.state() {
             Some(state) => state.last_finalized(),

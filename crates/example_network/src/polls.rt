@@ -61,83 +61,34 @@ impl Polls {
         let Ok(signer) = u8::try_from(vote.signer().get()) else {
             return Ok(None);
         };
-        match vote.subject() {
-            Subject::Notarize(block) => self.count_to_notarize(state, signer, &block),
-            Subject::Nullify(round) => self.count_to_nullify(state, signer, &round),
-            Subject::Finalize(block) => self.count_to_finalize(state, signer, &block),
-        }
-    }
-
-    fn count_to_notarize(
-        &mut self,
-        state: &CoreState,
-        signer: u8,
-        block: &Block,
-    ) -> Result<Option<Proof>, AllocError> {
-        let view = block.round.view;
-        let ballot = Ballot {
-            view,
-            choice: *block,
-            signer,
-        };
-        if !self.to_notarize.take(state, ballot)? {
-            return Ok(None);
-        }
-        match self.to_notarize.seal(self.alloc, view, *block)? {
-            Some(certificate) => Ok(Some(Certificate::Notarization(Notarized {
-                proposal: *block,
-                certificate,
-            }))),
-            None => Ok(None),
-        }
-    }
-
-    fn count_to_nullify(
-        &mut self,
-        state: &CoreState,
-        signer: u8,
-        round: &Round,
-    ) -> Result<Option<Proof>, AllocError> {
-        let view = round.view;
-        let ballot = Ballot {
-            view,
-            choice: *round,
-            signer,
-        };
-        if !self.to_nullify.take(state, ballot)? {
-            return Ok(None);
-        }
-        match self.to_nullify.seal(self.alloc, view, *round)? {
-            Some(certificate) => Ok(Some(Certificate::Nullification(Nullified {
-                round: *round,
-                certificate,
-            }))),
-            None => Ok(None),
-        }
-    }
-
-    fn count_to_finalize(
-        &mut self,
-        state: &CoreState,
-        signer: u8,
-        block: &Block,
-    ) -> Result<Option<Proof>, AllocError> {
-        let view = block.round.view;
-        let ballot = Ballot {
-            view,
-            choice: *block,
-            signer,
-        };
-        if !self.to_finalize.take(state, ballot)? {
-            return Ok(None);
-        }
-        match self.to_finalize.seal(self.alloc, view, *block)? {
-            Some(certificate) => Ok(Some(Certificate::Finalization(Finalized {
-                proposal: *block,
-                certificate,
-            }))),
-            None => Ok(None),
-        }
+        let alloc = self.alloc;
+        Ok(match vote.subject() {
+            Subject::Notarize(proposal) => {
+                let ballot = Ballot::new(proposal.round.view, proposal, signer);
+                let seal = self.to_notarize.count(alloc, state, ballot)?;
+                seal.map(|certificate| {
+                    Certificate::Notarization(Notarized {
+                        proposal,
+                        certificate,
+                    })
+                })
+            }
+            Subject::Nullify(round) => {
+                let ballot = Ballot::new(round.view, round, signer);
+                let seal = self.to_nullify.count(alloc, state, ballot)?;
+                seal.map(|certificate| Certificate::Nullification(Nullified { round, certificate }))
+            }
+            Subject::Finalize(proposal) => {
+                let ballot = Ballot::new(proposal.round.view, proposal, signer);
+                let seal = self.to_finalize.count(alloc, state, ballot)?;
+                seal.map(|certificate| {
+                    Certificate::Finalization(Finalized {
+                        proposal,
+                        certificate,
+                    })
+                })
+            }
+        })
     }
 
     /// Forgets the votes of the views below.

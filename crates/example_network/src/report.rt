@@ -27,6 +27,7 @@ pub struct Report {
 }
 
 impl Report {
+    /// Nothing has happened yet.
     pub fn new(alloc: Global, members: u8) -> Result<Report, AllocError> {
         let mut tallies = Vec::new(alloc);
         for _ in 0..members {

@@ -4,3 +4,4 @@ pub mod Reading
 pub mod Refusals
 pub mod Artifacts
 pub mod Frames
+pub mod Texts

@@ -26,6 +26,11 @@ pub enum DecodeError {
 }
 
 impl fmt::Display for DecodeError {
+    ghost use Rattle.std.specs.Prelude.{Some};
+    ghost use Rattle.simplex_codec.specs.Texts.{decode_error_text};
+
+    ghost output = { λ error. Some (decode_error_text error) };
+
     fn fmt<W: fmt::Write>(&self, f: &mut fmt::Formatter<W>) -> fmt::Result {
         match self {
             DecodeError::OutOfMemory => write!(f, "no memory is left"),

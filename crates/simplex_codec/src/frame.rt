@@ -7,10 +7,25 @@ use crate::parts::take_u32;
 use bytes::{BufMut, BytesMut};
 use sha2::{Digest, Sha256};
 use std::alloc::AllocError;
+use std::error::Error;
+use std::fmt;
 
 /// What is left is no whole frame: it was cut, or bytes of it were changed.
 #[derive(Clone, Copy, PartialEq, Eq, Debug)]
 pub struct DamagedFrame;
+
+impl fmt::Display for DamagedFrame {
+    ghost use Rattle.std.specs.Prelude.{Some};
+    ghost use Rattle.simplex_codec.specs.Texts.{damaged_frame_text};
+
+    ghost output = { λ _. Some damaged_frame_text };
+
+    fn fmt<W: fmt::Write>(&self, f: &mut fmt::Formatter<W>) -> fmt::Result {
+        write!(f, "the frame is damaged")
+    }
+}
+
+impl Error for DamagedFrame {}
 
 /// The entry is written in a frame behind the bytes of `out`. The only error is want of memory.
 pub fn write_frame(out: &mut BytesMut, entry: &[u8]) -> Result<(), AllocError>

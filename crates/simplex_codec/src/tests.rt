@@ -1,3 +1,5 @@
+mod random;
+
 use crate::artifact::{decode_artifact, encode_artifact};
 use crate::certificate::decode_certificate;
 use crate::digest::BytesDigest;
@@ -13,6 +15,7 @@ use simplex_types::types::{
     Nullification, Nullify, Participant, Proposal, Round, Subject, View,
 };
 use std::alloc::{AllocError, Global};
+use std::fmt::Display;
 use std::test::Fail;
 
 type PlainArtifact = Artifact<PlainScheme, PlainDigest>;
@@ -274,59 +277,35 @@ fn each_other_refusal_has_its_name(rt: HostRuntime) -> Result<(), Fail> {
     Ok(())
 }
 
-/// A small generator of numbers, the same at each run.
-#[derive(Drop)]
-struct Random {
-    state: u64,
-}
-
-impl Random {
-    fn next(&mut self) -> u32 {
-        let state = self.state;
-        self.state = state
-            .wrapping_mul(6_364_136_223_846_793_005)
-            .wrapping_add(1_442_695_040_888_963_407);
-        (state >> 33) as u32
-    }
-}
-
-/// Bytes of a generator, the same at each run: a length below 64, a first byte below 9 and a last one below 3.
-fn some_bytes(alloc: Global, random: &mut Random) -> Result<Vec<u8>, Fail> {
-    let len = random.next() % 64;
-    let mut bytes = Vec::new(alloc);
-    for index in 0..len {
-        let byte = random.next();
-        let byte = if index == 0 {
-            byte % 9
-        } else if index + 1 == len {
-            byte % 3
-        } else {
-            byte % 256
-        };
-        bytes.push(byte as u8)?;
-    }
-    Ok(bytes)
+/// The text of a value.
+fn text<V: Display>(alloc: Global, value: &V) -> Result<String, Fail> {
+    Ok(format!(in alloc; "{value}")?)
 }
 
 #[test]
-fn random_bytes_are_refused_or_encode_to_themselves(rt: HostRuntime) -> Result<(), Fail> {
-    let mut random = Random { state: 7 };
-    let mut read = 0u32;
-    for _ in 0..40_000 {
-        let bytes = some_bytes(rt.alloc(), &mut random)?;
-        let decoded = decode_artifact::<PlainScheme, PlainDigest>(rt.alloc(), bytes.as_slice());
-        if let Ok(artifact) = decoded {
-            let again = encode_artifact(rt.alloc(), &artifact)?;
-            assert_eq!(rt; again.as_slice(), bytes.as_slice());
-            read = read.wrapping_add(1);
-        }
-        let decoded = decode_certificate::<PlainScheme, PlainDigest>(rt.alloc(), bytes.as_slice());
-        if let Ok(certificate) = decoded {
-            let again = certificate.encode(rt.alloc())?;
-            assert_eq!(rt; again.as_slice(), bytes.as_slice());
-        }
+fn refusals_have_their_texts(rt: HostRuntime) -> Result<(), Fail> {
+    for (error, wanted) in [
+        (DecodeError::OutOfMemory, "no memory is left"),
+        (DecodeError::TooShort, "the bytes end early"),
+        (DecodeError::UnknownKind(200), "200 is no kind"),
+        (DecodeError::UnreadablePayload, "the payload is no digest"),
+        (
+            DecodeError::UnreadableCertificate,
+            "the certificate is not the scheme's",
+        ),
+        (
+            DecodeError::UnreadableSignature,
+            "the signature is not the scheme's",
+        ),
+        (DecodeError::UnknownVerdict(6), "6 is no verdict"),
+        (DecodeError::TrailingBytes, "bytes are left over"),
+    ] {
+        assert_eq!(rt; text(rt.alloc(), &error)?.as_str(), wanted);
     }
-    assert!(rt; read > 1000);
+    assert_eq!(rt;
+        text(rt.alloc(), &DamagedFrame)?.as_str(),
+        "the frame is damaged"
+    );
     Ok(())
 }
 

@@ -7,10 +7,11 @@ use example_engine::driver::Topic;
 use example_engine::messages::{Message, Vote, VoteKind};
 use example_engine::parts::{Block, Proof};
 use example_engine::start::CoreCall;
+use simplex_codec::error::DecodeError;
 use simplex_member::member::Call;
 use simplex_types::reasons::TimeoutReason;
 use simplex_types::types::{Certificate, Fault, Round, View, Viewable};
-use std::alloc::Global;
+use std::alloc::{AllocError, Global};
 
 impl Node {
     /// Takes a message of another member.
@@ -20,11 +21,7 @@ impl Node {
             Message::Vote(vote) => self.take_vote(vote, now)?,
             Message::Certificate(proof) => self.take_certificate(proof, now)?,
             Message::Ask(view) => self.serve(from, *view)?,
-            Message::Served(bytes) => {
-                if let Some(proof) = decode(self.alloc, bytes)? {
-                    self.take_certificate(&proof, now)?;
-                }
-            }
+            Message::Served(bytes) => self.take_served(bytes, now)?,
         }
         self.settle(now)
     }
@@ -84,6 +81,15 @@ impl Node {
             self.accept(proof, now)?;
         }
         Ok(())
+    }
+
+    /// The bytes of a certificate, if they are one's. Other bytes are passed over.
+    fn take_served(&mut self, bytes: &[u8], now: u64) -> Result<(), EngineError> {
+        match decode(self.alloc, bytes) {
+            Ok(proof) => self.take_certificate(&proof, now),
+            Err(DecodeError::OutOfMemory) => Err(EngineError::OutOfMemory(AllocError)),
+            Err(_) => Ok(()),
+        }
     }
 
     /// A good certificate goes to the resolver and to the core, where its view is kept.

@@ -15,7 +15,11 @@ use simplex_types::types::{Certificate, CertificateScheme, Digest, Fault, View};
 use std::alloc::Global;
 
 /// Puts the value in, unless the view has one.
-pub fn insert_new<V: Drop>(tracked: &mut Tracked<V>, view: View, value: V) -> Result<(), Fault>
+pub(super) fn insert_new<V: Drop>(
+    tracked: &mut Tracked<V>,
+    view: View,
+    value: V,
+) -> Result<(), Fault>
     ensures { OnOk result (tracked.new ≡ insert_new tracked.old view value) }
 {
     match tracked.insert(view, value) {
@@ -25,7 +29,7 @@ pub fn insert_new<V: Drop>(tracked: &mut Tracked<V>, view: View, value: V) -> Re
 }
 
 /// Puts the value in, in place of the one that the view has.
-pub fn put<V: Drop>(tracked: &mut Tracked<V>, view: View, value: V) -> Result<(), Fault>
+pub(super) fn put<V: Drop>(tracked: &mut Tracked<V>, view: View, value: V) -> Result<(), Fault>
     ensures { OnOk result (tracked.new ≡ map.insert tracked.old view value) }
 {
     if let Some(value) = tracked.insert(view, value)? {
@@ -37,14 +41,14 @@ pub fn put<V: Drop>(tracked: &mut Tracked<V>, view: View, value: V) -> Result<()
 }
 
 /// Whether the view stands there.
-pub fn contains<V>(tracked: &Tracked<V>, view: View) -> bool
+pub(super) fn contains<V>(tracked: &Tracked<V>, view: View) -> bool
     ensures { result ≡ map.contains_key tracked.now view }
 {
     tracked.get(view).is_some()
 }
 
 /// The encoding of the notarization at the view, where its last verdict was true.
-pub fn certified_at(notarizations: &Tracked<Option<Bytes>>, view: View) -> Option<&Bytes>
+pub(super) fn certified_at(notarizations: &Tracked<Option<Bytes>>, view: View) -> Option<&Bytes>
     ensures { option_copied result ≡ certified_encoding notarizations.now view }
 {
     match notarizations.get(view) {
@@ -54,7 +58,7 @@ pub fn certified_at(notarizations: &Tracked<Option<Bytes>>, view: View) -> Optio
 }
 
 /// Keeps the nullification's encoding, unless the view has one.
-pub fn keep_nullification<S: CertificateScheme, D: Digest>(
+pub(super) fn keep_nullification<S: CertificateScheme, D: Digest>(
     alloc: Global,
     nullifications: &mut ByTerm<Bytes>,
     view: View,
@@ -77,7 +81,7 @@ pub fn keep_nullification<S: CertificateScheme, D: Digest>(
 }
 
 /// Keeps the finalization of the higher view.
-pub fn keep_finalization<S: CertificateScheme, D: Digest>(
+pub(super) fn keep_finalization<S: CertificateScheme, D: Digest>(
     alloc: Global,
     finalization: &mut Option<(View, Bytes)>,
     view: View,

@@ -15,7 +15,7 @@ use simplex_types::types::{TermLength, View};
 use std::alloc::AllocError;
 
 /// The encoding of the nullification of the highest view that covers `view`.
-pub fn covering_nullification(nullifications: &ByTerm<Bytes>, view: View) -> Option<&Bytes>
+pub(super) fn covering_nullification(nullifications: &ByTerm<Bytes>, view: View) -> Option<&Bytes>
     ensures value { option_copied result ≡ covering_encoding nullifications.now view }
     ensures found { is_some result ≡ is_covered nullifications.now view }
 {
@@ -26,14 +26,14 @@ pub fn covering_nullification(nullifications: &ByTerm<Bytes>, view: View) -> Opt
 }
 
 /// Whether the view is above the floor and no nullification covers it.
-pub fn needs_nullification(nullifications: &ByTerm<Bytes>, floor: View, view: View) -> bool
+pub(super) fn needs_nullification(nullifications: &ByTerm<Bytes>, floor: View, view: View) -> bool
     ensures { result ≡ (nat_lt floor view && not (is_covered nullifications.now view)) }
 {
     view > floor && covering_nullification(nullifications, view).is_none()
 }
 
 /// Fetches the uncovered anchors from `first` on below `current`, and answers the first anchor that is not below it.
-pub fn scan(
+pub(super) fn scan(
     nullifications: &ByTerm<Bytes>,
     term_length: TermLength,
     first: View,
@@ -65,7 +65,7 @@ pub fn scan(
 }
 
 /// Fetches each of the views that is above the floor and uncovered.
-pub fn fetch_failures(
+pub(super) fn fetch_failures(
     views: &Tracked<()>,
     nullifications: &ByTerm<Bytes>,
     floor: View,

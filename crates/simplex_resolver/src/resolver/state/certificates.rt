@@ -16,7 +16,11 @@ use simplex_types::types::{Certificate, CertificateScheme, Digest, Fault, View, 
 
 impl State {
     /// Scans on from where the last scan ended, unless the replay goes on.
-    pub fn fetch_missing(&mut self, cause: View, effects: &mut Vec<Effect>) -> Result<(), Fault>
+    pub(super) fn fetch_missing(
+        &mut self,
+        cause: View,
+        effects: &mut Vec<Effect>,
+    ) -> Result<(), Fault>
         ensures after { OnOk result (self.new ≡ after_scan self.old) }
         ensures fetched { OnOk result (effects.new.items ≡ effects.old.items ++ scan_fetches self.old cause) }
         ensures refused { OnErr result (self.new ≡ self.old) }
@@ -37,7 +41,7 @@ impl State {
     }
 
     /// The floor rises to the view, if it is higher.
-    pub fn raise(&mut self, floor: View, effects: &mut Vec<Effect>) -> Result<(), Fault>
+    pub(super) fn raise(&mut self, floor: View, effects: &mut Vec<Effect>) -> Result<(), Fault>
         requires { floor < 2 ^ 63 }
         ensures after { OnOk result (self.new ≡ after_raise self.old floor) }
         ensures raised { OnOk result (effects.new.items ≡ effects.old.items ++ raise_effects self.old floor) }
@@ -146,7 +150,7 @@ impl State {
         self.raise(view, effects)
     }
 
-    pub fn record<S: CertificateScheme, D: Digest>(
+    pub(super) fn record<S: CertificateScheme, D: Digest>(
         &mut self,
         certificate: &Certificate<S, D>,
     ) -> Result<Vec<Effect>, Fault>

@@ -108,7 +108,7 @@ impl State {
         Ok(effects)
     }
 
-    pub fn judge<S: CertificateScheme, D: Digest>(
+    pub(super) fn judge<S: CertificateScheme, D: Digest>(
         &mut self,
         notarization: Notarization<S, D>,
         success: bool,
@@ -138,7 +138,7 @@ impl State {
         Ok(())
     }
 
-    pub fn end_replay(&mut self) -> Result<Vec<Effect>, Fault>
+    pub(super) fn end_replay(&mut self) -> Result<Vec<Effect>, Fault>
         ensures after { OnOk result (self.new ≡ after self.old Replayed) }
         ensures effects { IfOk result (λ es. es.items ≡ effects self.old Replayed) }
         ensures same_terms { term_length self.new ≡ term_length self.old }

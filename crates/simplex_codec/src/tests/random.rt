@@ -1,0 +1,139 @@
+//! Bytes at random, and encodings that were damaged at random.
+
+use super::{PlainArtifact, artifacts};
+use crate::artifact::{decode_artifact, encode_artifact};
+use crate::certificate::decode_certificate;
+use crate::error::DecodeError;
+use simplex_types::types::Certificate;
+use simplex_types::types::plain::{PlainDigest, PlainScheme};
+use std::alloc::Global;
+use std::test::Fail;
+
+/// How many inputs are read; `tests/decodings.py` puts another number here.
+const INPUTS: u32 = 40_000;
+
+/// Where the generator begins; `tests/decodings.py` puts another number here.
+const SEED: u64 = 7;
+
+/// A small generator of numbers, the same at each run.
+#[derive(Drop)]
+struct Random {
+    state: u64,
+}
+
+impl Random {
+    fn next(&mut self) -> u32 {
+        let state = self.state;
+        self.state = state
+            .wrapping_mul(6_364_136_223_846_793_005)
+            .wrapping_add(1_442_695_040_888_963_407);
+        (state >> 33) as u32
+    }
+
+    fn byte(&mut self) -> u8 {
+        (self.next() % 256) as u8
+    }
+}
+
+/// What the inputs were read as.
+#[derive(Drop)]
+struct Tally {
+    artifacts: u32,
+    certificates: u32,
+    refused: u32,
+}
+
+/// Bytes of the generator: a length below 64, a first byte below 9 and a last one below 3.
+fn random_bytes(alloc: Global, random: &mut Random) -> Result<Vec<u8>, Fail> {
+    let len = random.next() % 64;
+    let mut bytes = Vec::new(alloc);
+    for index in 0..len {
+        let byte = random.next();
+        let byte = if index == 0 {
+            byte % 9
+        } else if index + 1 == len {
+            byte % 3
+        } else {
+            byte % 256
+        };
+        bytes.push(byte as u8)?;
+    }
+    Ok(bytes)
+}
+
+/// The encoding of one of the artifacts, with a byte changed, the end cut off, or a byte more.
+fn damaged_bytes(
+    alloc: Global,
+    random: &mut Random,
+    whole: &[PlainArtifact],
+) -> Result<Vec<u8>, Fail> {
+    let Some(artifact) = whole.get(random.next() as usize % 8) else {
+        return Err(Fail::from("eight artifacts"));
+    };
+    let mut bytes = Vec::from_slice(alloc, encode_artifact(alloc, artifact)?.as_slice())?;
+    let place = random.next() as usize % (bytes.len().max(1));
+    match random.next() % 4 {
+        0 => bytes.truncate(place),
+        1 => bytes.push(random.byte())?,
+        _ => {
+            let new = random.byte();
+            if let Some(byte) = bytes.get_mut(place) {
+                *byte = new;
+            }
+        }
+    }
+    Ok(bytes)
+}
+
+/// Reads the bytes as an artifact and as a certificate: what is read encodes to them again, and what is not is refused
+/// by the name of a fault in them.
+fn read(alloc: Global, bytes: &[u8], tally: &mut Tally) -> Result<(), Fail> {
+    match decode_artifact::<PlainScheme, PlainDigest>(alloc, bytes) {
+        Ok(artifact) => {
+            if encode_artifact(alloc, &artifact)?.as_slice() != bytes {
+                return Err(Fail::from("an artifact of other bytes"));
+            }
+            tally.artifacts = tally.artifacts.wrapping_add(1);
+        }
+        Err(DecodeError::OutOfMemory) => return Err(Fail::from("no memory")),
+        Err(_) => tally.refused = tally.refused.wrapping_add(1),
+    }
+    let decoded: Result<Certificate<PlainScheme, PlainDigest>, DecodeError> = decode_certificate(
+        alloc, bytes,
+    );
+    match decoded {
+        Ok(certificate) => {
+            if certificate.encode(alloc)?.as_slice() != bytes {
+                return Err(Fail::from("a certificate of other bytes"));
+            }
+            tally.certificates = tally.certificates.wrapping_add(1);
+        }
+        Err(DecodeError::OutOfMemory) => return Err(Fail::from("no memory")),
+        Err(_) => {}
+    }
+    Ok(())
+}
+
+#[test]
+fn inputs_are_refused_or_encode_to_themselves(rt: HostRuntime) -> Result<(), Fail> {
+    let alloc = rt.alloc();
+    let whole = artifacts(alloc)?;
+    let mut random = Random { state: SEED };
+    let mut tally = Tally {
+        artifacts: 0,
+        certificates: 0,
+        refused: 0,
+    };
+    for _ in 0..INPUTS / 2 {
+        let bytes = random_bytes(alloc, &mut random)?;
+        read(alloc, &bytes, &mut tally)?;
+        let bytes = damaged_bytes(alloc, &mut random, whole.as_slice())?;
+        read(alloc, &bytes, &mut tally)?;
+    }
+    println!(rt;
+        "{} artifacts, {} certificates, {} refused",
+        tally.artifacts, tally.certificates, tally.refused
+    )?;
+    assert!(rt; tally.artifacts > 1000 && tally.certificates > 1000 && tally.refused > 1000);
+    Ok(())
+}

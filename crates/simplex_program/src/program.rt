@@ -1,0 +1,96 @@
+//! Serves lines of calls.
+
+ghost use Rattle.simplex_program.specs.Mode.{IsServed};
+ghost use Rattle.simplex_program.specs.Session.{asked_of};
+ghost use Rattle.simplex_program.specs.Transcript.{Transcribes, Continues, Advances};
+
+use crate::line_reader::{LONGEST_LINE, line_text, read_line};
+use crate::line_writer::write_line;
+use crate::mode::Mode;
+pub use crate::serve_error::ServeError;
+use crate::session::Session;
+use std::alloc::Global;
+use std::io::{BufReader, Read, Write};
+
+/// Answers each line of the reader by a line of the writer, before it reads the next. It asks for a mode that
+/// `Mode::read` can give.
+///
+/// It ends at the end of the reader (or after 2^64 - 2 lines), at the first line that is no call, where a read or a write
+/// fails, or for want of memory. What it wrote is the replies of the lines before, whole and in order; only where a write
+/// failed, a front of one more reply may follow.
+pub fn serve<R: Read + Drop, W: Write + Drop>(
+    alloc: Global,
+    mode: Mode,
+    reader: R,
+    writer: &mut W,
+) -> Result<(), ServeError>
+    requires { IsServed mode }
+    ensures { Transcribes mode (R.remaining reader) (W.contents writer.old) result (W.contents writer.new) }
+{
+    let Ok(mut session) = Session::start(alloc, mode) else {
+        return Err(ServeError::OutOfMemory);
+    };
+    let Ok(mut reader) = BufReader::new(alloc, reader) else {
+        return Err(ServeError::OutOfMemory);
+    };
+    answer_lines(&mut session, alloc, &mut reader, writer)
+}
+
+fn answer_lines<R: Read + Drop, W: Write + Drop>(
+    session: &mut Session,
+    alloc: Global,
+    reader: &mut R,
+    writer: &mut W,
+) -> Result<(), ServeError>
+    ensures { Continues (record { asked = asked_of session.old; left = R.remaining reader.old; held = W.contents writer.old })
+        result (W.contents writer.new) }
+{
+    let Ok(line) = Vec::with_capacity(alloc, LONGEST_LINE + 1) else {
+        return Err(ServeError::OutOfMemory);
+    };
+    let mut room = Room {
+        line,
+        reply: String::new(alloc),
+    };
+    for number in 1..u64::MAX {
+        if !answer_line(session, alloc, number, reader, &mut room, writer)? {
+            return Ok(());
+        }
+    }
+    Ok(())
+}
+
+/// Where a line and its reply stand.
+#[derive(Drop)]
+struct Room {
+    line: Vec<u8>,
+    reply: String,
+}
+
+/// Answers the next line, which has this number. Answers whether there was one.
+fn answer_line<R: Read + Drop, W: Write + Drop>(
+    session: &mut Session,
+    alloc: Global,
+    number: u64,
+    reader: &mut R,
+    room: &mut Room,
+    writer: &mut W,
+) -> Result<bool, ServeError>
+    ensures { Advances (record { asked = asked_of session.old; left = R.remaining reader.old; held = W.contents writer.old })
+        number result (record { asked = asked_of session.new; left = R.remaining reader.new; held = W.contents writer.new }) }
+{
+    let Ok(found) = read_line(reader, &mut room.line) else {
+        return Err(ServeError::Read);
+    };
+    if !found {
+        return Ok(false);
+    }
+    let Some(text) = line_text(&room.line) else {
+        return Err(ServeError::NotACall(number));
+    };
+    session.answer(alloc, number, text, &mut room.reply)?;
+    match write_line(writer, room.reply.as_bytes()) {
+        Ok(()) => Ok(true),
+        Err(_) => Err(ServeError::Write),
+    }
+}

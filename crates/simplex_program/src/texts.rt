@@ -1,0 +1,69 @@
+//! How faults, refusals and views are written.
+
+ghost use Rattle.std.specs.Prelude.{◌≡◌, ◌∷◌, decimal};
+ghost use Rattle.std.specs.List.{flat_map};
+ghost use Rattle.std.specs.Fmt.{WritesOnOk};
+ghost use Rattle.simplex_program.specs.Texts.{text_of, fault_number, fault_words, refusal_number, refusal_words};
+
+use simplex_member::member::RecoverError;
+use simplex_types::types::{Fault, View};
+use std::fmt;
+use std::fmt::Formatter;
+
+/// A fault, by its number and its name.
+pub(crate) fn write_fault<W: fmt::Write>(f: &mut Formatter<W>, fault: Fault) -> fmt::Result
+    ensures { WritesOnOk W.write_str_gives f.old result (text_of (fault_words fault)) f.new }
+{
+    write!(f, "fault {} {fault}", fault_number(fault))
+}
+
+/// The number by which a fault is told.
+fn fault_number(fault: Fault) -> u8
+    ensures { result ≡ fault_number fault }
+{
+    match fault {
+        Fault::OutOfMemory => 1,
+        Fault::Failed => 2,
+        Fault::ViewTooLarge => 3,
+        Fault::TimeOverflow => 4,
+    }
+}
+
+/// Why a restart was refused, by its number and its name.
+pub(crate) fn write_refusal<W: fmt::Write>(f: &mut Formatter<W>, error: RecoverError) -> fmt::Result
+    ensures { WritesOnOk W.write_str_gives f.old result (text_of (refusal_words error)) f.new }
+{
+    write!(f, "refused {} {error}", refusal_number(error))
+}
+
+/// The number by which a refusal is told.
+fn refusal_number(error: RecoverError) -> u8
+    ensures { result ≡ refusal_number error }
+{
+    match error {
+        RecoverError::OutOfOrder => 1,
+        RecoverError::OtherEpoch => 2,
+        RecoverError::ZeroView => 3,
+        RecoverError::ViewTooLarge => 4,
+        RecoverError::ForeignSigner => 5,
+        RecoverError::ParentNotBelow => 6,
+        RecoverError::VerdictWithoutNotarization => 7,
+        RecoverError::ContradictingVerdicts => 8,
+        RecoverError::NullifyBesideFinalize => 9,
+        RecoverError::ContradictingVotes => 10,
+        RecoverError::FinalizeWithoutVerdict => 11,
+        RecoverError::TimeOverflow => 12,
+        RecoverError::OutOfMemory => 13,
+        RecoverError::RetentionGrown => 14,
+    }
+}
+
+/// Each view behind a space.
+pub(crate) fn write_views<W: fmt::Write>(f: &mut Formatter<W>, views: &[View]) -> fmt::Result
+    ensures { WritesOnOk W.write_str_gives f.old result (flat_map (λ view. 32 ∷ decimal view) views.now) f.new }
+{
+    for view in views {
+        write!(f, " {}", view.get())?;
+    }
+    Ok(())
+}

@@ -1,5 +1,0 @@
-use Rattle.viewstate.proofs.Serving.{IsWritten}
-use Rattle.viewstate.proofs.line_writer.write_line.Given as goal
-
-abbrev pub invariant-loop-try : goal.invariant-loop-try
-invariant-loop-try g l = IsWritten (g.W.Write.contents l.initial.writer) (g.W.Write.contents l.writer) l.bytes l.rest
