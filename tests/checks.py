@@ -6,8 +6,8 @@ from collections import defaultdict
 
 from protocol import FINALIZATION, NOTARIZATION, NULLIFICATION, certificate_in, is_restart, quorum, vote_in
 
-# Why a restart may be refused: what the record holds came from outside, or a deadline passes 64 bits.
-EXCUSES = ("OtherEpoch", "ZeroView", "ViewTooLarge", "ForeignSigner", "ParentNotBelow", "TimeOverflow", "RetentionGrown")
+# Why a restart may be refused: what the record holds came from outside, a deadline passes 64 bits, or memory is wanting.
+EXCUSES = ("OtherEpoch", "ZeroView", "ViewTooLarge", "ForeignSigner", "ParentNotBelow", "TimeOverflow", "RetentionGrown", "OutOfMemory")
 
 
 class Broken(Exception):

@@ -81,7 +81,8 @@ class FairRun:
             told.setdefault(index, []).append(message)
         for index, messages in told.items():
             if self.chance.random() < self.manner.restart and min(finalized for _, finalized in self.views.values()) < 4:
-                self.network.ask(index, f"restart 0 {self.network.now}")
+                life = "crash" if self.network.served.crashes and self.chance.random() < 0.5 else "restart 0"
+                self.network.ask(index, f"{life} {self.network.now}")
             self.hear(index, messages)
             self.work(index)
 
@@ -224,17 +225,17 @@ class FairRun:
         return len(self.network.laws.signers[certificate]) >= quorum(self.network.size)
 
 
-def drawn_network(program, chance, members):
+def drawn_network(served, chance, members):
     """A network of a random size and terms, with f faulty members."""
     size = members or chance.randint(4, 10)
     faulty = chance.sample(range(size), max_faults(size))
-    return Network(program, size, faulty, Terms(chance.randint(1, 5), chance.randint(0, 4)))
+    return Network(served, size, faulty, Terms(chance.randint(1, 5), chance.randint(0, 4)))
 
 
-def play(program, seed, goal, members=None):
+def play(served, seed, goal, members=None):
     """Plays the run of a seed; its network, whose processes have ended. What is broken is raised with the network in it."""
     chance = Random(seed)
-    network = drawn_network(program, chance, members)
+    network = drawn_network(served, chance, members)
     with network:
         try:
             FairRun(network, chance).play(goal)

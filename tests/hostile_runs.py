@@ -42,12 +42,12 @@ def drawn_temper(chance):
     )
 
 
-def drawn_network(program, chance, members, watches_votes):
+def drawn_network(served, chance, members, watches_votes):
     """A network of a random size, terms and faulty members; half of the runs have as many of these as agreement may bear."""
     size = members or chance.randint(4, 10)
     most = chance.choice((max_faults(size), most_faults(size)))
     faulty = chance.sample(range(size), chance.randint(1, most))
-    return Network(program, size, faulty, Terms(chance.randint(1, 5), chance.randint(0, 4)), watches_votes)
+    return Network(served, size, faulty, Terms(chance.randint(1, 5), chance.randint(0, 4)), watches_votes)
 
 
 class HostileRun:
@@ -88,6 +88,9 @@ class HostileRun:
         self.views[index] = int(current), int(finalized)
 
     def restart(self, index):
+        if self.network.served.crashes and self.chance.random() < 0.5:
+            self.network.ask(index, f"crash {self.network.now}")
+            return
         word = self.chance.choice(("restart", "restart-pruned"))
         self.network.ask(index, f"{word} {self.chance.choice((0, 1, 2, 5, 100))} {self.network.now}")
 
@@ -175,10 +178,10 @@ class HostileRun:
         return choice(forms)
 
 
-def play(program, seed, steps, members=None, watches_votes=True):
+def play(served, seed, steps, members=None, watches_votes=True):
     """Plays the run of a seed; its network, whose processes have ended. What is broken is raised with the network in it."""
     chance = Random(seed)
-    network = drawn_network(program, chance, members, watches_votes)
+    network = drawn_network(served, chance, members, watches_votes)
     with network:
         try:
             HostileRun(network, chance).play(steps)

@@ -1,19 +1,47 @@
-"""One member: a process of the built program, asked line by line."""
+"""One member: a process of a built program, asked line by line."""
 
 import subprocess
+from dataclasses import dataclass
+
+
+MOST_MEMBERS = 1000
 
 
 class ProgramEnded(Exception):
     """The program ended, or wrote no whole reply line."""
 
 
-class Member:
-    """A voter of a network, behind pipes. It keeps each line with its reply."""
+@dataclass(frozen=True)
+class Served:
+    """By which program members are served: `viewstate`, or `enduring`, which can crash and be refused memory besides."""
 
-    def __init__(self, program, members, index, terms):
-        command = [program, "voter", str(members), str(index), str(terms.length), str(terms.optimistic)]
+    path: str
+    is_enduring: bool = False
+    crashes: bool = False
+    refuses_one_in: int = 0
+    preload: str = ""
+    seed: int = 0
+
+    def command(self, members, index, terms):
+        kind = ["member"] if self.is_enduring else []
+        return [self.path, *kind, "voter", str(members), str(index), str(terms.length), str(terms.optimistic)]
+
+    def environment(self, index):
+        if not self.refuses_one_in:
+            return {}
+        seed = self.seed * MOST_MEMBERS + index
+        return {"LD_PRELOAD": self.preload, "REFUSE_WITHIN": "1", "REFUSE_ONE_IN": str(self.refuses_one_in), "REFUSE_SEED": str(seed)}
+
+
+class Member:
+    """A voter of a network, behind pipes."""
+
+    def __init__(self, served, members, index, terms):
         self.index = index
-        self.process = subprocess.Popen(command, stdin=subprocess.PIPE, stdout=subprocess.PIPE)
+        self.process = subprocess.Popen(
+            served.command(members, index, terms), stdin=subprocess.PIPE, stdout=subprocess.PIPE,
+            stderr=subprocess.DEVNULL if served.is_enduring else None, env=served.environment(index),
+        )
 
     def ask(self, line):
         """The reply to one line."""

@@ -1,4 +1,4 @@
-"""A network: the correct members, each a process of the built program, and the votes that they cast.
+"""A network: the correct members, each a process of a built program, and the votes that they cast.
 
 After every reply the bench takes all certificates that the votes back, whether anybody makes them or not, and checks
 the laws of `checks.py`. A certificate is handed in only where the votes back it."""
@@ -6,6 +6,11 @@ the laws of `checks.py`. A certificate is handed in only where the votes back it
 from checks import Broken, MemberLaws, NetworkLaws
 from member import Member, ProgramEnded
 from protocol import certificate_in, is_restart, vote_in
+
+
+OUT_OF_MEMORY = ("fault 1 OutOfMemory", "refused 13 OutOfMemory")
+FAILED = "fault 2 Failed"
+MOST_TRIES = 1000
 
 
 class NotBacked(Exception):
@@ -17,7 +22,8 @@ class Network:
 
     Where it does not watch votes, it looks for agreement alone."""
 
-    def __init__(self, program, members, faulty, terms, watches_votes=True):
+    def __init__(self, served, members, faulty, terms, watches_votes=True):
+        self.served = served
         self.watches_votes = watches_votes
         self.size = members
         self.faulty = frozenset(faulty)
@@ -28,7 +34,8 @@ class Network:
         self.member_laws = {index: MemberLaws(terms, f"member {index}") for index in self.correct}
         self.log = []
         self.restarts = 0
-        self.members = {index: Member(program, members, index, terms) for index in self.correct}
+        self.refusals = 0
+        self.members = {index: Member(served, members, index, terms) for index in self.correct}
 
     def leader(self, view):
         return self.terms.index(view) % self.size
@@ -41,10 +48,24 @@ class Network:
         """Asks one correct member some lines at once, and checks each reply."""
         for line in lines:
             self._see(line)
+        if self.served.refuses_one_in:
+            return [self._answered(index, line) for line in lines]
         replies = self.members[index].ask_all(lines)
         for line, reply in zip(lines, replies):
             self._take(index, line, reply)
         return replies
+
+    def _answered(self, index, line):
+        """The reply to a line that is asked again where memory was refused; a member that has failed is restarted first."""
+        for _ in range(MOST_TRIES):
+            reply = self.members[index].ask(line)
+            self._take(index, line, reply)
+            self.refusals += reply in OUT_OF_MEMORY
+            if reply == FAILED:
+                self._answered(index, f"restart 0 {self.now}")
+            elif reply not in OUT_OF_MEMORY:
+                return reply
+        raise ProgramEnded(f"member {index} finds no memory for {line!r} in {MOST_TRIES} tries")
 
     def _see(self, line):
         certificate = certificate_in(line)
@@ -55,7 +76,7 @@ class Network:
         self.log.append((index, line, reply))
         self.restarts += is_restart(line)
         vote = self.member_laws[index].take(line, reply) if self.watches_votes else vote_in(line, reply)
-        if self.watches_votes and is_restart(line) and reply != "ok":
+        if self.watches_votes and is_restart(line) and reply != "ok" and reply not in OUT_OF_MEMORY:
             raise Broken(f"member {index}: {line!r} was refused: {reply}")
         if vote is not None:
             self.laws.take(index, vote)

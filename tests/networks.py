@@ -1,15 +1,18 @@
 #!/usr/bin/env python3
 """A bench of networks of the built program: stored schedules, random ones with an adversary, and fair ones.
 
-Each correct member is a process of `viewstate voter`. After every reply all certificates that the votes back are taken, made
-or not, and the laws of `checks.py` are looked for: agreement, and the rules of each member's votes over all its lives. A
-fair run has to let every correct member finalize views besides.
+Each correct member is a process of `viewstate voter`, or of `enduring member voter`. After every reply all certificates that
+the votes back are taken, made or not, and the laws of `checks.py` are looked for: agreement, and the rules of each member's
+votes over all its lives. A fair run has to let every correct member finalize views besides.
 
     tests/networks.py                             all of it, at the default counts
     tests/networks.py --only random --seed 7 --count 1 --draw
     tests/networks.py --only stored --name gate --draw
+    tests/networks.py --crashes                   members lose all but their journal at times, and go on from it
+    tests/networks.py --refuse 100                one request for memory in so many is refused; members that fail are restarted
 
-Everything is made by its seed. It ends with status 1 where something is broken, with the last lines before it."""
+The last two ask `enduring`, the second program; no stored schedule has its replies where memory is refused. Everything is made
+by its seed. It ends with status 1 where something is broken, with the last lines before it."""
 
 import argparse
 import sys
@@ -17,6 +20,7 @@ import tempfile
 import time
 from collections import Counter
 from concurrent.futures import ProcessPoolExecutor
+from dataclasses import replace
 from functools import partial
 
 import fair_runs
@@ -26,8 +30,9 @@ import schedules
 from checks import Broken
 from draw import drawn
 from fair_runs import Stalled
-from member import ProgramEnded
+from member import ProgramEnded, Served
 from network import Network, NotBacked
+from preload import compiled
 
 FAILURES = (Broken, Stalled, ProgramEnded, NotBacked, schedules.NotShown)
 LINES_SHOWN = 12
@@ -36,6 +41,7 @@ LINES_SHOWN = 12
 def options():
     parser = argparse.ArgumentParser(description=__doc__, formatter_class=argparse.RawDescriptionHelpFormatter)
     program.add_option(parser)
+    program.add_enduring_option(parser)
     parser.add_argument("--only", choices=("stored", "random", "fair"), help="one part alone")
     parser.add_argument("--name", help="the stored schedule of this name alone")
     parser.add_argument("--seed", type=int, default=1, help="the first seed")
@@ -43,15 +49,17 @@ def options():
     parser.add_argument("--members", type=int, help="so many members in each network, 4 or more (else 4 to 10, by the seed)")
     parser.add_argument("--steps", type=int, default=300, help="the steps of a random run")
     parser.add_argument("--goal", type=int, default=20, help="the view that each correct member finalizes in a fair run")
+    parser.add_argument("--crashes", action="store_true", help="members crash too, and go on from their journals")
+    parser.add_argument("--refuse", type=int, default=0, help="refuses one request for memory in so many")
     parser.add_argument("--jobs", type=int, default=2, help="how many runs go side by side")
     parser.add_argument("--draw", action="store_true", help="draws each run (with a small count, or with --name)")
     return parser.parse_args()
 
 
-def stored_run(path, name):
+def stored_run(served, name):
     """Plays the stored schedule of a name; its network."""
-    schedule = next(it for it in schedules.all_schedules() if it.name == name)
-    network = Network(path, 4, {0}, schedule.terms)
+    schedule = next(it for it in schedules.all_schedules(served.crashes) if it.name == name)
+    network = Network(served, 4, {0}, schedule.terms)
     with network:
         try:
             schedules.play(schedule, network)
@@ -72,6 +80,7 @@ def tally(network):
         "views nullified": len(laws.nullified),
         "conflicts tried": laws.conflicts(),
         "restarts": network.restarts,
+        "requests refused": network.refusals,
         "runs with more than f faulty": len(network.faulty) > (network.size - 1) // 3,
     })
 
@@ -89,25 +98,34 @@ def last_lines(network):
     return "\n".join(f"  member {index}: {line} => {reply}" for index, line, reply in network.log[-LINES_SHOWN:])
 
 
-def parts(given, path):
+def served_by(given, folder):
+    """By which program the members are served, and how."""
+    if not given.crashes and not given.refuse:
+        return Served(program.find(given.program, folder))
+    path, preload = program.find_enduring(given.enduring, folder), compiled(folder)
+    return Served(path, True, given.crashes, given.refuse, preload)
+
+
+def parts(given, served):
     """The parts that are asked for: a name, how a run is played, and the runs."""
-    names = [it.name for it in schedules.all_schedules() if given.name in (None, it.name)]
+    names = [it.name for it in schedules.all_schedules(served.crashes) if given.name in (None, it.name)]
     seeds = range(given.seed, given.seed + given.count)
     all_parts = (
-        ("stored", partial(stored_run, path), names),
-        ("random", partial(random_run, path, given.steps, given.members), seeds),
-        ("fair", partial(fair_run, path, given.goal, given.members), seeds),
+        ("stored", partial(stored_run, served), names),
+        ("random", partial(random_run, served, given.steps, given.members), seeds),
+        ("fair", partial(fair_run, served, given.goal, given.members), seeds),
     )
     wanted = "stored" if given.name else given.only
-    return [it for it in all_parts if wanted in (None, it[0])]
+    unwanted = "stored" if served.refuses_one_in else None
+    return [it for it in all_parts if wanted in (None, it[0]) and it[0] != unwanted]
 
 
-def random_run(path, steps, members, seed):
-    return hostile_runs.play(path, seed, steps, members)
+def random_run(served, steps, members, seed):
+    return hostile_runs.play(replace(served, seed=seed), seed, steps, members)
 
 
-def fair_run(path, goal, members, seed):
-    return fair_runs.play(path, seed, goal, members)
+def fair_run(served, goal, members, seed):
+    return fair_runs.play(replace(served, seed=seed), seed, goal, members)
 
 
 def play_part(pool, name, play, runs, is_drawn):
@@ -128,8 +146,8 @@ def play_part(pool, name, play, runs, is_drawn):
 def main():
     given = options()
     with tempfile.TemporaryDirectory() as folder, ProcessPoolExecutor(given.jobs) as pool:
-        path = program.find(given.program, folder)
-        failed = sum(play_part(pool, *part, given.draw) for part in parts(given, path))
+        served = served_by(given, folder)
+        failed = sum(play_part(pool, *part, given.draw) for part in parts(given, served))
     return 1 if failed else 0
 
 

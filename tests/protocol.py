@@ -6,6 +6,7 @@ from typing import NamedTuple
 NOTARIZATION = "notarization"
 NULLIFICATION = "nullification"
 FINALIZATION = "finalization"
+MOMENTS = {"finalization": 4, "nullification": 2, "rejected": 2, "proposed": 3, "verdict": 3, "trigger": 3, "timeout": 1, "restart": 2, "restart-pruned": 2}
 CERTIFIED_BY = {"notarize": NOTARIZATION, "nullify": NULLIFICATION, "finalize": FINALIZATION}
 
 
@@ -106,5 +107,12 @@ def vote_in(line, reply):
     return Certificate(kind, *map(int, words[1:4]))
 
 
+def moment_of(line):
+    """The moment that a line carries, or 0."""
+    words = line.split(" ")
+    return int(words[MOMENTS[words[0]]]) if words[0] in MOMENTS else 0
+
+
 def is_restart(line):
-    return line.startswith("restart")
+    """Whether a line asks for another life."""
+    return line.startswith(("restart", "crash"))

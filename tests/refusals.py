@@ -17,7 +17,6 @@ without checks of its own memory."""
 import argparse
 import os
 import re
-import resource
 import subprocess
 import sys
 import tempfile
@@ -30,6 +29,7 @@ from pathlib import Path
 import inputs
 import program
 import scripts
+from preload import compiled, limited
 from scripts import ANY, run
 
 USAGE = "usage: viewstate voter N ME T OPTIMISTIC | viewstate resolver T\n"
@@ -37,7 +37,6 @@ MEMORY, READ, WRITE = (4, "out of memory\n"), (5, "read failed\n"), (5, "write f
 INTERRUPTED, NO_SPACE, NOTHING_TAKEN = 4, 28, 0
 REPLY = re.compile(r"[a-zA-Z][A-Za-z-]*( [A-Za-z0-9_:;-]+)*|-|[0-9a-f]+")
 FAULTS_SHOWN = 10
-ROOM = 400 << 20
 
 
 def options():
@@ -46,14 +45,6 @@ def options():
     parser.add_argument("--every", type=int, default=1, help="refuses every so many-th call alone, from the first on")
     parser.add_argument("--jobs", type=int, default=2, help="how many scripts go side by side")
     return parser.parse_args()
-
-
-def compiled(folder):
-    """The preload that refuses calls."""
-    made = f"{folder}/refuse_calls.so"
-    source = Path(__file__).with_name("refuse_calls.c")
-    subprocess.run(["cc", "-shared", "-fPIC", "-O2", "-o", made, source, "-ldl"], check=True)
-    return made
 
 
 class Refusing:
@@ -193,11 +184,6 @@ def unread_faults(path):
         ended = running.wait(), running.stderr.read().decode()
     if ended != WRITE:
         yield f"a pipe that nobody reads: {ended}"
-
-
-def limited():
-    """Bounds the memory of this process and those that it starts."""
-    resource.setrlimit(resource.RLIMIT_AS, (ROOM, ROOM))
 
 
 def told(name, seen, faults, start):

@@ -1,6 +1,8 @@
 /* Preloaded into the built program: refuses a request for memory, a read of standard input or a write to standard output.
  *
  *   REFUSE_MEMORY=N    the Nth request for memory fails
+ *   REFUSE_ONE_IN=N    each request fails with a chance of one in N, drawn from REFUSE_SEED
+ *   REFUSE_WITHIN=1    only requests between the marks < and > on standard error count, which are not written then
  *   REFUSE_READ=N      the Nth read fails; REFUSE_WRITE=N, the Nth write
  *   REFUSE_BY=E        with this errno (EIO if unset; with 0 a write answers that it took no byte)
  *   SHORT_READ=K       no read gives more than K bytes; SHORT_WRITE=K, no write takes more
@@ -31,9 +33,27 @@ static int is_refused(const char *name, long *count) {
   return 1;
 }
 
+static int is_within;
+
+/* Whether a number that is drawn anew is the one in so many. */
+static int is_drawn(long one_in) {
+  static unsigned long state;
+  if (!state) state = 2 * (unsigned long)setting("REFUSE_SEED") + 1;
+  state ^= state << 13;
+  state ^= state >> 7;
+  state ^= state << 17;
+  return (state >> 11) % (unsigned long)one_in == 0;
+}
+
 static int memory_is_refused(void) {
   static long count;
-  if (!is_refused("REFUSE_MEMORY", &count)) return 0;
+  long one_in = setting("REFUSE_ONE_IN");
+  if (setting("REFUSE_WITHIN") > 0 && !is_within) return 0;
+  if (one_in > 0 && is_drawn(one_in)) {
+    refused();
+  } else if (!is_refused("REFUSE_MEMORY", &count)) {
+    return 0;
+  }
   errno = ENOMEM;
   return 1;
 }
@@ -85,8 +105,16 @@ ssize_t read(int from, void *to, size_t size) {
   return syscall(SYS_read, from, to, from == 0 ? cut(size, "SHORT_READ") : size);
 }
 
+/* Whether it is a mark; takes it. */
+static int is_mark(int to, const char *from, size_t size) {
+  if (to != 2 || size == 0 || setting("REFUSE_WITHIN") <= 0) return 0;
+  if (*from == '<' || *from == '>') is_within = *from == '<';
+  return *from == '<' || *from == '>' || *from == '\n';
+}
+
 ssize_t write(int to, const void *from, size_t size) {
   static long count;
+  if (is_mark(to, from, size)) return (ssize_t)size;
   if (to == 1 && is_refused("REFUSE_WRITE", &count)) return refusal();
   return syscall(SYS_write, to, from, to == 1 ? cut(size, "SHORT_WRITE") : size);
 }

@@ -187,14 +187,16 @@ def with_restarts(schedule, restart):
         earlier.append((member, line, None))
         steps.append((member, line, None))
         if wanted is not None and vote_in(line, wanted) is not None:
-            steps += [(member, f"{restart} 1 30", None), *earlier]
-    shows = f"{schedule.name} with a {restart} after every vote, and what led to it once more"
-    return Schedule(f"{schedule.name}-{restart}", shows, schedule.terms, tuple(steps), schedule.backing)
+            steps += [(member, f"{restart} 30", None), *earlier]
+    word = restart.split(" ")[0]
+    shows = f"{schedule.name} with a {word} after every vote, and what led to it once more"
+    return Schedule(f"{schedule.name}-{word}", shows, schedule.terms, tuple(steps), schedule.backing)
 
 
-def all_schedules():
-    """Every stored schedule."""
-    restarted = [with_restarts(it, word) for word in ("restart", "restart-pruned") for it in FIRST_SCHEDULES]
+def all_schedules(crashes=False):
+    """Every stored schedule; those with crashes only where they are asked for."""
+    lives = ("restart 1", "restart-pruned 1", "crash") if crashes else ("restart 1", "restart-pruned 1")
+    restarted = [with_restarts(it, life) for life in lives for it in FIRST_SCHEDULES]
     pruned = Schedule(
         "pruned-lives", "25 views are finalized in turn, records are pruned at the twentieth, and no vote of a pruned view comes again",
         Terms(1, 0), steps_in(pruned_lives()), {finalization(view, view - 1, view + 100): 4 for view in range(1, 26)},

@@ -1,4 +1,4 @@
-"""The scripts of the repository's tests, read from the tables of `crates/viewstate/src/tests`, and one run of the program."""
+"""The scripts of the repository's tests, read from the tables of `crates/simplex_tests/src/program`, and one run of the program."""
 
 import re
 import subprocess
@@ -7,7 +7,7 @@ from typing import NamedTuple
 
 from program import ROOT
 
-TABLES = ROOT / "crates/viewstate/src/tests"
+TABLES = ROOT / "crates/simplex_tests/src/program"
 TEXT = r'"((?:[^"\\]|\\.)*)"'
 SCRIPT = re.compile(rf"Script\s*\{{\s*shows:\s*{TEXT},\s*command:\s*{TEXT},\s*lines:\s*{TEXT},\s*\}}", re.DOTALL)
 MISUSE = re.compile(rf"\(\s*{TEXT},\s*{TEXT},?\s*\)", re.DOTALL)
@@ -62,6 +62,16 @@ def all_scripts():
 def misused_commands():
     """The arguments that ask for no mode."""
     return [command.split(" ")[1:] for _, command in MISUSE.findall((TABLES / "misuses.rt").read_text())]
+
+
+class NotAsAsked(Exception):
+    """Something that is not as a script, or what is asked besides, has it."""
+
+
+def wants(holds, what, seen):
+    """Raises what was seen instead, unless it holds."""
+    if not holds:
+        raise NotAsAsked(f"{what}: {seen}")
 
 
 class Ended(NamedTuple):

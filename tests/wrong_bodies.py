@@ -1,9 +1,10 @@
 #!/usr/bin/env python3
-"""That the bench of networks can fail: wrong bodies, each built unproved, and the schedule that finds each.
+"""That the sweeps can fail: wrong bodies, each built unproved, and the schedule or the refusal of memory that finds each.
 
 A wrong body is an edit of `crates/NAME/must-fail`, made in a copy of the repository and built by `rt try`, which proves
 nothing. The stored schedules come first, then random ones. A law of one member's votes is mostly what breaks first; with
-`--agreement` random networks go on besides, with these laws left alone, until the members disagree.
+`--agreement` random networks go on besides, with these laws left alone, until the members disagree. Bodies that go wrong where
+memory is refused are found by `tests/memory.py`.
 
     tests/wrong_bodies.py                              all of those below; half a minute each
     tests/wrong_bodies.py --only without_the_gate --agreement --draw
@@ -21,12 +22,14 @@ from pathlib import Path
 from typing import NamedTuple
 
 import hostile_runs
+import memory
 import program
 import schedules
 from checks import Broken
 from draw import drawn
-from member import ProgramEnded
+from member import ProgramEnded, Served
 from network import Network, NotBacked
+from preload import compiled, limited
 from program import ROOT
 
 WRONG_BODIES = (
@@ -39,6 +42,12 @@ WRONG_BODIES = (
     "simplex_round/finalize_without_certification",
     "simplex_member/a_pruning_that_takes_later_votes_to_nullify",
     "simplex_member/a_drop_that_takes_votes",
+)
+WRONG_WITHOUT_MEMORY = (
+    "simplex_member/a_best_certificate_that_fails_the_member",
+    "simplex_member/a_refused_resume_that_loses_the_entries",
+    "simplex_replay/goes_on_without_memory_for_its_effects",
+    "simplex_voter/a_state_that_always_fails",
 )
 RUNS_AT_ONCE = 16
 
@@ -81,19 +90,29 @@ def apply_edit(root, name):
 
 
 def wrong_program(folder, name):
-    """Builds the program with a wrong body into a folder; its path."""
+    """Builds the program with a wrong body into a folder, or the second one; its path."""
     root = Path(folder) / "repository"
     shutil.copytree(ROOT, root, ignore=shutil.ignore_patterns("out", ".git", "__pycache__"))
     apply_edit(root, name)
-    path = program.build(root / "crates/viewstate", Path(folder))
+    if name in WRONG_WITHOUT_MEMORY:
+        path = program.find_enduring(None, folder, root)
+    else:
+        path = program.build(root / "crates/viewstate", Path(folder))
     shutil.rmtree(root)
     return path
+
+
+def first_refusal(path, folder, jobs):
+    """What is not as asked of the wrong body where memory is refused, or None."""
+    with ProcessPoolExecutor(jobs, initializer=limited) as pool:
+        seen, faults = memory.sweep_all(pool, path, compiled(folder), 1)
+    return Found("memory refused", faults[0], sum(seen.values()), "") if faults else None
 
 
 def stored_runs(path):
     """Plays the stored schedules, up to the first that breaks a law."""
     for count, schedule in enumerate(schedules.all_schedules(), 1):
-        with Network(path, 4, {0}, schedule.terms) as network:
+        with Network(Served(path), 4, {0}, schedule.terms) as network:
             try:
                 schedules.play(schedule, network)
             except Broken as broken:
@@ -106,7 +125,7 @@ def stored_runs(path):
 def random_run(path, steps, watches_votes, seed):
     """Plays a random run; what it broke, or None."""
     try:
-        hostile_runs.play(path, seed, steps, watches_votes=watches_votes)
+        hostile_runs.play(Served(path), seed, steps, watches_votes=watches_votes)
     except Broken as broken:
         return Found(f"random --seed {seed} --steps {steps}", str(broken), seed, drawn(broken.network))
     except ProgramEnded:
@@ -137,9 +156,12 @@ def try_one(pool, name, given):
     with tempfile.TemporaryDirectory() as folder:
         path = wrong_program(folder, name)
         built = time.monotonic()
-        found = stored_runs(path) or first_random(pool, path, given, watches_votes=True)
+        if name in WRONG_WITHOUT_MEMORY:
+            found = first_refusal(path, folder, given.jobs)
+        else:
+            found = stored_runs(path) or first_random(pool, path, given, watches_votes=True)
         show(name, found, given.draw)
-        if given.agreement:
+        if given.agreement and name not in WRONG_WITHOUT_MEMORY:
             show(f"{name}, disagreement", first_random(pool, path, given, watches_votes=False), given.draw)
     print(f"  built in {built - start:.0f} s, tried for {time.monotonic() - built:.1f} s", flush=True)
     return found is not None
@@ -147,7 +169,7 @@ def try_one(pool, name, given):
 
 def main():
     given = options()
-    names = [it for it in WRONG_BODIES if given.only in it]
+    names = [it for it in WRONG_BODIES + WRONG_WITHOUT_MEMORY if given.only in it]
     with ProcessPoolExecutor(given.jobs) as pool:
         missed = [name for name in names if not try_one(pool, name, given)]
     print(f"wrong bodies: {len(names) - len(missed)} found, {len(missed)} not found")

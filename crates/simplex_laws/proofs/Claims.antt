@@ -9,7 +9,7 @@ use Rattle.simplex_types.specs.declared.types.messages.Subject.TheVariants as su
 use Rattle.simplex_types.specs.Terms.{covers}
 use Rattle.simplex_types.proofs.Covers.{covers_parts}
 use Rattle.simplex_voter.specs.Facts.{Elect}
-use Rattle.simplex_laws.specs.Agreement.{Certified, OneProposal, FinalizedUncovered, ParentNotBelow, FinalizedNotarized, Chain, ChainHoldsFinalized}
+use Rattle.simplex_laws.specs.Agreement.{Certified, OneProposal, FinalizedUncovered, ParentBefore, ParentNotBelow, FinalizedNotarized, Chain, ChainHoldsFinalized}
 use Rattle.simplex_laws.specs.Deeds.{Deed, Accepts}
 use Rattle.simplex_laws.specs.Lawful.{HasSigned, SignsAfter, IsLawful}
 use Rattle.simplex_laws.specs.Places.{Place, Honest, Backed, IsNetworkOf}
@@ -84,6 +84,9 @@ module _ {K L D : Type 0} (same : D → D → Bool) (decides : (d e : D) → sam
       let m = shared_member network (subject.Notarize p) (subject.Notarize p) good.few_faulty notarized notarized in
       let signs = voted (deeds_of m.1) (subject.Notarize p) m.3 in
       (lawful m.0 m.1 m.2).parent_before signs.0 p signs.1
+
+  pub parent_before : ParentBefore network
+  parent_before p certified = parent_earlier p (certified_notarized p certified)
 
   -- a backed notarization skips no finalized view
   not_skipped : (final p : Proposal D) → Backed network (subject.Finalize final) → Backed network (subject.Notarize p) → p.parent < final.round.view → final.round.view < p.round.view → ⊥

@@ -22,7 +22,7 @@ use Rattle.simplex_member.specs.Lives.{MemberFacts, IsCall, AnswersAlive, reply_
 use Rattle.simplex_member.specs.Openings.{Openings}
 use Rattle.simplex_member.specs.Runs.{StepFacts, Calls, Restarts, restart_told, IsStep, IsRun, IsRunFrom}
 use Rattle.simplex_member.specs.Restarts.{RestartFacts}
-use Rattle.simplex_member.specs.Start.{started}
+use Rattle.simplex_member.specs.Start.{started, new_state}
 use Rattle.simplex_laws.specs.Exactly.{is_refused, IsSignedFor, IsExact, held, ExactAt, RunsExactly, SignsExactly}
 use Rattle.simplex_laws.specs.Deeds.{Deed, Signs, signed_in}
 use Rattle.simplex_laws.specs.Stories.{Story}
@@ -146,4 +146,4 @@ module _ {K L D : Type 0} (same : D → D → Bool) (elect : Elect L) where
 
   pub run_exact : (s : Story K L D) → IsRunFrom same elect s.start s.steps s.replies → SignsExactly same elect s
   unfolding IsRunFrom
-  run_exact s (accepted, end, run) = exact_steps (started same elect s.start.fresh s.start.floor s.start.now) end s.steps s.replies run
+  run_exact s (accepted, end, run) = exact_steps (started same elect (new_state s.start.setup) s.start.floor s.start.now) end s.steps s.replies run

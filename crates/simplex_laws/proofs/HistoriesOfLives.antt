@@ -22,11 +22,10 @@ use Rattle.simplex_member.specs.Recovery.{as_artifact, replayed, retaken, taken,
 use Rattle.simplex_member.specs.Restarts.{RestartFacts, IsByView, IsRestart, IsRestartWhere, GoesOn, new_life, cut, retention_grows}
 use Rattle.simplex_member.specs.Runs.{StepFacts, Calls, Restarts, restart_told, IsRun}
 use Rattle.simplex_laws.specs.Shows.{Shows}
-use Rattle.simplex_member.specs.Start.{StartFacts, started}
+use Rattle.simplex_member.specs.Start.{Setup, StartFacts, started, new_state}
 use Rattle.simplex_laws.specs.Sums.{finalized_in}
 use Rattle.simplex_member.proofs.Allowing.{new_bears}
 use Rattle.simplex_member.proofs.Bearing.{BearsAll}
-use Rattle.simplex_laws.specs.Fresh.{IsFresh, BeginFresh}
 use Rattle.simplex_laws.proofs.CallsMake.{call_by_event}
 use Rattle.simplex_laws.proofs.Histories.{event_shown}
 use Rattle.simplex_laws.proofs.NewLives.{first_none}
@@ -49,8 +48,8 @@ entries_back K (e ∷ es) = rw (entry_back K e, entries_back K es) refl
 
 module _ {K L D : Type 0} (same : D → D → Bool) (elect : Elect L) where
   -- of a new state nothing was said
-  pub begun_shown : (term_length : ℕ) (x : Facts K L D) → IsFresh term_length x → Shows same elect (record { fresh = x; events = [] }) x
-  begun_shown term_length x fresh = subst (λ y. Shows same elect (record { fresh = y; events = [] }) y) (sym fresh.fresh) (record {
+  pub begun_shown : (setup : Setup K L) → Shows {D = D} same elect (record { fresh = new_state setup; events = [] }) (new_state setup)
+  begun_shown setup = record {
     facts = refl;
     dropped = λ some v below. refl;
     nullified_dropped = λ v below. refl;
@@ -73,7 +72,7 @@ module _ {K L D : Type 0} (same : D → D → Bool) (elect : Elect L) where
     named = λ v. refl;
     tracked = λ v kept. refl;
     rounds = λ v kept. refl;
-  })
+  }
 
   -- what is answered is not refused
   told_events : (history : History K L D) (x : Facts K L D) (o : Openings K D) (call : CallFacts D) → with_call history o call (answer same elect x o call) ≡ with_events history (events_of o call)
@@ -130,24 +129,24 @@ module _ {K L D : Type 0} (same : D → D → Bool) (decides : (d e : D) → sam
       let next : Shows same elect (with_entry history now e) y = taken_shown same decides elect history x shows now e (λ above. takes.0.taken (ap (λ v. nat_lt v (min_active x)) (view_back K e) ∙ above)) in
       entries_shown rest (with_entry history now e) y next (subst (λ a. TakesEntries (λ b. b) same elect (taken same elect x now a) now (map (as_artifact {K = K}) rest)) (entry_back K e) takes.1)
 
-module _ {K L D : Type 0} (same : D → D → Bool) (decides : (d e : D) → same d e ≡ true → d ≡ e) (elect : Elect L) (start : StartFacts K L D) (term_length : ℕ) (fresh : IsFresh term_length start.fresh) where
+module _ {K L D : Type 0} (same : D → D → Bool) (decides : (d e : D) → same d e ≡ true → d ≡ e) (elect : Elect L) (start : StartFacts K L D) where
   -- a floor that breaks no rule
-  floor_shown : first_error (floor_rules start.fresh.settings.epoch start.floor) ≡ None → Shows same elect (record { fresh = start.fresh; events = SetFloor start.floor start.now ∷ [] }) (after_set_floor same elect start.fresh start.floor start.now)
-  floor_shown good = event_shown same elect (record { fresh = start.fresh; events = [] }) start.fresh (begun_shown same elect term_length start.fresh fresh) decides (SetFloor start.floor start.now) (good_floor start.fresh (ap (λ y. y.current) fresh.fresh) start.floor good)
+  floor_shown : first_error (floor_rules start.setup.settings.epoch start.floor) ≡ None → Shows same elect (record { fresh = new_state start.setup; events = SetFloor start.floor start.now ∷ [] }) (after_set_floor same elect (new_state start.setup) start.floor start.now)
+  floor_shown good = event_shown same elect (record { fresh = new_state start.setup; events = [] }) (new_state start.setup) (begun_shown same elect start.setup) decides (SetFloor start.floor start.now) (good_floor (new_state start.setup) refl start.floor good)
 
-  unbroken_shown : (entries : List (ArtifactFacts D)) → first_broken_rule same start.fresh.settings.epoch start.fresh.me start.floor entries ≡ None → Shows same elect (recovery start entries) (recovered same elect start.fresh start.floor start.now entries)
+  unbroken_shown : (entries : List (ArtifactFacts D)) → first_broken_rule same start.setup.settings.epoch start.setup.me start.floor entries ≡ None → Shows same elect (recovery start entries) (recovered same elect (new_state start.setup) start.floor start.now entries)
   unfolding recovered first_broken_rule
   unbroken_shown entries none =
-      let x = start.fresh in
+      let x = new_state start.setup in
       let y = after_set_floor same elect x start.floor start.now in
       let good = (first_none (first_error (floor_rules x.settings.epoch start.floor)) (first_broken_after same x.settings.epoch x.me [] entries) none).0 in
-      let bears : BearsAll [] x = subst (BearsAll []) (sym fresh.fresh) (new_bears x.settings x.me x.members x.elector x.terms x.elects_early) in
-      let going : x.failed ≡ false = ap (λ z. z.failed) fresh.fresh in
+      let bears : BearsAll [] x = new_bears x.settings x.me x.members x.elector x.terms x.elects_early in
+      let going : x.failed ≡ false = refl in
       let takes : TakesEntries (λ b. b) same elect y start.now (map (as_artifact {K = K}) entries) = set_takes same elect x start.floor start.now (λ b. b) (map (as_artifact {K = K}) entries) going bears (subst (λ es. first_broken_rule same x.settings.epoch x.me start.floor es ≡ None) (sym (entries_back K entries)) none) in
       entries_shown same decides elect start.now entries (record { fresh = x; events = SetFloor start.floor start.now ∷ [] }) y (floor_shown good) takes
 
-  pub recovered_shown : (entries : List (ArtifactFacts D)) → recover_error same start.fresh start.floor start.now entries ≡ None → Shows same elect (recovery start entries) (recovered same elect start.fresh start.floor start.now entries)
-  recovered_shown entries none = unbroken_shown entries (first_none (first_broken_rule same start.fresh.settings.epoch start.fresh.me start.floor entries) _ none).0
+  pub recovered_shown : (entries : List (ArtifactFacts D)) → recover_error same (new_state start.setup) start.floor start.now entries ≡ None → Shows same elect (recovery start entries) (recovered same elect (new_state start.setup) start.floor start.now entries)
+  recovered_shown entries none = unbroken_shown entries (first_none (first_broken_rule same start.setup.settings.epoch start.setup.me start.floor entries) _ none).0
 
 module _ {K L D : Type 0} (same : D → D → Bool) (decides : (d e : D) → same d e ≡ true → d ≡ e) (elect : Elect L) (m : MemberFacts K L D) where
   -- a call
@@ -176,7 +175,7 @@ module _ {K L D : Type 0} (same : D → D → Bool) (decides : (d e : D) → sam
   -- a restart that is refused leaves a member that has failed, or the one that it was
   refused_shown : (history : History K L D) (left : MemberFacts K L D) (r : RestartFacts K L D) (result : Result (Unit {0}) RecoverError) (found : RecoverError) → result ≡ Err found → IsShown same elect history m → IsRestart same elect m r result left → IsShown same elect history left
   unfolding IsRestart
-  refused_shown history left r result found refused shown restarts = by_test (retention_grows m r.prune r.start.fresh.settings.view_retention) restarts
+  refused_shown history left r result found refused shown restarts = by_test (retention_grows m r.prune r.start.setup.settings.view_retention) restarts
     where
       by_error : (o : Option RecoverError) (copy : List (ArtifactFacts D)) → MatchOption o ((result ≡ Ok tt) × (left ≡ new_life same elect (cut m r.drop r.prune) r.start copy)) (λ e. (result ≡ Err e) × (left ≡ fallen (cut m r.drop r.prune))) → IsShown same elect history left
       by_error None copy (is, leaves) = absurd (cc)
@@ -184,7 +183,7 @@ module _ {K L D : Type 0} (same : D → D → Bool) (decides : (d e : D) → sam
 
       by_going : GoesOn same elect (cut m r.drop r.prune) r.start result left → IsShown same elect history left
       by_going (inl (is, leaves)) = rw leaves tt
-      by_going (inr (copy, by_view, goes)) = by_error (recover_error same r.start.fresh r.start.floor r.start.now copy) copy goes
+      by_going (inr (copy, by_view, goes)) = by_error (recover_error same (new_state r.start.setup) r.start.floor r.start.now copy) copy goes
 
       by_test : (b : Bool) → IsRestartWhere same elect b m r result left → IsShown same elect history left
       by_test true (is, leaves) = rw leaves shown
@@ -192,35 +191,35 @@ module _ {K L D : Type 0} (same : D → D → Bool) (decides : (d e : D) → sam
 
   -- one that is not refused
 
-  from_copy : (n left : MemberFacts K L D) (start : StartFacts K L D) (result : Result (Unit {0}) RecoverError) (term_length : ℕ) (copy : List (ArtifactFacts D)) → result ≡ Ok tt → IsFresh term_length start.fresh → MatchOption (recover_error same start.fresh start.floor start.now copy) ((result ≡ Ok tt) × (left ≡ new_life same elect n start copy)) (λ e. (result ≡ Err e) × (left ≡ fallen n)) → IsShown same elect (recovery start copy) left
-  from_copy n left start result term_length copy well fresh goes = by_error (recover_error same start.fresh start.floor start.now copy) refl goes
+  from_copy : (n left : MemberFacts K L D) (start : StartFacts K L D) (result : Result (Unit {0}) RecoverError) (copy : List (ArtifactFacts D)) → result ≡ Ok tt → MatchOption (recover_error same (new_state start.setup) start.floor start.now copy) ((result ≡ Ok tt) × (left ≡ new_life same elect n start copy)) (λ e. (result ≡ Err e) × (left ≡ fallen n)) → IsShown same elect (recovery start copy) left
+  from_copy n left start result copy well goes = by_error (recover_error same (new_state start.setup) start.floor start.now copy) refl goes
     where
-      by_error : (o : Option RecoverError) → recover_error same start.fresh start.floor start.now copy ≡ o → MatchOption o ((result ≡ Ok tt) × (left ≡ new_life same elect n start copy)) (λ e. (result ≡ Err e) × (left ≡ fallen n)) → IsShown same elect (recovery start copy) left
-      by_error None none (_, leaves) = rw leaves (recovered_shown same decides elect start term_length fresh copy none)
+      by_error : (o : Option RecoverError) → recover_error same (new_state start.setup) start.floor start.now copy ≡ o → MatchOption o ((result ≡ Ok tt) × (left ≡ new_life same elect n start copy)) (λ e. (result ≡ Err e) × (left ≡ fallen n)) → IsShown same elect (recovery start copy) left
+      by_error None none (_, leaves) = rw leaves (recovered_shown same decides elect start copy none)
       by_error (Some e) due (is, leaves) = absurd (cc)
 
-  pub restarted_shown : (term_length : ℕ) (left : MemberFacts K L D) (r : RestartFacts K L D) (result : Result (Unit {0}) RecoverError) → result ≡ Ok tt → IsFresh term_length r.start.fresh → IsRestart same elect m r result left → (copy : List (ArtifactFacts D)) × IsByView (cut m r.drop r.prune).entries copy × IsShown same elect (recovery r.start copy) left
+  pub restarted_shown : (left : MemberFacts K L D) (r : RestartFacts K L D) (result : Result (Unit {0}) RecoverError) → result ≡ Ok tt → IsRestart same elect m r result left → (copy : List (ArtifactFacts D)) × IsByView (cut m r.drop r.prune).entries copy × IsShown same elect (recovery r.start copy) left
   unfolding IsRestart
-  restarted_shown term_length left r result well fresh restarts = by_test (retention_grows m r.prune r.start.fresh.settings.view_retention) restarts
+  restarted_shown left r result well restarts = by_test (retention_grows m r.prune r.start.setup.settings.view_retention) restarts
     where
       by_going : GoesOn same elect (cut m r.drop r.prune) r.start result left → (copy : List (ArtifactFacts D)) × IsByView (cut m r.drop r.prune).entries copy × IsShown same elect (recovery r.start copy) left
       by_going (inl (is, leaves)) = absurd (cc)
-      by_going (inr (copy, by_view, goes)) = (copy, by_view, from_copy (cut m r.drop r.prune) left r.start result term_length copy well fresh goes)
+      by_going (inr (copy, by_view, goes)) = (copy, by_view, from_copy (cut m r.drop r.prune) left r.start result copy well goes)
 
       by_test : (b : Bool) → IsRestartWhere same elect b m r result left → (copy : List (ArtifactFacts D)) × IsByView (cut m r.drop r.prune).entries copy × IsShown same elect (recovery r.start copy) left
       by_test true (is, leaves) = absurd (cc)
       by_test false goes = by_going goes
 
-module _ {K L D : Type 0} (same : D → D → Bool) (decides : (d e : D) → same d e ≡ true → d ≡ e) (elect : Elect L) (term_length : ℕ) where
-  run_shown : (steps : List (StepFacts K L D)) (replies : List (Told K D)) (history : History K L D) (m end : MemberFacts K L D) → BeginFresh term_length steps → IsShown same elect history m → IsRun same elect m steps replies end → (last : History K L D) × LeadsTo same elect m history steps replies last end × IsShown same elect last end
-  run_shown [] [] history m end fresh shown run = (history, (refl, run), subst (IsShown same elect history) run shown)
-  run_shown [] (told ∷ replies) history m end fresh shown run = absurd run
-  run_shown (step ∷ steps) [] history m end fresh shown run = absurd run
-  run_shown (Calls call ∷ steps) (told ∷ replies) history m end fresh shown (next, is_step, rest) =
-      let later = run_shown steps replies (with_call history m.openings call told) next end fresh (called_shown same decides elect m history next call told shown is_step) rest in
+module _ {K L D : Type 0} (same : D → D → Bool) (decides : (d e : D) → same d e ≡ true → d ≡ e) (elect : Elect L) where
+  run_shown : (steps : List (StepFacts K L D)) (replies : List (Told K D)) (history : History K L D) (m end : MemberFacts K L D) → IsShown same elect history m → IsRun same elect m steps replies end → (last : History K L D) × LeadsTo same elect m history steps replies last end × IsShown same elect last end
+  run_shown [] [] history m end shown run = (history, (refl, run), subst (IsShown same elect history) run shown)
+  run_shown [] (told ∷ replies) history m end shown run = absurd run
+  run_shown (step ∷ steps) [] history m end shown run = absurd run
+  run_shown (Calls call ∷ steps) (told ∷ replies) history m end shown (next, is_step, rest) =
+      let later = run_shown steps replies (with_call history m.openings call told) next end (called_shown same decides elect m history next call told shown is_step) rest in
       (later.0, (next, is_step, later.1), later.2)
-  run_shown (Restarts r ∷ steps) (told ∷ replies) history m end fresh shown (next, (result, is_restart, tells), rest) =
-      by_result result refl is_restart (tells ∙ refl) (λ left_shown. run_shown steps replies history next end fresh.1 left_shown rest) (λ copy copy_shown. run_shown steps replies (recovery r.start copy) next end fresh.1 copy_shown rest)
+  run_shown (Restarts r ∷ steps) (told ∷ replies) history m end shown (next, (result, is_restart, tells), rest) =
+      by_result result refl is_restart (tells ∙ refl) (λ left_shown. run_shown steps replies history next end left_shown rest) (λ copy copy_shown. run_shown steps replies (recovery r.start copy) next end copy_shown rest)
     where
       After : Told K D → Type 0
       After t = (last : History K L D) × LeadsTo same elect m history (Restarts r ∷ steps) (t ∷ replies) last end × IsShown same elect last end
@@ -230,7 +229,7 @@ module _ {K L D : Type 0} (same : D → D → Bool) (decides : (d e : D) → sam
           → ((copy : List (ArtifactFacts D)) → IsShown same elect (recovery r.start copy) next → (last : History K L D) × LeadsTo same elect next (recovery r.start copy) steps replies last end × IsShown same elect last end)
           → After told
       by_result (Ok _) is restarts tells behind renewed =
-          let found = restarted_shown same decides elect m term_length next r result is fresh.0 restarts in
+          let found = restarted_shown same decides elect m next r result is restarts in
           let later = renewed found.0 found.2 in
           let so : told ≡ Restarted = tells ∙ ap restart_told is in
           subst After (sym so) (later.0, (next, (result, restarts, sym (ap restart_told is)), (found.0, found.1, later.1)), later.2)
@@ -240,7 +239,7 @@ module _ {K L D : Type 0} (same : D → D → Bool) (decides : (d e : D) → sam
           subst After (sym so) (later.0, (next, (result, restarts, sym (ap restart_told is)), later.1), later.2)
 
   -- from the start on
-  pub ran_shown : (start : StartFacts K L D) (steps : List (StepFacts K L D)) (replies : List (Told K D)) (end : MemberFacts K L D) → IsFresh term_length start.fresh → BeginFresh term_length steps → recover_error same start.fresh start.floor start.now [] ≡ None → IsRun same elect (started same elect start.fresh start.floor start.now) steps replies end → (last : History K L D) × LeadsTo same elect (started same elect start.fresh start.floor start.now) (recovery start []) steps replies last end × IsShown same elect last end
+  pub ran_shown : (start : StartFacts K L D) (steps : List (StepFacts K L D)) (replies : List (Told K D)) (end : MemberFacts K L D) → recover_error same (new_state start.setup) start.floor start.now [] ≡ None → IsRun same elect (started same elect (new_state start.setup) start.floor start.now) steps replies end → (last : History K L D) × LeadsTo same elect (started same elect (new_state start.setup) start.floor start.now) (recovery start []) steps replies last end × IsShown same elect last end
   unfolding recovered
-  ran_shown start steps replies end begins fresh good run =
-      run_shown steps replies (recovery start []) (started same elect start.fresh start.floor start.now) end fresh (recovered_shown same decides elect start term_length begins [] good) run
+  ran_shown start steps replies end good run =
+      run_shown steps replies (recovery start []) (started same elect (new_state start.setup) start.floor start.now) end (recovered_shown same decides elect start [] good) run

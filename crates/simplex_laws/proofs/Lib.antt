@@ -1,3 +1,6 @@
+pub mod Fresh
+pub mod BrokenRules
+pub mod BrokenParents
 pub mod Splits
 pub mod Signed
 pub mod VoteOrder
@@ -96,6 +99,7 @@ pub mod CallsMake
 pub mod EachRound
 pub mod Sound
 pub mod TimingOut
+pub mod Progress
 pub mod Verdicts
 pub mod StandingSteps
 pub mod RunsKeep

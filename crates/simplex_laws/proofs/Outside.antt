@@ -1,6 +1,5 @@
 -- A record whose entries fit behind one another breaks only rules on what comes from outside.
 use Rattle.std.proofs.Common.{◌≡◌, refl, sym, ◌∙◌, subst, ℕ, ◌⊎◌, inl, inr, Bool, true, false, nat_lt, if◌then◌else◌, List, [], ◌∷◌, ◌++◌, Option, Some, None}
-use Rattle.std.specs.Option.{option_or}
 use Rattle.std.proofs.lemmas.Bool.{false≢true}
 use Rattle.simplex_types.specs.Certificates.{ArtifactFacts, NotarizeVote, NullifyVote, FinalizeVote, Verdict, Accepted}
 use Rattle.simplex_types.specs.Config.{FloorFacts, Genesis, Finalized}
@@ -11,31 +10,15 @@ use Rattle.simplex_member.specs.declared.member.error.RecoverError.TheVariants a
 use Rattle.simplex_member.specs.Check.{first_error, last_view, lacks_notarization, contradicts_verdict, meets_opposite, contradicts_vote, lacks_true_verdict, beside_rules, own_rules, floor_rules, entry_rules, first_broken_after, first_broken_rule}
 use Rattle.simplex_member.specs.Entries.{entry_view}
 use Rattle.simplex_laws.specs.Outside.{IsFromOutside}
+use Rattle.simplex_laws.proofs.BrokenRules.{OfBroken, first_broken, broken_joined, from_either}
 use Rattle.simplex_member.specs.Recovery.{recover_error}
 
 -- each of the rules that is broken is on what comes from outside
 abbrev pub AreOutside : List (Bool × RecoverError) → Type 0
-AreOutside [] = Unit {0}
-AreOutside (rule ∷ rules) = (rule.0 ≡ true → IsFromOutside rule.1) × AreOutside rules
-
-first_outside : (rules : List (Bool × RecoverError)) (found : RecoverError) → AreOutside rules → first_error rules ≡ Some found → IsFromOutside found
-first_outside [] found outside is = absurd (cc)
-first_outside ((true, e) ∷ rules) found outside is =
-    let same : e ≡ found = cc in
-    subst IsFromOutside same (outside.0 refl)
-first_outside ((false, e) ∷ rules) found outside is = first_outside rules found outside.1 is
-
-outside_joined : (xs ys : List (Bool × RecoverError)) → AreOutside xs → AreOutside ys → AreOutside (xs ++ ys)
-outside_joined [] ys p q = q
-outside_joined (x ∷ xs) ys p q = (p.0, outside_joined xs ys p.1 q)
+AreOutside rules = OfBroken IsFromOutside rules
 
 unbroken : (b : Bool) (found : RecoverError) → b ≡ false → b ≡ true → IsFromOutside found
 unbroken b found fine broken = absurd (false≢true (sym fine ∙ broken))
-
--- one of two errors
-pub from_either : (o p : Option RecoverError) (found : RecoverError) → option_or o p ≡ Some found → (o ≡ Some found) ⊎ (p ≡ Some found)
-from_either None p found is = inr is
-from_either (Some e) p found is = inl is
 
 module _ {D : Type 0} (same : D → D → Bool) where
   -- an entry that breaks none of the rules on those before it, the newest first
@@ -63,7 +46,7 @@ module _ {D : Type 0} (same : D → D → Bool) (epoch : ℕ) (me : Option ℕ) 
   entry_outside : (before : List (ArtifactFacts D)) (e : ArtifactFacts D) → Fits same before e → AreOutside (entry_rules same epoch me before e)
   entry_outside before e fits = (
     unbroken (nat_lt (entry_view e) (last_view before)) error.OutOfOrder fits.in_order,
-    outside_joined (own_rules epoch me e) (beside_rules same before e) (own_outside e) (
+    broken_joined IsFromOutside (own_rules epoch me e) (beside_rules same before e) (own_outside e) (
       unbroken (lacks_notarization before e) error.VerdictWithoutNotarization fits.notarized,
       (
         unbroken (contradicts_verdict before e) error.ContradictingVerdicts fits.one_verdict,
@@ -81,7 +64,7 @@ module _ {D : Type 0} (same : D → D → Bool) (epoch : ℕ) (me : Option ℕ) 
   entries_outside : (before entries : List (ArtifactFacts D)) (found : RecoverError) → Fit same before entries → first_broken_after same epoch me before entries ≡ Some found → IsFromOutside found
   entries_outside before [] found fit is = absurd (cc)
   entries_outside before (e ∷ rest) found fit is = elim (from_either (first_error (entry_rules same epoch me before e)) (first_broken_after same epoch me (e ∷ before) rest) found is) [
-    | inl here ↦ first_outside (entry_rules same epoch me before e) found (entry_outside before e fit.0) here
+    | inl here ↦ first_broken IsFromOutside (entry_rules same epoch me before e) found (entry_outside before e fit.0) here
     | inr later ↦ entries_outside (e ∷ before) rest found fit.1 later
   ]
 
@@ -100,7 +83,7 @@ module _ {K L D : Type 0} (same : D → D → Bool) (x : Facts K L D) (floor : F
   error_outside entries found fit is = elim (from_either (first_broken_rule same x.settings.epoch x.me floor entries) (if has_late_deadline x now then Some error.TimeOverflow else None) found is) [
     | inr late ↦ late_outside (has_late_deadline x now) found late
     | inl broken ↦ elim (from_either (first_error (floor_rules x.settings.epoch floor)) (first_broken_after same x.settings.epoch x.me [] entries) found broken) [
-      | inl of_floor ↦ first_outside (floor_rules x.settings.epoch floor) found (floor_outside x.settings.epoch floor) of_floor
+      | inl of_floor ↦ first_broken IsFromOutside (floor_rules x.settings.epoch floor) found (floor_outside x.settings.epoch floor) of_floor
       | inr of_entry ↦ entries_outside same x.settings.epoch x.me [] entries found fit of_entry
     ]
   ]

@@ -15,14 +15,15 @@ use Rattle.simplex_member.specs.Check.{stands}
 use Rattle.simplex_member.specs.Cuts.{may_drop, without_last, finalized_in, pruned}
 use Rattle.simplex_member.specs.Entries.{entry_view}
 use Rattle.simplex_member.specs.Lives.{MemberFacts, IsCall, AnswersAlive, reply_of, left_of, fallen}
-use Rattle.simplex_laws.specs.Outside.{IsFromOutside, IsExcused, VerdictsFollowNotarizations}
+use Rattle.simplex_laws.specs.Outside.{AcceptedParentAbove, IsFromOutside, IsExcused, VerdictsFollowNotarizations}
 use Rattle.simplex_member.specs.Recovery.{recover_error, recovered, is_finalization, with_floor}
 use Rattle.simplex_member.specs.Restarts.{RestartFacts, IsByView, cut, new_life, retention_grows, GoesOn, IsRestart, IsRestartWhere}
 use Rattle.simplex_member.specs.Runs.{StepFacts, Calls, Restarts, restart_told, IsRun, EndsRun, EndsRunFrom}
-use Rattle.simplex_member.specs.Start.{StartFacts, started}
+use Rattle.simplex_member.specs.Start.{StartFacts, started, new_state}
 use Rattle.simplex_member.proofs.Cuts.{none_dropped}
-use Rattle.simplex_laws.specs.Deeds.{Deed, of_floor, deeds_of_call, deeds_at}
-use Rattle.simplex_laws.specs.Fresh.{IsFresh, BeginFresh}
+use Rattle.simplex_laws.specs.Deeds.{Deed, of_floor, deeds_of_call, deeds_at, deeds_of_steps}
+use Rattle.simplex_laws.specs.TermLengths.{HasTerms, KeepTerms}
+use Rattle.simplex_laws.proofs.BrokenParents.{parent_accepted}
 use Rattle.simplex_laws.proofs.CutsRemembered.{copy_remembers}
 use Rattle.simplex_laws.proofs.Outside.{Fit, error_outside}
 use Rattle.simplex_laws.proofs.OwnRecords.{OwnRecord, own_together, own_nothing, HasNoVerdict, own_floor, own_left, own_bounded, own_copy, same_entries}
@@ -122,34 +123,33 @@ module _ {K L D : Type 0} (same : D → D → Bool) (elect : Elect L) (term_leng
 
   -- a restart
 
-  from_copy : (n : MemberFacts K L D) (start : StartFacts K L D) (copy : List (ArtifactFacts D)) → IsFresh term_length start.fresh → OwnRecord deeds n.entries → IsByView n.entries copy → MemberTells (deeds ++ of_floor start.floor) (new_life same elect n start copy)
-  from_copy n start copy fresh own by_view =
-      let x = start.fresh in
+  from_copy : (n : MemberFacts K L D) (start : StartFacts K L D) (copy : List (ArtifactFacts D)) → OwnRecord deeds n.entries → IsByView n.entries copy → MemberTells (deeds ++ of_floor start.floor) (new_life same elect n start copy)
+  from_copy n start copy own by_view =
+      let x = new_state start.setup in
       let in_copy = own_copy deeds n.entries own copy by_view.of_each_view in
       let shows = recovered_shows same elect x.settings x.me x.members x.elector x.terms x.elects_early copy start.floor start.now by_view.rising in_copy.one_verdict in
-      let made = ap (λ y. recovered same elect y start.floor start.now copy) fresh.fresh in
       record {
         own = own_floor deeds n.entries own (of_floor start.floor) start.floor;
-        shows = shows_whole n.entries copy start.floor (recovered same elect x start.floor start.now copy) by_view.of_each_view (subst (λ y. Shows copy y) (sym made) shows);
+        shows = shows_whole n.entries copy start.floor (recovered same elect x start.floor start.now copy) by_view.of_each_view shows;
       }
 
-  goes_on : (n : MemberFacts K L D) (r : RestartFacts K L D) (result : Result (Unit {0}) RecoverError) (left : MemberFacts K L D) → IsFresh term_length r.start.fresh → OwnRecord deeds n.entries → GoesOn same elect n r.start result left → MemberTells (deeds ++ deeds_at (Restarts r) (restart_told {K = K} {D = D} result)) left
-  goes_on n r result left fresh own (inl (is, leaves)) = rw (is, leaves) (untold deeds (fallen n) own)
-  goes_on n r result left fresh own (inr (copy, by_view, goes)) = by_error (recover_error same r.start.fresh r.start.floor r.start.now copy) goes
+  goes_on : (n : MemberFacts K L D) (r : RestartFacts K L D) (result : Result (Unit {0}) RecoverError) (left : MemberFacts K L D) → OwnRecord deeds n.entries → GoesOn same elect n r.start result left → MemberTells (deeds ++ deeds_at (Restarts r) (restart_told {K = K} {D = D} result)) left
+  goes_on n r result left own (inl (is, leaves)) = rw (is, leaves) (untold deeds (fallen n) own)
+  goes_on n r result left own (inr (copy, by_view, goes)) = by_error (recover_error same (new_state r.start.setup) r.start.floor r.start.now copy) goes
     where
       by_error : (o : Option RecoverError) → MatchOption o ((result ≡ Ok tt) × (left ≡ new_life same elect n r.start copy)) (λ e. (result ≡ Err e) × (left ≡ fallen n)) → MemberTells (deeds ++ deeds_at (Restarts r) (restart_told {K = K} {D = D} result)) left
       by_error None (is, leaves) =
           rw (is, leaves)
-          (subst (λ more. MemberTells (deeds ++ more) (new_life same elect n r.start copy)) (sym (append-nil (of_floor r.start.floor))) (from_copy n r.start copy fresh own by_view))
+          (subst (λ more. MemberTells (deeds ++ more) (new_life same elect n r.start copy)) (sym (append-nil (of_floor r.start.floor))) (from_copy n r.start copy own by_view))
       by_error (Some e) (is, leaves) = rw (is, leaves) (untold deeds (fallen n) own)
 
-  restart_tells_on : (r : RestartFacts K L D) (result : Result (Unit {0}) RecoverError) (left : MemberFacts K L D) → IsFresh term_length r.start.fresh → MemberTells deeds m → IsRestart same elect m r result left → MemberTells (deeds ++ deeds_at (Restarts r) (restart_told {K = K} {D = D} result)) left
+  restart_tells_on : (r : RestartFacts K L D) (result : Result (Unit {0}) RecoverError) (left : MemberFacts K L D) → MemberTells deeds m → IsRestart same elect m r result left → MemberTells (deeds ++ deeds_at (Restarts r) (restart_told {K = K} {D = D} result)) left
   unfolding IsRestart
-  restart_tells_on r result left fresh tells restarts = by_test (retention_grows m r.prune r.start.fresh.settings.view_retention) restarts
+  restart_tells_on r result left tells restarts = by_test (retention_grows m r.prune r.start.setup.settings.view_retention) restarts
     where
       by_test : (b : Bool) → IsRestartWhere same elect b m r result left → MemberTells (deeds ++ deeds_at (Restarts r) (restart_told {K = K} {D = D} result)) left
       by_test true (is, leaves) = rw (is, leaves) (untold deeds m tells)
-      by_test false goes = goes_on (cut m r.drop r.prune) r result left fresh (cut_own deeds m r.drop r.prune (own_of deeds m.entries m.life tells)) goes
+      by_test false goes = goes_on (cut m r.drop r.prune) r result left (cut_own deeds m r.drop r.prune (own_of deeds m.entries m.life tells)) goes
 
 -- the error of a refusal
 abbrev error_in : Result (Unit {0}) RecoverError → RecoverError
@@ -168,19 +168,23 @@ module _ {K L D : Type 0} (same : D → D → Bool) (decides : (d e : D) → sam
     tells = call_tells_on same elect term_length deeds m call told next own.tells is;
   }
 
-  restarted : (deeds : List (Deed D)) (m next : MemberFacts K L D) (r : RestartFacts K L D) (told : Told K D) → IsFresh term_length r.start.fresh → KeepsRecord term_length deeds m → (result : Result (Unit {0}) RecoverError) × IsRestart same elect m r result next × (told ≡ restart_told result) → KeepsRecord term_length (deeds ++ deeds_at (Restarts r) told) next
+  restarted : (deeds : List (Deed D)) (m next : MemberFacts K L D) (r : RestartFacts K L D) (told : Told K D) → HasTerms term_length r.start.setup → KeepsRecord term_length deeds m → (result : Result (Unit {0}) RecoverError) × IsRestart same elect m r result next × (told ≡ restart_told result) → KeepsRecord term_length (deeds ++ deeds_at (Restarts r) told) next
   restarted deeds m next r told fresh own (result, is, tell) = rw tell (record {
     lives = restart_lives_on same decides elect term_length some deeds m r result next fresh own.lives is;
-    tells = restart_tells_on same elect term_length deeds m r result next fresh own.tells is;
+    tells = restart_tells_on same elect term_length deeds m r result next own.tells is;
   })
 
   -- so it does where the run ends
-  run_own : (steps : List (StepFacts K L D)) (replies : List (Told K D)) (deeds : List (Deed D)) (m end : MemberFacts K L D) → BeginFresh term_length steps → KeepsRecord term_length deeds m → IsRun same elect m steps replies end → (all : List (Deed D)) × KeepsRecord term_length all end
-  run_own [] [] deeds m end fresh own run = (deeds, subst (λ n. KeepsRecord term_length deeds n) run own)
+  run_own : (steps : List (StepFacts K L D)) (replies : List (Told K D)) (deeds : List (Deed D)) (m end : MemberFacts K L D) → KeepTerms term_length steps → KeepsRecord term_length deeds m → IsRun same elect m steps replies end → KeepsRecord term_length (deeds ++ deeds_of_steps steps replies) end
+  run_own [] [] deeds m end fresh own run = subst (λ all. KeepsRecord term_length all end) (sym (append-nil deeds)) (subst (λ n. KeepsRecord term_length deeds n) run own)
   run_own [] (told ∷ replies) deeds m end fresh own run = absurd run
   run_own (step ∷ steps) [] deeds m end fresh own run = absurd run
-  run_own (Calls call ∷ steps) (told ∷ replies) deeds m end fresh own (next, is_step, rest) = run_own steps replies (deeds ++ deeds_of_call call told) next end fresh (called deeds m next call told own is_step) rest
-  run_own (Restarts r ∷ steps) (told ∷ replies) deeds m end fresh own (next, is_step, rest) = run_own steps replies (deeds ++ deeds_at (Restarts r) told) next end fresh.1 (restarted deeds m next r told fresh.0 own is_step) rest
+  run_own (Calls call ∷ steps) (told ∷ replies) deeds m end fresh own (next, is_step, rest) =
+      subst (λ all. KeepsRecord term_length all end) (append_assoc deeds (deeds_at {L = L} (Calls call) told) (deeds_of_steps steps replies))
+      (run_own steps replies (deeds ++ deeds_of_call call told) next end fresh (called deeds m next call told own is_step) rest)
+  run_own (Restarts r ∷ steps) (told ∷ replies) deeds m end fresh own (next, is_step, rest) =
+      subst (λ all. KeepsRecord term_length all end) (append_assoc deeds (deeds_at (Restarts r) told) (deeds_of_steps steps replies))
+      (run_own steps replies (deeds ++ deeds_at (Restarts r) told) next end fresh.1 (restarted deeds m next r told fresh.0 own is_step) rest)
 
   -- a copy of what any cut leaves breaks no rule on how entries stand beside one another
   copy_fits : (deeds : List (Deed D)) (m : MemberFacts K L D) (n : ℕ) (prune : Bool) (copy : List (ArtifactFacts D)) → KeepsRecord term_length deeds m → IsByView (cut m n prune).entries copy → Fit same [] copy
@@ -191,67 +195,80 @@ module _ {K L D : Type 0} (same : D → D → Bool) (decides : (d e : D) → sam
       let in_copy = own_copy deeds left (cut_own deeds m n prune (own_of deeds m.entries m.life own.tells)) copy by_view.of_each_view in
       record_fits same itself copy (own_together term_length deeds between.0 copy between.1.lawful remembers in_copy) by_view.rising
 
-  copy_outside : (deeds : List (Deed D)) (m : MemberFacts K L D) (r : RestartFacts K L D) (copy : List (ArtifactFacts D)) (found : RecoverError) → KeepsRecord term_length deeds m → IsByView (cut m r.drop r.prune).entries copy → recover_error same r.start.fresh r.start.floor r.start.now copy ≡ Some found → IsFromOutside found
-  copy_outside deeds m r copy found own by_view is = error_outside same r.start.fresh r.start.floor r.start.now copy found (copy_fits deeds m r.drop r.prune copy own by_view) is
+  copy_outside : (deeds : List (Deed D)) (m : MemberFacts K L D) (r : RestartFacts K L D) (copy : List (ArtifactFacts D)) (found : RecoverError) → KeepsRecord term_length deeds m → IsByView (cut m r.drop r.prune).entries copy → recover_error same (new_state r.start.setup) r.start.floor r.start.now copy ≡ Some found → IsFromOutside found
+  copy_outside deeds m r copy found own by_view is = error_outside same (new_state r.start.setup) r.start.floor r.start.now copy found (copy_fits deeds m r.drop r.prune copy own by_view) is
+
+  copy_parent : (deeds : List (Deed D)) (m : MemberFacts K L D) (r : RestartFacts K L D) (copy : List (ArtifactFacts D)) → KeepsRecord term_length deeds m → IsByView (cut m r.drop r.prune).entries copy → recover_error same (new_state r.start.setup) r.start.floor r.start.now copy ≡ Some error.ParentNotBelow → AcceptedParentAbove deeds
+  copy_parent deeds m r copy own by_view is =
+      let left = (cut m r.drop r.prune).entries in
+      let between = cut_between term_length deeds m r.drop own.lives.0 r.prune (between_of term_length deeds m.closed own.lives.0 m.entries m.openings m.life own.lives.1) in
+      let remembers = copy_remembers deeds between.0 left between.1.remembers copy by_view.of_each_view in
+      let in_copy = own_copy deeds left (cut_own deeds m r.drop r.prune (own_of deeds m.entries m.life own.tells)) copy by_view.of_each_view in
+      parent_accepted same term_length deeds between.1.lawful (new_state r.start.setup) r.start.floor r.start.now copy in_copy.notarize_cast remembers.finalize_cast is
 
   restart_excused : (deeds : List (Deed D)) (m left : MemberFacts K L D) (r : RestartFacts K L D) (result : Result (Unit {0}) RecoverError) (found : RecoverError) → result ≡ Err found → KeepsRecord term_length deeds m → IsRestart same elect m r result left → IsExcused found
   unfolding IsRestart
-  restart_excused deeds m left r result found refused own restarts = by_test (retention_grows m r.prune r.start.fresh.settings.view_retention) restarts
+  restart_excused deeds m left r result found refused own restarts = by_test (retention_grows m r.prune r.start.setup.settings.view_retention) restarts
     where
-      by_error : (copy : List (ArtifactFacts D)) → IsByView (cut m r.drop r.prune).entries copy → (o : Option RecoverError) → recover_error same r.start.fresh r.start.floor r.start.now copy ≡ o → MatchOption o ((result ≡ Ok tt) × (left ≡ new_life same elect (cut m r.drop r.prune) r.start copy)) (λ e. (result ≡ Err e) × (left ≡ fallen (cut m r.drop r.prune))) → IsExcused found
+      by_error : (copy : List (ArtifactFacts D)) → IsByView (cut m r.drop r.prune).entries copy → (o : Option RecoverError) → recover_error same (new_state r.start.setup) r.start.floor r.start.now copy ≡ o → MatchOption o ((result ≡ Ok tt) × (left ≡ new_life same elect (cut m r.drop r.prune) r.start copy)) (λ e. (result ≡ Err e) × (left ≡ fallen (cut m r.drop r.prune))) → IsExcused found
       by_error copy by_view None none (is, leaves) = absurd (cc)
       by_error copy by_view (Some e) due (is, leaves) = inl (copy_outside deeds m r copy found own by_view (due ∙ ap Some (sym (ap error_in is) ∙ ap error_in refused)))
 
       by_test : (b : Bool) → IsRestartWhere same elect b m r result left → IsExcused found
       by_test true (is, leaves) = inr (inl (sym (ap error_in refused) ∙ ap error_in is))
       by_test false (inl (is, leaves)) = inr (inr (sym (ap error_in refused) ∙ ap error_in is))
-      by_test false (inr (copy, by_view, goes)) = by_error copy by_view (recover_error same r.start.fresh r.start.floor r.start.now copy) refl goes
+      by_test false (inr (copy, by_view, goes)) = by_error copy by_view (recover_error same (new_state r.start.setup) r.start.floor r.start.now copy) refl goes
 
-  run_excused : (steps : List (StepFacts K L D)) (deeds : List (Deed D)) (m : MemberFacts K L D) (found : RecoverError) → BeginFresh term_length steps → KeepsRecord term_length deeds m → EndsRun same elect m steps found → IsExcused found
+  run_excused : (steps : List (StepFacts K L D)) (deeds : List (Deed D)) (m : MemberFacts K L D) (found : RecoverError) → KeepTerms term_length steps → KeepsRecord term_length deeds m → EndsRun same elect m steps found → IsExcused found
   run_excused [] deeds m found fresh own ends = absurd ends
   run_excused (Calls call ∷ steps) deeds m found fresh own (inl refused) = absurd refused
   run_excused (Calls call ∷ steps) deeds m found fresh own (inr (told, next, is_step, served, later)) = run_excused steps (deeds ++ deeds_of_call call told) next found fresh (called deeds m next call told own is_step) later
   run_excused (Restarts r ∷ steps) deeds m found fresh own (inl (left, refused)) = restart_excused deeds m left r (Err found) found refl own refused
   run_excused (Restarts r ∷ steps) deeds m found fresh own (inr (told, next, is_step, served, later)) = run_excused steps (deeds ++ deeds_at (Restarts r) told) next found fresh.1 (restarted deeds m next r told fresh.0 own is_step) later
 
-module _ {K L D : Type 0} (same : D → D → Bool) (decides : (d e : D) → same d e ≡ true → d ≡ e) (itself : (d : D) → same d d ≡ true) (elect : Elect L) (term_length : ℕ) (start : StartFacts K L D) (begins : IsFresh term_length start.fresh) where
-  start_tells : MemberTells (of_floor start.floor) (started same elect start.fresh start.floor start.now)
+module _ {K L D : Type 0} (same : D → D → Bool) (decides : (d e : D) → same d e ≡ true → d ≡ e) (itself : (d : D) → same d d ≡ true) (elect : Elect L) (term_length : ℕ) (start : StartFacts K L D) (begins : HasTerms term_length start.setup) where
+  start_tells : MemberTells (of_floor start.floor) (started same elect (new_state start.setup) start.floor start.now)
   unfolding recovered
   start_tells =
-      let x = start.fresh in
+      let x = new_state start.setup in
       let none : List (ArtifactFacts D) = [] in
       let shows = recovered_shows same elect x.settings x.me x.members x.elector x.terms x.elects_early none start.floor start.now (λ i j d low within. absurd (omega arith)) (λ round other success given h. absurd (omega (arith, h.1))) in
-      let made = ap (λ y. recovered same elect y start.floor start.now none) begins.fresh in
       record {
         own = own_floor [] [] own_nothing (of_floor start.floor) start.floor;
-        shows = shows_whole none none start.floor (recovered same elect x start.floor start.now none) (λ v. refl) (subst (λ y. Shows none y) (sym made) shows);
+        shows = shows_whole none none start.floor (recovered same elect x start.floor start.now none) (λ v. refl) shows;
       }
 
-  start_own : KeepsRecord term_length (of_floor start.floor) (started same elect start.fresh start.floor start.now)
+  start_own : KeepsRecord term_length (of_floor start.floor) (started same elect (new_state start.setup) start.floor start.now)
   start_own = record { lives = start_lives same decides elect term_length start begins; tells = start_tells }
 
-  module _ (steps : List (StepFacts K L D)) (fresh : BeginFresh term_length steps) where
+  module _ (steps : List (StepFacts K L D)) (fresh : KeepTerms term_length steps) where
     -- a copy of a member's own record is refused only for what comes from outside
-    pub own_record_outside : (replies : List (Told K D)) (end : MemberFacts K L D) (next : RestartFacts K L D) (copy : List (ArtifactFacts D)) (found : RecoverError) → IsRun same elect (started same elect start.fresh start.floor start.now) steps replies end → IsByView (cut end next.drop next.prune).entries copy → recover_error same next.start.fresh next.start.floor next.start.now copy ≡ Some found → IsFromOutside found
+    pub own_record_outside : (replies : List (Told K D)) (end : MemberFacts K L D) (next : RestartFacts K L D) (copy : List (ArtifactFacts D)) (found : RecoverError) → IsRun same elect (started same elect (new_state start.setup) start.floor start.now) steps replies end → IsByView (cut end next.drop next.prune).entries copy → recover_error same (new_state next.start.setup) next.start.floor next.start.now copy ≡ Some found → IsFromOutside found
     own_record_outside replies end next copy found run by_view is =
-        let own = run_own same decides itself elect term_length begins.some steps replies (of_floor start.floor) (started same elect start.fresh start.floor start.now) end fresh start_own run in
-        copy_outside same decides itself elect term_length begins.some own.0 end next copy found own.1 by_view is
+        let own = run_own same decides itself elect term_length begins.some steps replies (of_floor start.floor) (started same elect (new_state start.setup) start.floor start.now) end fresh start_own run in
+        copy_outside same decides itself elect term_length begins.some (of_floor start.floor ++ deeds_of_steps steps replies) end next copy found own by_view is
+
+    -- for a parent, only where such a notarization was accepted
+    pub own_parent_accepted : (replies : List (Told K D)) (end : MemberFacts K L D) (next : RestartFacts K L D) (copy : List (ArtifactFacts D)) → IsRun same elect (started same elect (new_state start.setup) start.floor start.now) steps replies end → IsByView (cut end next.drop next.prune).entries copy → recover_error same (new_state next.start.setup) next.start.floor next.start.now copy ≡ Some error.ParentNotBelow → AcceptedParentAbove (of_floor start.floor ++ deeds_of_steps steps replies)
+    own_parent_accepted replies end next copy run by_view is =
+        let own = run_own same decides itself elect term_length begins.some steps replies (of_floor start.floor) (started same elect (new_state start.setup) start.floor start.now) end fresh start_own run in
+        copy_parent same decides itself elect term_length begins.some (of_floor start.floor ++ deeds_of_steps steps replies) end next copy own by_view is
 
     -- behind its verdicts stand notarizations, in its own order
-    pub own_verdicts_follow : (replies : List (Told K D)) (end : MemberFacts K L D) → IsRun same elect (started same elect start.fresh start.floor start.now) steps replies end → VerdictsFollowNotarizations end
+    pub own_verdicts_follow : (replies : List (Told K D)) (end : MemberFacts K L D) → IsRun same elect (started same elect (new_state start.setup) start.floor start.now) steps replies end → VerdictsFollowNotarizations end
     own_verdicts_follow replies end run =
-        let own = run_own same decides itself elect term_length begins.some steps replies (of_floor start.floor) (started same elect start.fresh start.floor start.now) end fresh start_own run in
-        (own_of own.0 end.entries end.life own.1.tells).notarized
+        let own = run_own same decides itself elect term_length begins.some steps replies (of_floor start.floor) (started same elect (new_state start.setup) start.floor start.now) end fresh start_own run in
+        (own_of (of_floor start.floor ++ deeds_of_steps steps replies) end.entries end.life own.tells).notarized
 
     -- so is a restart, but for its retention and want of memory
-    pub own_restart_excused : (replies : List (Told K D)) (end left : MemberFacts K L D) (next : RestartFacts K L D) (found : RecoverError) → IsRun same elect (started same elect start.fresh start.floor start.now) steps replies end → IsRestart same elect end next (Err found) left → IsExcused found
+    pub own_restart_excused : (replies : List (Told K D)) (end left : MemberFacts K L D) (next : RestartFacts K L D) (found : RecoverError) → IsRun same elect (started same elect (new_state start.setup) start.floor start.now) steps replies end → IsRestart same elect end next (Err found) left → IsExcused found
     own_restart_excused replies end left next found run restarts =
-        let own = run_own same decides itself elect term_length begins.some steps replies (of_floor start.floor) (started same elect start.fresh start.floor start.now) end fresh start_own run in
-        restart_excused same decides itself elect term_length begins.some own.0 end left next (Err found) found refl own.1 restarts
+        let own = run_own same decides itself elect term_length begins.some steps replies (of_floor start.floor) (started same elect (new_state start.setup) start.floor start.now) end fresh start_own run in
+        restart_excused same decides itself elect term_length begins.some (of_floor start.floor ++ deeds_of_steps steps replies) end left next (Err found) found refl own restarts
 
     -- and a run
     pub own_run_excused : (found : RecoverError) → EndsRunFrom same elect start steps found → IsExcused found
     unfolding EndsRunFrom
     own_run_excused found (inl memory) = inr (inr memory)
-    own_run_excused found (inr (inl refused)) = inl (error_outside same start.fresh start.floor start.now [] found tt refused)
-    own_run_excused found (inr (inr ends)) = run_excused same decides itself elect term_length begins.some steps (of_floor start.floor) (started same elect start.fresh start.floor start.now) found fresh start_own ends
+    own_run_excused found (inr (inl refused)) = inl (error_outside same (new_state start.setup) start.floor start.now [] found tt refused)
+    own_run_excused found (inr (inr ends)) = run_excused same decides itself elect term_length begins.some steps (of_floor start.floor) (started same elect (new_state start.setup) start.floor start.now) found fresh start_own ends

@@ -21,7 +21,7 @@ use Rattle.simplex_member.specs.Openings.{Openings, no_openings}
 use Rattle.simplex_member.specs.Recovery.{recover_error, is_finalization, with_floor}
 use Rattle.simplex_member.specs.Restarts.{RestartFacts, cut, retention_grows, new_life, GoesOn, IsRestartWhere, IsRestart}
 use Rattle.simplex_member.specs.Runs.{StepFacts, Calls, Restarts, IsStep, IsRun, IsRefused}
-use Rattle.simplex_member.specs.Start.{StartFacts, started}
+use Rattle.simplex_member.specs.Start.{StartFacts, started, new_state}
 use Rattle.simplex_laws.specs.Resumes.{LosesNothing}
 
 -- all that was closed stands in its record
@@ -89,7 +89,7 @@ module _ {K L D : Type 0} (same : D → D → Bool) (elect : Elect L) (m : Membe
 module _ {K L D : Type 0} (same : D → D → Bool) (elect : Elect L) where
   goes_on_within : (n : MemberFacts K L D) (start : StartFacts K L D) (result : Result (Unit {0}) RecoverError) (left : MemberFacts K L D) → Within n → GoesOn same elect n start result left → Within left
   goes_on_within n start result left within (inl (is, leaves)) = rw leaves within
-  goes_on_within n start result left within (inr (copy, by_view, goes)) = by_error (recover_error same start.fresh start.floor start.now copy) goes
+  goes_on_within n start result left within (inr (copy, by_view, goes)) = by_error (recover_error same (new_state start.setup) start.floor start.now copy) goes
     where
       by_error : (o : Option RecoverError) → MatchOption o ((result ≡ Ok tt) × (left ≡ new_life same elect n start copy)) (λ e. (result ≡ Err e) × (left ≡ fallen n)) → Within left
       by_error None (is, leaves) = rw leaves (let grows = floor_grown n.entries start.floor in omega (arith, grows, within))
@@ -97,7 +97,7 @@ module _ {K L D : Type 0} (same : D → D → Bool) (elect : Elect L) where
 
   restart_within : (m : MemberFacts K L D) (r : RestartFacts K L D) (result : Result (Unit {0}) RecoverError) (left : MemberFacts K L D) → Within m → IsRestart same elect m r result left → Within left
   unfolding IsRestart
-  restart_within m r result left within restarts = by_test (retention_grows m r.prune r.start.fresh.settings.view_retention) restarts
+  restart_within m r result left within restarts = by_test (retention_grows m r.prune r.start.setup.settings.view_retention) restarts
     where
       by_test : (b : Bool) → IsRestartWhere same elect b m r result left → Within left
       by_test true (is, leaves) = rw leaves within
@@ -110,8 +110,8 @@ module _ {K L D : Type 0} (same : D → D → Bool) (elect : Elect L) where
   run_within m end (Calls call ∷ steps) (told ∷ replies) within (next, is_step, rest) = run_within next end steps replies (call_within same elect m within call told next is_step) rest
   run_within m end (Restarts r ∷ steps) (told ∷ replies) within (next, (result, restarts, tell), rest) = run_within next end steps replies (restart_within m r result next within restarts) rest
 
-  pub run_loses_nothing : (start : StartFacts K L D) (steps : List (StepFacts K L D)) (replies : List (Told K D)) (m : MemberFacts K L D) → IsRun same elect (started same elect start.fresh start.floor start.now) steps replies m → LosesNothing m
-  run_loses_nothing start steps replies m run = not_below m.closed (length m.entries) (run_within (started same elect start.fresh start.floor start.now) m steps replies (omega arith) run)
+  pub run_loses_nothing : (start : StartFacts K L D) (steps : List (StepFacts K L D)) (replies : List (Told K D)) (m : MemberFacts K L D) → IsRun same elect (started same elect (new_state start.setup) start.floor start.now) steps replies m → LosesNothing m
+  run_loses_nothing start steps replies m run = not_below m.closed (length m.entries) (run_within (started same elect (new_state start.setup) start.floor start.now) m steps replies (omega arith) run)
 
 -- the member that a journal holds restarts as the one that it was stored of
 
@@ -119,7 +119,7 @@ module _ {K L D : Type 0} (same : D → D → Bool) (elect : Elect L) (start : S
   -- whether it lives, and what it has open, doesn't matter to a new life
   other_life : (m next : MemberFacts K L D) (life : Option (Facts K L D)) (openings : Openings K D) → IsRestart same elect m (uncut start) (Ok tt) next → IsRestart same elect (record m { life = life; openings = openings }) (uncut start) (Ok tt) next
   unfolding IsRestart
-  other_life m next life openings restarts = by_test (retention_grows m false start.fresh.settings.view_retention) restarts
+  other_life m next life openings restarts = by_test (retention_grows m false start.setup.settings.view_retention) restarts
     where
       by_error : (copy : List (ArtifactFacts D)) (o : Option RecoverError)
           → MatchOption o ((◌≡◌ {A = Result (Unit {0}) RecoverError} (Ok tt) (Ok tt)) × (next ≡ new_life same elect m start copy)) (λ e. (◌≡◌ {A = Result (Unit {0}) RecoverError} (Ok tt) (Err e)) × (next ≡ fallen m))
@@ -130,13 +130,13 @@ module _ {K L D : Type 0} (same : D → D → Bool) (elect : Elect L) (start : S
       by_test : (b : Bool) → IsRestartWhere same elect b m (uncut start) (Ok tt) next → IsRestartWhere same elect b (record m { life = life; openings = openings }) (uncut start) (Ok tt) next
       by_test true (is, leaves) = absurd cc
       by_test false (inl (is, leaves)) = absurd cc
-      by_test false (inr (copy, by_view, goes)) = inr (copy, by_view, by_error copy (recover_error same start.fresh start.floor start.now copy) goes)
+      by_test false (inr (copy, by_view, goes)) = inr (copy, by_view, by_error copy (recover_error same (new_state start.setup) start.floor start.now copy) goes)
 
   -- nor does it to a refusal, which leaves them
   other_refusal : (m left : MemberFacts K L D) (life : Option (Facts K L D)) (openings : Openings K D) (found : RecoverError) → IsRestart same elect m (uncut start) (Err found) left
-      → IsRestartWhere same elect (retention_grows m false start.fresh.settings.view_retention) (record m { life = life; openings = openings }) (uncut start) (Err found) (record m { life = if retention_grows m false start.fresh.settings.view_retention then life else None; openings = if retention_grows m false start.fresh.settings.view_retention then openings else no_openings })
+      → IsRestartWhere same elect (retention_grows m false start.setup.settings.view_retention) (record m { life = life; openings = openings }) (uncut start) (Err found) (record m { life = if retention_grows m false start.setup.settings.view_retention then life else None; openings = if retention_grows m false start.setup.settings.view_retention then openings else no_openings })
   unfolding IsRestart
-  other_refusal m left life openings found restarts = by_test (retention_grows m false start.fresh.settings.view_retention) restarts
+  other_refusal m left life openings found restarts = by_test (retention_grows m false start.setup.settings.view_retention) restarts
     where
       by_error : (copy : List (ArtifactFacts D)) (o : Option RecoverError)
           → MatchOption o ((◌≡◌ {A = Result (Unit {0}) RecoverError} (Err found) (Ok tt)) × (left ≡ new_life same elect m start copy)) (λ e. (◌≡◌ {A = Result (Unit {0}) RecoverError} (Err found) (Err e)) × (left ≡ fallen m))
@@ -148,7 +148,7 @@ module _ {K L D : Type 0} (same : D → D → Bool) (elect : Elect L) (start : S
           → IsRestartWhere same elect b (record m { life = life; openings = openings }) (uncut start) (Err found) (record m { life = if b then life else None; openings = if b then openings else no_openings })
       by_test true (is, leaves) = (is, refl)
       by_test false (inl (is, leaves)) = inl (is, refl)
-      by_test false (inr (copy, by_view, goes)) = inr (copy, by_view, by_error copy (recover_error same start.fresh start.floor start.now copy) goes)
+      by_test false (inr (copy, by_view, goes)) = inr (copy, by_view, by_error copy (recover_error same (new_state start.setup) start.floor start.now copy) goes)
 
   -- so for the one that is stored
 
@@ -166,12 +166,12 @@ module _ {K L D : Type 0} (same : D → D → Bool) (elect : Elect L) (start : S
   pub refuses_resume : (m : MemberFacts K L D) (found : RecoverError) → LosesNothing m → IsRefused same elect m (Restarts (uncut start)) found → IsNotResumed same elect (stored_of m) m.entries start (Recover found)
   unfolding IsRestart
   refuses_resume m found whole (left, restarts) =
-      (whole, subst (IsRestart same elect (stored_facts (stored_of m) m.entries) (uncut start) (Err found)) (stays_ended m (retention_grows m false start.fresh.settings.view_retention)) (other_refusal m left None no_openings found restarts))
+      (whole, subst (IsRestart same elect (stored_facts (stored_of m) m.entries) (uncut start) (Err found)) (stays_ended m (retention_grows m false start.setup.settings.view_retention)) (other_refusal m left None no_openings found restarts))
 
   pub refuses_restart : (m : MemberFacts K L D) (found : RecoverError) → IsNotResumed same elect (stored_of m) m.entries start (Recover found) → IsRefused same elect m (Restarts (uncut start)) found
   unfolding IsRestart
   refuses_restart m found (whole, restarts) = (
-    record m { life = if retention_grows m false start.fresh.settings.view_retention then m.life else None; openings = if retention_grows m false start.fresh.settings.view_retention then m.openings else no_openings },
+    record m { life = if retention_grows m false start.setup.settings.view_retention then m.life else None; openings = if retention_grows m false start.setup.settings.view_retention then m.openings else no_openings },
     other_refusal (stored_facts (stored_of m) m.entries) (stored_facts (stored_of m) m.entries) m.life m.openings found restarts,
   )
 

@@ -11,8 +11,9 @@ use Rattle.simplex_member.specs.Lives.{MemberFacts, IsCall, fallen}
 use Rattle.simplex_member.specs.Recovery.{recover_error}
 use Rattle.simplex_member.specs.Restarts.{RestartFacts, cut, new_life, retention_grows, GoesOn, IsRestart, IsRestartWhere}
 use Rattle.simplex_member.specs.Runs.{StepFacts, Calls, Restarts, IsRun}
-use Rattle.simplex_member.specs.Start.{StartFacts, started}
-use Rattle.simplex_laws.specs.Fresh.{IsFresh, BeginFresh}
+use Rattle.simplex_member.specs.Start.{StartFacts, started, new_state}
+use Rattle.simplex_laws.specs.TermLengths.{HasTerms, KeepTerms}
+use Rattle.simplex_laws.proofs.Fresh.{IsFresh, fresh_state}
 use Rattle.simplex_laws.proofs.CallsMake.{call_by_any, floor_then_all_keep}
 use Rattle.simplex_laws.proofs.WithinLives.{call_outcome}
 
@@ -25,17 +26,17 @@ module _ {K L D : Type 0} (same : D → D → Bool) (elect : Elect L) (term_leng
     (begins : (x : Facts K L D) (floor : FloorFacts D) (now : ℕ) → IsFresh term_length x → P (after_set_floor same elect x floor now))
     (keeps : (x : Facts K L D) (e : Event K D) → P x → P (after_event same elect x e)) where
   -- one that goes on is made again, and another one has no state
-  from_copy : (n : MemberFacts K L D) (start : StartFacts K L D) (result : Result (Unit {0}) RecoverError) (left : MemberFacts K L D) → IsFresh term_length start.fresh → GoesOn same elect n start result left → HoldsIn P left.life
+  from_copy : (n : MemberFacts K L D) (start : StartFacts K L D) (result : Result (Unit {0}) RecoverError) (left : MemberFacts K L D) → HasTerms term_length start.setup → GoesOn same elect n start result left → HoldsIn P left.life
   from_copy n start result left fresh (inl (is, leaves)) = rw leaves tt
-  from_copy n start result left fresh (inr (copy, by_view, goes)) = by_error (recover_error same start.fresh start.floor start.now copy) goes
+  from_copy n start result left fresh (inr (copy, by_view, goes)) = by_error (recover_error same (new_state start.setup) start.floor start.now copy) goes
     where
       by_error : (o : Option RecoverError) → MatchOption o ((result ≡ Ok tt) × (left ≡ new_life same elect n start copy)) (λ e. (result ≡ Err e) × (left ≡ fallen n)) → HoldsIn P left.life
-      by_error None (_, leaves) = rw leaves (floor_then_all_keep same elect P keeps start.now start.fresh start.floor copy (begins start.fresh start.floor start.now fresh))
+      by_error None (_, leaves) = rw leaves (floor_then_all_keep same elect P keeps start.now (new_state start.setup) start.floor copy (begins (new_state start.setup) start.floor start.now (fresh_state term_length start.setup fresh)))
       by_error (Some e) (_, leaves) = rw leaves tt
 
-  restart_keeps : (m : MemberFacts K L D) (r : RestartFacts K L D) (result : Result (Unit {0}) RecoverError) (left : MemberFacts K L D) → IsFresh term_length r.start.fresh → HoldsIn P m.life → IsRestart same elect m r result left → HoldsIn P left.life
+  restart_keeps : (m : MemberFacts K L D) (r : RestartFacts K L D) (result : Result (Unit {0}) RecoverError) (left : MemberFacts K L D) → HasTerms term_length r.start.setup → HoldsIn P m.life → IsRestart same elect m r result left → HoldsIn P left.life
   unfolding IsRestart
-  restart_keeps m r result left fresh sound restarts = by_test (retention_grows m r.prune r.start.fresh.settings.view_retention) restarts
+  restart_keeps m r result left fresh sound restarts = by_test (retention_grows m r.prune r.start.setup.settings.view_retention) restarts
     where
       by_test : (b : Bool) → IsRestartWhere same elect b m r result left → HoldsIn P left.life
       by_test true (_, leaves) = rw leaves sound
@@ -50,7 +51,7 @@ module _ {K L D : Type 0} (same : D → D → Bool) (elect : Elect L) (term_leng
       ]
 
   -- from a member that keeps it on, over calls and restarts
-  pub run_keeps : (steps : List (StepFacts K L D)) (replies : List (Told K D)) (m end : MemberFacts K L D) → BeginFresh term_length steps → HoldsIn P m.life → IsRun same elect m steps replies end → HoldsIn P end.life
+  pub run_keeps : (steps : List (StepFacts K L D)) (replies : List (Told K D)) (m end : MemberFacts K L D) → KeepTerms term_length steps → HoldsIn P m.life → IsRun same elect m steps replies end → HoldsIn P end.life
   run_keeps [] [] m end fresh sound run = subst (λ n. HoldsIn P n.life) run sound
   run_keeps [] (told ∷ replies) m end fresh sound run = absurd run
   run_keeps (step ∷ steps) [] m end fresh sound run = absurd run
@@ -60,5 +61,5 @@ module _ {K L D : Type 0} (same : D → D → Bool) (elect : Elect L) (term_leng
       run_keeps steps replies next end fresh.1 (restart_keeps m r is_step.0 next fresh.0 sound is_step.1) rest
 
   -- from the start of a run on
-  pub run_induction : (start : StartFacts K L D) (steps : List (StepFacts K L D)) (replies : List (Told K D)) (end : MemberFacts K L D) → IsFresh term_length start.fresh → BeginFresh term_length steps → IsRun same elect (started same elect start.fresh start.floor start.now) steps replies end → HoldsIn P end.life
-  run_induction start steps replies end begun fresh run = run_keeps steps replies (started same elect start.fresh start.floor start.now) end fresh (begins start.fresh start.floor start.now begun) run
+  pub run_induction : (start : StartFacts K L D) (steps : List (StepFacts K L D)) (replies : List (Told K D)) (end : MemberFacts K L D) → HasTerms term_length start.setup → KeepTerms term_length steps → IsRun same elect (started same elect (new_state start.setup) start.floor start.now) steps replies end → HoldsIn P end.life
+  run_induction start steps replies end begun fresh run = run_keeps steps replies (started same elect (new_state start.setup) start.floor start.now) end fresh (begins (new_state start.setup) start.floor start.now (fresh_state term_length start.setup begun)) run

@@ -21,9 +21,9 @@ use Rattle.simplex_laws.specs.Lawful.{IsLawful}
 use Rattle.simplex_laws.specs.Stories.{Story, deeds_of, BeginsAs, Ran}
 use Rattle.simplex_laws.proofs.Signed.{signed_none}
 use Rattle.simplex_laws.proofs.Splits.{Contains-cons_rest}
-use Rattle.simplex_laws.specs.Fresh.{IsFresh, BeginFresh}
+use Rattle.simplex_laws.specs.TermLengths.{HasTerms, KeepTerms}
 use Rattle.simplex_member.specs.Runs.{StepFacts, Calls, Restarts, restart_told, IsRun, IsRunFrom}
-use Rattle.simplex_member.specs.Start.{StartFacts, started}
+use Rattle.simplex_member.specs.Start.{StartFacts, started, new_state}
 use Rattle.simplex_laws.proofs.Lawful.{lawful_start}
 use Rattle.simplex_laws.proofs.Remembering.{none_split}
 use Rattle.simplex_laws.proofs.Lifetimes.{Between, dropped_between, pruned_between}
@@ -85,33 +85,32 @@ module _ {K L D : Type 0} (same : D → D → Bool) (decides : (d e : D) → sam
 
   -- a restart
 
-  from_copy : (n : MemberFacts K L D) (start : StartFacts K L D) (kept : ℕ) (copy : List (ArtifactFacts D)) → IsFresh term_length start.fresh → Between term_length deeds n.closed kept n.entries → IsByView n.entries copy → first_broken_rule same start.fresh.settings.epoch start.fresh.me start.floor copy ≡ None → MemberLives term_length (deeds ++ of_floor start.floor) (new_life same elect n start copy)
+  from_copy : (n : MemberFacts K L D) (start : StartFacts K L D) (kept : ℕ) (copy : List (ArtifactFacts D)) → HasTerms term_length start.setup → Between term_length deeds n.closed kept n.entries → IsByView n.entries copy → first_broken_rule same start.setup.settings.epoch start.setup.me start.floor copy ≡ None → MemberLives term_length (deeds ++ of_floor start.floor) (new_life same elect n start copy)
   from_copy n start kept copy fresh between by_view none =
-      let x = start.fresh in
+      let x = new_state start.setup in
       let epochs = all_of_epoch same x.settings.epoch x.me [] copy (unbroken same x.settings.epoch x.me start.floor copy none) in
       let here : Between x.terms.term_length deeds n.closed kept n.entries = subst (λ t. Between t deeds n.closed kept n.entries) (sym fresh.terms) between in
       let lives = new_life_lives same decides elect x.settings x.me x.members x.elector x.terms x.elects_early deeds n.closed kept n.entries copy start.floor start.now here by_view.of_each_view epochs in
-      let made = ap (λ y. recovered same elect y start.floor start.now copy) fresh.fresh in
-      (kept, subst (λ t. Living t (deeds ++ of_floor start.floor) n.closed kept (new_life same elect n start copy).entries no_openings (recovered same elect x start.floor start.now copy)) fresh.terms (subst (λ y. Living x.terms.term_length (deeds ++ of_floor start.floor) n.closed kept (new_life same elect n start copy).entries no_openings y) (sym made) lives))
+      (kept, subst (λ t. Living t (deeds ++ of_floor start.floor) n.closed kept (new_life same elect n start copy).entries no_openings (recovered same elect x start.floor start.now copy)) fresh.terms lives)
 
   -- where a life is refused, what is left of the record is kept
   refused_life : (n : MemberFacts K L D) (kept : ℕ) → Between term_length deeds n.closed kept n.entries → MemberLives term_length (deeds ++ []) (fallen n)
   refused_life n kept between = quiet term_length deeds (fallen n) (kept, between)
 
-  goes_on : (n : MemberFacts K L D) (r : RestartFacts K L D) (result : Result (Unit {0}) RecoverError) (left : MemberFacts K L D) (kept : ℕ) → IsFresh term_length r.start.fresh → Between term_length deeds n.closed kept n.entries → GoesOn same elect n r.start result left → MemberLives term_length (deeds ++ deeds_at (Restarts r) (restart_told {K = K} {D = D} result)) left
+  goes_on : (n : MemberFacts K L D) (r : RestartFacts K L D) (result : Result (Unit {0}) RecoverError) (left : MemberFacts K L D) (kept : ℕ) → HasTerms term_length r.start.setup → Between term_length deeds n.closed kept n.entries → GoesOn same elect n r.start result left → MemberLives term_length (deeds ++ deeds_at (Restarts r) (restart_told {K = K} {D = D} result)) left
   goes_on n r result left kept fresh between (inl (is, leaves)) = rw (is, leaves) (refused_life n kept between)
-  goes_on n r result left kept fresh between (inr (copy, by_view, goes)) = by_error (recover_error same r.start.fresh r.start.floor r.start.now copy) refl goes
+  goes_on n r result left kept fresh between (inr (copy, by_view, goes)) = by_error (recover_error same (new_state r.start.setup) r.start.floor r.start.now copy) refl goes
     where
-      by_error : (o : Option RecoverError) → recover_error same r.start.fresh r.start.floor r.start.now copy ≡ o → MatchOption o ((result ≡ Ok tt) × (left ≡ new_life same elect n r.start copy)) (λ e. (result ≡ Err e) × (left ≡ fallen n)) → MemberLives term_length (deeds ++ deeds_at (Restarts r) (restart_told {K = K} {D = D} result)) left
+      by_error : (o : Option RecoverError) → recover_error same (new_state r.start.setup) r.start.floor r.start.now copy ≡ o → MatchOption o ((result ≡ Ok tt) × (left ≡ new_life same elect n r.start copy)) (λ e. (result ≡ Err e) × (left ≡ fallen n)) → MemberLives term_length (deeds ++ deeds_at (Restarts r) (restart_told {K = K} {D = D} result)) left
       by_error None none (is, leaves) =
           rw (is, leaves)
           (subst (λ more. MemberLives term_length (deeds ++ more) (new_life same elect n r.start copy)) (sym (append-nil (of_floor r.start.floor)))
-          (from_copy n r.start kept copy fresh between by_view (first_none (first_broken_rule same r.start.fresh.settings.epoch r.start.fresh.me r.start.floor copy) _ none).0))
+          (from_copy n r.start kept copy fresh between by_view (first_none (first_broken_rule same r.start.setup.settings.epoch r.start.setup.me r.start.floor copy) _ none).0))
       by_error (Some e) due (is, leaves) = rw (is, leaves) (refused_life n kept between)
 
-  pub restart_lives_on : (r : RestartFacts K L D) (result : Result (Unit {0}) RecoverError) (left : MemberFacts K L D) → IsFresh term_length r.start.fresh → MemberLives term_length deeds m → IsRestart same elect m r result left → MemberLives term_length (deeds ++ deeds_at (Restarts r) (restart_told {K = K} {D = D} result)) left
+  pub restart_lives_on : (r : RestartFacts K L D) (result : Result (Unit {0}) RecoverError) (left : MemberFacts K L D) → HasTerms term_length r.start.setup → MemberLives term_length deeds m → IsRestart same elect m r result left → MemberLives term_length (deeds ++ deeds_at (Restarts r) (restart_told {K = K} {D = D} result)) left
   unfolding IsRestart
-  restart_lives_on r result left fresh lives restarts = by_test (retention_grows m r.prune r.start.fresh.settings.view_retention) restarts
+  restart_lives_on r result left fresh lives restarts = by_test (retention_grows m r.prune r.start.setup.settings.view_retention) restarts
     where
       by_test : (b : Bool) → IsRestartWhere same elect b m r result left → MemberLives term_length (deeds ++ deeds_at (Restarts r) (restart_told {K = K} {D = D} result)) left
       by_test true (is, leaves) = rw (is, leaves) (quiet term_length deeds m lives)
@@ -120,7 +119,7 @@ module _ {K L D : Type 0} (same : D → D → Bool) (decides : (d e : D) → sam
           goes_on (cut m r.drop r.prune) r result left between.0 fresh between.1 goes
 
 module _ {K L D : Type 0} (same : D → D → Bool) (decides : (d e : D) → same d e ≡ true → d ≡ e) (elect : Elect L) (term_length : ℕ) (some : 0 < term_length) where
-  pub run_lawful : (steps : List (StepFacts K L D)) (replies : List (Told K D)) (deeds : List (Deed D)) (m end : MemberFacts K L D) → BeginFresh term_length steps → MemberLives term_length deeds m → IsRun same elect m steps replies end → IsLawful term_length (deeds ++ deeds_of_steps steps replies)
+  pub run_lawful : (steps : List (StepFacts K L D)) (replies : List (Told K D)) (deeds : List (Deed D)) (m end : MemberFacts K L D) → KeepTerms term_length steps → MemberLives term_length deeds m → IsRun same elect m steps replies end → IsLawful term_length (deeds ++ deeds_of_steps steps replies)
   run_lawful [] [] deeds m end fresh lives run = subst (IsLawful term_length) (sym (append-nil deeds)) (between_of term_length deeds m.closed lives.0 m.entries m.openings m.life lives.1).lawful
   run_lawful [] (told ∷ replies) deeds m end fresh lives run = absurd run
   run_lawful (step ∷ steps) [] deeds m end fresh lives run = absurd run
@@ -150,29 +149,28 @@ nothing_between term_length = record {
   within = omega arith;
 }
 
-module _ {K L D : Type 0} (same : D → D → Bool) (decides : (d e : D) → same d e ≡ true → d ≡ e) (elect : Elect L) (term_length : ℕ) (start : StartFacts K L D) (begins : IsFresh term_length start.fresh) where
-  pub start_lives : MemberLives term_length (of_floor start.floor) (started same elect start.fresh start.floor start.now)
+module _ {K L D : Type 0} (same : D → D → Bool) (decides : (d e : D) → same d e ≡ true → d ≡ e) (elect : Elect L) (term_length : ℕ) (start : StartFacts K L D) (begins : HasTerms term_length start.setup) where
+  pub start_lives : MemberLives term_length (of_floor start.floor) (started same elect (new_state start.setup) start.floor start.now)
   unfolding recovered
   start_lives =
-      let x = start.fresh in
+      let x = new_state start.setup in
       let lives = new_life_lives same decides elect x.settings x.me x.members x.elector x.terms x.elects_early [] 0 0 [] [] start.floor start.now (nothing_between x.terms.term_length) (λ v. refl) (λ e h. absurd (omega (arith, h.1))) in
-      let made = ap (λ y. recovered same elect y start.floor start.now []) begins.fresh in
       let whole : List (ArtifactFacts D) = with_floor [] start.floor in
-      (0, subst (λ t. Living t (of_floor start.floor) 0 0 whole no_openings (recovered same elect x start.floor start.now [])) begins.terms (subst (λ y. Living x.terms.term_length (of_floor start.floor) 0 0 whole no_openings y) (sym made) lives))
+      (0, subst (λ t. Living t (of_floor start.floor) 0 0 whole no_openings (recovered same elect x start.floor start.now [])) begins.terms lives)
 
   -- from the start on
-  pub run_from_lawful : (steps : List (StepFacts K L D)) (replies : List (Told K D)) → BeginFresh term_length steps → IsRunFrom same elect start steps replies → IsLawful term_length (of_floor start.floor ++ deeds_of_steps steps replies)
+  pub run_from_lawful : (steps : List (StepFacts K L D)) (replies : List (Told K D)) → KeepTerms term_length steps → IsRunFrom same elect start steps replies → IsLawful term_length (of_floor start.floor ++ deeds_of_steps steps replies)
   unfolding IsRunFrom
   run_from_lawful steps replies fresh (accepted, end, run) =
-      run_lawful same decides elect term_length begins.some steps replies (of_floor start.floor) (started same elect start.fresh start.floor start.now) end fresh start_lives run
+      run_lawful same decides elect term_length begins.some steps replies (of_floor start.floor) (started same elect (new_state start.setup) start.floor start.now) end fresh start_lives run
 
--- each life begins freshly
-begin_fresh : {K L D : Type 0} (term_length i : ℕ) (steps : List (StepFacts K L D)) → ((r : RestartFacts K L D) → Contains steps (Restarts r) → BeginsAs term_length i r.start.fresh) → BeginFresh term_length steps
-begin_fresh term_length i [] later = tt
-begin_fresh term_length i (Calls call ∷ steps) later = begin_fresh term_length i steps (λ r h. later r (Contains-cons_rest (Calls call) steps (Restarts r) h))
-begin_fresh term_length i (Restarts q ∷ steps) later = ((later q (0, omega arith, refl)).fresh, begin_fresh term_length i steps (λ r h. later r (Contains-cons_rest (Restarts q) steps (Restarts r) h)))
+-- the lives of a member of a network share a length of terms
+keep_terms : {K L D : Type 0} (term_length i : ℕ) (steps : List (StepFacts K L D)) → ((r : RestartFacts K L D) → Contains steps (Restarts r) → BeginsAs term_length i r.start.setup) → KeepTerms term_length steps
+keep_terms term_length i [] later = tt
+keep_terms term_length i (Calls call ∷ steps) later = keep_terms term_length i steps (λ r h. later r (Contains-cons_rest (Calls call) steps (Restarts r) h))
+keep_terms term_length i (Restarts q ∷ steps) later = ((later q (0, omega arith, refl)).terms, keep_terms term_length i steps (λ r h. later r (Contains-cons_rest (Restarts q) steps (Restarts r) h)))
 
 module _ {K L D : Type 0} (same : D → D → Bool) (decides : (d e : D) → same d e ≡ true → d ≡ e) (elect : Elect L) (term_length : ℕ) where
   -- what a member of a network does is lawful
   pub story_lawful : (i : ℕ) (s : Story K L D) → Ran same elect term_length i s → IsLawful term_length (deeds_of s)
-  story_lawful i s ran = run_from_lawful same decides elect term_length s.start ran.lives.first.fresh s.steps s.replies (begin_fresh term_length i s.steps ran.lives.later) ran.run
+  story_lawful i s ran = run_from_lawful same decides elect term_length s.start ran.lives.first.terms s.steps s.replies (keep_terms term_length i s.steps ran.lives.later) ran.run

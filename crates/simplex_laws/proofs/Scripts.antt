@@ -25,7 +25,7 @@ use Rattle.simplex_member.specs.Lives.{MemberFacts, AnswersAlive, IsCall, reply_
 use Rattle.simplex_member.specs.Recovery.{recover_error, recovered, taken}
 use Rattle.simplex_member.specs.Restarts.{RestartFacts, cut, new_life, retention_grows, GoesOnFrom, IsRestart, IsRestartWhere}
 use Rattle.simplex_member.specs.Runs.{StepFacts, Calls, Restarts, IsRun, IsRunFrom}
-use Rattle.simplex_member.specs.Start.{StartFacts, started}
+use Rattle.simplex_member.specs.Start.{StartFacts, started, new_state}
 use Rattle.simplex_laws.specs.Places.{Honest, Backed, IsNetworkOf}
 use Rattle.simplex_laws.specs.Scripts.{leader, start_at, round, proposal, certificate, one, two, impatient, patient, forgetful, four, restarting, skipping, five}
 use Rattle.simplex_laws.specs.Deeds.{Accepts}
@@ -57,9 +57,9 @@ module _ {K L D : Type 0} (same : D → D → Bool) (elect : Elect L) where
   abbrev pub Fits : MemberFacts K L D → List (StepFacts K L D) → Type 0
   Fits m [] = Unit {0}
   Fits m (Restarts r ∷ steps) =
-      (retention_grows m r.prune r.start.fresh.settings.view_retention ≡ false)
+      (retention_grows m r.prune r.start.setup.settings.view_retention ≡ false)
       × IsNonDecreasingBy entry_view (cut m r.drop r.prune).entries
-      × (recover_error same r.start.fresh r.start.floor r.start.now (cut m r.drop r.prune).entries ≡ None)
+      × (recover_error same (new_state r.start.setup) r.start.floor r.start.now (cut m r.drop r.prune).entries ≡ None)
       × Fits (next_then m.life m (Restarts r)) steps
   Fits m (Calls call ∷ steps) = Fits (next_then m.life m (Calls call)) steps
 
@@ -71,10 +71,10 @@ module _ {K L D : Type 0} (same : D → D → Bool) (elect : Elect L) where
   unfolding IsCall
   call_made m call = call_answered m.life m call
 
-  goes_on : (m : MemberFacts K L D) (start : StartFacts K L D) → recover_error same start.fresh start.floor start.now m.entries ≡ None → GoesOnFrom same elect m start m.entries (Ok tt) (new_life same elect m start m.entries)
+  goes_on : (m : MemberFacts K L D) (start : StartFacts K L D) → recover_error same (new_state start.setup) start.floor start.now m.entries ≡ None → GoesOnFrom same elect m start m.entries (Ok tt) (new_life same elect m start m.entries)
   goes_on m start none = rw none (refl, refl)
 
-  restart_made : (m : MemberFacts K L D) (r : RestartFacts K L D) → retention_grows m r.prune r.start.fresh.settings.view_retention ≡ false → IsNonDecreasingBy entry_view (cut m r.drop r.prune).entries → recover_error same r.start.fresh r.start.floor r.start.now (cut m r.drop r.prune).entries ≡ None → IsRestart same elect m r (Ok tt) (next_then m.life m (Restarts r))
+  restart_made : (m : MemberFacts K L D) (r : RestartFacts K L D) → retention_grows m r.prune r.start.setup.settings.view_retention ≡ false → IsNonDecreasingBy entry_view (cut m r.drop r.prune).entries → recover_error same (new_state r.start.setup) r.start.floor r.start.now (cut m r.drop r.prune).entries ≡ None → IsRestart same elect m r (Ok tt) (next_then m.life m (Restarts r))
   unfolding IsRestart
   restart_made m r grows rising none =
       let n = cut m r.drop r.prune in
@@ -87,9 +87,9 @@ module _ {K L D : Type 0} (same : D → D → Bool) (elect : Elect L) where
   fits_run m (Restarts r ∷ steps) fits = (next_then m.life m (Restarts r), (Ok tt, restart_made m r fits.0 fits.1 fits.2, refl), fits_run (next_then m.life m (Restarts r)) steps fits.3)
 
   abbrev pub begun : StartFacts K L D → MemberFacts K L D
-  begun start = started same elect start.fresh start.floor start.now
+  begun start = started same elect (new_state start.setup) start.floor start.now
 
-  pub fits_run_from : (s : Story K L D) → recover_error same s.start.fresh s.start.floor s.start.now [] ≡ None → Fits (begun s.start) s.steps → replies_from (begun s.start) s.steps ≡ s.replies → IsRunFrom same elect s.start s.steps s.replies
+  pub fits_run_from : (s : Story K L D) → recover_error same (new_state s.start.setup) s.start.floor s.start.now [] ≡ None → Fits (begun s.start) s.steps → replies_from (begun s.start) s.steps ≡ s.replies → IsRunFrom same elect s.start s.steps s.replies
   unfolding IsRunFrom
   fits_run_from s none fits is = (none, end_from (begun s.start) s.steps, subst (λ (told : List (Told K D)). IsRun same elect (begun s.start) s.steps told (end_from (begun s.start) s.steps)) is (fits_run (begun s.start) s.steps fits))
 
@@ -118,21 +118,21 @@ rises n low (x ∷ xs) is (suc i) (suc j) d le less = rises n (n x) xs (and_part
 abbrev pub AllBegin : {K L D : Type 0} → ℕ → ℕ → List (StepFacts K L D) → Type 0
 AllBegin term_length i [] = Unit {0}
 AllBegin term_length i (Calls call ∷ steps) = AllBegin term_length i steps
-AllBegin term_length i (Restarts r ∷ steps) = BeginsAs term_length i r.start.fresh × AllBegin term_length i steps
+AllBegin term_length i (Restarts r ∷ steps) = BeginsAs term_length i r.start.setup × AllBegin term_length i steps
 
 same_restart : {K L D : Type 0} (q r : RestartFacts K L D) → Restarts q ≡ Restarts r → q ≡ r
 same_restart q r e = cc
 
-each_begins : {K L D : Type 0} (term_length i : ℕ) (steps : List (StepFacts K L D)) → AllBegin term_length i steps → (r : RestartFacts K L D) → Contains steps (Restarts r) → BeginsAs term_length i r.start.fresh
+each_begins : {K L D : Type 0} (term_length i : ℕ) (steps : List (StepFacts K L D)) → AllBegin term_length i steps → (r : RestartFacts K L D) → Contains steps (Restarts r) → BeginsAs term_length i r.start.setup
 each_begins term_length i [] all r h = absurd (omega (arith, h.1))
 each_begins term_length i (Calls call ∷ steps) all r h = elim (Contains-cases (Calls call) steps (Restarts r) h) [ inl here ↦ absurd (cc) | inr later ↦ each_begins term_length i steps all r later ]
 each_begins {K} {L} {D} term_length i (Restarts q ∷ steps) all r h = elim (Contains-cases (Restarts q) steps (Restarts r) h) [
-  | inl here ↦ subst (λ (p : RestartFacts K L D). BeginsAs term_length i p.start.fresh) (same_restart q r here) all.0
+  | inl here ↦ subst (λ (p : RestartFacts K L D). BeginsAs term_length i p.start.setup) (same_restart q r here) all.0
   | inr later ↦ each_begins term_length i steps all.1 r later
 ]
 
-begins : (term_length me : ℕ) (floor : FloorFacts ℕ) → 0 < term_length → BeginsAs term_length me (start_at term_length floor me).fresh
-begins term_length me floor some = record { fresh = record { fresh = refl; terms = refl; some = some }; signs_as = inl refl }
+begins : (term_length me : ℕ) (floor : FloorFacts ℕ) → 0 < term_length → BeginsAs term_length me (start_at term_length floor me).setup
+begins term_length me floor some = record { terms = record { terms = refl; some = some }; signs_as = inl refl }
 
 module _ where
   abbrev from_start : Story ℕ ℕ ℕ → List (Told ℕ ℕ)

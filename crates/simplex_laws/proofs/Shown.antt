@@ -15,7 +15,7 @@ use Rattle.simplex_member.specs.Calls.{Told, told, asked, CallFacts, Added, Adde
 use Rattle.simplex_member.specs.declared.member.restart.Restart.{Restart}
 use Rattle.simplex_member.specs.Restarts.{RestartFacts, restart_facts}
 use Rattle.simplex_member.specs.Runs.{Calls, Restarts, step_facts, steps_of, restart_told}
-use Rattle.simplex_member.specs.Start.{start_facts}
+use Rattle.simplex_member.specs.Start.{start_facts, new_state}
 use Rattle.simplex_member.specs.declared.member.error.RecoverError.{RecoverError}
 use Rattle.std.proofs.lemmas.List.{append-nil}
 use Rattle.simplex_laws.specs.Living.{story_of}
@@ -86,22 +86,22 @@ module _ {S L D K G C : Type 0} (me : S → Option ℕ) (members : S → List K)
       (ap (λ ds. ds ++ shown_by steps replies) (floor_shown bytes_of start.floor)
       ∙ ap (λ ds. of_floor (floor_facts bytes_of start.floor) ++ ds) (all_shown steps replies))
 
-  pub begins_as : (term_length i : ℕ) (start : Start S L D K G C) → IsSetUpAs me terms term_length i start → BeginsAs term_length i (start_facts me members terms elects_early bytes_of start).fresh
-  begins_as term_length i start holds = record { fresh = record { fresh = refl; terms = holds.terms_of; some = holds.some }; signs_as = holds.signs_as }
+  pub begins_as : (term_length i : ℕ) (start : Start S L D K G C) → IsSetUpAs me terms term_length i start → BeginsAs term_length i (start_facts me members terms elects_early bytes_of start).setup
+  begins_as term_length i start holds = record { terms = record { terms = holds.terms_of; some = holds.some }; signs_as = holds.signs_as }
 
   restarts_as : (term_length i : ℕ) (steps : List (Step S L D K G C)) → ((r : Restart S L D K G C) → Contains steps (step.Restart r) → IsSetUpAs me terms term_length i r.start)
-      → (q : RestartFacts K L D) → Contains (steps_of me members terms elects_early bytes_of steps) (Restarts q) → BeginsAs term_length i q.start.fresh
+      → (q : RestartFacts K L D) → Contains (steps_of me members terms elects_early bytes_of steps) (Restarts q) → BeginsAs term_length i q.start.setup
   restarts_as term_length i [] later q h = absurd (omega (arith, h.1))
   restarts_as term_length i (s ∷ steps) later q h = elim (Contains-cases (step_facts me members terms elects_early bytes_of s) (steps_of me members terms elects_early bytes_of steps) (Restarts q) h) [
     | inl here ↦ by_step s here (λ r is. later r (0, omega arith, is))
     | inr there ↦ restarts_as term_length i steps (λ r k. later r (Contains-cons_rest s steps (step.Restart r) k)) q there
   ]
     where
-      by_step : (t : Step S L D K G C) → step_facts me members terms elects_early bytes_of t ≡ Restarts q → ((r : Restart S L D K G C) → t ≡ step.Restart r → IsSetUpAs me terms term_length i r.start) → BeginsAs term_length i q.start.fresh
+      by_step : (t : Step S L D K G C) → step_facts me members terms elects_early bytes_of t ≡ Restarts q → ((r : Restart S L D K G C) → t ≡ step.Restart r → IsSetUpAs me terms term_length i r.start) → BeginsAs term_length i q.start.setup
       by_step (step.Call c) is holds = absurd (cc)
       by_step (step.Restart r) is holds =
           let same : restart_facts me members terms elects_early bytes_of r ≡ q = cc in
-          subst (λ (p : RestartFacts K L D). BeginsAs term_length i p.start.fresh) same (begins_as term_length i r.start (holds r refl))
+          subst (λ (p : RestartFacts K L D). BeginsAs term_length i p.start.setup) same (begins_as term_length i r.start (holds r refl))
 
   pub lives_as : (term_length i : ℕ) (start : Start S L D K G C) (steps : List (Step S L D K G C)) → AreSetUpAs me terms term_length i start steps → LivesAs term_length i (start_facts me members terms elects_early bytes_of start) (steps_of me members terms elects_early bytes_of steps)
   lives_as term_length i start steps holds = record { first = begins_as term_length i start holds.first; later = restarts_as term_length i steps holds.later }

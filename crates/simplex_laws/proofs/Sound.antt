@@ -15,7 +15,7 @@ use Rattle.simplex_laws.specs.Events as event
 use Rattle.simplex_laws.specs.Events.{Event, after_event}
 use Rattle.simplex_laws.specs.LifeLaws.{Kind, Notarization, Nullification, Finalization}
 use Rattle.simplex_laws.specs.Sums.{finalized_by, is_prune}
-use Rattle.simplex_laws.specs.Fresh.{IsFresh}
+use Rattle.simplex_laws.proofs.Fresh.{IsFresh, fresh_state}
 use Rattle.simplex_laws.proofs.CallsMake.{is_floor}
 use Rattle.simplex_laws.proofs.EachRound.{IsGone}
 use Rattle.simplex_laws.proofs.Paths.{from_entry, from_first_entry}

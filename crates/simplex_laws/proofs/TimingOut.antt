@@ -18,12 +18,13 @@ use Rattle.simplex_voter.specs.Acceptance.{after_set_floor}
 use Rattle.simplex_laws.specs.Events as event
 use Rattle.simplex_laws.specs.Events.{Event, after_event}
 use Rattle.simplex_laws.specs.Sums.{finalized_by, is_prune}
-use Rattle.simplex_laws.specs.Fresh.{IsFresh, BeginFresh}
+use Rattle.simplex_laws.specs.TermLengths.{HasTerms, KeepTerms}
+use Rattle.simplex_laws.proofs.Fresh.{IsFresh, fresh_state}
 use Rattle.simplex_laws.specs.LifeLaws.{CurrentTimesOut}
 use Rattle.simplex_member.specs.Calls.{Told}
 use Rattle.simplex_member.specs.Lives.{MemberFacts}
 use Rattle.simplex_member.specs.Runs.{StepFacts, IsRun}
-use Rattle.simplex_member.specs.Start.{StartFacts, started}
+use Rattle.simplex_member.specs.Start.{StartFacts, started, new_state}
 use Rattle.simplex_laws.proofs.RunsKeep.{HoldsIn, run_induction}
 use Rattle.simplex_laws.proofs.EachRound.{IsGone, step_round, rounds_or_gone, pruned_round, prune_alone}
 use Rattle.simplex_laws.proofs.Paths.{event_path, asked_of_all, armed_timed}
@@ -187,8 +188,8 @@ module _ {K L D : Type 0} (x : Facts K L D) where
 -- of each state of a run
 
 module _ {K L D : Type 0} (same : D → D → Bool) (elect : Elect L) where
-  pub states_time_out : (term_length : ℕ) (start : StartFacts K L D) (steps : List (StepFacts K L D)) (replies : List (Told K D)) (end : MemberFacts K L D) → IsFresh term_length start.fresh → BeginFresh term_length steps
-      → IsRun same elect (started same elect start.fresh start.floor start.now) steps replies end → MatchOption end.life (Unit {0}) CurrentTimesOut
+  pub states_time_out : (term_length : ℕ) (start : StartFacts K L D) (steps : List (StepFacts K L D)) (replies : List (Told K D)) (end : MemberFacts K L D) → HasTerms term_length start.setup → KeepTerms term_length steps
+      → IsRun same elect (started same elect (new_state start.setup) start.floor start.now) steps replies end → MatchOption end.life (Unit {0}) CurrentTimesOut
   states_time_out term_length start steps replies end begins fresh run =
       by_life end.life (run_induction same elect term_length TimesOut (floor_times_out same elect term_length) (event_times_out same elect) start steps replies end begins fresh run)
     where

@@ -11,8 +11,8 @@ use Rattle.simplex_member.specs.Lives.{MemberFacts, IsCall}
 use Rattle.simplex_member.specs.Made.{answer, after_call}
 use Rattle.simplex_member.specs.Openings.{Openings}
 use Rattle.simplex_member.specs.Runs.{StepFacts, Calls, IsRun, IsRunFrom}
-use Rattle.simplex_member.specs.Start.{StartFacts, started}
-use Rattle.simplex_laws.specs.Fresh.{IsFresh, BeginFresh}
+use Rattle.simplex_member.specs.Start.{StartFacts, started, new_state}
+use Rattle.simplex_laws.specs.TermLengths.{HasTerms, KeepTerms}
 use Rattle.simplex_laws.proofs.Conflicts.{Keeps, life_keeps}
 use Rattle.simplex_laws.proofs.HandedOut.{life_hands_once}
 use Rattle.simplex_laws.proofs.AsAsked.{call_as_asked}
@@ -100,7 +100,7 @@ IsSoundIn term_length life = HoldsIn (IsSound term_length) life
 
 module _ {K L D : Type 0} (same : D → D → Bool) (elect : Elect L) (term_length : ℕ) where
   -- a life of a run begins with a sound state
-  pub life_sound : (start : StartFacts K L D) (steps : List (StepFacts K L D)) (told : List (Told K D)) (m end : MemberFacts K L D) (calls : List (CallFacts D)) (replies : List (Told K D)) → IsFresh term_length start.fresh → BeginFresh term_length steps → IsLifeOfRun same elect start steps told m calls replies end → IsSoundIn term_length m.life
+  pub life_sound : (start : StartFacts K L D) (steps : List (StepFacts K L D)) (told : List (Told K D)) (m end : MemberFacts K L D) (calls : List (CallFacts D)) (replies : List (Told K D)) → HasTerms term_length start.setup → KeepTerms term_length steps → IsLifeOfRun same elect start steps told m calls replies end → IsSoundIn term_length m.life
   life_sound start steps told m end calls replies begins fresh of_run =
       run_induction same elect term_length (IsSound term_length) (λ x floor now new. floor_sound same elect term_length x floor now new) (λ x e sound. event_sound same elect term_length x e sound) start steps told m begins fresh of_run.reached
 
@@ -109,7 +109,7 @@ module _ {K L D : Type 0} (same : D → D → Bool) (elect : Elect L) (term_leng
   for_good replies None (Some y) sound away = absurd away
   for_good replies (Some x) (Some y) sound away = λ v is. (let gone = (away sound).1.dropped v is in gone.3.views v gone.1)
 
-  pub life_drops_for_good : (start : StartFacts K L D) (steps : List (StepFacts K L D)) (told : List (Told K D)) (m end : MemberFacts K L D) (calls : List (CallFacts D)) (replies : List (Told K D)) → IsFresh term_length start.fresh → BeginFresh term_length steps → IsLifeOfRun same elect start steps told m calls replies end → WhileAlive (DroppedForGood replies) m.life end.life
+  pub life_drops_for_good : (start : StartFacts K L D) (steps : List (StepFacts K L D)) (told : List (Told K D)) (m end : MemberFacts K L D) (calls : List (CallFacts D)) (replies : List (Told K D)) → HasTerms term_length start.setup → KeepTerms term_length steps → IsLifeOfRun same elect start steps told m calls replies end → WhileAlive (DroppedForGood replies) m.life end.life
   life_drops_for_good start steps told m end calls replies begins fresh of_run =
       for_good replies m.life end.life (life_sound start steps told m end calls replies begins fresh of_run) (life_away same elect term_length begins.some m end calls replies of_run.life)
 
@@ -118,11 +118,11 @@ module _ {K L D : Type 0} (same : D → D → Bool) (elect : Elect L) (term_leng
   stay_in replies None (Some y) keeps = absurd keeps
   stay_in replies (Some x) (Some y) keeps = keeps.conflicts
 
-  pub life_conflicts : (start : StartFacts K L D) (steps : List (StepFacts K L D)) (told : List (Told K D)) (m end : MemberFacts K L D) (calls : List (CallFacts D)) (replies : List (Told K D)) → IsFresh term_length start.fresh → BeginFresh term_length steps → IsLifeOfRun same elect start steps told m calls replies end → WhileAlive (ConflictsStay replies) m.life end.life
+  pub life_conflicts : (start : StartFacts K L D) (steps : List (StepFacts K L D)) (told : List (Told K D)) (m end : MemberFacts K L D) (calls : List (CallFacts D)) (replies : List (Told K D)) → HasTerms term_length start.setup → KeepTerms term_length steps → IsLifeOfRun same elect start steps told m calls replies end → WhileAlive (ConflictsStay replies) m.life end.life
   life_conflicts start steps told m end calls replies begins fresh of_run =
       stay_in replies m.life end.life (life_keeps same elect m end calls replies of_run.life)
 
-  pub life_hands_out_once : (start : StartFacts K L D) (steps : List (StepFacts K L D)) (told : List (Told K D)) (m end : MemberFacts K L D) (calls : List (CallFacts D)) (replies : List (Told K D)) → IsFresh term_length start.fresh → BeginFresh term_length steps → IsLifeOfRun same elect start steps told m calls replies end → HandedOnce calls replies
+  pub life_hands_out_once : (start : StartFacts K L D) (steps : List (StepFacts K L D)) (told : List (Told K D)) (m end : MemberFacts K L D) (calls : List (CallFacts D)) (replies : List (Told K D)) → HasTerms term_length start.setup → KeepTerms term_length steps → IsLifeOfRun same elect start steps told m calls replies end → HandedOnce calls replies
   life_hands_out_once start steps told m end calls replies begins fresh of_run =
       life_hands_once same elect m end calls replies of_run.life
 
@@ -153,7 +153,7 @@ module _ {K L D : Type 0} (same : D → D → Bool) (elect : Elect L) (term_leng
       let first = told_as_asked m call told next is_call sound in
       (first.0, life_as_asked next end calls replies first.1 rest)
 
-  pub life_hands_as_asked : (start : StartFacts K L D) (steps : List (StepFacts K L D)) (told : List (Told K D)) (m end : MemberFacts K L D) (calls : List (CallFacts D)) (replies : List (Told K D)) → IsFresh term_length start.fresh → BeginFresh term_length steps → IsLifeOfRun same elect start steps told m calls replies end → HandedAsAsked calls replies
+  pub life_hands_as_asked : (start : StartFacts K L D) (steps : List (StepFacts K L D)) (told : List (Told K D)) (m end : MemberFacts K L D) (calls : List (CallFacts D)) (replies : List (Told K D)) → HasTerms term_length start.setup → KeepTerms term_length steps → IsLifeOfRun same elect start steps told m calls replies end → HandedAsAsked calls replies
   life_hands_as_asked start steps told m end calls replies begins fresh of_run =
       life_as_asked m end calls replies (life_sound same elect term_length start steps told m end calls replies begins fresh of_run) of_run.life
 
@@ -171,7 +171,7 @@ module _ {K L D : Type 0} (same : D → D → Bool) (elect : Elect L) where
   pub stretch_is_life : (start : StartFacts K L D) (steps after : List (StepFacts K L D)) (calls : List (CallFacts D)) (told replies rest : List (Told K D)) → length steps ≡ length told → length calls ≡ length replies → IsRunFrom same elect start (steps ++ (map Calls calls ++ after)) (told ++ (replies ++ rest)) → (m end : MemberFacts K L D) × IsLifeOfRun same elect start steps told m calls replies end
   unfolding IsRunFrom
   stretch_is_life start steps after calls told replies rest as_many as_told (accepted, last, run) =
-      let first = run_apart steps (map Calls calls ++ after) told (replies ++ rest) (started same elect start.fresh start.floor start.now) last as_many run in
+      let first = run_apart steps (map Calls calls ++ after) told (replies ++ rest) (started same elect (new_state start.setup) start.floor start.now) last as_many run in
       let step_of : CallFacts D → StepFacts K L D = λ call. Calls call in
       let second = run_apart (map Calls calls) after replies rest first.0 last (length-map calls step_of ∙ as_told) first.2 in
       (first.0, second.0, record { accepted = accepted; reached = first.1; life = second.1 })

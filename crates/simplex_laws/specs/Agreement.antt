@@ -20,6 +20,10 @@ module _ {K L D : Type 0} (network : List (Place K L D)) where
   FinalizedUncovered term_length =
       (final : Proposal D) (round : Round) → Backed network (subject.Finalize final) → Backed network (subject.Nullify round) → covers term_length round.view final.round.view ≡ false
 
+  -- a proposal with a certificate names an earlier view as its parent
+  abbrev pub ParentBefore : Type 0
+  ParentBefore = (p : Proposal D) → Certified p → p.parent < p.round.view
+
   -- no notarized proposal above a finalized view names a parent below it
   abbrev pub ParentNotBelow : Type 0
   ParentNotBelow =

@@ -8,7 +8,7 @@ use Rattle.simplex_voter.specs.Rules.{NotarizeRule, NullifyRule, FinalizeRule}
 use Rattle.simplex_member.specs.Calls.{ConstructNotarize, ConstructNullify, ConstructFinalize, Told, Refused}
 use Rattle.simplex_member.specs.Lives.{MemberFacts}
 use Rattle.simplex_member.specs.Runs.{StepFacts, Calls, IsStep}
-use Rattle.simplex_member.specs.Start.{started}
+use Rattle.simplex_member.specs.Start.{started, new_state}
 use Rattle.simplex_laws.specs.Deeds.{Deed, Signs, signed_in}
 use Rattle.simplex_laws.specs.Stories.{Story}
 
@@ -51,4 +51,4 @@ module _ {K L D : Type 0} (same : D → D → Bool) (elect : Elect L) where
 
   -- so it is from the start on
   abbrev pub SignsExactly : Story K L D → Type 0
-  SignsExactly s = RunsExactly (started same elect s.start.fresh s.start.floor s.start.now) s.steps s.replies
+  SignsExactly s = RunsExactly (started same elect (new_state s.start.setup) s.start.floor s.start.now) s.steps s.replies

@@ -6,13 +6,12 @@ use Rattle.simplex_member.specs.Calls.{CallFacts, Told, Refused, NotAllowed, Not
 use Rattle.simplex_member.specs.Openings.{Openings}
 use Rattle.simplex_member.specs.Entries.{entry_view}
 use Rattle.simplex_laws.specs.Events.{Event, History, SetFloor, AddNotarization, AddNullification, AddFinalization, Certified, Replay, IsEvent, after_event, with_event, events_of}
-use Rattle.simplex_laws.specs.Fresh.{IsFresh, BeginFresh}
 use Rattle.simplex_member.specs.Lives.{MemberFacts, IsCall}
 use Rattle.simplex_member.specs.Recovery.{recovered, recover_error}
 use Rattle.simplex_member.specs.Restarts.{RestartFacts, IsByView, IsRestart, cut}
 use Rattle.simplex_member.specs.Runs.{StepFacts, Calls, Restarts, IsStep, IsRun}
 use Rattle.simplex_laws.specs.Shows.{Shows}
-use Rattle.simplex_member.specs.Start.{StartFacts, started}
+use Rattle.simplex_member.specs.Start.{Setup, StartFacts, started, new_state}
 use Rattle.simplex_laws.specs.Sums.{finalized_in}
 
 -- an entry is taken again: a certificate is added before it is replayed, and a verdict is given after that
@@ -48,7 +47,7 @@ module _ {K L D : Type 0} where
   -- the history of a life that begins with a floor and a record
   abbrev pub recovery : StartFacts K L D → List (ArtifactFacts D) → History K L D
   recovery start entries =
-      with_entries (record { fresh = start.fresh; events = SetFloor start.floor start.now ∷ [] }) start.now entries
+      with_entries (record { fresh = new_state start.setup; events = SetFloor start.floor start.now ∷ [] }) start.now entries
 
 module _ {K L D : Type 0} (same : D → D → Bool) (elect : Elect L) where
   -- while the member lives, its state knows what the history says
@@ -77,7 +76,7 @@ module _ {K L D : Type 0} (same : D → D → Bool) (elect : Elect L) where
 module _ (K : Type 0) {L D : Type 0} (same : D → D → Bool) (elect : Elect L) where
   -- of a new state nothing was said
   abbrev pub NothingSaid : Type 0
-  NothingSaid = (term_length : ℕ) (x : Facts K L D) → IsFresh term_length x → Shows same elect (record { fresh = x; events = [] }) x
+  NothingSaid = (setup : Setup K L) → Shows {D = D} same elect (record { fresh = new_state setup; events = [] }) (new_state setup)
 
   -- an event that the state allows is the last of the history then
   abbrev pub EventsAreShown : Type 0
@@ -93,27 +92,23 @@ module _ (K : Type 0) {L D : Type 0} (same : D → D → Bool) (elect : Elect L)
 
   abbrev pub RecoveriesAreShown : Type 0
   RecoveriesAreShown =
-      (term_length : ℕ) (start : StartFacts K L D) (entries : List (ArtifactFacts D))
-      → IsFresh term_length start.fresh
-      → recover_error same start.fresh start.floor start.now entries ≡ None
-      → Shows same elect (recovery start entries) (recovered same elect start.fresh start.floor start.now entries)
+      (start : StartFacts K L D) (entries : List (ArtifactFacts D))
+      → recover_error same (new_state start.setup) start.floor start.now entries ≡ None
+      → Shows same elect (recovery start entries) (recovered same elect (new_state start.setup) start.floor start.now entries)
 
   -- of some order by view of what is left of the record
   abbrev pub RestartsAreShown : Type 0
   RestartsAreShown =
-      (term_length : ℕ) (m left : MemberFacts K L D) (r : RestartFacts K L D)
-      → IsFresh term_length r.start.fresh
+      (m left : MemberFacts K L D) (r : RestartFacts K L D)
       → IsRestart same elect m r (Ok tt) left
       → (copy : List (ArtifactFacts D)) × IsByView (cut m r.drop r.prune).entries copy × IsShown same elect (recovery r.start copy) left
 
   -- of the history that the run's steps lead to
   abbrev pub RunsAreShown : Type 0
   RunsAreShown =
-      (term_length : ℕ) (start : StartFacts K L D) (steps : List (StepFacts K L D)) (replies : List (Told K D)) (end : MemberFacts K L D)
-      → IsFresh term_length start.fresh
-      → BeginFresh term_length steps
-      → recover_error same start.fresh start.floor start.now [] ≡ None
-      → IsRun same elect (started same elect start.fresh start.floor start.now) steps replies end
+      (start : StartFacts K L D) (steps : List (StepFacts K L D)) (replies : List (Told K D)) (end : MemberFacts K L D)
+      → recover_error same (new_state start.setup) start.floor start.now [] ≡ None
+      → IsRun same elect (started same elect (new_state start.setup) start.floor start.now) steps replies end
       → (last : History K L D)
-      × LeadsTo same elect (started same elect start.fresh start.floor start.now) (recovery start []) steps replies last end
+      × LeadsTo same elect (started same elect (new_state start.setup) start.floor start.now) (recovery start []) steps replies last end
       × IsShown same elect last end

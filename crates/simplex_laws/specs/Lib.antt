@@ -1,7 +1,7 @@
 pub mod Deeds
 pub mod Lawful
 pub mod Accountability
-pub mod Fresh
+pub mod TermLengths
 pub mod LifeLaws
 pub mod Outside
 pub mod Events
@@ -21,3 +21,4 @@ pub mod Living
 pub mod Resumes
 pub mod Shown
 pub mod Scripts
+pub mod Progress

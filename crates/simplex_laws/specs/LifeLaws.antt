@@ -11,8 +11,8 @@ use Rattle.simplex_member.specs.Entries.{certificate_round}
 use Rattle.simplex_member.specs.Lives.{MemberFacts}
 use Rattle.simplex_member.specs.Recovery.{recover_error}
 use Rattle.simplex_member.specs.Runs.{StepFacts, Calls, IsRun, IsRunFrom}
-use Rattle.simplex_member.specs.Start.{StartFacts, started}
-use Rattle.simplex_laws.specs.Fresh.{IsFresh, BeginFresh}
+use Rattle.simplex_member.specs.Start.{StartFacts, started, new_state}
+use Rattle.simplex_laws.specs.TermLengths.{HasTerms, KeepTerms}
 
 module _ {K L D : Type 0} (same : D → D → Bool) (elect : Elect L) where
   -- calls within one life, one reply a call: a run without a restart
@@ -21,8 +21,8 @@ module _ {K L D : Type 0} (same : D → D → Bool) (elect : Elect L) where
 
   -- a run from a start leads to a member, and these calls go on from there within its life
   pub record IsLifeOfRun (start : StartFacts K L D) (steps : List (StepFacts K L D)) (told : List (Told K D)) (m : MemberFacts K L D) (calls : List (CallFacts D)) (replies : List (Told K D)) (end : MemberFacts K L D) : Type 0 where
-    pub accepted : recover_error same start.fresh start.floor start.now [] ≡ None
-    pub reached : IsRun same elect (started same elect start.fresh start.floor start.now) steps told m
+    pub accepted : recover_error same (new_state start.setup) start.floor start.now [] ≡ None
+    pub reached : IsRun same elect (started same elect (new_state start.setup) start.floor start.now) steps told m
     pub life : IsLife m calls replies end
 
 -- this holds of the first state and the last one, unless the member has failed by then; no state comes after a failure
@@ -116,22 +116,22 @@ module _ (K : Type 0) {L D : Type 0} (same : D → D → Bool) (elect : Elect L)
   OfEachLife Holds =
       (m end : MemberFacts K L D) (calls : List (CallFacts D)) (replies : List (Told K D)) → IsLife same elect m calls replies end → Holds m calls replies end
 
-  -- of each stretch of a life that a run leads to, where each life begins freshly
+  -- of each stretch of a life that a run leads to, whose lives share a length of terms
   abbrev pub OfEachStretch : (MemberFacts K L D → List (CallFacts D) → List (Told K D) → MemberFacts K L D → Type 0) → Type 0
   OfEachStretch Holds =
       (term_length : ℕ) (start : StartFacts K L D) (before : List (StepFacts K L D)) (told : List (Told K D)) (m end : MemberFacts K L D) (calls : List (CallFacts D)) (replies : List (Told K D))
-      → IsFresh term_length start.fresh
-      → BeginFresh term_length before
+      → HasTerms term_length start.setup
+      → KeepTerms term_length before
       → IsLifeOfRun same elect start before told m calls replies end
       → Holds m calls replies end
 
-  -- of the state that a run leads to, while the member lives, where each life begins freshly
+  -- of the state that a run leads to, while the member lives, whose lives share a length of terms
   abbrev pub OfEachState : (Facts K L D → Type 0) → Type 0
   OfEachState Holds =
       (term_length : ℕ) (start : StartFacts K L D) (steps : List (StepFacts K L D)) (replies : List (Told K D)) (end : MemberFacts K L D)
-      → IsFresh term_length start.fresh
-      → BeginFresh term_length steps
-      → IsRun same elect (started same elect start.fresh start.floor start.now) steps replies end
+      → HasTerms term_length start.setup
+      → KeepTerms term_length steps
+      → IsRun same elect (started same elect (new_state start.setup) start.floor start.now) steps replies end
       → MatchOption end.life (Unit {0}) Holds
 
   -- calls of a run with no restart among them are such a stretch

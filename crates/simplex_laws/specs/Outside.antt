@@ -1,6 +1,8 @@
 -- What a member's own record may be refused for.
-use Rattle.std.specs.Prelude.{◌≡◌, ◌⊎◌, ℕ, Bool, List, ◌∷◌, ◌++◌, Contains, Some, Err}
+use Rattle.std.specs.Prelude.{◌≡◌, ◌⊎◌, ℕ, ◌≤◌, Bool, List, ◌∷◌, ◌++◌, Contains, Some, Err}
 use Rattle.simplex_types.specs.Certificates.{ProposalFacts, Notarized, ArtifactFacts, Verdict, Accepted}
+use Rattle.simplex_types.specs.declared.types.messages.Proposal.{Proposal}
+use Rattle.simplex_types.specs.declared.types.messages.Subject.TheVariants as subject
 use Rattle.simplex_types.specs.declared.types.numbers.Round.{Round}
 use Rattle.simplex_voter.specs.Facts.{Elect}
 use Rattle.simplex_member.specs.declared.member.error.RecoverError.{RecoverError}
@@ -10,8 +12,9 @@ use Rattle.simplex_member.specs.Lives.{MemberFacts}
 use Rattle.simplex_member.specs.Recovery.{recover_error}
 use Rattle.simplex_member.specs.Restarts.{RestartFacts, IsByView, cut, IsRestart}
 use Rattle.simplex_member.specs.Runs.{StepFacts, IsRun, EndsRunFrom}
-use Rattle.simplex_member.specs.Start.{StartFacts, started}
-use Rattle.simplex_laws.specs.Fresh.{IsFresh, BeginFresh}
+use Rattle.simplex_member.specs.Start.{StartFacts, started, new_state}
+use Rattle.simplex_laws.specs.Deeds.{Deed, Accepts, of_floor, deeds_of_steps}
+use Rattle.simplex_laws.specs.TermLengths.{HasTerms, KeepTerms}
 
 -- the error comes from outside: of the next start's epoch, key, floor or moment, or of a proposal or view that others sent;
 -- not of how the entries stand beside one another
@@ -35,14 +38,18 @@ VerdictsFollowNotarizations {K} {L} {D} m =
     → m.entries ≡ before ++ Verdict round success ∷ after
     → (c : ProposalFacts D) × Contains before (Accepted (Notarized c)) × (c.proposal.round.view ≡ round.view)
 
+-- a notarization was accepted whose proposal names no earlier view as its parent
+abbrev pub AcceptedParentAbove : {D : Type 0} → List (Deed D) → Type 0
+AcceptedParentAbove {D} deeds = (p : Proposal D) × Contains deeds (Accepts (subject.Notarize p)) × (p.round.view ≤ p.parent)
+
 module _ (K : Type 0) {L D : Type 0} (same : D → D → Bool) (elect : Elect L) where
-  -- of each member that a run leads to, where each life begins freshly
+  -- of each member that a run leads to, whose lives share a length of terms
   abbrev pub OfEachEnd : (MemberFacts K L D → Type 0) → Type 0
   OfEachEnd Holds =
       (term_length : ℕ) (start : StartFacts K L D) (steps : List (StepFacts K L D)) (replies : List (Told K D)) (end : MemberFacts K L D)
-      → IsFresh term_length start.fresh
-      → BeginFresh term_length steps
-      → IsRun same elect (started same elect start.fresh start.floor start.now) steps replies end
+      → HasTerms term_length start.setup
+      → KeepTerms term_length steps
+      → IsRun same elect (started same elect (new_state start.setup) start.floor start.now) steps replies end
       → Holds end
 
   -- whatever restart comes next: what it leaves of the record, by view, is refused only for what comes from outside
@@ -50,7 +57,7 @@ module _ (K : Type 0) {L D : Type 0} (same : D → D → Bool) (elect : Elect L)
   RecordIsTaken end =
       (next : RestartFacts K L D) (copy : List (ArtifactFacts D)) (found : RecoverError)
       → IsByView (cut end next.drop next.prune).entries copy
-      → recover_error same next.start.fresh next.start.floor next.start.now copy ≡ Some found
+      → recover_error same (new_state next.start.setup) next.start.floor next.start.now copy ≡ Some found
       → IsFromOutside found
 
   -- and the restart itself for no other reason than an excuse
@@ -58,11 +65,23 @@ module _ (K : Type 0) {L D : Type 0} (same : D → D → Bool) (elect : Elect L)
   RestartIsExcused end =
       (left : MemberFacts K L D) (next : RestartFacts K L D) (found : RecoverError) → IsRestart same elect end next (Err found) left → IsExcused found
 
+  -- it is refused for a parent only where a notarization with such a parent was accepted
+  abbrev pub ParentsAreAccepted : Type 0
+  ParentsAreAccepted =
+      (term_length : ℕ) (start : StartFacts K L D) (steps : List (StepFacts K L D)) (replies : List (Told K D)) (end : MemberFacts K L D)
+      → HasTerms term_length start.setup
+      → KeepTerms term_length steps
+      → IsRun same elect (started same elect (new_state start.setup) start.floor start.now) steps replies end
+      → (next : RestartFacts K L D) (copy : List (ArtifactFacts D))
+      → IsByView (cut end next.drop next.prune).entries copy
+      → recover_error same (new_state next.start.setup) next.start.floor next.start.now copy ≡ Some error.ParentNotBelow
+      → AcceptedParentAbove (of_floor start.floor ++ deeds_of_steps steps replies)
+
   -- so is a run, at its start or at one of its restarts
   abbrev pub RunsAreExcused : Type 0
   RunsAreExcused =
       (term_length : ℕ) (start : StartFacts K L D) (steps : List (StepFacts K L D)) (found : RecoverError)
-      → IsFresh term_length start.fresh
-      → BeginFresh term_length steps
+      → HasTerms term_length start.setup
+      → KeepTerms term_length steps
       → EndsRunFrom {K = K} same elect start steps found
       → IsExcused found

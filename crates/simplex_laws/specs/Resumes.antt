@@ -7,7 +7,7 @@ use Rattle.simplex_member.specs.Calls.{Told, Restarted}
 use Rattle.simplex_member.specs.Journal.{stored_of, uncut, has_lost, IsResumed, IsNotResumed}
 use Rattle.simplex_member.specs.Lives.{MemberFacts}
 use Rattle.simplex_member.specs.Runs.{StepFacts, Restarts, IsStep, IsRun, IsRefused}
-use Rattle.simplex_member.specs.Start.{StartFacts, started}
+use Rattle.simplex_member.specs.Start.{StartFacts, started, new_state}
 
 -- one holds just where the other does
 abbrev pub Alike : Type 0 → Type 0 → Type 0
@@ -35,7 +35,7 @@ module _ (K : Type 0) {L D : Type 0} (same : D → D → Bool) (elect : Elect L)
   abbrev pub OfEachLeft : (MemberFacts K L D → Type 0) → Type 0
   OfEachLeft Holds =
       (start : StartFacts K L D) (steps : List (StepFacts K L D)) (replies : List (Told K D)) (m : MemberFacts K L D)
-      → IsRun same elect (started same elect start.fresh start.floor start.now) steps replies m
+      → IsRun same elect (started same elect (new_state start.setup) start.floor start.now) steps replies m
       → Holds m
 
 -- all that was closed stands in its record

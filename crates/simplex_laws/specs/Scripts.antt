@@ -5,11 +5,11 @@ use Rattle.simplex_types.specs.Config.{FloorFacts, Genesis, Finalized}
 use Rattle.simplex_types.specs.declared.types.messages.Context.{Context}
 use Rattle.simplex_types.specs.declared.types.messages.Proposal.{Proposal}
 use Rattle.simplex_types.specs.declared.types.numbers.Round.{Round}
-use Rattle.simplex_voter.specs.Facts.{Facts, Settings, Elect, new_facts}
+use Rattle.simplex_voter.specs.Facts.{Settings, Elect}
 use Rattle.simplex_voter.specs.declared.voter.verification.Verify.TheVariants.{Ready}
 use Rattle.simplex_member.specs.Calls.{AddNotarization, AddNullification, AddFinalization, SetProposal, TryVerify, Verified, ConstructNotarize, Certified, ConstructNullify, ConstructFinalize, Told, Added, AddedNullification, Judged, Nullify, Finalize, Notarize, Standing, Answered, Restarted}
 use Rattle.simplex_member.specs.Runs.{Calls, Restarts}
-use Rattle.simplex_member.specs.Start.{StartFacts}
+use Rattle.simplex_member.specs.Start.{Setup, StartFacts}
 use Rattle.simplex_laws.specs.Places.{Place, Faulty, Honest}
 use Rattle.simplex_laws.specs.Stories.{Story}
 
@@ -21,11 +21,18 @@ abbrev pub settings : Settings
 settings = record { epoch = 1; view_retention = 1; leader_timeout = 1000; certification_timeout = 2000; timeout_retry = 500; skip_budget = 4 }
 
 -- terms of so many views, in which none is voted for ahead
-abbrev pub new_member : ℕ → ℕ → Facts ℕ ℕ ℕ
-new_member term_length me = new_facts settings (Some me) (0 ∷ 1 ∷ 2 ∷ 3 ∷ []) 1 (record { term_length = term_length; optimistic_views = 0; stall_timeout = None }) true
+abbrev pub set_up_as : ℕ → ℕ → Setup ℕ ℕ
+set_up_as term_length me = record {
+  settings = settings;
+  me = Some me;
+  members = 0 ∷ 1 ∷ 2 ∷ 3 ∷ [];
+  elector = 1;
+  terms = record { term_length = term_length; optimistic_views = 0; stall_timeout = None };
+  elects_early = true;
+}
 
 abbrev pub start_at : ℕ → FloorFacts ℕ → ℕ → StartFacts ℕ ℕ ℕ
-start_at term_length floor me = record { fresh = new_member term_length me; floor = floor; now = 0 }
+start_at term_length floor me = record { setup = set_up_as term_length me; floor = floor; now = 0 }
 
 abbrev pub round : ℕ → Round
 round view = record { epoch = 1; view = view }
@@ -78,10 +85,10 @@ impatient = record {
   replies =
       nullify_vote 0 1
       ∷ Added true None
-      ∷ Judged (Some (certificate one))
+      ∷ Judged true (Some (certificate one))
       ∷ Finalize None
       ∷ Added true None
-      ∷ Judged (Some (certificate two))
+      ∷ Judged true (Some (certificate two))
       ∷ Finalize None
       ∷ Added true None
       ∷ finalize_vote 0 two
@@ -114,14 +121,14 @@ patient me = record {
       ∷ Answered true
       ∷ notarize_vote me one
       ∷ Added true None
-      ∷ Judged (Some (certificate one))
+      ∷ Judged true (Some (certificate one))
       ∷ finalize_vote me one
       ∷ Answered true
       ∷ Standing (Ready (context 2 1) two)
       ∷ Answered true
       ∷ notarize_vote me two
       ∷ Added true None
-      ∷ Judged (Some (certificate two))
+      ∷ Judged true (Some (certificate two))
       ∷ finalize_vote me two
       ∷ [];
 }
@@ -157,7 +164,7 @@ forgetful = record {
       ∷ Answered true
       ∷ notarize_vote 2 one
       ∷ Added true None
-      ∷ Judged (Some (certificate one))
+      ∷ Judged true (Some (certificate one))
       ∷ finalize_vote 2 one
       ∷ Added true None
       ∷ Restarted
@@ -168,7 +175,7 @@ forgetful = record {
       ∷ Answered true
       ∷ notarize_vote 2 two
       ∷ Added true None
-      ∷ Judged (Some (certificate two))
+      ∷ Judged true (Some (certificate two))
       ∷ finalize_vote 2 two
       ∷ [];
 }
@@ -201,13 +208,13 @@ restarting = record {
       ∷ [];
   replies =
       Added true None
-      ∷ Judged (Some (certificate one))
+      ∷ Judged true (Some (certificate one))
       ∷ finalize_vote 1 one
       ∷ Added true None
       ∷ Restarted
       ∷ Finalize None
       ∷ Added true None
-      ∷ Judged (Some (certificate two))
+      ∷ Judged true (Some (certificate two))
       ∷ finalize_vote 1 two
       ∷ Added true None
       ∷ Restarted
@@ -245,7 +252,7 @@ skipping me = record {
       ∷ Answered true
       ∷ notarize_vote me one
       ∷ Added true None
-      ∷ Judged (Some (certificate one))
+      ∷ Judged true (Some (certificate one))
       ∷ nullify_vote me 2
       ∷ AddedNullification true
       ∷ Answered true
@@ -253,7 +260,7 @@ skipping me = record {
       ∷ Answered true
       ∷ notarize_vote me (proposal 3 1)
       ∷ Added true None
-      ∷ Judged (Some (certificate (proposal 3 1)))
+      ∷ Judged true (Some (certificate (proposal 3 1)))
       ∷ finalize_vote me (proposal 3 1)
       ∷ [];
 }

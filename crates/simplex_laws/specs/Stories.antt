@@ -3,9 +3,9 @@ use Rattle.std.specs.Prelude.{◌≡◌, ◌⊎◌, ℕ, Bool, List, ◌++◌, C
 use Rattle.simplex_voter.specs.Facts.{Facts, Elect}
 use Rattle.simplex_member.specs.Calls.{Told}
 use Rattle.simplex_member.specs.Runs.{StepFacts, Restarts, IsRunFrom}
-use Rattle.simplex_member.specs.Start.{StartFacts}
+use Rattle.simplex_member.specs.Start.{Setup, StartFacts}
 use Rattle.simplex_laws.specs.Deeds.{Deed, of_floor, deeds_of_steps}
-use Rattle.simplex_laws.specs.Fresh.{IsFresh, BeginFresh}
+use Rattle.simplex_laws.specs.TermLengths.{HasTerms, KeepTerms}
 use Rattle.simplex_laws.specs.Lawful.{IsLawful}
 
 -- a start, then steps, each with its reply: calls and restarts
@@ -18,16 +18,16 @@ pub record Story (K L D : Type 0) : Type 0 where
 abbrev pub deeds_of : {K L D : Type 0} → Story K L D → List (Deed D)
 deeds_of s = of_floor s.start.floor ++ deeds_of_steps s.steps s.replies
 
-module _ {K L D : Type 0} where
-  -- a life begins with terms of this many views, and signs as this member or not at all
-  pub record BeginsAs (term_length i : ℕ) (x : Facts K L D) : Type 0 where
-    pub fresh : IsFresh term_length x
-    pub signs_as : (x.me ≡ Some i) ⊎ (x.me ≡ None)
+-- a life begins with terms of this many views, and signs as this member or not at all
+pub record BeginsAs {K L : Type 0} (term_length i : ℕ) (setup : Setup K L) : Type 0 where
+  pub terms : HasTerms term_length setup
+  pub signs_as : (setup.me ≡ Some i) ⊎ (setup.me ≡ None)
 
+module _ {K L D : Type 0} where
   -- so does each life of a start and these steps
   pub record LivesAs (term_length i : ℕ) (start : StartFacts K L D) (steps : List (StepFacts K L D)) : Type 0 where
-    pub first : BeginsAs term_length i start.fresh
-    pub later : (r : _) → Contains steps (Restarts r) → BeginsAs term_length i r.start.fresh
+    pub first : BeginsAs term_length i start.setup
+    pub later : (r : _) → Contains steps (Restarts r) → BeginsAs term_length i r.start.setup
 
 module _ {K L D : Type 0} (same : D → D → Bool) (elect : Elect L) where
   -- what member `i` of a network does, whatever comes to it
@@ -44,7 +44,7 @@ module _ (K : Type 0) {L D : Type 0} (same : D → D → Bool) (elect : Elect L)
   abbrev pub RunsAreLawful : Type 0
   RunsAreLawful =
       (term_length : ℕ) (s : Story K L D)
-      → IsFresh term_length s.start.fresh
-      → BeginFresh term_length s.steps
+      → HasTerms term_length s.start.setup
+      → KeepTerms term_length s.steps
       → IsRunFrom same elect s.start s.steps s.replies
       → IsLawful term_length (deeds_of s)

@@ -7,6 +7,7 @@ mod instances;
 mod lives;
 mod network;
 mod own_record;
+mod progress;
 mod resumes;
 
 pub use contradictions::accountability;
@@ -15,4 +16,5 @@ pub use instances::{restarts_are_runs, skipped_views_are_agreed_on, terms_are_ag
 pub use lives::{current_views_time_out, lives_keep_order, runs_keep_order};
 pub use network::{agreement, votes_are_lawful};
 pub use own_record::own_record_is_taken;
+pub use progress::views_are_left;
 pub use resumes::resumes_are_restarts;

@@ -20,7 +20,7 @@ use Rattle.simplex_member.proofs.Restarts.{gone_on, not_gone_on}
 module _ {K L D : Type 0} (same : D → D → Bool) (elect : Elect L) (stored : Stored) (entries : List (ArtifactFacts D)) (start : StartFacts K L D) (whole : has_lost stored entries ≡ false) where
   -- as many views are kept as in each life before, or the record was never pruned
   abbrev Grows : Bool → Type 0
-  Grows grows = (stored.is_pruned && nat_lt stored.least_retention start.fresh.settings.view_retention) ≡ grows
+  Grows grows = (stored.is_pruned && nat_lt stored.least_retention start.setup.settings.view_retention) ≡ grows
 
   pub grown : Grows true → IsNotResumed same elect stored entries start (resume_error.Recover error.RetentionGrown)
   unfolding IsRestart
@@ -31,7 +31,7 @@ module _ {K L D : Type 0} (same : D → D → Bool) (elect : Elect L) (stored : 
   refused grows found due = (whole, rw grows (not_gone_on same elect (stored_facts stored entries) start found due))
 
   pub resumed : Grows false → (x : Facts K L D) (record_now : List (ArtifactFacts D)) → IsRemadeBy same elect start entries x → record_now ≡ with_floor entries start.floor
-      → IsResumed same elect stored entries start (record (stored_facts stored entries) { life = Some x; entries = record_now; retention = start.fresh.settings.view_retention; least_retention = min stored.least_retention start.fresh.settings.view_retention })
+      → IsResumed same elect stored entries start (record (stored_facts stored entries) { life = Some x; entries = record_now; retention = start.setup.settings.view_retention; least_retention = min stored.least_retention start.setup.settings.view_retention })
   unfolding IsRestart
   resumed grows x record_now made kept = record {
     whole = whole;

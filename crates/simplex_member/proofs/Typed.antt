@@ -1,12 +1,13 @@
 -- What a call is told is of its kind; where it is an answer, it is by the definitions, and where it is refused, nothing is lost.
-use Rattle.std.proofs.Common.{◌≡◌, ◌⊎◌, refl, ℕ, Bool, true, false, cond, Option, Some, None, inl, inr}
+use Rattle.std.proofs.Common.{◌≡◌, ◌⊎◌, refl, ap, sym, ◌∙◌, ℕ, Bool, true, false, cond, List, [], ◌++◌, Option, Some, None, inl, inr}
+use Rattle.std.proofs.lemmas.List.{append-nil}
 use Rattle.simplex_types.specs.declared.types.fault.Fault.{Fault}
 use Rattle.simplex_types.specs.declared.types.fault.Fault.TheVariants as fault
 use Rattle.simplex_voter.specs.Facts.{Facts, Elect}
 use Rattle.simplex_member.specs.Allowed.{is_allowed, fault_of}
 use Rattle.simplex_member.specs.Calls.{CallFacts, AddNotarization, AddNullification, AddFinalization, SetProposal, TryPropose, Proposed, SupersedeProposalRequest, PendingHandoffAbandonment, ReleaseProposalRequest, TryVerify, Verified, VerificationFailed, ConstructNotarize, CertifyCandidates, SetCertifyHandle, Certified, ConstructNullify, ConstructFinalize, BroadcastNotarization, BroadcastNullification, BroadcastFinalization, GetBestCertificate, TriggerTimeout, NextTimeout, Prune, Told, Refused, NotAllowed}
-use Rattle.simplex_member.specs.Lives.{MemberFacts, fallen, with_call, unless_refused, unless_kept, Answers, AnswersAlive, IsCall}
-use Rattle.simplex_member.specs.Made.{answer}
+use Rattle.simplex_member.specs.Lives.{MemberFacts, HasGrown, fallen, with_call, unless_refused, unless_kept, Answers, AnswersAlive, IsCall}
+use Rattle.simplex_member.specs.Made.{answer, recorded_by}
 use Rattle.simplex_member.specs.Openings.{Openings}
 use Rattle.simplex_member.specs.Typed.{is_reply_to, IfAnswered, IfRefused, IsAnswered, Keeps}
 use Rattle.simplex_member.specs.declared.member.refusal.Refusal.{Refusal}
@@ -26,6 +27,18 @@ module _ {K L D : Type 0} where
   keeps_same m left (refusal.Fault fault.ViewTooLarge) same = same
   keeps_same m left (refusal.Fault fault.TimeOverflow) same = same
   keeps_same m left refusal.NotAllowed same = same
+
+  -- the record stays
+  same_grown : (m left : MemberFacts K L D) → left ≡ m → HasGrown m left
+  same_grown m left same = ([], ap (λ (n : MemberFacts K L D). n.entries) same ∙ sym (append-nil m.entries))
+
+  keeps_grown : (m left : MemberFacts K L D) (refused : Refusal) → Keeps m refused left → HasGrown m left
+  keeps_grown m left (refusal.Fault fault.OutOfMemory) (inl same) = same_grown m left same
+  keeps_grown m left (refusal.Fault fault.OutOfMemory) (inr fell) = ([], ap (λ (n : MemberFacts K L D). n.entries) fell ∙ sym (append-nil m.entries))
+  keeps_grown m left (refusal.Fault fault.Failed) same = same_grown m left same
+  keeps_grown m left (refusal.Fault fault.ViewTooLarge) same = same_grown m left same
+  keeps_grown m left (refusal.Fault fault.TimeOverflow) same = same_grown m left same
+  keeps_grown m left refusal.NotAllowed same = same_grown m left same
 
 module _ {K L D : Type 0} (same : D → D → Bool) (elect : Elect L) where
   -- an answer is of its call's kind, and is no refusal
@@ -61,9 +74,10 @@ module _ {K L D : Type 0} (same : D → D → Bool) (elect : Elect L) where
       pub of_its_kind : is_reply_to told call ≡ true
       pub answered : IfAnswered told (IsAnswered same elect m call told left)
       pub kept : IfRefused told (λ refused. Keeps m refused left)
+      pub grown : HasGrown m left
 
     refused_so : (due : Fault) (left : MemberFacts K L D) → Keeps m (refusal.Fault due) left → Typed (Refused due) left
-    refused_so due left keeps = record { of_its_kind = refl; answered = tt; kept = keeps }
+    refused_so due left keeps = record { of_its_kind = refl; answered = tt; kept = keeps; grown = keeps_grown m left (refusal.Fault due) keeps }
 
     module _ (x : Facts K L D) (alive : m.life ≡ Some x) where
       by_definition : (b : Bool) → is_allowed x m.openings call ≡ b → (due : Option Fault) → fault_of x call ≡ due
@@ -74,9 +88,10 @@ module _ {K L D : Type 0} (same : D → D → Bool) (elect : Elect L) where
             of_its_kind = (of_kind x m.openings call).0;
             answered = so_answered told (record { state = x; alive = alive; allowed = allowed; not_due = not_due; told_so = refl; left_so = refl });
             kept = (of_kind x m.openings call).1 (λ refused. Keeps m refused (with_call same elect x m call));
+            grown = (recorded_by same elect x call, refl);
           }
       by_definition true allowed (Some due) is_due = refused_so due m (keeps_same m m (refusal.Fault due) refl)
-      by_definition false forbidden due is_due = record { of_its_kind = refl; answered = tt; kept = refl }
+      by_definition false forbidden due is_due = record { of_its_kind = refl; answered = tt; kept = refl; grown = same_grown m m refl }
 
       by_answers : (told : Told K D) (left : MemberFacts K L D) → Answers same elect x m call told left → Typed told left
       by_answers told left (inl (told_so, left_so)) = rw (told_so, left_so) (by_definition (is_allowed x m.openings call) refl (fault_of x call) refl)

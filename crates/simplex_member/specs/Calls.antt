@@ -78,7 +78,7 @@ asked bytes_of call.Prune = Prune
 pub data Told (K D : Type 0) : Type 0 where
   Added : Bool → Option K → Told K D
   AddedNullification : Bool → Told K D
-  Judged : Option (ProposalFacts D) → Told K D
+  Judged : Bool → Option (ProposalFacts D) → Told K D
   Nullify : Option (Bool × ArtifactFacts D) → Told K D
   Finalize : Option (ArtifactFacts D) → Told K D
   Notarize : Option (ArtifactFacts D) → Told K D
@@ -89,6 +89,8 @@ pub data Told (K D : Type 0) : Type 0 where
   Answered : Bool → Told K D
   Abandoned : Option HandoffAbandonedReason → Told K D
   Candidates : List (Proposal D) → List CertificateFetch → Told K D
+  Released : Bool → Told K D
+  Triggered : Bool → Told K D
   TimesOut : Option (ℕ × TimeoutReason) → Told K D
   Done : Told K D
   Restarted : Told K D
@@ -117,13 +119,15 @@ module _ {S D K G C : Type 0} (bytes_of : C → List ℕ) where
   told (reply.Request request) = Requested request
   told (reply.Work verify) = Standing verify
   told (reply.Candidates proposals fetches) = Candidates proposals.items fetches.items
-  told (reply.Certified notarization) = Judged (option_map (notarization_facts bytes_of) notarization)
+  told (reply.Certified success notarization) = Judged success (option_map (notarization_facts bytes_of) notarization)
   told (reply.Notarize vote) = Notarize (told_notarize vote)
   told (reply.Nullify vote) = Nullify (told_nullify vote)
   told (reply.Finalize vote) = Finalize (told_finalize vote)
   told (reply.Certificate certificate) = Handed (option_map (certificate_facts bytes_of) certificate)
   told (reply.Timeout at reason) = TimesOut (Some (at, reason))
   told (reply.Views views) = Dropped views.items
+  told (reply.Released was_open) = Released was_open
+  told (reply.Triggered latched) = Triggered latched
   told (reply.Abandoned reason) = Abandoned reason
   told reply.Restarted = Restarted
   told (reply.Fault fault) = Refused fault

@@ -42,6 +42,10 @@ module _ {K L D : Type 0} where
   abbrev pub fallen : MemberFacts K L D → MemberFacts K L D
   fallen m = record m { life = None; openings = no_openings }
 
+  -- its record is as it was, with more behind it
+  abbrev pub HasGrown : MemberFacts K L D → MemberFacts K L D → Type 0
+  HasGrown m left = (more : List (ArtifactFacts D)) × (left.entries ≡ m.entries ++ more)
+
   -- left, unless a fault is due
   abbrev pub unless_kept : Option Fault → MemberFacts K L D → MemberFacts K L D → MemberFacts K L D
   unless_kept None m next = next

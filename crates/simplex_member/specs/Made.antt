@@ -1,5 +1,5 @@
 -- What a call is told that is allowed and not refused, and what it makes of the state, of what is open and of the record.
-use Rattle.std.specs.Prelude.{ℕ, Bool, false, if◌then◌else◌, List, [], ◌∷◌, Option, Some, None, option_map, option_and_then}
+use Rattle.std.specs.Prelude.{ℕ, Bool, false, if◌then◌else◌, List, [], ◌∷◌, Option, Some, is_some, None, option_map, option_and_then}
 use Rattle.std.specs.Option.{option_map_or}
 use Rattle.simplex_types.specs.Certificates.{Notarized, Nullified, Finalized, ArtifactFacts, NotarizeVote, NullifyVote, FinalizeVote, Verdict, Accepted}
 use Rattle.simplex_voter.specs.Facts.{Facts, Elect, round_number}
@@ -7,10 +7,10 @@ use Rattle.simplex_voter.specs.Acceptance.{notarization_added, nullification_add
 use Rattle.simplex_voter.specs.Certification.{candidates_answer, after_candidates, after_set_certify_handle, is_first_verdict, certified_answer, after_certified}
 use Rattle.simplex_voter.specs.Proposing.{propose_answer, after_try_propose, proposed_answer, after_proposed, supersede_answer, after_supersede, abandonment_answer, after_release}
 use Rattle.simplex_voter.specs.Serving.{broadcast_notarization_answer, after_broadcast_notarization, broadcast_nullification_answer, after_broadcast_nullification, broadcast_finalization_answer, after_broadcast_finalization, best_certificate, prune_answer, after_prune}
-use Rattle.simplex_voter.specs.Timeouts.{after_trigger_timeout, next_timeout_answer, after_next_timeout}
+use Rattle.simplex_voter.specs.Timeouts.{trigger_answer, after_trigger_timeout, next_timeout_answer, after_next_timeout}
 use Rattle.simplex_voter.specs.Verifying.{set_proposal_answer, after_set_proposal, verify_answer, after_try_verify, verified_answer, after_verified, after_verification_failed}
 use Rattle.simplex_voter.specs.Votes.{notarize_answer, after_construct_notarize, nullify_answer, after_construct_nullify, finalize_answer, after_construct_finalize}
-use Rattle.simplex_member.specs.Calls.{CallFacts, AddNotarization, AddNullification, AddFinalization, SetProposal, TryPropose, Proposed, SupersedeProposalRequest, PendingHandoffAbandonment, ReleaseProposalRequest, TryVerify, Verified, VerificationFailed, ConstructNotarize, CertifyCandidates, SetCertifyHandle, Certified, ConstructNullify, ConstructFinalize, BroadcastNotarization, BroadcastNullification, BroadcastFinalization, GetBestCertificate, TriggerTimeout, NextTimeout, Prune, Told, Added, AddedNullification, Judged, Nullify, Finalize, Notarize, Handed, Dropped, Requested, Standing, Answered, Abandoned, Candidates, TimesOut, Done}
+use Rattle.simplex_member.specs.Calls.{CallFacts, AddNotarization, AddNullification, AddFinalization, SetProposal, TryPropose, Proposed, SupersedeProposalRequest, PendingHandoffAbandonment, ReleaseProposalRequest, TryVerify, Verified, VerificationFailed, ConstructNotarize, CertifyCandidates, SetCertifyHandle, Certified, ConstructNullify, ConstructFinalize, BroadcastNotarization, BroadcastNullification, BroadcastFinalization, GetBestCertificate, TriggerTimeout, NextTimeout, Prune, Told, Added, AddedNullification, Judged, Nullify, Finalize, Notarize, Handed, Dropped, Requested, Standing, Answered, Abandoned, Candidates, Released, Triggered, TimesOut, Done}
 use Rattle.simplex_member.specs.Openings.{Openings, context_at, without_context, with_request, without_verification, with_verification, without_offer, with_offers}
 
 module _ {K L D : Type 0} where
@@ -63,21 +63,21 @@ module _ {K L D : Type 0} (same : D → D → Bool) (elect : Elect L) where
   answer x o (Proposed v payload _) = Answered (option_map_or (λ context. proposed_answer same elect x context payload) (context_at o v) false)
   answer x o (SupersedeProposalRequest v) = Answered (option_map_or (λ context. supersede_answer same elect x context) (context_at o v) false)
   answer x o (PendingHandoffAbandonment v) = Abandoned (option_map_or (λ context. abandonment_answer same elect x context) (context_at o v) None)
-  answer x o (ReleaseProposalRequest _) = Done
+  answer x o (ReleaseProposalRequest v) = Released (is_some (context_at o v))
   answer x o TryVerify = Standing (verify_answer same elect x)
   answer x o (Verified v) = Answered (verified_answer same elect x v)
   answer x o (VerificationFailed _ _ _) = Done
   answer x o (ConstructNotarize v) = Notarize (notarize_vote same elect x v)
   answer x o CertifyCandidates = Candidates (candidates_answer same elect x).0 (candidates_answer same elect x).1
   answer x o (SetCertifyHandle _ _) = Done
-  answer x o (Certified v _ _) = Judged (certified_answer x v)
+  answer x o (Certified v success _) = Judged success (certified_answer x v)
   answer x o (ConstructNullify v) = Nullify (nullify_vote x v)
   answer x o (ConstructFinalize v) = Finalize (finalize_vote elect x v)
   answer x o (BroadcastNotarization v) = Handed (option_map Notarized (broadcast_notarization_answer x v))
   answer x o (BroadcastNullification v) = Handed (option_map Nullified (broadcast_nullification_answer x v))
   answer x o (BroadcastFinalization v) = Handed (option_map Finalized (broadcast_finalization_answer x v))
   answer x o GetBestCertificate = Handed (best_certificate x)
-  answer x o (TriggerTimeout _ _ _) = Done
+  answer x o (TriggerTimeout v reason _) = Triggered (trigger_answer x v reason)
   answer x o (NextTimeout now) = TimesOut (next_timeout_answer x now)
   answer x o Prune = Dropped (prune_answer x)
 

@@ -5,7 +5,7 @@ use Rattle.simplex_voter.specs.Facts.{Facts, Elect}
 use Rattle.simplex_member.specs.declared.member.error.RecoverError.{RecoverError}
 use Rattle.simplex_member.specs.Recovery.{recovered, recover_error}
 use Rattle.simplex_member.specs.Restarts.{IsByView}
-use Rattle.simplex_member.specs.Start.{StartFacts}
+use Rattle.simplex_member.specs.Start.{StartFacts, new_state}
 
 module _ {K L D : Type 0} (same : D → D → Bool) where
   -- no state is made, by the error that is due for a copy of the entries by view
@@ -13,7 +13,7 @@ module _ {K L D : Type 0} (same : D → D → Bool) where
   IsRefusedBy start entries error =
       (copy : List (ArtifactFacts D))
       × IsByView entries copy
-      × (recover_error same start.fresh start.floor start.now copy ≡ Some error)
+      × (recover_error same (new_state start.setup) start.floor start.now copy ≡ Some error)
 
 module _ {K L D : Type 0} (same : D → D → Bool) (elect : Elect L) where
   -- a state is made from a copy of the entries by view
@@ -21,5 +21,5 @@ module _ {K L D : Type 0} (same : D → D → Bool) (elect : Elect L) where
   IsRemadeBy start entries x =
       (copy : List (ArtifactFacts D))
       × IsByView entries copy
-      × (recover_error same start.fresh start.floor start.now copy ≡ None)
-      × (x ≡ recovered same elect start.fresh start.floor start.now copy)
+      × (recover_error same (new_state start.setup) start.floor start.now copy ≡ None)
+      × (x ≡ recovered same elect (new_state start.setup) start.floor start.now copy)

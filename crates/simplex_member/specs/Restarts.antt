@@ -12,7 +12,7 @@ use Rattle.simplex_member.specs.Cuts.{without_last, pruned}
 use Rattle.simplex_member.specs.Openings.{no_openings}
 use Rattle.simplex_member.specs.Lives.{MemberFacts, fallen}
 use Rattle.simplex_member.specs.Recovery.{recovered, recover_error, with_floor}
-use Rattle.simplex_member.specs.Start.{StartFacts, start_facts}
+use Rattle.simplex_member.specs.Start.{StartFacts, start_facts, new_state}
 
 -- what a restart is asked for: at most so many of the last entries are dropped, whether the record is pruned then, and how
 -- the member starts
@@ -52,18 +52,18 @@ module _ {K L D : Type 0} (same : D → D → Bool) (elect : Elect L) where
   -- a new life from a copy of the record, with the floor's finalization in the record
   abbrev pub new_life : MemberFacts K L D → StartFacts K L D → List (ArtifactFacts D) → MemberFacts K L D
   new_life m start copy = record m {
-    life = Some (recovered same elect start.fresh start.floor start.now copy);
+    life = Some (recovered same elect (new_state start.setup) start.floor start.now copy);
     openings = no_openings;
     entries = with_floor m.entries start.floor;
-    retention = start.fresh.settings.view_retention;
-    least_retention = min m.least_retention start.fresh.settings.view_retention;
+    retention = start.setup.settings.view_retention;
+    least_retention = min m.least_retention start.setup.settings.view_retention;
   }
 
   -- how a member goes on from a copy of its record: refused by the error that is due, or else in a new life
   abbrev pub GoesOnFrom : MemberFacts K L D → StartFacts K L D → List (ArtifactFacts D) → Result (Unit {0}) RecoverError → MemberFacts K L D → Type 0
   GoesOnFrom m start copy result left =
       MatchOption
-      (recover_error same start.fresh start.floor start.now copy)
+      (recover_error same (new_state start.setup) start.floor start.now copy)
       ((result ≡ Ok tt) × (left ≡ new_life m start copy))
       (λ e. (result ≡ Err e) × (left ≡ fallen m))
 
@@ -81,4 +81,4 @@ module _ {K L D : Type 0} (same : D → D → Bool) (elect : Elect L) where
 
   -- a restart of a member, what it answers and what is left of the member
   unfoldable pub IsRestart : MemberFacts K L D → RestartFacts K L D → Result (Unit {0}) RecoverError → MemberFacts K L D → Type 0
-  IsRestart m r result left = IsRestartWhere (retention_grows m r.prune r.start.fresh.settings.view_retention) m r result left
+  IsRestart m r result left = IsRestartWhere (retention_grows m r.prune r.start.setup.settings.view_retention) m r result left

@@ -5,7 +5,7 @@ use Rattle.simplex_types.specs.declared.types.fault.Fault.{Fault}
 use Rattle.simplex_types.specs.declared.types.fault.Fault.TheVariants as fault
 use Rattle.simplex_types.specs.declared.types.window.Terms.{Terms}
 use Rattle.simplex_voter.specs.declared.voter.state.Config.{Config}
-use Rattle.simplex_voter.specs.Facts.{Facts, Elect, new_facts}
+use Rattle.simplex_voter.specs.Facts.{Facts, Settings, Elect, new_facts}
 use Rattle.simplex_voter.specs.StateView.{settings_of}
 use Rattle.simplex_voter.specs.Acceptance.{after_set_floor}
 use Rattle.simplex_member.specs.declared.member.error.RecoverError.{RecoverError}
@@ -15,20 +15,42 @@ use Rattle.simplex_member.specs.Recovery.{with_floor}
 use Rattle.simplex_member.specs.Openings.{no_openings}
 use Rattle.simplex_member.specs.Lives.{MemberFacts}
 
+-- how a state is set up
+pub record Setup (K L : Type 0) : Type 0 where
+  pub settings : Settings
+  pub me : Option ℕ
+  pub members : List K
+  pub elector : L
+  pub terms : Terms
+  pub elects_early : Bool
+
+abbrev pub setup_of : {S L K G C : Type 0} → (S → Option ℕ) → (S → List K) → (L → Terms) → (L → Bool) → Config S L K G C → Setup K L
+setup_of me members terms elects_early c = record {
+  settings = settings_of c;
+  me = me c.scheme;
+  members = members c.scheme;
+  elector = c.elector;
+  terms = terms c.elector;
+  elects_early = elects_early c.elector;
+}
+
+-- what a new state knows: nothing but how it was set up
+abbrev pub new_state : {K L D : Type 0} → Setup K L → Facts K L D
+new_state s = new_facts s.settings s.me s.members s.elector s.terms s.elects_early
+
 -- what a new state of these settings knows
 abbrev pub set_up : {S L D K G C : Type 0} → (S → Option ℕ) → (S → List K) → (L → Terms) → (L → Bool) → Config S L K G C → Facts K L D
-set_up me members terms elects_early c =
-    new_facts (settings_of c) (me c.scheme) (members c.scheme) c.elector (terms c.elector) (elects_early c.elector)
+set_up me members terms elects_early c = new_state (setup_of me members terms elects_early c)
 
--- how a member starts: what a new state of its settings knows, the floor, and the moment in milliseconds
+-- how a member starts: how its state is set up, the floor, and the moment in milliseconds
 pub record StartFacts (K L D : Type 0) : Type 0 where
-  pub fresh : Facts K L D
+  pub setup : Setup K L
   pub floor : FloorFacts D
   pub now : ℕ
 
 abbrev pub start_facts : {S L D K G C : Type 0} → (S → Option ℕ) → (S → List K) → (L → Terms) → (L → Bool) → (C → List ℕ) → Start S L D K G C → StartFacts K L D
 start_facts me members terms elects_early bytes_of start = record {
-  fresh = set_up me members terms elects_early start.settings;
+  setup = setup_of me members terms elects_early start.settings;
   floor = floor_facts bytes_of start.floor;
   now = start.now;
 }

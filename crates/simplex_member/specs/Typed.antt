@@ -5,7 +5,7 @@ use Rattle.simplex_types.specs.declared.types.fault.Fault.TheVariants as fault
 use Rattle.simplex_round.specs.Round.{is_nullify, is_finalize}
 use Rattle.simplex_voter.specs.Facts.{Facts, Elect, round_of}
 use Rattle.simplex_member.specs.Allowed.{is_allowed, fault_of}
-use Rattle.simplex_member.specs.Calls.{CallFacts, AddNotarization, AddNullification, AddFinalization, SetProposal, TryPropose, Proposed, SupersedeProposalRequest, PendingHandoffAbandonment, ReleaseProposalRequest, TryVerify, Verified, VerificationFailed, ConstructNotarize, CertifyCandidates, SetCertifyHandle, Certified, ConstructNullify, ConstructFinalize, BroadcastNotarization, BroadcastNullification, BroadcastFinalization, GetBestCertificate, TriggerTimeout, NextTimeout, Prune, Told, Added, AddedNullification, Judged, Nullify, Finalize, Notarize, Handed, Dropped, Requested, Standing, Answered, Abandoned, Candidates, TimesOut, Done, Refused, NotAllowed}
+use Rattle.simplex_member.specs.Calls.{CallFacts, AddNotarization, AddNullification, AddFinalization, SetProposal, TryPropose, Proposed, SupersedeProposalRequest, PendingHandoffAbandonment, ReleaseProposalRequest, TryVerify, Verified, VerificationFailed, ConstructNotarize, CertifyCandidates, SetCertifyHandle, Certified, ConstructNullify, ConstructFinalize, BroadcastNotarization, BroadcastNullification, BroadcastFinalization, GetBestCertificate, TriggerTimeout, NextTimeout, Prune, Told, Added, AddedNullification, Judged, Nullify, Finalize, Notarize, Handed, Dropped, Requested, Standing, Answered, Abandoned, Candidates, Released, Triggered, TimesOut, Done, Refused, NotAllowed}
 use Rattle.simplex_member.specs.Lives.{MemberFacts, fallen, with_call}
 use Rattle.simplex_member.specs.Made.{answer}
 use Rattle.simplex_member.specs.declared.member.refusal.Refusal.{Refusal}
@@ -30,21 +30,21 @@ module _ {K D : Type 0} where
   is_reply_to (Answered _) (Proposed _ _ _) = true
   is_reply_to (Answered _) (SupersedeProposalRequest _) = true
   is_reply_to (Abandoned _) (PendingHandoffAbandonment _) = true
-  is_reply_to Done (ReleaseProposalRequest _) = true
+  is_reply_to (Released _) (ReleaseProposalRequest _) = true
   is_reply_to (Standing _) TryVerify = true
   is_reply_to (Answered _) (Verified _) = true
   is_reply_to Done (VerificationFailed _ _ _) = true
   is_reply_to (Notarize _) (ConstructNotarize _) = true
   is_reply_to (Candidates _ _) CertifyCandidates = true
   is_reply_to Done (SetCertifyHandle _ _) = true
-  is_reply_to (Judged _) (Certified _ _ _) = true
+  is_reply_to (Judged _ _) (Certified _ _ _) = true
   is_reply_to (Nullify _) (ConstructNullify _) = true
   is_reply_to (Finalize _) (ConstructFinalize _) = true
   is_reply_to (Handed _) (BroadcastNotarization _) = true
   is_reply_to (Handed _) (BroadcastNullification _) = true
   is_reply_to (Handed _) (BroadcastFinalization _) = true
   is_reply_to (Handed _) GetBestCertificate = true
-  is_reply_to Done (TriggerTimeout _ _ _) = true
+  is_reply_to (Triggered _) (TriggerTimeout _ _ _) = true
   is_reply_to (TimesOut _) (NextTimeout _) = true
   is_reply_to (Dropped _) Prune = true
   is_reply_to _ _ = false

@@ -4,6 +4,8 @@
 #[cfg(test)]
 mod member;
 #[cfg(test)]
+mod program;
+#[cfg(test)]
 mod replay;
 #[cfg(test)]
 mod resolver;

@@ -6,7 +6,7 @@ use Rattle.simplex_types.specs.declared.types.fault.Fault.{Fault}
 use Rattle.simplex_types.specs.declared.reasons.TimeoutReason.{TimeoutReason}
 use Rattle.simplex_types.specs.declared.reasons.TimeoutReason.TheVariants.{Retry, Inactivity, StallTimeout}
 use Rattle.simplex_round.specs.Slot.{is_unequivocated}
-use Rattle.simplex_round.specs.Round.{RoundFacts, with_latch, with_retry, awaits_retry, round_timeout}
+use Rattle.simplex_round.specs.Round.{RoundFacts, awaits_latch, with_latch, with_retry, awaits_retry, round_timeout}
 use Rattle.simplex_voter.specs.Facts.{Facts, round_at, round_of, is_tracked, with_round, with_tracked}
 use Rattle.simplex_voter.specs.Refusals.{first_fault, is_past_u64}
 use Rattle.simplex_voter.specs.Entering.{at_moment}
@@ -42,14 +42,18 @@ abbrev pub is_entered_between : {K D : Type 0} → ℕ → ℕ → ℕ × RoundF
 is_entered_between low high e = nat_lt low e.0 && nat_le e.0 high && is_some e.1.entered_at
 
 module _ {K L D : Type 0} where
-  -- the view times out at its next poll, unless it is passed, or not tracked, or the reason is contradicted
-  abbrev pub triggered : Facts K L D → ℕ → TimeoutReason → ℕ → Facts K L D
-  triggered x v reason now =
-      if nat_le x.current v && is_tracked x v && not (is_contradicted reason (round_of x v))
-      then with_round x v (with_latch (round_of x v) now reason)
-      else x
+  -- the view may time out: it is not passed, and tracked, and the reason is not contradicted
+  abbrev pub can_trigger : Facts K L D → ℕ → TimeoutReason → Bool
+  can_trigger x v reason = nat_le x.current v && is_tracked x v && not (is_contradicted reason (round_of x v))
 
-  -- `trigger_timeout`
+  -- the view times out at its next poll, where it may
+  abbrev pub triggered : Facts K L D → ℕ → TimeoutReason → ℕ → Facts K L D
+  triggered x v reason now = if can_trigger x v reason then with_round x v (with_latch (round_of x v) now reason) else x
+
+  -- `trigger_timeout`: whether this timeout was latched
+  abbrev pub trigger_answer : Facts K L D → ℕ → TimeoutReason → Bool
+  trigger_answer x v reason = can_trigger x v reason && awaits_latch (round_of x v)
+
   abbrev pub after_trigger_timeout : Facts K L D → ℕ → TimeoutReason → ℕ → Facts K L D
   after_trigger_timeout x v reason now = triggered (at_moment x now) v reason now
 

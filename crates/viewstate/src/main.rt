@@ -1,24 +1,8 @@
 //! `viewstate`: a voter or a resolver, asked by lines.
 #![tactic(auto)]
 
-pub mod decimal;
-pub mod line_reader;
-pub mod mode;
-pub mod network;
-pub mod program;
-pub mod resolver;
-pub mod resolver_line;
-#[cfg(test)]
-mod tests;
-pub mod texts;
-pub mod voter;
-pub mod voter_call;
-pub mod voter_line;
-pub mod voter_text;
-pub mod words;
-
-use mode::Mode;
-use program::{ServeError, serve};
+use simplex_program::mode::Mode;
+use simplex_program::program::{ServeError, serve};
 use std::process::ExitCode;
 use std::{env, io};
 

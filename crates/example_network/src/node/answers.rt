@@ -46,7 +46,9 @@ impl Node {
             Reply::Request(Some(request)) => self.build(request.context(), now),
             Reply::Work(work) => self.verify(work),
             Reply::Candidates(blocks, fetches) => self.certify(blocks, fetches, now),
-            Reply::Certified(Some(notarization)) => self.certified(notarization),
+            Reply::Certified(success, Some(notarization)) => {
+                self.certified(notarization, *success)
+            }
             _ => Ok(()),
         }
     }
@@ -198,13 +200,17 @@ impl Node {
     }
 
     /// The verdict was taken: the resolver is told.
-    fn certified(&mut self, notarization: &Notarized) -> Result<(), EngineError> {
+    fn certified(
+        &mut self,
+        notarization: &Notarized,
+        success: bool,
+    ) -> Result<(), EngineError> {
         let view = notarization.proposal.round.view;
         if view.is_zero() {
             return Ok(());
         }
         let copy = notarization.clone(self.alloc)?;
-        let effects = self.resolver.certified(copy, true)?;
+        let effects = self.resolver.certified(copy, success)?;
         self.ask_for(&effects)?;
         self.follow(view)
     }

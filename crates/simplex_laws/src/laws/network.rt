@@ -1,6 +1,6 @@
 //! What a network of members agrees on, and the laws of each member's votes over all its lives.
 
-ghost use Rattle.simplex_laws.specs.Agreement.{OneProposal, FinalizedUncovered, ParentNotBelow, FinalizedNotarized, ChainHoldsFinalized};
+ghost use Rattle.simplex_laws.specs.Agreement.{OneProposal, FinalizedUncovered, ParentBefore, ParentNotBelow, FinalizedNotarized, ChainHoldsFinalized};
 ghost use Rattle.simplex_laws.specs.Exactly.{SignsExactly};
 ghost use Rattle.simplex_laws.specs.Lawful.{IsLawful};
 ghost use Rattle.simplex_laws.specs.Places.{OfEachNetwork};
@@ -28,6 +28,7 @@ use simplex_types::types::{Digest, Elector, Scheme};
 /// The claims are of every backed certificate, whether or not a member has seen it:
 /// - `one_proposal`: the notarizations and the finalizations of one view are of one proposal.
 /// - `finalized_uncovered`: no nullification covers a finalized view.
+/// - `parent_before`: a notarized or finalized proposal names an earlier view as its parent.
 /// - `parent_not_below`: no notarized proposal above a finalized view names a parent below that view.
 /// - `finalized_notarized`: a finalized proposal is notarized.
 /// - `chain_holds_finalized`: a chain of notarized proposals, each naming the next one's view as its parent, that holds one
@@ -38,6 +39,7 @@ pub fn agreement<S: Scheme<D>, L: Elector<S>, D: Digest>()
     ensures one_proposal { OfEachNetwork S.PublicKey D.eq L.elect (λ term_length. OneProposal) }
     ensures finalized_uncovered { OfEachNetwork S.PublicKey D.eq L.elect
         (λ term_length network. FinalizedUncovered network term_length) }
+    ensures parent_before { OfEachNetwork S.PublicKey D.eq L.elect (λ term_length. ParentBefore) }
     ensures parent_not_below { OfEachNetwork S.PublicKey D.eq L.elect (λ term_length. ParentNotBelow) }
     ensures finalized_notarized { OfEachNetwork S.PublicKey D.eq L.elect (λ term_length. FinalizedNotarized) }
     ensures chain_holds_finalized { OfEachNetwork S.PublicKey D.eq L.elect (λ term_length. ChainHoldsFinalized) }
@@ -48,7 +50,7 @@ pub fn agreement<S: Scheme<D>, L: Elector<S>, D: Digest>()
 ///
 /// It says more than the clause `lawful` of `agreement`: a restart may have other settings, another scheme, another key and
 /// another floor, may drop the last entries of the record and may prune it. Only the length of the terms, which is not 0, is
-/// the same in each life, and each begins with a state that knows nothing but how it was set up, `IsFresh`.
+/// the same in each life (`HasTerms`, `KeepTerms`).
 pub fn votes_are_lawful<S: Scheme<D>, L: Elector<S>, D: Digest>()
     ensures { RunsAreLawful S.PublicKey D.eq L.elect }
 {}

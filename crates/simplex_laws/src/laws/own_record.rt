@@ -1,6 +1,6 @@
 //! What a restart may refuse of a member's own record.
 
-ghost use Rattle.simplex_laws.specs.Outside.{OfEachEnd, RecordIsTaken, RestartIsExcused, RunsAreExcused, VerdictsFollowNotarizations};
+ghost use Rattle.simplex_laws.specs.Outside.{OfEachEnd, ParentsAreAccepted, RecordIsTaken, RestartIsExcused, RunsAreExcused, VerdictsFollowNotarizations};
 
 use simplex_types::types::{Digest, Elector, Scheme};
 
@@ -12,6 +12,8 @@ use simplex_types::types::{Digest, Elector, Scheme};
 /// - `record`: where what it leaves of the record, by view, is refused, the broken rule is on the epoch, the signer, a view
 ///   that is genesis or too large, or a parent that is not below; or else a deadline passes 64 bits. A member's record never
 ///   breaks the rules on the order of views, on verdicts, or on votes beside one another, whatever is cut off it.
+/// - `parent`: it is refused for a parent only where the member accepted a notarization whose proposal names no earlier view as
+///   its parent, and voted to finalize it. No backed notarization does so (`parent_before` of `agreement`).
 /// - `notarized`: before each verdict of the record, in its own order, stands a notarization of the view; so a resolver that
 ///   is started from the record as it stands has the notarization of each verdict.
 /// - `restart`: a restart is refused only for that, for more views that are to be kept of a pruned record, or for want of
@@ -19,6 +21,7 @@ use simplex_types::types::{Digest, Elector, Scheme};
 /// - `run`: so is a run, at its start or at one of its restarts.
 pub fn own_record_is_taken<S: Scheme<D>, L: Elector<S>, D: Digest>()
     ensures record { OfEachEnd S.PublicKey D.eq L.elect (RecordIsTaken S.PublicKey D.eq L.elect) }
+    ensures parent { ParentsAreAccepted S.PublicKey D.eq L.elect }
     ensures notarized { OfEachEnd S.PublicKey D.eq L.elect VerdictsFollowNotarizations }
     ensures restart { OfEachEnd S.PublicKey D.eq L.elect (RestartIsExcused S.PublicKey D.eq L.elect) }
     ensures run { RunsAreExcused S.PublicKey D.eq L.elect }

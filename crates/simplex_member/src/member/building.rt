@@ -62,10 +62,11 @@ pub(super) fn build<S: CertificateScheme, L: Elector<S>, D: Digest>(
             Ok(Reply::Abandoned(reason))
         }
         Call::ReleaseProposalRequest(view) => {
+            let was_open = openings.has_context(view);
             state
                 .release_proposal_request(view)
                 .map_err(CallError::Refused)?;
-            Ok(Reply::Unit)
+            Ok(Reply::Released(was_open))
         }
         _ => unreachable!(),
     }

@@ -79,8 +79,8 @@ pub enum Reply<S: CertificateScheme, D: Digest> {
     Work(Verify<D, S::PublicKey>),
     /// The proposals to certify, and the notarizations to fetch for others.
     Candidates(Vec<Proposal<D>>, Vec<CertificateFetch>),
-    /// The notarization of the view that was certified.
-    Certified(Option<Notarization<S, D>>),
+    /// The verdict, and the notarization of its view.
+    Certified(bool, Option<Notarization<S, D>>),
     Notarize(Option<Notarize<S, D>>),
     /// The vote, with whether it is a repeat.
     Nullify(Option<(bool, Nullify<S>)>),
@@ -90,6 +90,10 @@ pub enum Reply<S: CertificateScheme, D: Digest> {
     Timeout(u64, TimeoutReason),
     /// The views that were dropped, rising.
     Views(Vec<View>),
+    /// Whether a request to build was open in the view.
+    Released(bool),
+    /// Whether the timeout is the one that counts from now on.
+    Triggered(bool),
     /// Why a handoff has to be given up, if it has.
     Abandoned(Option<HandoffAbandonedReason>),
     /// The member was restarted.

@@ -51,7 +51,7 @@ pub(super) fn certify<S: CertificateScheme, L: Elector<S>, D: Digest>(
         }
         Call::Certified(view, success, now) => {
             let notarization = parts::certified(state, artifacts, view, success, now)?;
-            Ok(Reply::Certified(notarization))
+            Ok(Reply::Certified(success, notarization))
         }
         _ => unreachable!(),
     }

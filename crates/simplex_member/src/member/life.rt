@@ -61,10 +61,11 @@ impl<S: CertificateScheme, L: Elector<S>, D: Digest> Model for Member<S, L, D> {
 }
 
 impl<S: CertificateScheme, L: Elector<S>, D: Digest> Member<S, L, D> {
-    ghost use Rattle.std.specs.Prelude.{true};
+    ghost use Rattle.std.specs.Prelude.{true, false};
+    ghost use Rattle.simplex_voter.specs.Refusals.{is_started};
     ghost use Rattle.simplex_member.specs.Entries.{entries_of};
     ghost use Rattle.simplex_member.specs.Calls.{told, asked};
-    ghost use Rattle.simplex_member.specs.Lives.{IsCall};
+    ghost use Rattle.simplex_member.specs.Lives.{IsCall, HasGrown};
     ghost use Rattle.simplex_member.specs.Signed.{IsSignedReply};
     ghost use Rattle.simplex_member.specs.Typed.{is_reply_to, IfAnswered, IfRefused, IsAnswered, Keeps};
     ghost use Rattle.simplex_member.specs.Recovery.{recover_error};
@@ -103,9 +104,10 @@ impl<S: CertificateScheme, L: Elector<S>, D: Digest> Member<S, L, D> {
         })
     }
 
-    /// The state, while the member has not failed.
+    /// The state, while the member has not failed: it has a floor, and has not failed either.
     pub fn state(&self) -> Option<&State<S, L, D>>
-        ensures { option_copied result ≡ self.now.life }
+        ensures life { option_copied result ≡ self.now.life }
+        ensures started { IfSome result (λ state. (state.now.failed ≡ false) × (is_started state.now ≡ true)) }
     {
         if self.failed {
             return None;
@@ -140,6 +142,7 @@ impl<S: CertificateScheme, L: Elector<S>, D: Digest> Member<S, L, D> {
         ensures answered { IfAnswered (told S.certificate_bytes result)
             (IsAnswered D.eq L.elect self.old (asked S.certificate_bytes call) (told S.certificate_bytes result) self.new) }
         ensures kept { IfRefused (told S.certificate_bytes result) (λ refusal. Keeps self.old refusal self.new) }
+        ensures grown { HasGrown self.old self.new }
         ensures signed { IfSome self.old.life (IsSignedReply S.IsSignature result) }
     {
         self.make(call)

@@ -1,6 +1,6 @@
 //! What a member has open of its state's answers.
 
-ghost use Rattle.std.specs.Prelude.{◌≡◌, OnOk, IfErr};
+ghost use Rattle.std.specs.Prelude.{◌≡◌, OnOk, IfErr, is_some};
 ghost use Rattle.std.specs.Option.{option_copied};
 ghost use Rattle.std.specs.FinMap as map;
 ghost use Rattle.simplex_types.specs.declared.types.fault.Fault.TheVariants.{OutOfMemory};
@@ -48,6 +48,12 @@ impl<D: Digest, P: Copy> Openings<D, P> {
         ensures { option_copied result ≡ context_at self.now view }
     {
         self.contexts.get(view)
+    }
+
+    pub fn has_context(&self, view: View) -> bool
+        ensures { result ≡ is_some (context_at self.now view) }
+    {
+        self.context(view).is_some()
     }
 
     /// A request to build replaces an earlier one in its view.

@@ -35,10 +35,10 @@ pub(super) fn time<S: CertificateScheme, L: Elector<S>, D: Digest>(
 {
     match call {
         Call::TriggerTimeout(view, reason, now) => {
-            state
+            let latched = state
                 .trigger_timeout(view, reason, now)
                 .map_err(CallError::Refused)?;
-            Ok(Reply::Unit)
+            Ok(Reply::Triggered(latched))
         }
         Call::NextTimeout(now) => {
             let timeout = state.next_timeout(now).map_err(CallError::Refused)?;

@@ -1,7 +1,7 @@
 //! The moments of a view: when work on it began, and when it times out. All are in milliseconds.
 
 ghost use Rattle.std.specs.Prelude.{◌≡◌, ◌↔◌, ◌+◌, IfOk, OnOk, OnErr, IsOkUnless, Err, Some, None, true, false, is_some, unwrap_or, if◌then◌else◌};
-ghost use Rattle.simplex_round.specs.Round.{elapsed, RetryOverflows, round_timeout, start_of, with_deadlines, with_latch, with_retry};
+ghost use Rattle.simplex_round.specs.Round.{awaits_latch, elapsed, RetryOverflows, round_timeout, start_of, with_deadlines, with_latch, with_retry};
 
 use super::{Decision, Round};
 use simplex_types::reasons::TimeoutReason;
@@ -65,16 +65,19 @@ impl<S: CertificateScheme, D: Digest> Round<S, D> {
         self.stall_deadline
     }
 
-    /// Latches an explicit timeout at `now`. The first one stays, with its moment and reason;
-    /// once either vote was decided nothing is latched any more.
-    pub fn latch_timeout(&mut self, now: u64, reason: TimeoutReason)
-        ensures { self.new ≡ with_latch self.old now reason }
+    /// Latches an explicit timeout at `now`, and answers whether it did. The first one stays, with
+    /// its moment and reason; once either vote was decided nothing is latched any more.
+    pub fn latch_timeout(&mut self, now: u64, reason: TimeoutReason) -> bool
+        ensures answer { result ≡ awaits_latch self.old }
+        ensures latched { self.new ≡ with_latch self.old now reason }
     {
         if let Decision::Pending { latch, .. } = &mut self.decision
             && latch.is_none()
         {
             *latch = Some((now, reason));
+            return true;
         }
+        false
     }
 
     /// The round's next timeout and its reason. None where the view is finalized or this member

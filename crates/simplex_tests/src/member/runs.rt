@@ -13,7 +13,7 @@ fn told(reply: &Reply<PlainScheme, PlainDigest>) -> &'static str {
         Reply::Nullify(Some((false, _))) => "a vote to nullify",
         Reply::Nullify(Some((true, _))) => "the vote to nullify again",
         Reply::Added(true, None) => "newly added",
-        Reply::Certified(Some(_)) => "certified",
+        Reply::Certified(true, Some(_)) => "certified",
         Reply::Nullify(None) | Reply::Finalize(None) => "no vote",
         Reply::Restarted => "restarted",
         _ => "another reply",

@@ -2,7 +2,7 @@
 
 ghost use Rattle.std.specs.Prelude.{◌≡◌, ◌&&◌, ◌+◌, IfErr, IfOk, OnOk, true, false, is_err, not, option_and_then};
 ghost use Rattle.std.specs.Option.{option_map_or};
-ghost use Rattle.simplex_round.specs.Round.{awaits_retry, can_finalize, certified_round, is_judged, round_timeout, with_latch, with_retry};
+ghost use Rattle.simplex_round.specs.Round.{awaits_latch, awaits_retry, can_finalize, certified_round, is_judged, round_timeout, with_latch, with_retry};
 ghost use Rattle.simplex_round.specs.declared.round.Certification.TheVariants.{Outstanding};
 ghost use Rattle.simplex_round.specs.declared.round.Decision.TheVariants.{Finalize};
 ghost use Rattle.simplex_types.specs.declared.types.fault.Fault.TheVariants.{TimeOverflow};
@@ -13,7 +13,7 @@ use simplex_types::types::{CertificateScheme, Digest, Fault, Proposal, View};
 
 impl<S: CertificateScheme, D: Digest> Rounds<S, D> {
     ghost use Rattle.simplex_voter.specs.Refusals.{is_past_u64};
-    ghost use Rattle.simplex_voter.specs.Rounds.{round_at, round_of, changed, changed_in_place, HasSameOrigin};
+    ghost use Rattle.simplex_voter.specs.Rounds.{is_tracked, round_at, round_of, changed, changed_in_place, HasSameOrigin};
     ghost use Rattle.simplex_voter.specs.Proposing.{build_requested};
 
     /// Decides the vote to finalize a view, whose round allows that, and answers what is voted for.
@@ -41,15 +41,16 @@ impl<S: CertificateScheme, D: Digest> Rounds<S, D> {
         round.certified(success);
     }
 
-    /// Latches an explicit timeout of a view: the first one stays.
-    pub fn latch(&mut self, view: View, now: u64, reason: TimeoutReason)
+    /// Latches an explicit timeout of a view, and answers whether it did: the first one stays.
+    pub fn latch(&mut self, view: View, now: u64, reason: TimeoutReason) -> bool
+        ensures answer { result ≡ (is_tracked self.old view && awaits_latch (round_of self.old view)) }
         ensures latched { self.new ≡ changed_in_place self.old view (λ r. with_latch r now reason) }
         ensures origin { HasSameOrigin self.old self.new }
     {
         let Some(round) = self.by_view.get_mut(view) else {
-            return;
+            return false;
         };
-        round.latch_timeout(now, reason);
+        round.latch_timeout(now, reason)
     }
 
     /// Answers the next timeout of a view, if it has one. The first poll after a vote to nullify sets the moment of its

@@ -65,13 +65,13 @@ impl<S: Scheme<D>, L: Elector<S>, D: Digest> Member<S, L, D> {
         now: u64,
     ) -> Result<Option<Notarization<S, D>>, Refusal>
         ensures made { IsCall D.eq L.elect self.old (Certified view success now)
-            (told_of (λ notarization. Judged (option_map (notarization_facts S.certificate_bytes) notarization)) result) self.new }
+            (told_of (λ notarization. Judged success (option_map (notarization_facts S.certificate_bytes) notarization)) result) self.new }
         ensures answered { IfOk result (λ notarization. IsAnswered D.eq L.elect self.old (Certified view success now)
-            (Judged (option_map (notarization_facts S.certificate_bytes) notarization)) self.new) }
+            (Judged success (option_map (notarization_facts S.certificate_bytes) notarization)) self.new) }
         ensures kept { IfErr result (λ refusal. Keeps self.old refusal self.new) }
     {
         match self.call(Call::Certified(view, success, now)) {
-            Reply::Certified(notarization) => Ok(notarization),
+            Reply::Certified(_, notarization) => Ok(notarization),
             Reply::Fault(fault) => Err(Refusal::Fault(fault)),
             Reply::NotAllowed => Err(Refusal::NotAllowed),
             _ => unreachable!(),

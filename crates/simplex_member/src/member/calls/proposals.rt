@@ -3,7 +3,7 @@
 //! Each is `Member::call` of its call, with an answer of its own type.
 
 ghost use Rattle.std.specs.Prelude.{IfOk, IfErr};
-ghost use Rattle.simplex_member.specs.Calls.{TryPropose, Proposed, SupersedeProposalRequest, PendingHandoffAbandonment, ReleaseProposalRequest, Requested, Answered, Abandoned, Done};
+ghost use Rattle.simplex_member.specs.Calls.{TryPropose, Proposed, SupersedeProposalRequest, PendingHandoffAbandonment, ReleaseProposalRequest, Requested, Answered, Abandoned, Released};
 ghost use Rattle.simplex_member.specs.Lives.{IsCall};
 ghost use Rattle.simplex_member.specs.Typed.{told_of, Keeps, IsAnswered};
 
@@ -87,15 +87,15 @@ impl<S: Scheme<D>, L: Elector<S>, D: Digest> Member<S, L, D> {
         }
     }
 
-    /// Closes the request to build in a view, so that it can be asked for again while no proposal is held there. Nothing changes
-    /// where there is none.
-    pub fn release_proposal_request(&mut self, view: View) -> Result<(), Refusal>
-        ensures made { IsCall D.eq L.elect self.old (ReleaseProposalRequest view) (told_of (λ _. Done) result) self.new }
-        ensures answered { IfOk result (λ _. IsAnswered D.eq L.elect self.old (ReleaseProposalRequest view) Done self.new) }
+    /// Closes the request to build in a view, so that it can be asked for again while no proposal is held there. Answers whether
+    /// one was open.
+    pub fn release_proposal_request(&mut self, view: View) -> Result<bool, Refusal>
+        ensures made { IsCall D.eq L.elect self.old (ReleaseProposalRequest view) (told_of (λ was_open. Released was_open) result) self.new }
+        ensures answered { IfOk result (λ was_open. IsAnswered D.eq L.elect self.old (ReleaseProposalRequest view) (Released was_open) self.new) }
         ensures kept { IfErr result (λ refusal. Keeps self.old refusal self.new) }
     {
         match self.call(Call::ReleaseProposalRequest(view)) {
-            Reply::Unit => Ok(()),
+            Reply::Released(was_open) => Ok(was_open),
             Reply::Fault(fault) => Err(Refusal::Fault(fault)),
             Reply::NotAllowed => Err(Refusal::NotAllowed),
             _ => unreachable!(),

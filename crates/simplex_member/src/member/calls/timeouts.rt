@@ -3,7 +3,7 @@
 //! Each is `Member::call` of its call, with an answer of its own type.
 
 ghost use Rattle.std.specs.Prelude.{Some, IfOk, IfErr};
-ghost use Rattle.simplex_member.specs.Calls.{TriggerTimeout, NextTimeout, TimesOut, Done};
+ghost use Rattle.simplex_member.specs.Calls.{TriggerTimeout, NextTimeout, TimesOut, Triggered};
 ghost use Rattle.simplex_member.specs.Lives.{IsCall};
 ghost use Rattle.simplex_member.specs.Typed.{told_of, Keeps, IsAnswered};
 
@@ -15,19 +15,20 @@ use simplex_types::types::{Digest, Elector, Scheme, View};
 
 impl<S: Scheme<D>, L: Elector<S>, D: Digest> Member<S, L, D> {
     /// Times a view out at its next poll, for a reason that the state doesn't see by itself and at a moment in milliseconds.
-    /// Nothing changes but the last moment where the view is passed, isn't tracked, has such a timeout, or was voted on.
+    /// Answers whether this timeout is the one that counts from now on: nothing changes but the last moment where the view is
+    /// passed, isn't tracked, has such a timeout, or was voted on, or where a proposal without conflict contradicts `Inactivity`.
     pub fn trigger_timeout(
         &mut self,
         view: View,
         reason: TimeoutReason,
         now: u64,
-    ) -> Result<(), Refusal>
-        ensures made { IsCall D.eq L.elect self.old (TriggerTimeout view reason now) (told_of (λ _. Done) result) self.new }
-        ensures answered { IfOk result (λ _. IsAnswered D.eq L.elect self.old (TriggerTimeout view reason now) Done self.new) }
+    ) -> Result<bool, Refusal>
+        ensures made { IsCall D.eq L.elect self.old (TriggerTimeout view reason now) (told_of (λ latched. Triggered latched) result) self.new }
+        ensures answered { IfOk result (λ latched. IsAnswered D.eq L.elect self.old (TriggerTimeout view reason now) (Triggered latched) self.new) }
         ensures kept { IfErr result (λ refusal. Keeps self.old refusal self.new) }
     {
         match self.call(Call::TriggerTimeout(view, reason, now)) {
-            Reply::Unit => Ok(()),
+            Reply::Triggered(latched) => Ok(latched),
             Reply::Fault(fault) => Err(Refusal::Fault(fault)),
             Reply::NotAllowed => Err(Refusal::NotAllowed),
             _ => unreachable!(),

@@ -16,13 +16,13 @@ returns-clause-called g c history m left call told shown is_call =
     called_shown g.D.PartialEq.eq g.met.D.Digest.equal_is_same g.L.Elector.elect m history left call told shown is_call
 
 pub returns-clause-recovered : goal.returns-clause-recovered
-returns-clause-recovered g c term_length start entries fresh none =
-    recovered_shown g.D.PartialEq.eq g.met.D.Digest.equal_is_same g.L.Elector.elect start term_length fresh entries none
+returns-clause-recovered g c start entries none =
+    recovered_shown g.D.PartialEq.eq g.met.D.Digest.equal_is_same g.L.Elector.elect start entries none
 
 pub returns-clause-restarted : goal.returns-clause-restarted
-returns-clause-restarted g c term_length m left r fresh restarts =
-    restarted_shown g.D.PartialEq.eq g.met.D.Digest.equal_is_same g.L.Elector.elect m term_length left r (Ok tt) refl fresh restarts
+returns-clause-restarted g c m left r restarts =
+    restarted_shown g.D.PartialEq.eq g.met.D.Digest.equal_is_same g.L.Elector.elect m left r (Ok tt) refl restarts
 
 pub returns-clause-ran : goal.returns-clause-ran
-returns-clause-ran g c term_length start steps replies end begins fresh good run =
-    ran_shown g.D.PartialEq.eq g.met.D.Digest.equal_is_same g.L.Elector.elect term_length start steps replies end begins fresh good run
+returns-clause-ran g c start steps replies end good run =
+    ran_shown g.D.PartialEq.eq g.met.D.Digest.equal_is_same g.L.Elector.elect start steps replies end good run

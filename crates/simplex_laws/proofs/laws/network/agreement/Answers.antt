@@ -1,5 +1,5 @@
 -- of each member by its story; of a network since two quorums share an honest member
-use Rattle.simplex_laws.proofs.Claims.{one_proposal, finalized_uncovered, parent_not_below, finalized_notarized, chain_holds_finalized}
+use Rattle.simplex_laws.proofs.Claims.{one_proposal, finalized_uncovered, parent_before, parent_not_below, finalized_notarized, chain_holds_finalized}
 use Rattle.simplex_laws.proofs.Exactly.{run_exact}
 use Rattle.simplex_laws.proofs.RunsLawful.{story_lawful}
 use Rattle.simplex_laws.proofs.laws.network.agreement.Goals as goal
@@ -15,6 +15,9 @@ returns-clause-one_proposal g c term_length network good = one_proposal g.D.Part
 
 pub returns-clause-finalized_uncovered : goal.returns-clause-finalized_uncovered
 returns-clause-finalized_uncovered g c term_length network good = finalized_uncovered g.D.PartialEq.eq g.met.D.Digest.equal_is_same g.L.Elector.elect term_length network good
+
+pub returns-clause-parent_before : goal.returns-clause-parent_before
+returns-clause-parent_before g c term_length network good = parent_before g.D.PartialEq.eq g.met.D.Digest.equal_is_same g.L.Elector.elect term_length network good
 
 pub returns-clause-parent_not_below : goal.returns-clause-parent_not_below
 returns-clause-parent_not_below g c term_length network good = parent_not_below g.D.PartialEq.eq g.met.D.Digest.equal_is_same g.L.Elector.elect term_length network good

@@ -1,10 +1,14 @@
 -- each claim, from the start on
-use Rattle.simplex_laws.proofs.OwnRuns.{own_record_outside, own_verdicts_follow, own_restart_excused, own_run_excused}
+use Rattle.simplex_laws.proofs.OwnRuns.{own_record_outside, own_parent_accepted, own_verdicts_follow, own_restart_excused, own_run_excused}
 use Rattle.simplex_laws.proofs.laws.own_record.own_record_is_taken.Goals as goal
 
 pub returns-clause-record : goal.returns-clause-record
 returns-clause-record g c term_length start steps replies end begins fresh run next copy found by_view refused =
     own_record_outside g.D.PartialEq.eq g.met.D.Digest.equal_is_same g.met.D.Digest.same_is_equal g.L.Elector.elect term_length start begins steps fresh replies end next copy found run by_view refused
+
+pub returns-clause-parent : goal.returns-clause-parent
+returns-clause-parent g c term_length start steps replies end begins fresh run next copy by_view refused =
+    own_parent_accepted g.D.PartialEq.eq g.met.D.Digest.equal_is_same g.met.D.Digest.same_is_equal g.L.Elector.elect term_length start begins steps fresh replies end next copy run by_view refused
 
 pub returns-clause-notarized : goal.returns-clause-notarized
 returns-clause-notarized g c term_length start steps replies end begins fresh run =

@@ -13,3 +13,7 @@ returns-clause-answered g c =
 pub returns-clause-kept : goal.returns-clause-kept
 returns-clause-kept g c =
     (typed g.D.PartialEq.eq g.L.Elector.elect c.args.self.now (asked g.S.CertificateScheme.certificate_bytes c.args.call) (told g.S.CertificateScheme.certificate_bytes c.make.result) c.make.new.self c.make.ensures.made).kept
+
+pub returns-clause-grown : goal.returns-clause-grown
+returns-clause-grown g c =
+    (typed g.D.PartialEq.eq g.L.Elector.elect c.args.self.now (asked g.S.CertificateScheme.certificate_bytes c.args.call) (told g.S.CertificateScheme.certificate_bytes c.make.result) c.make.new.self c.make.ensures.made).grown

@@ -11,5 +11,8 @@ invariant_of-self g c = record {
   elector = c.self.invariant.elector ∙ ap length (sym c.latch.ensures.origin.members);
 }
 
-pub returns : goal.returns
-returns g c = rw (← c.self.view_is) (where_true _ _ c.self.view_is (is_tracked c.self.inside.rounds c.args.view) _ _ c.self.inside.rounds c.latch.ensures.latched refl)
+pub returns-clause-latched : goal.returns-clause-latched
+returns-clause-latched g c = rw (← c.self.view_is) (where_true _ _ c.self.view_is (is_tracked c.self.inside.rounds c.args.view) _ _ c.self.inside.rounds c.latch.ensures.latched refl)
+
+pub returns-clause-answer : goal.returns-clause-answer
+returns-clause-answer g c = rw (← c.self.view_is) c.latch.ensures.answer

@@ -1,0 +1,10 @@
+-- How the program ends where it can't serve on.
+use Rattle.std.specs.Prelude.{ℕ}
+use Rattle.simplex_program.specs.declared.program.ServeError.{ServeError}
+use Rattle.simplex_program.specs.declared.program.ServeError.TheVariants.{NotACall, OutOfMemory, Read, Write}
+
+abbrev pub exit_status : ServeError → ℕ
+exit_status (NotACall _) = 3
+exit_status OutOfMemory = 4
+exit_status Read = 5
+exit_status Write = 5

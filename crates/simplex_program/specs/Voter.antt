@@ -1,0 +1,145 @@
+-- What a voter behind lines does: the call that each line stands for, its reply, and what it leaves of the member.
+use Rattle.std.specs.Prelude.{◌≡◌, ◌⊎◌, ℕ, Bool, true, false, [], ◌∷◌, length, Option, Some, None}
+use Rattle.std.specs.Int.{w64, to_be_bytes}
+use Rattle.simplex_types.specs.declared.types.numbers.Round.{Round}
+use Rattle.simplex_types.specs.declared.types.messages.Proposal.{Proposal}
+use Rattle.simplex_types.specs.declared.types.plain.PlainDigest.{PlainDigest}
+use Rattle.simplex_types.specs.declared.types.plain.PlainElector.{PlainElector}
+use Rattle.simplex_types.specs.declared.types.plain.PlainKey.{PlainKey}
+use Rattle.simplex_types.specs.declared.reasons.TimeoutReason.TheVariants.{InvalidProposal}
+use Rattle.simplex_types.specs.Plain.{digest_bytes}
+use Rattle.simplex_voter.specs.Facts.{Facts}
+use Rattle.simplex_voter.specs.Windows.{min_active}
+use Rattle.simplex_member.specs.Calls.{AddNotarization, AddNullification, AddFinalization, SetProposal, TryPropose, Proposed, SupersedeProposalRequest, PendingHandoffAbandonment, ReleaseProposalRequest, TryVerify, Verified, VerificationFailed, ConstructNotarize, CertifyCandidates, SetCertifyHandle, Certified, ConstructNullify, ConstructFinalize, BroadcastNotarization, BroadcastNullification, BroadcastFinalization, GetBestCertificate, TriggerTimeout, NextTimeout, Prune as PruneCall, told}
+use Rattle.simplex_member.specs.Lives.{IsCall}
+use Rattle.simplex_member.specs.Restarts.{IsRestart}
+use Rattle.simplex_member.specs.Start.{StartFacts}
+use Rattle.simplex_program.specs.declared.network.Network.{Network}
+use Rattle.simplex_program.specs.declared.voter_line.CertificateKind.TheVariants as kind
+use Rattle.simplex_program.specs.declared.voter_line.VoterLine.{VoterLine}
+use Rattle.simplex_program.specs.declared.voter_line.VoterLine.TheVariants.{Notarization, Nullification, Finalization, Verdict, Notarize, Nullify, Finalize, Broadcast, Best, Prune, Proposal as ProposalOf, Release, Propose, Proposed as Built, Supersede, Abandon, Verify, Verified as FoundValid, Rejected, Candidates, Token, Trigger, Timeout, Restart, RestartPruned, Record, Views}
+use Rattle.simplex_program.specs.declared.voter.VoterAnswer.{VoterAnswer}
+use Rattle.simplex_program.specs.declared.voter.VoterAnswer.TheVariants as answer
+use Rattle.simplex_program.specs.Plain.{PlainMember, PlainCall, same_payload, plain_leader, plain_bytes}
+use Rattle.simplex_program.specs.Setup.{IsGenesisStart}
+
+-- the round, the payload and the proposal that the numbers of a line stand for
+
+abbrev pub round_in_epoch : ℕ → Round
+round_in_epoch v = record { epoch = 1; view = v }
+
+abbrev pub IsPayload : ℕ → PlainDigest → Type 0
+IsPayload d payload = digest_bytes payload ≡ to_be_bytes w64 d
+
+pub record IsProposal (v p d : ℕ) (q : Proposal PlainDigest) : Type 0 where
+  pub round : q.round ≡ round_in_epoch v
+  pub parent : q.parent ≡ p
+  pub payload : IsPayload d q.payload
+
+-- the call that a line stands for; its certificate is good, its proposal is of the view that it is handed in for, and a
+-- proposal that is rejected is invalid
+abbrev pub StandsFor : VoterLine → PlainCall → Type 0
+StandsFor (Notarization v p d) (AddNotarization c) = IsProposal v p d c.proposal × (c.bytes ≡ 1 ∷ [])
+StandsFor (Nullification v now) (AddNullification c moment) = (c.round ≡ round_in_epoch v) × (c.bytes ≡ 1 ∷ []) × (moment ≡ now)
+StandsFor (Finalization v p d now) (AddFinalization c moment) = IsProposal v p d c.proposal × (c.bytes ≡ 1 ∷ []) × (moment ≡ now)
+StandsFor (Verdict v success now) call = call ≡ Certified v success now
+StandsFor (ProposalOf v p d) (SetProposal w q) = (w ≡ v) × IsProposal v p d q
+StandsFor Propose call = call ≡ TryPropose
+StandsFor (Built v d now) (Proposed w payload moment) = (w ≡ v) × IsPayload d payload × (moment ≡ now)
+StandsFor (Supersede v) call = call ≡ SupersedeProposalRequest v
+StandsFor (Abandon v) call = call ≡ PendingHandoffAbandonment v
+StandsFor (Release v) call = call ≡ ReleaseProposalRequest v
+StandsFor Verify call = call ≡ TryVerify
+StandsFor (FoundValid v) call = call ≡ Verified v
+StandsFor (Rejected v now) call = call ≡ VerificationFailed v InvalidProposal now
+StandsFor Candidates call = call ≡ CertifyCandidates
+StandsFor (Token v token) call = call ≡ SetCertifyHandle v token
+StandsFor (Notarize v) call = call ≡ ConstructNotarize v
+StandsFor (Nullify v) call = call ≡ ConstructNullify v
+StandsFor (Finalize v) call = call ≡ ConstructFinalize v
+StandsFor (Broadcast kind.Notarization v) call = call ≡ BroadcastNotarization v
+StandsFor (Broadcast kind.Nullification v) call = call ≡ BroadcastNullification v
+StandsFor (Broadcast kind.Finalization v) call = call ≡ BroadcastFinalization v
+StandsFor Best call = call ≡ GetBestCertificate
+StandsFor (Trigger v reason now) call = call ≡ TriggerTimeout v reason now
+StandsFor (Timeout now) call = call ≡ NextTimeout now
+StandsFor Prune call = call ≡ PruneCall
+StandsFor _ _ = ⊥
+
+-- the lines that stand for calls: a certificate or a verdict is brought
+abbrev pub brings : VoterLine → Bool
+brings (Notarization _ _ _) = true
+brings (Nullification _ _) = true
+brings (Finalization _ _ _ _) = true
+brings (Verdict _ _ _) = true
+brings _ = false
+
+-- this member builds a proposal
+abbrev pub builds : VoterLine → Bool
+builds Propose = true
+builds (Built _ _ _) = true
+builds (Supersede _) = true
+builds (Abandon _) = true
+builds (Release _) = true
+builds _ = false
+
+-- a leader's proposal comes, is verified or certified
+abbrev pub judges : VoterLine → Bool
+judges (ProposalOf _ _ _) = true
+judges Verify = true
+judges (FoundValid _) = true
+judges (Rejected _ _) = true
+judges Candidates = true
+judges (Token _ _) = true
+judges _ = false
+
+-- a vote, a certificate, a timeout or a pruning is asked for
+abbrev pub asks : VoterLine → Bool
+asks (Notarize _) = true
+asks (Nullify _) = true
+asks (Finalize _) = true
+asks (Broadcast _ _) = true
+asks Best = true
+asks (Trigger _ _ _) = true
+asks (Timeout _) = true
+asks Prune = true
+asks _ = false
+
+-- what a member shows of its state
+abbrev pub views_of : Option (Facts PlainKey PlainElector PlainDigest) → VoterAnswer
+views_of None = answer.Failed
+views_of (Some x) = answer.Views x.current x.finalized (min_active x)
+
+-- the reply to a call, and what it leaves
+abbrev pub IsReplied : PlainMember → PlainCall → VoterAnswer → PlainMember → Type 0
+IsReplied m call (answer.Reply reply) left = IsCall same_payload plain_leader m call (told plain_bytes reply) left
+IsReplied _ _ _ _ = ⊥
+
+-- what a restart of the network's member answers, and what it leaves; the record is cut as asked, and pruned or not
+abbrev pub IsRestarted : Network → PlainMember → ℕ → Bool → ℕ → VoterAnswer → PlainMember → Type 0
+IsRestarted n m drop prune now (answer.Restarted result) left =
+    (start : StartFacts PlainKey PlainElector PlainDigest)
+    × IsGenesisStart n now start
+    × IsRestart same_payload plain_leader m (record { drop = drop; prune = prune; start = start }) result left
+IsRestarted _ _ _ _ _ _ _ = ⊥
+
+-- whether a line stands for no call
+abbrev pub is_no_call : VoterLine → Bool
+is_no_call (Restart _ _) = true
+is_no_call (RestartPruned _ _) = true
+is_no_call Record = true
+is_no_call Views = true
+is_no_call _ = false
+
+-- what such a line does: a restart, or it shows the number of entries, or the views
+abbrev pub IsDone : Network → PlainMember → VoterLine → VoterAnswer → PlainMember → Type 0
+IsDone n m (Restart drop now) a left = IsRestarted n m drop false now a left
+IsDone n m (RestartPruned drop now) a left = IsRestarted n m drop true now a left
+IsDone n m Record a left = (a ≡ answer.Entries (length m.entries)) × (left ≡ m)
+IsDone n m _ a left = (a ≡ views_of m.life) × (left ≡ m)
+
+-- the reply to a line, and what it leaves
+abbrev pub VoterAnswers : Network → PlainMember → VoterLine → VoterAnswer → PlainMember → Type 0
+VoterAnswers n m line a left =
+    ((is_no_call line ≡ true) × IsDone n m line a left)
+    ⊎ ((call : PlainCall) × StandsFor line call × IsReplied m call a left)

@@ -1,0 +1,291 @@
+//! A resolver behind lines: what each line does, and its reply.
+
+ghost use Rattle.std.specs.Prelude.{◌≡◌, ◌≢◌, [], IfOk, OnOk, MatchOption, true};
+ghost use Rattle.simplex_types.specs.declared.types.fault.Fault.TheVariants.{OutOfMemory};
+ghost use Rattle.simplex_resolver.specs.Facts.{empty};
+ghost use Rattle.simplex_resolver.specs.Steps.{Replayed};
+ghost use Rattle.simplex_resolver.specs.Repair.{IsApplied};
+ghost use Rattle.simplex_program.specs.Answers.{Answers, Calls, Reports, IsProposedAt, round_at, notarization_call, nullification_call, finalization_call, verdict_call};
+ghost use Rattle.simplex_program.specs.declared.resolver.Answer.TheVariants.{Effects as AreEffects, Fault as IsFault};
+
+use crate::resolver_line::ResolverLine;
+use crate::texts::write_fault;
+use bytes::Bytes;
+use simplex_resolver::resolver::{Effect, State, apply};
+use simplex_types::types::plain::{PlainCertificate, PlainDigest, PlainScheme};
+use simplex_types::types::{
+    Certificate, Epoch, Fault, Finalization, Notarization, Nullification, Proposal, Round,
+    TermLength, View,
+};
+use std::alloc::{AllocError, Global};
+use std::collections::BTreeSet;
+use std::fmt;
+use std::fmt::{Display, Formatter};
+
+/// The epoch of every certificate that a line stands for.
+const EPOCH: u64 = 1;
+
+/// The payload of every proposal that a line stands for.
+const PAYLOAD: u64 = 0;
+
+/// A resolver, and the views whose fetch is open.
+#[derive(Drop)]
+pub struct Resolver {
+    state: State,
+    outstanding: BTreeSet<View>,
+}
+
+/// A reply line.
+#[derive(Drop)]
+pub enum Answer {
+    Effects(Vec<Effect>),
+    Flag(bool),
+    Encoding(Option<Bytes>),
+    Outstanding(Vec<View>),
+    Fault(Fault),
+    NotAllowed,
+}
+
+impl Resolver {
+    /// A resolver that replays its journal: it fetches nothing before the line `replayed`.
+    pub fn new(alloc: Global, term_length: TermLength) -> Resolver
+        ensures state { result.state ≡ empty term_length }
+        ensures outstanding { result.outstanding.keys ≡ [] }
+    {
+        Resolver {
+            state: State::new(alloc, term_length),
+            outstanding: BTreeSet::new(alloc),
+        }
+    }
+
+    /// Does what the line asks. The one error is want of memory.
+    pub fn answer(&mut self, alloc: Global, line: ResolverLine) -> Result<Answer, AllocError>
+        ensures { IfOk result (λ answer. Answers self.old.state self.old.outstanding.keys line answer self.new.state self.new.outstanding.keys) }
+    {
+        match line {
+            ResolverLine::Notarization(view) => self.notarize(view),
+            ResolverLine::Nullification(view) => self.nullify(view),
+            ResolverLine::Finalization(view) => self.finalize(view),
+            ResolverLine::Certified { view, success } => self.certify(view, success),
+            ResolverLine::Replayed => self.end_replay(),
+            ResolverLine::Settled { view, kind } => {
+                Ok(Answer::Flag(self.state.settled(view, kind)))
+            }
+            ResolverLine::KeySettled(view) => Ok(Answer::Flag(self.state.key_settled(view))),
+            ResolverLine::Uncertifiable(view) => Ok(Answer::Flag(self.state.uncertifiable(view))),
+            ResolverLine::Produce(view) => match self.state.produce(view) {
+                Ok(encoding) => Ok(Answer::Encoding(encoding)),
+                Err(fault) => refused(fault),
+            },
+            ResolverLine::Outstanding => {
+                let views = self.outstanding.iter().copied().collect(alloc)?;
+                Ok(Answer::Outstanding(views))
+            }
+        }
+    }
+
+    #[tactic(auto, using(crate::proofs::Reported::named_at))]
+    fn notarize(&mut self, view: View) -> Result<Answer, AllocError>
+        ensures { IfOk result (λ answer.
+            Reports self.old.state self.old.outstanding.keys view (notarization_call view) answer self.new.state self.new.outstanding.keys) }
+    {
+        let Some(notarization) = notarization_of(view) else {
+            return Ok(Answer::NotAllowed);
+        };
+        match self.state.updated(&Certificate::Notarization(notarization)) {
+            Ok(effects) => self.apply(effects),
+            Err(fault) => refused(fault),
+        }
+    }
+
+    fn nullify(&mut self, view: View) -> Result<Answer, AllocError>
+        ensures { IfOk result (λ answer.
+            Reports self.old.state self.old.outstanding.keys view (nullification_call view) answer self.new.state self.new.outstanding.keys) }
+    {
+        if view.is_zero() {
+            return Ok(Answer::NotAllowed);
+        }
+        let certificate: Certificate<PlainScheme, PlainDigest> = Certificate::Nullification(
+            nullification_of(view),
+        );
+        match self.state.updated(&certificate) {
+            Ok(effects) => self.apply(effects),
+            Err(fault) => refused(fault),
+        }
+    }
+
+    #[tactic(auto, using(crate::proofs::Reported::named_at))]
+    fn finalize(&mut self, view: View) -> Result<Answer, AllocError>
+        ensures { IfOk result (λ answer.
+            Reports self.old.state self.old.outstanding.keys view (finalization_call view) answer self.new.state self.new.outstanding.keys) }
+    {
+        let Some(finalization) = finalization_of(view) else {
+            return Ok(Answer::NotAllowed);
+        };
+        match self.state.updated(&Certificate::Finalization(finalization)) {
+            Ok(effects) => self.apply(effects),
+            Err(fault) => refused(fault),
+        }
+    }
+
+    #[tactic(auto, using(crate::proofs::Reported::named_at))]
+    fn certify(&mut self, view: View, success: bool) -> Result<Answer, AllocError>
+        ensures { IfOk result (λ answer.
+            Reports self.old.state self.old.outstanding.keys view (verdict_call view success) answer self.new.state self.new.outstanding.keys) }
+    {
+        let Some(notarization) = notarization_of(view) else {
+            return Ok(Answer::NotAllowed);
+        };
+        match self.state.certified(notarization, success) {
+            Ok(effects) => self.apply(effects),
+            Err(fault) => refused(fault),
+        }
+    }
+
+    fn end_replay(&mut self) -> Result<Answer, AllocError>
+        ensures { IfOk result (λ answer. Calls self.old.state self.old.outstanding.keys 0 Replayed answer self.new.state self.new.outstanding.keys) }
+    {
+        match self.state.replayed() {
+            Ok(effects) => self.apply(effects),
+            Err(fault) => refused(fault),
+        }
+    }
+
+    /// Replies with the effects of a call, which are applied to the open fetches.
+    fn apply(&mut self, effects: Vec<Effect>) -> Result<Answer, AllocError>
+        ensures state { self.new.state ≡ self.old.state }
+        ensures applied { OnOk result (IsApplied self.old.outstanding.keys effects.items self.new.outstanding.keys) }
+        ensures answer { IfOk result (λ answer. answer ≡ AreEffects effects) }
+    {
+        if apply(&mut self.outstanding, effects.as_slice()).is_err() {
+            return Err(AllocError);
+        }
+        Ok(Answer::Effects(effects))
+    }
+}
+
+/// The reply to a refused call, unless it found no memory.
+fn refused(fault: Fault) -> Result<Answer, AllocError>
+    ensures { IfOk result (λ answer. (answer ≡ IsFault fault) × (fault ≢ OutOfMemory)) }
+{
+    match fault {
+        Fault::OutOfMemory => Err(AllocError),
+        _ => Ok(Answer::Fault(fault)),
+    }
+}
+
+/// The round of a view.
+fn round_of(view: View) -> Round
+    ensures { result ≡ round_at view }
+{
+    Round {
+        epoch: Epoch::new(EPOCH),
+        view,
+    }
+}
+
+/// The proposal of a view that a line stands for, which names the view before it as its parent.
+fn proposal_of(view: View) -> Option<Proposal<PlainDigest>>
+    ensures { MatchOption result (view ≡ 0) (IsProposedAt view) }
+{
+    let parent = view.previous()?;
+    Some(Proposal {
+        round: round_of(view),
+        parent,
+        payload: PlainDigest::new(PAYLOAD),
+    })
+}
+
+fn notarization_of(view: View) -> Option<Notarization<PlainScheme, PlainDigest>>
+    ensures { MatchOption result (view ≡ 0) (λ n. IsProposedAt view n.proposal × (n.certificate.good ≡ true)) }
+{
+    Some(Notarization {
+        proposal: proposal_of(view)?,
+        certificate: PlainCertificate { good: true },
+    })
+}
+
+fn finalization_of(view: View) -> Option<Finalization<PlainScheme, PlainDigest>>
+    ensures { MatchOption result (view ≡ 0) (λ f. IsProposedAt view f.proposal × (f.certificate.good ≡ true)) }
+{
+    Some(Finalization {
+        proposal: proposal_of(view)?,
+        certificate: PlainCertificate { good: true },
+    })
+}
+
+fn nullification_of(view: View) -> Nullification<PlainScheme>
+    ensures round { result.round ≡ round_at view }
+    ensures good { result.certificate.good ≡ true }
+{
+    Nullification {
+        round: round_of(view),
+        certificate: PlainCertificate { good: true },
+    }
+}
+
+impl Display for Answer {
+    fn fmt<W: fmt::Write>(&self, f: &mut Formatter<W>) -> fmt::Result {
+        match self {
+            Answer::Effects(effects) => write_effects(f, effects.as_slice()),
+            Answer::Flag(flag) => write!(f, "{flag}"),
+            Answer::Encoding(None) => f.write_str("none"),
+            Answer::Encoding(Some(bytes)) => write_hexadecimal(f, bytes.as_slice()),
+            Answer::Outstanding(views) => write_outstanding(f, views),
+            Answer::Fault(fault) => write_fault(f, *fault),
+            Answer::NotAllowed => f.write_str("not-allowed"),
+        }
+    }
+}
+
+fn write_effects<W: fmt::Write>(f: &mut Formatter<W>, effects: &[Effect]) -> fmt::Result {
+    let Some((first, others)) = effects.split_first() else {
+        return f.write_str("-");
+    };
+    write_effect(f, first)?;
+    for effect in others {
+        f.write_str("; ")?;
+        write_effect(f, effect)?;
+    }
+    Ok(())
+}
+
+fn write_effect<W: fmt::Write>(f: &mut Formatter<W>, effect: &Effect) -> fmt::Result {
+    match effect {
+        Effect::Fetch {
+            view,
+            cause,
+            reason,
+        } => write!(
+            f,
+            "fetch {} {} {}",
+            view.get(),
+            cause.get(),
+            reason.as_str()
+        ),
+        Effect::Settled { kind, start, end } => write!(
+            f,
+            "settled {} {} {}",
+            kind.as_str(),
+            start.get(),
+            end.get()
+        ),
+        Effect::Finalized(view) => write!(f, "finalized {}", view.get()),
+        Effect::Raised(view) => write!(f, "raised {}", view.get()),
+    }
+}
+
+fn write_outstanding<W: fmt::Write>(f: &mut Formatter<W>, views: &[View]) -> fmt::Result {
+    f.write_str("outstanding")?;
+    for view in views {
+        write!(f, " {}", view.get())?;
+    }
+    Ok(())
+}
+
+fn write_hexadecimal<W: fmt::Write>(f: &mut Formatter<W>, bytes: &[u8]) -> fmt::Result {
+    for byte in bytes {
+        write!(f, "{byte:02x}")?;
+    }
+    Ok(())
+}

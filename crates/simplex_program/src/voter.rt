@@ -1,0 +1,186 @@
+//! A voter behind lines: a member of a network of plain parts.
+
+ghost use Rattle.std.specs.Prelude.{◌≡◌, false, true, IfOk, length};
+ghost use Rattle.simplex_types.specs.Plain.{members_of, keys_of};
+ghost use Rattle.simplex_member.specs.Calls.{asked};
+ghost use Rattle.simplex_program.specs.Voter.{VoterAnswers, IsReplied, IsRestarted, IsDone, is_no_call, views_of};
+ghost use Rattle.simplex_program.specs.Plain.{plain_bytes};
+ghost use Rattle.simplex_program.specs.Setup.{IsSetUp, IsGenesisStart, StartsAtGenesis, plain_start};
+
+use crate::network::Network;
+use crate::voter_call::{EPOCH, call_of};
+use crate::voter_line::VoterLine;
+use simplex_member::member::{Call, Member, RecoverError, Reply, Restart, Start};
+use simplex_types::config::Floor;
+use simplex_types::types::plain::{PlainDigest, PlainElector, PlainScheme};
+use simplex_types::types::{Epoch, Fault, Participant, Terms, View, ViewDelta};
+use simplex_voter::voter::Config;
+use std::alloc::{AllocError, Global};
+
+/// The payload of genesis.
+const GENESIS: u64 = 0;
+
+/// How many views below the last finalized one are kept.
+const RETENTION: u64 = 10;
+
+/// From the entry of a view to its deadline for a proposal, in milliseconds.
+const LEADER_TIMEOUT: u64 = 1000;
+
+/// From the entry of a view to its deadline for a certification, in milliseconds.
+const CERTIFICATION_TIMEOUT: u64 = 2000;
+
+/// From the first poll after a nullify vote until it is repeated, in milliseconds.
+const TIMEOUT_RETRY: u64 = 500;
+
+/// A member that lines are asked of, and its network.
+#[derive(Drop)]
+pub struct Voter {
+    network: Network,
+    member: Member<PlainScheme, PlainElector, PlainDigest>,
+}
+
+/// A reply line.
+#[derive(Drop)]
+pub enum VoterAnswer {
+    /// The reply to the call that a line stands for.
+    Reply(Reply<PlainScheme, PlainDigest>),
+    /// Whether the member was restarted.
+    Restarted(Result<(), RecoverError>),
+    /// How many entries the record has.
+    Entries(usize),
+    /// The current view, the last finalized one and the lowest that is kept.
+    Views {
+        current: View,
+        finalized: View,
+        min_active: View,
+    },
+    /// The member has failed.
+    Failed,
+}
+
+impl Voter {
+    /// A member of the network that starts at genesis, at moment 0.
+    pub fn start(alloc: Global, network: Network) -> Result<Voter, AllocError>
+        ensures network { IfOk result (λ voter. voter.network ≡ network) }
+        ensures member { IfOk result (λ voter. StartsAtGenesis network voter.member) }
+    {
+        let start = start_at(alloc, &network, 0)?;
+        match Member::start(alloc, start) {
+            Ok(member) => Ok(Voter { network, member }),
+            Err(_) => Err(AllocError),
+        }
+    }
+
+    /// Does what the line asks. The one error is want of memory.
+    pub fn answer(&mut self, alloc: Global, line: VoterLine) -> Result<VoterAnswer, AllocError>
+        ensures network { self.new.network ≡ self.old.network }
+        ensures answer { IfOk result (λ answer. VoterAnswers self.old.network self.old.member line answer self.new.member) }
+    {
+        match call_of(&line) {
+            Some(call) => self.call(call),
+            None => self.other(alloc, line),
+        }
+    }
+
+    fn call(&mut self, call: Call<PlainScheme, PlainDigest>) -> Result<VoterAnswer, AllocError>
+        ensures network { self.new.network ≡ self.old.network }
+        ensures reply { IfOk result (λ answer. IsReplied self.old.member (asked plain_bytes call) answer self.new.member) }
+    {
+        match self.member.call(call) {
+            Reply::Fault(Fault::OutOfMemory) => Err(AllocError),
+            reply => Ok(VoterAnswer::Reply(reply)),
+        }
+    }
+
+    /// Does what a line asks that stands for no call: a restart, or to be shown something.
+    fn other(&mut self, alloc: Global, line: VoterLine) -> Result<VoterAnswer, AllocError>
+        requires { is_no_call line ≡ true }
+        ensures network { self.new.network ≡ self.old.network }
+        ensures done { IfOk result (λ answer. IsDone self.old.network self.old.member line answer self.new.member) }
+    {
+        match line {
+            VoterLine::Restart { drop, now } => self.restart(alloc, drop, false, now),
+            VoterLine::RestartPruned { drop, now } => self.restart(alloc, drop, true, now),
+            VoterLine::Record => Ok(VoterAnswer::Entries(self.member.record().len())),
+            _ => Ok(self.views()),
+        }
+    }
+
+    /// Begins another life of the member, at genesis and with the same settings.
+    fn restart(
+        &mut self,
+        alloc: Global,
+        drop: u64,
+        prune: bool,
+        now: u64,
+    ) -> Result<VoterAnswer, AllocError>
+        ensures network { self.new.network ≡ self.old.network }
+        ensures restarted { IfOk result (λ answer. IsRestarted self.old.network self.old.member drop prune now answer self.new.member) }
+    {
+        let start = start_at(alloc, &self.network, now)?;
+        let result = self.member.restart(Restart { drop, prune, start });
+        if result == Err(RecoverError::OutOfMemory) {
+            return Err(AllocError);
+        }
+        Ok(VoterAnswer::Restarted(result))
+    }
+
+    fn views(&self) -> VoterAnswer
+        ensures { result ≡ views_of self.now.member.life }
+    {
+        match self.member.state() {
+            Some(state) => VoterAnswer::Views {
+                current: state.current_view(),
+                finalized: state.last_finalized(),
+                min_active: state.min_active(),
+            },
+            None => VoterAnswer::Failed,
+        }
+    }
+}
+
+/// How a member of the network starts at genesis.
+fn start_at(
+    alloc: Global,
+    network: &Network,
+    now: u64,
+) -> Result<Start<PlainScheme, PlainElector, PlainDigest>, AllocError>
+    ensures facts { IfOk result (λ start. IsGenesisStart network.now now (plain_start start)) }
+    ensures members { IfOk result (λ start. members_of start.settings.elector ≡ length (keys_of start.settings.scheme)) }
+{
+    let settings = settings(alloc, network)?;
+    Ok(Start {
+        settings,
+        floor: Floor::Genesis(PlainDigest::new(GENESIS)),
+        now,
+    })
+}
+
+/// How a member of the network is set up.
+fn settings(
+    alloc: Global,
+    network: &Network,
+) -> Result<Config<PlainScheme, PlainElector>, AllocError>
+    ensures { IfOk result (IsSetUp network.now) }
+{
+    let signer = match network.me {
+        Some(index) => Some(Participant::new(index)),
+        None => None,
+    };
+    let scheme = PlainScheme::new(alloc, network.members, signer)?;
+    let terms = Terms {
+        term_length: network.term_length,
+        optimistic_views: network.optimistic,
+        stall_timeout: None,
+    };
+    Ok(Config {
+        scheme,
+        elector: PlainElector::new(network.members, terms),
+        epoch: Epoch::new(EPOCH),
+        view_retention: ViewDelta::new(RETENTION),
+        leader_timeout: LEADER_TIMEOUT,
+        certification_timeout: CERTIFICATION_TIMEOUT,
+        timeout_retry: TIMEOUT_RETRY,
+        skip_budget: network.members as u64,
+    })
+}

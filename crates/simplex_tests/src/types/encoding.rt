@@ -1,0 +1,117 @@
+//! Encodings and copies.
+
+use super::{finalization, notarization, nullification, proposal, round};
+use simplex_types::types::plain::{PlainDigest, PlainKey, PlainScheme, PlainSignature};
+use simplex_types::types::{
+    Artifact, Certificate, Finalize, Notarize, Nullify, Participant, Subject, View, Viewable,
+};
+use std::alloc::Global;
+use std::test::Fail;
+
+type PlainArtifact = Artifact<PlainScheme, PlainDigest>;
+
+type PlainSubject = Subject<PlainDigest>;
+
+fn encoded(
+    alloc: Global,
+    certificate: &Certificate<PlainScheme, PlainDigest>,
+) -> Result<String, Fail> {
+    let bytes = certificate.encode(alloc)?;
+    let mut text = String::new(alloc);
+    for byte in bytes.as_slice() {
+        text.push_str(format!(in alloc; "{byte:02x}")?.as_str())?;
+    }
+    Ok(text)
+}
+
+#[test]
+fn certificates_are_encoded_as_the_vectors_say(rt: HostRuntime) -> Result<(), Fail> {
+    let nullified = Certificate::Nullification(nullification(9, 4));
+    assert_eq!(rt;
+        encoded(rt.alloc(), &nullified)?.as_str(),
+        "010000000000000009000000000000000401"
+    );
+    let notarized = Certificate::Notarization(notarization(3));
+    assert_eq!(rt;
+        encoded(rt.alloc(), &notarized)?.as_str(),
+        "00000000000000000100000000000000030000000000000002000000000000000701"
+    );
+    let finalized = Certificate::Finalization(finalization(1, 3, false));
+    assert_eq!(rt;
+        encoded(rt.alloc(), &finalized)?.as_str(),
+        "02000000000000000100000000000000030000000000000000000000000000000700"
+    );
+    Ok(())
+}
+
+#[test]
+fn a_copy_is_encoded_alike(rt: HostRuntime) -> Result<(), Fail> {
+    for certificate in [
+        Certificate::Notarization(notarization(3)),
+        Certificate::Nullification(nullification(1, 3)),
+        Certificate::Finalization(finalization(1, 3, true)),
+    ] {
+        let copy = certificate.clone(rt.alloc())?;
+        assert_eq!(rt; copy.view(), View::new(3));
+        assert!(rt; encoded(rt.alloc(), &copy)? == encoded(rt.alloc(), &certificate)?);
+    }
+    Ok(())
+}
+
+/// This member's signature on a subject.
+fn signature(alloc: Global, subject: &PlainSubject) -> Result<PlainSignature, Fail> {
+    Ok(PlainSignature::new(alloc, PlainKey(2), subject)?)
+}
+
+fn vote_to_notarize(alloc: Global) -> Result<PlainArtifact, Fail> {
+    let proposal = proposal(1, 3, 2, 7);
+    Ok(Artifact::Notarize(Notarize {
+        proposal,
+        signer: Participant::new(2),
+        signature: signature(alloc, &Subject::Notarize(proposal))?,
+    }))
+}
+
+fn vote_to_nullify(alloc: Global) -> Result<PlainArtifact, Fail> {
+    Ok(Artifact::Nullify(Nullify {
+        round: round(1, 3),
+        signer: Participant::new(2),
+        signature: signature(alloc, &Subject::Nullify(round(1, 3)))?,
+    }))
+}
+
+fn vote_to_finalize(alloc: Global) -> Result<PlainArtifact, Fail> {
+    let proposal = proposal(1, 3, 2, 7);
+    Ok(Artifact::Finalize(Finalize {
+        proposal,
+        signer: Participant::new(2),
+        signature: signature(alloc, &Subject::Finalize(proposal))?,
+    }))
+}
+
+#[test]
+fn votes_are_copied_with_their_view(rt: HostRuntime) -> Result<(), Fail> {
+    let alloc = rt.alloc();
+    for vote in [
+        vote_to_notarize(alloc)?,
+        vote_to_nullify(alloc)?,
+        vote_to_finalize(alloc)?,
+    ] {
+        assert_eq!(rt; vote.clone(alloc)?.view(), View::new(3));
+    }
+    Ok(())
+}
+
+#[test]
+fn certificates_and_verdicts_are_copied_with_their_view(rt: HostRuntime) -> Result<(), Fail> {
+    let artifacts: [PlainArtifact; 4] = [
+        Artifact::Notarization(notarization(3)),
+        Artifact::Certification(round(1, 3), true),
+        Artifact::Nullification(nullification(1, 3)),
+        Artifact::Finalization(finalization(1, 3, true)),
+    ];
+    for artifact in artifacts {
+        assert_eq!(rt; artifact.clone(rt.alloc())?.view(), View::new(3));
+    }
+    Ok(())
+}

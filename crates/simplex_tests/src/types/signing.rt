@@ -1,0 +1,95 @@
+//! Who signs what, and who leads.
+
+use super::{good, proposal, round};
+use simplex_types::types::plain::{
+    PlainDigest, PlainElector, PlainKey, PlainScheme, PlainSignature,
+};
+use simplex_types::types::{
+    CertificateScheme, Elector, Participant, Round, Scheme, Subject, TermLength, Terms, View,
+    Viewable,
+};
+use std::num::NonZeroU32;
+use std::test::Fail;
+
+#[test]
+fn a_copy_of_a_scheme_has_its_members_and_key(rt: HostRuntime) -> Result<(), Fail> {
+    let signer = PlainScheme::new(rt.alloc(), 4, Some(Participant::new(3)))?;
+    let copy = signer.copy(rt.alloc())?;
+    assert_eq!(rt; copy.me(), Some(Participant::new(3)));
+    assert_eq!(rt;
+        copy.participants(),
+        [PlainKey(0), PlainKey(1), PlainKey(2), PlainKey(3)].as_slice()
+    );
+    Ok(())
+}
+
+#[test]
+fn a_scheme_signs_exactly_with_a_key(rt: HostRuntime) -> Result<(), Fail> {
+    let signer = PlainScheme::new(rt.alloc(), 4, Some(Participant::new(3)))?;
+    let copy = signer.copy(rt.alloc())?;
+    let subject: Subject<PlainDigest> = Subject::Nullify(round(1, 3));
+    assert_eq!(rt; subject.view(), View::new(3));
+    let signed = copy.sign(rt.alloc(), &subject)?.ok_or("no signature")?;
+    assert_eq!(rt; signed.key, PlainKey(3));
+    Ok(())
+}
+
+#[test]
+fn a_scheme_without_a_key_verifies_and_signs_nothing(rt: HostRuntime) -> Result<(), Fail> {
+    let subject: Subject<PlainDigest> = Subject::Nullify(round(1, 3));
+    let watcher = PlainScheme::new(rt.alloc(), 4, None)?;
+    assert!(rt; watcher.sign(rt.alloc(), &subject)?.is_none());
+    assert!(rt; Scheme::<PlainDigest>::verify(&watcher, &subject, &good()));
+    Ok(())
+}
+
+#[test]
+fn a_signature_is_on_one_subject(rt: HostRuntime) -> Result<(), Fail> {
+    let voted = proposal(1, 3, 2, 7);
+    let key = PlainKey(3);
+    let finalize = PlainSignature::new(rt.alloc(), key, &Subject::Finalize(voted))?;
+    let again = PlainScheme::copy_signature(rt.alloc(), &finalize)?;
+    assert!(rt; again.key == finalize.key && again.text == finalize.text);
+    for other in [
+        Subject::Notarize(voted),
+        Subject::Nullify(voted.round),
+        Subject::Finalize(proposal(1, 3, 2, 8)),
+        Subject::Finalize(proposal(1, 3, 1, 7)),
+        Subject::Finalize(proposal(2, 3, 2, 7)),
+    ] {
+        let signature = PlainSignature::new(rt.alloc(), key, &other)?;
+        assert!(rt; signature.text != finalize.text);
+    }
+    Ok(())
+}
+
+#[test]
+fn members_lead_in_turn_a_term_each(rt: HostRuntime) -> Result<(), Fail> {
+    let Some(five) = NonZeroU32::new(5) else {
+        unreachable!()
+    };
+    let elector = PlainElector::new(4, terms_of(five));
+    for (view, leader) in [(1, 0), (5, 0), (6, 1), (20, 3), (21, 0)] {
+        let elected = leader_of(&elector, round(1, view));
+        assert_eq!(rt; elected, Participant::new(leader));
+    }
+    assert_eq!(rt; terms_and_members(&elector), (terms_of(five), 4, true));
+    Ok(())
+}
+
+fn terms_of(views: NonZeroU32) -> Terms {
+    Terms {
+        term_length: TermLength::new(views),
+        optimistic_views: 2,
+        stall_timeout: None,
+    }
+}
+
+fn leader_of<E: Elector<PlainScheme>>(elector: &E, round: Round) -> Participant {
+    let certificate = good();
+    elector.elect(round, Some(&certificate))
+}
+
+fn terms_and_members<E: Elector<PlainScheme>>(elector: &E) -> (Terms, usize, bool) {
+    (elector.terms(), elector.members(), elector.elects_early())
+}

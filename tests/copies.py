@@ -1,0 +1,148 @@
+#!/usr/bin/env python3
+"""That what stands twice in the repository stands there with the same content.
+
+The program is deterministic: the same lines behind the same arguments have the same reply wherever they are written, in the
+tables of `crates/simplex_tests/src/program`, in the README, `docs/PROGRAM.md`, the program's own run and the stored schedules. And
+copies of source, output, numbers and names in the docs are those of what they are copied from.
+
+    tests/copies.py [--program PATH]       with a built program, the picture in docs/TESTED.md too
+
+It ends with status 1 where two copies differ."""
+
+import argparse
+import re
+import sys
+
+import schedules
+import scripts
+import wrong_bodies
+from draw import drawn
+from member import Served
+from network import Network
+from program import ROOT
+from refusals import USAGE
+from scripts import ANY
+
+SAMPLE = "crates/simplex_tests/src/member/sample.rt"
+DRAWN = "skipped-by-one"
+
+
+def text_of(path):
+    return (ROOT / path).read_text()
+
+
+def blocks(path, kind):
+    """The fenced texts of a kind in a page."""
+    return re.findall(rf"^```{kind}\n(.*?)^```", text_of(path), re.DOTALL | re.MULTILINE)
+
+
+def table_rows(path):
+    """The first two cells of each row of a page's tables."""
+    return re.findall(r"^\| ([^|]*?) \| ([^|]*?) \|", text_of(path), re.MULTILINE)
+
+
+def first_script():
+    """The rows of the README's first script: each line with its reply."""
+    rows = next(block for block in blocks("README.md", "text") if block.startswith("propose ")).splitlines()
+    return [tuple(re.split(r" {2,}", row, maxsplit=1)) for row in rows]
+
+
+def told_texts():
+    """Each place where lines and replies are told: its name, the program's arguments, and the pairs."""
+    for script in scripts.all_scripts():
+        yield script.shows, script.arguments, zip(script.lines, script.replies)
+    yield "README.md", ("voter", "4", "0", "1", "0"), first_script()
+    words, lines, replies = (text_of(f"crates/viewstate/{name}").splitlines() for name in ("args", "stdin", "stdout"))
+    yield "crates/viewstate/stdout", tuple(words), zip(lines, replies)
+    resolver = text_of("docs/PROGRAM.md").partition("    viewstate resolver 5\n")[2]
+    yield "docs/PROGRAM.md", ("resolver", "5"), re.findall(r"^\| `(.*?)` \| `(.*?)` \|$", resolver, re.MULTILINE)
+    for schedule in schedules.all_schedules():
+        for member in (1, 2, 3):
+            arguments = ("voter", "4", str(member), str(schedule.terms.length), str(schedule.terms.optimistic))
+            yield f"{schedule.name}, member {member}", arguments, [(line, reply or ANY) for it, line, reply in schedule.steps if it == member]
+
+
+def differing_replies():
+    """Pairs of places where the same lines have two replies."""
+    held = {}
+    for name, arguments, pairs in told_texts():
+        before = arguments
+        for line, reply in pairs:
+            before = (before, line)
+            other, where = held.setdefault(before, (reply, name)) if reply != ANY else (reply, name)
+            if other != reply:
+                yield f"{line!r} is answered {reply!r} in {name!r}, and {other!r} in {where!r}"
+
+
+def doubled_names():
+    """Names that two scripts of a voter, or two of a resolver, have."""
+    names = [(script.arguments[0], script.shows) for script in scripts.all_scripts()]
+    return [f"two scripts of a {kind} show: {name}" for kind, name in sorted(set(names)) if names.count((kind, name)) > 1]
+
+
+def source_copies():
+    """Texts that stand elsewhere as a file, or as a part of one."""
+    lines = [f"{line}\n" for line, *_ in first_script()]
+    if text_of("docs/first-script.txt") != "".join(lines):
+        yield "docs/first-script.txt is not the README's first script"
+    sample = text_of(SAMPLE).replace("\n    ", "\n")
+    yield from (f"the README's sample is not in {SAMPLE}" for block in blocks("README.md", "rust") if block not in sample)
+    printed = text_of("crates/example_network/stdout")
+    for block in blocks("docs/ENGINE.md", "text"):
+        yield from (f"docs/ENGINE.md: not printed: {part}" for part in block.split("...\n") if part not in printed)
+
+
+def numbered_names():
+    """The numbers of faults and refusals, the program's usage and its words, as the source and the pages have them."""
+    source = text_of("crates/simplex_program/src/texts.rt")
+    refusals = {(name, number) for name, number in re.findall(r"RecoverError::(\w+) => (\d+)", source) if name != "OutOfMemory"}
+    told = {(name, number) for number, name in re.findall(r"^\| (\d+) `(\w+)` \|", text_of("docs/PROGRAM.md"), re.MULTILINE)}
+    faults = {(name, number) for name, number in re.findall(r"Fault::(\w+) => (\d+)", source) if name != "OutOfMemory"}
+    told_faults = {(name, number) for number, name in re.findall(r"^\| `fault (\d+) (\w+)` \|", text_of("docs/PROGRAM.md"), re.MULTILINE)}
+    reasons = set(re.findall(r"Some\(TimeoutReason::(\w+)\)", text_of("crates/simplex_program/src/words.rt")))
+    told_reasons = set(re.findall(r"`(\w+)`", re.search(r"`REASON` is (.*)", text_of("docs/PROGRAM.md"))[1]))
+    usages = {usage.replace("\\|", "|") for path in ("crates/viewstate/src/main.rt", "docs/PROGRAM.md")
+              for usage in re.findall(r"usage: viewstate [^\"`]*", text_of(path))}
+    pairs = (("refusals", refusals, told), ("faults", faults, told_faults), ("reasons", reasons, told_reasons),
+             ("usages", usages, {USAGE.strip()}))
+    return [f"the {what} of the source and of docs/PROGRAM.md differ: {one ^ other}" for what, one, other in pairs if one != other]
+
+
+def listed_names():
+    """The crates that stand, and the wrong bodies that are tried, as the pages list them."""
+    crates = {path.name for path in (ROOT / "crates").iterdir() if (path / "src").is_dir()}
+    listed = {line.partition(":")[0].split(" ")[0] for line in text_of("crates.txt").splitlines()}
+    told = {first.strip("`") for first, _ in table_rows("README.md") if first.strip("`") in crates | listed}
+    yield from (f"{what} has other crates than stand: {names ^ crates}" for what, names in (("crates.txt", listed), ("README.md", told)) if names != crates)
+    for name in wrong_bodies.WRONG_BODIES + wrong_bodies.WRONG_WITHOUT_MEMORY:
+        crate, edit = name.split("/")
+        if not (ROOT / f"crates/{crate}/must-fail/{edit}.edit").is_file():
+            yield f"no edit {edit} of {crate}"
+        if edit not in text_of("docs/TESTED.md"):
+            yield f"docs/TESTED.md does not tell of the wrong body {edit}"
+
+
+def picture(path):
+    """The picture in docs/TESTED.md, where a program draws it anew."""
+    schedule = next(it for it in schedules.all_schedules() if it.name == DRAWN)
+    with Network(Served(path), 4, {0}, schedule.terms) as network:
+        schedules.play(schedule, network)
+    if not any(drawn(network).startswith(block) for block in blocks("docs/TESTED.md", "text")):
+        yield f"docs/TESTED.md has another picture of {DRAWN}"
+
+
+def main():
+    parser = argparse.ArgumentParser(description=__doc__, formatter_class=argparse.RawDescriptionHelpFormatter)
+    parser.add_argument("--program", help="a built program, which draws the picture")
+    given = parser.parse_args()
+    checks = (differing_replies, doubled_names, source_copies, numbered_names, listed_names)
+    faults = [fault for check in checks for fault in check()]
+    faults += picture(given.program) if given.program else []
+    count = sum(len(list(pairs)) for _, _, pairs in told_texts())
+    print(f"copies: {count} lines with replies, {len(faults)} copies that differ")
+    print("".join(f"  {fault}\n" for fault in faults), end="")
+    return 1 if faults else 0
+
+
+if __name__ == "__main__":
+    sys.exit(main())
