@@ -13,6 +13,7 @@ mod world;
 
 use error::EngineError;
 use options::Options;
+use std::alloc::AllocError;
 use std::process::ExitCode;
 use std::{env, io};
 use world::World;
@@ -23,16 +24,17 @@ const USAGE: &str =
 const USAGE_STATUS: u8 = 2;
 
 fn main(rt: HostRuntime) -> ExitCode {
-    let Ok(arguments) = arguments(&rt) else {
-        return misused(&rt);
+    let arguments = match arguments(&rt) {
+        Ok(arguments) => arguments,
+        Err(e) if e.kind() == io::ErrorKind::OutOfMemory => {
+            return failed(&rt, EngineError::OutOfMemory(AllocError));
+        }
+        Err(_) => return misused(&rt),
     };
     match Options::read(&arguments) {
         Some(Options::Run(views)) => match simulate(&rt, views) {
             Ok(()) => ExitCode::SUCCESS,
-            Err(error) => {
-                let _ = eprintln!(rt; "{error}");
-                ExitCode::FAILURE
-            }
+            Err(error) => failed(&rt, error),
         },
         Some(Options::Help) => {
             let _ = println!(rt; "{USAGE}");
@@ -49,6 +51,11 @@ fn arguments(rt: &HostRuntime) -> io::Result<Vec<String>> {
         words.push(word)?;
     }
     Ok(words)
+}
+
+fn failed(rt: &HostRuntime, error: EngineError) -> ExitCode {
+    let _ = eprintln!(rt; "{error}");
+    ExitCode::FAILURE
 }
 
 fn misused(rt: &HostRuntime) -> ExitCode {
