@@ -1,6 +1,8 @@
 //! Callers of a member, proved by its contracts alone: what one answered call says of the next.
 #![tactic(auto)]
 
+pub mod lawful;
+
 ghost use Rattle.std.specs.Prelude.{◌≡◌, ◌++◌, OnOk, IfOk, IfSome, IsNone};
 ghost use Rattle.simplex_voter.specs.Serving.{broadcast_notarization_answer};
 ghost use Rattle.simplex_member.specs.Calls.{told_finalize};

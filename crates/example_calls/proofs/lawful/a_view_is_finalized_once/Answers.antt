@@ -1,0 +1,5 @@
+use Rattle.simplex_laws.proofs.TwoVotes.{one_finalized}
+use Rattle.example_calls.proofs.lawful.a_view_is_finalized_once.Goals as goal
+
+pub returns : goal.returns
+returns g c term_length i all done p q has_p has_q same = one_finalized term_length all p q (c.keeps_the_laws.ensures.lawful term_length i all done) has_p has_q same

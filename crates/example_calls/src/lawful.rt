@@ -1,0 +1,35 @@
+//! Callers of a lawful member and of agreement: what the laws say of the values that an engine holds.
+
+ghost use Rattle.std.specs.Prelude.{◌≡◌, true};
+ghost use Rattle.simplex_types.specs.declared.types.messages.Subject.TheVariants.{Finalize};
+ghost use Rattle.simplex_laws.specs.Living.{OfAllDone};
+ghost use Rattle.simplex_laws.specs.Places.{OfEachNetwork, Backed};
+ghost use Rattle.example_calls.specs.Finalizing.{FinalizesOneProposal};
+
+use simplex_lawful::lawful::LawfulMember;
+use simplex_laws::laws::agreement;
+use simplex_types::types::{Digest, Elector, Proposal, Scheme};
+
+/// Votes to finalize one view that a member has signed, in whichever of its lives, are for one proposal. It does nothing: its
+/// contract is what `keeps_the_laws` says of such votes.
+pub fn a_view_is_finalized_once<S: Scheme<D>, L: Elector<S>, D: Digest>(
+    member: &LawfulMember<S, L, D>,
+)
+    ensures { OfAllDone D.eq L.elect member.now (λ term_length i all. FinalizesOneProposal all) }
+{
+    member.keeps_the_laws();
+}
+
+/// Whether two proposals have one payload. Where both are of one view, and the votes of a network back a finalization of each,
+/// they do.
+pub fn blocks_agree<S: Scheme<D>, L: Elector<S>, D: Digest>(
+    mine: &Proposal<D>,
+    theirs: &Proposal<D>,
+) -> bool
+    ensures { OfEachNetwork S.PublicKey D.eq L.elect (λ term_length network.
+        Backed network (Finalize mine.now) → Backed network (Finalize theirs.now)
+        → mine.now.round.view ≡ theirs.now.round.view → result ≡ true) }
+{
+    agreement::<S, L, D>();
+    mine.payload == theirs.payload
+}
