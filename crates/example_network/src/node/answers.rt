@@ -200,11 +200,7 @@ impl Node {
     }
 
     /// The verdict was taken: the resolver is told.
-    fn certified(
-        &mut self,
-        notarization: &Notarized,
-        success: bool,
-    ) -> Result<(), EngineError> {
+    fn certified(&mut self, notarization: &Notarized, success: bool) -> Result<(), EngineError> {
         let view = notarization.proposal.round.view;
         if view.is_zero() {
             return Ok(());
