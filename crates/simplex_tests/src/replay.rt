@@ -237,45 +237,43 @@ fn an_empty_record_fetches_nothing(rt: HostRuntime) -> Result<(), Fail> {
 
 #[test]
 fn the_first_bad_entry_is_told(rt: HostRuntime) -> Result<(), Fail> {
-    for (entries, error) in [
+    let rows: [(PlainArtifact, PlainArtifact, ReplayError, &str); 5] = [
         (
-            [notarization(0), notarization(TOO_LARGE)],
+            notarization(0),
+            notarization(TOO_LARGE),
             ReplayError::ZeroView,
+            "ZeroView",
         ),
         (
-            [notarization(TOO_LARGE), nullification(0)],
+            notarization(TOO_LARGE),
+            nullification(0),
             ReplayError::ViewTooLarge,
+            "ViewTooLarge",
         ),
         (
-            [finalization(TOO_LARGE), verdict(1, true)],
+            finalization(TOO_LARGE),
+            verdict(1, true),
             ReplayError::ViewTooLarge,
+            "ViewTooLarge",
         ),
         (
-            [notarization_on(3, TOO_LARGE), verdict(3, true)],
+            notarization_on(3, TOO_LARGE),
+            verdict(3, true),
             ReplayError::ViewTooLarge,
+            "ViewTooLarge",
         ),
         (
-            [verdict(1, true), notarization(1)],
-            ReplayError::VerdictWithoutNotarization,
-        ),
-    ] {
-        let refused = replay_record(rt.alloc(), pairs(), &entries);
-        assert!(rt; matches!(refused, Err(found) if found == error), "{error}");
-    }
-    Ok(())
-}
-
-#[test]
-fn errors_of_a_record_are_written_by_name(rt: HostRuntime) -> Result<(), Fail> {
-    for (error, name) in [
-        (ReplayError::ZeroView, "ZeroView"),
-        (ReplayError::ViewTooLarge, "ViewTooLarge"),
-        (
+            verdict(1, true),
+            notarization(1),
             ReplayError::VerdictWithoutNotarization,
             "VerdictWithoutNotarization",
         ),
-    ] {
-        assert_eq!(rt; format!(in rt.alloc(); "{error}")?.as_str(), name);
+    ];
+    for (first, second, error, text) in rows {
+        let entries = [first, second];
+        let refused = replay_record(rt.alloc(), pairs(), &entries);
+        assert!(rt; matches!(refused, Err(found) if found == error), "{text}");
+        assert_eq!(rt; format!(in rt.alloc(); "{error}")?.as_str(), text);
     }
     Ok(())
 }
