@@ -61,34 +61,59 @@ impl Polls {
         let Ok(signer) = u8::try_from(vote.signer().get()) else {
             return Ok(None);
         };
-        let alloc = self.alloc;
-        Ok(match vote.subject() {
-            Subject::Notarize(proposal) => {
-                let ballot = Ballot::new(proposal.round.view, proposal, signer);
-                let seal = self.to_notarize.count(alloc, state, ballot)?;
-                seal.map(|certificate| {
-                    Certificate::Notarization(Notarized {
-                        proposal,
-                        certificate,
-                    })
-                })
-            }
-            Subject::Nullify(round) => {
-                let ballot = Ballot::new(round.view, round, signer);
-                let seal = self.to_nullify.count(alloc, state, ballot)?;
-                seal.map(|certificate| Certificate::Nullification(Nullified { round, certificate }))
-            }
-            Subject::Finalize(proposal) => {
-                let ballot = Ballot::new(proposal.round.view, proposal, signer);
-                let seal = self.to_finalize.count(alloc, state, ballot)?;
-                seal.map(|certificate| {
-                    Certificate::Finalization(Finalized {
-                        proposal,
-                        certificate,
-                    })
-                })
-            }
-        })
+        match vote.subject() {
+            Subject::Notarize(block) => self.count_to_notarize(state, signer, &block),
+            Subject::Nullify(round) => self.count_to_nullify(state, signer, &round),
+            Subject::Finalize(block) => self.count_to_finalize(state, signer, &block),
+        }
+    }
+
+    fn count_to_notarize(
+        &mut self,
+        state: &CoreState,
+        signer: u8,
+        block: &Block,
+    ) -> Result<Option<Proof>, AllocError> {
+        let ballot = Ballot::new(block.round.view, *block, signer);
+        match self.to_notarize.count(self.alloc, state, ballot)? {
+            Some(certificate) => Ok(Some(Certificate::Notarization(Notarized {
+                proposal: *block,
+                certificate,
+            }))),
+            None => Ok(None),
+        }
+    }
+
+    fn count_to_nullify(
+        &mut self,
+        state: &CoreState,
+        signer: u8,
+        round: &Round,
+    ) -> Result<Option<Proof>, AllocError> {
+        let ballot = Ballot::new(round.view, *round, signer);
+        match self.to_nullify.count(self.alloc, state, ballot)? {
+            Some(certificate) => Ok(Some(Certificate::Nullification(Nullified {
+                round: *round,
+                certificate,
+            }))),
+            None => Ok(None),
+        }
+    }
+
+    fn count_to_finalize(
+        &mut self,
+        state: &CoreState,
+        signer: u8,
+        block: &Block,
+    ) -> Result<Option<Proof>, AllocError> {
+        let ballot = Ballot::new(block.round.view, *block, signer);
+        match self.to_finalize.count(self.alloc, state, ballot)? {
+            Some(certificate) => Ok(Some(Certificate::Finalization(Finalized {
+                proposal: *block,
+                certificate,
+            }))),
+            None => Ok(None),
+        }
     }
 
     /// Forgets the votes of the views below.
