@@ -1,0 +1,5 @@
+use Rattle.simplex_transcripts.proofs.ResolverFetches.{resolver_transcripts_keep_fetches}
+use Rattle.simplex_transcripts.proofs.resolvers.resolver_transcripts_keep_fetches.Goals as goal
+
+pub returns : goal.returns
+returns c = resolver_transcripts_keep_fetches

@@ -1,0 +1,2 @@
+pub mod VoterStories
+pub mod ResolverFetches

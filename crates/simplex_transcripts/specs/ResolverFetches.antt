@@ -1,0 +1,88 @@
+-- What a resolver's transcript tells of its fetches: the calls that its lines stand for.
+use Rattle.std.specs.Prelude.{◌≡◌, ◌⊎◌, ℕ, ◌+◌, ⊤, List, [], ◌∷◌, ◌++◌, length, Option, Result, Err}
+use Rattle.std.specs.Io.KnownBytes.{Keeps, Appends}
+use Rattle.simplex_resolver.specs.Steps.{Call, Replayed as EndOfReplay}
+use Rattle.simplex_replay.specs.Told.{ResolverFacts, HasBeenTold, OpensTheWanted, OpensNone, OpensNoneAgain, AnswersTheTold}
+use Rattle.simplex_program.specs.declared.mode.Mode.TheVariants.{Resolver}
+use Rattle.simplex_program.specs.declared.serve_error.ServeError.{ServeError}
+use Rattle.simplex_program.specs.declared.serve_error.ServeError.TheVariants.{OutOfMemory}
+use Rattle.simplex_program.specs.declared.resolver.Answer.{Answer}
+use Rattle.simplex_program.specs.declared.resolver.Answer.TheVariants as answer
+use Rattle.simplex_program.specs.declared.resolver_line.ResolverLine.{ResolverLine}
+use Rattle.simplex_program.specs.declared.resolver_line.ResolverLine.TheVariants.{Notarization, Nullification, Finalization, Certified, Replayed}
+use Rattle.simplex_program.specs.Answers.{notarization_call, nullification_call, finalization_call, verdict_call}
+use Rattle.simplex_program.specs.Line.{without_feed}
+use Rattle.simplex_program.specs.Mode.{IsServed}
+use Rattle.simplex_program.specs.ResolverLine.{line_words}
+use Rattle.simplex_program.specs.ResolverText.{resolver_reply_text}
+use Rattle.simplex_program.specs.Transcript.{Resolver as Asks, Point, Ends, Transcribes, reply_line}
+use Rattle.simplex_program.specs.Words.{words_in}
+
+-- a line with its answer
+pub record Turn : Type 0 where
+  pub line : ResolverLine
+  pub answer : Answer
+
+-- the call that a line hands to the resolver, if it hands one
+abbrev pub call_in : ResolverLine → List Call
+call_in (Notarization v) = notarization_call v ∷ []
+call_in (Nullification v) = nullification_call v ∷ []
+call_in (Finalization v) = finalization_call v ∷ []
+call_in (Certified v success) = verdict_call v success ∷ []
+call_in Replayed = EndOfReplay ∷ []
+call_in _ = []
+
+-- calls are made where effects are answered
+abbrev pub answered_by : Answer → List Call → List Call
+answered_by (answer.Effects _) calls = calls
+answered_by _ calls = []
+
+abbrev pub made_in : ResolverLine → Answer → List Call
+made_in line answer = answered_by answer (call_in line)
+
+-- the calls that were made, the last one first
+abbrev pub made_by : List Turn → List Call
+made_by [] = []
+made_by (turn ∷ turns) = made_by turns ++ made_in turn.line turn.answer
+
+-- the bytes of each line have the words of its turn
+abbrev pub AreSpelled : List (List ℕ) → List Turn → Type 0
+AreSpelled [] [] = ⊤
+AreSpelled (bytes ∷ lines) (turn ∷ turns) = (words_in (without_feed bytes) ≡ line_words turn.line) × AreSpelled lines turns
+AreSpelled _ _ = ⊥
+
+-- the replies as they are written
+abbrev pub replies_to : List Turn → List ℕ
+replies_to [] = []
+replies_to (turn ∷ turns) = reply_line (resolver_reply_text turn.answer) ++ replies_to turns
+
+-- the laws of all that a resolver was told
+pub record KeepsFetches (term_length : ℕ) (calls : List Call) (r : ResolverFacts) : Type 0 where
+  pub wanted : OpensTheWanted r term_length calls
+  pub none : OpensNone r term_length calls
+  pub again : OpensNoneAgain r term_length calls
+  pub answers : AnswersTheTold r term_length calls
+
+-- the lines, and the replies that a writer holds besides, tell a resolver these calls, and leave it so
+pub record IsTranscribed (term_length : ℕ) (lines : List (List ℕ)) (old new : Option (List ℕ)) (r : ResolverFacts) : Type 0 where
+  pub turns : List Turn
+  pub spelled : AreSpelled lines turns
+  pub written : Appends old new (replies_to turns)
+  pub told : HasBeenTold term_length (made_by turns) r
+  pub laws : KeepsFetches term_length (made_by turns) r
+
+-- a resolver answered lines from its start on, and then serving ended; this is what is left of it
+pub record IsServedBy (term_length : ℕ) (held : Option (List ℕ)) (r : Result (Unit {0}) ServeError) (after : Option (List ℕ)) (left : ResolverFacts) : Type 0 where
+  pub lines : List (List ℕ)
+  pub last : Point
+  pub asked : last.asked ≡ Asks left.state left.open_fetches
+  pub transcribed : IsTranscribed term_length lines held last.held left
+  pub ended : Ends last (length lines + 1) r after
+
+-- whatever a resolver's lines are, and however serving ends
+abbrev pub ResolverTranscriptsKeepFetches : Type 0
+ResolverTranscriptsKeepFetches =
+    (term_length : ℕ) (left held : Option (List ℕ)) (r : Result (Unit {0}) ServeError) (after : Option (List ℕ))
+    → IsServed (Resolver term_length)
+    → Transcribes (Resolver term_length) left held r after
+    → ((r ≡ Err OutOfMemory) × Keeps held after) ⊎ ((resolver : ResolverFacts) × IsServedBy term_length held r after resolver)
