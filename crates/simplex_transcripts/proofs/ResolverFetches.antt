@@ -1,5 +1,5 @@
 -- What a resolver behind lines was told, line by line.
-use Rattle.std.proofs.Common.{◌≡◌, ◌⊎◌, inl, inr, refl, ap, sym, subst, ◌∙◌, ℕ, ◌<◌, ◌≤◌, zero, suc, Bool, true, false, List, [], ◌∷◌, ◌++◌, append_assoc, arith}
+use Rattle.std.proofs.Common.{◌≡◌, inl, inr, refl, sym, subst, ℕ, ◌<◌, ◌≤◌, zero, suc, List, [], ◌∷◌, ◌++◌, append_assoc, arith}
 use Rattle.std.proofs.lemmas.List.{append-nil}
 use Rattle.std.specs.Io.KnownBytes.{Appends}
 use Rattle.simplex_types.specs.declared.types.fault.Fault.{Fault}
@@ -13,13 +13,13 @@ use Rattle.simplex_program.specs.declared.resolver.Answer.{Answer}
 use Rattle.simplex_program.specs.declared.resolver.Answer.TheVariants as answer
 use Rattle.simplex_program.specs.declared.resolver_line.ResolverLine.{ResolverLine}
 use Rattle.simplex_program.specs.declared.resolver_line.ResolverLine.TheVariants.{Notarization, Nullification, Finalization, Certified, Replayed, Settled, KeySettled, Uncertifiable, Produce, Outstanding}
-use Rattle.simplex_program.specs.Answers.{Answers, Calls, Reports, IsKept, Lists, notarization_call, nullification_call, finalization_call, verdict_call}
+use Rattle.simplex_program.specs.Answers.{Answers, Calls, Reports, IsKept, notarization_call, nullification_call, finalization_call, verdict_call}
 use Rattle.simplex_program.specs.Line.{without_feed}
 use Rattle.simplex_program.specs.ResolverLine.{line_words}
 use Rattle.simplex_program.specs.ResolverText.{resolver_reply_text}
 use Rattle.simplex_program.specs.Transcript.{Asked, Member, Resolver, Point, AreAnswered, Replies, reply_line}
 use Rattle.simplex_program.specs.Words.{words_in}
-use Rattle.simplex_transcripts.specs.ResolverFetches.{Turn, answered_by, made_in, made_by, AreSpelled, replies_to, KeepsFetches, IsTranscribed, ResolverTranscriptsKeepFetches}
+use Rattle.simplex_transcripts.specs.ResolverFetches.{Turn, answered_by, made_in, made_by, AreSpelled, replies_to, ResolverTranscriptsKeepFetches}
 use Rattle.simplex_transcripts.proofs.Growing.{nothing_appended, more_appended}
 
 abbrev of_parts : Facts → List ℕ → ResolverFacts
@@ -113,20 +113,20 @@ fetches_from t calls [] p q x fetching asked told same = record {
   written = subst (λ (r : Point). Appends p.held r.held []) same (nothing_appended p.held);
   told = told;
 }
-fetches_from t calls (line ∷ lines) p q x fetching asked told (r, (reply, (next, replied), appended), rest) = by_asked r.asked refl
+fetches_from t calls (line ∷ lines) p q x fetching asked told (r, (reply, (next, replied), appended), rest) = by_asked r.asked refl (λ more y left is told_so. fetches_from t more lines r q y left is told_so rest)
   where
     given : (a : Asked) → r.asked ≡ a → Replies (Resolver x fetching) (without_feed line) reply a
     given a is = subst (λ b. Replies b (without_feed line) reply a) asked (subst (λ b. Replies p.asked (without_feed line) reply b) is replied)
 
-    by_parts : (y : Facts) (left : List ℕ) → r.asked ≡ Resolver y left → Replies (Resolver x fetching) (without_feed line) reply (Resolver y left) → FetchesFrom t calls (line ∷ lines) p q
-    by_parts y left is (rline, a, words, answers, text) =
+    by_parts : (y : Facts) (left : List ℕ) → r.asked ≡ Resolver y left → Replies (Resolver x fetching) (without_feed line) reply (Resolver y left) → ((more : List Call) (z : Facts) (views : List ℕ) → r.asked ≡ Resolver z views → HasBeenTold t more (of_parts z views) → FetchesFrom t more lines r q) → FetchesFrom t calls (line ∷ lines) p q
+    by_parts y left is (rline, a, words, answers, text) later =
         one_more t calls line lines p r q (record { line = rline; answer = a }) words
         (subst (λ bytes. Appends p.held r.held bytes) text appended)
-        (fetches_from t (made_in rline a ++ calls) lines r q y left is (of_line t calls x y fetching left told rline a answers) rest)
+        (later (made_in rline a ++ calls) y left is (of_line t calls x y fetching left told rline a answers))
 
-    by_asked : (a : Asked) → r.asked ≡ a → FetchesFrom t calls (line ∷ lines) p q
-    by_asked (Member n m) is = absurd (given (Member n m) is)
-    by_asked (Resolver y left) is = by_parts y left is (given (Resolver y left) is)
+    by_asked : (a : Asked) → r.asked ≡ a → ((more : List Call) (z : Facts) (views : List ℕ) → r.asked ≡ Resolver z views → HasBeenTold t more (of_parts z views) → FetchesFrom t more lines r q) → FetchesFrom t calls (line ∷ lines) p q
+    by_asked (Member n m) is later = absurd (given (Member n m) is)
+    by_asked (Resolver y left) is later = by_parts y left is (given (Resolver y left) is) later
 
 -- ---- from the start on
 
@@ -142,21 +142,24 @@ resolver_transcripts_keep_fetches t left held r after served (inr (Resolver x fe
     let s = fetches_from t [] lines p q x fetching refl start answered in
     let told : HasBeenTold t (made_by s.turns) (of_parts s.end s.fetching) = subst (λ (all : List Call). HasBeenTold t all (of_parts s.end s.fetching)) (append-nil (made_by s.turns)) s.told in
     let left_so = of_parts s.end s.fetching in
-    inr (left_so, record {
-      lines = lines;
-      last = q;
-      asked = s.left;
-      ended = ended;
-      transcribed = record {
-        turns = s.turns;
-        spelled = s.spelled;
-        written = s.written;
-        told = told;
-        laws = record {
-          wanted = opens_the_wanted left_so t (made_by s.turns) told;
-          none = opens_none left_so t (made_by s.turns) told;
-          again = opens_none_again left_so t (made_by s.turns) told;
-          answers = answers_the_told left_so t (made_by s.turns) told;
+    inr (
+      left_so,
+      record {
+        lines = lines;
+        last = q;
+        asked = s.left;
+        ended = ended;
+        transcribed = record {
+          turns = s.turns;
+          spelled = s.spelled;
+          written = s.written;
+          told = told;
+          laws = record {
+            wanted = opens_the_wanted left_so t (made_by s.turns) told;
+            none = opens_none left_so t (made_by s.turns) told;
+            again = opens_none_again left_so t (made_by s.turns) told;
+            answers = answers_the_told left_so t (made_by s.turns) told;
+          };
         };
-      };
-    })
+      },
+    )

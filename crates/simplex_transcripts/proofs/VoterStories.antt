@@ -1,5 +1,5 @@
 -- The lines that a voter has answered are a story of its member, line by line.
-use Rattle.std.proofs.Common.{◌≡◌, ◌⊎◌, inl, inr, refl, ap, sym, subst, ℕ, ◌<◌, Bool, true, false, List, [], ◌∷◌, ◌++◌, Contains, Option, Some, None, arith}
+use Rattle.std.proofs.Common.{◌≡◌, ◌⊎◌, inl, inr, refl, ap, sym, subst, ℕ, ◌<◌, Bool, true, false, List, [], ◌∷◌, Contains, Option, Some, None, arith}
 use Rattle.std.specs.Prelude.{MatchOption}
 use Rattle.std.specs.Io.KnownBytes.{Appends}
 use Rattle.simplex_types.specs.declared.types.plain.PlainDigest.{PlainDigest}
@@ -7,12 +7,11 @@ use Rattle.simplex_types.specs.declared.types.plain.PlainElector.{PlainElector}
 use Rattle.simplex_types.specs.declared.types.plain.PlainKey.{PlainKey}
 use Rattle.simplex_types.specs.Config.{Genesis}
 use Rattle.simplex_types.specs.Plain.{digest_from_eq}
-use Rattle.simplex_member.specs.Calls.{CallFacts, told}
+use Rattle.simplex_member.specs.Calls.{told}
 use Rattle.simplex_member.specs.Check.{first_broken_rule}
-use Rattle.simplex_member.specs.Lives.{MemberFacts}
 use Rattle.simplex_member.specs.Recovery.{recover_error}
 use Rattle.simplex_member.specs.Restarts.{RestartFacts}
-use Rattle.simplex_member.specs.Runs.{StepFacts, Calls, Restarts, restart_told, IsStep, IsRun, IsRunFrom}
+use Rattle.simplex_member.specs.Runs.{Calls, Restarts, restart_told, IsStep, IsRun, IsRunFrom}
 use Rattle.simplex_member.specs.Start.{StartFacts, started, new_state}
 use Rattle.simplex_laws.specs.Lawful.{IsLawful}
 use Rattle.simplex_laws.specs.Stories.{BeginsAs, Ran, deeds_of}
@@ -32,7 +31,7 @@ use Rattle.simplex_program.specs.Voter.{VoterAnswers, IsReplied, IsRestarted, Is
 use Rattle.simplex_program.specs.VoterLine.{voter_words}
 use Rattle.simplex_program.specs.VoterText.{voter_reply_words}
 use Rattle.simplex_program.specs.Words.{words_in}
-use Rattle.simplex_transcripts.specs.VoterStories.{PlainStep, PlainTold, PlainStory, Turn, IsRestartOf, IsStepOf, Tells, only_shows, AreSteps, AreSpelled, replies_to, IsTranscribed, IsLawfulOf, VoterTranscriptsAreLawful, restart_in}
+use Rattle.simplex_transcripts.specs.VoterStories.{PlainStep, PlainTold, PlainStory, Turn, IsStepOf, Tells, only_shows, AreSteps, AreSpelled, replies_to, IsTranscribed, IsLawfulOf, VoterTranscriptsAreLawful, restart_in}
 use Rattle.simplex_transcripts.proofs.Growing.{nothing_appended, more_appended}
 
 false≢true : false ≡ true → ⊥
@@ -143,21 +142,26 @@ story_from n [] p q m asked same = record {
   taken = (refl, refl);
   run = refl;
 }
-story_from n (line ∷ lines) p q m asked (r, (reply, (next, replied), appended), rest) = by_asked r.asked refl
+story_from n (line ∷ lines) p q m asked (r, (reply, (next, replied), appended), rest) = by_asked r.asked refl (λ left is. story_from n lines r q left is rest)
   where
     given : (a : Asked) → r.asked ≡ a → Replies (Member n m) (without_feed line) reply a
     given a is = subst (λ b. Replies b (without_feed line) reply a) asked (subst (λ b. Replies p.asked (without_feed line) reply b) is replied)
 
-    by_parts : (o : Network) (left : PlainMember) → r.asked ≡ Member o left → Replies (Member n m) (without_feed line) reply (Member o left) → StoryFrom n m (line ∷ lines) p q
-    by_parts o left is (vline, a, words, answers, same, text) =
+    by_parts : (o : Network) (left : PlainMember) → StoryFrom n left lines r q → Replies (Member n m) (without_feed line) reply (Member o left) → StoryFrom n m (line ∷ lines) p q
+    by_parts o left later (vline, a, words, answers, same, text) =
         one_more n m left line lines p r q (record { line = vline; answer = a }) words
         (subst (λ bytes. Appends p.held r.held bytes) text appended)
         (turn_of n m left vline a answers)
-        (story_from n lines r q left (subst (λ k. r.asked ≡ Member k left) same is) rest)
+        later
 
-    by_asked : (a : Asked) → r.asked ≡ a → StoryFrom n m (line ∷ lines) p q
-    by_asked (Resolver x fetching) is = absurd (given (Resolver x fetching) is)
-    by_asked (Member o left) is = by_parts o left is (given (Member o left) is)
+    same_network : (o : Network) (left : PlainMember) → Replies (Member n m) (without_feed line) reply (Member o left) → o ≡ n
+    same_network o left (_, _, _, _, same, _) = same
+
+    by_asked : (a : Asked) → r.asked ≡ a → ((left : PlainMember) → r.asked ≡ Member n left → StoryFrom n left lines r q) → StoryFrom n m (line ∷ lines) p q
+    by_asked (Resolver x fetching) is later = absurd (given (Resolver x fetching) is)
+    by_asked (Member o left) is later =
+        let here = given (Member o left) is in
+        by_parts o left (later left (subst (λ k. r.asked ≡ Member k left) (same_network o left here) is)) here
 
 -- ---- from the start on
 
@@ -177,11 +181,10 @@ module _ (n : Network) (some : 0 < n.term_length) (i : ℕ) (signs : (n.me ≡ S
       absurd (omega (arith, empty.1))
   restarts_begin (turn ∷ turns) steps replies (inl (_, taken)) r h = restarts_begin turns steps replies taken r h
   restarts_begin (turn ∷ turns) steps replies (inr (step, t, rest, others, same, _, is, _, taken)) r h =
-      by_place (Contains-cases step rest (Restarts r) (subst (λ (xs : List PlainStep). Contains xs (Restarts r)) same h))
-    where
-      by_place : (step ≡ Restarts r) ⊎ Contains rest (Restarts r) → BeginsAs n.term_length i r.start.setup
-      by_place (inl here) = restart_begins r (restart_in turn.line) (subst (IsStepOf n turn.line) here is)
-      by_place (inr later) = restarts_begin turns rest others taken r later
+      elim (Contains-cases step rest (Restarts r) (subst (λ (xs : List PlainStep). Contains xs (Restarts r)) same h)) [
+        | inl here ↦ restart_begins r (restart_in turn.line) (subst (IsStepOf n turn.line) here is)
+        | inr later ↦ restarts_begin turns rest others taken r later
+      ]
 
 -- no rule of a record is broken at genesis, and no deadline is late
 accepted : (n : Network) (e : PlainElector) (payload : PlainDigest) → IsGenesis n e payload → recover_error same_payload (new_state (genesis_start n e payload 0).setup) (Genesis payload) 0 [] ≡ None
