@@ -121,15 +121,23 @@ impl<S: CertificateScheme, D: Digest> Round<S, D> {
             ≡ once self.old.notarization_broadcast self.old.notarization) }
         ensures facts { OnOk result (self.new ≡ record self.old { notarization_broadcast = self.old.notarization_broadcast || is_some self.old.notarization }) }
     {
-        if self.notarization_broadcast {
-            return Ok(None);
-        }
-        let copy = match &self.notarization {
+        let copy = match self.unsent_notarization() {
             Some(notarization) => notarization.clone(alloc)?,
             None => return Ok(None),
         };
         self.notarization_broadcast = true;
         Ok(Some(copy))
+    }
+
+    /// The notarization, where there is one that was not handed out before.
+    fn unsent_notarization(&self) -> Option<&Notarization<S, D>>
+        ensures { option_map (notarization_facts S.certificate_bytes) (option_copied result)
+            ≡ once self.now.notarization_broadcast self.now.notarization }
+    {
+        if self.notarization_broadcast {
+            return None;
+        }
+        self.notarization.as_ref()
     }
 
     /// A copy of the nullification to send to others, once, as `broadcast_notarization`.
@@ -146,15 +154,23 @@ impl<S: CertificateScheme, D: Digest> Round<S, D> {
           nullification_broadcast = self.old.nullification_broadcast || is_some self.old.nullification;
         }) }
     {
-        if self.nullification_broadcast {
-            return Ok(None);
-        }
-        let copy = match &self.nullification {
+        let copy = match self.unsent_nullification() {
             Some(nullification) => nullification.clone(alloc)?,
             None => return Ok(None),
         };
         self.nullification_broadcast = true;
         Ok(Some(copy))
+    }
+
+    /// The nullification, where there is one that was not handed out before.
+    fn unsent_nullification(&self) -> Option<&Nullification<S>>
+        ensures { option_map (nullification_facts S.certificate_bytes) (option_copied result)
+            ≡ once self.now.nullification_broadcast self.now.nullification }
+    {
+        if self.nullification_broadcast {
+            return None;
+        }
+        self.nullification.as_ref()
     }
 
     /// A copy of the finalization to send to others, once, as `broadcast_notarization`.
@@ -169,15 +185,23 @@ impl<S: CertificateScheme, D: Digest> Round<S, D> {
             ≡ once self.old.finalization_broadcast self.old.finalization) }
         ensures facts { OnOk result (self.new ≡ record self.old { finalization_broadcast = self.old.finalization_broadcast || is_some self.old.finalization }) }
     {
-        if self.finalization_broadcast {
-            return Ok(None);
-        }
-        let copy = match &self.finalization {
+        let copy = match self.unsent_finalization() {
             Some(finalization) => finalization.clone(alloc)?,
             None => return Ok(None),
         };
         self.finalization_broadcast = true;
         Ok(Some(copy))
+    }
+
+    /// The finalization, where there is one that was not handed out before.
+    fn unsent_finalization(&self) -> Option<&Finalization<S, D>>
+        ensures { option_map (finalization_facts S.certificate_bytes) (option_copied result)
+            ≡ once self.now.finalization_broadcast self.now.finalization }
+    {
+        if self.finalization_broadcast {
+            return None;
+        }
+        self.finalization.as_ref()
     }
 
     /// The payload that the view's certificate lets later views build on: the finalization's,

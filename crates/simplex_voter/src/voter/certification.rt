@@ -70,17 +70,35 @@ impl<S: CertificateScheme, L: Elector<S>, D: Digest> State<S, L, D> {
         ensures refused { IfErr result (λ fault. fault ≡ OutOfMemory) }
         ensures setup { HasSameSetup self.old self.new }
     {
-        let next = self.after_notarized(view);
         let notarization = self.copy_notarization(view)?;
+        self.follow_verdict(view, success, now, deadlines)?;
+        Ok(notarization)
+    }
+
+    /// Keeps the verdict of a notarized view: it times out, or the next one is entered.
+    fn follow_verdict(
+        &mut self,
+        view: View,
+        success: bool,
+        now: u64,
+        deadlines: &Deadlines,
+    ) -> Result<(), Fault>
+        requires taken { takes_verdict self.old view success ≡ true }
+        requires tracked { is_tracked self.old view ≡ true }
+        requires deadlines { success ≡ true → nat_lt self.old.current (view + 1) ≡ true → deadlines.now ≡ deadlines_at self.old now }
+        ensures taken { OnOk result (self.new ≡ verdict_taken L.elect (at_moment self.old now) view success now) }
+        ensures refused { IfErr result (λ fault. fault ≡ OutOfMemory) }
+        ensures setup { HasSameSetup self.old self.new }
+    {
+        let next = self.after_notarized(view);
         self.note_moment(now);
         self.judge(view, success);
         if !success {
             self.trigger(view, TimeoutReason::FailedCertification, now);
-            return Ok(notarization);
+            return Ok(());
         }
         self.enter(next, now, deadlines)?;
-        self.wake(view)?;
-        Ok(notarization)
+        self.wake(view)
     }
 
     /// The deadlines of the view after a notarized one, which a true verdict may enter; none where one is too late.
