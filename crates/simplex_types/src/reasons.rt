@@ -3,6 +3,9 @@
 ghost use Rattle.std.specs.Prelude.{◌≡◌, codes};
 ghost use Rattle.simplex_types.specs.Reasons.{timeout_reason_text, handoff_abandoned_reason_text, fetch_reason_text, kind_text, ancestry_ask, backfill_ask};
 
+use std::fmt;
+use std::fmt::Write as _;
+
 /// Why a view times out.
 #[derive(Clone, Copy, PartialEq, Eq, Hash, Debug)]
 pub enum TimeoutReason {
@@ -48,6 +51,17 @@ impl TimeoutReason {
     }
 }
 
+impl fmt::Display for TimeoutReason {
+    ghost use Rattle.std.specs.Prelude.{Some};
+    ghost use Rattle.simplex_types.specs.Reasons.{timeout_reason_text};
+
+    ghost output = { λ it. Some (timeout_reason_text it) };
+
+    fn fmt<W: fmt::Write>(&self, f: &mut fmt::Formatter<W>) -> fmt::Result {
+        f.write_str(self.as_str())
+    }
+}
+
 /// Why a proposal that was prepared before its parent was certified is given up.
 ///
 /// The voter's state answers `AncestryInvalidated` and `ParentNullify` alone; the others are for its driver.
@@ -79,6 +93,17 @@ impl HandoffAbandonedReason {
     }
 }
 
+impl fmt::Display for HandoffAbandonedReason {
+    ghost use Rattle.std.specs.Prelude.{Some};
+    ghost use Rattle.simplex_types.specs.Reasons.{handoff_abandoned_reason_text};
+
+    ghost output = { λ it. Some (handoff_abandoned_reason_text it) };
+
+    fn fmt<W: fmt::Write>(&self, f: &mut fmt::Formatter<W>) -> fmt::Result {
+        f.write_str(self.as_str())
+    }
+}
+
 /// Why a certificate is fetched.
 #[derive(Clone, Copy, PartialEq, Eq, Debug)]
 pub enum FetchReason {
@@ -100,6 +125,17 @@ impl FetchReason {
     }
 }
 
+impl fmt::Display for FetchReason {
+    ghost use Rattle.std.specs.Prelude.{Some};
+    ghost use Rattle.simplex_types.specs.Reasons.{fetch_reason_text};
+
+    ghost output = { λ it. Some (fetch_reason_text it) };
+
+    fn fmt<W: fmt::Write>(&self, f: &mut fmt::Formatter<W>) -> fmt::Result {
+        f.write_str(self.as_str())
+    }
+}
+
 /// The kind of certificate that is asked for.
 #[derive(Clone, Copy, PartialEq, Eq, PartialOrd, Ord, Debug)]
 pub enum Kind {
@@ -116,6 +152,17 @@ impl Kind {
             Kind::Nullification => "nullification",
             Kind::Notarization => "notarization",
         }
+    }
+}
+
+impl fmt::Display for Kind {
+    ghost use Rattle.std.specs.Prelude.{Some};
+    ghost use Rattle.simplex_types.specs.Reasons.{kind_text};
+
+    ghost output = { λ it. Some (kind_text it) };
+
+    fn fmt<W: fmt::Write>(&self, f: &mut fmt::Formatter<W>) -> fmt::Result {
+        f.write_str(self.as_str())
     }
 }
 
