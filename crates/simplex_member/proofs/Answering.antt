@@ -15,7 +15,7 @@ use Rattle.simplex_member.specs.Calls.{CallFacts, AddNotarization, AddNullificat
 use Rattle.simplex_member.specs.Lives.{MemberFacts, fallen, IsCall}
 use Rattle.simplex_member.specs.Made.{answer, after_call, openings_after, recorded_by}
 use Rattle.simplex_member.specs.Openings.{Openings, no_openings, is_offered}
-use Rattle.simplex_member.specs.Parts.{is_ready, opens, family_of, IsWant, IsLoss, closing_of, left_open, now_open}
+use Rattle.simplex_member.specs.Parts.{is_ready, is_offer, fills_room, asks_for_work, family_of, IsWant, IsLoss, closing_of, left_open, now_open}
 use Rattle.simplex_member.specs.declared.member.serving.Family.TheVariants as family
 use Rattle.simplex_member.proofs.GoingCalls.{goes}
 
@@ -40,15 +40,28 @@ module _ {K L D : Type 0} (same : D → D → Bool) (elect : Elect L) (x : Facts
   pub call_goes_on : (o : Openings K D) (call : CallFacts D) (y : Facts K L D) → y ≡ after_call same elect x o call → x.failed ≡ false → is_started x ≡ true → (y.failed ≡ false) × (is_started y ≡ true)
   call_goes_on o call y is going started = let g = goes same elect x o call in rw is (g.failed ∙ going, g.started started)
 
-  -- what an answer opens is opened by a call that may find no memory
-  pub opening_loses : (o : Openings K D) (call : CallFacts D) (told : Told K D) → told ≡ answer same elect x o call → opens told ≡ true → (may_want x call ≡ true) × (may_fall call ≡ true) × (recorded_by same elect x call ≡ [])
-  opening_loses o call told is opening = by_call call (ap opens (sym is) ∙ opening)
+  -- offers are answered by a call that may find no memory
+  pub offer_loses : (o : Openings K D) (call : CallFacts D) (told : Told K D) → told ≡ answer same elect x o call → is_offer told ≡ true → (may_want x call ≡ true) × (may_fall call ≡ true) × (recorded_by same elect x call ≡ [])
+  offer_loses o call told is offering = by_call call (ap is_offer (sym is) ∙ offering)
     where
-      by_call : (c : CallFacts D) → opens (answer same elect x o c) ≡ true → (may_want x c ≡ true) × (may_fall c ≡ true) × (recorded_by same elect x c ≡ [])
-      by_call TryPropose h = (refl, refl, refl)
-      by_call TryVerify h = (refl, refl, refl)
+      by_call : (c : CallFacts D) → is_offer (answer same elect x o c) ≡ true → (may_want x c ≡ true) × (may_fall c ≡ true) × (recorded_by same elect x c ≡ [])
       by_call CertifyCandidates h = (refl, refl, refl)
       by_call _ h = absurd (false≢true h)
+
+  -- what fills the room is answered by a call for work
+  pub work_fills : (o : Openings K D) (call : CallFacts D) (told : Told K D) → told ≡ answer same elect x o call → fills_room told ≡ true → asks_for_work call ≡ true
+  work_fills o call told is filling = by_call call (ap fills_room (sym is) ∙ filling)
+    where
+      by_call : (c : CallFacts D) → fills_room (answer same elect x o c) ≡ true → asks_for_work c ≡ true
+      by_call TryPropose h = refl
+      by_call TryVerify h = refl
+      by_call _ h = absurd (false≢true h)
+
+  -- there may be no memory for that room
+  pub work_wants : (call : CallFacts D) → asks_for_work call ≡ true → may_want x call ≡ true
+  work_wants TryPropose h = refl
+  work_wants TryVerify h = refl
+  work_wants _ h = absurd (false≢true h)
 
 module _ {S L D K G C : Type 0} (same : D → D → Bool) (elect : Elect L) (bytes_of : C → List ℕ) (x : Facts K L D) (o : Openings K D) where
   abbrev pub Follows : Call S D K G C → Type 0

@@ -22,3 +22,4 @@ pub mod Typed
 pub mod Voted
 pub mod HandedOut
 pub mod Opening
+pub mod Waiting

@@ -1,12 +1,12 @@
 -- What a call is told is of its kind; where it is an answer, it is by the definitions, and where it is refused, nothing is lost.
-use Rattle.std.proofs.Common.{◌≡◌, ◌⊎◌, refl, ap, sym, ◌∙◌, ℕ, Bool, true, false, cond, List, [], ◌++◌, Option, Some, None, inl, inr}
+use Rattle.std.proofs.Common.{◌≡◌, refl, ap, sym, ◌∙◌, Bool, true, false, cond, [], Option, Some, None, inl, inr}
 use Rattle.std.proofs.lemmas.List.{append-nil}
 use Rattle.simplex_types.specs.declared.types.fault.Fault.{Fault}
 use Rattle.simplex_types.specs.declared.types.fault.Fault.TheVariants as fault
 use Rattle.simplex_voter.specs.Facts.{Facts, Elect}
 use Rattle.simplex_member.specs.Allowed.{is_allowed, fault_of}
 use Rattle.simplex_member.specs.Calls.{CallFacts, AddNotarization, AddNullification, AddFinalization, SetProposal, TryPropose, Proposed, SupersedeProposalRequest, PendingHandoffAbandonment, ReleaseProposalRequest, TryVerify, Verified, VerificationFailed, ConstructNotarize, CertifyCandidates, SetCertifyHandle, Certified, ConstructNullify, ConstructFinalize, BroadcastNotarization, BroadcastNullification, BroadcastFinalization, GetBestCertificate, TriggerTimeout, NextTimeout, Prune, Told, Refused, NotAllowed}
-use Rattle.simplex_member.specs.Lives.{MemberFacts, HasGrown, fallen, with_call, unless_refused, unless_kept, Answers, AnswersAlive, IsCall}
+use Rattle.simplex_member.specs.Lives.{MemberFacts, HasGrown, with_call, unless_refused, unless_kept, Answers, AnswersAlive, IsCall}
 use Rattle.simplex_member.specs.Made.{answer, recorded_by}
 use Rattle.simplex_member.specs.Openings.{Openings}
 use Rattle.simplex_member.specs.Typed.{is_reply_to, IfAnswered, IfRefused, IsAnswered, Keeps}

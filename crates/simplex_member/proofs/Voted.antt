@@ -1,5 +1,5 @@
 -- A vote that is answered is decided: its kind is answered once in a view, and what contradicts it never.
-use Rattle.std.proofs.Common.{◌≡◌, ℕ, Bool, true, false, cond, not, ◌&&◌, Option, Some, None, refl, sym, subst, ap, ◌∙◌}
+use Rattle.std.proofs.Common.{◌≡◌, ℕ, Bool, true, false, cond, ◌&&◌, Option, Some, None, refl, sym, subst, ap, ◌∙◌}
 use Rattle.std.specs.Prelude.{is_some, option_map, option_and_then, IfSome, IsNone}
 use Rattle.std.proofs.lemmas.Bool.{false_from_ne_true, false≢true}
 use Rattle.simplex_types.specs.Certificates.{ArtifactFacts, NotarizeVote, NullifyVote, FinalizeVote}
@@ -9,7 +9,7 @@ use Rattle.simplex_round.specs.declared.round.Decision.TheVariants as decision
 use Rattle.simplex_round.specs.Round.{RoundFacts, after_nullify, is_pending, is_nullify, is_finalize, can_notarize}
 use Rattle.simplex_voter.specs.Facts.{Facts, Elect, round_of, round_number, with_round}
 use Rattle.simplex_voter.specs.Rules.{may_notarize, may_nullify, may_finalize}
-use Rattle.simplex_voter.specs.Votes.{nullify_cast, notarize_cast, finalize_cast, after_construct_nullify, after_construct_notarize, after_construct_finalize}
+use Rattle.simplex_voter.specs.Votes.{nullify_cast, notarize_cast, after_construct_nullify, after_construct_notarize, after_construct_finalize}
 use Rattle.simplex_voter.proofs.Rules.{nullify_parts, notarize_round, finalize_parts}
 use Rattle.simplex_voter.proofs.Proposals.{round_of-prepared}
 use Rattle.simplex_member.specs.Calls.{ConstructNotarize, ConstructNullify, ConstructFinalize, Told, Notarize, Nullify, Finalize}

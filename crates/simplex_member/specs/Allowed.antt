@@ -8,7 +8,7 @@ use Rattle.simplex_voter.specs.Certification.{takes_verdict, takes_certify_handl
 use Rattle.simplex_voter.specs.Serving.{broadcast_notarization_answer, broadcast_nullification_answer, broadcast_finalization_answer}
 use Rattle.simplex_voter.specs.Timeouts.{has_timeout, next_timeout_refusal}
 use Rattle.simplex_voter.specs.Verifying.{takes_proposal}
-use Rattle.simplex_member.specs.Calls.{CallFacts, AddNotarization, AddNullification, AddFinalization, SetProposal, Proposed, SupersedeProposalRequest, PendingHandoffAbandonment, ReleaseProposalRequest, Verified, VerificationFailed, SetCertifyHandle, Certified, BroadcastNotarization, BroadcastNullification, BroadcastFinalization, GetBestCertificate, TriggerTimeout, NextTimeout}
+use Rattle.simplex_member.specs.Calls.{CallFacts, AddNotarization, AddNullification, AddFinalization, SetProposal, TryPropose, Proposed, SupersedeProposalRequest, PendingHandoffAbandonment, ReleaseProposalRequest, TryVerify, Verified, VerificationFailed, SetCertifyHandle, Certified, BroadcastNotarization, BroadcastNullification, BroadcastFinalization, GetBestCertificate, TriggerTimeout, NextTimeout}
 use Rattle.simplex_member.specs.Openings.{Openings, context_at, is_verifying, is_offered}
 
 module _ {K L D : Type 0} where
@@ -56,7 +56,10 @@ module _ {K L D : Type 0} where
   may_want x (NextTimeout _) = false
   may_want x _ = true
 
--- the state may be lost where memory is wanted: it never is by what it only shows
+-- the state may be lost where memory is wanted: it never is by what it only shows, nor by a call for work, since there is room
+-- for what that opens before it is made
 abbrev pub may_fall : {D : Type 0} → CallFacts D → Bool
+may_fall TryPropose = false
+may_fall TryVerify = false
 may_fall GetBestCertificate = false
 may_fall _ = true

@@ -1,5 +1,5 @@
 -- What is asked of a member and what it answers, as plain data.
-use Rattle.std.specs.Prelude.{ℕ, Bool, List, Option, Some, None, option_map}
+use Rattle.std.specs.Prelude.{ℕ, Bool, List, Option, Some, option_map}
 use Rattle.simplex_types.specs.Certificates.{ProposalFacts, NullificationFacts, CertificateFacts, ArtifactFacts, NotarizeVote, NullifyVote, FinalizeVote, notarization_facts, nullification_facts, finalization_facts, certificate_facts}
 use Rattle.simplex_types.specs.declared.types.fault.Fault.{Fault}
 use Rattle.simplex_types.specs.declared.types.messages.Nullify as vote

@@ -7,6 +7,7 @@ pub mod Recovery
 pub mod Calls
 pub mod Allowed
 pub mod Signed
+pub mod Waiting
 pub mod Openings
 pub mod Made
 pub mod Lives

@@ -1,5 +1,5 @@
 -- What a member has open of its state's answers: it is kept beside the state, and each life begins with nothing open.
-use Rattle.std.specs.Prelude.{ℕ, Bool, ◌==◌, not, List, [], filter, Option, Some, None}
+use Rattle.std.specs.Prelude.{ℕ, Bool, ◌==◌, not, List, [], map, filter, Option, Some, None}
 use Rattle.std.specs.BTreeSet.{insert_key}
 use Rattle.std.specs.FinMap.Entries.{find, put}
 use Rattle.std.specs.List.{fold, list_any}
@@ -18,6 +18,15 @@ pub record Openings (K D : Type 0) : Type 0 where
   pub verifying : List ℕ
   -- the views whose proposal was offered for certification, and that have no verdict yet, rising
   pub offered : List ℕ
+
+abbrev pub views_of : {V : Type 0} → List (ℕ × V) → List ℕ
+views_of entries = map (λ e. e.0) entries
+
+-- what is open, as a member keeps it
+pub record KeptOpenings (K D : Type 0) : Type 0 where
+  pub open_now : Openings K D
+  -- a request and a verification more are opened without memory
+  pub has_room : Bool
 
 abbrev pub no_openings : {K D : Type 0} → Openings K D
 no_openings = record { contexts = []; verifying = []; offered = [] }

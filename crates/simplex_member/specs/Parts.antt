@@ -9,7 +9,7 @@ use Rattle.simplex_voter.specs.Certification.{takes_verdict, takes_certify_handl
 use Rattle.simplex_voter.specs.Timeouts.{has_timeout}
 use Rattle.simplex_voter.specs.Verifying.{takes_proposal}
 use Rattle.simplex_member.specs.Allowed.{fault_of, may_fall, may_want}
-use Rattle.simplex_member.specs.Calls.{CallFacts, AddNotarization, AddNullification, AddFinalization, SetProposal, SetCertifyHandle, Certified, NextTimeout, Told, Answered, Requested, Standing, Candidates}
+use Rattle.simplex_member.specs.Calls.{CallFacts, AddNotarization, AddNullification, AddFinalization, SetProposal, TryPropose, TryVerify, SetCertifyHandle, Certified, NextTimeout, Told, Answered, Requested, Standing, Candidates}
 use Rattle.simplex_member.specs.Openings.{Openings, without_context, with_request, without_verification, with_verification, without_offer, with_offers}
 use Rattle.simplex_member.specs.declared.member.calls.Call.{Call}
 use Rattle.simplex_member.specs.declared.member.calls.Call.TheVariants as call
@@ -99,6 +99,12 @@ module _ {S D K G C : Type 0} where
   closing_of (call.VerificationFailed v _ _) = closing.Verification v
   closing_of _ = closing.Nothing
 
+-- a call for work, which opens what it is told: room for that is made before
+abbrev pub asks_for_work : {D : Type 0} → CallFacts D → Bool
+asks_for_work TryPropose = true
+asks_for_work TryVerify = true
+asks_for_work _ = false
+
 module _ {K D : Type 0} where
   -- what is left open by what a call closes, with what it was told
   abbrev pub left_open : Openings K D → Closing → Told K D → Openings K D
@@ -109,12 +115,16 @@ module _ {K D : Type 0} where
   left_open o (closing.Verification v) told = without_verification o v
   left_open o closing.Nothing told = o
 
-  -- an answer opens something, or may
-  abbrev pub opens : Told K D → Bool
-  opens (Requested request) = true
-  opens (Standing verify) = true
-  opens (Candidates proposals fetches) = true
-  opens _ = false
+  -- an answer opens a request or a verification, for which there is room
+  abbrev pub fills_room : Told K D → Bool
+  fills_room (Requested request) = true
+  fills_room (Standing verify) = true
+  fills_room _ = false
+
+  -- an answer opens offers, for which memory may be wanted
+  abbrev pub is_offer : Told K D → Bool
+  is_offer (Candidates proposals fetches) = true
+  is_offer _ = false
 
   -- what an answer opens
   abbrev pub now_open : Openings K D → Told K D → Openings K D

@@ -1,6 +1,5 @@
 -- What a call of its own type gives: an answer of its kind, or why there is none.
 use Rattle.std.specs.Prelude.{◌≡◌, ◌⊎◌, ℕ, Bool, true, false, Option, Some, None, IfSome, Result, Ok, Err}
-use Rattle.simplex_types.specs.declared.types.fault.Fault.{Fault}
 use Rattle.simplex_types.specs.declared.types.fault.Fault.TheVariants as fault
 use Rattle.simplex_round.specs.Round.{is_nullify, is_finalize}
 use Rattle.simplex_voter.specs.Facts.{Facts, Elect, round_of}

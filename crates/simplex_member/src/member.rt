@@ -25,6 +25,7 @@ mod start;
 mod timing;
 mod verifying;
 mod votes;
+mod waiting;
 
 pub use calls::{Call, Reply};
 pub use check::check_record;

@@ -1,5 +1,5 @@
--- The texts of reasons and kinds, and the two asks.
-use Rattle.std.specs.Prelude.{ℕ, List, codes}
+-- The texts of reasons, kinds and asks, and the two asks.
+use Rattle.std.specs.Prelude.{ℕ, List, ◌++◌, codes}
 use Rattle.simplex_types.specs.declared.reasons.TimeoutReason.{TimeoutReason}
 use Rattle.simplex_types.specs.declared.reasons.TimeoutReason.TheVariants as timeout
 use Rattle.simplex_types.specs.declared.reasons.HandoffAbandonedReason.{HandoffAbandonedReason}
@@ -8,6 +8,7 @@ use Rattle.simplex_types.specs.declared.reasons.FetchReason.{FetchReason}
 use Rattle.simplex_types.specs.declared.reasons.FetchReason.TheVariants as fetch
 use Rattle.simplex_types.specs.declared.reasons.Kind.{Kind}
 use Rattle.simplex_types.specs.declared.reasons.Kind.TheVariants as kind
+use Rattle.simplex_types.specs.declared.reasons.Until.{Until}
 use Rattle.simplex_types.specs.declared.reasons.Until.TheVariants as until
 use Rattle.simplex_types.specs.declared.reasons.Ask.{Ask}
 
@@ -39,6 +40,14 @@ fetch_reason_text fetch.CertificationFailed = codes "certification_failed"
 abbrev pub kind_text : Kind → List ℕ
 kind_text kind.Nullification = codes "nullification"
 kind_text kind.Notarization = codes "notarization"
+
+abbrev pub until_text : Until → List ℕ
+until_text until.Floor = codes "floor"
+until_text until.Finalization = codes "finalization"
+
+-- what is asked for, and what ends the ask
+abbrev pub ask_text : Ask → List ℕ
+ask_text ask = kind_text ask.kind ++ codes " until " ++ until_text ask.until
 
 -- a nullification, until the floor has passed
 abbrev pub backfill_ask : Ask

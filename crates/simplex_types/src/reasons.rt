@@ -1,7 +1,7 @@
 //! Why views time out, handoffs are abandoned and certificates are fetched, and what is asked of peers.
 
 ghost use Rattle.std.specs.Prelude.{◌≡◌, codes};
-ghost use Rattle.simplex_types.specs.Reasons.{timeout_reason_text, handoff_abandoned_reason_text, fetch_reason_text, kind_text, ancestry_ask, backfill_ask};
+ghost use Rattle.simplex_types.specs.Reasons.{timeout_reason_text, handoff_abandoned_reason_text, fetch_reason_text, kind_text, until_text, ancestry_ask, backfill_ask};
 
 use std::fmt;
 use std::fmt::Write as _;
@@ -175,6 +175,29 @@ pub enum Until {
     Finalization,
 }
 
+impl Until {
+    /// What ends the ask, in lower case.
+    pub fn as_str(self) -> &'static str
+        ensures { result.now ≡ until_text self }
+    {
+        match self {
+            Until::Floor => "floor",
+            Until::Finalization => "finalization",
+        }
+    }
+}
+
+impl fmt::Display for Until {
+    ghost use Rattle.std.specs.Prelude.{Some};
+    ghost use Rattle.simplex_types.specs.Reasons.{until_text};
+
+    ghost output = { λ it. Some (until_text it) };
+
+    fn fmt<W: fmt::Write>(&self, f: &mut fmt::Formatter<W>) -> fmt::Result {
+        f.write_str(self.as_str())
+    }
+}
+
 /// What is asked of a peer, and until when.
 #[derive(Clone, Copy, PartialEq, Eq, PartialOrd, Ord, Debug)]
 pub struct Ask {
@@ -201,5 +224,16 @@ impl Ask {
             kind,
             until: Until::Finalization,
         }
+    }
+}
+
+impl fmt::Display for Ask {
+    ghost use Rattle.std.specs.Prelude.{Some};
+    ghost use Rattle.simplex_types.specs.Reasons.{ask_text};
+
+    ghost output = { λ it. Some (ask_text it) };
+
+    fn fmt<W: fmt::Write>(&self, f: &mut fmt::Formatter<W>) -> fmt::Result {
+        write!(f, "{} until {}", self.kind, self.until)
     }
 }

@@ -11,7 +11,7 @@ use Rattle.simplex_types.specs.Tracked.{at_or_above}
 use Rattle.simplex_types.proofs.Maps.{entries-retain_keys}
 
 module _ {R : Type 0} where
-  keys-put : (es : List (ℕ × R)) (v : ℕ) (r : R) → map (λ e. e.0) (put nat_cmp v r es) ≡ insert_key nat_cmp (map (λ e. e.0) es) v
+  pub keys-put : (es : List (ℕ × R)) (v : ℕ) (r : R) → map (λ e. e.0) (put nat_cmp v r es) ≡ insert_key nat_cmp (map (λ e. e.0) es) v
   keys-put [] v r = refl
   keys-put (e ∷ es) v r = elim (nat_cmp v e.0) as (λ o. map (λ (f : ℕ × R). f.0) (by_order o ((v, r) ∷ e ∷ es) ((e.0, r) ∷ es) (e ∷ put nat_cmp v r es)) ≡ match_ordering o (v ∷ e.0 ∷ map (λ f. f.0) es) (e.0 ∷ map (λ f. f.0) es) (e.0 ∷ insert_key nat_cmp (map (λ f. f.0) es) v)) [
     | Less ↦ refl

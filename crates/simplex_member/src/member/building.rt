@@ -25,13 +25,13 @@ pub(super) fn build<S: CertificateScheme, L: Elector<S>, D: Digest>(
 ) -> Result<Reply<S, D>, CallError>
     requires going_on { state.old.failed ≡ false }
     requires begun { is_started state.old ≡ true }
-    requires allowed { is_allowed state.old openings.now (asked S.certificate_bytes call) ≡ true }
+    requires allowed { is_allowed state.old openings.now.open_now (asked S.certificate_bytes call) ≡ true }
     requires family { family_of call ≡ Proposals }
     ensures due { OnOk result (fault_of state.old (asked S.certificate_bytes call) ≡ None) }
     ensures answer { IfOk result (λ reply. told S.certificate_bytes reply
-        ≡ answer D.eq L.elect state.old openings.now (asked S.certificate_bytes call)) }
+        ≡ answer D.eq L.elect state.old openings.now.open_now (asked S.certificate_bytes call)) }
     ensures unsigned { IfOk result (λ reply. is_vote_reply reply ≡ false) }
-    ensures after { OnOk result (state.new ≡ after_call D.eq L.elect state.old openings.now (asked S.certificate_bytes call)) }
+    ensures after { OnOk result (state.new ≡ after_call D.eq L.elect state.old openings.now.open_now (asked S.certificate_bytes call)) }
     ensures unrecorded { recorded_by D.eq L.elect state.old (asked S.certificate_bytes call) ≡ [] }
     ensures refused { IfErr result (EndsCall (asked S.certificate_bytes call) state.old state.new) }
 {
@@ -74,8 +74,8 @@ pub(super) fn build<S: CertificateScheme, L: Elector<S>, D: Digest>(
 
 /// The context that is open in a view.
 fn context_of<D: Digest, P: Copy>(openings: &Openings<D, P>, view: View) -> &Context<D, P>
-    requires { is_some (context_at openings.now view) ≡ true }
-    ensures { Some result.now ≡ context_at openings.now view }
+    requires { is_some (context_at openings.now.open_now view) ≡ true }
+    ensures { Some result.now ≡ context_at openings.now.open_now view }
 {
     match openings.context(view) {
         Some(context) => context,

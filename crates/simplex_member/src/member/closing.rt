@@ -2,8 +2,8 @@
 
 ghost use Rattle.std.specs.Prelude.{◌≡◌, true, OnOk, IfErr};
 ghost use Rattle.simplex_types.specs.declared.types.fault.Fault.TheVariants.{OutOfMemory};
-ghost use Rattle.simplex_member.specs.Calls.{told};
-ghost use Rattle.simplex_member.specs.Parts.{closing_of, left_open, opens, now_open};
+ghost use Rattle.simplex_member.specs.Calls.{told, asked};
+ghost use Rattle.simplex_member.specs.Parts.{closing_of, left_open, fills_room, is_offer, asks_for_work, now_open};
 
 use super::calls::{Call, Reply};
 use super::openings::Openings;
@@ -39,15 +39,31 @@ impl Closing {
     }
 }
 
+/// Makes room for what a call opens, before it is made.
+pub(super) fn make_room<S: CertificateScheme, D: Digest>(
+    openings: &mut Openings<D, S::PublicKey>,
+    call: &Call<S, D>,
+) -> Result<(), Fault>
+    ensures same { openings.new.open_now ≡ openings.old.open_now }
+    ensures room { OnOk result (asks_for_work (asked S.certificate_bytes call.now) ≡ true → openings.new.has_room ≡ true) }
+    ensures refused { IfErr result (λ fault. (fault ≡ OutOfMemory) × (asks_for_work (asked S.certificate_bytes call.now) ≡ true)) }
+{
+    match call {
+        Call::TryPropose | Call::TryVerify => openings.make_room(),
+        _ => Ok(()),
+    }
+}
+
 /// Closes what an answered call closes, and opens what its answer opens.
 pub(super) fn follow<S: CertificateScheme, D: Digest>(
     openings: &mut Openings<D, S::PublicKey>,
     closing: Closing,
     reply: &Reply<S, D>,
 ) -> Result<(), Fault>
-    ensures followed { OnOk result (openings.new
-        ≡ now_open (left_open openings.old closing (told S.certificate_bytes reply.now)) (told S.certificate_bytes reply.now)) }
-    ensures refused { IfErr result (λ fault. (fault ≡ OutOfMemory) × (opens (told S.certificate_bytes reply.now) ≡ true)) }
+    requires room { fills_room (told S.certificate_bytes reply.now) ≡ true → openings.old.has_room ≡ true }
+    ensures followed { OnOk result (openings.new.open_now
+        ≡ now_open (left_open openings.old.open_now closing (told S.certificate_bytes reply.now)) (told S.certificate_bytes reply.now)) }
+    ensures refused { IfErr result (λ fault. (fault ≡ OutOfMemory) × (is_offer (told S.certificate_bytes reply.now) ≡ true)) }
 {
     close(openings, closing, reply);
     open(openings, reply)
@@ -59,7 +75,8 @@ fn close<S: CertificateScheme, D: Digest>(
     closing: Closing,
     reply: &Reply<S, D>,
 )
-    ensures { openings.new ≡ left_open openings.old closing (told S.certificate_bytes reply.now) }
+    ensures closed { openings.new.open_now ≡ left_open openings.old.open_now closing (told S.certificate_bytes reply.now) }
+    ensures room { openings.old.has_room ≡ true → openings.new.has_room ≡ true }
 {
     match closing {
         Closing::Nothing => {}
@@ -79,13 +96,15 @@ fn open<S: CertificateScheme, D: Digest>(
     openings: &mut Openings<D, S::PublicKey>,
     reply: &Reply<S, D>,
 ) -> Result<(), Fault>
-    ensures opened { OnOk result (openings.new ≡ now_open openings.old (told S.certificate_bytes reply.now)) }
-    ensures refused { IfErr result (λ fault. (fault ≡ OutOfMemory) × (opens (told S.certificate_bytes reply.now) ≡ true)) }
+    requires room { fills_room (told S.certificate_bytes reply.now) ≡ true → openings.old.has_room ≡ true }
+    ensures opened { OnOk result (openings.new.open_now ≡ now_open openings.old.open_now (told S.certificate_bytes reply.now)) }
+    ensures refused { IfErr result (λ fault. (fault ≡ OutOfMemory) × (is_offer (told S.certificate_bytes reply.now) ≡ true)) }
 {
     match reply {
         Reply::Request(request) => openings.open_request(request),
         Reply::Work(verify) => openings.open_verification(verify),
-        Reply::Candidates(proposals, _) => openings.open_offers(proposals),
-        _ => Ok(()),
+        Reply::Candidates(proposals, _) => openings.open_offers(proposals)?,
+        _ => {}
     }
+    Ok(())
 }

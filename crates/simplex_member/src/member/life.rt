@@ -5,7 +5,7 @@ ghost use Rattle.std.specs.Option.{option_copied};
 
 use super::call_error::CallError;
 use super::calls::{Call, Reply};
-use super::closing::{Closing, follow};
+use super::closing::{Closing, follow, make_room};
 use super::error::RecoverError;
 use super::openings::Openings;
 use super::restart::keep_finalization;
@@ -49,7 +49,7 @@ impl<S: CertificateScheme, L: Elector<S>, D: Digest> Model for Member<S, L, D> {
 
     ghost view = { λ m. record {
       life = living m.failed m.state;
-      openings = open_while m.failed m.openings;
+      openings = open_while m.failed m.openings.open_now;
       entries = entries_of S.certificate_bytes m.artifacts.items;
       closed = m.closed;
       is_pruned = m.is_pruned;
@@ -160,6 +160,9 @@ impl<S: CertificateScheme, L: Elector<S>, D: Digest> Member<S, L, D> {
         }
         if !is_allowed(&self.state, &self.openings, &call) {
             return Reply::NotAllowed;
+        }
+        if let Err(fault) = make_room(&mut self.openings, &call) {
+            return Reply::Fault(fault);
         }
         self.failed = true;
         let closing = Closing::of(&call);

@@ -1,10 +1,11 @@
 //! What a member has open of its state's answers.
 
-ghost use Rattle.std.specs.Prelude.{◌≡◌, OnOk, IfErr, is_some};
+ghost use Rattle.std.specs.Prelude.{◌≡◌, true, OnOk, IfErr, is_some};
 ghost use Rattle.std.specs.Option.{option_copied};
 ghost use Rattle.std.specs.FinMap as map;
 ghost use Rattle.simplex_types.specs.declared.types.fault.Fault.TheVariants.{OutOfMemory};
 
+use super::waiting::Waiting;
 use simplex_types::sorted::Tracked;
 use simplex_types::types::{Context, Digest, Fault, Proposal, View, Viewable};
 use simplex_voter::voter::{ProposalRequest, Verify};
@@ -14,18 +15,22 @@ use std::marker::Model;
 /// The requests, verifications and offers of a life that wait for their answer, by view.
 #[derive(Drop)]
 pub struct Openings<D: Digest, P: Copy> {
-    contexts: Tracked<Context<D, P>>,
-    verifying: Tracked<()>,
+    contexts: Waiting<Context<D, P>>,
+    verifying: Waiting<()>,
     offered: Tracked<()>,
 }
 
 impl<D: Digest, P: Copy> Model for Openings<D, P> {
-    ghost use Rattle.simplex_member.specs.Openings.{Openings as Open};
+    ghost use Rattle.std.specs.Prelude.{◌&&◌};
     ghost use Rattle.std.specs.FinMap as map;
+    ghost use Rattle.simplex_member.specs.Openings.{KeptOpenings, views_of};
 
-    ghost Value = { Open P D };
+    ghost Value = { KeptOpenings P D };
 
-    ghost view = { λ o. record { contexts = map.entries o.contexts; verifying = map.keys o.verifying; offered = map.keys o.offered } };
+    ghost view = { λ o. record {
+      open_now = record { contexts = o.contexts.entries; verifying = views_of o.verifying.entries; offered = map.keys o.offered };
+      has_room = o.contexts.has_room && o.verifying.has_room;
+    } };
 }
 
 impl<D: Digest, P: Copy> Openings<D, P> {
@@ -34,109 +39,107 @@ impl<D: Digest, P: Copy> Openings<D, P> {
     ghost use Rattle.simplex_member.specs.Openings.{is_offered, without_offer, with_offers};
 
     pub fn new(alloc: Global) -> Self
-        ensures { result ≡ no_openings }
+        ensures { result.open_now ≡ no_openings }
     {
         Openings {
-            contexts: Tracked::new(alloc),
-            verifying: Tracked::new(alloc),
+            contexts: Waiting::new(alloc),
+            verifying: Waiting::new(alloc),
             offered: Tracked::new(alloc),
         }
     }
 
+    /// Makes room for a request and a verification more. Where there is no memory, what is open stays as it is.
+    pub fn make_room(&mut self) -> Result<(), Fault>
+        ensures same { self.new.open_now ≡ self.old.open_now }
+        ensures room { OnOk result (self.new.has_room ≡ true) }
+        ensures refused { IfErr result (λ fault. fault ≡ OutOfMemory) }
+    {
+        self.contexts.make_room()?;
+        self.verifying.make_room()
+    }
+
     /// What the request to build in a view was made with.
     pub fn context(&self, view: View) -> Option<&Context<D, P>>
-        ensures { option_copied result ≡ context_at self.now view }
+        ensures { option_copied result ≡ context_at self.now.open_now view }
     {
         self.contexts.get(view)
     }
 
     pub fn has_context(&self, view: View) -> bool
-        ensures { result ≡ is_some (context_at self.now view) }
+        ensures { result ≡ is_some (context_at self.now.open_now view) }
     {
         self.context(view).is_some()
     }
 
     /// A request to build replaces an earlier one in its view.
-    pub fn open_request(&mut self, request: &Option<ProposalRequest<D, P>>) -> Result<(), Fault>
-        ensures opened { OnOk result (self.new ≡ with_request self.old request.now) }
-        ensures refused { IfErr result (λ fault. fault ≡ OutOfMemory) }
+    pub fn open_request(&mut self, request: &Option<ProposalRequest<D, P>>)
+        requires { self.old.has_room ≡ true }
+        ensures { self.new.open_now ≡ with_request self.old.open_now request.now }
     {
-        match request {
-            Some(request) => self.open_context(*request.context()),
-            None => Ok(()),
+        if let Some(request) = request {
+            self.open_context(*request.context());
         }
     }
 
-    fn open_context(&mut self, context: Context<D, P>) -> Result<(), Fault>
-        ensures opened { OnOk result (self.new ≡ with_context self.old context) }
-        ensures refused { IfErr result (λ fault. fault ≡ OutOfMemory) }
+    fn open_context(&mut self, context: Context<D, P>)
+        requires { self.old.has_room ≡ true }
+        ensures { self.new.open_now ≡ with_context self.old.open_now context }
     {
         let view = context.view();
-        put(&mut self.contexts, view, context)
+        self.contexts.put(view, context);
     }
 
     pub fn close_context(&mut self, view: View)
-        ensures { self.new ≡ without_context self.old view }
+        ensures closed { self.new.open_now ≡ without_context self.old.open_now view }
+        ensures room { self.old.has_room ≡ true → self.new.has_room ≡ true }
     {
         self.contexts.remove(view);
     }
 
     pub fn is_verifying(&self, view: View) -> bool
-        ensures { result ≡ is_verifying self.now view }
+        ensures { result ≡ is_verifying self.now.open_now view }
     {
         self.verifying.get(view).is_some()
     }
 
     /// A proposal that is handed out waits for its answer.
-    pub fn open_verification(&mut self, verify: &Verify<D, P>) -> Result<(), Fault>
-        ensures opened { OnOk result (self.new ≡ with_verification self.old verify.now) }
-        ensures refused { IfErr result (λ fault. fault ≡ OutOfMemory) }
+    pub fn open_verification(&mut self, verify: &Verify<D, P>)
+        requires { self.old.has_room ≡ true }
+        ensures { self.new.open_now ≡ with_verification self.old.open_now verify.now }
     {
-        match verify {
-            Verify::Ready(_, proposal) => put(&mut self.verifying, proposal.round.view, ()),
-            _ => Ok(()),
+        if let Verify::Ready(_, proposal) = verify {
+            self.verifying.put(proposal.round.view, ());
         }
     }
 
     pub fn close_verification(&mut self, view: View)
-        ensures { self.new ≡ without_verification self.old view }
+        ensures closed { self.new.open_now ≡ without_verification self.old.open_now view }
+        ensures room { self.old.has_room ≡ true → self.new.has_room ≡ true }
     {
         self.verifying.remove(view);
     }
 
     pub fn is_offered(&self, view: View) -> bool
-        ensures { result ≡ is_offered self.now view }
+        ensures { result ≡ is_offered self.now.open_now view }
     {
         self.offered.get(view).is_some()
     }
 
     /// Each proposal that is offered waits for its verdict.
     pub fn open_offers(&mut self, proposals: &[Proposal<D>]) -> Result<(), Fault>
-        ensures opened { OnOk result (self.new ≡ with_offers self.old proposals.now) }
+        ensures opened { OnOk result (self.new.open_now ≡ with_offers self.old.open_now proposals.now) }
         ensures refused { IfErr result (λ fault. fault ≡ OutOfMemory) }
     {
         for proposal in proposals {
-            put(&mut self.offered, proposal.round.view, ())?;
+            self.offered.insert(proposal.round.view, ())?;
         }
         Ok(())
     }
 
     pub fn close_offer(&mut self, view: View)
-        ensures { self.new ≡ without_offer self.old view }
+        ensures closed { self.new.open_now ≡ without_offer self.old.open_now view }
+        ensures room { self.old.has_room ≡ true → self.new.has_room ≡ true }
     {
         self.offered.remove(view);
     }
-}
-
-/// Sets the value of a view, which may have one.
-fn put<V: Drop>(values: &mut Tracked<V>, view: View, value: V) -> Result<(), Fault>
-    ensures set { OnOk result (values.new ≡ map.insert values.old view value) }
-    ensures refused { IfErr result (λ fault. fault ≡ OutOfMemory) }
-{
-    if let Some(standing) = values.get_mut(view) {
-        *standing = value;
-        return Ok(());
-    }
-    values.insert(view, value)?;
-    Ok(())
 }

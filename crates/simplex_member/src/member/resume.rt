@@ -46,6 +46,17 @@ pub struct NotResumed<S: CertificateScheme, D: Digest> {
     pub entries: Vec<Artifact<S, D>>,
 }
 
+impl<S: CertificateScheme, D: Digest> fmt::Display for NotResumed<S, D> {
+    ghost use Rattle.std.specs.Prelude.{Some};
+    ghost use Rattle.simplex_member.specs.Errors.{resume_error_name};
+
+    ghost output = { λ it. Some (resume_error_name it.error) };
+
+    fn fmt<W: fmt::Write>(&self, f: &mut fmt::Formatter<W>) -> fmt::Result {
+        write!(f, "{}", self.error)
+    }
+}
+
 impl Stored {
     ghost use Rattle.simplex_member.specs.Entries.{entries_of};
     ghost use Rattle.simplex_member.specs.Journal.{has_lost};

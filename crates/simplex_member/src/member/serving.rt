@@ -73,7 +73,7 @@ pub(super) fn is_allowed<S: CertificateScheme, L: Elector<S>, D: Digest>(
     openings: &Openings<D, S::PublicKey>,
     call: &Call<S, D>,
 ) -> bool
-    ensures { result ≡ is_allowed state.now openings.now (asked S.certificate_bytes call.now) }
+    ensures { result ≡ is_allowed state.now openings.now.open_now (asked S.certificate_bytes call.now) }
 {
     match call {
         Call::AddNotarization(notarization) => state.takes_round(&notarization.proposal.round),
@@ -103,12 +103,12 @@ pub(super) fn serve<S: Scheme<D>, L: Elector<S>, D: Digest>(
 ) -> Result<Reply<S, D>, CallError>
     requires going_on { state.old.failed ≡ false }
     requires begun { is_started state.old ≡ true }
-    requires allowed { is_allowed state.old openings.now (asked S.certificate_bytes call) ≡ true }
+    requires allowed { is_allowed state.old openings.now.open_now (asked S.certificate_bytes call) ≡ true }
     ensures due { OnOk result (fault_of state.old (asked S.certificate_bytes call) ≡ None) }
     ensures answer { IfOk result (λ reply. told S.certificate_bytes reply
-        ≡ answer D.eq L.elect state.old openings.now (asked S.certificate_bytes call)) }
+        ≡ answer D.eq L.elect state.old openings.now.open_now (asked S.certificate_bytes call)) }
     ensures signed { IfOk result (λ reply. IsSignedReply S.IsSignature reply state.old) }
-    ensures after { OnOk result (state.new ≡ after_call D.eq L.elect state.old openings.now (asked S.certificate_bytes call)) }
+    ensures after { OnOk result (state.new ≡ after_call D.eq L.elect state.old openings.now.open_now (asked S.certificate_bytes call)) }
     ensures recorded { OnOk result (entries_of S.certificate_bytes artifacts.new.items
         ≡ entries_of S.certificate_bytes artifacts.old.items ++ recorded_by D.eq L.elect state.old (asked S.certificate_bytes call)) }
     ensures refused { IfErr result (EndsCall (asked S.certificate_bytes call) state.old state.new) }

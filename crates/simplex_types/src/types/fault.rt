@@ -55,6 +55,20 @@ pub struct AllocFailed<V> {
     pub value: V,
 }
 
+impl<V> fmt::Display for AllocFailed<V> {
+    ghost use Rattle.std.specs.Prelude.{Some};
+    ghost use Rattle.simplex_types.specs.Fault.{fault_name};
+    ghost use Rattle.simplex_types.specs.declared.types.fault.Fault.TheVariants.{OutOfMemory};
+
+    ghost output = { λ _. Some (fault_name OutOfMemory) };
+
+    fn fmt<W: fmt::Write>(&self, f: &mut fmt::Formatter<W>) -> fmt::Result {
+        write!(f, "OutOfMemory")
+    }
+}
+
+impl<V: fmt::Debug + Drop> Error for AllocFailed<V> {}
+
 impl<V: Drop> From<AllocFailed<V>> for Fault {
     ghost use Rattle.std.specs.Prelude.{◌≡◌};
     ghost use Rattle.simplex_types.specs.declared.types.fault.Fault.TheVariants.{OutOfMemory};

@@ -18,7 +18,7 @@ impl<S: Scheme<D>, L: Elector<S>, D: Digest> Member<S, L, D> {
     /// What this member is to build next, if anything. A request is open in its view until `proposed`, a true
     /// `supersede_proposal_request`, `release_proposal_request`, or another request there.
     ///
-    /// `OutOfMemory`.
+    /// `OutOfMemory`, with nothing changed: room for the request is made before the state is asked.
     pub fn try_propose(&mut self) -> Result<Option<ProposalRequest<D, S::PublicKey>>, Refusal>
         ensures made { IsCall D.eq L.elect self.old TryPropose (told_of (λ request. Requested request) result) self.new }
         ensures answered { IfOk result (λ request. IsAnswered D.eq L.elect self.old TryPropose (Requested request) self.new) }

@@ -36,7 +36,7 @@ impl<S: Scheme<D>, L: Elector<S>, D: Digest> Member<S, L, D> {
     /// What comes next in verifying the proposals of other leaders: a proposal, a certificate that is missing, or nothing. A
     /// proposal is open until `verified` or `verification_failed`.
     ///
-    /// `OutOfMemory`.
+    /// `OutOfMemory`, with nothing changed: room for the verification is made before the state is asked.
     pub fn try_verify(&mut self) -> Result<Verify<D, S::PublicKey>, Refusal>
         ensures made { IsCall D.eq L.elect self.old TryVerify (told_of (λ verify. Standing verify) result) self.new }
         ensures answered { IfOk result (λ verify. IsAnswered D.eq L.elect self.old TryVerify (Standing verify) self.new) }

@@ -1,8 +1,6 @@
 use Rattle.std.proofs.Common.{refl}
-use Rattle.simplex_voter.proofs.Containers.{keys-insert}
-use Rattle.simplex_member.proofs.Opening.{where_ok}
+use Rattle.simplex_voter.proofs.Containers.{keys-put}
 use Rattle.simplex_member.proofs.member.openings.Openings.open_verification.Goals as goal
 
-pub returns-in-Ready-clause-opened : goal.returns-in-Ready-clause-opened
-returns-in-Ready-clause-opened g c =
-    rw (← c.self.view_is, c.in-Ready.is) (where_ok c.put.result c.put.ensures.set (λ set. rw (set, keys-insert c.self.inside.verifying _ tt) refl))
+pub returns-in-Ready : goal.returns-in-Ready
+returns-in-Ready g c = rw (← c.self.view_is, c.in-Ready.is, c.put.ensures.entries, keys-put c.self.inside.verifying.entries _ tt) refl

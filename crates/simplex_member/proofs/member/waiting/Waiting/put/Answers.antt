@@ -1,0 +1,9 @@
+use Rattle.std.proofs.Common.{◌≡◌, true, sym, subst}
+use Rattle.simplex_member.proofs.Waiting.{none_newest, entries-insert}
+use Rattle.simplex_member.proofs.member.waiting.Waiting.put.Goals as goal
+
+pub returns : goal.returns
+returns g c =
+    let i = c.self.inside in
+    let none = none_newest i.newest (subst (λ w. w.has_room ≡ true) (sym c.self.view_is) c.requires) in
+    record { entries = rw (← c.self.view_is, none) (entries-insert i.others c.args.view c.args.value) }
