@@ -104,7 +104,13 @@ pub mod Verdicts
 pub mod StandingSteps
 pub mod RunsKeep
 pub mod Exactly
+pub mod ComputedRuns
 pub mod Scripts
 pub mod Living
 pub mod Shown
 pub mod Accountability
+pub mod Continuations
+pub mod Turns
+pub mod DividedNetwork
+pub mod LackingNetwork
+pub mod HandoffNetwork
