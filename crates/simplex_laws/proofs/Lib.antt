@@ -1,6 +1,8 @@
 pub mod Fresh
 pub mod BrokenRules
 pub mod BrokenParents
+pub mod SmallViews
+pub mod HighViews
 pub mod Splits
 pub mod Signed
 pub mod VoteOrder
