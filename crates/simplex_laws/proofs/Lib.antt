@@ -1,6 +1,8 @@
 pub mod Fresh
 pub mod BrokenRules
 pub mod BrokenParents
+pub mod SmallViews
+pub mod HighViews
 pub mod Splits
 pub mod Signed
 pub mod VoteOrder
@@ -104,7 +106,13 @@ pub mod Verdicts
 pub mod StandingSteps
 pub mod RunsKeep
 pub mod Exactly
+pub mod ComputedRuns
 pub mod Scripts
 pub mod Living
 pub mod Shown
 pub mod Accountability
+pub mod Continuations
+pub mod Turns
+pub mod DividedNetwork
+pub mod LackingNetwork
+pub mod HandoffNetwork

@@ -1,5 +1,5 @@
 -- What a member records in a run, over all its lives, is taken again but for what comes from outside.
-use Rattle.std.proofs.Common.{◌≡◌, refl, ap, sym, ◌∙◌, subst, ℕ, zero, suc, ◌-◌, ◌<◌, inl, inr, Bool, true, false, List, [], ◌∷◌, ◌++◌, append_assoc, length, take, drop, filter, Option, Some, None, Result, Ok, Err, arith}
+use Rattle.std.proofs.Common.{◌≡◌, refl, ap, sym, ◌∙◌, subst, ℕ, zero, suc, ◌-◌, ◌<◌, ◌⊎◌, inl, inr, Bool, true, false, List, [], ◌∷◌, ◌++◌, append_assoc, length, take, drop, filter, Option, Some, None, Result, Ok, Err, arith}
 use Rattle.std.specs.Prelude.{◌==◌, MatchOption}
 use Rattle.std.proofs.lemmas.Bool.{cases_Bool}
 use Rattle.std.proofs.lemmas.List.{append-nil, take-append-drop}
@@ -15,7 +15,7 @@ use Rattle.simplex_member.specs.Check.{stands}
 use Rattle.simplex_member.specs.Cuts.{may_drop, without_last, finalized_in, pruned}
 use Rattle.simplex_member.specs.Entries.{entry_view}
 use Rattle.simplex_member.specs.Lives.{MemberFacts, IsCall, AnswersAlive, reply_of, left_of, fallen}
-use Rattle.simplex_laws.specs.Outside.{AcceptedParentAbove, IsFromOutside, IsExcused, VerdictsFollowNotarizations}
+use Rattle.simplex_laws.specs.Outside.{AcceptedParentAbove, VotedTooHigh, is_floor_too_large, IsFromOutside, IsExcused, VerdictsFollowNotarizations}
 use Rattle.simplex_member.specs.Recovery.{recover_error, recovered, is_finalization, with_floor}
 use Rattle.simplex_member.specs.Restarts.{RestartFacts, IsByView, cut, new_life, retention_grows, GoesOn, IsRestart, IsRestartWhere}
 use Rattle.simplex_member.specs.Runs.{StepFacts, Calls, Restarts, restart_told, IsRun, EndsRun, EndsRunFrom}
@@ -25,6 +25,7 @@ use Rattle.simplex_laws.specs.Deeds.{Deed, of_floor, deeds_of_call, deeds_at, de
 use Rattle.simplex_laws.specs.TermLengths.{HasTerms, KeepTerms}
 use Rattle.simplex_laws.proofs.BrokenParents.{parent_accepted}
 use Rattle.simplex_laws.proofs.CutsRemembered.{copy_remembers}
+use Rattle.simplex_laws.proofs.HighViews.{view_voted}
 use Rattle.simplex_laws.proofs.Outside.{Fit, error_outside}
 use Rattle.simplex_laws.proofs.OwnRecords.{OwnRecord, own_together, own_nothing, HasNoVerdict, own_floor, own_left, own_bounded, own_copy, same_entries}
 use Rattle.simplex_laws.proofs.Recalls.{only_one}
@@ -32,6 +33,7 @@ use Rattle.simplex_laws.proofs.RecoveredVerdicts.{recovered_shows}
 use Rattle.simplex_laws.proofs.RunsLawful.{MemberLives, between_of, cut_between, call_lives_on, restart_lives_on, start_lives}
 use Rattle.simplex_laws.proofs.WorkVerdicts.{call_told}
 use Rattle.simplex_laws.proofs.ShownVerdicts.{Tells, shows_more}
+use Rattle.simplex_laws.proofs.SmallViews.{AreSmall, small_both, floor_small, steps_small}
 use Rattle.simplex_laws.proofs.Verdicts.{Shows}
 use Rattle.simplex_laws.proofs.Together.{record_fits}
 
@@ -206,6 +208,14 @@ module _ {K L D : Type 0} (same : D → D → Bool) (decides : (d e : D) → sam
       let in_copy = own_copy deeds left (cut_own deeds m r.drop r.prune (own_of deeds m.entries m.life own.tells)) copy by_view.of_each_view in
       parent_accepted same term_length deeds between.1.lawful (new_state r.start.setup) r.start.floor r.start.now copy in_copy.notarize_cast remembers.finalize_cast is
 
+  copy_high : (deeds : List (Deed D)) (m : MemberFacts K L D) (r : RestartFacts K L D) (copy : List (ArtifactFacts D)) → AreSmall deeds → KeepsRecord term_length deeds m → IsByView (cut m r.drop r.prune).entries copy → recover_error same (new_state r.start.setup) r.start.floor r.start.now copy ≡ Some error.ViewTooLarge → (is_floor_too_large r.start.floor ≡ true) ⊎ VotedTooHigh deeds
+  copy_high deeds m r copy small own by_view is =
+      let left = (cut m r.drop r.prune).entries in
+      let between = cut_between term_length deeds m r.drop own.lives.0 r.prune (between_of term_length deeds m.closed own.lives.0 m.entries m.openings m.life own.lives.1) in
+      let remembers = copy_remembers deeds between.0 left between.1.remembers copy by_view.of_each_view in
+      let in_copy = own_copy deeds left (cut_own deeds m r.drop r.prune (own_of deeds m.entries m.life own.tells)) copy by_view.of_each_view in
+      view_voted term_length deeds between.1.lawful small between.0 copy remembers in_copy same (new_state r.start.setup) r.start.floor r.start.now is
+
   restart_excused : (deeds : List (Deed D)) (m left : MemberFacts K L D) (r : RestartFacts K L D) (result : Result (Unit {0}) RecoverError) (found : RecoverError) → result ≡ Err found → KeepsRecord term_length deeds m → IsRestart same elect m r result left → IsExcused found
   unfolding IsRestart
   restart_excused deeds m left r result found refused own restarts = by_test (retention_grows m r.prune r.start.setup.settings.view_retention) restarts
@@ -253,6 +263,14 @@ module _ {K L D : Type 0} (same : D → D → Bool) (decides : (d e : D) → sam
     own_parent_accepted replies end next copy run by_view is =
         let own = run_own same decides itself elect term_length begins.some steps replies (of_floor start.floor) (started same elect (new_state start.setup) start.floor start.now) end fresh start_own run in
         copy_parent same decides itself elect term_length begins.some (of_floor start.floor ++ deeds_of_steps steps replies) end next copy own by_view is
+
+    -- for a view that is too large, only where the next floor names one or the member voted in one
+    pub own_high_voted : (replies : List (Told K D)) (end : MemberFacts K L D) (next : RestartFacts K L D) (copy : List (ArtifactFacts D)) → recover_error same (new_state start.setup) start.floor start.now [] ≡ None → IsRun same elect (started same elect (new_state start.setup) start.floor start.now) steps replies end → IsByView (cut end next.drop next.prune).entries copy → recover_error same (new_state next.start.setup) next.start.floor next.start.now copy ≡ Some error.ViewTooLarge → (is_floor_too_large next.start.floor ≡ true) ⊎ VotedTooHigh (of_floor start.floor ++ deeds_of_steps steps replies)
+    own_high_voted replies end next copy accepted run by_view is =
+        let begun = started same elect (new_state start.setup) start.floor start.now in
+        let own = run_own same decides itself elect term_length begins.some steps replies (of_floor start.floor) begun end fresh start_own run in
+        let small = small_both (of_floor start.floor) (deeds_of_steps steps replies) (floor_small same (new_state start.setup) start.floor start.now [] accepted) (steps_small same elect steps replies begun end run) in
+        copy_high same decides itself elect term_length begins.some (of_floor start.floor ++ deeds_of_steps steps replies) end next copy small own by_view is
 
     -- behind its verdicts stand notarizations, in its own order
     pub own_verdicts_follow : (replies : List (Told K D)) (end : MemberFacts K L D) → IsRun same elect (started same elect (new_state start.setup) start.floor start.now) steps replies end → VerdictsFollowNotarizations end

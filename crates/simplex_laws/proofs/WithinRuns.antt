@@ -167,6 +167,13 @@ module _ {K L D : Type 0} (same : D → D → Bool) (elect : Elect L) where
       let parts = run_apart steps after told rest next end (omega (arith, as_many)) run in
       (parts.0, (next, is_step, parts.1), parts.2)
 
+  -- the beginning of a run from a start is one
+  pub run_from_before : (start : StartFacts K L D) (steps after : List (StepFacts K L D)) (told rest : List (Told K D)) → length steps ≡ length told → IsRunFrom same elect start (steps ++ after) (told ++ rest) → IsRunFrom same elect start steps told
+  unfolding IsRunFrom
+  run_from_before start steps after told rest as_many (accepted, last, run) =
+      let first = run_apart steps after told rest (started same elect (new_state start.setup) start.floor start.now) last as_many run in
+      (accepted, first.0, first.1)
+
   -- calls of a run without a restart among them go on from a member that the run leads to
   pub stretch_is_life : (start : StartFacts K L D) (steps after : List (StepFacts K L D)) (calls : List (CallFacts D)) (told replies rest : List (Told K D)) → length steps ≡ length told → length calls ≡ length replies → IsRunFrom same elect start (steps ++ (map Calls calls ++ after)) (told ++ (replies ++ rest)) → (m end : MemberFacts K L D) × IsLifeOfRun same elect start steps told m calls replies end
   unfolding IsRunFrom

@@ -22,3 +22,8 @@ pub mod Resumes
 pub mod Shown
 pub mod Scripts
 pub mod Progress
+pub mod Continuations
+pub mod Turns
+pub mod DividedNetwork
+pub mod LackingNetwork
+pub mod HandoffNetwork

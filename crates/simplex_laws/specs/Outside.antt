@@ -1,10 +1,12 @@
 -- What a member's own record may be refused for.
-use Rattle.std.specs.Prelude.{◌≡◌, ◌⊎◌, ℕ, ◌≤◌, Bool, List, ◌∷◌, ◌++◌, Contains, Some, Err}
+use Rattle.std.specs.Prelude.{◌≡◌, ◌⊎◌, ℕ, ◌≤◌, ◌^◌, Bool, true, false, List, [], ◌∷◌, ◌++◌, Contains, Some, None, Err}
 use Rattle.simplex_types.specs.Certificates.{ProposalFacts, Notarized, ArtifactFacts, Verdict, Accepted}
+use Rattle.simplex_types.specs.Config.{FloorFacts, Genesis, Finalized}
 use Rattle.simplex_types.specs.declared.types.messages.Proposal.{Proposal}
 use Rattle.simplex_types.specs.declared.types.messages.Subject.TheVariants as subject
 use Rattle.simplex_types.specs.declared.types.numbers.Round.{Round}
 use Rattle.simplex_voter.specs.Facts.{Elect}
+use Rattle.simplex_voter.specs.Refusals.{names_too_large}
 use Rattle.simplex_member.specs.declared.member.error.RecoverError.{RecoverError}
 use Rattle.simplex_member.specs.declared.member.error.RecoverError.TheVariants as error
 use Rattle.simplex_member.specs.Calls.{Told}
@@ -14,6 +16,7 @@ use Rattle.simplex_member.specs.Restarts.{RestartFacts, IsByView, cut, IsRestart
 use Rattle.simplex_member.specs.Runs.{StepFacts, IsRun, EndsRunFrom}
 use Rattle.simplex_member.specs.Start.{StartFacts, started, new_state}
 use Rattle.simplex_laws.specs.Deeds.{Deed, Accepts, of_floor, deeds_of_steps}
+use Rattle.simplex_laws.specs.Lawful.{HasSigned}
 use Rattle.simplex_laws.specs.TermLengths.{HasTerms, KeepTerms}
 
 -- the error comes from outside: of the next start's epoch, key, floor or moment, or of a proposal or view that others sent;
@@ -41,6 +44,17 @@ VerdictsFollowNotarizations {K} {L} {D} m =
 -- a notarization was accepted whose proposal names no earlier view as its parent
 abbrev pub AcceptedParentAbove : {D : Type 0} → List (Deed D) → Type 0
 AcceptedParentAbove {D} deeds = (p : Proposal D) × Contains deeds (Accepts (subject.Notarize p)) × (p.round.view ≤ p.parent)
+
+-- the member voted to nullify or to notarize a view above each that a certificate may have
+abbrev pub VotedTooHigh : {D : Type 0} → List (Deed D) → Type 0
+VotedTooHigh {D} deeds =
+    ((round : Round) × HasSigned deeds (subject.Nullify round) × (2 ^ 63 ≤ round.view))
+    ⊎ ((p : Proposal D) × HasSigned deeds (subject.Notarize p) × (2 ^ 63 ≤ p.round.view))
+
+-- a floor's finalization names such a view
+abbrev pub is_floor_too_large : {D : Type 0} → FloorFacts D → Bool
+is_floor_too_large (Genesis _) = false
+is_floor_too_large (Finalized c) = names_too_large c.proposal
 
 module _ (K : Type 0) {L D : Type 0} (same : D → D → Bool) (elect : Elect L) where
   -- of each member that a run leads to, whose lives share a length of terms
@@ -76,6 +90,20 @@ module _ (K : Type 0) {L D : Type 0} (same : D → D → Bool) (elect : Elect L)
       → IsByView (cut end next.drop next.prune).entries copy
       → recover_error same (new_state next.start.setup) next.start.floor next.start.now copy ≡ Some error.ParentNotBelow
       → AcceptedParentAbove (of_floor start.floor ++ deeds_of_steps steps replies)
+
+  -- of a run whose start is taken, it is refused for a view that is too large only where the next floor names one, or where the
+  -- member voted in one, to nullify or to notarize
+  abbrev pub HighViewsAreVotedFor : Type 0
+  HighViewsAreVotedFor =
+      (term_length : ℕ) (start : StartFacts K L D) (steps : List (StepFacts K L D)) (replies : List (Told K D)) (end : MemberFacts K L D)
+      → HasTerms term_length start.setup
+      → KeepTerms term_length steps
+      → recover_error same (new_state start.setup) start.floor start.now [] ≡ None
+      → IsRun same elect (started same elect (new_state start.setup) start.floor start.now) steps replies end
+      → (next : RestartFacts K L D) (copy : List (ArtifactFacts D))
+      → IsByView (cut end next.drop next.prune).entries copy
+      → recover_error same (new_state next.start.setup) next.start.floor next.start.now copy ≡ Some error.ViewTooLarge
+      → (is_floor_too_large next.start.floor ≡ true) ⊎ VotedTooHigh (of_floor start.floor ++ deeds_of_steps steps replies)
 
   -- so is a run, at its start or at one of its restarts
   abbrev pub RunsAreExcused : Type 0

@@ -1,6 +1,7 @@
 //! The laws of members: agreement and the laws of votes, networks in which they are exercised, what lives keep in order, and
 //! what holds of records and histories. Nothing here does anything: the contracts are the laws.
 
+mod continuations;
 mod contradictions;
 mod histories;
 mod instances;
@@ -10,6 +11,7 @@ mod own_record;
 mod progress;
 mod resumes;
 
+pub use continuations::{conflicts_are_left, gaps_are_closed, nullified_handoffs_are_left};
 pub use contradictions::accountability;
 pub use histories::histories_are_shown;
 pub use instances::{restarts_are_runs, skipped_views_are_agreed_on, terms_are_agreed_on};

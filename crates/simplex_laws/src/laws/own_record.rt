@@ -1,6 +1,6 @@
 //! What a restart may refuse of a member's own record.
 
-ghost use Rattle.simplex_laws.specs.Outside.{OfEachEnd, ParentsAreAccepted, RecordIsTaken, RestartIsExcused, RunsAreExcused, VerdictsFollowNotarizations};
+ghost use Rattle.simplex_laws.specs.Outside.{HighViewsAreVotedFor, OfEachEnd, ParentsAreAccepted, RecordIsTaken, RestartIsExcused, RunsAreExcused, VerdictsFollowNotarizations};
 
 use simplex_types::types::{Digest, Elector, Scheme};
 
@@ -14,6 +14,9 @@ use simplex_types::types::{Digest, Elector, Scheme};
 ///   breaks the rules on the order of views, on verdicts, or on votes beside one another, whatever is cut off it.
 /// - `parent`: it is refused for a parent only where the member accepted a notarization whose proposal names no earlier view as
 ///   its parent, and voted to finalize it. No backed notarization does so (`parent_before` of `agreement`).
+/// - `high`: where its start was taken, it is refused for a view that is too large only where the next floor names one, or the
+///   member voted in one itself: to nullify it, or to notarize it. So no certificate of its record, no verdict and no vote to
+///   finalize is refused for that.
 /// - `notarized`: before each verdict of the record, in its own order, stands a notarization of the view; so a resolver that
 ///   is started from the record as it stands has the notarization of each verdict.
 /// - `restart`: a restart is refused only for that, for more views that are to be kept of a pruned record, or for want of
@@ -22,6 +25,7 @@ use simplex_types::types::{Digest, Elector, Scheme};
 pub fn own_record_is_taken<S: Scheme<D>, L: Elector<S>, D: Digest>()
     ensures record { OfEachEnd S.PublicKey D.eq L.elect (RecordIsTaken S.PublicKey D.eq L.elect) }
     ensures parent { ParentsAreAccepted S.PublicKey D.eq L.elect }
+    ensures high { HighViewsAreVotedFor S.PublicKey D.eq L.elect }
     ensures notarized { OfEachEnd S.PublicKey D.eq L.elect VerdictsFollowNotarizations }
     ensures restart { OfEachEnd S.PublicKey D.eq L.elect (RestartIsExcused S.PublicKey D.eq L.elect) }
     ensures run { RunsAreExcused S.PublicKey D.eq L.elect }
