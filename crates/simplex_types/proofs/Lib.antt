@@ -7,3 +7,4 @@ pub mod Joined
 pub mod Gaps
 pub mod Covers
 pub mod EncodingLaw
+pub mod Rows

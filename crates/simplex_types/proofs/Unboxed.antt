@@ -1,8 +1,6 @@
--- The entries of a ring whose values stand in boxes.
+-- Entries whose values stand in boxes.
 use Rattle.std.proofs.Common.{◌≡◌, ℕ, ◌+◌, ◌-◌, ◌<◌, ◌≤◌, suc, List, [], ◌∷◌, ◌++◌, length, get_or, take, drop, set, true, refl, ap, sym, ◌∙◌, arith, zero, Some, slice_get, length-append}
 use Rattle.std.specs.Prelude.{Box}
-use Rattle.std.specs.declared.collections.VecDeque.{VecDeque}
-use Rattle.std.specs.VecDeque.{deque_len}
 use Rattle.std.specs.List.{insert, remove}
 use Rattle.std.proofs.lemmas.List.{get_or-map, map-set, take-map, drop-map}
 use Rattle.std.specs.Box.{with_value}
@@ -16,7 +14,7 @@ module _ {V A : Type 0} where
   abbrev pub opened : ℕ × Box V A → ℕ × V
   opened e = (e.0, e.1.value)
 
-  pub length-unboxed : (es : List (ℕ × Box V A)) → length (unboxed es) ≡ length es
+  length-unboxed : (es : List (ℕ × Box V A)) → length (unboxed es) ≡ length es
   length-unboxed [] = refl
   length-unboxed (e ∷ es) = ap suc (length-unboxed es)
 
@@ -44,9 +42,8 @@ module _ {V A : Type 0} where
   pub unboxed-set : (es : List (ℕ × Box V A)) (i v : ℕ) (b : Box V A) → unboxed (set es i (v, b)) ≡ set (unboxed es) i (v, b.value)
   unboxed-set es i v b = map-set opened es i (v, b)
 
-  -- a ring is as long as its entries
-  pub ring_length : (q : VecDeque (ℕ × Box V A) A) → deque_len q ≡ length (unboxed q.items)
-  ring_length q = q.ok.0 ∙ sym (length-unboxed q.items)
+  pub same_length : (es : List (ℕ × Box V A)) → length es ≡ length (unboxed es)
+  same_length es = sym (length-unboxed es)
 
   -- the entries after a value is written into the box at v's place, where v is there
   pub boxed_written : (m : map.FinMap nat_cmp V) (v : ℕ) (es : List (ℕ × Box V A)) (r : ℕ) (e : ℕ × Box V A) (x : V) → unboxed es ≡ map.entries m → r ≡ map.len (below m v) → map.contains_key m v ≡ true → e ≡ get_or es r e → unboxed (set es r (e.0, with_value e.1 x)) ≡ map.entries (map.insert m v x)

@@ -5,6 +5,7 @@ pub mod Proposal
 pub mod Certificates
 pub mod Window
 pub mod Tracked
+pub mod Rows
 pub mod ByTerm
 pub mod Reasons
 pub mod Config

@@ -29,6 +29,6 @@ after_insert m view value (Err refused) = m
 abbrev pub IsAtMostBinaryDigits : ℕ → ℕ → Type 0
 IsAtMostBinaryDigits count n = (d : ℕ) → n < 2 ^ d → count ≤ d
 
--- the entries of a ring whose values stand in boxes
+-- entries whose values stand in boxes
 abbrev pub unboxed : {V A : Type 0} → List (ℕ × Box V A) → List (ℕ × V)
 unboxed es = map_list (λ e. (e.0, e.1.value)) es

@@ -2,6 +2,7 @@
 
 pub mod by_term;
 pub mod entries;
+mod rows;
 pub mod tracked;
 
 pub use by_term::ByTerm;

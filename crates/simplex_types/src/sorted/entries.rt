@@ -2,45 +2,43 @@
 
 ghost use Rattle.std.specs.Prelude.{◌≡◌, [], ◌∷◌, ◌++◌, MatchOption};
 
+use crate::sorted::rows::Rows;
 use crate::types::View;
-use std::collections::VecDeque;
 use std::marker::Model;
 
 /// Entries that are left to be taken, by rising view.
 #[derive(Drop)]
 pub struct Entries<'a, V> {
-    ring: &'a VecDeque<(View, Box<V>)>,
+    rows: &'a Rows<(View, Box<V>)>,
     // the places from the first entry that is left to past the last
     start: usize,
     end: usize,
 }
 
 impl<'a, V> Model for Entries<'a, V> {
-    ghost use Rattle.std.specs.Prelude.{ℕ, List, ◌≤◌, take, drop};
+    ghost use Rattle.std.specs.Prelude.{ℕ, List, ◌≤◌, length, take, drop};
     ghost use Rattle.std.specs.Coded.{coded_ℕ, coded_list, coded×};
-    ghost use Rattle.std.specs.VecDeque.{deque_len};
     ghost use Rattle.simplex_types.specs.Tracked.{unboxed};
 
     ghost Value = { List (ℕ × V) };
 
     ghost coded = { coded_list (coded× coded_ℕ V.code) };
 
-    ghost view = { λ e. drop e.start (take e.end (unboxed e.ring.now.items)) };
+    ghost view = { λ e. drop e.start (take e.end (unboxed e.rows.now)) };
 
-    ghost invariant = { λ e. (e.start ≤ e.end) × (e.end ≤ deque_len e.ring.now) };
+    ghost invariant = { λ e. (e.start ≤ e.end) × (e.end ≤ length e.rows.now) };
 }
 
 impl<'a, V> Entries<'a, V> {
-    ghost use Rattle.std.specs.Prelude.{◌≤◌, take, drop};
-    ghost use Rattle.std.specs.VecDeque.{deque_len};
+    ghost use Rattle.std.specs.Prelude.{◌≤◌, length, take, drop};
     ghost use Rattle.simplex_types.specs.Tracked.{unboxed};
 
     /// The entries from one place on and before another.
-    pub(super) fn within(ring: &'a VecDeque<(View, Box<V>)>, start: usize, end: usize) -> Self
-        requires { (start ≤ end) × (end ≤ deque_len ring.now) }
-        ensures { result ≡ drop start (take end (unboxed ring.now.items)) }
+    pub(super) fn within(rows: &'a Rows<(View, Box<V>)>, start: usize, end: usize) -> Self
+        requires { (start ≤ end) × (end ≤ length rows.now) }
+        ensures { result ≡ drop start (take end (unboxed rows.now)) }
     {
-        Entries { ring, start, end }
+        Entries { rows, start, end }
     }
 
     /// Takes the entry of the lowest view that is left.
@@ -50,7 +48,7 @@ impl<'a, V> Entries<'a, V> {
         if self.start == self.end {
             return None;
         }
-        let entry = &self.ring[self.start];
+        let entry = &self.rows[self.start];
         self.start += 1;
         Some((entry.0, &*entry.1))
     }
@@ -63,7 +61,7 @@ impl<'a, V> Entries<'a, V> {
             return None;
         }
         self.end -= 1;
-        let entry = &self.ring[self.end];
+        let entry = &self.rows[self.end];
         Some((entry.0, &*entry.1))
     }
 }

@@ -1,25 +1,23 @@
-//! Values at the views that are tracked, in a ring sorted by view.
+//! Values at the views that are tracked, in rows sorted by view.
 
 ghost use Rattle.std.specs.Prelude.{◌≡◌, ◌+◌, ◌<◌, ◌≤◌, IfOk, IfErr, OnErr, Some, None, is_some, option_map, nat_lt, drop, if◌then◌else◌};
 ghost use Rattle.std.specs.Option.{option_copied};
 ghost use Rattle.std.specs.FinMap as map;
 ghost use Rattle.std.specs.Ordering.{nat_cmp};
-ghost use Rattle.std.specs.List.{remove};
-ghost use Rattle.std.specs.VecDeque.{deque_len};
 ghost use Rattle.simplex_types.specs.Tracked.{below, at_or_above, first_entry, last_entry, after_insert, IsAtMostBinaryDigits};
 
 use crate::sorted::entries::Entries;
+use crate::sorted::rows::Rows;
 use crate::types::{AllocFailed, View};
 use std::alloc::{AllocError, Global};
-use std::collections::VecDeque;
 use std::marker::Model;
 
 /// A map from views to values.
 ///
-/// The values stand out of line, so that an insert moves two words for each entry on the shorter side of its place.
+/// The values stand out of line, so that two words move for each entry that an insert moves.
 #[derive(Drop)]
 pub struct Tracked<V> {
-    entries: VecDeque<(View, Box<V>)>,
+    entries: Rows<(View, Box<V>)>,
 }
 
 impl<V> Model for Tracked<V> {
@@ -33,9 +31,9 @@ impl<V> Model for Tracked<V> {
 
     ghost coded = { map.code coded_ℕ V.code };
 
-    ghost view = { λ t. map.from_sorted (unboxed t.entries.items) };
+    ghost view = { λ t. map.from_sorted (unboxed t.entries) };
 
-    ghost invariant = { λ t. IsTrue (map.is_sorted nat_cmp (unboxed t.entries.items)) };
+    ghost invariant = { λ t. IsTrue (map.is_sorted nat_cmp (unboxed t.entries)) };
 }
 
 impl<V> Tracked<V> {
@@ -47,7 +45,7 @@ impl<V> Tracked<V> {
         ensures { result ≡ map.empty }
     {
         Tracked {
-            entries: VecDeque::new(alloc),
+            entries: Rows::new(alloc),
         }
     }
 
@@ -151,7 +149,7 @@ impl<V> Tracked<V> {
         if self.stands_at(place, view) {
             return Ok(Some(value));
         }
-        let boxed = boxed(*self.entries.allocator(), value)?;
+        let boxed = boxed(self.entries.allocator(), value)?;
         if let Err(refused) = self.entries.insert(place, (view, boxed)) {
             let (_, boxed) = refused.value;
             return Err(AllocFailed {
@@ -255,7 +253,7 @@ impl<V: Drop> Tracked<V> {
     {
         let (place, _) = self.find(view);
         if self.stands_at(place, view) {
-            drop_at(&mut self.entries, place);
+            self.entries.remove(place);
         }
     }
 }
@@ -274,18 +272,10 @@ fn boxed<V>(alloc: Global, value: V) -> Result<Box<V>, AllocFailed<V>>
 }
 
 /// Removes the first entries, as many as the count says.
-fn drop_first<V: Drop>(entries: &mut VecDeque<(View, Box<V>)>, count: usize)
-    ensures { entries.new.items ≡ drop count entries.old.items }
+fn drop_first<V: Drop>(entries: &mut Rows<(View, Box<V>)>, count: usize)
+    ensures { entries.new ≡ drop count entries.old }
 {
     for _ in 0..count {
-        let _below = entries.pop_front();
+        entries.drop_front();
     }
-}
-
-/// Removes the entry at a place.
-fn drop_at<V: Drop>(entries: &mut VecDeque<(View, Box<V>)>, place: usize)
-    requires { place < deque_len entries.old }
-    ensures { entries.new.items ≡ remove entries.old.items place }
-{
-    let _removed = entries.remove(place);
 }

@@ -6,9 +6,9 @@ use Rattle.simplex_types.proofs.sorted.tracked.Tracked.drop_below.Goals as goal
 pub invariant_of-self : goal.invariant_of-self
 invariant_of-self g c =
     let same = entries_of_made _ _ c.self.view_is c.self.invariant in
-    sorted_from_entries _ _ (unboxed-drop c.self.inside.entries.items c.drop_first.new.entries.items c.find-below.result.0 c.drop_first.ensures ∙ at_or_above_read _ _ _ _ same c.find-below.ensures.place)
+    sorted_from_entries _ _ (unboxed-drop c.self.inside.entries c.drop_first.new.entries c.find-below.result.0 c.drop_first.ensures ∙ at_or_above_read _ _ _ _ same c.find-below.ensures.place)
 
 pub returns : goal.returns
 returns g c =
     let same = entries_of_made _ _ c.self.view_is c.self.invariant in
-    made_from_entries _ _ (unboxed-drop c.self.inside.entries.items c.drop_first.new.entries.items c.find-below.result.0 c.drop_first.ensures ∙ at_or_above_read _ _ _ _ same c.find-below.ensures.place)
+    made_from_entries _ _ (unboxed-drop c.self.inside.entries c.drop_first.new.entries c.find-below.result.0 c.drop_first.ensures ∙ at_or_above_read _ _ _ _ same c.find-below.ensures.place)

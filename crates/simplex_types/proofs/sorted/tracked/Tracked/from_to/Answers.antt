@@ -1,12 +1,12 @@
 use Rattle.std.proofs.Common.{◌∙◌, ◌+◌}
 use Rattle.simplex_types.proofs.Maps.{entries_of_made, place_within, places_rise, between_read}
-use Rattle.simplex_types.proofs.Unboxed.{ring_length}
+use Rattle.simplex_types.proofs.Unboxed.{same_length}
 use Rattle.simplex_types.proofs.sorted.tracked.Tracked.from_to.Goals as goal
 
 pub within-requires : goal.within-requires
 within-requires g c =
     let within = place_within _ _ _ _ (entries_of_made _ _ c.self.view_is c.self.invariant) c.end_of.ensures in
-    (places_rise c.args.self.now c.args.from (c.args.last + 1) _ _ c.requires c.find-start.ensures.place c.end_of.ensures, rw ring_length within)
+    (places_rise c.args.self.now c.args.from (c.args.last + 1) _ _ c.requires c.find-start.ensures.place c.end_of.ensures, rw same_length within)
 
 pub returns : goal.returns
 returns g c =

@@ -1,12 +1,12 @@
 use Rattle.std.proofs.Common.{sym, arith}
 use Rattle.simplex_types.proofs.Maps.{entries_of_made, place_within, inserted, sorted_from_entries, made_from_entries}
-use Rattle.simplex_types.proofs.Unboxed.{unboxed-insert, ring_length}
+use Rattle.simplex_types.proofs.Unboxed.{unboxed-insert, same_length}
 use Rattle.simplex_types.proofs.sorted.tracked.Tracked.insert.Goals as goal
 
 pub insert-requires : goal.insert-requires
 insert-requires g c =
     let within = place_within _ _ _ _ (entries_of_made _ _ c.self.view_is c.self.invariant) c.find-place.ensures.place in
-    omega (arith, within, ring_length c.self.inside.entries)
+    omega (arith, within, same_length c.self.inside.entries)
 
 pub invariant_of-self-2 : goal.invariant_of-self-2
 invariant_of-self-2 g c =
