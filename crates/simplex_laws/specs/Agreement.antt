@@ -18,7 +18,8 @@ module _ {K L D : Type 0} (network : List (Place K L D)) where
   -- no finalized view is covered by a nullification
   abbrev pub FinalizedUncovered : ℕ → Type 0
   FinalizedUncovered term_length =
-      (final : Proposal D) (round : Round) → Backed network (subject.Finalize final) → Backed network (subject.Nullify round) → covers term_length round.view final.round.view ≡ false
+      (final : Proposal D) (round : Round) → Backed network (subject.Finalize final) → Backed network (subject.Nullify round)
+      → covers term_length round.view final.round.view ≡ false
 
   -- a proposal with a certificate names an earlier view as its parent
   abbrev pub ParentBefore : Type 0
@@ -27,7 +28,8 @@ module _ {K L D : Type 0} (network : List (Place K L D)) where
   -- no notarized proposal above a finalized view names a parent below it
   abbrev pub ParentNotBelow : Type 0
   ParentNotBelow =
-      (final p : Proposal D) → Backed network (subject.Finalize final) → Backed network (subject.Notarize p) → final.round.view < p.round.view → final.round.view ≤ p.parent
+      (final p : Proposal D) → Backed network (subject.Finalize final) → Backed network (subject.Notarize p)
+      → final.round.view < p.round.view → final.round.view ≤ p.parent
 
   -- a finalized proposal is notarized
   abbrev pub FinalizedNotarized : Type 0
@@ -42,4 +44,6 @@ module _ {K L D : Type 0} (network : List (Place K L D)) where
   -- a chain from above a finalized view down to it or below holds the finalized proposal
   abbrev pub ChainHoldsFinalized : Type 0
   ChainHoldsFinalized =
-      (final high low : Proposal D) (chain : List (Proposal D)) → Backed network (subject.Finalize final) → Chain chain → Contains chain high → Contains chain low → final.round.view < high.round.view → low.round.view ≤ final.round.view → Contains chain final
+      (final high low : Proposal D) (chain : List (Proposal D)) → Backed network (subject.Finalize final) → Chain chain
+      → Contains chain high → Contains chain low → final.round.view < high.round.view → low.round.view ≤ final.round.view
+      → Contains chain final

@@ -81,7 +81,8 @@ module _ (K : Type 0) {L D : Type 0} (same : D → D → Bool) (elect : Elect L)
   -- an event that the state allows is the last of the history then
   abbrev pub EventsAreShown : Type 0
   EventsAreShown =
-      (history : History K L D) (x : Facts K L D) (e : Event K D) → Shows same elect history x → IsEvent x e → Shows same elect (with_event history e) (after_event same elect x e)
+      (history : History K L D) (x : Facts K L D) (e : Event K D) → Shows same elect history x → IsEvent x e
+      → Shows same elect (with_event history e) (after_event same elect x e)
 
   abbrev pub CallsAreShown : Type 0
   CallsAreShown =

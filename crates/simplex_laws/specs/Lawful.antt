@@ -33,17 +33,24 @@ module _ {D : Type 0} where
 -- the voting rules, over all the deeds of an honest member, the oldest first
 pub record IsLawful {D : Type 0} (term_length : ℕ) (deeds : List (Deed D)) : Type 0 where
   -- at most one vote to notarize a view
-  pub one_notarize : (before : List (Deed D)) (p q : Proposal D) → SignsAfter deeds before (subject.Notarize p) → HasSigned before (subject.Notarize q) → q.round.view ≢ p.round.view
+  pub one_notarize : (before : List (Deed D)) (p q : Proposal D) → SignsAfter deeds before (subject.Notarize p)
+      → HasSigned before (subject.Notarize q) → q.round.view ≢ p.round.view
   -- at most one vote to finalize a view
-  pub one_finalize : (before : List (Deed D)) (p q : Proposal D) → SignsAfter deeds before (subject.Finalize p) → HasSigned before (subject.Finalize q) → q.round.view ≢ p.round.view
+  pub one_finalize : (before : List (Deed D)) (p q : Proposal D) → SignsAfter deeds before (subject.Finalize p)
+      → HasSigned before (subject.Finalize q) → q.round.view ≢ p.round.view
   -- never a vote to nullify and one to finalize the same view
   pub not_both : (round : Round) (p : Proposal D) → HasSigned deeds (subject.Nullify round) → HasSigned deeds (subject.Finalize p) → round.view ≢ p.round.view
   -- a vote to finalize names a proposal whose notarization was accepted
-  pub finalizes_notarized : (before : List (Deed D)) (p : Proposal D) → SignsAfter deeds before (subject.Finalize p) → Contains before (Accepts (subject.Notarize p))
+  pub finalizes_notarized : (before : List (Deed D)) (p : Proposal D) → SignsAfter deeds before (subject.Finalize p)
+      → Contains before (Accepts (subject.Notarize p))
   -- a vote to finalize after one to nullify an earlier view of the term: a view from that one on was finalized
-  pub finalizes_past_nullify : (before : List (Deed D)) (p : Proposal D) (round : Round) → SignsAfter deeds before (subject.Finalize p) → HasSigned before (subject.Nullify round) → round.view < p.round.view → covers term_length round.view p.round.view ≡ true → HasFinalizedBetween before round.view p.round.view
+  pub finalizes_past_nullify : (before : List (Deed D)) (p : Proposal D) (round : Round) → SignsAfter deeds before (subject.Finalize p)
+      → HasSigned before (subject.Nullify round) → round.view < p.round.view → covers term_length round.view p.round.view ≡ true
+      → HasFinalizedBetween before round.view p.round.view
   -- a vote to nullify never follows one to finalize a view that it would cover
-  pub nullifies_ahead : (before : List (Deed D)) (round : Round) (p : Proposal D) → SignsAfter deeds before (subject.Nullify round) → HasSigned before (subject.Finalize p) → covers term_length round.view p.round.view ≡ false
+  pub nullifies_ahead : (before : List (Deed D)) (round : Round) (p : Proposal D) → SignsAfter deeds before (subject.Nullify round)
+      → HasSigned before (subject.Finalize p) → covers term_length round.view p.round.view ≡ false
   -- a proposal that was voted for names an earlier view as its parent, and accepted nullifications cover each view between
   pub parent_before : (before : List (Deed D)) (p : Proposal D) → SignsAfter deeds before (subject.Notarize p) → p.parent < p.round.view
-  pub gapless : (before : List (Deed D)) (p : Proposal D) (skipped : ℕ) → SignsAfter deeds before (subject.Notarize p) → p.parent < skipped → skipped < p.round.view → HasCover term_length before skipped
+  pub gapless : (before : List (Deed D)) (p : Proposal D) (skipped : ℕ) → SignsAfter deeds before (subject.Notarize p) → p.parent < skipped
+      → skipped < p.round.view → HasCover term_length before skipped

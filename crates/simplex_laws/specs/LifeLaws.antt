@@ -103,7 +103,8 @@ module _ {K D : Type 0} where
   -- the certificate that a call is told is of the kind and the view that it asks for
   abbrev pub IsAsAsked : CallFacts D → Told K D → Type 0
   IsAsAsked call told =
-      (kind : Kind) (v : ℕ) (c : CertificateFacts D) → asked_by kind call ≡ v ∷ [] → told ≡ Handed (Some c) → (kind_of c ≡ kind) × ((certificate_round c).view ≡ v)
+      (kind : Kind) (v : ℕ) (c : CertificateFacts D) → asked_by kind call ≡ v ∷ [] → told ≡ Handed (Some c)
+      → (kind_of c ≡ kind) × ((certificate_round c).view ≡ v)
 
   -- so it is of each call
   abbrev pub HandedAsAsked : List (CallFacts D) → List (Told K D) → Type 0

@@ -18,7 +18,8 @@ use Rattle.simplex_laws.specs.Deeds.{Deed}
 use Rattle.simplex_laws.specs.Shown.{floor_in, begun_by, IsSetUpAs}
 use Rattle.simplex_laws.specs.Stories.{Story, deeds_of, LivesAs, Ran}
 
-abbrev pub story_of : {S L D K G C : Type 0} → (S → Option ℕ) → (S → List K) → (L → Terms) → (L → Bool) → (C → List ℕ) → Start S L D K G C → List (Step S L D K G C) → List (Reply S D K G C) → Story K L D
+abbrev pub story_of : {S L D K G C : Type 0} → (S → Option ℕ) → (S → List K) → (L → Terms) → (L → Bool) → (C → List ℕ) → Start S L D K G C
+    → List (Step S L D K G C) → List (Reply S D K G C) → Story K L D
 story_of me members terms elects_early bytes_of start steps replies = record {
   start = start_facts me members terms elects_early bytes_of start;
   steps = steps_of me members terms elects_early bytes_of steps;

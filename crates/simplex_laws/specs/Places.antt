@@ -54,7 +54,8 @@ module _ {K L D : Type 0} (same : D → D → Bool) (elect : Elect L) where
   pub record IsNetworkOf (term_length : ℕ) (network : List (Place K L D)) : Type 0 where
     pub few_faulty : FewFaulty network
     pub honest : (i : ℕ) (s : Story K L D) → slice_get network i ≡ Some (Honest s) → Ran same elect term_length i s
-    pub backed : (i : ℕ) (s : Story K L D) (certificate : Subject D) → slice_get network i ≡ Some (Honest s) → Contains (deeds_of s) (Accepts certificate) → Backed network certificate
+    pub backed : (i : ℕ) (s : Story K L D) (certificate : Subject D) → slice_get network i ≡ Some (Honest s)
+        → Contains (deeds_of s) (Accepts certificate) → Backed network certificate
 
 module _ (K : Type 0) {L D : Type 0} (same : D → D → Bool) (elect : Elect L) where
   -- of each such network, in terms of whatever length

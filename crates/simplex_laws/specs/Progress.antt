@@ -19,9 +19,11 @@ module _ {K L D : Type 0} (same : D → D → Bool) (elect : Elect L) where
   -- each certificate that ends the current view does, at this moment
   pub record CallsGoPast (x : Facts K L D) (o : Openings K D) (now : ℕ) : Type 0 where
     pub nullification : (c : NullificationFacts) → c.round ≡ round_number x x.current → GoesPast x o (AddNullification c now)
-    pub finalization : (c : ProposalFacts D) → c.proposal.round ≡ round_number x x.current → names_too_large c.proposal ≡ false → GoesPast x o (AddFinalization c now)
+    pub finalization : (c : ProposalFacts D) → c.proposal.round ≡ round_number x x.current → names_too_large c.proposal ≡ false
+        → GoesPast x o (AddFinalization c now)
     -- a notarization does with a true verdict, unless a false one was given
-    pub verdict : is_some (round_of x x.current).notarization ≡ true → is_judged false (round_of x x.current).certification ≡ false → GoesPast x o (Certified x.current true now)
+    pub verdict : is_some (round_of x x.current).notarization ≡ true → is_judged false (round_of x x.current).certification ≡ false
+        → GoesPast x o (Certified x.current true now)
 
   -- while the view is below 2^63, and the deadlines of the view that is entered fit in 64 bits
   abbrev pub CanBeLeft : Facts K L D → Type 0
