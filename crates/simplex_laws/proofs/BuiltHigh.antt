@@ -31,6 +31,7 @@ use Rattle.simplex_laws.proofs.HighViews.{entry_too_large}
 use Rattle.simplex_laws.proofs.NewLives.{first_none}
 use Rattle.simplex_laws.proofs.Openings.{ArePlaced}
 use Rattle.simplex_laws.proofs.SmallViews.{no_fault}
+use Rattle.simplex_laws.proofs.Steps.{notarization_by, finalization_by, proposal_by, note_by}
 
 module _ {K L D : Type 0} where
   -- where its view is too large, the proposal was built in these steps
@@ -44,6 +45,16 @@ module _ {K L D : Type 0} where
   small_view steps p small large = absurd (false≢true (sym (or_parts (is_too_large p.round.view) (is_too_large p.parent) small).0 ∙ large))
 
 module _ {K D : Type 0} (Q : Proposal D → Type 0) where
+  -- an event that brings no proposal
+  brings_nothing : {e : Event K D} → notarization_by e ≡ None → finalization_by e ≡ None → proposal_by e ≡ None → note_by e ≡ None → ((context : Context D K) (payload : D) (now : ℕ) → e ≡ Proposed context payload now → ⊥) → Brings Q e
+  brings_nothing no_notarization no_finalization no_proposal no_note not_built = record {
+    notarized = λ c says. absurd (let clash = sym no_notarization ∙ says in cc);
+    finalized = λ c says. absurd (let clash = sym no_finalization ∙ says in cc);
+    heard = λ v p says. absurd (let clash = sym no_proposal ∙ says in cc);
+    noted = λ p says. absurd (let clash = sym no_note ∙ says in cc);
+    built = λ context payload now says. absurd (not_built context payload now says);
+  }
+
   -- so has each that some events bring
   abbrev AllBring : List (Event K D) → Type 0
   AllBring [] = Unit {0}
@@ -75,7 +86,7 @@ module _ {K L D : Type 0} (past : List (StepFacts K L D)) (x : Facts K L D) (o :
 
   brings_superseded : (Q : Proposal D → Type 0) (context : Option (Context D K)) → AllBring {K = K} Q (in_context Supersede context)
   brings_superseded Q None = tt
-  brings_superseded Q (Some c) = (record { notarized = λ d says. absurd (cc); finalized = λ d says. absurd (cc); heard = λ w p says. absurd (cc); noted = λ p says. absurd (cc); built = λ d other moment says. absurd (cc) }, tt)
+  brings_superseded Q (Some c) = (brings_nothing Q refl refl refl refl (λ d other moment says. absurd (cc)), tt)
 
   call_brings : (call : CallFacts D) → fault_of x call ≡ None → AllBring (IsBuilt (now_past call)) (events_of o call)
   call_brings (calls.AddNotarization c) none = (
@@ -112,7 +123,7 @@ module _ {K L D : Type 0} (past : List (StepFacts K L D)) (x : Facts K L D) (o :
   call_brings (calls.SupersedeProposalRequest v) none = brings_superseded (IsBuilt (now_past (calls.SupersedeProposalRequest v))) (context_at o v)
   call_brings (calls.PendingHandoffAbandonment v) none = tt
   call_brings calls.GetBestCertificate none = tt
-  call_brings _ none = (record { notarized = λ d says. absurd (cc); finalized = λ d says. absurd (cc); heard = λ w p says. absurd (cc); noted = λ p says. absurd (cc); built = λ d other moment says. absurd (cc) }, tt)
+  call_brings _ none = (brings_nothing (IsBuilt (now_past _)) refl refl refl refl (λ d other moment says. absurd (cc)), tt)
 
 module _ {K L D : Type 0} (same : D → D → Bool) (decides : (d e : D) → same d e ≡ true → d ≡ e) (elect : Elect L) where
   pub call_held : (past : List (StepFacts K L D)) (x : Facts K L D) (o : Openings K D) (call : CallFacts D) → ArePlaced o → is_allowed x o call ≡ true → fault_of x call ≡ None → AllHeld (IsBuilt past) x → AllHeld (IsBuilt (past ++ Calls call ∷ [])) (after_call same elect x o call)
@@ -181,7 +192,7 @@ module _ {K L D : Type 0} (same : D → D → Bool) (decides : (d e : D) → sam
   by_event x e brings all = event_held same decides elect Q x e brings all
 
   floor_held : (x : Facts K L D) (floor : FloorFacts D) → is_floor_too_large floor ≡ false → AllHeld Q x → AllHeld Q (after_set_floor same elect x floor now)
-  floor_held x (Genesis payload) small all = by_event x (SetFloor (Genesis payload) now) (record { notarized = λ d says. absurd (cc); finalized = λ d says. absurd (cc); heard = λ w p says. absurd (cc); noted = λ p says. absurd (cc); built = λ d other moment says. absurd (cc) }) all
+  floor_held x (Genesis payload) small all = by_event x (SetFloor (Genesis payload) now) (brings_nothing Q refl refl refl refl (λ d other moment says. absurd (cc))) all
   floor_held x (FinalizedFloor c) small all = by_event x (SetFloor (FinalizedFloor c) now) (record {
     notarized = λ d says. absurd (cc);
     finalized = λ d says. (let here : c ≡ d = cc in subst (λ (k : ProposalFacts D). Q k.proposal) here (small_view past c.proposal small));
@@ -198,10 +209,10 @@ module _ {K L D : Type 0} (same : D → D → Bool) (decides : (d e : D) → sam
     noted = λ q says. (let here : p ≡ q = cc in subst Q here (small_view past p small));
     built = λ d other moment says. absurd (cc);
   }) all
-  replayed_held x (NullifyVote round m) small all = by_event x (Replay (NullifyVote round m)) (record { notarized = λ d says. absurd (cc); finalized = λ d says. absurd (cc); heard = λ w p says. absurd (cc); noted = λ p says. absurd (cc); built = λ d other moment says. absurd (cc) }) all
-  replayed_held x (FinalizeVote p m) small all = by_event x (Replay (FinalizeVote p m)) (record { notarized = λ d says. absurd (cc); finalized = λ d says. absurd (cc); heard = λ w p says. absurd (cc); noted = λ p says. absurd (cc); built = λ d other moment says. absurd (cc) }) all
-  replayed_held x (Verdict round success) small all = by_event x (Replay (Verdict round success)) (record { notarized = λ d says. absurd (cc); finalized = λ d says. absurd (cc); heard = λ w p says. absurd (cc); noted = λ p says. absurd (cc); built = λ d other moment says. absurd (cc) }) all
-  replayed_held x (Accepted c) small all = by_event x (Replay (Accepted c)) (record { notarized = λ d says. absurd (cc); finalized = λ d says. absurd (cc); heard = λ w p says. absurd (cc); noted = λ p says. absurd (cc); built = λ d other moment says. absurd (cc) }) all
+  replayed_held x (NullifyVote round m) small all = by_event x (Replay (NullifyVote round m)) (brings_nothing Q refl refl refl refl (λ d other moment says. absurd (cc))) all
+  replayed_held x (FinalizeVote p m) small all = by_event x (Replay (FinalizeVote p m)) (brings_nothing Q refl refl refl refl (λ d other moment says. absurd (cc))) all
+  replayed_held x (Verdict round success) small all = by_event x (Replay (Verdict round success)) (brings_nothing Q refl refl refl refl (λ d other moment says. absurd (cc))) all
+  replayed_held x (Accepted c) small all = by_event x (Replay (Accepted c)) (brings_nothing Q refl refl refl refl (λ d other moment says. absurd (cc))) all
 
   retaken_held : (x : Facts K L D) (e : ArtifactFacts D) → entry_too_large e ≡ false → AllHeld Q x → AllHeld Q (retaken same elect x now e)
   retaken_held x (NotarizeVote p m) small all = replayed_held x (NotarizeVote p m) small all
@@ -209,7 +220,7 @@ module _ {K L D : Type 0} (same : D → D → Bool) (decides : (d e : D) → sam
   retaken_held x (FinalizeVote p m) small all = replayed_held x (FinalizeVote p m) small all
   retaken_held x (Verdict round success) small all =
       by_event (replayed same elect x (Verdict round success)) (Certified round.view success now)
-      (record { notarized = λ d says. absurd (cc); finalized = λ d says. absurd (cc); heard = λ w p says. absurd (cc); noted = λ p says. absurd (cc); built = λ d other moment says. absurd (cc) })
+      (brings_nothing Q refl refl refl refl (λ d other moment says. absurd (cc)))
       (replayed_held x (Verdict round success) small all)
   retaken_held x (Accepted (Notarized c)) small all =
       replayed_held (after_event same elect x (AddNotarization c)) (Accepted (Notarized c)) small (by_event x (AddNotarization c) (record {
@@ -220,7 +231,7 @@ module _ {K L D : Type 0} (same : D → D → Bool) (decides : (d e : D) → sam
         built = λ d other moment says. absurd (cc);
       }) all)
   retaken_held x (Accepted (Nullified c)) small all =
-      replayed_held (after_event same elect x (AddNullification c now)) (Accepted (Nullified c)) small (by_event x (AddNullification c now) (record { notarized = λ d says. absurd (cc); finalized = λ d says. absurd (cc); heard = λ w p says. absurd (cc); noted = λ p says. absurd (cc); built = λ d other moment says. absurd (cc) }) all)
+      replayed_held (after_event same elect x (AddNullification c now)) (Accepted (Nullified c)) small (by_event x (AddNullification c now) (brings_nothing Q refl refl refl refl (λ d other moment says. absurd (cc))) all)
   retaken_held x (Accepted (Finalized c)) small all =
       replayed_held (after_event same elect x (AddFinalization c now)) (Accepted (Finalized c)) small (by_event x (AddFinalization c now) (record {
         notarized = λ d says. absurd (cc);
