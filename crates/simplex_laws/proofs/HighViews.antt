@@ -1,11 +1,13 @@
 -- A member's record is refused for a view that is too large only where the member voted in one.
-use Rattle.std.proofs.Common.{◌≡◌, refl, sym, ◌∙◌, subst, ℕ, ◌^◌, ◌⊎◌, inl, inr, Bool, true, false, if◌then◌else◌, List, [], ◌∷◌, Option, Some, None, Contains, arith}
+use Rattle.std.proofs.Common.{◌≡◌, refl, sym, ◌∙◌, subst, ℕ, ◌≤◌, ◌^◌, ◌⊎◌, inl, inr, Bool, true, false, if◌then◌else◌, List, [], ◌∷◌, Option, Some, None, Contains, arith}
 use Rattle.std.proofs.Math.Bool.{or-false}
 use Rattle.std.proofs.lemmas.Bool.{leb-true, or_cases, or_parts, false≢true}
 use Rattle.std.proofs.lemmas.List.Elements.{Contains-append_left}
 use Rattle.simplex_types.specs.Certificates.{CertificateFacts, Notarized, Nullified, Finalized, ArtifactFacts, NotarizeVote, NullifyVote, FinalizeVote, Verdict, Accepted}
 use Rattle.simplex_types.specs.Config.{FloorFacts, Genesis, Finalized as FinalizedFloor}
 use Rattle.simplex_types.specs.declared.types.messages.Subject.TheVariants as subject
+use Rattle.simplex_types.specs.declared.types.messages.Proposal.{Proposal}
+use Rattle.simplex_types.specs.declared.types.numbers.Round.{Round}
 use Rattle.simplex_voter.specs.Facts.{Facts}
 use Rattle.simplex_voter.specs.Refusals.{is_too_large, names_too_large, has_late_deadline}
 use Rattle.simplex_member.specs.declared.member.error.RecoverError.{RecoverError}
@@ -13,8 +15,8 @@ use Rattle.simplex_member.specs.declared.member.error.RecoverError.TheVariants a
 use Rattle.simplex_member.specs.Check.{first_error, beside_rules, own_rules, floor_rules, entry_rules, first_broken_after, first_broken_rule}
 use Rattle.simplex_member.specs.Recovery.{recover_error}
 use Rattle.simplex_laws.specs.Deeds.{Deed, Accepts}
-use Rattle.simplex_laws.specs.Lawful.{IsLawful}
-use Rattle.simplex_laws.specs.Outside.{VotedTooHigh, is_floor_too_large}
+use Rattle.simplex_laws.specs.Lawful.{IsLawful, HasSigned}
+use Rattle.simplex_laws.specs.Outside.{is_floor_too_large}
 use Rattle.simplex_laws.proofs.BrokenRules.{OfBroken, first_broken, broken_joined, from_either}
 use Rattle.simplex_laws.proofs.OwnRecords.{OwnRecord}
 use Rattle.simplex_laws.proofs.Recalls.{Remembers}
@@ -23,8 +25,14 @@ use Rattle.simplex_laws.proofs.SmallViews.{subject_too_large, AreSmall}
 use Rattle.simplex_laws.proofs.Splits.{Contains-cons_rest}
 use Rattle.simplex_laws.proofs.VoteOrder.{voted, earlier, Contains-split}
 
--- what an entry names
-abbrev entry_too_large : {D : Type 0} → ArtifactFacts D → Bool
+-- the member voted to nullify or to notarize a view that is too large
+abbrev pub HasHighVote : {D : Type 0} → List (Deed D) → Type 0
+HasHighVote {D} deeds =
+    ((round : Round) × HasSigned deeds (subject.Nullify round) × (2 ^ 63 ≤ round.view))
+    ⊎ ((p : Proposal D) × HasSigned deeds (subject.Notarize p) × (2 ^ 63 ≤ p.round.view))
+
+-- an entry names a view that is too large
+abbrev pub entry_too_large : {D : Type 0} → ArtifactFacts D → Bool
 entry_too_large (NotarizeVote p m) = names_too_large p
 entry_too_large (NullifyVote round m) = is_too_large round.view
 entry_too_large (FinalizeVote p m) = names_too_large p
@@ -67,7 +75,7 @@ module _ {D : Type 0} (same : D → D → Bool) (epoch : ℕ) (me : Option ℕ) 
   of_floor (FinalizedFloor c) claim = (λ _ is. absurd (cc), (λ _ is. absurd (cc), (λ broken is. claim broken, tt)))
 
 module _ {D : Type 0} (term_length : ℕ) (deeds : List (Deed D)) (lawful : IsLawful term_length deeds) (small : AreSmall deeds) (kept : ℕ) (entries : List (ArtifactFacts D)) (remembers : Remembers deeds kept entries) (own : OwnRecord deeds entries) where
-  fine : (b : Bool) → b ≡ false → b ≡ true → VotedTooHigh deeds
+  fine : (b : Bool) → b ≡ false → b ≡ true → HasHighVote deeds
   fine b kept_small large = absurd (false≢true (sym kept_small ∙ large))
 
   certificate_small : (c : CertificateFacts D) → Contains entries (Accepted c) → subject_too_large (subject_of c) ≡ false
@@ -75,7 +83,7 @@ module _ {D : Type 0} (term_length : ℕ) (deeds : List (Deed D)) (lawful : IsLa
 
   -- what is too large is a vote to nullify or to notarize: a certificate was accepted, behind a verdict and a vote to finalize
   -- stands the notarization
-  too_large_voted : (e : ArtifactFacts D) → Contains entries e → entry_too_large e ≡ true → VotedTooHigh deeds
+  too_large_voted : (e : ArtifactFacts D) → Contains entries e → entry_too_large e ≡ true → HasHighVote deeds
   too_large_voted (NotarizeVote p m) h large =
       let signs = own.notarize_cast p m h in
       let before = voted deeds (subject.Notarize p) signs in
@@ -98,12 +106,12 @@ module _ {D : Type 0} (term_length : ℕ) (deeds : List (Deed D)) (lawful : IsLa
       fine (is_too_large round.view) (subst (λ v. is_too_large v ≡ false) c.2 parts.0) large
   too_large_voted (Accepted c) h large = fine (subject_too_large (subject_of c)) (certificate_small c h) large
 
-  pub view_voted : {K L : Type 0} (same : D → D → Bool) (x : Facts K L D) (floor : FloorFacts D) (now : ℕ) → recover_error same x floor now entries ≡ Some error.ViewTooLarge → (is_floor_too_large floor ≡ true) ⊎ VotedTooHigh deeds
+  pub view_voted : {K L : Type 0} (same : D → D → Bool) (x : Facts K L D) (floor : FloorFacts D) (now : ℕ) → recover_error same x floor now entries ≡ Some error.ViewTooLarge → (is_floor_too_large floor ≡ true) ⊎ HasHighVote deeds
   unfolding first_broken_rule
   view_voted same x floor now is = elim (from_either (first_broken_rule same x.settings.epoch x.me floor entries) (if has_late_deadline x now then Some error.TimeOverflow else None) error.ViewTooLarge is) [
     | inr late ↦ absurd (late_elsewhere (has_late_deadline x now) late)
     | inl broken ↦ elim (from_either (first_error (floor_rules x.settings.epoch floor)) (first_broken_after same x.settings.epoch x.me [] entries) error.ViewTooLarge broken) [
-      | inl in_floor ↦ first_broken (IfView same x.settings.epoch x.me ((is_floor_too_large floor ≡ true) ⊎ VotedTooHigh deeds)) (floor_rules x.settings.epoch floor) error.ViewTooLarge (of_floor same x.settings.epoch x.me ((is_floor_too_large floor ≡ true) ⊎ VotedTooHigh deeds) floor (λ large. inl large)) in_floor refl
-      | inr in_entries ↦ of_entries same x.settings.epoch x.me ((is_floor_too_large floor ≡ true) ⊎ VotedTooHigh deeds) [] entries error.ViewTooLarge (λ e h large. inr (too_large_voted e h large)) in_entries refl
+      | inl in_floor ↦ first_broken (IfView same x.settings.epoch x.me ((is_floor_too_large floor ≡ true) ⊎ HasHighVote deeds)) (floor_rules x.settings.epoch floor) error.ViewTooLarge (of_floor same x.settings.epoch x.me ((is_floor_too_large floor ≡ true) ⊎ HasHighVote deeds) floor (λ large. inl large)) in_floor refl
+      | inr in_entries ↦ of_entries same x.settings.epoch x.me ((is_floor_too_large floor ≡ true) ⊎ HasHighVote deeds) [] entries error.ViewTooLarge (λ e h large. inr (too_large_voted e h large)) in_entries refl
     ]
   ]

@@ -116,3 +116,6 @@ pub mod Turns
 pub mod DividedNetwork
 pub mod LackingNetwork
 pub mod HandoffNetwork
+pub mod BuiltProposals
+pub mod BuiltHigh
+pub mod HighVotes

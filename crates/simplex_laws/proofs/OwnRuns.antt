@@ -15,7 +15,7 @@ use Rattle.simplex_member.specs.Check.{stands}
 use Rattle.simplex_member.specs.Cuts.{may_drop, without_last, finalized_in, pruned}
 use Rattle.simplex_member.specs.Entries.{entry_view}
 use Rattle.simplex_member.specs.Lives.{MemberFacts, IsCall, AnswersAlive, reply_of, left_of, fallen}
-use Rattle.simplex_laws.specs.Outside.{AcceptedParentAbove, VotedTooHigh, is_floor_too_large, IsFromOutside, IsExcused, VerdictsFollowNotarizations}
+use Rattle.simplex_laws.specs.Outside.{AcceptedParentAbove, is_floor_too_large, IsFromOutside, IsExcused, VerdictsFollowNotarizations}
 use Rattle.simplex_member.specs.Recovery.{recover_error, recovered, is_finalization, with_floor}
 use Rattle.simplex_member.specs.Restarts.{RestartFacts, IsByView, cut, new_life, retention_grows, GoesOn, IsRestart, IsRestartWhere}
 use Rattle.simplex_member.specs.Runs.{StepFacts, Calls, Restarts, restart_told, IsRun, EndsRun, EndsRunFrom}
@@ -25,7 +25,7 @@ use Rattle.simplex_laws.specs.Deeds.{Deed, of_floor, deeds_of_call, deeds_at, de
 use Rattle.simplex_laws.specs.TermLengths.{HasTerms, KeepTerms}
 use Rattle.simplex_laws.proofs.BrokenParents.{parent_accepted}
 use Rattle.simplex_laws.proofs.CutsRemembered.{copy_remembers}
-use Rattle.simplex_laws.proofs.HighViews.{view_voted}
+use Rattle.simplex_laws.proofs.HighViews.{HasHighVote, view_voted}
 use Rattle.simplex_laws.proofs.Outside.{Fit, error_outside}
 use Rattle.simplex_laws.proofs.OwnRecords.{OwnRecord, own_together, own_nothing, HasNoVerdict, own_floor, own_left, own_bounded, own_copy, same_entries}
 use Rattle.simplex_laws.proofs.Recalls.{only_one}
@@ -33,7 +33,7 @@ use Rattle.simplex_laws.proofs.RecoveredVerdicts.{recovered_shows}
 use Rattle.simplex_laws.proofs.RunsLawful.{MemberLives, between_of, cut_between, call_lives_on, restart_lives_on, start_lives}
 use Rattle.simplex_laws.proofs.WorkVerdicts.{call_told}
 use Rattle.simplex_laws.proofs.ShownVerdicts.{Tells, shows_more}
-use Rattle.simplex_laws.proofs.SmallViews.{AreSmall, small_both, floor_small, steps_small}
+use Rattle.simplex_laws.proofs.SmallViews.{AreSmall}
 use Rattle.simplex_laws.proofs.Verdicts.{Shows}
 use Rattle.simplex_laws.proofs.Together.{record_fits}
 
@@ -164,20 +164,20 @@ pub record KeepsRecord {K L D : Type 0} (term_length : ℕ) (deeds : List (Deed 
   pub tells : MemberTells deeds m
 
 module _ {K L D : Type 0} (same : D → D → Bool) (decides : (d e : D) → same d e ≡ true → d ≡ e) (itself : (d : D) → same d d ≡ true) (elect : Elect L) (term_length : ℕ) (some : 0 < term_length) where
-  called : (deeds : List (Deed D)) (m next : MemberFacts K L D) (call : CallFacts D) (told : Told K D) → KeepsRecord term_length deeds m → IsCall same elect m call told next → KeepsRecord term_length (deeds ++ deeds_of_call call told) next
+  pub called : (deeds : List (Deed D)) (m next : MemberFacts K L D) (call : CallFacts D) (told : Told K D) → KeepsRecord term_length deeds m → IsCall same elect m call told next → KeepsRecord term_length (deeds ++ deeds_of_call call told) next
   called deeds m next call told own is = record {
     lives = call_lives_on same decides elect term_length some deeds m call told next own.lives is;
     tells = call_tells_on same elect term_length deeds m call told next own.tells is;
   }
 
-  restarted : (deeds : List (Deed D)) (m next : MemberFacts K L D) (r : RestartFacts K L D) (told : Told K D) → HasTerms term_length r.start.setup → KeepsRecord term_length deeds m → (result : Result (Unit {0}) RecoverError) × IsRestart same elect m r result next × (told ≡ restart_told result) → KeepsRecord term_length (deeds ++ deeds_at (Restarts r) told) next
+  pub restarted : (deeds : List (Deed D)) (m next : MemberFacts K L D) (r : RestartFacts K L D) (told : Told K D) → HasTerms term_length r.start.setup → KeepsRecord term_length deeds m → (result : Result (Unit {0}) RecoverError) × IsRestart same elect m r result next × (told ≡ restart_told result) → KeepsRecord term_length (deeds ++ deeds_at (Restarts r) told) next
   restarted deeds m next r told fresh own (result, is, tell) = rw tell (record {
     lives = restart_lives_on same decides elect term_length some deeds m r result next fresh own.lives is;
     tells = restart_tells_on same elect term_length deeds m r result next own.tells is;
   })
 
   -- so it does where the run ends
-  run_own : (steps : List (StepFacts K L D)) (replies : List (Told K D)) (deeds : List (Deed D)) (m end : MemberFacts K L D) → KeepTerms term_length steps → KeepsRecord term_length deeds m → IsRun same elect m steps replies end → KeepsRecord term_length (deeds ++ deeds_of_steps steps replies) end
+  pub run_own : (steps : List (StepFacts K L D)) (replies : List (Told K D)) (deeds : List (Deed D)) (m end : MemberFacts K L D) → KeepTerms term_length steps → KeepsRecord term_length deeds m → IsRun same elect m steps replies end → KeepsRecord term_length (deeds ++ deeds_of_steps steps replies) end
   run_own [] [] deeds m end fresh own run = subst (λ all. KeepsRecord term_length all end) (sym (append-nil deeds)) (subst (λ n. KeepsRecord term_length deeds n) run own)
   run_own [] (told ∷ replies) deeds m end fresh own run = absurd run
   run_own (step ∷ steps) [] deeds m end fresh own run = absurd run
@@ -208,7 +208,7 @@ module _ {K L D : Type 0} (same : D → D → Bool) (decides : (d e : D) → sam
       let in_copy = own_copy deeds left (cut_own deeds m r.drop r.prune (own_of deeds m.entries m.life own.tells)) copy by_view.of_each_view in
       parent_accepted same term_length deeds between.1.lawful (new_state r.start.setup) r.start.floor r.start.now copy in_copy.notarize_cast remembers.finalize_cast is
 
-  copy_high : (deeds : List (Deed D)) (m : MemberFacts K L D) (r : RestartFacts K L D) (copy : List (ArtifactFacts D)) → AreSmall deeds → KeepsRecord term_length deeds m → IsByView (cut m r.drop r.prune).entries copy → recover_error same (new_state r.start.setup) r.start.floor r.start.now copy ≡ Some error.ViewTooLarge → (is_floor_too_large r.start.floor ≡ true) ⊎ VotedTooHigh deeds
+  pub copy_high : (deeds : List (Deed D)) (m : MemberFacts K L D) (r : RestartFacts K L D) (copy : List (ArtifactFacts D)) → AreSmall deeds → KeepsRecord term_length deeds m → IsByView (cut m r.drop r.prune).entries copy → recover_error same (new_state r.start.setup) r.start.floor r.start.now copy ≡ Some error.ViewTooLarge → (is_floor_too_large r.start.floor ≡ true) ⊎ HasHighVote deeds
   copy_high deeds m r copy small own by_view is =
       let left = (cut m r.drop r.prune).entries in
       let between = cut_between term_length deeds m r.drop own.lives.0 r.prune (between_of term_length deeds m.closed own.lives.0 m.entries m.openings m.life own.lives.1) in
@@ -248,7 +248,7 @@ module _ {K L D : Type 0} (same : D → D → Bool) (decides : (d e : D) → sam
         shows = shows_whole none none start.floor (recovered same elect x start.floor start.now none) (λ v. refl) shows;
       }
 
-  start_own : KeepsRecord term_length (of_floor start.floor) (started same elect (new_state start.setup) start.floor start.now)
+  pub start_own : KeepsRecord term_length (of_floor start.floor) (started same elect (new_state start.setup) start.floor start.now)
   start_own = record { lives = start_lives same decides elect term_length start begins; tells = start_tells }
 
   module _ (steps : List (StepFacts K L D)) (fresh : KeepTerms term_length steps) where
@@ -263,14 +263,6 @@ module _ {K L D : Type 0} (same : D → D → Bool) (decides : (d e : D) → sam
     own_parent_accepted replies end next copy run by_view is =
         let own = run_own same decides itself elect term_length begins.some steps replies (of_floor start.floor) (started same elect (new_state start.setup) start.floor start.now) end fresh start_own run in
         copy_parent same decides itself elect term_length begins.some (of_floor start.floor ++ deeds_of_steps steps replies) end next copy own by_view is
-
-    -- for a view that is too large, only where the next floor names one or the member voted in one
-    pub own_high_voted : (replies : List (Told K D)) (end : MemberFacts K L D) (next : RestartFacts K L D) (copy : List (ArtifactFacts D)) → recover_error same (new_state start.setup) start.floor start.now [] ≡ None → IsRun same elect (started same elect (new_state start.setup) start.floor start.now) steps replies end → IsByView (cut end next.drop next.prune).entries copy → recover_error same (new_state next.start.setup) next.start.floor next.start.now copy ≡ Some error.ViewTooLarge → (is_floor_too_large next.start.floor ≡ true) ⊎ VotedTooHigh (of_floor start.floor ++ deeds_of_steps steps replies)
-    own_high_voted replies end next copy accepted run by_view is =
-        let begun = started same elect (new_state start.setup) start.floor start.now in
-        let own = run_own same decides itself elect term_length begins.some steps replies (of_floor start.floor) begun end fresh start_own run in
-        let small = small_both (of_floor start.floor) (deeds_of_steps steps replies) (floor_small same (new_state start.setup) start.floor start.now [] accepted) (steps_small same elect steps replies begun end run) in
-        copy_high same decides itself elect term_length begins.some (of_floor start.floor ++ deeds_of_steps steps replies) end next copy small own by_view is
 
     -- behind its verdicts stand notarizations, in its own order
     pub own_verdicts_follow : (replies : List (Told K D)) (end : MemberFacts K L D) → IsRun same elect (started same elect (new_state start.setup) start.floor start.now) steps replies end → VerdictsFollowNotarizations end

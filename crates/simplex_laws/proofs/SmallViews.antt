@@ -78,7 +78,7 @@ module _ {D : Type 0} (same : D → D → Bool) where
 
 -- a call
 
-no_fault : (failed large late : Bool) → first_fault failed large late ≡ None → large ≡ false
+pub no_fault : (failed large late : Bool) → first_fault failed large late ≡ None → large ≡ false
 no_fault true large late is = absurd (cc)
 no_fault false true late is = absurd (cc)
 no_fault false false late is = refl

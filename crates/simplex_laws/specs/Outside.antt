@@ -9,11 +9,11 @@ use Rattle.simplex_voter.specs.Facts.{Elect}
 use Rattle.simplex_voter.specs.Refusals.{names_too_large}
 use Rattle.simplex_member.specs.declared.member.error.RecoverError.{RecoverError}
 use Rattle.simplex_member.specs.declared.member.error.RecoverError.TheVariants as error
-use Rattle.simplex_member.specs.Calls.{Told}
+use Rattle.simplex_member.specs.Calls.{Proposed, Told}
 use Rattle.simplex_member.specs.Lives.{MemberFacts}
 use Rattle.simplex_member.specs.Recovery.{recover_error}
 use Rattle.simplex_member.specs.Restarts.{RestartFacts, IsByView, cut, IsRestart}
-use Rattle.simplex_member.specs.Runs.{StepFacts, IsRun, EndsRunFrom}
+use Rattle.simplex_member.specs.Runs.{StepFacts, Calls, IsRun, EndsRunFrom}
 use Rattle.simplex_member.specs.Start.{StartFacts, started, new_state}
 use Rattle.simplex_laws.specs.Deeds.{Deed, Accepts, of_floor, deeds_of_steps}
 use Rattle.simplex_laws.specs.Lawful.{HasSigned}
@@ -45,11 +45,15 @@ VerdictsFollowNotarizations {K} {L} {D} m =
 abbrev pub AcceptedParentAbove : {D : Type 0} → List (Deed D) → Type 0
 AcceptedParentAbove {D} deeds = (p : Proposal D) × Contains deeds (Accepts (subject.Notarize p)) × (p.round.view ≤ p.parent)
 
--- the member voted to nullify or to notarize a view above each that a certificate may have
-abbrev pub VotedTooHigh : {D : Type 0} → List (Deed D) → Type 0
-VotedTooHigh {D} deeds =
+-- the proposal's payload was handed in as what this member built in its view
+abbrev pub HasBuiltIn : {K L D : Type 0} → List (StepFacts K L D) → Proposal D → Type 0
+HasBuiltIn steps p = (now : ℕ) × Contains steps (Calls (Proposed p.round.view p.payload now))
+
+-- the member voted in a view above each that a certificate may have: to nullify it, or to notarize what it built there
+abbrev pub VotedTooHigh : {K L D : Type 0} → List (StepFacts K L D) → List (Deed D) → Type 0
+VotedTooHigh {K} {L} {D} steps deeds =
     ((round : Round) × HasSigned deeds (subject.Nullify round) × (2 ^ 63 ≤ round.view))
-    ⊎ ((p : Proposal D) × HasSigned deeds (subject.Notarize p) × (2 ^ 63 ≤ p.round.view))
+    ⊎ ((p : Proposal D) × HasSigned deeds (subject.Notarize p) × (2 ^ 63 ≤ p.round.view) × HasBuiltIn steps p)
 
 -- a floor's finalization names such a view
 abbrev pub is_floor_too_large : {D : Type 0} → FloorFacts D → Bool
@@ -92,7 +96,7 @@ module _ (K : Type 0) {L D : Type 0} (same : D → D → Bool) (elect : Elect L)
       → AcceptedParentAbove (of_floor start.floor ++ deeds_of_steps steps replies)
 
   -- of a run whose start is taken, it is refused for a view that is too large only where the next floor names one, or where the
-  -- member voted in one, to nullify or to notarize
+  -- member voted in one
   abbrev pub HighViewsAreVotedFor : Type 0
   HighViewsAreVotedFor =
       (term_length : ℕ) (start : StartFacts K L D) (steps : List (StepFacts K L D)) (replies : List (Told K D)) (end : MemberFacts K L D)
@@ -103,7 +107,7 @@ module _ (K : Type 0) {L D : Type 0} (same : D → D → Bool) (elect : Elect L)
       → (next : RestartFacts K L D) (copy : List (ArtifactFacts D))
       → IsByView (cut end next.drop next.prune).entries copy
       → recover_error same (new_state next.start.setup) next.start.floor next.start.now copy ≡ Some error.ViewTooLarge
-      → (is_floor_too_large next.start.floor ≡ true) ⊎ VotedTooHigh (of_floor start.floor ++ deeds_of_steps steps replies)
+      → (is_floor_too_large next.start.floor ≡ true) ⊎ VotedTooHigh steps (of_floor start.floor ++ deeds_of_steps steps replies)
 
   -- so is a run, at its start or at one of its restarts
   abbrev pub RunsAreExcused : Type 0

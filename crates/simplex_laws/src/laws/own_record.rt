@@ -14,9 +14,9 @@ use simplex_types::types::{Digest, Elector, Scheme};
 ///   breaks the rules on the order of views, on verdicts, or on votes beside one another, whatever is cut off it.
 /// - `parent`: it is refused for a parent only where the member accepted a notarization whose proposal names no earlier view as
 ///   its parent, and voted to finalize it. No backed notarization does so (`parent_before` of `agreement`).
-/// - `high`: where its start was taken, it is refused for a view that is too large only where the next floor names one, or the
-///   member voted in one itself: to nullify it, or to notarize it. So no certificate of its record, no verdict and no vote to
-///   finalize is refused for that.
+/// - `high`: where the run's start was taken, it is refused for a view that is too large only where the next floor names one, or
+///   the member voted in one itself: to nullify it, or to notarize what it built there. So no certificate of its record, no
+///   verdict and no vote to finalize is refused for that, nor any vote for what others proposed.
 /// - `notarized`: before each verdict of the record, in its own order, stands a notarization of the view; so a resolver that
 ///   is started from the record as it stands has the notarization of each verdict.
 /// - `restart`: a restart is refused only for that, for more views that are to be kept of a pruned record, or for want of

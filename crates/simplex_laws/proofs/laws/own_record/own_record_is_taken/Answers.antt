@@ -1,5 +1,6 @@
 -- each claim, from the start on
-use Rattle.simplex_laws.proofs.OwnRuns.{own_record_outside, own_parent_accepted, own_high_voted, own_verdicts_follow, own_restart_excused, own_run_excused}
+use Rattle.simplex_laws.proofs.HighVotes.{own_high_voted}
+use Rattle.simplex_laws.proofs.OwnRuns.{own_record_outside, own_parent_accepted, own_verdicts_follow, own_restart_excused, own_run_excused}
 use Rattle.simplex_laws.proofs.laws.own_record.own_record_is_taken.Goals as goal
 
 pub returns-clause-record : goal.returns-clause-record
@@ -12,7 +13,7 @@ returns-clause-parent g c term_length start steps replies end begins fresh run n
 
 pub returns-clause-high : goal.returns-clause-high
 returns-clause-high g c term_length start steps replies end begins fresh accepted run next copy by_view refused =
-    own_high_voted g.D.PartialEq.eq g.met.D.Digest.equal_is_same g.met.D.Digest.same_is_equal g.L.Elector.elect term_length start begins steps fresh replies end next copy accepted run by_view refused
+    own_high_voted g.D.PartialEq.eq g.met.D.Digest.equal_is_same g.met.D.Digest.same_is_equal g.L.Elector.elect term_length start begins accepted steps replies end next copy fresh run by_view refused
 
 pub returns-clause-notarized : goal.returns-clause-notarized
 returns-clause-notarized g c term_length start steps replies end begins fresh run =
