@@ -1,0 +1,89 @@
+"""A small picture of the table: the time against the size of each workload, both by powers, as SVG.
+
+The workloads are drawn beside one another, a panel each, so that no line hides another. The grey lines of a panel are those
+of a time that grows with the size."""
+
+import math
+from xml.sax.saxutils import escape
+
+COLUMNS = 6
+PANEL = (190, 170)
+LEFT, TOP, RIGHT, BOTTOM = 44, 40, 8, 26
+HEAD = 46
+STEEP = 2.2
+PLAIN, WARNING, GREY = "#1f5fa8", "#c0392b", "#dddddd"
+
+
+class Scale:
+    """Where a size and its seconds stand in a panel."""
+
+    def __init__(self, points):
+        sizes = [math.log2(size) for size, _ in points]
+        times = [math.log10(seconds) for _, seconds in points]
+        self.first, self.last = min(sizes), max(max(sizes), min(sizes) + 1)
+        self.low, self.high = math.floor(min(times)), math.ceil(max(times))
+
+    def across(self, size):
+        return LEFT + (math.log2(size) - self.first) / (self.last - self.first) * (PANEL[0] - LEFT - RIGHT)
+
+    def down(self, seconds):
+        share = (math.log10(seconds) - self.low) / (self.high - self.low)
+        return PANEL[1] - BOTTOM - share * (PANEL[1] - TOP - BOTTOM)
+
+    def decades(self):
+        return [10**power for power in range(self.low, self.high + 1)]
+
+
+def drawing(rows):
+    """The picture of all workloads, each a name and its points, a size and seconds each."""
+    rows = {name: [(size, max(seconds, 1e-3)) for size, seconds in points] for name, points in rows.items() if points}
+    scale = Scale([point for points in rows.values() for point in points])
+    width, height = COLUMNS * PANEL[0], HEAD + -(-len(rows) // COLUMNS) * PANEL[1]
+    parts = [
+        f'<svg xmlns="http://www.w3.org/2000/svg" viewBox="0 0 {width} {height}" width="{width}" height="{height}" '
+        'font-family="DejaVu Sans, Helvetica, sans-serif" font-size="10">',
+        f'<rect width="{width}" height="{height}" fill="white"/>',
+        text(12, 20, "Processor seconds of the program (upward) against the number of views", "#222222", 14),
+        text(12, 37, f"Below each name: the growth for a doubling of the size, on the whole; above {STEEP} it is red.", "#555555", 11),
+    ]
+    for index, (name, points) in enumerate(rows.items()):
+        column, row = index % COLUMNS, index // COLUMNS
+        parts.append(f'<g transform="translate({column * PANEL[0]} {HEAD + row * PANEL[1]})">')
+        parts += [*frame(scale, points), *line(scale, name, points), "</g>"]
+    return "\n".join([*parts, "</svg>", ""])
+
+
+def frame(scale, points):
+    """The decades of the seconds, and the sizes below."""
+    for seconds in scale.decades():
+        height = scale.down(seconds)
+        yield f'<line x1="{LEFT}" y1="{height:.1f}" x2="{PANEL[0] - RIGHT}" y2="{height:.1f}" stroke="{GREY}"/>'
+        yield text(LEFT - 5, height + 3.5, f"{seconds:g} s", "#555555", 9, "end")
+    for size, _ in points:
+        yield text(scale.across(size), PANEL[1] - BOTTOM + 13, short(size), "#555555", 9, "middle")
+
+
+def line(scale, name, points):
+    """The name of a workload, its growth, and its points."""
+    grown = whole_growth(points)
+    colour = WARNING if grown > STEEP else PLAIN
+    way = " ".join(f"{scale.across(size):.1f},{scale.down(seconds):.1f}" for size, seconds in points)
+    yield text(LEFT, 14, name, "#222222", 11)
+    yield text(LEFT, 28, f"{points[-1][1]:.2f} s at the end; growth {grown:.1f}", colour, 9)
+    yield f'<polyline points="{way}" fill="none" stroke="{colour}" stroke-width="2"/>'
+    for size, seconds in points:
+        yield f'<circle cx="{scale.across(size):.1f}" cy="{scale.down(seconds):.1f}" r="2.5" fill="{colour}"/>'
+
+
+def whole_growth(points):
+    """The factor of the time for a doubling of the size, from the first point to the last."""
+    (first, quick), (last, slow) = points[0], points[-1]
+    return (slow / quick) ** (1 / math.log2(last / first)) if last > first else 1.0
+
+
+def short(size):
+    return f"{size // 1000}k" if size % 1000 == 0 else str(size)
+
+
+def text(across, down, words, colour, size, anchor="start"):
+    return f'<text x="{across:.1f}" y="{down:.1f}" fill="{colour}" font-size="{size}" text-anchor="{anchor}">{escape(words)}</text>'
