@@ -66,7 +66,7 @@ def frame(scale, points):
 
 def line(scale, name, points):
     """The name of a workload, its growth, and its points."""
-    grown = whole_growth(points)
+    grown = round(whole_growth(points), 1)
     colour = WARNING if grown > STEEP else PLAIN
     first, last = points[0], points[-1]
     even = [first, last._replace(seconds=first.seconds * last.size / first.size)]
