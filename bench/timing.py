@@ -52,8 +52,8 @@ def run(program, arguments, script, replies):
         _, status, used = os.wait4(started.pid, 0)
     started.returncode = os.waitstatus_to_exitcode(status)
     if started.returncode != 0:
-        raise WrongReply(f"the program ended with status {started.returncode}")
-    return (used.ru_utime + used.ru_stime, used.ru_maxrss / 1024)
+        raise WrongReply(f"{' '.join(arguments)}: the program ended with status {started.returncode}")
+    return used.ru_utime + used.ru_stime, used.ru_maxrss / 1024
 
 
 def compare(workload, script, wanted, replies):
