@@ -1,10 +1,12 @@
 """A small picture of the table: the time against the size of each workload, both by powers, as SVG.
 
-The workloads are drawn beside one another, a panel each, so that no line hides another. The grey lines of a panel are those
-of a time that grows with the size."""
+The workloads are drawn beside one another, a panel each, so that no line hides another. The dashed line of a panel is that
+of a time that begins as the workload's and grows with the size."""
 
 import math
 from xml.sax.saxutils import escape
+
+from table import LEAST_SECONDS, whole_growth
 
 COLUMNS = 6
 PANEL = (190, 170)
@@ -18,8 +20,8 @@ class Scale:
     """Where a size and its seconds stand in a panel."""
 
     def __init__(self, points):
-        sizes = [math.log2(size) for size, _ in points]
-        times = [math.log10(seconds) for _, seconds in points]
+        sizes = [math.log2(point.size) for point in points]
+        times = [math.log10(max(point.seconds, LEAST_SECONDS)) for point in points]
         self.first, self.last = min(sizes), max(max(sizes), min(sizes) + 1)
         self.low, self.high = math.floor(min(times)), math.ceil(max(times))
 
@@ -27,7 +29,7 @@ class Scale:
         return LEFT + (math.log2(size) - self.first) / (self.last - self.first) * (PANEL[0] - LEFT - RIGHT)
 
     def down(self, seconds):
-        share = (math.log10(seconds) - self.low) / (self.high - self.low)
+        share = (math.log10(max(seconds, LEAST_SECONDS)) - self.low) / (self.high - self.low)
         return PANEL[1] - BOTTOM - share * (PANEL[1] - TOP - BOTTOM)
 
     def decades(self):
@@ -35,8 +37,7 @@ class Scale:
 
 
 def drawing(rows):
-    """The picture of all workloads, each a name and its points, a size and seconds each."""
-    rows = {name: [(size, max(seconds, 1e-3)) for size, seconds in points] for name, points in rows.items() if points}
+    """The picture of all workloads, each a name and its points."""
     scale = Scale([point for points in rows.values() for point in points])
     width, height = COLUMNS * PANEL[0], HEAD + -(-len(rows) // COLUMNS) * PANEL[1]
     parts = [
@@ -44,7 +45,7 @@ def drawing(rows):
         'font-family="DejaVu Sans, Helvetica, sans-serif" font-size="10">',
         f'<rect width="{width}" height="{height}" fill="white"/>',
         text(12, 20, "Processor seconds of the program (upward) against the number of views", "#222222", 14),
-        text(12, 37, f"Below each name: the growth for a doubling of the size, on the whole; above {STEEP} it is red.", "#555555", 11),
+        text(12, 37, f"Below each name: the growth for a doubling of the size, on the whole; above {STEEP} it is red. Dashed: growth 2.", "#555555", 11),
     ]
     for index, (name, points) in enumerate(rows.items()):
         column, row = index % COLUMNS, index // COLUMNS
@@ -59,26 +60,27 @@ def frame(scale, points):
         height = scale.down(seconds)
         yield f'<line x1="{LEFT}" y1="{height:.1f}" x2="{PANEL[0] - RIGHT}" y2="{height:.1f}" stroke="{GREY}"/>'
         yield text(LEFT - 5, height + 3.5, f"{seconds:g} s", "#555555", 9, "end")
-    for size, _ in points:
-        yield text(scale.across(size), PANEL[1] - BOTTOM + 13, short(size), "#555555", 9, "middle")
+    for point in points:
+        yield text(scale.across(point.size), PANEL[1] - BOTTOM + 13, short(point.size), "#555555", 9, "middle")
 
 
 def line(scale, name, points):
     """The name of a workload, its growth, and its points."""
-    grown = whole_growth(points)
+    grown = round(whole_growth(points), 1)
     colour = WARNING if grown > STEEP else PLAIN
-    way = " ".join(f"{scale.across(size):.1f},{scale.down(seconds):.1f}" for size, seconds in points)
+    first, last = points[0], points[-1]
+    even = [first, last._replace(seconds=first.seconds * last.size / first.size)]
     yield text(LEFT, 14, name, "#222222", 11)
-    yield text(LEFT, 28, f"{points[-1][1]:.2f} s at the end; growth {grown:.1f}", colour, 9)
-    yield f'<polyline points="{way}" fill="none" stroke="{colour}" stroke-width="2"/>'
-    for size, seconds in points:
-        yield f'<circle cx="{scale.across(size):.1f}" cy="{scale.down(seconds):.1f}" r="2.5" fill="{colour}"/>'
+    yield text(LEFT, 28, f"{last.seconds:.2f} s at the end; growth {grown:.1f}", colour, 9)
+    yield f'<polyline points="{way(scale, even)}" fill="none" stroke="#888888" stroke-dasharray="3 3"/>'
+    yield f'<polyline points="{way(scale, points)}" fill="none" stroke="{colour}" stroke-width="2"/>'
+    for point in points:
+        place = f'cx="{scale.across(point.size):.1f}" cy="{scale.down(point.seconds):.1f}"'
+        yield f'<circle {place} r="2.5" fill="{colour}"><title>{point.size}: {point.seconds:.3f} s</title></circle>'
 
 
-def whole_growth(points):
-    """The factor of the time for a doubling of the size, from the first point to the last."""
-    (first, quick), (last, slow) = points[0], points[-1]
-    return (slow / quick) ** (1 / math.log2(last / first)) if last > first else 1.0
+def way(scale, points):
+    return " ".join(f"{scale.across(point.size):.1f},{scale.down(point.seconds):.1f}" for point in points)
 
 
 def short(size):

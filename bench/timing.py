@@ -8,13 +8,14 @@ import tempfile
 from pathlib import Path
 from typing import NamedTuple
 
-SHORT_RUNS = 3
-SECONDS_OF_SHORT_RUNS = 1
+SHORT_RUNS = 5
+SECONDS_OF_SHORT_RUNS = 2
 
 
-class Figures(NamedTuple):
-    """The processor seconds of the program, and the most memory that it held, in MB."""
+class Point(NamedTuple):
+    """The processor seconds of the program at a size, and the most memory that it held, in MB."""
 
+    size: int
     seconds: float
     peak: float
 
@@ -24,15 +25,15 @@ class WrongReply(Exception):
 
 
 def measure(program, workload, size):
-    """The figures of a workload at a size: of the fastest of a few runs, where they are short."""
+    """The point of a workload at a size: of the fastest of a few runs, where they are short."""
     with tempfile.TemporaryDirectory() as folder:
         script, wanted, replies = (Path(folder) / name for name in ("script", "wanted", "replies"))
         write(workload.lines(size), script, wanted)
         runs = []
-        while len(runs) < SHORT_RUNS and sum(run.seconds for run in runs) < SECONDS_OF_SHORT_RUNS:
+        while len(runs) < SHORT_RUNS and sum(seconds for seconds, _ in runs) < SECONDS_OF_SHORT_RUNS:
             runs.append(run(program, workload.arguments, script, replies))
             compare(workload, script, wanted, replies)
-        return min(runs)
+        return Point(size, *min(runs))
 
 
 def write(lines, script, wanted):
@@ -45,13 +46,14 @@ def write(lines, script, wanted):
 
 
 def run(program, arguments, script, replies):
+    """The seconds and the peak of one run, which writes its replies to a file."""
     with open(script) as lines, open(replies, "w") as answers:
         started = subprocess.Popen([program, *arguments], stdin=lines, stdout=answers)
         _, status, used = os.wait4(started.pid, 0)
     started.returncode = os.waitstatus_to_exitcode(status)
     if started.returncode != 0:
-        raise WrongReply(f"the program ended with status {started.returncode}")
-    return Figures(used.ru_utime + used.ru_stime, used.ru_maxrss / 1024)
+        raise WrongReply(f"{' '.join(arguments)}: the program ended with status {started.returncode}")
+    return used.ru_utime + used.ru_stime, used.ru_maxrss / 1024
 
 
 def compare(workload, script, wanted, replies):
