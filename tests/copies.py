@@ -3,7 +3,8 @@
 
 The program is deterministic: the same lines behind the same arguments have the same reply wherever they are written, in the
 tables of `crates/simplex_tests/src/program`, in the README, `docs/PROGRAM.md`, the program's own run and the stored schedules. And
-copies of source, output, numbers and names in the docs are those of what they are copied from.
+copies of source, output, numbers and names in the docs are those of what they are copied from. A must-fail edit names a text of
+the source, which still stands there.
 
     tests/copies.py [--program PATH]       with a built program, the picture in docs/TESTED.md too
 
@@ -13,6 +14,7 @@ import argparse
 import re
 import sys
 
+import edits
 import schedules
 import scripts
 import wrong_bodies
@@ -115,11 +117,18 @@ def listed_names():
     told = {first.strip("`") for first, _ in table_rows("README.md") if first.strip("`") in crates | listed}
     yield from (f"{what} has other crates than stand: {names ^ crates}" for what, names in (("crates.txt", listed), ("README.md", told)) if names != crates)
     for name in wrong_bodies.WRONG_BODIES + wrong_bodies.WRONG_WITHOUT_MEMORY:
-        crate, edit = name.split("/")
-        if not (ROOT / f"crates/{crate}/must-fail/{edit}.edit").is_file():
-            yield f"no edit {edit} of {crate}"
-        if edit not in text_of("docs/TESTED.md"):
-            yield f"docs/TESTED.md does not tell of the wrong body {edit}"
+        if name.split("/")[1] not in text_of("docs/TESTED.md"):
+            yield f"docs/TESTED.md does not tell of the wrong body {name}"
+
+
+def edits_not_made():
+    """The must-fail edits that can't be made, and wrong bodies that are no edit."""
+    yield from (f"no edit {name}" for name in wrong_bodies.WRONG_BODIES + wrong_bodies.WRONG_WITHOUT_MEMORY if name not in edits.all_edits())
+    for name in edits.all_edits():
+        try:
+            edits.edited(ROOT, name)
+        except (edits.NotMade, OSError) as error:
+            yield f"{name}: {error}"
 
 
 def picture(path):
@@ -135,7 +144,7 @@ def main():
     parser = argparse.ArgumentParser(description=__doc__, formatter_class=argparse.RawDescriptionHelpFormatter)
     parser.add_argument("--program", help="a built program, which draws the picture")
     given = parser.parse_args()
-    checks = (differing_replies, doubled_names, source_copies, numbered_names, listed_names)
+    checks = (differing_replies, doubled_names, source_copies, numbered_names, listed_names, edits_not_made)
     faults = [fault for check in checks for fault in check()]
     faults += picture(given.program) if given.program else []
     count = sum(len(list(pairs)) for _, _, pairs in told_texts())

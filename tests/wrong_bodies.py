@@ -1,8 +1,7 @@
 #!/usr/bin/env python3
 """That the sweeps can fail: wrong bodies, each built unproved, and the schedule or the refusal of memory that finds each.
 
-A wrong body is an edit of `crates/NAME/must-fail`, made in a copy of the repository and built by `rt try`, which proves
-nothing. The stored schedules come first, then random ones. A law of one member's votes is mostly what breaks first; with
+A wrong body is a must-fail edit, made in a copy of the repository and built by `rt try`, which proves nothing. The stored schedules come first, then random ones. A law of one member's votes is mostly what breaks first; with
 `--agreement` random networks go on besides, with these laws left alone, until the members disagree. Bodies that go wrong where
 memory is refused are found by `tests/memory.py`.
 
@@ -21,6 +20,7 @@ from functools import partial
 from pathlib import Path
 from typing import NamedTuple
 
+import edits
 import hostile_runs
 import memory
 import program
@@ -72,28 +72,11 @@ def options():
     return parser.parse_args()
 
 
-def apply_edit(root, name):
-    """Makes an edit in a copy of the repository."""
-    crate, edit = name.split("/")
-    file = old = None
-    for row in (ROOT / f"crates/{crate}/must-fail/{edit}.edit").read_text().splitlines():
-        key, _, text = row.partition(": ")
-        if key == "file":
-            file = root / "crates" / crate / text
-        elif key == "old":
-            old = text
-        elif key == "new":
-            held = file.read_text()
-            if held.count(old) != 1:
-                raise ValueError(f"{name}: {old!r} stands in {file} {held.count(old)} times")
-            file.write_text(held.replace(old, text))
-
-
 def wrong_program(folder, name):
     """Builds the program with a wrong body into a folder, or the second one; its path."""
     root = Path(folder) / "repository"
     shutil.copytree(ROOT, root, ignore=shutil.ignore_patterns("out", ".git", "__pycache__"))
-    apply_edit(root, name)
+    edits.make(root, name)
     if name in WRONG_WITHOUT_MEMORY:
         path = program.find_enduring(None, folder, root)
     else:
