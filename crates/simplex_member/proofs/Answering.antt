@@ -10,12 +10,12 @@ use Rattle.simplex_voter.specs.Refusals.{is_started}
 use Rattle.simplex_voter.specs.Certification.{takes_certify_handle}
 use Rattle.simplex_member.specs.declared.member.calls.Call.{Call}
 use Rattle.simplex_member.specs.declared.member.calls.Call.TheVariants as call
-use Rattle.simplex_member.specs.Allowed.{is_allowed, fault_of, may_fall, may_want}
+use Rattle.simplex_member.specs.Allowed.{is_allowed, fault_of, may_fall, may_want, is_ready}
 use Rattle.simplex_member.specs.Calls.{CallFacts, AddNotarization, AddNullification, AddFinalization, SetProposal, TryPropose, TryVerify, CertifyCandidates, SetCertifyHandle, Certified, NextTimeout, Told, Refused, NotAllowed, asked}
 use Rattle.simplex_member.specs.Lives.{MemberFacts, fallen, IsCall}
 use Rattle.simplex_member.specs.Made.{answer, after_call, openings_after, recorded_by}
 use Rattle.simplex_member.specs.Openings.{Openings, no_openings, is_offered}
-use Rattle.simplex_member.specs.Parts.{is_ready, is_offer, fills_room, asks_for_work, family_of, IsWant, IsLoss, closing_of, left_open, now_open}
+use Rattle.simplex_member.specs.Parts.{is_offer, fills_room, asks_for_work, family_of, IsWant, IsLoss, closing_of, left_open, now_open}
 use Rattle.simplex_member.specs.declared.member.serving.Family.TheVariants as family
 use Rattle.simplex_member.proofs.GoingCalls.{goes}
 

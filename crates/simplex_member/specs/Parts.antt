@@ -1,15 +1,10 @@
--- The parts of a call: the families of calls, what a part asks of the state alone, how it ends without an answer, and what is
--- opened and closed. No public clause names this.
+-- The parts of a call: the families of calls, how a part ends without an answer, and what is opened and closed. No public clause names this.
 use Rattle.std.specs.Prelude.{◌≡◌, ◌⊎◌, Bool, true, false, ◌&&◌, if◌then◌else◌, Option, Some, None}
 use Rattle.simplex_types.specs.declared.types.fault.Fault.{Fault}
 use Rattle.simplex_types.specs.declared.types.fault.Fault.TheVariants.{OutOfMemory}
 use Rattle.simplex_voter.specs.Facts.{Facts}
-use Rattle.simplex_voter.specs.Acceptance.{takes_proposal_certificate, takes_nullification}
-use Rattle.simplex_voter.specs.Certification.{takes_verdict, takes_certify_handle}
-use Rattle.simplex_voter.specs.Timeouts.{has_timeout}
-use Rattle.simplex_voter.specs.Verifying.{takes_proposal}
 use Rattle.simplex_member.specs.Allowed.{fault_of, may_fall, may_want}
-use Rattle.simplex_member.specs.Calls.{CallFacts, AddNotarization, AddNullification, AddFinalization, SetProposal, TryPropose, TryVerify, SetCertifyHandle, Certified, NextTimeout, Told, Answered, Requested, Standing, Candidates}
+use Rattle.simplex_member.specs.Calls.{CallFacts, TryPropose, TryVerify, Told, Answered, Requested, Standing, Candidates}
 use Rattle.simplex_member.specs.Openings.{Openings, without_context, with_request, without_verification, with_verification, without_offer, with_offers}
 use Rattle.simplex_member.specs.declared.member.calls.Call.{Call}
 use Rattle.simplex_member.specs.declared.member.calls.Call.TheVariants as call
@@ -24,18 +19,6 @@ use Rattle.simplex_member.specs.declared.member.call_error.CallError.TheVariants
 abbrev pub call_error : Fault → CallError
 call_error OutOfMemory = Lost
 call_error fault = Refused fault
-
-module _ {K L D : Type 0} where
-  -- what a call asks of the state alone
-  abbrev pub is_ready : Facts K L D → CallFacts D → Bool
-  is_ready x (AddNotarization c) = takes_proposal_certificate x c
-  is_ready x (AddNullification c _) = takes_nullification x c
-  is_ready x (AddFinalization c _) = takes_proposal_certificate x c
-  is_ready x (SetProposal v p) = takes_proposal x v p
-  is_ready x (SetCertifyHandle v _) = takes_certify_handle x v
-  is_ready x (Certified v success _) = takes_verdict x v success
-  is_ready x (NextTimeout _) = has_timeout x
-  is_ready x _ = true
 
 -- want of memory, where there may be any
 abbrev pub IsWant : Bool → Fault → Type 0

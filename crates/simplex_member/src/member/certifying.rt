@@ -4,9 +4,9 @@ ghost use Rattle.std.specs.Prelude.{◌≡◌, ◌++◌, [], None, Bool, true, f
 ghost use Rattle.simplex_voter.specs.Refusals.{is_started};
 ghost use Rattle.simplex_member.specs.Entries.{entries_of};
 ghost use Rattle.simplex_member.specs.Calls.{told, asked};
-ghost use Rattle.simplex_member.specs.Allowed.{fault_of};
+ghost use Rattle.simplex_member.specs.Allowed.{fault_of, is_ready};
 ghost use Rattle.simplex_member.specs.Made.{answer, after_call, recorded_by};
-ghost use Rattle.simplex_member.specs.Parts.{is_ready, family_of, EndsCall};
+ghost use Rattle.simplex_member.specs.Parts.{family_of, EndsCall};
 ghost use Rattle.simplex_member.specs.Openings.{no_openings};
 ghost use Rattle.simplex_member.specs.Signed.{is_vote_reply};
 ghost use Rattle.simplex_member.specs.declared.member.serving.Family.TheVariants.{Certifications};

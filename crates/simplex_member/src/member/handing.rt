@@ -7,7 +7,7 @@ ghost use Rattle.simplex_voter.specs.Serving.{broadcast_notarization_answer, aft
 ghost use Rattle.simplex_member.specs.Calls.{told, asked};
 ghost use Rattle.simplex_member.specs.Allowed.{fault_of};
 ghost use Rattle.simplex_member.specs.Made.{answer, after_call, recorded_by};
-ghost use Rattle.simplex_member.specs.Parts.{Ends, is_ready, family_of, EndsCall};
+ghost use Rattle.simplex_member.specs.Parts.{Ends, family_of, EndsCall};
 ghost use Rattle.simplex_member.specs.Openings.{no_openings};
 ghost use Rattle.simplex_member.specs.Signed.{is_vote_reply};
 ghost use Rattle.simplex_member.specs.declared.member.serving.Family.TheVariants.{Servings};

@@ -10,9 +10,9 @@ ghost use Rattle.simplex_voter.specs.Certification.{takes_verdict, is_first_verd
 ghost use Rattle.simplex_voter.specs.Facts.{round_number};
 ghost use Rattle.simplex_voter.specs.Refusals.{is_started};
 ghost use Rattle.simplex_member.specs.Calls.{told, asked};
-ghost use Rattle.simplex_member.specs.Allowed.{fault_of};
+ghost use Rattle.simplex_member.specs.Allowed.{fault_of, is_ready};
 ghost use Rattle.simplex_member.specs.Made.{newly, answer, after_call, recorded_by};
-ghost use Rattle.simplex_member.specs.Parts.{EndsBy, is_ready, family_of, EndsCall};
+ghost use Rattle.simplex_member.specs.Parts.{EndsBy, family_of, EndsCall};
 ghost use Rattle.simplex_member.specs.Openings.{no_openings};
 ghost use Rattle.simplex_member.specs.Signed.{is_vote_reply, signatures_of};
 ghost use Rattle.simplex_member.specs.declared.member.serving.Family.TheVariants.{Certificates};
