@@ -15,8 +15,8 @@ use Rattle.simplex_member.specs.Runs.{Calls, Restarts, restart_told, IsStep, IsR
 use Rattle.simplex_member.specs.Start.{StartFacts, started, new_state}
 use Rattle.simplex_laws.specs.Lawful.{IsLawful}
 use Rattle.simplex_laws.specs.Stories.{BeginsAs, Ran, deeds_of}
-use Rattle.simplex_laws.proofs.RunsLawful.{story_lawful}
-use Rattle.simplex_laws.proofs.Splits.{Contains-cases}
+use Rattle.simplex_laws.proofs.records.RunsLawful.{story_lawful}
+use Rattle.simplex_laws.proofs.lists.Splits.{Contains-cases}
 use Rattle.simplex_program.specs.declared.network.Network.{Network}
 use Rattle.simplex_program.specs.declared.voter_line.VoterLine.{VoterLine}
 use Rattle.simplex_program.specs.declared.voter_line.VoterLine.TheVariants.{Notarization, Nullification, Finalization, Verdict, Notarize, Nullify, Finalize, Broadcast, Best, Prune, Proposal, Release, Propose, Proposed, Supersede, Abandon, Verify, Verified, Rejected, Candidates, Token, Trigger, Timeout, Restart, RestartPruned, Record, Views}

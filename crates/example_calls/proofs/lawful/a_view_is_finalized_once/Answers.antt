@@ -1,4 +1,4 @@
-use Rattle.simplex_laws.proofs.TwoVotes.{one_finalized}
+use Rattle.simplex_laws.proofs.agreement.TwoVotes.{one_finalized}
 use Rattle.example_calls.proofs.lawful.a_view_is_finalized_once.Goals as goal
 
 pub returns : goal.returns

@@ -2,10 +2,10 @@
 use Rattle.std.proofs.Common.{subst}
 use Rattle.simplex_laws.specs.Living.{story_of}
 use Rattle.simplex_laws.specs.Lawful.{IsLawful}
-use Rattle.simplex_laws.proofs.Exactly.{run_exact}
-use Rattle.simplex_laws.proofs.Living.{if_ok_on}
-use Rattle.simplex_laws.proofs.RunsLawful.{story_lawful}
-use Rattle.simplex_laws.proofs.Shown.{story_shown, lives_as}
+use Rattle.simplex_laws.proofs.agreement.Exactly.{run_exact}
+use Rattle.simplex_laws.proofs.stories.Living.{if_ok_on}
+use Rattle.simplex_laws.proofs.records.RunsLawful.{story_lawful}
+use Rattle.simplex_laws.proofs.stories.Shown.{story_shown, lives_as}
 use Rattle.simplex_lawful.proofs.lawful.living.run_lawfully.Goals as goal
 
 pub returns-clause-exact : goal.returns-clause-exact

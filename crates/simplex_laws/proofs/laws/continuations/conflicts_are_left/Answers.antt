@@ -1,5 +1,5 @@
 use Rattle.std.proofs.Common.{refl}
-use Rattle.simplex_laws.proofs.DividedNetwork.{divided_network, divided_goes_on, none_notarized}
+use Rattle.simplex_laws.proofs.networks.DividedNetwork.{divided_network, divided_goes_on, none_notarized}
 use Rattle.simplex_laws.proofs.laws.continuations.conflicts_are_left.Goals as goal
 
 pub returns-clause-network : goal.returns-clause-network

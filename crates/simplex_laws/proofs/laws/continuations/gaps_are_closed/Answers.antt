@@ -1,5 +1,5 @@
 use Rattle.std.proofs.Common.{refl}
-use Rattle.simplex_laws.proofs.LackingNetwork.{lacking_network, lacking_goes_on, none_skipped, none_notarized}
+use Rattle.simplex_laws.proofs.networks.LackingNetwork.{lacking_network, lacking_goes_on, none_skipped, none_notarized}
 use Rattle.simplex_laws.proofs.laws.continuations.gaps_are_closed.Goals as goal
 
 pub returns-clause-network : goal.returns-clause-network

@@ -1,5 +1,5 @@
 use Rattle.std.proofs.Common.{refl}
-use Rattle.simplex_laws.proofs.HandoffNetwork.{taken_over_network, taken_over_goes_on, leader_voted, none_notarized}
+use Rattle.simplex_laws.proofs.networks.HandoffNetwork.{taken_over_network, taken_over_goes_on, leader_voted, none_notarized}
 use Rattle.simplex_laws.proofs.laws.continuations.nullified_handoffs_are_left.Goals as goal
 
 pub returns-clause-network : goal.returns-clause-network

@@ -1,5 +1,5 @@
 -- two quorums share n - 2f members
-use Rattle.simplex_laws.proofs.Accountability.{answered_for, evidence_holds}
+use Rattle.simplex_laws.proofs.agreement.Accountability.{answered_for, evidence_holds}
 use Rattle.simplex_laws.proofs.laws.contradictions.accountability.Goals as goal
 
 pub returns-clause-answered : goal.returns-clause-answered

@@ -1,7 +1,7 @@
 -- event by event, and life by life
 use Rattle.std.proofs.Common.{refl, Ok}
-use Rattle.simplex_laws.proofs.Histories.{event_shown}
-use Rattle.simplex_laws.proofs.HistoriesOfLives.{begun_shown, called_shown, recovered_shown, restarted_shown, ran_shown}
+use Rattle.simplex_laws.proofs.histories.Events.{event_shown}
+use Rattle.simplex_laws.proofs.histories.Lives.{begun_shown, called_shown, recovered_shown, restarted_shown, ran_shown}
 use Rattle.simplex_laws.proofs.laws.histories.histories_are_shown.Goals as goal
 
 pub returns-clause-begun : goal.returns-clause-begun

@@ -1,5 +1,5 @@
 use Rattle.std.proofs.Common.{refl}
-use Rattle.simplex_laws.proofs.Scripts.{restarting_ran}
+use Rattle.simplex_laws.proofs.networks.Scripts.{restarting_ran}
 use Rattle.simplex_laws.proofs.laws.instances.restarts_are_runs.Goals as goal
 
 pub returns-clause-ran : goal.returns-clause-ran

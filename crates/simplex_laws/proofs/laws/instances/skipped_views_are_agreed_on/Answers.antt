@@ -1,5 +1,5 @@
 use Rattle.std.proofs.Common.{refl}
-use Rattle.simplex_laws.proofs.Scripts.{five_network, five_notarize_one, five_nullify_two, five_finalize_three}
+use Rattle.simplex_laws.proofs.networks.Scripts.{five_network, five_notarize_one, five_nullify_two, five_finalize_three}
 use Rattle.simplex_laws.proofs.laws.instances.skipped_views_are_agreed_on.Goals as goal
 
 pub returns-clause-network : goal.returns-clause-network

@@ -1,5 +1,5 @@
 use Rattle.std.proofs.Common.{refl}
-use Rattle.simplex_laws.proofs.Scripts.{four_network, finalized_one, finalized_two}
+use Rattle.simplex_laws.proofs.networks.Scripts.{four_network, finalized_one, finalized_two}
 use Rattle.simplex_laws.proofs.laws.instances.terms_are_agreed_on.Goals as goal
 
 pub returns-clause-network : goal.returns-clause-network

@@ -1,4 +1,4 @@
-use Rattle.simplex_laws.proofs.TimingOut.{states_time_out}
+use Rattle.simplex_laws.proofs.lives.TimingOut.{states_time_out}
 use Rattle.simplex_laws.proofs.laws.lives.current_views_time_out.Goals as goal
 
 pub returns : goal.returns

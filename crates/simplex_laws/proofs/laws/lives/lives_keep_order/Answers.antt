@@ -1,5 +1,5 @@
 -- call by call
-use Rattle.simplex_laws.proofs.WithinLives.{life_never_falls}
+use Rattle.simplex_laws.proofs.lives.WithinLives.{life_never_falls}
 use Rattle.simplex_laws.proofs.laws.lives.lives_keep_order.Goals as goal
 
 pub returns : goal.returns

@@ -1,5 +1,5 @@
 -- a run comes apart between its steps, and each of its states is sound
-use Rattle.simplex_laws.proofs.WithinRuns.{stretch_is_life, life_conflicts, life_hands_out_once, life_drops_for_good, life_hands_as_asked}
+use Rattle.simplex_laws.proofs.lives.WithinRuns.{stretch_is_life, life_conflicts, life_hands_out_once, life_drops_for_good, life_hands_as_asked}
 use Rattle.simplex_laws.proofs.laws.lives.runs_keep_order.Goals as goal
 
 pub returns-clause-stretches : goal.returns-clause-stretches

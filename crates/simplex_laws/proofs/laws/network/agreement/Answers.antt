@@ -1,7 +1,7 @@
 -- of each member by its story; of a network since two quorums share an honest member
-use Rattle.simplex_laws.proofs.Claims.{one_proposal, finalized_uncovered, parent_before, parent_not_below, finalized_notarized, chain_holds_finalized}
-use Rattle.simplex_laws.proofs.Exactly.{run_exact}
-use Rattle.simplex_laws.proofs.RunsLawful.{story_lawful}
+use Rattle.simplex_laws.proofs.agreement.Claims.{one_proposal, finalized_uncovered, parent_before, parent_not_below, finalized_notarized, chain_holds_finalized}
+use Rattle.simplex_laws.proofs.agreement.Exactly.{run_exact}
+use Rattle.simplex_laws.proofs.records.RunsLawful.{story_lawful}
 use Rattle.simplex_laws.proofs.laws.network.agreement.Goals as goal
 
 pub returns-clause-exact : goal.returns-clause-exact

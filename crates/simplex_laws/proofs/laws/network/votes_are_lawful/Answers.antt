@@ -1,5 +1,5 @@
 -- from the start on, step by step
-use Rattle.simplex_laws.proofs.RunsLawful.{run_from_lawful}
+use Rattle.simplex_laws.proofs.records.RunsLawful.{run_from_lawful}
 use Rattle.simplex_laws.proofs.laws.network.votes_are_lawful.Goals as goal
 
 pub returns : goal.returns

@@ -1,6 +1,6 @@
 -- each claim, from the start on
-use Rattle.simplex_laws.proofs.HighVotes.{own_high_voted}
-use Rattle.simplex_laws.proofs.OwnRuns.{own_record_outside, own_parent_accepted, own_verdicts_follow, own_restart_excused, own_run_excused}
+use Rattle.simplex_laws.proofs.own_records.HighVotes.{own_high_voted}
+use Rattle.simplex_laws.proofs.own_records.Runs.{own_record_outside, own_parent_accepted, own_verdicts_follow, own_restart_excused, own_run_excused}
 use Rattle.simplex_laws.proofs.laws.own_record.own_record_is_taken.Goals as goal
 
 pub returns-clause-record : goal.returns-clause-record

@@ -1,4 +1,4 @@
-use Rattle.simplex_laws.proofs.Progress.{states_are_left}
+use Rattle.simplex_laws.proofs.lives.Progress.{states_are_left}
 use Rattle.simplex_laws.proofs.laws.progress.views_are_left.Goals as goal
 
 pub returns : goal.returns

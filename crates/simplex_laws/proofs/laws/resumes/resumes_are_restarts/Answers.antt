@@ -1,5 +1,5 @@
 -- whether a member lives, and what it has open, doesn't matter to its restart; and a run never loses what was closed
-use Rattle.simplex_laws.proofs.Resumes.{resumes, restarts, refuses_resume, refuses_restart, run_loses_nothing}
+use Rattle.simplex_laws.proofs.records.Resumes.{resumes, restarts, refuses_resume, refuses_restart, run_loses_nothing}
 use Rattle.simplex_laws.proofs.laws.resumes.resumes_are_restarts.Goals as goal
 
 pub returns-clause-resumed : goal.returns-clause-resumed

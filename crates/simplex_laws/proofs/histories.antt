@@ -1,0 +1,14 @@
+pub mod Leaving
+pub mod Following
+pub mod FollowingHanded
+pub mod FollowingQuiet
+pub mod Scanned
+pub mod FollowingVotes
+pub mod FollowingReplays
+pub mod Events
+pub mod Lives
+pub mod Worked
+pub mod ShownWork
+pub mod ShownRounds
+pub mod EventsWorked
+pub mod work

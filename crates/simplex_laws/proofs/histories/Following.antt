@@ -1,0 +1,119 @@
+-- For `histories_are_shown`.
+-- What an event says is what it adds to a state's facts.
+use Rattle.std.proofs.Common.{◌≡◌, ◌⊎◌, refl, ap, sym, ◌∙◌, ℕ, ◌≤◌, max, Bool, true, false, ◌||◌, eqb, if◌then◌else◌, List, [], ◌∷◌, None, unwrap_or, arith, inl, inr}
+use Rattle.std.specs.Option.{option_or}
+use Rattle.std.specs.Ordering.{nat_cmp, match_ordering}
+use Rattle.std.specs.declared.cmp.Ordering.{Ordering}
+use Rattle.std.specs.declared.cmp.Ordering.TheVariants.{Less, Equal, Greater}
+use Rattle.std.specs.BTreeSet.{insert_key}
+use Rattle.std.proofs.lemmas.Bool.{cases_eq, ne_eqb}
+use Rattle.simplex_round.specs.Round.{RoundFacts}
+use Rattle.simplex_voter.specs.Facts.{Facts, Elect, round_of, is_tracked, with_round}
+use Rattle.simplex_voter.specs.Windows.{min_active}
+use Rattle.simplex_laws.specs.Events.{Event}
+use Rattle.simplex_laws.specs.Sums.{notarizes, nullifies, finalizes, judges, covers_from, sets_genesis, finalized_by, entered_by, moment_by, is_prune, or_new, is_among}
+use Rattle.simplex_laws.specs.OwnWork.{contradicts, hands_out_notarization, hands_out_nullification, hands_out_finalization, decides_nullify, casts_nullify, settles, hears, decides_finalize, decides_notarize, owns}
+use Rattle.simplex_member.proofs.Growing.{round_of-put, round_of-same}
+use Rattle.simplex_laws.proofs.votes.NullifyVotes.{tied}
+use Rattle.simplex_laws.proofs.histories.Leaving.{Known, known_of, Alike, Leaves}
+
+-- the lowest view that an event leaves
+abbrev pub left_from : {K L D : Type 0} → Facts K L D → Event K D → ℕ
+left_from x e = if is_prune e then min_active x else 0
+
+module _ {K L D : Type 0} (same : D → D → Bool) (elect : Elect L) where
+  -- what is known of a view, with what an event says of it
+  abbrev pub adds : Facts K L D → Event K D → ℕ → Known D → Known D
+  adds x e v k = record {
+    notarization = or_new k.notarization (notarizes v e);
+    nullification = or_new k.nullification (nullifies v e);
+    finalization = or_new k.finalization (finalizes v e);
+    verdict = or_new k.verdict (judges (is_tracked x) v e);
+    notarization_broadcast = hands_out_notarization v x e || k.notarization_broadcast;
+    nullification_broadcast = hands_out_nullification v x e || k.nullification_broadcast;
+    finalization_broadcast = hands_out_finalization v x e || k.finalization_broadcast;
+    notarize_decided = decides_notarize same elect v x e || k.notarize_decided;
+    nullify_decided = decides_nullify v x e || k.nullify_decided;
+    finalize_decided = decides_finalize same elect v x e || k.finalize_decided;
+    held = option_or (settles v x e) (or_new k.held (option_or (hears v x e) (owns same elect v x e)));
+    conflict = contradicts same k.held (option_or (settles v x e) (hears v x e)) || k.conflict;
+  }
+
+  -- an event says nothing of a view
+  abbrev pub IsElsewhere : Facts K L D → Event K D → ℕ → Type 0
+  IsElsewhere x e v = (k : Known D) → adds x e v k ≡ k
+
+  -- the facts after an event are those before with what it says
+  pub record Follows (e : Event K D) (x y : Facts K L D) : Type 0 where
+    pub settings : y.settings ≡ x.settings
+    pub terms : y.terms ≡ x.terms
+    pub genesis : y.genesis ≡ option_or (sets_genesis e) x.genesis
+    pub moment : y.moment ≡ unwrap_or (moment_by e) x.moment
+    pub current : y.current ≡ max x.current (entered_by x.terms.term_length (is_tracked x) e)
+    pub finalized : y.finalized ≡ max x.finalized (finalized_by e)
+    pub nullified : (v : ℕ) → left_from x e ≤ v → is_among y.nullified v ≡ (covers_from v e || is_among x.nullified v)
+    pub nullify_votes : (v : ℕ) → left_from x e ≤ v → is_among y.nullify_votes v ≡ (casts_nullify v x e || is_among x.nullify_votes v)
+    pub rounds : (v : ℕ) → left_from x e ≤ v → known_of (round_of y v) ≡ adds x e v (known_of (round_of x v))
+
+  -- an event says nothing
+  pub record IsSilent (x : Facts K L D) (e : Event K D) : Type 0 where
+    pub genesis : sets_genesis e ≡ None
+    pub entered : (term_length : ℕ) → entered_by term_length (is_tracked x) e ≡ 0
+    pub finalized : finalized_by e ≡ 0
+    pub nullified : (v : ℕ) → covers_from v e ≡ false
+    pub nullify_votes : (v : ℕ) → casts_nullify v x e ≡ false
+    pub rounds : (v : ℕ) → IsElsewhere x e v
+
+-- a view is among those with one more
+pub among_noted : (k v : ℕ) (ks : List ℕ) → is_among (insert_key nat_cmp ks k) v ≡ (eqb v k || is_among ks v)
+among_noted k v [] = refl
+among_noted k v (u ∷ ks) =
+    let behind : is_among (insert_key nat_cmp ks k) v ≡ (eqb v k || is_among ks v) = among_noted k v ks in
+    (elim (nat_cmp k u) as (λ (o : Ordering). nat_cmp k u ≡ o → is_among (match_ordering o (k ∷ u ∷ ks) (u ∷ ks) (u ∷ insert_key nat_cmp ks k)) v ≡ (eqb v k || (eqb v u || is_among ks v))) [
+      | Less ↦ λ is. refl
+      | Equal ↦ λ is. rw (tied k u is) (twice (eqb v u) (is_among ks v))
+      | Greater ↦ λ is. rw behind (swapped (eqb v u) (eqb v k) (is_among ks v))
+    ]) refl
+  where
+    twice : (a b : Bool) → (a || b) ≡ (a || (a || b))
+    twice true b = refl
+    twice false b = refl
+
+    swapped : (a b c : Bool) → (a || (b || c)) ≡ (b || (a || c))
+    swapped true true c = refl
+    swapped true false c = refl
+    swapped false b c = refl
+
+module _ {K L D : Type 0} (same : D → D → Bool) (elect : Elect L) (x : Facts K L D) (e : Event K D) where
+  -- between changes that leave a round alike
+  pub added_between : (v : ℕ) (q r s t : RoundFacts K D) → Alike q r → known_of s ≡ adds same elect x e v (known_of r) → Alike s t → known_of t ≡ adds same elect x e v (known_of q)
+  added_between v q r s t before added after = after ∙ added ∙ ap (adds same elect x e v) before
+
+  pub nothing_added : (v : ℕ) → IsElsewhere same elect x e v → (r s : RoundFacts K D) → Alike r s → known_of s ≡ adds same elect x e v (known_of r)
+  nothing_added v silent r s alike = alike ∙ sym (silent (known_of r))
+
+  -- what is put at the one view that an event speaks of, between changes that leave the rounds alike
+  pub put_between : (y z : Facts K L D) (v : ℕ) (r : RoundFacts K D) → ((w : ℕ) → Alike (round_of x w) (round_of y w)) → known_of r ≡ adds same elect x e v (known_of (round_of y v)) → ((w : ℕ) → eqb w v ≡ false → IsElsewhere same elect x e w) → ((w : ℕ) → Alike (round_of (with_round y v r) w) (round_of z w)) → (w : ℕ) → known_of (round_of z w) ≡ adds same elect x e w (known_of (round_of x w))
+  put_between y z v r before added elsewhere after w = added_between w (round_of x w) (round_of y w) (round_of (with_round y v r) w) (round_of z w) (before w) (put (cases_eq w v)) (after w)
+    where
+      put : ((w ≡ v) ⊎ (w ≡ v → ⊥)) → known_of (round_of (with_round y v r) w) ≡ adds same elect x e w (known_of (round_of y w))
+      put (inl here) = rw (here, round_of-same y v r) added
+      put (inr apart) = rw (round_of-put y w v r, ne_eqb w v apart) (sym (elsewhere w (ne_eqb w v apart) (known_of (round_of y w))))
+
+  -- the same, where nothing else changes
+  pub put_alone : (v : ℕ) (r : RoundFacts K D) → known_of r ≡ adds same elect x e v (known_of (round_of x v)) → ((w : ℕ) → eqb w v ≡ false → IsElsewhere same elect x e w) → (w : ℕ) → known_of (round_of (with_round x v r) w) ≡ adds same elect x e w (known_of (round_of x w))
+  put_alone v r added elsewhere w = put_between x (with_round x v r) v r (λ u. refl) added elsewhere (λ u. refl) w
+
+  -- an event that says nothing
+  pub silent_follows : (y : Facts K L D) → IsSilent same elect x e → Leaves (unwrap_or (moment_by e) x.moment) x.current x.finalized x y → Follows same elect e x y
+  silent_follows y silent leaves = record {
+    settings = leaves.settings;
+    terms = leaves.terms;
+    genesis = leaves.genesis ∙ sym (ap (λ o. option_or o x.genesis) silent.genesis);
+    moment = leaves.moment_is;
+    current = leaves.current_is ∙ omega (arith, silent.entered x.terms.term_length);
+    finalized = leaves.finalized_is ∙ omega (arith, silent.finalized);
+    nullified = λ v _. ap (λ views. is_among views v) leaves.nullified ∙ sym (ap (λ b. b || is_among x.nullified v) (silent.nullified v));
+    nullify_votes = λ v _. ap (λ views. is_among views v) leaves.nullify_votes ∙ sym (ap (λ b. b || is_among x.nullify_votes v) (silent.nullify_votes v));
+    rounds = λ v _. nothing_added v (silent.rounds v) (round_of x v) (round_of y v) (leaves.rounds v);
+  }

@@ -1,0 +1,295 @@
+-- For `histories_are_shown`.
+-- What votes, proposals and broadcasts say, and what a prune leaves.
+use Rattle.std.proofs.Common.{◌≡◌, refl, ap, sym, ◌∙◌, ℕ, ◌≤◌, Bool, true, false, ◌&&◌, ◌||◌, not, cond, eqb, if◌then◌else◌, nat_le, List, filter, Option, Some, None, is_some, unwrap_or, arith}
+use Rattle.std.specs.Option.{option_map_or}
+use Rattle.std.specs.Ordering.{nat_cmp}
+use Rattle.std.specs.BTreeSet.{insert_key}
+use Rattle.std.specs.FinMap.Entries.{find, find-where_key}
+use Rattle.std.proofs.lemmas.Bool.{eqb-true, eq-eqb, true≢false}
+use Rattle.std.proofs.lemmas.Bool.Decides.{nat_tests}
+use Rattle.std.proofs.lemmas.Map.Views.{any-filter_same}
+use Rattle.simplex_types.specs.Proposal.{same_proposal}
+use Rattle.simplex_types.proofs.Proposal.{same_proposal-true}
+use Rattle.simplex_types.specs.declared.types.messages.Context.{Context}
+use Rattle.simplex_types.specs.declared.types.messages.Proposal.{Proposal}
+use Rattle.simplex_round.specs.declared.round.Decision.{Decision}
+use Rattle.simplex_round.specs.declared.round.Decision.TheVariants as decision
+use Rattle.simplex_round.specs.Slot.{SlotFacts, after_own, after_vote, holds_or_empty}
+use Rattle.simplex_round.specs.Round.{RoundFacts, new_round, after_nullify, is_pending, is_nullify, is_finalize}
+use Rattle.simplex_voter.specs.Facts.{Facts, Elect, round_at, round_of, round_number, with_round}
+use Rattle.simplex_voter.specs.Windows.{min_active}
+use Rattle.simplex_voter.specs.Entering.{at_moment}
+use Rattle.simplex_voter.specs.Leaders.{prepared}
+use Rattle.simplex_voter.specs.Rules.{may_notarize, may_nullify, may_finalize}
+use Rattle.simplex_voter.specs.Votes.{nullify_cast, finalize_cast, after_construct_notarize, after_construct_nullify, after_construct_finalize}
+use Rattle.simplex_voter.specs.Proposing.{proposal_of, proposed_round, proposed_answer, after_proposed}
+use Rattle.simplex_voter.specs.Verifying.{with_proposal, after_set_proposal}
+use Rattle.simplex_voter.specs.Serving.{after_broadcast_notarization, after_broadcast_nullification, after_broadcast_finalization, after_prune}
+use Rattle.simplex_voter.proofs.Rules.{nullify_parts, finalize_parts}
+use Rattle.simplex_laws.specs.Events.{ConstructNotarize, ConstructNullify, ConstructFinalize, SetProposal, Proposed, BroadcastNotarization, BroadcastNullification, BroadcastFinalization, Prune}
+use Rattle.simplex_laws.specs.Sums.{or_new, is_among}
+use Rattle.simplex_laws.specs.OwnWork.{contradicts}
+use Rattle.simplex_laws.proofs.votes.NullifyVotes.{tied}
+use Rattle.simplex_laws.proofs.histories.Leaving.{known_of, Quiet, prepared_quiet}
+use Rattle.simplex_laws.proofs.histories.Following.{adds, Follows, among_noted, nothing_added, put_between, put_alone}
+use Rattle.simplex_laws.proofs.histories.FollowingHanded.{and_false}
+
+pending_nullify : (d : Decision) → is_pending d ≡ true → false ≡ is_nullify d
+pending_nullify (decision.Pending _ _ _) is = refl
+pending_nullify (decision.Nullify _) is = absurd (true≢false (sym is))
+pending_nullify decision.Finalize is = absurd (true≢false (sym is))
+
+or_swap : (a b : Bool) → (a || b) ≡ (b || a)
+or_swap true true = refl
+or_swap true false = refl
+or_swap false true = refl
+or_swap false false = refl
+
+module _ {D : Type 0} (same : D → D → Bool) (s : SlotFacts D) (p : Proposal D) where
+  -- a proposal of one's own is held where none was
+
+  pub own_held : ((d e : D) → same d e ≡ true → d ≡ e) → (after_own (same_proposal same) s p).held ≡ or_new s.held (Some p)
+  own_held decides = by_held s.held refl
+    where
+      own : SlotFacts D
+      own = record { held = Some p; conflict = s.conflict; verified = not s.conflict; build_requested = true; verify_requested = true }
+
+      by_same : (h : Proposal D) (b : Bool) → same_proposal same h p ≡ b → s.held ≡ Some h → (if b then own else s).held ≡ Some h
+      by_same h true is held_is = ap (λ q. Some q) (sym (same_proposal-true same decides h p is))
+      by_same h false is held_is = held_is
+
+      by_held : (o : Option (Proposal D)) → s.held ≡ o → (after_own (same_proposal same) s p).held ≡ or_new s.held (Some p)
+      by_held None is = ap (λ q. (if option_map_or (λ h. same_proposal same h p) q true then own else s).held) is ∙ sym (ap (λ q. or_new q (Some p)) is)
+      by_held (Some h) is = ap (λ q. (if option_map_or (λ g. same_proposal same g p) q true then own else s).held) is ∙ by_same h (same_proposal same h p) refl is ∙ sym (ap (λ q. or_new q (Some p)) is)
+
+  pub own_conflict : (after_own (same_proposal same) s p).conflict ≡ s.conflict
+  own_conflict = by_test (holds_or_empty (same_proposal same) s p)
+    where
+      by_test : (b : Bool) → (if b then record { held = Some p; conflict = s.conflict; verified = not s.conflict; build_requested = true; verify_requested = true } else s).conflict ≡ s.conflict
+      by_test true = refl
+      by_test false = refl
+
+  -- one that is heard of too, and contradicts another
+
+  pub heard_held : (after_vote (same_proposal same) s p).held ≡ or_new s.held (Some p)
+  heard_held = by_held s.held refl
+    where
+      by_held : (o : Option (Proposal D)) → s.held ≡ o → (option_map_or (λ h. record s { conflict = s.conflict || not (same_proposal same h p); verified = s.verified && same_proposal same h p }) o (record s { held = Some p })).held ≡ or_new o (Some p)
+      by_held None is = refl
+      by_held (Some h) is = is
+
+  pub heard_conflict : (after_vote (same_proposal same) s p).conflict ≡ (contradicts same s.held (Some p) || s.conflict)
+  heard_conflict = by_held s.held
+    where
+      by_held : (o : Option (Proposal D)) → (option_map_or (λ h. record s { conflict = s.conflict || not (same_proposal same h p); verified = s.verified && same_proposal same h p }) o (record s { held = Some p })).conflict ≡ (contradicts same o (Some p) || s.conflict)
+      by_held None = refl
+      by_held (Some h) = or_swap s.conflict (not (same_proposal same h p))
+
+module _ {K L D : Type 0} (x : Facts K L D) where
+  -- a view that a prune leaves has its round
+
+  left_by_prune : (v : ℕ) → min_active x ≤ v → round_of (after_prune x) v ≡ round_of x v
+  left_by_prune v left =
+      let test : nat_le (min_active x) v ≡ true = grind (arith, nat_tests) in
+      ap (λ found. unwrap_or found (new_round x.me x.members (round_number x v)))
+      (find-where_key nat_cmp (λ u. nat_le (min_active x) u) v (λ u alike. ap (nat_le (min_active x)) (sym (tied v u alike))) x.rounds ∙ ap (λ b. cond b (find nat_cmp v x.rounds) None) test)
+
+  among_left : (views : List ℕ) (v : ℕ) → min_active x ≤ v → is_among (filter (λ u. nat_le (min_active x) u) views) v ≡ is_among views v
+  among_left views v left = any-filter_same (λ u. eqb v u) (λ u. nat_le (min_active x) u) true (λ u here. ap (nat_le (min_active x)) (sym (eqb-true v u here)) ∙ test) views
+    where
+      test : nat_le (min_active x) v ≡ true
+      test = grind (arith, nat_tests)
+
+module _ {K L D : Type 0} (same : D → D → Bool) (elect : Elect L) (x : Facts K L D) where
+  -- votes
+
+  pub nullify_follows : (v : ℕ) → Follows same elect (ConstructNullify v) x (after_construct_nullify x v)
+  nullify_follows v = by_rule (may_nullify x v) refl
+    where
+      r : RoundFacts K D
+      r = round_of x v
+
+      z : Facts K L D
+      z = with_round x v (after_nullify r)
+
+      decided : may_nullify x v ≡ true → known_of (after_nullify r) ≡ adds same elect x (ConstructNullify v) v (known_of r)
+      decided may =
+          let open_vote : is_finalize r.decision ≡ false = (nullify_parts x v may).no_finalize in
+          rw (may, open_vote, eq-eqb v v refl) (λ i. record (known_of r) { nullify_decided = true; finalize_decided = false })
+
+      noted : (b : Bool) → is_some x.me ≡ b → may_nullify x v ≡ true → (w : ℕ) → is_among (if b then insert_key nat_cmp x.nullify_votes v else x.nullify_votes) w ≡ ((may_nullify x v && is_some x.me && eqb w v) || is_among x.nullify_votes w)
+      noted true keyed may w = rw (may, keyed) (among_noted v w x.nullify_votes)
+      noted false keyless may w = rw (may, keyless) refl
+
+      voted : (b : Bool) → is_some x.me ≡ b → may_nullify x v ≡ true → Follows same elect (ConstructNullify v) x (if b then record z { nullify_votes = insert_key nat_cmp x.nullify_votes v } else z)
+      voted true keyed may = record { settings = refl; terms = refl; genesis = refl; moment = refl; current = omega arith; finalized = omega arith; nullified = λ w _. refl; nullify_votes = λ w _. noted true keyed may w; rounds = λ w _. put_alone same elect x (ConstructNullify v) v (after_nullify r) (decided may) (λ u apart k. rw apart refl) w }
+      voted false keyless may = record { settings = refl; terms = refl; genesis = refl; moment = refl; current = omega arith; finalized = omega arith; nullified = λ w _. refl; nullify_votes = λ w _. noted false keyless may w; rounds = λ w _. put_alone same elect x (ConstructNullify v) v (after_nullify r) (decided may) (λ u apart k. rw apart refl) w }
+
+      by_rule : (b : Bool) → may_nullify x v ≡ b → Follows same elect (ConstructNullify v) x (if b then nullify_cast z v else x)
+      by_rule true may = voted (is_some x.me) refl may
+      by_rule false barred = record { settings = refl; terms = refl; genesis = refl; moment = refl; current = omega arith; finalized = omega arith; nullified = λ w _. refl; nullify_votes = λ w _. rw barred refl; rounds = λ w _. nothing_added same elect x (ConstructNullify v) w (λ k. rw (barred, and_false (eqb w v)) refl) (round_of x w) (round_of x w) refl }
+
+  pub finalize_follows : (v : ℕ) → Follows same elect (ConstructFinalize v) x (after_construct_finalize elect x v)
+  finalize_follows v = by_rule (may_finalize elect x v) refl
+    where
+      r : RoundFacts K D
+      r = round_of x v
+
+      decided : may_finalize elect x v ≡ true → known_of (record r { decision = decision.Finalize }) ≡ adds same elect x (ConstructFinalize v) v (known_of r)
+      decided may = rw (may, eq-eqb v v refl) (λ i. record (known_of r) { nullify_decided = pending_nullify r.decision (finalize_parts elect x v may).undecided i; finalize_decided = true })
+
+      by_rule : (b : Bool) → may_finalize elect x v ≡ b → Follows same elect (ConstructFinalize v) x (if b then finalize_cast x v else x)
+      by_rule true may = record { settings = refl; terms = refl; genesis = refl; moment = refl; current = omega arith; finalized = omega arith; nullified = λ w _. refl; nullify_votes = λ w _. refl; rounds = λ w _. put_alone same elect x (ConstructFinalize v) v (record r { decision = decision.Finalize }) (decided may) (λ u apart k. rw apart refl) w }
+      by_rule false barred = record { settings = refl; terms = refl; genesis = refl; moment = refl; current = omega arith; finalized = omega arith; nullified = λ w _. refl; nullify_votes = λ w _. refl; rounds = λ w _. nothing_added same elect x (ConstructFinalize v) w (λ k. rw (barred, and_false (eqb w v)) refl) (round_of x w) (round_of x w) refl }
+
+  pub notarize_follows : (v : ℕ) → Follows same elect (ConstructNotarize v) x (after_construct_notarize same elect x v)
+  notarize_follows v = by_rule (may_notarize same elect x v) refl
+    where
+      r : RoundFacts K D
+      r = record (round_of x v) { notarize_decided = true }
+
+      z : Facts K L D
+      z = with_round x v r
+
+      decided : may_notarize same elect x v ≡ true → known_of r ≡ adds same elect x (ConstructNotarize v) v (known_of (round_of x v))
+      decided may = rw (may, eq-eqb v v refl) refl
+
+      by_rule : (b : Bool) → may_notarize same elect x v ≡ b → Follows same elect (ConstructNotarize v) x (if b then prepared elect z v else x)
+      by_rule true may =
+          let after : Quiet z (prepared elect z v) = prepared_quiet elect z v in
+          record {
+            settings = after.settings;
+            terms = after.terms;
+            genesis = after.genesis;
+            moment = after.moment_is;
+            current = omega (arith, after.current_is);
+            finalized = omega (arith, after.finalized_is);
+            nullified = λ w _. ap (λ views. is_among views w) after.nullified;
+            nullify_votes = λ w _. ap (λ views. is_among views w) after.nullify_votes;
+            rounds = λ w _. put_between same elect x (ConstructNotarize v) x (prepared elect z v) v r (λ u. refl) (decided may) (λ u apart k. rw apart refl) after.rounds w;
+          }
+      by_rule false barred = record { settings = refl; terms = refl; genesis = refl; moment = refl; current = omega arith; finalized = omega arith; nullified = λ w _. refl; nullify_votes = λ w _. refl; rounds = λ w _. nothing_added same elect x (ConstructNotarize v) w (λ k. rw (barred, and_false (eqb w v)) refl) (round_of x w) (round_of x w) refl }
+
+  -- proposals
+
+  pub proposal_follows : (v : ℕ) (p : Proposal D) → Follows same elect (SetProposal v p) x (after_set_proposal same elect x v p)
+  proposal_follows v p =
+      record {
+        settings = before.settings;
+        terms = before.terms;
+        genesis = before.genesis;
+        moment = before.moment_is;
+        current = omega (arith, before.current_is);
+        finalized = omega (arith, before.finalized_is);
+        nullified = λ w _. ap (λ views. is_among views w) before.nullified;
+        nullify_votes = λ w _. ap (λ views. is_among views w) before.nullify_votes;
+        rounds = λ w _. put_between same elect x (SetProposal v p) y (with_round y v (with_proposal same r p)) v (with_proposal same r p) before.rounds (heard (is_nullify r.decision) refl) (λ u apart k. rw apart refl) (λ u. refl) w;
+      }
+    where
+      y : Facts K L D
+      y = prepared elect x v
+
+      before : Quiet x y
+      before = prepared_quiet elect x v
+
+      r : RoundFacts K D
+      r = round_of y v
+
+      heard : (b : Bool) → is_nullify r.decision ≡ b → known_of (if b then r else record r { slot = after_vote (same_proposal same) r.slot p }) ≡ adds same elect x (SetProposal v p) v (known_of r)
+      heard true is =
+          let voted : is_nullify (round_of x v).decision ≡ true = sym (ap (λ k. k.nullify_decided) (before.rounds v)) ∙ is in
+          rw (voted, eq-eqb v v refl) refl
+      heard false is =
+          let not_voted : is_nullify (round_of x v).decision ≡ false = sym (ap (λ k. k.nullify_decided) (before.rounds v)) ∙ is in
+          rw (not_voted, eq-eqb v v refl) (λ i. record (known_of r) { held = heard_held same r.slot p i; conflict = heard_conflict same r.slot p i })
+
+  pub proposed_follows : ((d e : D) → same d e ≡ true → d ≡ e) → (context : Context D K) (payload : D) (now : ℕ) → Follows same elect (Proposed context payload now) x (after_proposed same elect x context payload now)
+  proposed_follows decides context payload now = by_answer (proposed_answer same elect x context payload) refl
+    where
+      a : Facts K L D
+      a = at_moment x now
+
+      v : ℕ
+      v = context.round.view
+
+      r : RoundFacts K D
+      r = round_of x v
+
+      p : Proposal D
+      p = proposal_of context payload
+
+      built : proposed_answer same elect x context payload ≡ true → known_of (proposed_round same r context payload now) ≡ adds same elect x (Proposed context payload now) v (known_of r)
+      built taken = rw (taken, eq-eqb v v refl) (λ i. record (known_of r) { held = own_held same r.slot p decides i; conflict = own_conflict same r.slot p i })
+
+      by_answer : (b : Bool) → proposed_answer same elect x context payload ≡ b → Follows same elect (Proposed context payload now) x (if b then with_round a v (proposed_round same r context payload now) else a)
+      by_answer true taken = record { settings = refl; terms = refl; genesis = refl; moment = refl; current = omega arith; finalized = omega arith; nullified = λ w _. refl; nullify_votes = λ w _. refl; rounds = λ w _. put_alone same elect x (Proposed context payload now) v (proposed_round same r context payload now) (built taken) (λ u apart k. rw apart refl) w }
+      by_answer false dropped = record { settings = refl; terms = refl; genesis = refl; moment = refl; current = omega arith; finalized = omega arith; nullified = λ w _. refl; nullify_votes = λ w _. refl; rounds = λ w _. nothing_added same elect x (Proposed context payload now) w (λ k. rw (dropped, and_false (eqb w v)) refl) (round_of x w) (round_of x w) refl }
+
+  -- broadcasts
+
+  pub broadcast_notarization_follows : (v : ℕ) → Follows same elect (BroadcastNotarization v) x (after_broadcast_notarization x v)
+  broadcast_notarization_follows v = by_round (round_at x v) refl
+    where
+      r : RoundFacts K D
+      r = round_of x v
+
+      s : RoundFacts K D
+      s = record r { notarization_broadcast = r.notarization_broadcast || is_some r.notarization }
+
+      handed : known_of s ≡ adds same elect x (BroadcastNotarization v) v (known_of r)
+      handed = rw (eq-eqb v v refl) (λ i. record (known_of r) { notarization_broadcast = or_swap r.notarization_broadcast (is_some r.notarization) i })
+
+      by_round : (o : Option (RoundFacts K D)) → round_at x v ≡ o → Follows same elect (BroadcastNotarization v) x (if is_some o then with_round x v s else x)
+      by_round (Some _) found = record { settings = refl; terms = refl; genesis = refl; moment = refl; current = omega arith; finalized = omega arith; nullified = λ w _. refl; nullify_votes = λ w _. refl; rounds = λ w _. put_alone same elect x (BroadcastNotarization v) v s handed (λ u apart k. rw apart refl) w }
+      by_round None none =
+          let empty : is_some (round_of x v).notarization ≡ false = ap (λ o. is_some (unwrap_or o (new_round x.me x.members (round_number x v))).notarization) none in
+          record { settings = refl; terms = refl; genesis = refl; moment = refl; current = omega arith; finalized = omega arith; nullified = λ w _. refl; nullify_votes = λ w _. refl; rounds = λ w _. nothing_added same elect x (BroadcastNotarization v) w (λ k. rw (empty, and_false (eqb w v)) refl) (round_of x w) (round_of x w) refl }
+
+  pub broadcast_nullification_follows : (v : ℕ) → Follows same elect (BroadcastNullification v) x (after_broadcast_nullification x v)
+  broadcast_nullification_follows v = by_round (round_at x v) refl
+    where
+      r : RoundFacts K D
+      r = round_of x v
+
+      s : RoundFacts K D
+      s = record r { nullification_broadcast = r.nullification_broadcast || is_some r.nullification }
+
+      handed : known_of s ≡ adds same elect x (BroadcastNullification v) v (known_of r)
+      handed = rw (eq-eqb v v refl) (λ i. record (known_of r) { nullification_broadcast = or_swap r.nullification_broadcast (is_some r.nullification) i })
+
+      by_round : (o : Option (RoundFacts K D)) → round_at x v ≡ o → Follows same elect (BroadcastNullification v) x (if is_some o then with_round x v s else x)
+      by_round (Some _) found = record { settings = refl; terms = refl; genesis = refl; moment = refl; current = omega arith; finalized = omega arith; nullified = λ w _. refl; nullify_votes = λ w _. refl; rounds = λ w _. put_alone same elect x (BroadcastNullification v) v s handed (λ u apart k. rw apart refl) w }
+      by_round None none =
+          let empty : is_some (round_of x v).nullification ≡ false = ap (λ o. is_some (unwrap_or o (new_round x.me x.members (round_number x v))).nullification) none in
+          record { settings = refl; terms = refl; genesis = refl; moment = refl; current = omega arith; finalized = omega arith; nullified = λ w _. refl; nullify_votes = λ w _. refl; rounds = λ w _. nothing_added same elect x (BroadcastNullification v) w (λ k. rw (empty, and_false (eqb w v)) refl) (round_of x w) (round_of x w) refl }
+
+  pub broadcast_finalization_follows : (v : ℕ) → Follows same elect (BroadcastFinalization v) x (after_broadcast_finalization x v)
+  broadcast_finalization_follows v = by_round (round_at x v) refl
+    where
+      r : RoundFacts K D
+      r = round_of x v
+
+      s : RoundFacts K D
+      s = record r { finalization_broadcast = r.finalization_broadcast || is_some r.finalization }
+
+      handed : known_of s ≡ adds same elect x (BroadcastFinalization v) v (known_of r)
+      handed = rw (eq-eqb v v refl) (λ i. record (known_of r) { finalization_broadcast = or_swap r.finalization_broadcast (is_some r.finalization) i })
+
+      by_round : (o : Option (RoundFacts K D)) → round_at x v ≡ o → Follows same elect (BroadcastFinalization v) x (if is_some o then with_round x v s else x)
+      by_round (Some _) found = record { settings = refl; terms = refl; genesis = refl; moment = refl; current = omega arith; finalized = omega arith; nullified = λ w _. refl; nullify_votes = λ w _. refl; rounds = λ w _. put_alone same elect x (BroadcastFinalization v) v s handed (λ u apart k. rw apart refl) w }
+      by_round None none =
+          let empty : is_some (round_of x v).finalization ≡ false = ap (λ o. is_some (unwrap_or o (new_round x.me x.members (round_number x v))).finalization) none in
+          record { settings = refl; terms = refl; genesis = refl; moment = refl; current = omega arith; finalized = omega arith; nullified = λ w _. refl; nullify_votes = λ w _. refl; rounds = λ w _. nothing_added same elect x (BroadcastFinalization v) w (λ k. rw (empty, and_false (eqb w v)) refl) (round_of x w) (round_of x w) refl }
+
+  pub prune_follows : Follows same elect Prune x (after_prune x)
+  prune_follows = record {
+    settings = refl;
+    terms = refl;
+    genesis = refl;
+    moment = refl;
+    current = omega arith;
+    finalized = omega arith;
+    nullified = λ v left. among_left x x.nullified v left;
+    nullify_votes = λ v left. among_left x x.nullify_votes v left;
+    rounds = λ v left. ap known_of (left_by_prune x v left);
+  }

@@ -1,0 +1,17 @@
+pub mod Leaders
+pub mod Windows
+pub mod Wakings
+pub mod Puts
+pub mod Requests
+pub mod Timeouts
+pub mod Scans
+pub mod NextView
+pub mod WithoutMoment
+pub mod Votes
+pub mod Replays
+pub mod SetUp
+pub mod Verdicts
+pub mod Certificates
+pub mod CertificateSaid
+pub mod Elections
+pub mod HandedIn

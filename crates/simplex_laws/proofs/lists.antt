@@ -1,0 +1,4 @@
+pub mod Splits
+pub mod Signed
+pub mod Filters
+pub mod Ordered

@@ -1,0 +1,9 @@
+pub mod WithinLives
+pub mod Lasting
+pub mod Conflicts
+pub mod HandedOut
+pub mod AsAsked
+pub mod Examples
+pub mod WithinRuns
+pub mod TimingOut
+pub mod Progress

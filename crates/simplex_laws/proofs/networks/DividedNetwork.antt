@@ -1,0 +1,129 @@
+-- For `conflicts_are_left`.
+-- The network whose first leader proposes twice goes on.
+use Rattle.std.proofs.Common.{◌≡◌, refl, ℕ, inl, inr, List, [], ◌∷◌, Contains, nat_eq, arith}
+use Rattle.simplex_types.specs.Certificates.{ArtifactFacts, NotarizeVote}
+use Rattle.simplex_types.specs.declared.types.messages.Proposal.{Proposal}
+use Rattle.simplex_types.specs.declared.types.messages.Subject.TheVariants.{Notarize}
+use Rattle.simplex_types.specs.declared.reasons.TimeoutReason.TheVariants.{LeaderTimeout, CertificationTimeout}
+use Rattle.simplex_voter.specs.Gaps.{first_gap}
+use Rattle.simplex_voter.specs.Parents.{spans, payload_for, parent_payload, preferred_parent, may_stand, binding_matches}
+use Rattle.simplex_voter.specs.Payloads.{explicit_payload}
+use Rattle.simplex_voter.specs.Proposing.{propose_answer, proposed_answer}
+use Rattle.simplex_voter.specs.Rules.{may_notarize, may_nullify, may_finalize, is_gated, required_parent}
+use Rattle.simplex_voter.specs.Verifying.{standing}
+use Rattle.simplex_voter.specs.Windows.{is_admitted, in_window}
+use Rattle.simplex_member.specs.Check.{first_broken_rule}
+use Rattle.simplex_member.specs.Cuts.{may_drop, pruned}
+use Rattle.simplex_member.specs.Entries.{entry_view}
+use Rattle.simplex_member.specs.Recovery.{recovered, taken}
+use Rattle.simplex_laws.specs.DividedNetwork.{rival, deceived, warned, divided, after_conflict, leads_on, follows_on, united}
+use Rattle.simplex_laws.specs.Continuations.{and_then, PlacesGoOn, GoesOnToFinalize}
+use Rattle.simplex_laws.specs.Deeds.{Deed, Signs}
+use Rattle.simplex_laws.specs.Places.{FewFaulty, Backed, IsNetworkOf}
+use Rattle.simplex_laws.specs.Scripts.{one}
+use Rattle.simplex_laws.specs.Stories.{Story, deeds_of, Ran}
+use Rattle.simplex_laws.specs.Turns.{in_turn}
+use Rattle.simplex_laws.proofs.networks.ComputedRuns.{rises}
+use Rattle.simplex_laws.proofs.networks.Continuations.{AllRan, all_ran_before, network_of, goes_on_so}
+use Rattle.simplex_laws.proofs.records.DeedsShown.{only_one}
+use Rattle.simplex_laws.proofs.networks.Turns.{begins, told_in, FitsIn, ran_as_told}
+
+abbrev leading : Story ℕ ℕ ℕ
+leading = and_then (deceived 0 one rival) (leads_on 0 2000 CertificationTimeout)
+
+abbrev following : Story ℕ ℕ ℕ
+following = and_then (deceived 1 rival one) (follows_on 1 2000 CertificationTimeout)
+
+abbrev forgetting : Story ℕ ℕ ℕ
+forgetting = and_then (warned 2) (follows_on 2 1000 LeaderTimeout)
+
+leading_told : told_in leading ≡ leading.replies
+unfolding recovered taken may_drop pruned standing propose_answer proposed_answer preferred_parent may_stand spans payload_for first_gap explicit_payload in_window is_admitted binding_matches parent_payload may_notarize may_nullify may_finalize is_gated required_parent
+leading_told = refl
+
+following_told : told_in following ≡ following.replies
+unfolding recovered taken may_drop pruned standing spans payload_for first_gap explicit_payload in_window is_admitted binding_matches parent_payload may_notarize may_nullify may_finalize is_gated required_parent
+following_told = refl
+
+forgetting_told : told_in forgetting ≡ forgetting.replies
+unfolding recovered taken may_drop pruned standing spans payload_for first_gap explicit_payload in_window is_admitted binding_matches parent_payload may_notarize may_nullify may_finalize is_gated required_parent
+forgetting_told = refl
+
+-- the record that is left at a restart: a vote, or nothing
+abbrev with_vote : List (ArtifactFacts ℕ)
+with_vote = NotarizeVote one 0 ∷ []
+
+abbrev with_other_vote : List (ArtifactFacts ℕ)
+with_other_vote = NotarizeVote rival 1 ∷ []
+
+abbrev with_none : List (ArtifactFacts ℕ)
+with_none = []
+
+leading_fits : FitsIn leading
+unfolding first_broken_rule recovered taken may_drop pruned standing propose_answer proposed_answer preferred_parent may_stand spans payload_for first_gap explicit_payload in_window is_admitted binding_matches parent_payload may_notarize may_nullify may_finalize is_gated required_parent
+leading_fits = (refl, rises entry_view 0 with_vote refl, refl, tt)
+
+following_fits : FitsIn following
+unfolding first_broken_rule recovered taken may_drop pruned standing spans payload_for first_gap explicit_payload in_window is_admitted binding_matches parent_payload may_notarize may_nullify may_finalize is_gated required_parent
+following_fits = (refl, rises entry_view 0 with_other_vote refl, refl, tt)
+
+forgetting_fits : FitsIn forgetting
+unfolding first_broken_rule recovered taken may_drop pruned standing spans payload_for first_gap explicit_payload in_window is_admitted binding_matches parent_payload may_notarize may_nullify may_finalize is_gated required_parent
+forgetting_fits = (refl, rises entry_view 0 with_none refl, refl, tt)
+
+leading_ran : Ran nat_eq in_turn 1 0 leading
+unfolding first_broken_rule
+leading_ran = ran_as_told 1 0 leading (begins 1 0 (omega arith)) (begins 1 0 (omega arith), tt) refl leading_fits leading_told
+
+following_ran : Ran nat_eq in_turn 1 1 following
+unfolding first_broken_rule
+following_ran = ran_as_told 1 1 following (begins 1 1 (omega arith)) (begins 1 1 (omega arith), tt) refl following_fits following_told
+
+forgetting_ran : Ran nat_eq in_turn 1 2 forgetting
+unfolding first_broken_rule
+forgetting_ran = ran_as_told 1 2 forgetting (begins 1 2 (omega arith)) (begins 1 2 (omega arith), tt) refl forgetting_fits forgetting_told
+
+few : FewFaulty divided
+few = inl (omega arith, omega arith)
+
+later_few : FewFaulty united
+later_few = inl (omega arith, omega arith)
+
+goes : PlacesGoOn divided united
+goes = ((leads_on 0 2000 CertificationTimeout, refl), ((follows_on 1 2000 CertificationTimeout, refl), ((follows_on 2 1000 LeaderTimeout, refl), tt)))
+
+all_ran : AllRan in_turn 1 0 united
+all_ran = (leading_ran, (following_ran, (forgetting_ran, tt)))
+
+pub divided_network : IsNetworkOf nat_eq in_turn 1 divided
+divided_network = network_of in_turn 1 divided few (all_ran_before in_turn 1 0 divided united refl goes all_ran) refl
+
+pub divided_goes_on : GoesOnToFinalize nat_eq in_turn 1 divided united after_conflict
+divided_goes_on = goes_on_so in_turn 1 divided united after_conflict few later_few goes all_ran (record { backed = refl; certificates = refl; proposals = refl; finalized = refl; new = refl })
+
+-- no proposal has votes enough: each of the two has that of one honest member
+
+only_deed : (d e : Deed ℕ) → Contains (d ∷ []) e → d ≡ e
+only_deed d e h = only_one d e h
+
+no_deed : (e : Deed ℕ) → Contains [] e → ⊥
+no_deed e h = omega (arith, h.1)
+
+apart : (p : Proposal ℕ) → Contains (deeds_of (deceived 0 one rival)) (Signs 0 (Notarize p)) → Contains (deeds_of (deceived 1 rival one)) (Signs 1 (Notarize p)) → ⊥
+apart p first second =
+    let a = only_deed (Signs 0 (Notarize one)) (Signs 0 (Notarize p)) first in
+    let b = only_deed (Signs 1 (Notarize rival)) (Signs 1 (Notarize p)) second in
+    let payloads : one.payload ≡ rival.payload = cc in
+    omega (arith, payloads)
+
+pub none_notarized : (p : Proposal ℕ) → Backed divided (Notarize p) → ⊥
+none_notarized p (inl (first, inl (second, rest))) = apart p first second
+none_notarized p (inl (first, inr (inl (third, rest)))) = no_deed (Signs 2 (Notarize p)) third
+none_notarized p (inl (first, inr (inr (inl (any, rest))))) = rest
+none_notarized p (inl (first, inr (inr (inr rest)))) = rest
+none_notarized p (inr (inl (second, inl (third, rest)))) = no_deed (Signs 2 (Notarize p)) third
+none_notarized p (inr (inl (second, inr (inl (any, rest))))) = rest
+none_notarized p (inr (inl (second, inr (inr rest)))) = rest
+none_notarized p (inr (inr (inl (third, rest)))) = no_deed (Signs 2 (Notarize p)) third
+none_notarized p (inr (inr (inr (inl (any, rest))))) = rest
+none_notarized p (inr (inr (inr (inr rest)))) = rest

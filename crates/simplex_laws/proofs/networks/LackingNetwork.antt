@@ -1,0 +1,79 @@
+-- For `gaps_are_closed`.
+-- The network in which certificates are lacking goes on.
+use Rattle.std.proofs.Common.{◌≡◌, refl, ℕ, inl, nat_eq, arith}
+use Rattle.simplex_types.specs.declared.types.messages.Subject.TheVariants.{Notarize, Nullify}
+use Rattle.simplex_voter.specs.Gaps.{first_gap}
+use Rattle.simplex_voter.specs.Parents.{spans, payload_for, parent_payload, preferred_parent, may_stand, binding_matches}
+use Rattle.simplex_voter.specs.Payloads.{explicit_payload, optimistic_payload, is_handoff_parent, serves, follows}
+use Rattle.simplex_voter.specs.Proposing.{propose_answer, proposed_answer}
+use Rattle.simplex_voter.specs.Rules.{may_notarize, may_nullify, may_finalize, is_gated, required_parent}
+use Rattle.simplex_voter.specs.Verifying.{standing}
+use Rattle.simplex_voter.specs.Windows.{is_admitted, in_window}
+use Rattle.simplex_member.specs.Check.{first_broken_rule}
+use Rattle.simplex_laws.specs.Continuations.{and_then, HasAccepted, PlacesGoOn, GoesOnToFinalize}
+use Rattle.simplex_laws.specs.LackingNetwork.{lacks_nullification, skips_two, lacks_notarization, lacking, finishes, has_nullification, has_notarization, supplied, over_two}
+use Rattle.simplex_laws.specs.Places.{FewFaulty, IsNetworkOf}
+use Rattle.simplex_laws.specs.Scripts.{round, one}
+use Rattle.simplex_laws.specs.Stories.{Story, Ran}
+use Rattle.simplex_laws.specs.Turns.{in_turn}
+use Rattle.simplex_laws.proofs.networks.Continuations.{not_accepted, AllRan, all_ran_before, network_of, goes_on_so}
+use Rattle.simplex_laws.proofs.networks.Turns.{begins, told_in, ran_as_told}
+
+abbrev supplied_first : Story ℕ ℕ ℕ
+supplied_first = and_then lacks_nullification has_nullification
+
+abbrev supplied_second : Story ℕ ℕ ℕ
+supplied_second = and_then skips_two (finishes 1)
+
+abbrev supplied_third : Story ℕ ℕ ℕ
+supplied_third = and_then lacks_notarization has_notarization
+
+supplied_first_told : told_in supplied_first ≡ supplied_first.replies
+unfolding standing propose_answer proposed_answer preferred_parent may_stand spans payload_for first_gap explicit_payload optimistic_payload is_handoff_parent serves follows in_window is_admitted binding_matches parent_payload may_notarize may_nullify may_finalize is_gated required_parent
+supplied_first_told = refl
+
+supplied_second_told : told_in supplied_second ≡ supplied_second.replies
+unfolding standing propose_answer proposed_answer preferred_parent may_stand spans payload_for first_gap explicit_payload optimistic_payload is_handoff_parent serves follows in_window is_admitted binding_matches parent_payload may_notarize may_nullify may_finalize is_gated required_parent
+supplied_second_told = refl
+
+supplied_third_told : told_in supplied_third ≡ supplied_third.replies
+unfolding standing propose_answer proposed_answer preferred_parent may_stand spans payload_for first_gap explicit_payload optimistic_payload is_handoff_parent serves follows in_window is_admitted binding_matches parent_payload may_notarize may_nullify may_finalize is_gated required_parent
+supplied_third_told = refl
+
+supplied_first_ran : Ran nat_eq in_turn 1 0 supplied_first
+unfolding first_broken_rule
+supplied_first_ran = ran_as_told 1 0 supplied_first (begins 1 0 (omega arith)) tt refl tt supplied_first_told
+
+supplied_second_ran : Ran nat_eq in_turn 1 1 supplied_second
+unfolding first_broken_rule
+supplied_second_ran = ran_as_told 1 1 supplied_second (begins 1 1 (omega arith)) tt refl tt supplied_second_told
+
+supplied_third_ran : Ran nat_eq in_turn 1 2 supplied_third
+unfolding first_broken_rule
+supplied_third_ran = ran_as_told 1 2 supplied_third (begins 1 2 (omega arith)) tt refl tt supplied_third_told
+
+few : FewFaulty lacking
+few = inl (omega arith, omega arith)
+
+later_few : FewFaulty supplied
+later_few = inl (omega arith, omega arith)
+
+goes : PlacesGoOn lacking supplied
+goes = ((has_nullification, refl), ((finishes 1, refl), ((has_notarization, refl), tt)))
+
+all_ran : AllRan in_turn 1 0 supplied
+all_ran = (supplied_first_ran, (supplied_second_ran, (supplied_third_ran, tt)))
+
+pub lacking_network : IsNetworkOf nat_eq in_turn 1 lacking
+lacking_network = network_of in_turn 1 lacking few (all_ran_before in_turn 1 0 lacking supplied refl goes all_ran) refl
+
+pub lacking_goes_on : GoesOnToFinalize nat_eq in_turn 1 lacking supplied over_two
+lacking_goes_on = goes_on_so in_turn 1 lacking supplied over_two few later_few goes all_ran (record { backed = refl; certificates = refl; proposals = refl; finalized = refl; new = refl })
+
+-- what two members have not accepted
+
+pub none_skipped : HasAccepted (Nullify (round 2)) 0 lacks_nullification → ⊥
+none_skipped h = not_accepted (Nullify (round 2)) lacks_nullification refl refl h
+
+pub none_notarized : HasAccepted (Notarize one) 2 lacks_notarization → ⊥
+none_notarized h = not_accepted (Notarize one) lacks_notarization refl refl h

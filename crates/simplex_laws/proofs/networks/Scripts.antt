@@ -1,0 +1,227 @@
+-- For `restarts_are_runs`, `skipped_views_are_agreed_on`, `terms_are_agreed_on`.
+-- The scripts are runs.
+use Rattle.std.proofs.Common.{◌≡◌, refl, subst, ℕ, zero, suc, ◌<◌, inl, inr, true, List, [], ◌∷◌, Contains, Some, slice_get, nat_eq, arith}
+use Rattle.simplex_types.specs.Certificates.{ArtifactFacts, NotarizeVote, FinalizeVote, Verdict, Accepted, Notarized, Finalized as CertifiedFinal}
+use Rattle.simplex_types.specs.Config.{FloorFacts, Genesis, Finalized}
+use Rattle.simplex_types.specs.declared.types.messages.Subject.{Subject}
+use Rattle.simplex_types.specs.declared.types.messages.Subject.TheVariants as subject
+use Rattle.simplex_voter.specs.Windows.{is_admitted, in_window}
+use Rattle.simplex_voter.specs.Gaps.{first_gap}
+use Rattle.simplex_voter.specs.Payloads.{explicit_payload}
+use Rattle.simplex_voter.specs.Parents.{spans, payload_for, parent_payload, binding_matches}
+use Rattle.simplex_voter.specs.Rules.{may_notarize, may_nullify, may_finalize, is_gated, required_parent}
+use Rattle.simplex_voter.specs.Verifying.{standing}
+use Rattle.simplex_member.specs.Calls.{Told}
+use Rattle.simplex_member.specs.Check.{first_broken_rule}
+use Rattle.simplex_member.specs.Cuts.{may_drop, pruned}
+use Rattle.simplex_member.specs.Entries.{entry_view}
+use Rattle.simplex_member.specs.Recovery.{recovered, taken}
+use Rattle.simplex_laws.specs.Places.{Honest, Backed, IsNetworkOf}
+use Rattle.simplex_laws.specs.Scripts.{leader, start_at, round, proposal, certificate, one, two, impatient, patient, forgetful, four, restarting, skipping, five}
+use Rattle.simplex_laws.specs.Deeds.{Accepts}
+use Rattle.simplex_laws.specs.Stories.{Story, deeds_of, BeginsAs, Ran}
+use Rattle.simplex_laws.proofs.networks.ComputedRuns.{replies_from, Fits, begun, fits_run_from, rises, each_begins}
+
+begins : (term_length me : ℕ) (floor : FloorFacts ℕ) → 0 < term_length → BeginsAs term_length me (start_at term_length floor me).setup
+begins term_length me floor some = record { terms = record { terms = refl; some = some }; signs_as = inl refl }
+
+module _ where
+  abbrev from_start : Story ℕ ℕ ℕ → List (Told ℕ ℕ)
+  from_start s = replies_from nat_eq leader (begun nat_eq leader s.start) s.steps
+
+  impatient_told : from_start impatient ≡ impatient.replies
+  unfolding spans payload_for first_gap explicit_payload in_window is_admitted binding_matches parent_payload may_notarize may_nullify may_finalize is_gated required_parent
+  impatient_told = refl
+
+  patient_told_1 : from_start (patient 1) ≡ (patient 1).replies
+  unfolding standing spans payload_for first_gap explicit_payload in_window is_admitted binding_matches parent_payload may_notarize may_nullify may_finalize is_gated required_parent
+  patient_told_1 = refl
+
+  -- what is left of the record at the restart of the third member
+  abbrev kept : List (ArtifactFacts ℕ)
+  kept = NotarizeVote one 2 ∷ Accepted (Notarized (certificate one)) ∷ Verdict (round 1) true ∷ FinalizeVote one 2 ∷ []
+
+  forgetful_told : from_start (forgetful) ≡ (forgetful).replies
+  unfolding recovered taken may_drop pruned standing spans payload_for first_gap explicit_payload in_window is_admitted binding_matches parent_payload may_notarize may_nullify may_finalize is_gated required_parent
+  forgetful_told = refl
+
+  forgetful_fits : Fits nat_eq leader (begun nat_eq leader (forgetful).start) (forgetful).steps
+  unfolding first_broken_rule recovered taken may_drop pruned standing spans payload_for first_gap explicit_payload in_window is_admitted binding_matches parent_payload may_notarize may_nullify may_finalize is_gated required_parent
+  forgetful_fits = (refl, rises entry_view 0 kept refl, refl, tt)
+
+  pub forgetful_ran : Ran nat_eq leader 5 2 (forgetful)
+  unfolding first_broken_rule
+  forgetful_ran = record {
+    lives = record { first = begins 5 2 (Genesis 0) (omega arith); later = each_begins 5 2 (forgetful).steps (begins 5 2 (Genesis 0) (omega arith), tt) };
+    run = fits_run_from nat_eq leader (forgetful) refl forgetful_fits forgetful_told;
+  }
+
+  skipping_told_0 : from_start (skipping 0) ≡ (skipping 0).replies
+  unfolding standing spans payload_for first_gap explicit_payload in_window is_admitted binding_matches parent_payload may_notarize may_nullify may_finalize is_gated required_parent
+  skipping_told_0 = refl
+
+  skipping_told_1 : from_start (skipping 1) ≡ (skipping 1).replies
+  unfolding standing spans payload_for first_gap explicit_payload in_window is_admitted binding_matches parent_payload may_notarize may_nullify may_finalize is_gated required_parent
+  skipping_told_1 = refl
+
+  skipping_told_2 : from_start (skipping 2) ≡ (skipping 2).replies
+  unfolding standing spans payload_for first_gap explicit_payload in_window is_admitted binding_matches parent_payload may_notarize may_nullify may_finalize is_gated required_parent
+  skipping_told_2 = refl
+
+  -- what is left of the record at the first restart, and at each later one
+  abbrev once : List (ArtifactFacts ℕ)
+  once = Accepted (Notarized (certificate one)) ∷ Verdict (round 1) true ∷ FinalizeVote one 1 ∷ []
+
+  abbrev twice : List (ArtifactFacts ℕ)
+  twice = Accepted (Notarized (certificate two)) ∷ Verdict (round 2) true ∷ FinalizeVote two 1 ∷ Accepted (CertifiedFinal (certificate (proposal 3 2))) ∷ []
+
+  restarting_told : from_start restarting ≡ restarting.replies
+  unfolding recovered taken may_drop pruned standing spans payload_for first_gap explicit_payload in_window is_admitted binding_matches parent_payload may_notarize may_nullify may_finalize is_gated required_parent
+  restarting_told = refl
+
+  restarting_fits : Fits nat_eq leader (begun nat_eq leader restarting.start) restarting.steps
+  unfolding first_broken_rule recovered taken may_drop pruned standing spans payload_for first_gap explicit_payload in_window is_admitted binding_matches parent_payload may_notarize may_nullify may_finalize is_gated required_parent
+  restarting_fits = (
+    refl,
+    rises entry_view 0 once refl,
+    refl,
+    (
+      refl,
+      rises entry_view 0 twice refl,
+      refl,
+      (
+        refl,
+        rises entry_view 0 twice refl,
+        refl,
+        tt,
+      ),
+    ),
+  )
+
+  pub impatient_ran : Ran nat_eq leader 5 0 impatient
+  unfolding first_broken_rule
+  impatient_ran = record {
+    lives = record { first = begins 5 0 (Genesis 0) (omega arith); later = each_begins 5 0 impatient.steps tt };
+    run = fits_run_from nat_eq leader impatient refl tt impatient_told;
+  }
+
+  patient_ran : (me : ℕ) → from_start (patient me) ≡ (patient me).replies → Ran nat_eq leader 5 me (patient me)
+  unfolding first_broken_rule
+  patient_ran me told = record {
+    lives = record { first = begins 5 me (Genesis 0) (omega arith); later = each_begins 5 me (patient me).steps tt };
+    run = fits_run_from nat_eq leader (patient me) refl tt told;
+  }
+
+  skipping_ran : (me : ℕ) → from_start (skipping me) ≡ (skipping me).replies → Ran nat_eq leader 1 me (skipping me)
+  unfolding first_broken_rule
+  skipping_ran me told = record {
+    lives = record { first = begins 1 me (Genesis 0) (omega arith); later = each_begins 1 me (skipping me).steps tt };
+    run = fits_run_from nat_eq leader (skipping me) refl tt told;
+  }
+
+  pub restarting_ran : Ran nat_eq leader 5 1 restarting
+  unfolding first_broken_rule
+  restarting_ran = record {
+    lives = record { first = begins 5 1 (Genesis 0) (omega arith); later = each_begins 5 1 restarting.steps (begins 5 1 (Genesis 0) (omega arith), (begins 5 1 (Genesis 0) (omega arith), (begins 5 1 (Finalized (certificate (proposal 4 3))) (omega arith), tt))) };
+    run = fits_run_from nat_eq leader restarting refl restarting_fits restarting_told;
+  }
+
+  -- the networks
+
+  notarized_one : Backed four (subject.Notarize one)
+  notarized_one = inr (inl ((0, omega arith, refl), inl ((0, omega arith, refl), inl (tt, tt))))
+
+  pub finalized_one : Backed four (subject.Finalize one)
+  finalized_one = inr (inl ((2, omega arith, refl), inl ((2, omega arith, refl), inl (tt, tt))))
+
+  notarized_two : Backed four (subject.Notarize two)
+  notarized_two = inr (inl ((3, omega arith, refl), inl ((5, omega arith, refl), inl (tt, tt))))
+
+  pub finalized_two : Backed four (subject.Finalize two)
+  finalized_two = inl ((4, omega arith, refl), inl ((5, omega arith, refl), inl ((7, omega arith, refl), tt)))
+
+  abbrev FourBack : Subject ℕ → Type 0
+  FourBack c = Backed four c
+
+  impatient_accepts : (c : Subject ℕ) → Contains (deeds_of impatient) (Accepts c) → FourBack c
+  impatient_accepts c (zero, less, same) = absurd (cc)
+  impatient_accepts c (suc zero, less, same) = (let e : subject.Notarize one ≡ c = cc in subst FourBack e notarized_one)
+  impatient_accepts c (suc (suc zero), less, same) = (let e : subject.Notarize two ≡ c = cc in subst FourBack e notarized_two)
+  impatient_accepts c (suc (suc (suc zero)), less, same) = (let e : subject.Finalize one ≡ c = cc in subst FourBack e finalized_one)
+  impatient_accepts c (suc (suc (suc (suc zero))), less, same) = absurd (cc)
+  impatient_accepts c (suc (suc (suc (suc (suc k)))), less, same) = absurd (omega arith)
+
+  patient_accepts : (me : ℕ) (c : Subject ℕ) → Contains (deeds_of (patient me)) (Accepts c) → FourBack c
+  patient_accepts me c (zero, less, same) = absurd (cc)
+  patient_accepts me c (suc zero, less, same) = (let e : subject.Notarize one ≡ c = cc in subst FourBack e notarized_one)
+  patient_accepts me c (suc (suc zero), less, same) = absurd (cc)
+  patient_accepts me c (suc (suc (suc zero)), less, same) = absurd (cc)
+  patient_accepts me c (suc (suc (suc (suc zero))), less, same) = (let e : subject.Notarize two ≡ c = cc in subst FourBack e notarized_two)
+  patient_accepts me c (suc (suc (suc (suc (suc zero)))), less, same) = absurd (cc)
+  patient_accepts me c (suc (suc (suc (suc (suc (suc k))))), less, same) = absurd (omega arith)
+
+  forgetful_accepts : (c : Subject ℕ) → Contains (deeds_of (forgetful)) (Accepts c) → FourBack c
+  forgetful_accepts c (zero, less, same) = absurd (cc)
+  forgetful_accepts c (suc zero, less, same) = (let e : subject.Notarize one ≡ c = cc in subst FourBack e notarized_one)
+  forgetful_accepts c (suc (suc zero), less, same) = absurd (cc)
+  forgetful_accepts c (suc (suc (suc zero)), less, same) = (let e : subject.Finalize one ≡ c = cc in subst FourBack e finalized_one)
+  forgetful_accepts c (suc (suc (suc (suc zero))), less, same) = (let e : subject.Finalize one ≡ c = cc in subst FourBack e finalized_one)
+  forgetful_accepts c (suc (suc (suc (suc (suc zero)))), less, same) = absurd (cc)
+  forgetful_accepts c (suc (suc (suc (suc (suc (suc zero))))), less, same) = (let e : subject.Notarize two ≡ c = cc in subst FourBack e notarized_two)
+  forgetful_accepts c (suc (suc (suc (suc (suc (suc (suc zero)))))), less, same) = absurd (cc)
+  forgetful_accepts c (suc (suc (suc (suc (suc (suc (suc (suc k))))))), less, same) = absurd (omega arith)
+
+  -- what holds of each honest place holds of the story at it
+  four_places : (P : ℕ → Story ℕ ℕ ℕ → Type 0) → P 0 impatient → P 1 (patient 1) → P 2 (forgetful) → (i : ℕ) (s : Story ℕ ℕ ℕ) → slice_get four i ≡ Some (Honest s) → P i s
+  four_places P a b c zero s is = (let e : impatient ≡ s = cc in subst (λ t. P 0 t) e a)
+  four_places P a b c (suc zero) s is = (let e : patient 1 ≡ s = cc in subst (λ t. P 1 t) e b)
+  four_places P a b c (suc (suc zero)) s is = (let e : forgetful ≡ s = cc in subst (λ t. P 2 t) e c)
+  four_places P a b c (suc (suc (suc zero))) s is = absurd (cc)
+  four_places P a b c (suc (suc (suc (suc k)))) s is = absurd (cc)
+
+  pub four_network : IsNetworkOf nat_eq leader 5 four
+  four_network = record {
+    few_faulty = inl (omega arith, omega arith);
+    honest = four_places (λ i s. Ran nat_eq leader 5 i s) impatient_ran (patient_ran 1 patient_told_1) forgetful_ran;
+    backed = λ i s c at h. four_places (λ j t. (d : Subject ℕ) → Contains (deeds_of t) (Accepts d) → FourBack d) impatient_accepts (patient_accepts 1) forgetful_accepts i s at c h;
+  }
+
+  abbrev FiveBack : Subject ℕ → Type 0
+  FiveBack c = Backed five c
+
+  pub five_notarize_one : FiveBack (subject.Notarize one)
+  five_notarize_one = inl ((0, omega arith, refl), inl ((0, omega arith, refl), inl ((0, omega arith, refl), inl (tt, tt))))
+
+  pub five_nullify_two : FiveBack (subject.Nullify (round 2))
+  five_nullify_two = inl ((2, omega arith, refl), inl ((2, omega arith, refl), inl ((2, omega arith, refl), inl (tt, tt))))
+
+  five_notarize_three : FiveBack (subject.Notarize (proposal 3 1))
+  five_notarize_three = inl ((4, omega arith, refl), inl ((4, omega arith, refl), inl ((4, omega arith, refl), inl (tt, tt))))
+
+  pub five_finalize_three : FiveBack (subject.Finalize (proposal 3 1))
+  five_finalize_three = inl ((6, omega arith, refl), inl ((6, omega arith, refl), inl ((6, omega arith, refl), inl (tt, tt))))
+
+  skipping_accepts : (me : ℕ) (c : Subject ℕ) → Contains (deeds_of (skipping me)) (Accepts c) → FiveBack c
+  skipping_accepts me c (zero, less, same) = absurd (cc)
+  skipping_accepts me c (suc zero, less, same) = (let e : subject.Notarize one ≡ c = cc in subst FiveBack e five_notarize_one)
+  skipping_accepts me c (suc (suc zero), less, same) = absurd (cc)
+  skipping_accepts me c (suc (suc (suc zero)), less, same) = (let e : subject.Nullify (round 2) ≡ c = cc in subst FiveBack e five_nullify_two)
+  skipping_accepts me c (suc (suc (suc (suc zero))), less, same) = absurd (cc)
+  skipping_accepts me c (suc (suc (suc (suc (suc zero)))), less, same) = (let e : subject.Notarize (proposal 3 1) ≡ c = cc in subst FiveBack e five_notarize_three)
+  skipping_accepts me c (suc (suc (suc (suc (suc (suc zero))))), less, same) = absurd (cc)
+  skipping_accepts me c (suc (suc (suc (suc (suc (suc (suc k)))))), less, same) = absurd (omega arith)
+
+  five_places : (P : ℕ → Story ℕ ℕ ℕ → Type 0) → P 0 (skipping 0) → P 1 (skipping 1) → P 2 (skipping 2) → (i : ℕ) (s : Story ℕ ℕ ℕ) → slice_get five i ≡ Some (Honest s) → P i s
+  five_places P a b c zero s is = (let e : skipping 0 ≡ s = cc in subst (λ t. P 0 t) e a)
+  five_places P a b c (suc zero) s is = (let e : skipping 1 ≡ s = cc in subst (λ t. P 1 t) e b)
+  five_places P a b c (suc (suc zero)) s is = (let e : skipping 2 ≡ s = cc in subst (λ t. P 2 t) e c)
+  five_places P a b c (suc (suc (suc zero))) s is = absurd (cc)
+  five_places P a b c (suc (suc (suc (suc zero)))) s is = absurd (cc)
+  five_places P a b c (suc (suc (suc (suc (suc k))))) s is = absurd (cc)
+
+  pub five_network : IsNetworkOf nat_eq leader 1 five
+  five_network = record {
+    few_faulty = inr (omega arith);
+    honest = five_places (λ i s. Ran nat_eq leader 1 i s) (skipping_ran 0 skipping_told_0) (skipping_ran 1 skipping_told_1) (skipping_ran 2 skipping_told_2);
+    backed = λ i s c at h. five_places (λ j t. (d : Subject ℕ) → Contains (deeds_of t) (Accepts d) → FiveBack d) (skipping_accepts 0) (skipping_accepts 1) (skipping_accepts 2) i s at c h;
+  }

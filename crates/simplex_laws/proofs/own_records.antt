@@ -1,0 +1,14 @@
+pub mod BrokenRules
+pub mod BrokenParents
+pub mod SmallViews
+pub mod HighViews
+pub mod Outside
+pub mod EntriesFit
+pub mod Recorded
+pub mod ShownVerdicts
+pub mod RecoveredVerdicts
+pub mod VerdictsByCalls
+pub mod Runs
+pub mod Verdicts
+pub mod BuiltHigh
+pub mod HighVotes

@@ -1,0 +1,16 @@
+pub mod EntryDeeds
+pub mod EntriesStand
+pub mod DeedsShown
+pub mod RecoveredVotes
+pub mod RecordedVotes
+pub mod Remembering
+pub mod CallsRemembered
+pub mod RecoveredRecords
+pub mod CutsRemembered
+pub mod Lifetimes
+pub mod NotarizeVotesRemembered
+pub mod RecoveredNotarizeVotes
+pub mod NewLives
+pub mod CallsKeepRules
+pub mod RunsLawful
+pub mod Resumes

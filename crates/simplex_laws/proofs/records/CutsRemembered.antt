@@ -1,0 +1,123 @@
+-- For `votes_are_lawful`.
+-- A copy of a record by view, a record without its last entries, and a pruned one remember the deeds.
+use Rattle.std.proofs.Common.{◌≡◌, refl, ap, sym, ◌∙◌, subst, ℕ, inl, inr, Bool, true, false, nat_le, max, List, [], ◌∷◌, ◌++◌, append_assoc, Contains, filter, arith}
+use Rattle.std.specs.Prelude.{◌==◌}
+use Rattle.std.proofs.lemmas.Bool.{cases_Bool, false≢true, eq-eqb, leb-false}
+use Rattle.std.proofs.lemmas.List.{append-nil}
+use Rattle.std.proofs.lemmas.List.Elements.{Contains-append_left, Contains-append_cases}
+use Rattle.simplex_types.specs.Certificates.{Finalized, ArtifactFacts, NullifyVote, FinalizeVote, Verdict, Accepted}
+use Rattle.simplex_types.specs.Config.{FloorFacts, Genesis, Finalized as FinalizedFloor}
+use Rattle.simplex_types.specs.declared.types.messages.Proposal.{Proposal}
+use Rattle.simplex_types.specs.declared.types.messages.Subject.TheVariants as subject
+use Rattle.simplex_types.specs.declared.types.numbers.Round.{Round}
+use Rattle.simplex_member.specs.Check.{stands}
+use Rattle.simplex_member.specs.Cuts.{is_vote}
+use Rattle.simplex_member.specs.Entries.{entry_view}
+use Rattle.simplex_member.specs.Recovery.{is_finalization, with_floor}
+use Rattle.simplex_laws.specs.Deeds.{Deed, Accepts, of_floor}
+use Rattle.simplex_laws.proofs.agreement.VoteOrder.{Contains-middle}
+use Rattle.simplex_laws.proofs.lists.Filters.{filter_split, filter_middle, Contains-filter, Contains-filtered, filtered_passes}
+use Rattle.simplex_laws.proofs.records.DeedsShown.{Remembers}
+use Rattle.simplex_laws.proofs.records.Remembering.{remembers_more, grows_certificate}
+
+module _ {D : Type 0} (deeds : List (Deed D)) (kept : ℕ) (entries : List (ArtifactFacts D)) (remembers : Remembers deeds kept entries) where
+  -- entries of each view in the same order
+
+  module _ (copy : List (ArtifactFacts D)) (of_each_view : (v : ℕ) → filter (λ e. entry_view e == v) copy ≡ filter (λ e. entry_view e == v) entries) where
+    pub in_record : (e : ArtifactFacts D) → Contains copy e → Contains entries e
+    in_record e h =
+        let test : ArtifactFacts D → Bool = λ f. entry_view f == entry_view e in
+        Contains-filtered test entries e (subst (λ es. Contains es e) (of_each_view (entry_view e)) (Contains-filter test copy e h (eq-eqb (entry_view e) (entry_view e) refl)))
+
+    pub in_copy : (e : ArtifactFacts D) → Contains entries e → Contains copy e
+    in_copy e h =
+        let test : ArtifactFacts D → Bool = λ f. entry_view f == entry_view e in
+        Contains-filtered test copy e (subst (λ es. Contains es e) (sym (of_each_view (entry_view e))) (Contains-filter test entries e h (eq-eqb (entry_view e) (entry_view e) refl)))
+
+    copy_judged : (before after : List (ArtifactFacts D)) (p : Proposal D) (m : ℕ) → copy ≡ before ++ FinalizeVote p m ∷ after → (round : Round) × Contains before (Verdict round true) × (round.view ≡ p.round.view)
+    copy_judged before after p m split =
+        let v = p.round.view in
+        let test : ArtifactFacts D → Bool = λ f. entry_view f == v in
+        let vote : ArtifactFacts D = FinalizeVote p m in
+        let same : filter test entries ≡ filter test before ++ vote ∷ filter test after = sym (of_each_view v) ∙ (ap (filter test) split ∙ filter_middle test before after vote (eq-eqb v v refl)) in
+        let whole = filter_split test entries (filter test before) (filter test after) vote same in
+        let verdict = remembers.judged whole.0 whole.1 p m whole.2 in
+        let kept_there : Contains (filter test whole.0) (Verdict verdict.0 true) = Contains-filter test whole.0 (Verdict verdict.0 true) verdict.1 (eq-eqb verdict.0.view v verdict.2) in
+        (verdict.0, Contains-filtered test before (Verdict verdict.0 true) (subst (λ es. Contains es (Verdict verdict.0 true)) (sym whole.3) kept_there), verdict.2)
+
+    pub copy_remembers : Remembers deeds kept copy
+    copy_remembers = record {
+      accepted = λ c h. remembers.accepted c (in_record (Accepted c) h);
+      nullify_cast = λ round m h. remembers.nullify_cast round m (in_record (NullifyVote round m) h);
+      finalize_cast = λ p m h. remembers.finalize_cast p m (in_record (FinalizeVote p m) h);
+      nullify_kept = λ round h. elim (remembers.nullify_kept round h) [ inl e ↦ inl (e.0, in_copy (NullifyVote round e.0) e.1) | inr below ↦ inr below ];
+      finalize_kept = λ p h. elim (remembers.finalize_kept p h) [ inl e ↦ inl (e.0, in_copy (FinalizeVote p e.0) e.1) | inr below ↦ inr below ];
+      above_genesis = remembers.above_genesis;
+      judged = copy_judged;
+    }
+
+  -- without last entries that are no votes
+
+  pub left_remembers : (left tail : List (ArtifactFacts D)) → entries ≡ left ++ tail → ((e : ArtifactFacts D) → Contains tail e → is_vote e ≡ false) → Remembers deeds kept left
+  left_remembers left tail split no_votes = record {
+    accepted = λ c h. remembers.accepted c (there (Accepted c) h);
+    nullify_cast = λ round m h. remembers.nullify_cast round m (there (NullifyVote round m) h);
+    finalize_cast = λ p m h. remembers.finalize_cast p m (there (FinalizeVote p m) h);
+    nullify_kept = λ round h. elim (remembers.nullify_kept round h) [ inl e ↦ inl (e.0, voted (NullifyVote round e.0) refl e.1) | inr below ↦ inr below ];
+    finalize_kept = λ p h. elim (remembers.finalize_kept p h) [ inl e ↦ inl (e.0, voted (FinalizeVote p e.0) refl e.1) | inr below ↦ inr below ];
+    above_genesis = remembers.above_genesis;
+    judged = λ before after p m is. remembers.judged before (after ++ tail) p m (split ∙ (ap (λ es. es ++ tail) is ∙ append_assoc before (FinalizeVote p m ∷ after) tail));
+  }
+    where
+      there : (e : ArtifactFacts D) → Contains left e → Contains entries e
+      there e h = subst (λ es. Contains es e) (sym split) (Contains-append_left left tail e h)
+
+      voted : (e : ArtifactFacts D) → is_vote e ≡ true → Contains entries e → Contains left e
+      voted e vote h = elim (Contains-append_cases left tail e (subst (λ es. Contains es e) split h)) [
+        | inl old ↦ old
+        | inr dropped ↦ absurd (false≢true (sym (no_votes e dropped) ∙ vote))
+      ]
+
+  -- without what stands below a view
+
+  pub bounded_remembers : (bound : ℕ) → Remembers deeds (max kept bound) (filter (λ e. nat_le bound (entry_view e)) entries)
+  bounded_remembers bound = record {
+    accepted = λ c h. remembers.accepted c (Contains-filtered test entries (Accepted c) h);
+    nullify_cast = λ round m h. remembers.nullify_cast round m (Contains-filtered test entries (NullifyVote round m) h);
+    finalize_cast = λ p m h. remembers.finalize_cast p m (Contains-filtered test entries (FinalizeVote p m) h);
+    nullify_kept = λ round h. elim (remembers.nullify_kept round h) [
+      | inr below ↦ inr (omega arith)
+      | inl e ↦ elim (cases_Bool (nat_le bound round.view)) [
+        | inl stays ↦ inl (e.0, Contains-filter test entries (NullifyVote round e.0) e.1 stays)
+        | inr falls ↦ inr (omega (arith, leb-false bound round.view falls))
+      ]
+    ];
+    finalize_kept = λ p h. elim (remembers.finalize_kept p h) [
+      | inr below ↦ inr (omega arith)
+      | inl e ↦ elim (cases_Bool (nat_le bound p.round.view)) [
+        | inl stays ↦ inl (e.0, Contains-filter test entries (FinalizeVote p e.0) e.1 stays)
+        | inr falls ↦ inr (omega (arith, leb-false bound p.round.view falls))
+      ]
+    ];
+    above_genesis = remembers.above_genesis;
+    judged = λ before after p m split.
+        (let whole = filter_split test entries before after (FinalizeVote p m) split in
+        let verdict = remembers.judged whole.0 whole.1 p m whole.2 in
+        let here : Contains (filter test entries) (FinalizeVote p m) = subst (λ es. Contains es (FinalizeVote p m)) (sym split) (Contains-middle before after (FinalizeVote p m)) in
+        let passes : nat_le bound p.round.view ≡ true = filtered_passes test entries (FinalizeVote p m) here in
+        let stays : nat_le bound verdict.0.view ≡ true = ap (nat_le bound) verdict.2 ∙ passes in
+        (verdict.0, subst (λ es. Contains es (Verdict verdict.0 true)) (sym whole.3) (Contains-filter test whole.0 (Verdict verdict.0 true) verdict.1 stays), verdict.2));
+  }
+    where
+      test : ArtifactFacts D → Bool
+      test e = nat_le bound (entry_view e)
+
+  -- with the floor's finalization
+
+  pub floor_remembers : (floor : FloorFacts D) → Remembers (deeds ++ of_floor floor) kept (with_floor entries floor)
+  floor_remembers (Genesis _) = subst (λ a. Remembers a kept entries) (sym (append-nil deeds)) remembers
+  floor_remembers (FinalizedFloor c) = by_record (stands c.proposal.round.view is_finalization entries) refl
+    where
+      by_record : (b : Bool) → stands c.proposal.round.view is_finalization entries ≡ b → Remembers (deeds ++ Accepts (subject.Finalize c.proposal) ∷ []) kept (with_floor entries (FinalizedFloor c))
+      by_record true is = rw is (subst (λ es. Remembers (deeds ++ Accepts (subject.Finalize c.proposal) ∷ []) kept es) (append-nil entries) (remembers_more deeds entries kept (Accepts (subject.Finalize c.proposal) ∷ []) [] (grows_certificate deeds entries false (Finalized c)) remembers))
+      by_record false is = rw is (remembers_more deeds entries kept (Accepts (subject.Finalize c.proposal) ∷ []) (Accepted (Finalized c) ∷ []) (grows_certificate deeds entries true (Finalized c)) remembers)

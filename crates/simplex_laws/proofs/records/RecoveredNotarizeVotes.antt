@@ -1,0 +1,366 @@
+-- For `votes_are_lawful`.
+-- A state that is made again from a record shows its votes to notarize, and nothing else is open.
+use Rattle.std.proofs.Common.{◌≡◌, refl, ap, sym, ◌∙◌, subst, ℕ, ◌+◌, ◌≤◌, ◌<◌, ◌⊎◌, inl, inr, Bool, true, false, not, if◌then◌else◌, nat_lt, List, [], ◌∷◌, Contains, Ordering, Less, Equal, Greater, Option, Some, None, arith, is_some}
+use Rattle.std.specs.Prelude.{option_and_then}
+use Rattle.std.specs.Ordering.{nat_cmp, match_ordering}
+use Rattle.std.specs.BTreeSet.{insert_key}
+use Rattle.std.proofs.lemmas.Bool.{cases_eq, false≢true, ltb-true}
+use Rattle.simplex_types.specs.Terms.{next_term_start}
+use Rattle.simplex_types.specs.Proposal.{same_proposal}
+use Rattle.simplex_types.specs.Certificates.{ProposalFacts, NullificationFacts, Notarized, Nullified, Finalized, ArtifactFacts, NotarizeVote, NullifyVote, FinalizeVote, Verdict, Accepted}
+use Rattle.simplex_types.specs.Config.{FloorFacts, Genesis, Finalized as FinalizedFloor}
+use Rattle.simplex_types.specs.declared.types.messages.Proposal.{Proposal}
+use Rattle.simplex_types.specs.declared.types.messages.Subject.TheVariants as subject
+use Rattle.simplex_types.specs.declared.types.numbers.Round.{Round}
+use Rattle.simplex_types.specs.declared.types.window.Terms.{Terms}
+use Rattle.simplex_round.specs.declared.round.Decision.TheVariants as decision
+use Rattle.simplex_round.specs.Slot.{SlotFacts, holds_or_empty, after_own}
+use Rattle.simplex_round.specs.Round.{RoundFacts, certified_round}
+use Rattle.simplex_voter.specs.Facts.{Settings, Facts, Elect, new_facts, round_of, with_round}
+use Rattle.simplex_voter.specs.Windows.{min_active}
+use Rattle.simplex_voter.specs.Entering.{at_moment, entered}
+use Rattle.simplex_voter.specs.Leaders.{elected, prepared}
+use Rattle.simplex_voter.specs.Replay.{bound_again, restored_binding}
+use Rattle.simplex_voter.specs.Acceptance.{nullified_also, with_nullification_at, after_add_notarization, after_add_finalization, after_set_floor}
+use Rattle.simplex_voter.proofs.Elsewhere.{round_of-with_round}
+use Rattle.simplex_member.specs.Entries.{entry_view}
+use Rattle.simplex_member.specs.Openings.{no_openings}
+use Rattle.simplex_member.specs.Recovery.{retaken, taken, all_taken, recovered}
+use Rattle.simplex_laws.specs.Deeds.{Deed, Accepts}
+use Rattle.simplex_laws.proofs.frames.Rising.{finalization_passes}
+use Rattle.simplex_laws.proofs.lists.Splits.{Contains-cases, Contains-cons_rest}
+use Rattle.simplex_laws.proofs.frames.Rounds.{round_put}
+use Rattle.simplex_laws.proofs.votes.UnchangedRounds.{calm, calm_alike}
+use Rattle.simplex_laws.proofs.votes.UnchangedProposals.{CalmOn, on_joined, on_put, on_elected, on_prepared, on_entered, on_floor}
+use Rattle.simplex_laws.proofs.votes.UnchangedByCalls.{on_add_notarization, on_nullification_kept, on_add_finalization, on_certified}
+use Rattle.simplex_laws.proofs.votes.Proposals.{Tidy, tidy_calm, opposite}
+use Rattle.simplex_laws.proofs.votes.NotarizeVotesShown.{NotesStand, RemembersNotes}
+
+-- what is held at a view is of it, and what is verified was voted for
+pub record RoundRemade {K D : Type 0} (v : ℕ) (r : RoundFacts K D) : Type 0 where
+  pub tidy : Tidy false false r
+  pub placed : (p : Proposal D) → r.slot.held ≡ Some p → p.round.view ≡ v
+  pub worked : r.slot.verified ≡ true → r.notarize_decided ≡ true
+
+-- so at each view, and each nullified view has its nullification in the record
+pub record Remade {K L D : Type 0} (copy : List (ArtifactFacts D)) (x : Facts K L D) : Type 0 where
+  pub rounds : (v : ℕ) → RoundRemade v (round_of x v)
+  pub covered : (u : ℕ) → Contains x.nullified u → (c : NullificationFacts) × Contains copy (Accepted (Nullified c)) × (c.round.view ≡ u)
+
+-- what each entry that is taken again keeps
+pub record Remakes {K L D : Type 0} (copy : List (ArtifactFacts D)) (x y : Facts K L D) : Type 0 where
+  pub finalized : x.finalized ≤ y.finalized
+  pub decided : (v : ℕ) → (round_of x v).notarize_decided ≡ true → (round_of y v).notarize_decided ≡ true
+  pub made : Remade copy x → Remade copy y
+
+-- what is newly in a set of views
+inserted : (k u : ℕ) (ks : List ℕ) → Contains (insert_key nat_cmp ks k) u → (k ≡ u) ⊎ Contains ks u
+inserted k u [] h = elim (Contains-cases k [] u h) [ inl at ↦ inl at | inr none ↦ inr none ]
+inserted k u (x ∷ xs) h = (elim (nat_cmp k x) as (λ (o : Ordering). Contains (match_ordering o (k ∷ x ∷ xs) (x ∷ xs) (x ∷ insert_key nat_cmp xs k)) u → (k ≡ u) ⊎ Contains (x ∷ xs) u) [
+  | Less ↦ λ there. Contains-cases k (x ∷ xs) u there
+  | Equal ↦ λ there. inr there
+  | Greater ↦ λ there. elim (Contains-cases x (insert_key nat_cmp xs k) u there) [
+    | inl at ↦ inr (0, omega arith, at)
+    | inr later ↦ elim (inserted k u xs later) [ inl new ↦ inl new | inr old ↦ inr (Contains-cons_rest x xs u old) ]
+  ]
+]) h
+
+-- a vote that is taken again
+
+module _ {D : Type 0} (same : D → D → Bool) (s : SlotFacts D) (p : Proposal D) where
+  abbrev own_slot : SlotFacts D
+  own_slot = after_own (same_proposal same) s p
+
+  abbrev taken_over : Bool → SlotFacts D
+  taken_over b = if b then record { held = Some p; conflict = s.conflict; verified = not s.conflict; build_requested = true; verify_requested = true } else s
+
+  own_requested : (s.verified ≡ true → s.verify_requested ≡ true) → own_slot.verified ≡ true → own_slot.verify_requested ≡ true
+  own_requested old = elim (holds_or_empty (same_proposal same) s p) as (λ b. (taken_over b).verified ≡ true → (taken_over b).verify_requested ≡ true) [ true ↦ λ is. refl | false ↦ old ]
+
+  own_held : (s.held ≡ None → s.verified ≡ false) → own_slot.held ≡ None → own_slot.verified ≡ false
+  own_held old = elim (holds_or_empty (same_proposal same) s p) as (λ b. (taken_over b).held ≡ None → (taken_over b).verified ≡ false) [ true ↦ λ none. absurd (cc) | false ↦ old ]
+
+  own_placed : (q : Proposal D) → own_slot.held ≡ Some q → (s.held ≡ Some q) ⊎ (p ≡ q)
+  own_placed q = elim (holds_or_empty (same_proposal same) s p) as (λ b. (taken_over b).held ≡ Some q → (s.held ≡ Some q) ⊎ (p ≡ q)) [ true ↦ λ is. inr (cc) | false ↦ λ is. inl is ]
+
+module _ {K D : Type 0} where
+  -- what is voted for rests on nothing but its slot
+  voted_remade : (v : ℕ) (r : RoundFacts K D) → (r.slot.verified ≡ true → r.slot.verify_requested ≡ true) → (r.slot.held ≡ None → r.slot.verified ≡ false) → ((p : Proposal D) → r.slot.held ≡ Some p → p.round.view ≡ v) → r.notarize_decided ≡ true → RoundRemade v r
+  voted_remade v r requested held placed voted = record {
+    tidy = record {
+      bound = λ is clear un. absurd (opposite r.notarize_decided voted un);
+      verifying_bound = λ is. absurd (false≢true is);
+      verifying_other = λ is. absurd (false≢true is);
+      verifying_unmarked = λ is. absurd (false≢true is);
+      verified_requested = requested;
+      verified_held = λ none. (held none, refl);
+      opened_led = λ is. absurd (false≢true is);
+    };
+    placed = placed;
+    worked = λ is. voted;
+  }
+
+  bound_remade : (v : ℕ) (r : RoundFacts K D) (binding : Option (Proposal D × D)) → (r.slot.verified ≡ true → r.slot.verify_requested ≡ true) → (r.slot.held ≡ None → r.slot.verified ≡ false) → ((p : Proposal D) → r.slot.held ≡ Some p → p.round.view ≡ v) → r.notarize_decided ≡ true → RoundRemade v (bound_again r binding)
+  bound_remade v r None requested held placed voted = voted_remade v r requested held placed voted
+  bound_remade v r (Some bound) requested held placed voted = voted_remade v (record r { binding = Some bound }) requested held placed voted
+
+  bound_decided : (r : RoundFacts K D) (binding : Option (Proposal D × D)) → (bound_again r binding).notarize_decided ≡ r.notarize_decided
+  bound_decided r None = refl
+  bound_decided r (Some bound) = refl
+
+  own_remade : (same : D → D → Bool) (r : RoundFacts K D) (p : Proposal D) (binding : Option (Proposal D × D)) → RoundRemade p.round.view r → RoundRemade p.round.view (bound_again (record r { slot = after_own (same_proposal same) r.slot p; notarize_decided = true }) binding)
+  own_remade same r p binding old =
+      bound_remade p.round.view (record r { slot = after_own (same_proposal same) r.slot p; notarize_decided = true }) binding
+      (own_requested same r.slot p old.tidy.verified_requested)
+      (own_held same r.slot p (λ none. (old.tidy.verified_held none).0))
+      (λ q is. elim (own_placed same r.slot p q is) [ inl before ↦ old.placed q before | inr here ↦ ap (λ (t : Proposal D). t.round.view) (sym here) ])
+      refl
+
+-- changes of a state
+
+module _ {K L D : Type 0} (copy : List (ArtifactFacts D)) where
+  remakes_joined : (x y z : Facts K L D) → Remakes copy x y → Remakes copy y z → Remakes copy x z
+  remakes_joined x y z p q = record { finalized = omega (arith, p.finalized, q.finalized); decided = λ v is. q.decided v (p.decided v is); made = λ m. q.made (p.made m) }
+
+  remakes_same : (x : Facts K L D) → Remakes copy x x
+  remakes_same x = record { finalized = omega arith; decided = λ v is. is; made = λ m. m }
+
+  remakes_calm : (x y : Facts K L D) → CalmOn 0 x y → Remakes copy x y
+  remakes_calm x y left = record {
+    finalized = left.finalized;
+    decided = λ v. (left.rounds v).grown.decided;
+    made = λ m. record {
+      rounds = λ v. record {
+        tidy = tidy_calm v false false false false (round_of x v) (round_of y v) (left.rounds v) (λ is. is) (λ is. is) (m.rounds v).tidy;
+        placed = λ p is. elim ((left.rounds v).grown.placed p is) [ inl before ↦ (m.rounds v).placed p before | inr here ↦ here ];
+        worked = λ is. (left.rounds v).grown.decided ((m.rounds v).worked ((left.rounds v).verified is));
+      };
+      covered = λ u h. m.covered u (subst (λ us. Contains us u) left.nullified h);
+    };
+  }
+
+  remakes_put : (x : Facts K L D) (v : ℕ) (r : RoundFacts K D) → r.notarize_decided ≡ true → (RoundRemade v (round_of x v) → RoundRemade v r) → Remakes copy x (with_round x v r)
+  remakes_put x v r voted remade = record {
+    finalized = omega arith;
+    decided = λ w is. elim (cases_eq w v) [
+      | inl at ↦ subst (λ u. (round_of (with_round x v r) u).notarize_decided ≡ true) (sym at) (ap (λ (s : RoundFacts K D). s.notarize_decided) (round_put x v r) ∙ voted)
+      | inr apart ↦ ap (λ (s : RoundFacts K D). s.notarize_decided) (round_of-with_round x w v apart r) ∙ is
+    ];
+    made = λ m. record {
+      rounds = λ w. elim (cases_eq w v) [
+        | inl at ↦ subst (λ u. RoundRemade u (round_of (with_round x v r) u)) (sym at) (subst (λ s. RoundRemade v s) (sym (round_put x v r)) (remade (m.rounds v)))
+        | inr apart ↦ subst (λ s. RoundRemade w s) (sym (round_of-with_round x w v apart r)) (m.rounds w)
+      ];
+      covered = m.covered;
+    };
+  }
+
+  remakes_nullified : (x : Facts K L D) (c : NullificationFacts) → Contains copy (Accepted (Nullified c)) → Remakes copy x (nullified_also x c.round.view)
+  remakes_nullified x c here = record {
+    finalized = omega arith;
+    decided = λ v is. is;
+    made = λ m. record {
+      rounds = m.rounds;
+      covered = λ u h. elim (inserted c.round.view u x.nullified h) [ inl new ↦ (c, here, new) | inr old ↦ m.covered u old ];
+    };
+  }
+
+-- entries that are taken again
+
+module _ {K L D : Type 0} (same : D → D → Bool) (elect : Elect L) (now : ℕ) (copy : List (ArtifactFacts D)) where
+  module _ (x : Facts K L D) where
+    -- the round of a vote that is taken again
+    abbrev own_round_again : Proposal D → RoundFacts K D
+    own_round_again p = bound_again (record (round_of x p.round.view) { slot = after_own (same_proposal same) (round_of x p.round.view).slot p; notarize_decided = true }) (option_and_then (restored_binding x) (Some p))
+
+    voted_again : (p : Proposal D) → (own_round_again p).notarize_decided ≡ true
+    voted_again p = bound_decided (record (round_of x p.round.view) { slot = after_own (same_proposal same) (round_of x p.round.view).slot p; notarize_decided = true }) (option_and_then (restored_binding x) (Some p))
+
+    remakes_vote : (p : Proposal D) (m : ℕ) → Remakes copy x (retaken same elect x now (NotarizeVote p m))
+    remakes_vote p m =
+        let v = p.round.view in
+        let y = with_round x v (own_round_again p) in
+        remakes_joined copy x y (prepared elect y v)
+        (remakes_put copy x v (own_round_again p) (voted_again p) (own_remade same (round_of x v) p (option_and_then (restored_binding x) (Some p))))
+        (remakes_calm copy y (prepared elect y v) (on_prepared 0 elect y v (omega arith)))
+
+    noted_again : (p : Proposal D) (m : ℕ) → (round_of (retaken same elect x now (NotarizeVote p m)) p.round.view).notarize_decided ≡ true
+    noted_again p m =
+        let v = p.round.view in
+        let y = with_round x v (own_round_again p) in
+        ((on_prepared 0 elect y v (omega arith)).rounds v).grown.decided (ap (λ (s : RoundFacts K D). s.notarize_decided) (round_put x v (own_round_again p)) ∙ voted_again p)
+
+    remakes_verdict : (round : Round) (success : Bool) → Remakes copy x (retaken same elect x now (Verdict round success))
+    remakes_verdict round success =
+        let v = round.view in
+        let r = certified_round (round_of x v) success in
+        let j = with_round x v r in
+        remakes_calm copy x _ (on_joined 0 x j _ (on_put 0 x v r (omega arith) (calm_alike v (round_of x v) r refl refl refl refl refl)) (on_certified 0 elect j v success now (λ tracked. omega arith)))
+
+    remakes_notarization : (c : ProposalFacts D) → Remakes copy x (retaken same elect x now (Accepted (Notarized c)))
+    remakes_notarization c =
+        let v = c.proposal.round.view in
+        let y = after_add_notarization same elect x c in
+        let r : RoundFacts K D = record (round_of y v) { notarization_broadcast = true } in
+        remakes_calm copy x (with_round y v r) (on_joined 0 x y (with_round y v r) (on_add_notarization 0 same elect x c (omega arith)) (on_put 0 y v r (omega arith) (calm_alike v (round_of y v) r refl refl refl refl refl)))
+
+    remakes_finalization : (c : ProposalFacts D) → Remakes copy x (retaken same elect x now (Accepted (Finalized c)))
+    remakes_finalization c =
+        let v = c.proposal.round.view in
+        let y = after_add_finalization same elect x c now in
+        let r : RoundFacts K D = record (round_of y v) { finalization_broadcast = true } in
+        remakes_calm copy x (with_round y v r) (on_joined 0 x y (with_round y v r) (on_add_finalization 0 same elect x c now (omega arith)) (on_put 0 y v r (omega arith) (calm_alike v (round_of y v) r refl refl refl refl refl)))
+
+    remakes_nullification : (c : NullificationFacts) → Contains copy (Accepted (Nullified c)) → Remakes copy x (retaken same elect x now (Accepted (Nullified c)))
+    remakes_nullification c here =
+        let v = c.round.view in
+        let next = next_term_start x.terms.term_length v in
+        let k = with_nullification_at (elected elect (entered (at_moment x now) next now) next (Some c.bytes)) c in
+        let y = nullified_also k v in
+        let n = nullified_also y v in
+        let r : RoundFacts K D = record (round_of n v) { nullification_broadcast = true } in
+        remakes_joined copy x k (with_round n v r) (remakes_calm copy x k (on_nullification_kept 0 same elect x c now (omega arith) (omega arith)))
+        (remakes_joined copy k y (with_round n v r) (remakes_nullified copy k c here)
+        (remakes_joined copy y n (with_round n v r) (remakes_nullified copy y c here)
+        (remakes_calm copy n (with_round n v r) (on_put 0 n v r (omega arith) (calm_alike v (round_of n v) r refl refl refl refl refl)))))
+
+    retaken_remakes : (e : ArtifactFacts D) → Contains copy e → Remakes copy x (retaken same elect x now e)
+    retaken_remakes (NotarizeVote p m) here = remakes_vote p m
+    retaken_remakes (NullifyVote round m) here =
+        let v = round.view in
+        let y : Facts K L D = record x { nullify_votes = insert_key nat_cmp x.nullify_votes v } in
+        let r : RoundFacts K D = record (round_of y v) { decision = decision.Nullify None } in
+        let same_so_far : CalmOn 0 x y = record { settings = refl; current = omega arith; finalized = omega arith; nullified = refl; above = λ above. above; rounds = λ w. calm w (round_of x w) } in
+        remakes_calm copy x (with_round y v r) (on_joined 0 x y (with_round y v r) same_so_far (on_put 0 y v r (omega arith) (calm_alike v (round_of y v) r refl refl refl refl refl)))
+    retaken_remakes (FinalizeVote p m) here =
+        let v = p.round.view in
+        let r : RoundFacts K D = record (round_of x v) { decision = decision.Finalize } in
+        remakes_calm copy x (with_round x v r) (on_put 0 x v r (omega arith) (calm_alike v (round_of x v) r refl refl refl refl refl))
+    retaken_remakes (Verdict round success) here = remakes_verdict round success
+    retaken_remakes (Accepted (Notarized c)) here = remakes_notarization c
+    retaken_remakes (Accepted (Nullified c)) here = remakes_nullification c here
+    retaken_remakes (Accepted (Finalized c)) here = remakes_finalization c
+
+  -- an entry is taken again, or passed over
+
+  taken_remakes : (x : Facts K L D) (e : ArtifactFacts D) → Contains copy e → Remakes copy x (taken same elect x now e)
+  unfolding taken
+  taken_remakes x e here = elim (nat_lt (entry_view e) (min_active x)) as (λ b. Remakes copy x (if b then x else retaken same elect x now e)) [
+    | true ↦ remakes_same copy x
+    | false ↦ retaken_remakes x e here
+  ]
+
+  taken_noted : (x : Facts K L D) (p : Proposal D) (m : ℕ) → ((round_of (taken same elect x now (NotarizeVote p m)) p.round.view).notarize_decided ≡ true) ⊎ (p.round.view ≤ (taken same elect x now (NotarizeVote p m)).finalized)
+  unfolding taken
+  taken_noted x p m = by_view (nat_lt p.round.view (min_active x)) refl
+    where
+      by_view : (b : Bool) → nat_lt p.round.view (min_active x) ≡ b → ((round_of (if b then x else retaken same elect x now (NotarizeVote p m)) p.round.view).notarize_decided ≡ true) ⊎ (p.round.view ≤ (if b then x else retaken same elect x now (NotarizeVote p m)).finalized)
+      by_view true is = inr (omega (arith, ltb-true p.round.view (min_active x) is))
+      by_view false is = inl (noted_again x p m)
+
+  taken_reaches : (x : Facts K L D) (c : ProposalFacts D) → c.proposal.round.view ≤ (taken same elect x now (Accepted (Finalized c))).finalized
+  unfolding taken
+  taken_reaches x c = by_view (nat_lt c.proposal.round.view (min_active x)) refl
+    where
+      by_view : (b : Bool) → nat_lt c.proposal.round.view (min_active x) ≡ b → c.proposal.round.view ≤ (if b then x else retaken same elect x now (Accepted (Finalized c))).finalized
+      by_view true is = omega (arith, ltb-true c.proposal.round.view (min_active x) is)
+      by_view false is = finalization_passes same elect x now c
+
+  -- all entries
+
+  all_remake : (rest : List (ArtifactFacts D)) (x : Facts K L D) → ((e : ArtifactFacts D) → Contains rest e → Contains copy e) → Remakes copy x (all_taken same elect x now rest)
+  all_remake [] x all = remakes_same copy x
+  all_remake (e ∷ rest) x all =
+      let y = taken same elect x now e in
+      remakes_joined copy x y (all_taken same elect y now rest) (taken_remakes x e (all e (0, omega arith, refl))) (all_remake rest y (λ f h. all f (Contains-cons_rest e rest f h)))
+
+  all_noted : (rest : List (ArtifactFacts D)) (x : Facts K L D) → ((e : ArtifactFacts D) → Contains rest e → Contains copy e) → (p : Proposal D) (m : ℕ) → Contains rest (NotarizeVote p m) → ((round_of (all_taken same elect x now rest) p.round.view).notarize_decided ≡ true) ⊎ (p.round.view ≤ (all_taken same elect x now rest).finalized)
+  all_noted [] x all p m h = absurd (omega (arith, h.1))
+  all_noted (e ∷ rest) x all p m h =
+      let y = taken same elect x now e in
+      let later = all_remake rest y (λ f there. all f (Contains-cons_rest e rest f there)) in
+      elim (Contains-cases e rest (NotarizeVote p m) h) [
+        | inr behind ↦ all_noted rest y (λ f there. all f (Contains-cons_rest e rest f there)) p m behind
+        | inl here ↦ elim (subst (λ f. ((round_of (taken same elect x now f) p.round.view).notarize_decided ≡ true) ⊎ (p.round.view ≤ (taken same elect x now f).finalized)) (sym here) (taken_noted x p m)) [
+          | inl is ↦ inl (later.decided p.round.view is)
+          | inr below ↦ inr (omega (arith, below, later.finalized))
+        ]
+      ]
+
+  all_reach : (rest : List (ArtifactFacts D)) (x : Facts K L D) → ((e : ArtifactFacts D) → Contains rest e → Contains copy e) → (c : ProposalFacts D) → Contains rest (Accepted (Finalized c)) → c.proposal.round.view ≤ (all_taken same elect x now rest).finalized
+  all_reach [] x all c h = absurd (omega (arith, h.1))
+  all_reach (e ∷ rest) x all c h =
+      let y = taken same elect x now e in
+      let later = all_remake rest y (λ f there. all f (Contains-cons_rest e rest f there)) in
+      elim (Contains-cases e rest (Accepted (Finalized c)) h) [
+        | inr behind ↦ all_reach rest y (λ f there. all f (Contains-cons_rest e rest f there)) c behind
+        | inl here ↦
+            (let reached = subst (λ f. c.proposal.round.view ≤ (taken same elect x now f).finalized) (sym here) (taken_reaches x c) in
+            omega (arith, reached, later.finalized))
+      ]
+
+  -- the floor
+
+  floor_remakes : (x : Facts K L D) (floor : FloorFacts D) → Remakes copy x (after_set_floor same elect x floor now)
+  floor_remakes x (Genesis payload) =
+      let g : Facts K L D = record (at_moment x now) { genesis = Some payload } in
+      let e = entered g 1 now in
+      let same_so_far : CalmOn 0 x g = record { settings = refl; current = omega arith; finalized = omega arith; nullified = refl; above = λ above. above; rounds = λ w. calm w (round_of x w) } in
+      remakes_calm copy x (elected elect e 1 None) (on_joined 0 x g (elected elect e 1 None) same_so_far (on_joined 0 g e (elected elect e 1 None) (on_entered 0 g 1 now (omega arith)) (on_elected 0 elect e 1 None (omega arith))))
+  floor_remakes x (FinalizedFloor c) =
+      let y = after_add_finalization same elect x c now in
+      remakes_calm copy x _ (on_joined 0 x y _ (on_add_finalization 0 same elect x c now (omega arith)) (on_floor 0 y c.proposal.round.view (omega arith)))
+
+module _ {K L D : Type 0} (same : D → D → Bool) (elect : Elect L) (settings : Settings) (me : Option ℕ) (members : List K) (elector : L) (terms : Terms) (early : Bool) where
+  abbrev pub made_again : FloorFacts D → ℕ → List (ArtifactFacts D) → Facts K L D
+  made_again floor now copy = recovered same elect (new_facts settings me members elector terms early) floor now copy
+
+  fresh_remade : (copy : List (ArtifactFacts D)) → Remade copy (new_facts {K = K} {L = L} {D = D} settings me members elector terms early)
+  fresh_remade copy = record {
+    rounds = λ v. record {
+      tidy = record {
+        bound = λ is. absurd (false≢true is);
+        verifying_bound = λ is. absurd (false≢true is);
+        verifying_other = λ is. absurd (false≢true is);
+        verifying_unmarked = λ is. absurd (false≢true is);
+        verified_requested = λ is. absurd (false≢true is);
+        verified_held = λ none. (refl, refl);
+        opened_led = λ is. absurd (false≢true is);
+      };
+      placed = λ p is. absurd (cc);
+      worked = λ is. absurd (false≢true is);
+    };
+    covered = λ u h. absurd (omega (arith, h.1));
+  }
+
+  -- the votes to notarize that were cast above the finalized view are decided
+  pub recovered_notes : (deeds : List (Deed D)) (kept : ℕ) (copy : List (ArtifactFacts D)) (floor : FloorFacts D) (now : ℕ) → RemembersNotes deeds kept copy → ((c : NullificationFacts) → Contains copy (Accepted (Nullified c)) → Contains deeds (Accepts (subject.Nullify c.round))) → (kept ≡ 0) ⊎ ((c : ProposalFacts D) × Contains copy (Accepted (Finalized c)) × (kept ≤ c.proposal.round.view)) → (made_again floor now copy).finalized < (made_again floor now copy).current → NotesStand 0 ((made_again floor now copy).finalized + 1) deeds no_openings (made_again floor now copy)
+  unfolding recovered
+  recovered_notes deeds kept copy floor now remembers accepted high ahead = record {
+    above = λ v tracked. omega arith;
+    active = omega arith;
+    reached = omega (arith, ahead);
+    tidy = λ v over. (remade.rounds v).tidy;
+    placed = λ v. (remade.rounds v).placed;
+    worked = λ v is un. absurd (opposite (round_of (all_taken same elect z now copy) v).notarize_decided ((remade.rounds v).worked is) un);
+    verifying_low = λ v is. absurd (false≢true is);
+    context_low = λ v is. absurd (false≢true is);
+    contexts_placed = λ v c is. absurd (false≢true (ap is_some is));
+    voted = λ p h above over. elim (remembers.noted p h) [
+      | inl e ↦ elim (all_noted same elect now copy copy z (λ f there. there) p e.0 e.1) [
+        | inl is ↦ is
+        | inr below ↦ absurd (omega (arith, below, above))
+      ]
+      | inr below ↦ elim high [
+        | inl none ↦ absurd (omega (arith, below, none))
+        | inr c ↦ absurd (omega (arith, below, above, c.2, all_reach same elect now copy copy z (λ f there. there) c.0 c.1))
+      ]
+    ];
+    covered = λ u h. (let c = remade.covered u h in (c.0.round, accepted c.0 c.1, c.2));
+  }
+    where
+      z : Facts K L D
+      z = after_set_floor same elect (new_facts settings me members elector terms early) floor now
+
+      remade : Remade copy (all_taken same elect z now copy)
+      remade = (all_remake same elect now copy copy z (λ f there. there)).made ((floor_remakes same elect now copy (new_facts settings me members elector terms early) floor).made (fresh_remade copy))
