@@ -10,6 +10,4 @@ pub mod hooks;
 mod kinds;
 mod parts;
 pub mod plain;
-#[cfg(test)]
-mod tests;
 mod writing;

@@ -2,6 +2,8 @@
 #![tactic(auto)]
 
 #[cfg(test)]
+mod codec;
+#[cfg(test)]
 mod member;
 #[cfg(test)]
 mod program;

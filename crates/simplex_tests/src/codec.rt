@@ -1,12 +1,14 @@
+//! Artifacts and certificates as bytes and read back, frames, digests, and each refusal by name.
+
 mod random;
 
-use crate::artifact::{decode_artifact, encode_artifact};
-use crate::certificate::decode_certificate;
-use crate::digest::BytesDigest;
-use crate::error::DecodeError;
-use crate::frame::{DamagedFrame, read_frame, write_frame};
-use crate::hooks::DigestCodec;
 use bytes::{Bytes, BytesMut};
+use simplex_codec::artifact::{decode_artifact, encode_artifact};
+use simplex_codec::certificate::decode_certificate;
+use simplex_codec::digest::BytesDigest;
+use simplex_codec::error::DecodeError;
+use simplex_codec::frame::{DamagedFrame, read_frame, write_frame};
+use simplex_codec::hooks::DigestCodec;
 use simplex_types::types::plain::{
     PlainCertificate, PlainDigest, PlainKey, PlainScheme, PlainSignature,
 };

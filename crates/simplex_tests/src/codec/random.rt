@@ -1,9 +1,9 @@
 //! Bytes at random, and encodings that were damaged at random.
 
 use super::{PlainArtifact, artifacts};
-use crate::artifact::{decode_artifact, encode_artifact};
-use crate::certificate::decode_certificate;
-use crate::error::DecodeError;
+use simplex_codec::artifact::{decode_artifact, encode_artifact};
+use simplex_codec::certificate::decode_certificate;
+use simplex_codec::error::DecodeError;
 use simplex_types::types::Certificate;
 use simplex_types::types::plain::{PlainDigest, PlainScheme};
 use std::alloc::Global;
