@@ -17,7 +17,7 @@ use Rattle.simplex_voter.specs.Votes.{after_construct_notarize, after_construct_
 use Rattle.simplex_member.specs.Calls as calls
 use Rattle.simplex_member.specs.Calls.{CallFacts}
 use Rattle.simplex_member.specs.Openings.{Openings, context_at}
-use Rattle.simplex_member.specs.Recovery.{as_artifact, replayed}
+use Rattle.simplex_member.specs.Recovery.{as_artifact, after_replaying}
 
 -- what happens to a state, with each certificate by its facts; the last number of an event that carries a moment is that
 -- moment, in milliseconds
@@ -88,7 +88,7 @@ module _ {K L D : Type 0} (same : D → D → Bool) (elect : Elect L) where
   after_event x (BroadcastNullification v) = after_broadcast_nullification x v
   after_event x (BroadcastFinalization v) = after_broadcast_finalization x v
   after_event x Prune = after_prune x
-  after_event x (Replay e) = replayed same elect x e
+  after_event x (Replay e) = after_replaying same elect x e
 
 -- a history: what a new state knew, and what has happened to it since, the latest event first
 pub record History (K L D : Type 0) : Type 0 where

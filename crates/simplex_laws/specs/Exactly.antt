@@ -8,7 +8,7 @@ use Rattle.simplex_voter.specs.Rules.{NotarizeRule, NullifyRule, FinalizeRule}
 use Rattle.simplex_member.specs.Calls.{ConstructNotarize, ConstructNullify, ConstructFinalize, Told, Refused}
 use Rattle.simplex_member.specs.Lives.{MemberFacts}
 use Rattle.simplex_member.specs.Runs.{StepFacts, Calls, IsStep}
-use Rattle.simplex_member.specs.Start.{started, new_state}
+use Rattle.simplex_member.specs.Start.{started_member, new_state}
 use Rattle.simplex_laws.specs.Deeds.{Deed, Signs, signed_in}
 use Rattle.simplex_laws.specs.Stories.{Story}
 
@@ -29,16 +29,16 @@ module _ {K D : Type 0} where
     pub due : (d : Deed D) → is_refused told ≡ false → Rule → IsSignedFor me about d → signed_in told ≡ d ∷ []
 
 -- the proposal that is held of a view
-abbrev pub held : {K L D : Type 0} → Facts K L D → ℕ → Option (Proposal D)
-held x v = (round_of x v).slot.held
+abbrev pub held_proposal : {K L D : Type 0} → Facts K L D → ℕ → Option (Proposal D)
+held_proposal x v = (round_of x v).slot.held
 
 module _ {K L D : Type 0} (same : D → D → Bool) (elect : Elect L) where
   -- of what the state knows before a step: each request for a vote is answered exactly by its rule, and nothing else by a vote
   abbrev pub ExactAt : Option (Facts K L D) → StepFacts K L D → Told K D → Type 0
   ExactAt None step told = signed_in told ≡ []
   ExactAt (Some x) (Calls (ConstructNullify v)) told = IsExact (NullifyRule x v) x.me (Some (subject.Nullify (round_number x v))) told
-  ExactAt (Some x) (Calls (ConstructFinalize v)) told = IsExact (FinalizeRule elect x v) x.me (option_map subject.Finalize (held x v)) told
-  ExactAt (Some x) (Calls (ConstructNotarize v)) told = IsExact (NotarizeRule same elect x v) x.me (option_map subject.Notarize (held x v)) told
+  ExactAt (Some x) (Calls (ConstructFinalize v)) told = IsExact (FinalizeRule elect x v) x.me (option_map subject.Finalize (held_proposal x v)) told
+  ExactAt (Some x) (Calls (ConstructNotarize v)) told = IsExact (NotarizeRule same elect x v) x.me (option_map subject.Notarize (held_proposal x v)) told
   ExactAt (Some x) _ told = signed_in told ≡ []
 
   -- so it is at each step of a run, of the very member that the steps before it left
@@ -51,4 +51,4 @@ module _ {K L D : Type 0} (same : D → D → Bool) (elect : Elect L) where
 
   -- so it is from the start on
   abbrev pub SignsExactly : Story K L D → Type 0
-  SignsExactly s = RunsExactly (started same elect (new_state s.start.setup) s.start.floor s.start.now) s.steps s.replies
+  SignsExactly s = RunsExactly (started_member same elect (new_state s.start.setup) s.start.floor s.start.now) s.steps s.replies

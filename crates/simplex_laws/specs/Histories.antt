@@ -7,11 +7,11 @@ use Rattle.simplex_member.specs.Openings.{Openings}
 use Rattle.simplex_member.specs.Entries.{entry_view}
 use Rattle.simplex_laws.specs.Events.{Event, History, SetFloor, AddNotarization, AddNullification, AddFinalization, Certified, Replay, IsEvent, after_event, with_event, events_of}
 use Rattle.simplex_member.specs.Lives.{MemberFacts, IsCall}
-use Rattle.simplex_member.specs.Recovery.{recovered, recover_error}
-use Rattle.simplex_member.specs.Restarts.{RestartFacts, IsByView, IsRestart, cut}
+use Rattle.simplex_member.specs.Recovery.{recovered_state, recover_error}
+use Rattle.simplex_member.specs.Restarts.{RestartFacts, IsByView, IsRestart, cut_member}
 use Rattle.simplex_member.specs.Runs.{StepFacts, Calls, Restarts, IsStep, IsRun}
 use Rattle.simplex_laws.specs.Shows.{Shows}
-use Rattle.simplex_member.specs.Start.{Setup, StartFacts, started, new_state}
+use Rattle.simplex_member.specs.Start.{Setup, StartFacts, started_member, new_state}
 use Rattle.simplex_laws.specs.Sums.{finalized_in}
 
 -- an entry is taken again: a certificate is added before it is replayed, and a verdict is given after that
@@ -28,21 +28,21 @@ module _ {K L D : Type 0} where
   with_events history new = record history { events = new ++ history.events }
 
   -- with the call, by what is open then, unless it is refused
-  abbrev pub with_call : History K L D → Openings K D → CallFacts D → Told K D → History K L D
-  with_call history o call (Refused _) = history
-  with_call history o call NotAllowed = history
-  with_call history o call _ = with_events history (events_of o call)
+  abbrev pub with_call_events : History K L D → Openings K D → CallFacts D → Told K D → History K L D
+  with_call_events history o call (Refused _) = history
+  with_call_events history o call NotAllowed = history
+  with_call_events history o call _ = with_events history (events_of o call)
 
   -- with an entry that is taken again; one below the views that are kept is passed over
-  abbrev pub with_entry : History K L D → ℕ → ArtifactFacts D → History K L D
-  with_entry history now e =
+  abbrev pub with_entry_taken : History K L D → ℕ → ArtifactFacts D → History K L D
+  with_entry_taken history now e =
       if nat_lt (entry_view e) (finalized_in history.events - history.fresh.settings.view_retention)
       then history
       else with_events history (retaken_events now e)
 
   abbrev pub with_entries : History K L D → ℕ → List (ArtifactFacts D) → History K L D
   with_entries history now [] = history
-  with_entries history now (e ∷ rest) = with_entries (with_entry history now e) now rest
+  with_entries history now (e ∷ rest) = with_entries (with_entry_taken history now e) now rest
 
   -- the history of a life that begins with a floor and a record
   abbrev pub recovery : StartFacts K L D → List (ArtifactFacts D) → History K L D
@@ -63,7 +63,7 @@ module _ {K L D : Type 0} (same : D → D → Bool) (elect : Elect L) where
   LeadsTo m history (Calls call ∷ steps) (told ∷ rest) last end =
       (next : MemberFacts K L D)
       × IsStep same elect m (Calls call) told next
-      × LeadsTo next (with_call history m.openings call told) steps rest last end
+      × LeadsTo next (with_call_events history m.openings call told) steps rest last end
   LeadsTo m history (Restarts r ∷ steps) (NotRestarted error ∷ rest) last end =
       (next : MemberFacts K L D)
       × IsStep same elect m (Restarts r) (NotRestarted error) next
@@ -71,7 +71,7 @@ module _ {K L D : Type 0} (same : D → D → Bool) (elect : Elect L) where
   LeadsTo m history (Restarts r ∷ steps) (told ∷ rest) last end =
       (next : MemberFacts K L D)
       × IsStep same elect m (Restarts r) told next
-      × ((copy : List (ArtifactFacts D)) × IsByView (cut m r.drop r.prune).entries copy × LeadsTo next (recovery r.start copy) steps rest last end)
+      × ((copy : List (ArtifactFacts D)) × IsByView (cut_member m r.drop r.prune).entries copy × LeadsTo next (recovery r.start copy) steps rest last end)
 
 module _ (K : Type 0) {L D : Type 0} (same : D → D → Bool) (elect : Elect L) where
   -- of a new state nothing was said
@@ -89,27 +89,27 @@ module _ (K : Type 0) {L D : Type 0} (same : D → D → Bool) (elect : Elect L)
       (history : History K L D) (m left : MemberFacts K L D) (call : CallFacts D) (told : Told K D)
       → IsShown same elect history m
       → IsCall same elect m call told left
-      → IsShown same elect (with_call history m.openings call told) left
+      → IsShown same elect (with_call_events history m.openings call told) left
 
   abbrev pub RecoveriesAreShown : Type 0
   RecoveriesAreShown =
       (start : StartFacts K L D) (entries : List (ArtifactFacts D))
       → recover_error same (new_state start.setup) start.floor start.now entries ≡ None
-      → Shows same elect (recovery start entries) (recovered same elect (new_state start.setup) start.floor start.now entries)
+      → Shows same elect (recovery start entries) (recovered_state same elect (new_state start.setup) start.floor start.now entries)
 
   -- of some order by view of what is left of the record
   abbrev pub RestartsAreShown : Type 0
   RestartsAreShown =
       (m left : MemberFacts K L D) (r : RestartFacts K L D)
       → IsRestart same elect m r (Ok tt) left
-      → (copy : List (ArtifactFacts D)) × IsByView (cut m r.drop r.prune).entries copy × IsShown same elect (recovery r.start copy) left
+      → (copy : List (ArtifactFacts D)) × IsByView (cut_member m r.drop r.prune).entries copy × IsShown same elect (recovery r.start copy) left
 
   -- of the history that the run's steps lead to
   abbrev pub RunsAreShown : Type 0
   RunsAreShown =
       (start : StartFacts K L D) (steps : List (StepFacts K L D)) (replies : List (Told K D)) (end : MemberFacts K L D)
       → recover_error same (new_state start.setup) start.floor start.now [] ≡ None
-      → IsRun same elect (started same elect (new_state start.setup) start.floor start.now) steps replies end
+      → IsRun same elect (started_member same elect (new_state start.setup) start.floor start.now) steps replies end
       → (last : History K L D)
-      × LeadsTo same elect (started same elect (new_state start.setup) start.floor start.now) (recovery start []) steps replies last end
+      × LeadsTo same elect (started_member same elect (new_state start.setup) start.floor start.now) (recovery start []) steps replies last end
       × IsShown same elect last end

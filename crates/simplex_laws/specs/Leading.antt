@@ -8,7 +8,7 @@ use Rattle.simplex_types.specs.Config.{Genesis, Finalized}
 use Rattle.simplex_round.specs.declared.round.Leader.{Leader}
 use Rattle.simplex_round.specs.Round.{leader_at}
 use Rattle.simplex_voter.specs.Facts.{Facts, Elect, round_of, round_number}
-use Rattle.simplex_voter.specs.Leaders.{opened_views, elected}
+use Rattle.simplex_voter.specs.Leaders.{opened_views, with_elected_leader}
 use Rattle.simplex_voter.specs.Payloads.{is_elected_early}
 use Rattle.simplex_voter.specs.Rules.{may_notarize, may_nullify, may_finalize}
 use Rattle.simplex_voter.specs.Windows.{in_window}
@@ -32,20 +32,20 @@ module _ {K L D : Type 0} where
 
 module _ {K L D : Type 0} (elect : Elect L) where
   -- the elector's choice for a view, after a certificate of these bytes
-  abbrev pub chosen : Facts K L D → ℕ → ℕ → Option (List ℕ) → Option (Leader K)
-  chosen x v w seed = if v == w then leader_at x.members (elect x.elector (round_number x w) seed) else None
+  abbrev pub elected_leader : Facts K L D → ℕ → ℕ → Option (List ℕ) → Option (Leader K)
+  elected_leader x v w seed = if v == w then leader_at x.members (elect x.elector (round_number x w) seed) else None
 
   -- the certificate elects for the next view; the first of its kind opens windows above it, which take the nearest leader
 
   abbrev pub opens : Facts K L D → ℕ → ProposalFacts D → Option (Leader K)
   opens x v c =
       let u = c.proposal.round.view in
-      window_leader (elected elect x (u + 1) (Some c.bytes)) u v
+      window_leader (with_elected_leader elect x (u + 1) (Some c.bytes)) u v
 
   abbrev pub leads_by : Facts K L D → Bool → ℕ → ProposalFacts D → Option (Leader K)
   leads_by x is_first v c =
       option_or
-      (chosen x v (c.proposal.round.view + 1) (Some c.bytes))
+      (elected_leader x v (c.proposal.round.view + 1) (Some c.bytes))
       (if is_first then same_member x (opens x v c) else None)
 
   abbrev pub tracks_by : Facts K L D → Bool → ℕ → ProposalFacts D → Bool
@@ -62,7 +62,7 @@ module _ {K L D : Type 0} (elect : Elect L) where
   leads_after x voted w v =
       if in_window x (w + 1)
       then (if v == w + 1 then same_member x (round_of x w).leader else None)
-      else (if takes_over x voted (w + 1) then chosen x v (w + 1) None else None)
+      else (if takes_over x voted (w + 1) then elected_leader x v (w + 1) None else None)
 
   abbrev pub tracks_after : Facts K L D → Bool → ℕ → ℕ → Bool
   tracks_after x voted w v =
@@ -70,16 +70,16 @@ module _ {K L D : Type 0} (elect : Elect L) where
 
 module _ {K L D : Type 0} (same : D → D → Bool) (elect : Elect L) where
   -- the leader that an event gives a view that has none
-  abbrev pub leads : ℕ → Facts K L D → Event K D → Option (Leader K)
-  leads v x (SetFloor (Genesis _) _) = chosen elect x v 1 None
-  leads v x (SetFloor (Finalized c) _) = leads_by elect x (is_none (round_of x c.proposal.round.view).finalization) v c
-  leads v x (AddNotarization c) = leads_by elect x (is_none (round_of x c.proposal.round.view).notarization) v c
-  leads v x (AddNullification c _) = chosen elect x v (next_term_start x.terms.term_length c.round.view) (Some c.bytes)
-  leads v x (AddFinalization c _) = leads_by elect x (is_none (round_of x c.proposal.round.view).finalization) v c
-  leads v x (ConstructNotarize w) = if may_notarize same elect x w then leads_after elect x true w v else None
-  leads v x (SetProposal w _) = leads_after elect x (round_of x w).notarize_decided w v
-  leads v x (Replay (NotarizeVote p _)) = leads_after elect x true p.round.view v
-  leads v x _ = None
+  abbrev pub leader_by_event : ℕ → Facts K L D → Event K D → Option (Leader K)
+  leader_by_event v x (SetFloor (Genesis _) _) = elected_leader elect x v 1 None
+  leader_by_event v x (SetFloor (Finalized c) _) = leads_by elect x (is_none (round_of x c.proposal.round.view).finalization) v c
+  leader_by_event v x (AddNotarization c) = leads_by elect x (is_none (round_of x c.proposal.round.view).notarization) v c
+  leader_by_event v x (AddNullification c _) = elected_leader elect x v (next_term_start x.terms.term_length c.round.view) (Some c.bytes)
+  leader_by_event v x (AddFinalization c _) = leads_by elect x (is_none (round_of x c.proposal.round.view).finalization) v c
+  leader_by_event v x (ConstructNotarize w) = if may_notarize same elect x w then leads_after elect x true w v else None
+  leader_by_event v x (SetProposal w _) = leads_after elect x (round_of x w).notarize_decided w v
+  leader_by_event v x (Replay (NotarizeVote p _)) = leads_after elect x true p.round.view v
+  leader_by_event v x _ = None
 
   -- an event speaks of a view: a certificate, a proposal, a vote, or one that stands in the record; or it readies or leads it
   abbrev pub tracks : ℕ → Facts K L D → Event K D → Bool

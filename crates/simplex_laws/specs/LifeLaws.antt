@@ -11,7 +11,7 @@ use Rattle.simplex_member.specs.Entries.{certificate_round}
 use Rattle.simplex_member.specs.Lives.{MemberFacts}
 use Rattle.simplex_member.specs.Recovery.{recover_error}
 use Rattle.simplex_member.specs.Runs.{StepFacts, Calls, IsRun, IsRunFrom}
-use Rattle.simplex_member.specs.Start.{StartFacts, started, new_state}
+use Rattle.simplex_member.specs.Start.{StartFacts, started_member, new_state}
 use Rattle.simplex_laws.specs.TermLengths.{HasTerms, KeepTerms}
 
 module _ {K L D : Type 0} (same : D → D → Bool) (elect : Elect L) where
@@ -22,7 +22,7 @@ module _ {K L D : Type 0} (same : D → D → Bool) (elect : Elect L) where
   -- a run from a start leads to a member, and these calls go on from there within its life
   pub record IsLifeOfRun (start : StartFacts K L D) (steps : List (StepFacts K L D)) (told : List (Told K D)) (m : MemberFacts K L D) (calls : List (CallFacts D)) (replies : List (Told K D)) (end : MemberFacts K L D) : Type 0 where
     pub accepted : recover_error same (new_state start.setup) start.floor start.now [] ≡ None
-    pub reached : IsRun same elect (started same elect (new_state start.setup) start.floor start.now) steps told m
+    pub reached : IsRun same elect (started_member same elect (new_state start.setup) start.floor start.now) steps told m
     pub life : IsLife m calls replies end
 
 -- this holds of the first state and the last one, unless the member has failed by then; no state comes after a failure
@@ -132,7 +132,7 @@ module _ (K : Type 0) {L D : Type 0} (same : D → D → Bool) (elect : Elect L)
       (term_length : ℕ) (start : StartFacts K L D) (steps : List (StepFacts K L D)) (replies : List (Told K D)) (end : MemberFacts K L D)
       → HasTerms term_length start.setup
       → KeepTerms term_length steps
-      → IsRun same elect (started same elect (new_state start.setup) start.floor start.now) steps replies end
+      → IsRun same elect (started_member same elect (new_state start.setup) start.floor start.now) steps replies end
       → MatchOption end.life (Unit {0}) Holds
 
   -- calls of a run with no restart among them are such a stretch

@@ -13,7 +13,7 @@ use Rattle.simplex_member.specs.Journal.{stored_of}
 use Rattle.simplex_member.specs.Lives.{MemberFacts}
 use Rattle.simplex_member.specs.Recovery.{recover_error}
 use Rattle.simplex_member.specs.Runs.{StepFacts, steps_of, IsRun}
-use Rattle.simplex_member.specs.Start.{StartFacts, start_facts, started, new_state}
+use Rattle.simplex_member.specs.Start.{StartFacts, start_facts, started_member, new_state}
 use Rattle.simplex_laws.specs.Deeds.{Deed}
 use Rattle.simplex_laws.specs.Shown.{floor_in, begun_by, IsSetUpAs}
 use Rattle.simplex_laws.specs.Stories.{Story, deeds_of, LivesAs, Ran}
@@ -40,7 +40,7 @@ module _ {K L D : Type 0} (same : D → D → Bool) (elect : Elect L) where
   pub record HasStory (term_length i : ℕ) (s : Story K L D) (m : MemberFacts K L D) : Type 0 where
     pub lives : LivesAs term_length i s.start s.steps
     pub accepted : recover_error same (new_state s.start.setup) s.start.floor s.start.now [] ≡ None
-    pub run : IsRun same elect (started same elect (new_state s.start.setup) s.start.floor s.start.now) s.steps s.replies m
+    pub run : IsRun same elect (started_member same elect (new_state s.start.setup) s.start.floor s.start.now) s.steps s.replies m
 
   -- this is all that the member accepted and signed so far, as member `i` of a network
   pub record HasDone (term_length i : ℕ) (all : List (Deed D)) (m : MemberFacts K L D) : Type 0 where

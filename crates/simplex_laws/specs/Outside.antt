@@ -12,9 +12,9 @@ use Rattle.simplex_member.specs.declared.member.error.RecoverError.TheVariants a
 use Rattle.simplex_member.specs.Calls.{Proposed, Told}
 use Rattle.simplex_member.specs.Lives.{MemberFacts}
 use Rattle.simplex_member.specs.Recovery.{recover_error}
-use Rattle.simplex_member.specs.Restarts.{RestartFacts, IsByView, cut, IsRestart}
+use Rattle.simplex_member.specs.Restarts.{RestartFacts, IsByView, cut_member, IsRestart}
 use Rattle.simplex_member.specs.Runs.{StepFacts, Calls, IsRun, EndsRunFrom}
-use Rattle.simplex_member.specs.Start.{StartFacts, started, new_state}
+use Rattle.simplex_member.specs.Start.{StartFacts, started_member, new_state}
 use Rattle.simplex_laws.specs.Deeds.{Deed, Accepts, of_floor, deeds_of_steps}
 use Rattle.simplex_laws.specs.Lawful.{HasSigned}
 use Rattle.simplex_laws.specs.TermLengths.{HasTerms, KeepTerms}
@@ -67,14 +67,14 @@ module _ (K : Type 0) {L D : Type 0} (same : D → D → Bool) (elect : Elect L)
       (term_length : ℕ) (start : StartFacts K L D) (steps : List (StepFacts K L D)) (replies : List (Told K D)) (end : MemberFacts K L D)
       → HasTerms term_length start.setup
       → KeepTerms term_length steps
-      → IsRun same elect (started same elect (new_state start.setup) start.floor start.now) steps replies end
+      → IsRun same elect (started_member same elect (new_state start.setup) start.floor start.now) steps replies end
       → Holds end
 
   -- whatever restart comes next: what it leaves of the record, by view, is refused only for what comes from outside
   abbrev pub RecordIsTaken : MemberFacts K L D → Type 0
   RecordIsTaken end =
       (next : RestartFacts K L D) (copy : List (ArtifactFacts D)) (found : RecoverError)
-      → IsByView (cut end next.drop next.prune).entries copy
+      → IsByView (cut_member end next.drop next.prune).entries copy
       → recover_error same (new_state next.start.setup) next.start.floor next.start.now copy ≡ Some found
       → IsFromOutside found
 
@@ -89,9 +89,9 @@ module _ (K : Type 0) {L D : Type 0} (same : D → D → Bool) (elect : Elect L)
       (term_length : ℕ) (start : StartFacts K L D) (steps : List (StepFacts K L D)) (replies : List (Told K D)) (end : MemberFacts K L D)
       → HasTerms term_length start.setup
       → KeepTerms term_length steps
-      → IsRun same elect (started same elect (new_state start.setup) start.floor start.now) steps replies end
+      → IsRun same elect (started_member same elect (new_state start.setup) start.floor start.now) steps replies end
       → (next : RestartFacts K L D) (copy : List (ArtifactFacts D))
-      → IsByView (cut end next.drop next.prune).entries copy
+      → IsByView (cut_member end next.drop next.prune).entries copy
       → recover_error same (new_state next.start.setup) next.start.floor next.start.now copy ≡ Some error.ParentNotBelow
       → AcceptedParentAbove (of_floor start.floor ++ deeds_of_steps steps replies)
 
@@ -103,9 +103,9 @@ module _ (K : Type 0) {L D : Type 0} (same : D → D → Bool) (elect : Elect L)
       → HasTerms term_length start.setup
       → KeepTerms term_length steps
       → recover_error same (new_state start.setup) start.floor start.now [] ≡ None
-      → IsRun same elect (started same elect (new_state start.setup) start.floor start.now) steps replies end
+      → IsRun same elect (started_member same elect (new_state start.setup) start.floor start.now) steps replies end
       → (next : RestartFacts K L D) (copy : List (ArtifactFacts D))
-      → IsByView (cut end next.drop next.prune).entries copy
+      → IsByView (cut_member end next.drop next.prune).entries copy
       → recover_error same (new_state next.start.setup) next.start.floor next.start.now copy ≡ Some error.ViewTooLarge
       → (is_floor_too_large next.start.floor ≡ true) ⊎ VotedTooHigh steps (of_floor start.floor ++ deeds_of_steps steps replies)
 

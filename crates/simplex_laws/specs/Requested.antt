@@ -78,9 +78,9 @@ is_invalid Invalid = true
 is_invalid _ = false
 
 -- the view whose certificate it lacks
-abbrev pub lacked : {D : Type 0} → Standing D → Option ℕ
-lacked (Lacks w _) = Some w
-lacked _ = None
+abbrev pub lacked_view : {D : Type 0} → Standing D → Option ℕ
+lacked_view (Lacks w _) = Some w
+lacked_view _ = None
 
 -- what it is given out with
 abbrev pub bound_by : {D : Type 0} → Option (Proposal D) → Standing D → Option (Option (Proposal D × D))
@@ -89,10 +89,10 @@ bound_by held _ = None
 
 module _ {K L D : Type 0} (same : D → D → Bool) (elect : Elect L) where
   -- how the proposal of the view stands where a scan for proposals to verify comes to it
-  abbrev pub stands : ℕ → Facts K L D → Event K D → Standing D
-  stands v x TryVerify =
+  abbrev pub standing_by_event : ℕ → Facts K L D → Event K D → Standing D
+  standing_by_event v x TryVerify =
       if was_scanned same elect x v then standing same elect x (v, round_of x v) else Passed
-  stands v x _ = Passed
+  standing_by_event v x _ = Passed
 
   -- this member's own proposal is taken: nothing else is held
   abbrev pub takes_own : ℕ → Facts K L D → Event K D → Bool
@@ -128,11 +128,11 @@ module _ {K L D : Type 0} (same : D → D → Bool) (elect : Elect L) where
 
   -- a verification was asked for, or isn't needed
   abbrev pub asks_to_verify : ℕ → Facts K L D → Event K D → Bool
-  asks_to_verify v x e = overrules v x e || takes_own v x e || is_given_out (stands v x e)
+  asks_to_verify v x e = overrules v x e || takes_own v x e || is_given_out (standing_by_event v x e)
 
   -- the view whose certificate peers are asked for
   abbrev pub asks_for : ℕ → Facts K L D → Event K D → Option ℕ
-  asks_for v x e = lacked (stands v x e)
+  asks_for v x e = lacked_view (standing_by_event v x e)
 
   -- the held proposal is bound to its parent's payload where it is built, given out or replayed, until that no longer holds
   abbrev pub binds : ℕ → Facts K L D → Event K D → Option (Option (Proposal D × D))
@@ -144,4 +144,4 @@ module _ {K L D : Type 0} (same : D → D → Bool) (elect : Elect L) where
   binds v x (VerificationFailed w _ _) = if is_at x v w && not (binding_matches same elect x w) then Some None else None
   binds v x (Replay (NotarizeVote p _)) =
       if v == p.round.view then option_map (λ bound. Some bound) (restored_binding x p) else None
-  binds v x e = bound_by (round_of x v).slot.held (stands v x e)
+  binds v x e = bound_by (round_of x v).slot.held (standing_by_event v x e)

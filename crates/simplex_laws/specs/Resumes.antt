@@ -4,10 +4,10 @@ use Rattle.simplex_voter.specs.Facts.{Elect}
 use Rattle.simplex_member.specs.declared.member.error.RecoverError.{RecoverError}
 use Rattle.simplex_member.specs.declared.member.resume.ResumeError.TheVariants.{Recover}
 use Rattle.simplex_member.specs.Calls.{Told, Restarted}
-use Rattle.simplex_member.specs.Journal.{stored_of, uncut, has_lost, IsResumed, IsNotResumed}
+use Rattle.simplex_member.specs.Journal.{stored_of, whole_restart, has_lost, IsResumed, IsNotResumed}
 use Rattle.simplex_member.specs.Lives.{MemberFacts}
 use Rattle.simplex_member.specs.Runs.{StepFacts, Restarts, IsStep, IsRun, IsRefused}
-use Rattle.simplex_member.specs.Start.{StartFacts, started, new_state}
+use Rattle.simplex_member.specs.Start.{StartFacts, started_member, new_state}
 
 -- one holds just where the other does
 abbrev pub Alike : Type 0 → Type 0 → Type 0
@@ -20,7 +20,7 @@ module _ {K L D : Type 0} (same : D → D → Bool) (elect : Elect L) where
       (start : StartFacts K L D) (next : MemberFacts K L D)
       → Alike
       (IsResumed same elect (stored_of m) m.entries start next)
-      (IsStep same elect m (Restarts (uncut start)) Restarted next)
+      (IsStep same elect m (Restarts (whole_restart start)) Restarted next)
 
   -- it is refused just as that restart is, by the same error
   abbrev pub IsRefusedAsRestart : MemberFacts K L D → Type 0
@@ -28,14 +28,14 @@ module _ {K L D : Type 0} (same : D → D → Bool) (elect : Elect L) where
       (start : StartFacts K L D) (found : RecoverError)
       → Alike
       (IsNotResumed same elect (stored_of m) m.entries start (Recover found))
-      (IsRefused same elect m (Restarts (uncut start)) found)
+      (IsRefused same elect m (Restarts (whole_restart start)) found)
 
 module _ (K : Type 0) {L D : Type 0} (same : D → D → Bool) (elect : Elect L) where
   -- of each member that a run leads to, whatever the run
   abbrev pub OfEachLeft : (MemberFacts K L D → Type 0) → Type 0
   OfEachLeft Holds =
       (start : StartFacts K L D) (steps : List (StepFacts K L D)) (replies : List (Told K D)) (m : MemberFacts K L D)
-      → IsRun same elect (started same elect (new_state start.setup) start.floor start.now) steps replies m
+      → IsRun same elect (started_member same elect (new_state start.setup) start.floor start.now) steps replies m
       → Holds m
 
 -- all that was closed stands in its record

@@ -54,8 +54,8 @@ module _ {S L D K G C : Type 0} where
   shown_by _ _ = []
 
   -- all, from the start on
-  abbrev pub shown : Start S L D K G C → List (Step S L D K G C) → List (Reply S D K G C) → List (Deed D)
-  shown start steps replies = floor_in start.floor ++ shown_by steps replies
+  abbrev pub shown_deeds : Start S L D K G C → List (Step S L D K G C) → List (Reply S D K G C) → List (Deed D)
+  shown_deeds start steps replies = floor_in start.floor ++ shown_by steps replies
 
 module _ {S L D K G C : Type 0} (me : S → Option ℕ) (terms : L → Terms) where
   -- a start is set up for terms of this many views, not 0, and signs as this member or not at all

@@ -4,7 +4,7 @@ use Rattle.simplex_round.specs.declared.round.Certification.TheVariants.{Ready}
 use Rattle.simplex_round.specs.Round.{RoundFacts}
 use Rattle.simplex_voter.specs.Facts.{Elect, round_number}
 use Rattle.simplex_laws.specs.Events.{History}
-use Rattle.simplex_laws.specs.Leading.{leads}
+use Rattle.simplex_laws.specs.Leading.{leader_by_event}
 use Rattle.simplex_laws.specs.OwnWork.{was_done, first_said, last_said, held_in, conflict_in, hands_out_notarization, hands_out_nullification, hands_out_finalization, decides_notarize}
 use Rattle.simplex_laws.specs.Requested.{verifies, asks_to_build, asks_to_verify, asks_for, binds, certifies}
 use Rattle.simplex_laws.specs.Sums.{notarization_in, nullification_in, finalization_in}
@@ -22,7 +22,7 @@ module _ {K L D : Type 0} (same : D → D → Bool) (elect : Elect L) where
         round = round_number fresh v;
         entered_at = first_said same elect (enters v) fresh events;
         proposed_at = last_said same elect (proposes same elect v) fresh events;
-        leader = first_said same elect (leads same elect v) fresh events;
+        leader = first_said same elect (leader_by_event same elect v) fresh events;
         slot = record {
           held = held_in same elect v fresh events;
           conflict = conflict_in same elect v fresh events;

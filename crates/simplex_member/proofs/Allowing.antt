@@ -15,7 +15,7 @@ use Rattle.simplex_voter.specs.Refusals.{is_started, takes_round}
 use Rattle.simplex_voter.specs.Certification.{takes_verdict}
 use Rattle.simplex_member.specs.Entries.{entries_of, entry_round, entry_view}
 use Rattle.simplex_member.specs.Check.{stands, is_notarization, is_verdict, is_nullify as nullifies, is_finalize as finalizes, first_error, entry_rules, first_broken_after}
-use Rattle.simplex_member.specs.Recovery.{added, replayed, retaken, taken, GivesVerdict, TakesEntry, TakesNext, TakesEntries}
+use Rattle.simplex_member.specs.Recovery.{after_adding, after_replaying, after_entry, after_kept_entry, GivesVerdict, TakesEntry, TakesNext, TakesEntries}
 use Rattle.simplex_member.proofs.Recovery.{added_goes}
 use Rattle.simplex_member.proofs.Taking.{taken_goes}
 use Rattle.simplex_member.proofs.Seen.{view_of_entry, from_not_false, none_left}
@@ -69,7 +69,7 @@ module _ {S K D G C : Type 0} (bytes_of : C → List ℕ) (same : D → D → Bo
 
 module _ {K L D : Type 0} (same : D → D → Bool) (elect : Elect L) (now : ℕ) where
   -- a verdict may be given once it stands again
-  may_give : (before : List (ArtifactFacts D)) (x : Facts K L D) (e : ArtifactFacts D) → is_started x ≡ true → min_active x ≤ entry_view e → BearsAll before x → Allowed same x.settings.epoch x.me before e → GivesVerdict (replayed same elect (added same elect x now e) e) e
+  may_give : (before : List (ArtifactFacts D)) (x : Facts K L D) (e : ArtifactFacts D) → is_started x ≡ true → min_active x ≤ entry_view e → BearsAll before x → Allowed same x.settings.epoch x.me before e → GivesVerdict (after_replaying same elect (after_adding same elect x now e) e) e
   may_give before x (Verdict r success) started kept bears ok =
       let v = r.view in
       let b = bears v in
@@ -91,7 +91,7 @@ module _ {S K L D G C : Type 0} (bytes_of : C → List ℕ) (same : D → D → 
   takes_entry : (before : List (ArtifactFacts D)) (x : Facts K L D) (a : Artifact S D K G C) → is_started x ≡ true → min_active x ≤ entry_view (artifact_facts bytes_of a) → BearsAll before x → Allowed same x.settings.epoch x.me before (artifact_facts bytes_of a) → TakesEntry bytes_of same elect x now a
   takes_entry before x a started kept bears ok =
       let e = artifact_facts bytes_of a in
-      let y = added same elect x now e in
+      let y = after_adding same elect x now e in
       let goes = added_goes same elect x now e in
       let keeps = added_kept same elect x now e in
       let mine : Allowed same x.settings.epoch y.me before e = rw keeps.me ok in
@@ -113,20 +113,20 @@ module _ {S K L D G C : Type 0} (bytes_of : C → List ℕ) (same : D → D → 
 
 module _ {K L D : Type 0} (same : D → D → Bool) (elect : Elect L) where
   -- after an entry was taken, or passed over
-  taken_bears : (before : List (ArtifactFacts D)) (x : Facts K L D) (now : ℕ) (e : ArtifactFacts D) → BearsAll before x → BearsAll (e ∷ before) (taken same elect x now e)
-  unfolding taken
+  taken_bears : (before : List (ArtifactFacts D)) (x : Facts K L D) (now : ℕ) (e : ArtifactFacts D) → BearsAll before x → BearsAll (e ∷ before) (after_kept_entry same elect x now e)
+  unfolding after_kept_entry
   taken_bears before x now e bears =
-      cond_both (nat_lt (entry_view e) (min_active x)) x (retaken same elect x now e) (BearsAll (e ∷ before))
+      cond_both (nat_lt (entry_view e) (min_active x)) x (after_entry same elect x now e) (BearsAll (e ∷ before))
       (λ below. bears_on before e x (λ kept _. absurd (left_out (entry_view e) (min_active x) below kept)) bears)
-      (λ _. let y = added same elect x now e in given_bears elect before (replayed same elect y e) now e (replayed_bears same elect before y e (added_bears same elect before x now e bears)))
+      (λ _. let y = after_adding same elect x now e in given_bears elect before (after_replaying same elect y e) now e (replayed_bears same elect before y e (added_bears same elect before x now e bears)))
 
-  taken_me : (x : Facts K L D) (now : ℕ) (e : ArtifactFacts D) → (taken same elect x now e).me ≡ x.me
-  unfolding taken
+  taken_me : (x : Facts K L D) (now : ℕ) (e : ArtifactFacts D) → (after_kept_entry same elect x now e).me ≡ x.me
+  unfolding after_kept_entry
   taken_me x now e =
-      let y = added same elect x now e in
-      cond_both (nat_lt (entry_view e) (min_active x)) x (retaken same elect x now e) (λ (z : Facts K L D). z.me ≡ x.me)
+      let y = after_adding same elect x now e in
+      cond_both (nat_lt (entry_view e) (min_active x)) x (after_entry same elect x now e) (λ (z : Facts K L D). z.me ≡ x.me)
       (λ _. refl)
-      (λ _. given_me elect (replayed same elect y e) now e ∙ replayed_me same elect y e ∙ (added_kept same elect x now e).me)
+      (λ _. given_me elect (after_replaying same elect y e) now e ∙ replayed_me same elect y e ∙ (added_kept same elect x now e).me)
 
 module _ {S K L D G C : Type 0} (bytes_of : C → List ℕ) (same : D → D → Bool) (elect : Elect L) (now : ℕ) where
   -- entries that break no rule behind those that were taken
@@ -134,7 +134,7 @@ module _ {S K L D G C : Type 0} (bytes_of : C → List ℕ) (same : D → D → 
   takes_entries [] before x started bears unbroken = tt
   takes_entries (a ∷ rest) before x started bears unbroken =
       let e = artifact_facts bytes_of a in
-      let y = taken same elect x now e in
+      let y = after_kept_entry same elect x now e in
       let goes = taken_goes same elect x now e in
       let first = first_error (entry_rules same x.settings.epoch x.me before e) in
       let others = first_broken_after same x.settings.epoch x.me (e ∷ before) (entries_of bytes_of rest) in

@@ -12,7 +12,7 @@ use Rattle.simplex_member.specs.declared.member.calls.Call.{Call}
 use Rattle.simplex_member.specs.declared.member.calls.Call.TheVariants as call
 use Rattle.simplex_member.specs.Allowed.{is_allowed, fault_of, may_fall, may_want, is_ready}
 use Rattle.simplex_member.specs.Calls.{CallFacts, AddNotarization, AddNullification, AddFinalization, SetProposal, TryPropose, TryVerify, CertifyCandidates, SetCertifyHandle, Certified, NextTimeout, Told, Refused, NotAllowed, asked}
-use Rattle.simplex_member.specs.Lives.{MemberFacts, fallen, IsCall}
+use Rattle.simplex_member.specs.Lives.{MemberFacts, without_life, IsCall}
 use Rattle.simplex_member.specs.Made.{answer, after_call, openings_after, recorded_by}
 use Rattle.simplex_member.specs.Openings.{Openings, no_openings, is_offered}
 use Rattle.simplex_member.specs.Parts.{is_offer, fills_room, asks_for_work, family_of, IsWant, IsLoss, closing_of, left_open, now_open}
@@ -181,6 +181,6 @@ module _ {K L D : Type 0} (same : D → D → Bool) (elect : Elect L) (m : Membe
         wanting false wants memory = absurd memory
 
     -- the state is lost for want of memory
-    pub lost_call : is_allowed x m.openings call ≡ true → fault_of x call ≡ None → may_want x call ≡ true → may_fall call ≡ true → IsCall same elect m call (Refused fault.OutOfMemory) (fallen m)
+    pub lost_call : is_allowed x m.openings call ≡ true → fault_of x call ≡ None → may_want x call ≡ true → may_fall call ≡ true → IsCall same elect m call (Refused fault.OutOfMemory) (without_life m)
     unfolding IsCall
     lost_call allowed no_fault wants falls = rw alive (inr (rw (wants, allowed) refl, refl, inr (no_fault, falls, refl)))

@@ -11,15 +11,15 @@ use Rattle.simplex_round.specs.Round.{RoundFacts, certified_round, after_replay,
 use Rattle.simplex_round.specs.declared.round.Decision.TheVariants.{Nullify, Finalize}
 use Rattle.simplex_voter.specs.Facts.{Facts, Elect, round_of, is_tracked, with_round}
 use Rattle.simplex_voter.specs.Windows.{min_active}
-use Rattle.simplex_voter.specs.Entering.{at_moment, entered}
-use Rattle.simplex_voter.specs.Leaders.{elected, prepared}
-use Rattle.simplex_voter.specs.Timeouts.{triggered}
-use Rattle.simplex_voter.specs.Certification.{woken, judged, verdict_taken}
+use Rattle.simplex_voter.specs.Entering.{at_moment, with_view_entered}
+use Rattle.simplex_voter.specs.Leaders.{with_elected_leader, with_next_view_ready}
+use Rattle.simplex_voter.specs.Timeouts.{with_timeout}
+use Rattle.simplex_voter.specs.Certification.{with_waiting_candidate, with_verdict, verdict_taken}
 use Rattle.simplex_voter.specs.Acceptance.{with_notarization_at}
 use Rattle.simplex_voter.specs.Replay.{replayed_sets, replayed_round, restored_binding}
 use Rattle.simplex_member.specs.Entries.{entry_view}
 use Rattle.simplex_member.specs.Check.{stands, is_notarization, is_verdict, is_nullify as nullifies, is_finalize as finalizes}
-use Rattle.simplex_member.specs.Recovery.{as_artifact, added, replayed, given}
+use Rattle.simplex_member.specs.Recovery.{as_artifact, after_adding, after_replaying, after_verdict_of}
 use Rattle.simplex_member.proofs.Growing.{Grows, bound_grows, round_of-put, round_of-same, notarization_stands}
 use Rattle.simplex_member.proofs.Keeping.{Keeps, kept_on, put_kept, entered_kept, woken_kept, triggered_kept, prepared_kept, notarized_kept, added_kept}
 
@@ -112,10 +112,10 @@ module _ {K D : Type 0} (signs : Option ℕ) (lowest : ℕ) (before : List (Arti
 
 module _ {K L D : Type 0} (same : D → D → Bool) (elect : Elect L) where
   -- a notarization that is added stands
-  added_notarized : (x : Facts K L D) (now : ℕ) (e : ArtifactFacts D) → is_notarization e ≡ true → is_some (round_of (added same elect x now e) (entry_view e)).notarization ≡ true
+  added_notarized : (x : Facts K L D) (now : ℕ) (e : ArtifactFacts D) → is_notarization e ≡ true → is_some (round_of (after_adding same elect x now e) (entry_view e)).notarization ≡ true
   added_notarized x now (Accepted (Notarized c)) is =
       let v = c.proposal.round.view in
-      let y = elected elect x (v + 1) (Some c.bytes) in
+      let y = with_elected_leader elect x (v + 1) (Some c.bytes) in
       let z = with_notarization_at same elect y c in
       let here : is_some (round_of z v).notarization ≡ true = rw (round_of-same y v _) (notarization_stands (same_proposal same) (round_of y v) c) in
       ((notarized_kept same elect v x z c).rounds v).notarized here
@@ -126,18 +126,18 @@ module _ {K L D : Type 0} (same : D → D → Bool) (elect : Elect L) where
   added_notarized x now (FinalizeVote p m) is = absurd cc
   added_notarized x now (Verdict r success) is = absurd cc
 
-  pub added_bears : (before : List (ArtifactFacts D)) (x : Facts K L D) (now : ℕ) (e : ArtifactFacts D) → BearsAll before x → BearsAll (e ∷ before) (added same elect x now e)
+  pub added_bears : (before : List (ArtifactFacts D)) (x : Facts K L D) (now : ℕ) (e : ArtifactFacts D) → BearsAll before x → BearsAll (e ∷ before) (after_adding same elect x now e)
   added_bears before x now e bears =
-      bears_on before e (added same elect x now e) (λ _. added_notarized x now e) (bears_kept (entry_view e) before x (added same elect x now e) (added_kept same elect x now e) bears)
+      bears_on before e (after_adding same elect x now e) (λ _. added_notarized x now e) (bears_kept (entry_view e) before x (after_adding same elect x now e) (added_kept same elect x now e) bears)
 
-  pub replayed_bears : (before : List (ArtifactFacts D)) (x : Facts K L D) (e : ArtifactFacts D) → BearsAll (e ∷ before) x → BearsAll (e ∷ before) (replayed same elect x e)
+  pub replayed_bears : (before : List (ArtifactFacts D)) (x : Facts K L D) (e : ArtifactFacts D) → BearsAll (e ∷ before) x → BearsAll (e ∷ before) (after_replaying same elect x e)
   replayed_bears before x (NotarizeVote p m) bears =
       let e : ArtifactFacts D = NotarizeVote p m in
       let a : Artifact (Unit {0}) D K (Unit {0}) (List ℕ) = as_artifact e in
       let v = p.round.view in
       let y = with_round x v (replayed_round same x a) in
       let voted : Grows (round_of x v) (after_replay (same_proposal same) (round_of x v) a) = record { me = refl; notarized = λ h. h; judged = λ b. refl; nullified = refl; finalized = refl } in
-      bears_kept v (e ∷ before) x (prepared elect y v) (kept_on v x y (prepared elect y v) (put_kept v x v (replayed_round same x a) (bound_grows (round_of x v) (option_and_then (restored_binding x) (Some p)) voted)) (prepared_kept v elect y v)) bears
+      bears_kept v (e ∷ before) x (with_next_view_ready elect y v) (kept_on v x y (with_next_view_ready elect y v) (put_kept v x v (replayed_round same x a) (bound_grows (round_of x v) (option_and_then (restored_binding x) (Some p)) voted)) (prepared_kept v elect y v)) bears
   replayed_bears before x (NullifyVote r m) bears =
       let e : ArtifactFacts D = NullifyVote r m in
       let b = bears r.view in
@@ -162,17 +162,17 @@ module _ {K L D : Type 0} (same : D → D → Bool) (elect : Elect L) where
       bears_put (Accepted (Finalized c) ∷ before) x c.proposal.round.view _ bears (record { me = b.me; notarized = b.notarized; judged = b.judged; nullified = b.nullified; finalized = b.finalized })
 
 module _ {K L D : Type 0} (elect : Elect L) where
-  given_verdict : (before : List (ArtifactFacts D)) (x : Facts K L D) (now : ℕ) (r : Round) (success : Bool) → BearsAll (Verdict r success ∷ before) (judged x r.view success) → BearsAll (Verdict r success ∷ before) (verdict_taken elect x r.view success now)
+  given_verdict : (before : List (ArtifactFacts D)) (x : Facts K L D) (now : ℕ) (r : Round) (success : Bool) → BearsAll (Verdict r success ∷ before) (with_verdict x r.view success) → BearsAll (Verdict r success ∷ before) (verdict_taken elect x r.view success now)
   given_verdict before x now r true bears =
       let v = r.view in
-      let y = judged x v true in
-      let z = entered y (v + 1) now in
-      bears_kept v (Verdict r true ∷ before) y (woken elect z v) (kept_on v y z (woken elect z v) (entered_kept v y (v + 1) now) (woken_kept v elect z v)) bears
+      let y = with_verdict x v true in
+      let z = with_view_entered y (v + 1) now in
+      bears_kept v (Verdict r true ∷ before) y (with_waiting_candidate elect z v) (kept_on v y z (with_waiting_candidate elect z v) (entered_kept v y (v + 1) now) (woken_kept v elect z v)) bears
   given_verdict before x now r false bears =
-      let y = judged x r.view false in
-      bears_kept r.view (Verdict r false ∷ before) y (triggered y r.view FailedCertification now) (triggered_kept r.view y r.view FailedCertification now) bears
+      let y = with_verdict x r.view false in
+      bears_kept r.view (Verdict r false ∷ before) y (with_timeout y r.view FailedCertification now) (triggered_kept r.view y r.view FailedCertification now) bears
 
-  pub given_bears : (before : List (ArtifactFacts D)) (x : Facts K L D) (now : ℕ) (e : ArtifactFacts D) → BearsAll (e ∷ before) x → BearsAll (e ∷ before) (given elect x now e)
+  pub given_bears : (before : List (ArtifactFacts D)) (x : Facts K L D) (now : ℕ) (e : ArtifactFacts D) → BearsAll (e ∷ before) x → BearsAll (e ∷ before) (after_verdict_of elect x now e)
   given_bears before x now (Verdict r success) bears = elim (is_tracked x r.view) as (λ t. BearsAll (Verdict r success ∷ before) (cond t (verdict_taken elect (at_moment x now) r.view success now) (at_moment x now))) [
     | true ↦ given_verdict before (at_moment x now) now r success (bears_put (Verdict r success ∷ before) (at_moment x now) r.view (certified_round (round_of x r.view) success) bears (verdict_borne x.me (min_active x) before r success (round_of x r.view) (bears r.view)))
     | false ↦ bears

@@ -7,7 +7,7 @@ use Rattle.simplex_types.specs.declared.types.numbers.Round.{Round}
 use Rattle.simplex_member.specs.declared.member.error.RecoverError.{RecoverError}
 use Rattle.simplex_member.specs.declared.member.error.RecoverError.TheVariants as error
 use Rattle.simplex_member.specs.Check.{first_broken_rule}
-use Rattle.simplex_member.specs.Cuts.{may_drop, without_last, pruned}
+use Rattle.simplex_member.specs.Cuts.{may_drop, without_last, pruned_entries}
 
 abbrev pub Entry : Type 0
 Entry = ArtifactFacts ℕ
@@ -155,10 +155,10 @@ dropped_to_what_is_closed = refl
 
 -- a pruning takes what stands below the highest finalized view by more than the retention, votes too
 
-pruned_below_the_retention : pruned 10 (nullify 1 ∷ finalization 20 ∷ notarization 9 ∷ notarization 10 ∷ []) ≡ finalization 20 ∷ notarization 10 ∷ []
-unfolding pruned
+pruned_below_the_retention : pruned_entries 10 (nullify 1 ∷ finalization 20 ∷ notarization 9 ∷ notarization 10 ∷ []) ≡ finalization 20 ∷ notarization 10 ∷ []
+unfolding pruned_entries
 pruned_below_the_retention = refl
 
-pruned_without_a_finalization : pruned 0 (nullify 1 ∷ notarization 9 ∷ []) ≡ nullify 1 ∷ notarization 9 ∷ []
-unfolding pruned
+pruned_without_a_finalization : pruned_entries 0 (nullify 1 ∷ notarization 9 ∷ []) ≡ nullify 1 ∷ notarization 9 ∷ []
+unfolding pruned_entries
 pruned_without_a_finalization = refl

@@ -4,12 +4,12 @@ use Rattle.std.specs.Option.{option_map_or}
 use Rattle.simplex_types.specs.declared.types.messages.Context.{Context}
 use Rattle.simplex_voter.specs.Facts.{Facts, Elect, round_of}
 use Rattle.simplex_voter.specs.Entering.{at_moment}
-use Rattle.simplex_voter.specs.Leaders.{prepared}
+use Rattle.simplex_voter.specs.Leaders.{with_next_view_ready}
 use Rattle.simplex_voter.specs.Proposing.{with_build, request_context, propose_answer, proposed_answer, after_proposed, supersede_answer, after_supersede}
 use Rattle.simplex_voter.specs.declared.voter.proposal_request.ProposalRequest.{ProposalRequest}
 use Rattle.simplex_voter.specs.Rules.{may_notarize}
 use Rattle.simplex_voter.specs.Parents.{binding_matches}
-use Rattle.simplex_voter.specs.Timeouts.{triggered, polled}
+use Rattle.simplex_voter.specs.Timeouts.{with_timeout, round_with_retry}
 use Rattle.simplex_voter.specs.Verifying.{with_proposal}
 use Rattle.simplex_voter.specs.Votes.{notarize_cast}
 use Rattle.simplex_member.specs.Openings.{Openings, context_at}
@@ -38,7 +38,7 @@ module _ {K L D : Type 0} (same : D → D → Bool) (elect : Elect L) (x : Facts
   goes o (AddNullification c now) = nullification_goes elect x c now
   goes o (AddFinalization c now) = finalization_goes same elect x c now
   goes o (SetProposal v p) =
-      let ready = prepared elect x v in
+      let ready = with_next_view_ready elect x v in
       joined x ready _ (prepared_goes elect x v) (with_round_goes ready v (with_proposal same (round_of ready v) p))
   goes o TryPropose = built (propose_answer same elect x)
   goes o (Proposed v payload now) = proposed payload now (context_at o v)
@@ -50,7 +50,7 @@ module _ {K L D : Type 0} (same : D → D → Bool) (elect : Elect L) (x : Facts
   goes o (VerificationFailed v reason now) =
       let a = at_moment x now in
       where_so x (binding_matches same elect x v) _ _
-      (joined x a (triggered a v reason now) (moment_goes x now) (triggered_goes a v reason now))
+      (joined x a (with_timeout a v reason now) (moment_goes x now) (triggered_goes a v reason now))
       (joined x a _ (moment_goes x now) (tracked_goes a v _))
   goes o (ConstructNotarize v) =
       where_so x (may_notarize same elect x v) _ x
@@ -67,8 +67,8 @@ module _ {K L D : Type 0} (same : D → D → Bool) (elect : Elect L) (x : Facts
   goes o GetBestCertificate = stays x
   goes o (TriggerTimeout v reason now) =
       let a = at_moment x now in
-      joined x a (triggered a v reason now) (moment_goes x now) (triggered_goes a v reason now)
+      joined x a (with_timeout a v reason now) (moment_goes x now) (triggered_goes a v reason now)
   goes o (NextTimeout now) =
       let a = at_moment x now in
-      joined x a _ (moment_goes x now) (tracked_goes a x.current (polled x now))
+      joined x a _ (moment_goes x now) (tracked_goes a x.current (round_with_retry x now))
   goes o Prune = record { failed = refl; settings = refl; terms = refl; started = λ h. h }

@@ -13,7 +13,7 @@ use Rattle.simplex_round.specs.declared.round.Decision.{Decision}
 use Rattle.simplex_round.specs.declared.round.Decision.TheVariants.{Pending, Nullify, Finalize}
 use Rattle.simplex_round.specs.declared.round.Certification.{Certification}
 use Rattle.simplex_round.specs.declared.round.Certification.TheVariants.{Ready, Outstanding, Judged, Aborted}
-use Rattle.simplex_round.specs.Round.{RoundFacts, new_round, is_judged, is_nullify, is_finalize, armed, latched, with_latch, after_abort, token_of, with_recovered, with_notarization, with_nullification, with_finalization}
+use Rattle.simplex_round.specs.Round.{RoundFacts, new_round, is_judged, is_nullify, is_finalize, with_decision_deadlines, with_first_timeout, with_latch, after_abort, token_of, with_recovered, with_notarization, with_nullification, with_finalization}
 use Rattle.simplex_voter.specs.Facts.{Facts, round_of, round_number, with_round}
 use Rattle.simplex_voter.specs.Entering.{entered_round}
 use Rattle.simplex_voter.specs.Certification.{without_token}
@@ -46,23 +46,23 @@ module _ {K D : Type 0} where
   grows_where r false s t p q = q
 
 -- a decision keeps its kind where only its timeouts change
-armed_nullify : (d : Decision) (l c : ℕ) → is_nullify (armed d l c) ≡ is_nullify d
+armed_nullify : (d : Decision) (l c : ℕ) → is_nullify (with_decision_deadlines d l c) ≡ is_nullify d
 armed_nullify (Pending _ _ _) l c = refl
 armed_nullify (Nullify _) l c = refl
 armed_nullify Finalize l c = refl
 
-armed_finalize : (d : Decision) (l c : ℕ) → is_finalize (armed d l c) ≡ is_finalize d
+armed_finalize : (d : Decision) (l c : ℕ) → is_finalize (with_decision_deadlines d l c) ≡ is_finalize d
 armed_finalize (Pending _ _ _) l c = refl
 armed_finalize (Nullify _) l c = refl
 armed_finalize Finalize l c = refl
 
-latched_nullify : (d : Decision) (t : ℕ × TimeoutReason) → is_nullify (latched d t) ≡ is_nullify d
+latched_nullify : (d : Decision) (t : ℕ × TimeoutReason) → is_nullify (with_first_timeout d t) ≡ is_nullify d
 latched_nullify (Pending _ _ None) t = refl
 latched_nullify (Pending _ _ (Some _)) t = refl
 latched_nullify (Nullify _) t = refl
 latched_nullify Finalize t = refl
 
-latched_finalize : (d : Decision) (t : ℕ × TimeoutReason) → is_finalize (latched d t) ≡ is_finalize d
+latched_finalize : (d : Decision) (t : ℕ × TimeoutReason) → is_finalize (with_first_timeout d t) ≡ is_finalize d
 latched_finalize (Pending _ _ None) t = refl
 latched_finalize (Pending _ _ (Some _)) t = refl
 latched_finalize (Nullify _) t = refl

@@ -10,7 +10,7 @@ use Rattle.simplex_voter.specs.Serving.{notarization_of, nullification_of}
 use Rattle.simplex_voter.specs.Votes.{nullify_answer, finalize_answer}
 use Rattle.simplex_member.specs.declared.member.error.RecoverError.TheVariants as error
 use Rattle.simplex_member.specs.Check.{first_broken_rule}
-use Rattle.simplex_member.specs.Recovery.{taken, recovered, recover_error, with_floor}
+use Rattle.simplex_member.specs.Recovery.{after_kept_entry, recovered_state, recover_error, with_floor}
 use Rattle.simplex_member.proofs.Examples.{Entry, notarization, nullification, finalization, verdict, nullify, finalize, floor_at}
 
 abbrev pub in_turn : Elect ℕ
@@ -30,42 +30,42 @@ abbrev fresh : Facts ℕ ℕ ℕ
 fresh = new_facts settings (Some 0) (0 ∷ 1 ∷ 2 ∷ 3 ∷ []) 1 (record { term_length = 1; optimistic_views = 0; stall_timeout = None }) true
 
 abbrev state_of : FloorFacts ℕ → List Entry → Facts ℕ ℕ ℕ
-state_of floor entries = recovered nat_eq in_turn fresh floor 0 entries
+state_of floor entries = recovered_state nat_eq in_turn fresh floor 0 entries
 
 -- above a finalized floor, what stands below its retention is passed over
 floor_far_ahead : (state_of (floor_at 1 20) (nullification 3 ∷ notarization 15 ∷ [])).current ≡ 21
-unfolding recovered taken
+unfolding recovered_state after_kept_entry
 floor_far_ahead = refl
 
 kept_above_the_floor : is_some (notarization_of (state_of (floor_at 1 20) (nullification 3 ∷ notarization 15 ∷ [])) 15) ≡ true
-unfolding recovered taken
+unfolding recovered_state after_kept_entry
 kept_above_the_floor = refl
 
 passed_over : is_some (nullification_of (state_of (floor_at 1 20) (nullification 3 ∷ notarization 15 ∷ [])) 3) ≡ false
-unfolding recovered taken
+unfolding recovered_state after_kept_entry
 passed_over = refl
 
 -- a record below the floor's view rolls nothing back, and one above it raises the state
 raised_by_the_record : (state_of (floor_at 1 20) (finalization 30 ∷ [])).finalized ≡ 30
-unfolding recovered taken
+unfolding recovered_state after_kept_entry
 raised_by_the_record = refl
 
 -- a true verdict enters the next view again
 entered_by_a_verdict : (state_of (Genesis 0) (nullify 1 ∷ notarization 1 ∷ verdict 1 true ∷ [])).current ≡ 2
-unfolding recovered taken
+unfolding recovered_state after_kept_entry
 entered_by_a_verdict = refl
 
 -- a vote is remembered: a nullify vote is a repeat from then on, and bars the vote to finalize
 nullify_again : nullify_answer (state_of (Genesis 0) (nullify 1 ∷ [])) 1 ≡ Some true
-unfolding recovered taken may_nullify
+unfolding recovered_state after_kept_entry may_nullify
 nullify_again = refl
 
 no_finalize : finalize_answer in_turn (state_of (Genesis 0) (nullify 1 ∷ notarization 1 ∷ verdict 1 true ∷ [])) 1 ≡ None
-unfolding recovered taken may_finalize is_admitted is_gated required_parent
+unfolding recovered_state after_kept_entry may_finalize is_admitted is_gated required_parent
 no_finalize = refl
 
 finalize_once : finalize_answer in_turn (state_of (Genesis 0) (notarization 1 ∷ verdict 1 true ∷ finalize 1 ∷ [])) 1 ≡ None
-unfolding recovered taken may_finalize is_admitted is_gated required_parent
+unfolding recovered_state after_kept_entry may_finalize is_admitted is_gated required_parent
 finalize_once = refl
 
 -- a deadline that passes 64 bits, behind the rules of the record

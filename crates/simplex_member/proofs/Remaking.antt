@@ -11,7 +11,7 @@ use Rattle.simplex_member.specs.declared.member.error.RecoverError.{RecoverError
 use Rattle.simplex_member.specs.declared.member.error.RecoverError.TheVariants as error
 use Rattle.simplex_member.specs.Entries.{entries_of}
 use Rattle.simplex_member.specs.Check.{first_error, floor_rules, first_broken_after, first_broken_rule}
-use Rattle.simplex_member.specs.Recovery.{all_taken, recovered, recover_error, TakesEntries}
+use Rattle.simplex_member.specs.Recovery.{after_entries, recovered_state, recover_error, TakesEntries}
 use Rattle.simplex_member.specs.Start.{IsDue}
 use Rattle.simplex_member.proofs.Going.{floor_goes, still_in_time}
 use Rattle.simplex_member.proofs.Seen.{none_left}
@@ -64,14 +64,14 @@ module _ {K L D : Type 0} (same : D → D → Bool) (elect : Elect L) (x : Facts
   set_in_time in_time = still_in_time x (after_set_floor same elect x floor now) now (floor_set_goes same elect x floor now) in_time
 
   -- the state of a recovery goes on
-  pub recovered_goes_on : (entries : List (ArtifactFacts D)) → x.failed ≡ false → ((all_taken same elect (after_set_floor same elect x floor now) now entries).failed ≡ false) × (is_started (all_taken same elect (after_set_floor same elect x floor now) now entries) ≡ true)
+  pub recovered_goes_on : (entries : List (ArtifactFacts D)) → x.failed ≡ false → ((after_entries same elect (after_set_floor same elect x floor now) now entries).failed ≡ false) × (is_started (after_entries same elect (after_set_floor same elect x floor now) now entries) ≡ true)
   recovered_goes_on entries going =
       let set = floor_goes same elect x floor now going in
       let goes = all_taken_goes same elect (after_set_floor same elect x floor now) now entries in
       (goes.failed ∙ set.0, goes.started set.1)
 
-  pub recovered_is : (entries : List (ArtifactFacts D)) → all_taken same elect (after_set_floor same elect x floor now) now entries ≡ recovered same elect x floor now entries
-  unfolding recovered
+  pub recovered_is : (entries : List (ArtifactFacts D)) → after_entries same elect (after_set_floor same elect x floor now) now entries ≡ recovered_state same elect x floor now entries
+  unfolding recovered_state
   recovered_is entries = refl
 
   -- a state at its floor takes each entry of a record that breaks no rule

@@ -5,10 +5,10 @@ use Rattle.simplex_voter.specs.Facts.{Facts, new_facts}
 use Rattle.simplex_voter.specs.Windows.{min_active}
 use Rattle.simplex_voter.specs.Serving.{notarization_of, prune_answer}
 use Rattle.simplex_member.specs.Openings.{no_openings}
-use Rattle.simplex_member.specs.Cuts.{may_drop, pruned}
+use Rattle.simplex_member.specs.Cuts.{may_drop, pruned_entries}
 use Rattle.simplex_member.specs.Lives.{MemberFacts}
-use Rattle.simplex_member.specs.Recovery.{taken, recovered}
-use Rattle.simplex_member.specs.Restarts.{retention_grows, cut}
+use Rattle.simplex_member.specs.Recovery.{after_kept_entry, recovered_state}
+use Rattle.simplex_member.specs.Restarts.{retention_grows, cut_member}
 use Rattle.simplex_member.proofs.Examples.{Entry, notarization, nullification, finalization, nullify}
 use Rattle.simplex_member.proofs.RecoveryExamples.{in_turn, settings}
 
@@ -20,26 +20,26 @@ abbrev member : List Entry → Member
 member entries = record { life = None; openings = no_openings; entries = entries; closed = 0; is_pruned = false; retention = 10; least_retention = 10 }
 
 -- what was pruned is gone, and what stays is closed
-behind_the_finalized_view : (cut (member (nullify 1 ∷ finalization 20 ∷ [])) 0 true).entries ≡ finalization 20 ∷ []
-unfolding may_drop pruned
+behind_the_finalized_view : (cut_member (member (nullify 1 ∷ finalization 20 ∷ [])) 0 true).entries ≡ finalization 20 ∷ []
+unfolding may_drop pruned_entries
 behind_the_finalized_view = refl
 
-closed_now : (cut (member (nullify 1 ∷ finalization 20 ∷ [])) 0 true).closed ≡ 1
-unfolding may_drop pruned
+closed_now : (cut_member (member (nullify 1 ∷ finalization 20 ∷ [])) 0 true).closed ≡ 1
+unfolding may_drop pruned_entries
 closed_now = refl
 
 -- no later drop takes it, but what was recorded since
-not_dropped : (cut (record (member (finalization 20 ∷ [])) { closed = 1; is_pruned = true }) 9 true).entries ≡ finalization 20 ∷ []
-unfolding may_drop pruned
+not_dropped : (cut_member (record (member (finalization 20 ∷ [])) { closed = 1; is_pruned = true }) 9 true).entries ≡ finalization 20 ∷ []
+unfolding may_drop pruned_entries
 not_dropped = refl
 
-dropped_since : (cut (record (member (finalization 20 ∷ nullification 10 ∷ [])) { closed = 1; is_pruned = true }) 1 false).entries ≡ finalization 20 ∷ []
+dropped_since : (cut_member (record (member (finalization 20 ∷ nullification 10 ∷ [])) { closed = 1; is_pruned = true }) 1 false).entries ≡ finalization 20 ∷ []
 unfolding may_drop
 dropped_since = refl
 
 -- the retention of the life that ended counts, not that of the next one
-kept_by_the_last_life : (cut (member (finalization 20 ∷ notarization 12 ∷ [])) 0 true).entries ≡ finalization 20 ∷ notarization 12 ∷ []
-unfolding may_drop pruned
+kept_by_the_last_life : (cut_member (member (finalization 20 ∷ notarization 12 ∷ [])) 0 true).entries ≡ finalization 20 ∷ notarization 12 ∷ []
+unfolding may_drop pruned_entries
 kept_by_the_last_life = refl
 
 -- a life that keeps 5 views takes an entry below those again, until it prunes
@@ -47,18 +47,18 @@ abbrev narrow : Facts ℕ ℕ ℕ
 narrow = new_facts (record settings { view_retention = 5 }) (Some 0) (0 ∷ 1 ∷ 2 ∷ 3 ∷ []) 1 (record { term_length = 1; optimistic_views = 0; stall_timeout = None }) true
 
 abbrev narrow_life : Facts ℕ ℕ ℕ
-narrow_life = recovered nat_eq in_turn narrow (Genesis 0) 0 (notarization 12 ∷ finalization 20 ∷ [])
+narrow_life = recovered_state nat_eq in_turn narrow (Genesis 0) 0 (notarization 12 ∷ finalization 20 ∷ [])
 
 lowest_view : min_active narrow_life ≡ 15
-unfolding recovered taken
+unfolding recovered_state after_kept_entry
 lowest_view = refl
 
 still_there : is_some (notarization_of narrow_life 12) ≡ true
-unfolding recovered taken
+unfolding recovered_state after_kept_entry
 still_there = refl
 
 pruned_then : prune_answer narrow_life ≡ 1 ∷ 12 ∷ 13 ∷ []
-unfolding recovered taken
+unfolding recovered_state after_kept_entry
 pruned_then = refl
 
 -- no life keeps more views than one before, once the record is pruned

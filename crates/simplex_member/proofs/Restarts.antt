@@ -16,9 +16,9 @@ use Rattle.simplex_member.specs.Check.{stands}
 use Rattle.simplex_member.specs.Entries.{entries_of, entry_view}
 use Rattle.simplex_voter.specs.Facts.{Facts, Elect}
 use Rattle.simplex_member.specs.Openings.{no_openings}
-use Rattle.simplex_member.specs.Lives.{MemberFacts, fallen}
+use Rattle.simplex_member.specs.Lives.{MemberFacts, without_life}
 use Rattle.simplex_member.specs.Remade.{IsRefusedBy, IsRemadeBy}
-use Rattle.simplex_member.specs.Recovery.{recover_error, is_finalization, with_finalization, with_floor}
+use Rattle.simplex_member.specs.Recovery.{recover_error, is_finalization, with_finalization_entry, with_floor}
 use Rattle.simplex_member.specs.Restarts.{IsByView, GoesOn}
 use Rattle.simplex_member.specs.Start.{StartFacts, IsDue, new_state}
 use Rattle.simplex_member.proofs.Seen.{view_of_entry}
@@ -58,10 +58,10 @@ module _ {S D K G C : Type 0} (bytes_of : C → List ℕ) where
   }
 
   -- a finalization whose view is finalized in the record
-  pub recorded_before : (entries : List (ArtifactFacts D)) (o : Option (Finalization S D K G C)) (f : Finalization S D K G C) → o ≡ Some f → stands f.proposal.round.view is_finalization entries ≡ true → entries ≡ with_finalization entries (option_map (finalization_facts bytes_of) o)
+  pub recorded_before : (entries : List (ArtifactFacts D)) (o : Option (Finalization S D K G C)) (f : Finalization S D K G C) → o ≡ Some f → stands f.proposal.round.view is_finalization entries ≡ true → entries ≡ with_finalization_entry entries (option_map (finalization_facts bytes_of) o)
   recorded_before entries o f is found = rw (is, found) refl
 
-  pub recorded_now : (entries : List (ArtifactFacts D)) (o : Option (Finalization S D K G C)) (f : Finalization S D K G C) → o ≡ Some f → stands f.proposal.round.view is_finalization entries ≡ false → entries ++ Accepted (Finalized (finalization_facts bytes_of f)) ∷ [] ≡ with_finalization entries (option_map (finalization_facts bytes_of) o)
+  pub recorded_now : (entries : List (ArtifactFacts D)) (o : Option (Finalization S D K G C)) (f : Finalization S D K G C) → o ≡ Some f → stands f.proposal.round.view is_finalization entries ≡ false → entries ++ Accepted (Finalized (finalization_facts bytes_of f)) ∷ [] ≡ with_finalization_entry entries (option_map (finalization_facts bytes_of) o)
   recorded_now entries o f is none = rw (is, none) refl
 
 -- an error for a copy of the record by view, or want of memory
@@ -74,7 +74,7 @@ refused_by same start entries copy found by_view due = told (recover_error same 
 
 module _ {K L D : Type 0} (same : D → D → Bool) (elect : Elect L) (m : MemberFacts K L D) (start : StartFacts K L D) where
   -- a member whose new state is refused
-  pub not_gone_on : (found : RecoverError) → (found ≡ error.OutOfMemory) ⊎ IsRefusedBy same start m.entries found → GoesOn same elect m start (Err found) (fallen m)
+  pub not_gone_on : (found : RecoverError) → (found ≡ error.OutOfMemory) ⊎ IsRefusedBy same start m.entries found → GoesOn same elect m start (Err found) (without_life m)
   not_gone_on found (inl memory) = inl (ap Err memory, refl)
   not_gone_on found (inr (copy, by_view, due)) = inr (copy, by_view, rw due (refl, refl))
 

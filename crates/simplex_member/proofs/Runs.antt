@@ -10,7 +10,7 @@ use Rattle.simplex_member.specs.declared.member.calls.Reply.TheVariants as reply
 use Rattle.simplex_member.specs.Calls.{Told, told}
 use Rattle.simplex_member.specs.Lives.{MemberFacts}
 use Rattle.simplex_member.specs.Recovery.{recover_error}
-use Rattle.simplex_member.specs.Start.{StartFacts, started, IsDue, new_state}
+use Rattle.simplex_member.specs.Start.{StartFacts, started_member, IsDue, new_state}
 use Rattle.simplex_member.specs.Runs.{IsSetUp, AreSetUp, StepFacts, is_refusal, IsStep, IsRun, IsRefused, EndsRun, IsRunFrom, EndsRunFrom}
 
 -- no reply tells of a restart that was refused
@@ -55,13 +55,13 @@ module _ {K L D : Type 0} (same : D → D → Bool) (elect : Elect L) where
 
   module _ (start : StartFacts K L D) (steps : List (StepFacts K L D)) where
     -- a member that started, and took all steps
-    pub run_from : (m : MemberFacts K L D) (replies : List (Told K D)) (e : MemberFacts K L D) → m ≡ started same elect (new_state start.setup) start.floor start.now → recover_error same (new_state start.setup) start.floor start.now [] ≡ None
+    pub run_from : (m : MemberFacts K L D) (replies : List (Told K D)) (e : MemberFacts K L D) → m ≡ started_member same elect (new_state start.setup) start.floor start.now → recover_error same (new_state start.setup) start.floor start.now [] ≡ None
         → IsRun same elect m steps replies e → IsRunFrom same elect start steps replies
     unfolding IsRunFrom
     run_from m replies e begun accepted is = (accepted, e, rw begun at is)
 
     -- one that was refused a later life
-    pub ends_later : (m : MemberFacts K L D) (found : RecoverError) → m ≡ started same elect (new_state start.setup) start.floor start.now → (found ≡ error.OutOfMemory) ⊎ EndsRun same elect m steps found → EndsRunFrom same elect start steps found
+    pub ends_later : (m : MemberFacts K L D) (found : RecoverError) → m ≡ started_member same elect (new_state start.setup) start.floor start.now → (found ≡ error.OutOfMemory) ⊎ EndsRun same elect m steps found → EndsRunFrom same elect start steps found
     unfolding EndsRunFrom
     ends_later m found begun (inl memory) = inl memory
     ends_later m found begun (inr is) = inr (inr (rw begun at is))

@@ -34,5 +34,5 @@ module _ {D : Type 0} where
   finalized_in (e ∷ rest) = max (finalized_by e) (finalized_in rest)
 
   -- without what stands below the highest finalized view by more than the retention
-  unfoldable pub pruned : ℕ → List (ArtifactFacts D) → List (ArtifactFacts D)
-  pruned retention entries = filter (λ e. nat_le (finalized_in entries - retention) (entry_view e)) entries
+  unfoldable pub pruned_entries : ℕ → List (ArtifactFacts D) → List (ArtifactFacts D)
+  pruned_entries retention entries = filter (λ e. nat_le (finalized_in entries - retention) (entry_view e)) entries

@@ -28,8 +28,8 @@ module _ {K L D : Type 0} where
   }
 
   -- a restart that drops and prunes nothing
-  abbrev pub uncut : StartFacts K L D → RestartFacts K L D
-  uncut start = record { drop = 0; prune = false; start = start }
+  abbrev pub whole_restart : StartFacts K L D → RestartFacts K L D
+  whole_restart start = record { drop = 0; prune = false; start = start }
 
 -- there are fewer entries than were closed
 abbrev pub has_lost : {D : Type 0} → Stored → List (ArtifactFacts D) → Bool
@@ -39,11 +39,11 @@ module _ {K L D : Type 0} (same : D → D → Bool) (elect : Elect L) where
   -- none is lost, and a restart of the member that has ended makes this one
   pub record IsResumed (stored : Stored) (entries : List (ArtifactFacts D)) (start : StartFacts K L D) (m : MemberFacts K L D) : Type 0 where
     pub whole : has_lost stored entries ≡ false
-    pub restarted : IsRestart same elect (stored_facts stored entries) (uncut start) (Ok tt) m
+    pub restarted : IsRestart same elect (stored_facts stored entries) (whole_restart start) (Ok tt) m
 
   -- some are lost; or none is, and its restart is refused, and leaves it as it was
   abbrev pub IsNotResumed : Stored → List (ArtifactFacts D) → StartFacts K L D → ResumeError → Type 0
   IsNotResumed stored entries start error.EntriesLost = has_lost stored entries ≡ true
   IsNotResumed stored entries start (error.Recover e) =
       (has_lost stored entries ≡ false)
-      × IsRestart same elect (stored_facts stored entries) (uncut start) (Err e) (stored_facts stored entries)
+      × IsRestart same elect (stored_facts stored entries) (whole_restart start) (Err e) (stored_facts stored entries)

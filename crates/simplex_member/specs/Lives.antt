@@ -39,8 +39,8 @@ module _ {K D : Type 0} where
 
 module _ {K L D : Type 0} where
   -- the record stays, and what is known of it
-  abbrev pub fallen : MemberFacts K L D → MemberFacts K L D
-  fallen m = record m { life = None; openings = no_openings }
+  abbrev pub without_life : MemberFacts K L D → MemberFacts K L D
+  without_life m = record m { life = None; openings = no_openings }
 
   -- its record is as it was, with more behind it
   abbrev pub HasGrown : MemberFacts K L D → MemberFacts K L D → Type 0
@@ -73,7 +73,7 @@ module _ {K L D : Type 0} (same : D → D → Bool) (elect : Elect L) where
   Answers x m call told left =
       ((told ≡ reply_of x m.openings call) × (left ≡ left_of x m call))
       ⊎ ((may_want x call && is_allowed x m.openings call ≡ true) × (told ≡ Refused fault.OutOfMemory)
-      × ((left ≡ m) ⊎ ((fault_of x call ≡ None) × (may_fall call ≡ true) × (left ≡ fallen m))))
+      × ((left ≡ m) ⊎ ((fault_of x call ≡ None) × (may_fall call ≡ true) × (left ≡ without_life m))))
 
   abbrev pub AnswersAlive : Option (Facts K L D) → MemberFacts K L D → CallFacts D → Told K D → MemberFacts K L D → Type 0
   AnswersAlive None m call told left = (told ≡ Refused fault.Failed) × (left ≡ m)

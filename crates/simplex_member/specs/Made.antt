@@ -40,8 +40,8 @@ module _ {K L D : Type 0} (same : D → D → Bool) (elect : Elect L) where
       x.me
 
 -- what is newly there
-abbrev pub newly : {D : Type 0} → Bool → ArtifactFacts D → List (ArtifactFacts D)
-newly is_new e = if is_new then e ∷ [] else []
+abbrev pub if_new : {D : Type 0} → Bool → ArtifactFacts D → List (ArtifactFacts D)
+if_new is_new e = if is_new then e ∷ [] else []
 
 -- a vote that is no repeat
 abbrev pub first_vote : {D : Type 0} → Option (Bool × ArtifactFacts D) → List (ArtifactFacts D)
@@ -127,11 +127,11 @@ module _ {K L D : Type 0} (same : D → D → Bool) (elect : Elect L) where
 
   -- what the record grows by: certificates that are newly added, a view's first verdict, votes that are no repeat
   abbrev pub recorded_by : Facts K L D → CallFacts D → List (ArtifactFacts D)
-  recorded_by x (AddNotarization c) = newly (notarization_added same elect x c).0 (Accepted (Notarized c))
-  recorded_by x (AddNullification c _) = newly (nullification_added x c) (Accepted (Nullified c))
-  recorded_by x (AddFinalization c _) = newly (finalization_added same elect x c).0 (Accepted (Finalized c))
+  recorded_by x (AddNotarization c) = if_new (notarization_added same elect x c).0 (Accepted (Notarized c))
+  recorded_by x (AddNullification c _) = if_new (nullification_added x c) (Accepted (Nullified c))
+  recorded_by x (AddFinalization c _) = if_new (finalization_added same elect x c).0 (Accepted (Finalized c))
   recorded_by x (ConstructNotarize v) = vote_entry (notarize_vote same elect x v)
-  recorded_by x (Certified v success _) = newly (is_first_verdict x v) (Verdict (round_number x v) success)
+  recorded_by x (Certified v success _) = if_new (is_first_verdict x v) (Verdict (round_number x v) success)
   recorded_by x (ConstructNullify v) = first_vote (nullify_vote x v)
   recorded_by x (ConstructFinalize v) = vote_entry (finalize_vote elect x v)
   recorded_by x _ = []

@@ -30,39 +30,39 @@ as_artifact (Accepted (Finalized c)) = artifact.Finalization (record { proposal 
 
 module _ {K L D : Type 0} (same : D → D → Bool) (elect : Elect L) where
   -- a certificate is added before it is replayed
-  abbrev pub added : Facts K L D → ℕ → ArtifactFacts D → Facts K L D
-  added x now (Accepted (Notarized c)) = after_add_notarization same elect x c
-  added x now (Accepted (Nullified c)) = after_add_nullification elect x c now
-  added x now (Accepted (Finalized c)) = after_add_finalization same elect x c now
-  added x now _ = x
+  abbrev pub after_adding : Facts K L D → ℕ → ArtifactFacts D → Facts K L D
+  after_adding x now (Accepted (Notarized c)) = after_add_notarization same elect x c
+  after_adding x now (Accepted (Nullified c)) = after_add_nullification elect x c now
+  after_adding x now (Accepted (Finalized c)) = after_add_finalization same elect x c now
+  after_adding x now _ = x
 
   -- an entry is replayed
-  abbrev pub replayed : Facts K L D → ArtifactFacts D → Facts K L D
-  replayed x e = after_replayed same elect x (as_artifact e)
+  abbrev pub after_replaying : Facts K L D → ArtifactFacts D → Facts K L D
+  after_replaying x e = after_replayed same elect x (as_artifact e)
 
 module _ {K L D : Type 0} (elect : Elect L) where
   -- a verdict is given after it was replayed
-  abbrev pub given : Facts K L D → ℕ → ArtifactFacts D → Facts K L D
-  given x now (Verdict round success) = after_certified elect x round.view success now
-  given x now _ = x
+  abbrev pub after_verdict_of : Facts K L D → ℕ → ArtifactFacts D → Facts K L D
+  after_verdict_of x now (Verdict round success) = after_certified elect x round.view success now
+  after_verdict_of x now _ = x
 
 module _ {K L D : Type 0} (same : D → D → Bool) (elect : Elect L) where
   -- an entry is taken again
-  abbrev pub retaken : Facts K L D → ℕ → ArtifactFacts D → Facts K L D
-  retaken x now e = given elect (replayed same elect (added same elect x now e) e) now e
+  abbrev pub after_entry : Facts K L D → ℕ → ArtifactFacts D → Facts K L D
+  after_entry x now e = after_verdict_of elect (after_replaying same elect (after_adding same elect x now e) e) now e
 
   -- but one below the views that are kept is passed over
-  unfoldable pub taken : Facts K L D → ℕ → ArtifactFacts D → Facts K L D
-  taken x now e = if nat_lt (entry_view e) (min_active x) then x else retaken x now e
+  unfoldable pub after_kept_entry : Facts K L D → ℕ → ArtifactFacts D → Facts K L D
+  after_kept_entry x now e = if nat_lt (entry_view e) (min_active x) then x else after_entry x now e
 
   -- the entries are taken in order
-  abbrev pub all_taken : Facts K L D → ℕ → List (ArtifactFacts D) → Facts K L D
-  all_taken x now [] = x
-  all_taken x now (e ∷ rest) = all_taken (taken x now e) now rest
+  abbrev pub after_entries : Facts K L D → ℕ → List (ArtifactFacts D) → Facts K L D
+  after_entries x now [] = x
+  after_entries x now (e ∷ rest) = after_entries (after_kept_entry x now e) now rest
 
   -- a state that knows nothing yet sets the floor, and takes the record
-  unfoldable pub recovered : Facts K L D → FloorFacts D → ℕ → List (ArtifactFacts D) → Facts K L D
-  recovered x floor now entries = all_taken (after_set_floor same elect x floor now) now entries
+  unfoldable pub recovered_state : Facts K L D → FloorFacts D → ℕ → List (ArtifactFacts D) → Facts K L D
+  recovered_state x floor now entries = after_entries (after_set_floor same elect x floor now) now entries
 
 module _ {K L D : Type 0} (same : D → D → Bool) where
   -- why no state is made, but for want of memory: the first broken rule, or else a deadline that passes 64 bits
@@ -78,14 +78,14 @@ module _ {D : Type 0} where
   is_finalization _ = false
 
   -- a finalization is recorded, unless one of its view stands there
-  abbrev pub with_finalization : List (ArtifactFacts D) → Option (ProposalFacts D) → List (ArtifactFacts D)
-  with_finalization entries None = entries
-  with_finalization entries (Some c) =
+  abbrev pub with_finalization_entry : List (ArtifactFacts D) → Option (ProposalFacts D) → List (ArtifactFacts D)
+  with_finalization_entry entries None = entries
+  with_finalization_entry entries (Some c) =
       if stands c.proposal.round.view is_finalization entries then entries else entries ++ Accepted (Finalized c) ∷ []
 
   -- the floor's finalization is
   abbrev pub with_floor : List (ArtifactFacts D) → FloorFacts D → List (ArtifactFacts D)
-  with_floor entries floor = with_finalization entries (floor_answer floor)
+  with_floor entries floor = with_finalization_entry entries (floor_answer floor)
 
 module _ {K L D : Type 0} where
   -- if it is a verdict, it may be given
@@ -97,8 +97,8 @@ module _ {S K L D G C : Type 0} (bytes_of : C → List ℕ) (same : D → D → 
   -- each step of taking an artifact again is one that the state allows
   pub record TakesEntry (x : Facts K L D) (now : ℕ) (a : Artifact S D K G C) : Type 0 where
     pub kept : takes_round x (artifact_round a) ≡ true
-    pub replays : TakesReplay (added same elect x now (artifact_facts bytes_of a)) a
-    pub gives : GivesVerdict (replayed same elect (added same elect x now (artifact_facts bytes_of a)) (artifact_facts bytes_of a)) (artifact_facts bytes_of a)
+    pub replays : TakesReplay (after_adding same elect x now (artifact_facts bytes_of a)) a
+    pub gives : GivesVerdict (after_replaying same elect (after_adding same elect x now (artifact_facts bytes_of a)) (artifact_facts bytes_of a)) (artifact_facts bytes_of a)
 
   -- its views are small, and a state that keeps its view allows it
   pub record TakesNext (x : Facts K L D) (now : ℕ) (a : Artifact S D K G C) : Type 0 where
@@ -108,4 +108,4 @@ module _ {S K L D G C : Type 0} (bytes_of : C → List ℕ) (same : D → D → 
   -- so does each entry in its turn
   abbrev pub TakesEntries : Facts K L D → ℕ → List (Artifact S D K G C) → Type 0
   TakesEntries x now [] = Unit {0}
-  TakesEntries x now (a ∷ rest) = TakesNext x now a × TakesEntries (taken same elect x now (artifact_facts bytes_of a)) now rest
+  TakesEntries x now (a ∷ rest) = TakesNext x now a × TakesEntries (after_kept_entry same elect x now (artifact_facts bytes_of a)) now rest

@@ -3,7 +3,7 @@ use Rattle.std.specs.Prelude.{◌≡◌, Bool, List, Some, None}
 use Rattle.simplex_types.specs.Certificates.{ArtifactFacts}
 use Rattle.simplex_voter.specs.Facts.{Facts, Elect}
 use Rattle.simplex_member.specs.declared.member.error.RecoverError.{RecoverError}
-use Rattle.simplex_member.specs.Recovery.{recovered, recover_error}
+use Rattle.simplex_member.specs.Recovery.{recovered_state, recover_error}
 use Rattle.simplex_member.specs.Restarts.{IsByView}
 use Rattle.simplex_member.specs.Start.{StartFacts, new_state}
 
@@ -22,4 +22,4 @@ module _ {K L D : Type 0} (same : D → D → Bool) (elect : Elect L) where
       (copy : List (ArtifactFacts D))
       × IsByView entries copy
       × (recover_error same (new_state start.setup) start.floor start.now copy ≡ None)
-      × (x ≡ recovered same elect (new_state start.setup) start.floor start.now copy)
+      × (x ≡ recovered_state same elect (new_state start.setup) start.floor start.now copy)

@@ -8,10 +8,10 @@ use Rattle.simplex_member.specs.declared.member.restart.Restart.{Restart}
 use Rattle.simplex_member.specs.declared.member.error.RecoverError.{RecoverError}
 use Rattle.simplex_member.specs.declared.member.error.RecoverError.TheVariants as error
 use Rattle.simplex_member.specs.Entries.{entry_view}
-use Rattle.simplex_member.specs.Cuts.{without_last, pruned}
+use Rattle.simplex_member.specs.Cuts.{without_last, pruned_entries}
 use Rattle.simplex_member.specs.Openings.{no_openings}
-use Rattle.simplex_member.specs.Lives.{MemberFacts, fallen}
-use Rattle.simplex_member.specs.Recovery.{recovered, recover_error, with_floor}
+use Rattle.simplex_member.specs.Lives.{MemberFacts, without_life}
+use Rattle.simplex_member.specs.Recovery.{recovered_state, recover_error, with_floor}
 use Rattle.simplex_member.specs.Start.{StartFacts, start_facts, new_state}
 
 -- what a restart is asked for: at most so many of the last entries are dropped, whether the record is pruned then, and how
@@ -43,16 +43,16 @@ module _ {K L D : Type 0} where
   closed_at m entries = record m { entries = entries; closed = length entries; is_pruned = true }
 
   -- what a restart leaves of the record, before a state is made from it
-  abbrev pub cut : MemberFacts K L D → ℕ → Bool → MemberFacts K L D
-  cut m drop prune =
+  abbrev pub cut_member : MemberFacts K L D → ℕ → Bool → MemberFacts K L D
+  cut_member m drop prune =
       let left = without_last m.closed drop m.entries in
-      if prune then closed_at m (pruned m.retention left) else record m { entries = left }
+      if prune then closed_at m (pruned_entries m.retention left) else record m { entries = left }
 
 module _ {K L D : Type 0} (same : D → D → Bool) (elect : Elect L) where
   -- a new life from a copy of the record, with the floor's finalization in the record
   abbrev pub new_life : MemberFacts K L D → StartFacts K L D → List (ArtifactFacts D) → MemberFacts K L D
   new_life m start copy = record m {
-    life = Some (recovered same elect (new_state start.setup) start.floor start.now copy);
+    life = Some (recovered_state same elect (new_state start.setup) start.floor start.now copy);
     openings = no_openings;
     entries = with_floor m.entries start.floor;
     retention = start.setup.settings.view_retention;
@@ -65,19 +65,19 @@ module _ {K L D : Type 0} (same : D → D → Bool) (elect : Elect L) where
       MatchOption
       (recover_error same (new_state start.setup) start.floor start.now copy)
       ((result ≡ Ok tt) × (left ≡ new_life m start copy))
-      (λ e. (result ≡ Err e) × (left ≡ fallen m))
+      (λ e. (result ≡ Err e) × (left ≡ without_life m))
 
   -- how it goes on from its record by view; or a growth was refused
   abbrev pub GoesOn : MemberFacts K L D → StartFacts K L D → Result (Unit {0}) RecoverError → MemberFacts K L D → Type 0
   GoesOn m start result left =
-      ((result ≡ Err error.OutOfMemory) × (left ≡ fallen m))
+      ((result ≡ Err error.OutOfMemory) × (left ≡ without_life m))
       ⊎ ((copy : List (ArtifactFacts D)) × IsByView m.entries copy × GoesOnFrom m start copy result left)
 
   -- refused at once, with nothing changed, where more views are to be kept of a pruned record; else it goes on from what
   -- is left of its record
   abbrev pub IsRestartWhere : Bool → MemberFacts K L D → RestartFacts K L D → Result (Unit {0}) RecoverError → MemberFacts K L D → Type 0
   IsRestartWhere true m r result left = (result ≡ Err error.RetentionGrown) × (left ≡ m)
-  IsRestartWhere false m r result left = GoesOn (cut m r.drop r.prune) r.start result left
+  IsRestartWhere false m r result left = GoesOn (cut_member m r.drop r.prune) r.start result left
 
   -- a restart of a member, what it answers and what is left of the member
   unfoldable pub IsRestart : MemberFacts K L D → RestartFacts K L D → Result (Unit {0}) RecoverError → MemberFacts K L D → Type 0

@@ -10,7 +10,7 @@ use Rattle.simplex_member.specs.Calls.{CallFacts, Told, Restarted, NotRestarted,
 use Rattle.simplex_member.specs.Lives.{MemberFacts, IsCall}
 use Rattle.simplex_member.specs.Recovery.{recover_error}
 use Rattle.simplex_member.specs.Restarts.{RestartFacts, restart_facts, IsRestart}
-use Rattle.simplex_member.specs.Start.{StartFacts, started, new_state}
+use Rattle.simplex_member.specs.Start.{StartFacts, started_member, new_state}
 
 -- a step of a run: a call, or a restart
 pub data StepFacts (K L D : Type 0) : Type 0 where
@@ -80,11 +80,11 @@ module _ {K L D : Type 0} (same : D → D → Bool) (elect : Elect L) where
   IsRunFrom start steps replies =
       (recover_error same (new_state start.setup) start.floor start.now [] ≡ None)
       × (end : MemberFacts K L D)
-      × IsRun (started same elect (new_state start.setup) start.floor start.now) steps replies end
+      × IsRun (started_member same elect (new_state start.setup) start.floor start.now) steps replies end
 
   -- the start is refused, or a restart; or there was no memory
   unfoldable pub EndsRunFrom : StartFacts K L D → List (StepFacts K L D) → RecoverError → Type 0
   EndsRunFrom start steps found =
       (found ≡ error.OutOfMemory)
       ⊎ (recover_error same (new_state start.setup) start.floor start.now [] ≡ Some found)
-      ⊎ EndsRun (started same elect (new_state start.setup) start.floor start.now) steps found
+      ⊎ EndsRun (started_member same elect (new_state start.setup) start.floor start.now) steps found

@@ -56,8 +56,8 @@ start_facts me members terms elects_early bytes_of start = record {
 }
 
 -- a member whose state sets the floor, and whose record is the floor's finalization
-abbrev pub started : {K L D : Type 0} → (D → D → Bool) → Elect L → Facts K L D → FloorFacts D → ℕ → MemberFacts K L D
-started same elect x floor now = record {
+abbrev pub started_member : {K L D : Type 0} → (D → D → Bool) → Elect L → Facts K L D → FloorFacts D → ℕ → MemberFacts K L D
+started_member same elect x floor now = record {
   life = Some (after_set_floor same elect x floor now);
   openings = no_openings;
   entries = with_floor [] floor;

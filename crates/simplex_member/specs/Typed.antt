@@ -5,7 +5,7 @@ use Rattle.simplex_round.specs.Round.{is_nullify, is_finalize}
 use Rattle.simplex_voter.specs.Facts.{Facts, Elect, round_of}
 use Rattle.simplex_member.specs.Allowed.{is_allowed, fault_of}
 use Rattle.simplex_member.specs.Calls.{CallFacts, AddNotarization, AddNullification, AddFinalization, SetProposal, TryPropose, Proposed, SupersedeProposalRequest, PendingHandoffAbandonment, ReleaseProposalRequest, TryVerify, Verified, VerificationFailed, ConstructNotarize, CertifyCandidates, SetCertifyHandle, Certified, ConstructNullify, ConstructFinalize, BroadcastNotarization, BroadcastNullification, BroadcastFinalization, GetBestCertificate, TriggerTimeout, NextTimeout, Prune, Told, Added, AddedNullification, Judged, Nullify, Finalize, Notarize, Handed, Dropped, Requested, Standing, Answered, Abandoned, Candidates, Released, Triggered, TimesOut, Done, Refused, NotAllowed}
-use Rattle.simplex_member.specs.Lives.{MemberFacts, fallen, with_call}
+use Rattle.simplex_member.specs.Lives.{MemberFacts, without_life, with_call}
 use Rattle.simplex_member.specs.Made.{answer}
 use Rattle.simplex_member.specs.declared.member.refusal.Refusal.{Refusal}
 use Rattle.simplex_member.specs.declared.member.refusal.Refusal.TheVariants as refusal
@@ -62,7 +62,7 @@ module _ {K D : Type 0} where
 module _ {K L D : Type 0} where
   -- a refusal changes nothing; but after want of memory the member may have failed
   abbrev pub Keeps : MemberFacts K L D → Refusal → MemberFacts K L D → Type 0
-  Keeps m (refusal.Fault fault.OutOfMemory) left = (left ≡ m) ⊎ (left ≡ fallen m)
+  Keeps m (refusal.Fault fault.OutOfMemory) left = (left ≡ m) ⊎ (left ≡ without_life m)
   Keeps m _ left = left ≡ m
 
 module _ {K L D : Type 0} (same : D → D → Bool) (elect : Elect L) where

@@ -14,7 +14,7 @@ use Rattle.simplex_voter.specs.Facts.{Settings, new_facts}
 use Rattle.simplex_voter.specs.StateView.{settings_of}
 use Rattle.simplex_voter.specs.declared.voter.state.Config.{Config}
 use Rattle.simplex_member.specs.declared.member.start.Start.{Start}
-use Rattle.simplex_member.specs.Start.{StartFacts, start_facts, started, new_state}
+use Rattle.simplex_member.specs.Start.{StartFacts, start_facts, started_member, new_state}
 use Rattle.simplex_program.specs.declared.network.Network.{Network}
 use Rattle.simplex_program.specs.Plain.{PlainMember, same_payload, plain_leader, plain_bytes}
 
@@ -74,4 +74,4 @@ plain_start start = start_facts signer_of keys_of terms_of (λ _. true) plain_by
 abbrev pub StartsAtGenesis : Network → PlainMember → Type 0
 StartsAtGenesis n m =
     (start : StartFacts PlainKey PlainElector PlainDigest)
-    × IsGenesisStart n 0 start × (m ≡ started same_payload plain_leader (new_state start.setup) start.floor start.now)
+    × IsGenesisStart n 0 start × (m ≡ started_member same_payload plain_leader (new_state start.setup) start.floor start.now)

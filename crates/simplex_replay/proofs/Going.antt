@@ -2,7 +2,7 @@
 use Rattle.std.proofs.Common.{◌≡◌, ℕ, Bool, true, false, nat_lt, cond, List, [], ◌∷◌, ◌++◌, max, refl, ap, ◌∙◌}
 use Rattle.simplex_types.specs.Terms.{term_end}
 use Rattle.simplex_resolver.specs.Facts.{Facts, term_length, last_finalized, empty}
-use Rattle.simplex_resolver.specs.Steps.{Call, Nullification, Notarization, Finalization, Verdict, Replayed, after, after_scan, after_raise, before_scan, with_finalization, without_finalized, with_certified}
+use Rattle.simplex_resolver.specs.Steps.{Call, Nullification, Notarization, Finalization, Verdict, Replayed, after, after_scan, after_raise, before_scan, with_kept_finalization, without_finalized, with_certified}
 use Rattle.simplex_resolver.specs.Repair.{facts_of}
 use Rattle.simplex_replay.specs.Calls.{all_after}
 
@@ -32,7 +32,7 @@ raise_goes_on x v = either_way (nat_lt x.floor v) _ x (lasting x) refl refl
 goes_before_scan : (x : Facts) (c : Call) → lasting (before_scan x c) ≡ lasting x
 goes_before_scan x (Nullification v e) = either_way (nat_lt (last_finalized x) (term_end (term_length x) v)) _ _ (lasting x) refl refl
 goes_before_scan x (Notarization v) = either_way (nat_lt (last_finalized x) v) _ _ (lasting x) refl refl
-goes_before_scan x (Finalization v e) = raise_goes_on (without_finalized (with_finalization x v e) (max (last_finalized x) v)) v
+goes_before_scan x (Finalization v e) = raise_goes_on (without_finalized (with_kept_finalization x v e) (max (last_finalized x) v)) v
 goes_before_scan x (Verdict v e true) =
     raise_goes_on (with_certified x v e) v ∙ either_way (nat_lt (last_finalized x) v) _ x (lasting x) refl refl
 goes_before_scan x (Verdict v e false) = either_way (nat_lt (last_finalized x) v) _ x (lasting x) refl refl

@@ -8,7 +8,7 @@ use Rattle.simplex_types.specs.ByTerm.{is_covered, TermMap}
 use Rattle.simplex_types.specs.declared.reasons.FetchReason.TheVariants.{MissingNullification}
 use Rattle.simplex_resolver.specs.declared.resolver.effect.Effect.{Effect}
 use Rattle.simplex_resolver.specs.declared.resolver.effect.Effect.TheVariants.{Fetch}
-use Rattle.simplex_resolver.specs.Facts.{anchors, uncovered, end_of_scan}
+use Rattle.simplex_resolver.specs.Facts.{anchors, uncovered_anchors, end_of_scan}
 use Rattle.simplex_resolver.specs.Steps.{missing_fetches}
 use Rattle.simplex_resolver.proofs.Terms.{AreTerms, terms}
 
@@ -80,10 +80,10 @@ anchors-none t a end h = ap (filter (λ v. (v == term_start t v) || v == a)) (ra
 
 -- one turn of a scan
 pub uncovered-next : (m : TermMap (List ℕ)) (a end : ℕ) → 0 < m.term_length → 1 ≤ a → a < end
-    → uncovered m a end ≡ cond (not (is_covered m a)) (a ∷ uncovered m (next_term_start m.term_length a) end) (uncovered m (next_term_start m.term_length a) end)
+    → uncovered_anchors m a end ≡ cond (not (is_covered m a)) (a ∷ uncovered_anchors m (next_term_start m.term_length a) end) (uncovered_anchors m (next_term_start m.term_length a) end)
 uncovered-next m a end h low more = ap (filter (λ v. not (is_covered m v))) (anchors-next m.term_length a end h low more)
 
-pub uncovered-none : (m : TermMap (List ℕ)) (a end : ℕ) → end ≤ a → uncovered m a end ≡ []
+pub uncovered-none : (m : TermMap (List ℕ)) (a end : ℕ) → end ≤ a → uncovered_anchors m a end ≡ []
 uncovered-none m a end h = ap (filter (λ v. not (is_covered m v))) (anchors-none m.term_length a end h)
 
 pub end_of_scan-next : (t a end : ℕ) → 0 < t → 1 ≤ a → a < end → end_of_scan t (next_term_start t a) end ≡ end_of_scan t a end
@@ -92,16 +92,16 @@ end_of_scan-next t a end h low more = end-next (term_start t) (term_end t) (term
 -- one turn of the loop of a scan: what it has and what is to come stays the same
 pub turn : (bare : Bool) (cause a next end : ℕ) (m : TermMap (List ℕ)) (items items' all : List Effect) → 0 < m.term_length → 1 ≤ a → a < end
     → next ≡ next_term_start m.term_length a → not (is_covered m a) ≡ bare → items' ≡ items ++ cond bare (Fetch a cause MissingNullification ∷ []) []
-    → items ++ missing_fetches cause (uncovered m a end) ≡ all
-    → items' ++ missing_fetches cause (uncovered m next end) ≡ all
+    → items ++ missing_fetches cause (uncovered_anchors m a end) ≡ all
+    → items' ++ missing_fetches cause (uncovered_anchors m next end) ≡ all
 turn true cause a next end m items items' all h low more to is grown before =
-    ap (λ xs. xs ++ missing_fetches cause (uncovered m next end)) grown
+    ap (λ xs. xs ++ missing_fetches cause (uncovered_anchors m next end)) grown
     ∙ append_assoc items (Fetch a cause MissingNullification ∷ []) _
-    ∙ ap (λ n. items ++ (Fetch a cause MissingNullification ∷ missing_fetches cause (uncovered m n end))) to
+    ∙ ap (λ n. items ++ (Fetch a cause MissingNullification ∷ missing_fetches cause (uncovered_anchors m n end))) to
     ∙ ap (λ vs. items ++ missing_fetches cause vs) (sym (uncovered-next m a end h low more ∙ cond-true (not (is_covered m a)) _ _ is))
     ∙ before
 turn false cause a next end m items items' all h low more to is grown before =
-    ap (λ xs. xs ++ missing_fetches cause (uncovered m next end)) (grown ∙ append-nil items)
-    ∙ ap (λ n. items ++ missing_fetches cause (uncovered m n end)) to
+    ap (λ xs. xs ++ missing_fetches cause (uncovered_anchors m next end)) (grown ∙ append-nil items)
+    ∙ ap (λ n. items ++ missing_fetches cause (uncovered_anchors m n end)) to
     ∙ ap (λ vs. items ++ missing_fetches cause vs) (sym (uncovered-next m a end h low more ∙ cond-false (not (is_covered m a)) _ _ is))
     ∙ before

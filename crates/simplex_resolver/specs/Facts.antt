@@ -65,8 +65,8 @@ abbrev pub anchors : ℕ → ℕ → ℕ → List ℕ
 anchors t first end = filter (λ v. is_term_start t v || v == first) (range_with_len first (end - first))
 
 -- the anchors among these that no nullification covers
-abbrev pub uncovered : TermMap (List ℕ) → ℕ → ℕ → List ℕ
-uncovered m first end = filter (λ v. not (is_covered m v)) (anchors m.term_length first end)
+abbrev pub uncovered_anchors : TermMap (List ℕ) → ℕ → ℕ → List ℕ
+uncovered_anchors m first end = filter (λ v. not (is_covered m v)) (anchors m.term_length first end)
 
 -- where a scan ends: at the first anchor that is not below end
 abbrev pub end_of_scan : ℕ → ℕ → ℕ → ℕ

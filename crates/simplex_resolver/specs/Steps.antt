@@ -17,7 +17,7 @@ use Rattle.simplex_types.specs.declared.reasons.Kind.TheVariants.{Nullification 
 use Rattle.simplex_types.specs.declared.reasons.FetchReason.TheVariants.{MissingNullification, CertificationFailed}
 use Rattle.simplex_resolver.specs.declared.resolver.effect.Effect.{Effect}
 use Rattle.simplex_resolver.specs.declared.resolver.effect.Effect.TheVariants.{Fetch, Settled, Finalized, Raised}
-use Rattle.simplex_resolver.specs.Facts.{Facts, term_length, last_finalized, uncovered, is_term_start, end_of_scan}
+use Rattle.simplex_resolver.specs.Facts.{Facts, term_length, last_finalized, uncovered_anchors, is_term_start, end_of_scan}
 
 -- what a resolver is told: a certificate of a view with its encoding, a verdict on a notarization,
 -- or the end of the replay. Of a notarization the view alone matters until a verdict brings it again
@@ -46,7 +46,7 @@ scan_start x = max x.scanned (x.floor + 1)
 
 -- the anchors that a scan finds uncovered
 abbrev pub missing : Facts → List ℕ
-missing x = uncovered x.nullifications (scan_start x) x.current
+missing x = uncovered_anchors x.nullifications (scan_start x) x.current
 
 abbrev pub missing_fetches : ℕ → List ℕ → List Effect
 missing_fetches cause vs = map (λ v. Fetch v cause MissingNullification) vs
@@ -79,15 +79,15 @@ raise_effects x v = if nat_lt x.floor v then Raised v ∷ [] else []
 abbrev pub insert_new : {V : Type 0} → FinMap nat_cmp V → ℕ → V → FinMap nat_cmp V
 insert_new m v x = if map.contains_key m v then m else map.insert m v x
 
-abbrev pub with_nullification : Facts → ℕ → List ℕ → Facts
-with_nullification x v encoding =
+abbrev pub with_kept_nullification : Facts → ℕ → List ℕ → Facts
+with_kept_nullification x v encoding =
     record x { nullifications = record x.nullifications { by_view = insert_new x.nullifications.by_view v encoding } }
 
 -- a nullification is kept where its term ends above the last finalized view
 abbrev pub after_nullification : Facts → ℕ → List ℕ → Facts
 after_nullification x v encoding =
     if nat_lt (last_finalized x) (term_end (term_length x) v)
-    then record (with_nullification x v encoding) { current = max x.current v }
+    then record (with_kept_nullification x v encoding) { current = max x.current v }
     else record x { current = max x.current v }
 
 abbrev pub nullification_effects : Facts → ℕ → List Effect
@@ -108,8 +108,8 @@ notarization_effects x v =
     if nat_lt (last_finalized x) v && not (map.contains_key x.uncertifiable v) then Settled OfNotarization v v ∷ [] else []
 
 -- the highest finalization is kept
-abbrev pub with_finalization : Facts → ℕ → List ℕ → Facts
-with_finalization x v encoding = record x {
+abbrev pub with_kept_finalization : Facts → ℕ → List ℕ → Facts
+with_kept_finalization x v encoding = record x {
   current = max x.current v;
   finalization = if nat_lt (last_finalized x) v then Some (v, encoding) else x.finalization;
 }
@@ -124,7 +124,7 @@ without_finalized x finalized = record x {
 
 abbrev pub after_finalization : Facts → ℕ → List ℕ → Facts
 after_finalization x v encoding =
-    after_raise (without_finalized (with_finalization x v encoding) (max (last_finalized x) v)) v
+    after_raise (without_finalized (with_kept_finalization x v encoding) (max (last_finalized x) v)) v
 
 abbrev pub finalization_effects : Facts → ℕ → List Effect
 finalization_effects x v = Finalized (max (last_finalized x) v) ∷ raise_effects x v

@@ -12,7 +12,7 @@ use Rattle.std.proofs.Math.Nat.{div-mul-le_self, lt-div-mul-add}
 use Rattle.std.proofs.lemmas.Nat.{div-mul-add}
 use Rattle.simplex_types.specs.Tracked.{below, at_or_above, last_entry}
 use Rattle.simplex_types.specs.Terms.{term_start, next_term_start, covers}
-use Rattle.simplex_types.specs.ByTerm.{TermMap, joined, IsByTerm, is_covered, Gapless, map_of_terms}
+use Rattle.simplex_types.specs.ByTerm.{TermMap, entries_by_view, IsByTerm, is_covered, Gapless, map_of_terms}
 use Rattle.simplex_types.proofs.Entries.{Rises, find_above}
 use Rattle.simplex_types.proofs.Maps.{entries-retain_keys, map_rises, get-kept}
 use Rattle.simplex_types.proofs.Joined.{covered_in, none_covers, find_at_key, find_other}
@@ -45,10 +45,10 @@ module _ {V : Type 0} where
   any_last m p = ap (λ es. is_some (slice_get es (length es - 1))) (entries-retain_keys m p) ∙ some_last p (fin.entries m)
 
   pub covered_in_term : (length : ℕ) (t : FinMap nat_cmp (FinMap nat_cmp V)) (v : ℕ) (term : FinMap nat_cmp V) → IsByTerm length t → fin.get t (term_start length v) ≡ Some term → is_some (last_entry (below term (v + 1))) ≡ is_covered (map_of_terms length t) v
-  covered_in_term length t v term by_term here = ap (λ m. is_some (last_entry m)) (covered_in length t by_term v term here) ∙ any_last (joined t) (λ u. covers length u v)
+  covered_in_term length t v term by_term here = ap (λ m. is_some (last_entry m)) (covered_in length t by_term v term here) ∙ any_last (entries_by_view t) (λ u. covers length u v)
 
   pub uncovered_in_none : (length : ℕ) (t : FinMap nat_cmp (FinMap nat_cmp V)) (v : ℕ) → IsByTerm length t → fin.get t (term_start length v) ≡ None → is_covered (map_of_terms length t) v ≡ false
-  uncovered_in_none length t v by_term none = sym (ap is_some (none_covers length t by_term v none) ∙ any_last (joined t) (λ u. covers length u v))
+  uncovered_in_none length t v by_term none = sym (ap is_some (none_covers length t by_term v none) ∙ any_last (entries_by_view t) (λ u. covers length u v))
 
 any_on : (p q : ℕ → Bool) (us : List ℕ) → ((u : ℕ) → p u ≡ true → q u ≡ true) → list_any p us ≡ true → list_any q us ≡ true
 any_on p q [] f h = h

@@ -10,7 +10,7 @@ use Rattle.std.proofs.lemmas.Bool.{cases_eq, cases_lt, cases_order, lt-ltb, le-l
 use Rattle.simplex_types.specs.Tracked.{below, at_or_above, last_entry, after_insert}
 use Rattle.simplex_types.specs.declared.types.fault.AllocFailed.{AllocFailed}
 use Rattle.simplex_types.specs.Terms.{term_start, term_end, covers}
-use Rattle.simplex_types.specs.ByTerm.{TermMap, in_term, joined, IsByTerm}
+use Rattle.simplex_types.specs.ByTerm.{TermMap, in_term, entries_by_view, IsByTerm}
 use Rattle.simplex_types.proofs.Entries.{AllAbove, Rises, find_above}
 use Rattle.simplex_types.proofs.Maps.{is_eq-nat_cmp, get-insert, get-kept, same_maps, map_rises, made_empty}
 
@@ -120,7 +120,7 @@ module _ {V : Type 0} (length : ℕ) where
 
   module _ (t : FinMap nat_cmp (FinMap nat_cmp V)) (by_term : IsByTerm length t) where
     -- a view is looked up in the map of its term
-    pub get_joined : (q : ℕ) → map.get (joined t) q ≡ in_term (map.get t (term_start length q)) q
+    pub get_joined : (q : ℕ) → map.get (entries_by_view t) q ≡ in_term (map.get t (term_start length q)) q
     get_joined q =
         let placed : Placed length (map.entries t) = λ start view some. by_term start view (rw (map.get-entries t start) some) in
         map.get-from_entries nat_cmp_total _ q ∙ find_joined (map.entries t) q (map_rises t) placed ∙ ap (λ o. in_term o q) (sym (map.get-entries t (term_start length q)))
@@ -133,44 +133,44 @@ module _ {V : Type 0} (length : ℕ) where
     ]
 
     -- the entries that cover v are those of v's term that are not above v
-    pub covered_in : (v : ℕ) (term : FinMap nat_cmp V) → map.get t (term_start length v) ≡ Some term → below term (v + 1) ≡ map.retain_keys (joined t) (λ u. covers length u v)
+    pub covered_in : (v : ℕ) (term : FinMap nat_cmp V) → map.get t (term_start length v) ≡ Some term → below term (v + 1) ≡ map.retain_keys (entries_by_view t) (λ u. covers length u v)
     covered_in v term here = same_maps _ _ (λ q.
         get-kept term (λ k. ltb k (v + 1)) q
         ∙ elim (cases_lt v q) [
-          | inl above ↦ rw (le-ltb q (v + 1) (omega arith), get-kept (joined t) (λ u. covers length u v) q, lt-leb q v above) refl
+          | inl above ↦ rw (le-ltb q (v + 1) (omega arith), get-kept (entries_by_view t) (λ u. covers length u v) q, lt-leb q v above) refl
           | inr not_above ↦ elim (cases_eq (term_start length q) (term_start length v)) [
-            | inl same ↦ rw (lt-ltb q (v + 1) (omega arith), get-kept (joined t) (λ u. covers length u v) q, le-leb q v not_above, eq-eqb _ _ same, get_joined q, same, here) refl
+            | inl same ↦ rw (lt-ltb q (v + 1) (omega arith), get-kept (entries_by_view t) (λ u. covers length u v) q, le-leb q v not_above, eq-eqb _ _ same, get_joined q, same, here) refl
             | inr other ↦
                 let none : map.get term q ≡ None = rw here at (nothing_elsewhere (term_start length v) q other) in
-                rw (lt-ltb q (v + 1) (omega arith), get-kept (joined t) (λ u. covers length u v) q, le-leb q v not_above, ne_eqb _ _ other) none
+                rw (lt-ltb q (v + 1) (omega arith), get-kept (entries_by_view t) (λ u. covers length u v) q, le-leb q v not_above, ne_eqb _ _ other) none
           ]
         ])
 
     -- the same of those below v
-    pub covered_below_in : (v : ℕ) (term : FinMap nat_cmp V) → map.get t (term_start length v) ≡ Some term → below term v ≡ map.retain_keys (joined t) (λ u. ltb u v && covers length u v)
+    pub covered_below_in : (v : ℕ) (term : FinMap nat_cmp V) → map.get t (term_start length v) ≡ Some term → below term v ≡ map.retain_keys (entries_by_view t) (λ u. ltb u v && covers length u v)
     covered_below_in v term here = same_maps _ _ (λ q.
         get-kept term (λ k. ltb k v) q
         ∙ elim (cases_lt q v) [
-          | inr not_below ↦ rw (le-ltb q v not_below, get-kept (joined t) (λ u. ltb u v && covers length u v) q, le-ltb q v not_below) refl
+          | inr not_below ↦ rw (le-ltb q v not_below, get-kept (entries_by_view t) (λ u. ltb u v && covers length u v) q, le-ltb q v not_below) refl
           | inl lower ↦ elim (cases_eq (term_start length q) (term_start length v)) [
-            | inl same ↦ rw (lt-ltb q v lower, get-kept (joined t) (λ u. ltb u v && covers length u v) q, lt-ltb q v lower, le-leb q v (omega arith), eq-eqb _ _ same, get_joined q, same, here) refl
+            | inl same ↦ rw (lt-ltb q v lower, get-kept (entries_by_view t) (λ u. ltb u v && covers length u v) q, lt-ltb q v lower, le-leb q v (omega arith), eq-eqb _ _ same, get_joined q, same, here) refl
             | inr other ↦
                 let none : map.get term q ≡ None = rw here at (nothing_elsewhere (term_start length v) q other) in
-                rw (lt-ltb q v lower, get-kept (joined t) (λ u. ltb u v && covers length u v) q, lt-ltb q v lower, le-leb q v (omega arith), ne_eqb _ _ other) none
+                rw (lt-ltb q v lower, get-kept (entries_by_view t) (λ u. ltb u v && covers length u v) q, lt-ltb q v lower, le-leb q v (omega arith), ne_eqb _ _ other) none
           ]
         ])
 
-    pub none_covers : (v : ℕ) → map.get t (term_start length v) ≡ None → None ≡ last_entry (map.retain_keys (joined t) (λ u. covers length u v))
+    pub none_covers : (v : ℕ) → map.get t (term_start length v) ≡ None → None ≡ last_entry (map.retain_keys (entries_by_view t) (λ u. covers length u v))
     none_covers v none = last_of_none _ (λ q.
-        get-kept (joined t) (λ u. covers length u v) q
+        get-kept (entries_by_view t) (λ u. covers length u v) q
         ∙ elim (cases_eq (term_start length q) (term_start length v)) [
           | inl same ↦ rw (get_joined q, same, none) (either_none _)
           | inr other ↦ rw (ne_eqb _ _ other) (never (leb q v) _ _)
         ])
 
-    pub none_covers_below : (v : ℕ) → map.get t (term_start length v) ≡ None → None ≡ last_entry (map.retain_keys (joined t) (λ u. ltb u v && covers length u v))
+    pub none_covers_below : (v : ℕ) → map.get t (term_start length v) ≡ None → None ≡ last_entry (map.retain_keys (entries_by_view t) (λ u. ltb u v && covers length u v))
     none_covers_below v none = last_of_none _ (λ q.
-        get-kept (joined t) (λ u. ltb u v && covers length u v) q
+        get-kept (entries_by_view t) (λ u. ltb u v && covers length u v) q
         ∙ elim (cases_eq (term_start length q) (term_start length v)) [
           | inl same ↦ rw (get_joined q, same, none) (either_none _)
           | inr other ↦ rw (ne_eqb _ _ other) (never_either (ltb q v) (leb q v) _)
@@ -184,17 +184,17 @@ module _ {V : Type 0} (length : ℕ) where
     pub dropped_by_term : (x : ℕ) → IsByTerm length (at_or_above t x)
     dropped_by_term x s q some = by_term s q (kept_some (leb x s) _ (rw (dropped_at x s q) at some))
 
-    pub dropped : (x v : ℕ) → 0 < length → x ≡ (v - (length - 1)) + 1 → joined (at_or_above t x) ≡ map.retain_keys (joined t) (λ u. ltb v (term_end length u))
+    pub dropped : (x v : ℕ) → 0 < length → x ≡ (v - (length - 1)) + 1 → entries_by_view (at_or_above t x) ≡ map.retain_keys (entries_by_view t) (λ u. ltb v (term_end length u))
     dropped x v some is = same_maps _ _ (λ q.
         let s = term_start length q in
         get_joined (at_or_above t x) (dropped_by_term x) q ∙ dropped_at x s q
         ∙ ap (λ b. cond b (in_term (map.get t s) q) None) (ends_above x s v length some (omega arith) is)
-        ∙ sym (get-kept (joined t) (λ u. ltb v (term_end length u)) q ∙ ap (λ o. cond (ltb v (term_end length q)) o None) (get_joined t by_term q)))
+        ∙ sym (get-kept (entries_by_view t) (λ u. ltb v (term_end length u)) q ∙ ap (λ o. cond (ltb v (term_end length q)) o None) (get_joined t by_term q)))
 
 pub by_term_empty : (V : Type 0) (length : ℕ) → IsByTerm length (map.empty {X = FinMap nat_cmp V})
 by_term_empty V length start view some = absurd (false≢true (rw (map.get-empty {X = FinMap nat_cmp V} nat_cmp start) at some))
 
-pub joined_empty : (V : Type 0) → joined (map.empty {X = FinMap nat_cmp V}) ≡ map.empty
+pub joined_empty : (V : Type 0) → entries_by_view (map.empty {X = FinMap nat_cmp V}) ≡ map.empty
 joined_empty V = same_maps _ _ (λ q. get_joined 1 map.empty (by_term_empty V 1) q ∙ ap (λ o. in_term o q) (map.get-empty nat_cmp _) ∙ sym (map.get-empty nat_cmp q))
 
 -- a term is opened: where it is not there, an empty one goes in
@@ -213,12 +213,12 @@ module _ {V : Type 0} (length : ℕ) (t t' : FinMap nat_cmp (FinMap nat_cmp V)) 
   pub same_by_term : IsByTerm length t'
   same_by_term s q some = by_term s q (rw same at some)
 
-  pub same_joined : joined t' ≡ joined t
+  pub same_joined : entries_by_view t' ≡ entries_by_view t
   same_joined = same_maps _ _ (λ q. get_joined length t' same_by_term q ∙ same _ q ∙ sym (get_joined length t by_term q))
 
 module _ {V : Type 0} (length : ℕ) (t : FinMap nat_cmp (FinMap nat_cmp V)) (by_term : IsByTerm length t) (s v : ℕ) (own : term_start length v ≡ s) (term : FinMap nat_cmp V) (here : Some term ≡ map.get t s) where
   -- a view of the term is looked up in it
-  pub get_here : map.get (joined t) v ≡ map.get term v
+  pub get_here : map.get (entries_by_view t) v ≡ map.get term v
   get_here = get_joined length t by_term v ∙ rw (own, ← here) refl
 
   put_back : map.insert t s term ≡ t
@@ -242,10 +242,10 @@ module _ {V : Type 0} (length : ℕ) (t : FinMap nat_cmp (FinMap nat_cmp V)) (by
     | inr other ↦ by_term p q (rw (grown_at x p q, ne_eqb p s other) at some)
   ]
 
-  grown : (x : V) → joined (map.insert t s (map.insert term v x)) ≡ map.insert (joined t) v x
+  grown : (x : V) → entries_by_view (map.insert t s (map.insert term v x)) ≡ map.insert (entries_by_view t) v x
   grown x = same_maps _ _ (λ q.
       get_joined length (map.insert t s (map.insert term v x)) (grown_by_term x) q ∙ grown_at x (term_start length q) q
-      ∙ sym (get-insert (joined t) v x q ∙ elim (cases_eq q v) [
+      ∙ sym (get-insert (entries_by_view t) v x q ∙ elim (cases_eq q v) [
         | inl same ↦ rw (same, own, eq-eqb s s refl, eq-eqb v v refl) refl
         | inr other ↦ rw (ne_eqb q v other) (get_joined length t by_term q ∙ sym (never (eqb (term_start length q) s) _ _))
       ]))
@@ -256,10 +256,10 @@ module _ {V : Type 0} (length : ℕ) (t : FinMap nat_cmp (FinMap nat_cmp V)) (by
   inserted_by_term x (Ok (Some back)) = rw put_back by_term
   inserted_by_term x (Err refused) = rw put_back by_term
 
-  pub inserted_joined : (x : V) (r : Result (Option V) (AllocFailed V)) → joined (map.insert t s (after_insert term v x r)) ≡ after_insert (joined t) v x r
+  pub inserted_joined : (x : V) (r : Result (Option V) (AllocFailed V)) → entries_by_view (map.insert t s (after_insert term v x r)) ≡ after_insert (entries_by_view t) v x r
   inserted_joined x (Ok None) = grown x
-  inserted_joined x (Ok (Some back)) = ap joined put_back
-  inserted_joined x (Err refused) = ap joined put_back
+  inserted_joined x (Ok (Some back)) = ap entries_by_view put_back
+  inserted_joined x (Err refused) = ap entries_by_view put_back
 
 -- the values of two containers by terms, by the maps of their entries
 pub alike : {V : Type 0} (length : ℕ) {m n : FinMap nat_cmp V} → m ≡ n → ◌≡◌ {A = TermMap V} (record { term_length = length; by_view = m }) (record { term_length = length; by_view = n })
@@ -294,12 +294,12 @@ module _ {V : Type 0} (length : ℕ) (t : FinMap nat_cmp (FinMap nat_cmp V)) (by
     | inr other ↦ by_term p q (kept_some (leb (term_start length v) p) _ (rw (same p q, ne_eqb p _ other) at some))
   ]
 
-  pub lowered_joined : (t' : FinMap nat_cmp (FinMap nat_cmp V)) → Lowered t' → joined t' ≡ at_or_above (joined t) v
+  pub lowered_joined : (t' : FinMap nat_cmp (FinMap nat_cmp V)) → Lowered t' → entries_by_view t' ≡ at_or_above (entries_by_view t) v
   lowered_joined t' same = same_maps _ _ (λ q.
       let s = term_start length v in
       let p = term_start length q in
       get_joined length t' (lowered_by_term t' same) q ∙ same p q
-      ∙ sym (get-kept (joined t) (λ u. leb v u) q ∙ ap (λ o. cond (leb v q) o None) (get_joined length t by_term q)
+      ∙ sym (get-kept (entries_by_view t) (λ u. leb v u) q ∙ ap (λ o. cond (leb v q) o None) (get_joined length t by_term q)
       ∙ elim (cases_order p s) [
         | inl at ↦ rw (eq-eqb p s at) refl
         | inr (inl lower) ↦ rw (ne_eqb p s (omega arith), lt-leb s p lower, lt-leb v q (start_lower length q v lower)) refl

@@ -48,8 +48,8 @@ in_term None view = None
 in_term (Some term) view = get term view
 
 -- all terms' entries as one map
-abbrev pub joined : {V : Type 0} → FinMap nat_cmp (FinMap nat_cmp V) → FinMap nat_cmp V
-joined terms = from_entries (flat_map (λ term. entries term.1) (entries terms))
+abbrev pub entries_by_view : {V : Type 0} → FinMap nat_cmp (FinMap nat_cmp V) → FinMap nat_cmp V
+entries_by_view terms = from_entries (flat_map (λ term. entries term.1) (entries terms))
 
 -- each view stands in the map of its own term
 abbrev pub IsByTerm : {V : Type 0} → ℕ → FinMap nat_cmp (FinMap nat_cmp V) → Type 0
@@ -57,4 +57,4 @@ IsByTerm length terms = (start view : ℕ) → IsTrue (is_some (in_term (get ter
 
 -- the terms as one map
 abbrev pub map_of_terms : {V : Type 0} → ℕ → FinMap nat_cmp (FinMap nat_cmp V) → TermMap V
-map_of_terms length terms = record { term_length = length; by_view = joined terms }
+map_of_terms length terms = record { term_length = length; by_view = entries_by_view terms }

@@ -9,9 +9,9 @@ row_size = 2048
 
 module _ {X A : Type 0} where
   -- the entries of the rows, one row after another
-  abbrev pub joined : List (VecDeque X A) → List X
-  joined [] = []
-  joined (row ∷ rows) = row.items ++ joined rows
+  abbrev pub row_entries : List (VecDeque X A) → List X
+  row_entries [] = []
+  row_entries (row ∷ rows) = row.items ++ row_entries rows
 
   -- a row of so many entries may stand before these rows: only the last row may have fewer than a full one
   abbrev pub StandsBefore : List (VecDeque X A) → ℕ → Type 0
@@ -42,7 +42,7 @@ module _ {X A : Type 0} where
 
   -- the first row and the rest have so many entries, few enough to be counted, and each row is full but the first and the last
   pub record IsInRows (count : ℕ) (first : VecDeque X A) (rest : VecDeque (VecDeque X A) A) : Type 0 where
-    pub counted : count ≡ length (first.items ++ joined rest.items)
+    pub counted : count ≡ length (first.items ++ row_entries rest.items)
     pub fits : count < 2 ^ 64
     pub first_fits : deque_len first ≤ row_size
     pub cut : IsCut rest.items

@@ -5,9 +5,9 @@ use Rattle.std.proofs.lemmas.Bool.{false≢true}
 use Rattle.simplex_types.specs.Certificates.{ProposalFacts}
 use Rattle.simplex_round.specs.Round.{RoundFacts, new_round, token_of, after_abort}
 use Rattle.simplex_voter.specs.Facts.{Facts, Elect, round_of, round_number}
-use Rattle.simplex_voter.specs.Entering.{at_moment, entered}
-use Rattle.simplex_voter.specs.Leaders.{elected, slid}
-use Rattle.simplex_voter.specs.Certification.{named_also, raised, without_token, woken}
+use Rattle.simplex_voter.specs.Entering.{at_moment, with_view_entered}
+use Rattle.simplex_voter.specs.Leaders.{with_elected_leader, with_window_leaders}
+use Rattle.simplex_voter.specs.Certification.{named_also, with_finalized_view, without_token, with_waiting_candidate}
 use Rattle.simplex_voter.specs.Acceptance.{added_answer, notarization_added, with_notarization_at, after_add_notarization, finalization_added, with_finalization_at, after_add_finalization}
 use Rattle.simplex_voter.proofs.Elsewhere.{round_of-elected, round_of-entered, not_next, first_added}
 use Rattle.simplex_voter.proofs.Walked.{find-changed}
@@ -21,12 +21,12 @@ not_false true c is some = absurd (false≢true (sym is ∙ some))
 not_false false c is some = refl
 
 -- x is what was known, y after the election for the next view, z after the notarization is kept
-module _ {K L D : Type 0} (same : D → D → Bool) (elect : Elect L) (x y z : Facts K L D) (c : ProposalFacts D) (v next : ℕ) (at : v ≡ c.proposal.round.view) (after : next ≡ v + 1) (is : y ≡ elected elect x next (Some c.bytes)) where
+module _ {K L D : Type 0} (same : D → D → Bool) (elect : Elect L) (x y z : Facts K L D) (c : ProposalFacts D) (v next : ℕ) (at : v ≡ c.proposal.round.view) (after : next ≡ v + 1) (is : y ≡ with_elected_leader elect x next (Some c.bytes)) where
   abbrev view : ℕ
   view = c.proposal.round.view
 
-  after_election : y ≡ elected elect x (view + 1) (Some c.bytes)
-  after_election = is ∙ ap (λ n. elected elect x n (Some c.bytes)) (after ∙ ap (λ n. n + 1) at)
+  after_election : y ≡ with_elected_leader elect x (view + 1) (Some c.bytes)
+  after_election = is ∙ ap (λ n. with_elected_leader elect x n (Some c.bytes)) (after ∙ ap (λ n. n + 1) at)
 
   pub notarization_stays_added : notarization_added same elect y c ≡ notarization_added same elect x c
   notarization_stays_added =
@@ -36,17 +36,17 @@ module _ {K L D : Type 0} (same : D → D → Bool) (elect : Elect L) (x y z : F
     shows : added.0 ≡ not (is_some (round_of x view).notarization)
     shows = ap (λ a. a.0) (answer ∙ notarization_stays_added) ∙ first_added same (round_of x view).notarization (round_of x view) c
 
-    kept_there : z ≡ with_notarization_at same elect (elected elect x (view + 1) (Some c.bytes)) c
+    kept_there : z ≡ with_notarization_at same elect (with_elected_leader elect x (view + 1) (Some c.bytes)) c
     kept_there = kept ∙ ap (λ w. with_notarization_at same elect w c) after_election
 
     pub notarized_again : added.0 ≡ false → z ≡ after_add_notarization same elect x c
     notarized_again again = rw (not_true _ _ shows again) kept_there
 
-    pub notarized_first : added.0 ≡ true → (s n : Facts K L D) → n ≡ named_also z v → s ≡ slid n v → s ≡ after_add_notarization same elect x c
+    pub notarized_first : added.0 ≡ true → (s n : Facts K L D) → n ≡ named_also z v → s ≡ with_window_leaders n v → s ≡ after_add_notarization same elect x c
     notarized_first first s n named slides =
         rw (not_false _ _ shows first) (
-        slides ∙ ap (λ w. slid w v) (named ∙ ap (λ w. named_also w v) kept_there)
-        ∙ ap (λ u. slid (named_also (with_notarization_at same elect (elected elect x (view + 1) (Some c.bytes)) c) u) u) at)
+        slides ∙ ap (λ w. with_window_leaders w v) (named ∙ ap (λ w. named_also w v) kept_there)
+        ∙ ap (λ u. with_window_leaders (named_also (with_notarization_at same elect (with_elected_leader elect x (view + 1) (Some c.bytes)) c) u) u) at)
 
 -- the answer of a finalization, by the round of its view: the end of a certification makes no difference
 module _ {K D : Type 0} (same : D → D → Bool) (c : ProposalFacts D) where
@@ -64,7 +64,7 @@ module _ {K D : Type 0} (same : D → D → Bool) (c : ProposalFacts D) where
   added_found b None fresh = refl
   added_found b (Some r) fresh = added_ended b r
 
-  added_raised : {L : Type 0} (x : Facts K L D) (v : ℕ) → added_by (round_of (raised x v) v) ≡ added_by (round_of x v)
+  added_raised : {L : Type 0} (x : Facts K L D) (v : ℕ) → added_by (round_of (with_finalized_view x v) v) ≡ added_by (round_of x v)
   added_raised x v =
       let fresh : RoundFacts K D = new_round x.me x.members (round_number x v) in
       elim (ltb x.finalized v) as (λ b. added_by (round_of (cond b (record x {
@@ -78,23 +78,23 @@ module _ {K D : Type 0} (same : D → D → Bool) (c : ProposalFacts D) where
 
 -- x is what was known, m at the moment, a with the finalized view raised, b with the next view entered, y after the
 -- election for it, z after the finalization is kept
-module _ {K L D : Type 0} (same : D → D → Bool) (elect : Elect L) (x m a b y z : Facts K L D) (c : ProposalFacts D) (v next following now : ℕ) (at : v ≡ c.proposal.round.view) (next_is : next ≡ v + 1) (following_is : following ≡ v + 1) (noted : m ≡ at_moment x now) (raises : a ≡ raised m v) (enters : b ≡ entered a next now) (elects : y ≡ elected elect b following (Some c.bytes)) where
+module _ {K L D : Type 0} (same : D → D → Bool) (elect : Elect L) (x m a b y z : Facts K L D) (c : ProposalFacts D) (v next following now : ℕ) (at : v ≡ c.proposal.round.view) (next_is : next ≡ v + 1) (following_is : following ≡ v + 1) (noted : m ≡ at_moment x now) (raises : a ≡ with_finalized_view m v) (enters : b ≡ with_view_entered a next now) (elects : y ≡ with_elected_leader elect b following (Some c.bytes)) where
   abbrev finalized_view : ℕ
   finalized_view = c.proposal.round.view
 
   abbrev entered_there : Facts K L D
-  entered_there = entered (raised (at_moment x now) finalized_view) (finalized_view + 1) now
+  entered_there = with_view_entered (with_finalized_view (at_moment x now) finalized_view) (finalized_view + 1) now
 
-  after_raise : a ≡ raised (at_moment x now) finalized_view
-  after_raise = raises ∙ ap (λ u. raised m u) at ∙ ap (λ w. raised w finalized_view) noted
+  after_raise : a ≡ with_finalized_view (at_moment x now) finalized_view
+  after_raise = raises ∙ ap (λ u. with_finalized_view m u) at ∙ ap (λ w. with_finalized_view w finalized_view) noted
 
   after_entry : b ≡ entered_there
-  after_entry = enters ∙ ap (λ n. entered a n now) (next_is ∙ ap (λ u. u + 1) at) ∙ ap (λ w. entered w (finalized_view + 1) now) after_raise
+  after_entry = enters ∙ ap (λ n. with_view_entered a n now) (next_is ∙ ap (λ u. u + 1) at) ∙ ap (λ w. with_view_entered w (finalized_view + 1) now) after_raise
 
-  after_choice : y ≡ elected elect entered_there (finalized_view + 1) (Some c.bytes)
+  after_choice : y ≡ with_elected_leader elect entered_there (finalized_view + 1) (Some c.bytes)
   after_choice =
-      elects ∙ ap (λ n. elected elect b n (Some c.bytes)) (following_is ∙ ap (λ u. u + 1) at)
-      ∙ ap (λ w. elected elect w (finalized_view + 1) (Some c.bytes)) after_entry
+      elects ∙ ap (λ n. with_elected_leader elect b n (Some c.bytes)) (following_is ∙ ap (λ u. u + 1) at)
+      ∙ ap (λ w. with_elected_leader elect w (finalized_view + 1) (Some c.bytes)) after_entry
 
   pub finalization_stays_added : finalization_added same elect y c ≡ finalization_added same elect x c
   finalization_stays_added =
@@ -102,7 +102,7 @@ module _ {K L D : Type 0} (same : D → D → Bool) (elect : Elect L) (x m a b y
       ap (λ r. added_by same c r)
       (ap (λ w. round_of w finalized_view) after_choice
       ∙ round_of-elected entered_there finalized_view (finalized_view + 1) apart elect (Some c.bytes)
-      ∙ round_of-entered (raised (at_moment x now) finalized_view) finalized_view (finalized_view + 1) apart now)
+      ∙ round_of-entered (with_finalized_view (at_moment x now) finalized_view) finalized_view (finalized_view + 1) apart now)
       ∙ added_raised same c (at_moment x now) finalized_view
 
   module _ (added : Bool × Option K) (answer : added ≡ finalization_added same elect y c) (kept : z ≡ with_finalization_at same elect y c) where
@@ -110,7 +110,7 @@ module _ {K L D : Type 0} (same : D → D → Bool) (elect : Elect L) (x m a b y
     shows_finalized = ap (λ a. a.0) (answer ∙ finalization_stays_added) ∙ first_added same (round_of x finalized_view).finalization (round_of x finalized_view) c
 
     abbrev kept_finalization : Facts K L D
-    kept_finalization = with_finalization_at same elect (elected elect entered_there (finalized_view + 1) (Some c.bytes)) c
+    kept_finalization = with_finalization_at same elect (with_elected_leader elect entered_there (finalized_view + 1) (Some c.bytes)) c
 
     finalization_kept : z ≡ kept_finalization
     finalization_kept = kept ∙ ap (λ w. with_finalization_at same elect w c) after_choice
@@ -118,8 +118,8 @@ module _ {K L D : Type 0} (same : D → D → Bool) (elect : Elect L) (x m a b y
     pub finalized_again : added.0 ≡ false → z ≡ after_add_finalization same elect x c now
     finalized_again again = rw (not_true _ _ shows_finalized again) finalization_kept
 
-    pub finalized_first : added.0 ≡ true → (s n : Facts K L D) → n ≡ woken elect z v → s ≡ slid n v → s ≡ after_add_finalization same elect x c now
+    pub finalized_first : added.0 ≡ true → (s n : Facts K L D) → n ≡ with_waiting_candidate elect z v → s ≡ with_window_leaders n v → s ≡ after_add_finalization same elect x c now
     finalized_first first s n wakes slides =
         rw (not_false _ _ shows_finalized first) (
-        slides ∙ ap (λ w. slid w v) (wakes ∙ ap (λ w. woken elect w v) finalization_kept)
-        ∙ ap (λ u. slid (woken elect kept_finalization u) u) at)
+        slides ∙ ap (λ w. with_window_leaders w v) (wakes ∙ ap (λ w. with_waiting_candidate elect w v) finalization_kept)
+        ∙ ap (λ u. with_window_leaders (with_waiting_candidate elect kept_finalization u) u) at)

@@ -16,7 +16,7 @@ use Rattle.simplex_round.specs.Round.{RoundFacts, new_round, leader_at, with_rec
 use Rattle.simplex_types.specs.declared.types.messages.Proposal.{Proposal}
 use Rattle.simplex_types.specs.Certificates.{ProposalFacts}
 use Rattle.simplex_round.specs.declared.round.Leader.{Leader}
-use Rattle.simplex_voter.specs.Rounds.{RoundsFacts, round_at, round_of, round_number, is_tracked, with_round, changed, changed_in_place, largest_tracked, IsKept, AreKept}
+use Rattle.simplex_voter.specs.Rounds.{RoundsFacts, round_at, round_of, round_number, is_tracked, with_round, with_change, with_change_in_place, largest_tracked, IsKept, AreKept}
 use Rattle.simplex_voter.proofs.Containers.{entries-insert}
 use Rattle.simplex_voter.proofs.RoundsKept.{find_entries, insert-same}
 use Rattle.simplex_voter.proofs.Alike.{IsAlike}
@@ -77,12 +77,12 @@ module _ {K D : Type 0} (x : RoundsFacts K D) where
         by_found (Some r) is none = absurd (false≢true (sym none))
 
     -- a change of a tracked round, and none of another
-    pub changed_there : (v : ℕ) (r s : RoundFacts K D) (change : RoundFacts K D → RoundFacts K D) → Some r ≡ map.get m v → s ≡ change r → record x { by_view = map.entries (map.insert m v s) } ≡ changed_in_place x v change
+    pub changed_there : (v : ℕ) (r s : RoundFacts K D) (change : RoundFacts K D → RoundFacts K D) → Some r ≡ map.get m v → s ≡ change r → record x { by_view = map.entries (map.insert m v s) } ≡ with_change_in_place x v change
     changed_there v r s change here is =
-        put_shown v s ∙ ap (with_round x v) (is ∙ ap change (lent v r here)) ∙ sym (ap (λ b. cond b (changed x v change) x) (is_there v r here))
+        put_shown v s ∙ ap (with_round x v) (is ∙ ap change (lent v r here)) ∙ sym (ap (λ b. cond b (with_change x v change) x) (is_there v r here))
 
-    pub untouched : (v : ℕ) (change : RoundFacts K D → RoundFacts K D) → None ≡ map.get m v → x ≡ changed_in_place x v change
-    untouched v change none = sym (ap (λ b. cond b (changed x v change) x) (ap is_some (found_at v ∙ sym none)))
+    pub untouched : (v : ℕ) (change : RoundFacts K D → RoundFacts K D) → None ≡ map.get m v → x ≡ with_change_in_place x v change
+    untouched v change none = sym (ap (λ b. cond b (with_change x v change) x) (ap is_some (found_at v ∙ sym none)))
 
   -- what is kept of each round
   pub kept_put : AreKept x → (v : ℕ) (r : RoundFacts K D) → IsKept x v r → AreKept (with_round x v r)
@@ -160,7 +160,7 @@ module _ {K D : Type 0} (x y : RoundsFacts K D) (v : ℕ) (tracked : y ≡ with_
   pub lent_tracked : (r : RoundFacts K D) → Some r ≡ map.get m v → r ≡ round_of x v
   lent_tracked r here = some_is _ _ (here ∙ found_tracked)
 
-  pub changed_tracked : (r s : RoundFacts K D) (change : RoundFacts K D → RoundFacts K D) → Some r ≡ map.get m v → s ≡ change r → record y { by_view = map.entries (map.insert m v s) } ≡ changed x v change
+  pub changed_tracked : (r s : RoundFacts K D) (change : RoundFacts K D → RoundFacts K D) → Some r ≡ map.get m v → s ≡ change r → record y { by_view = map.entries (map.insert m v s) } ≡ with_change x v change
   changed_tracked r s change here is =
       put_shown y m shown v s ∙ ap (λ z. with_round z v s) tracked
       ∙ ap (λ es. record x { by_view = es }) (put-put v (round_of x v) s x.by_view)
@@ -179,9 +179,9 @@ pub finalizable_there : {K D : Type 0} (x : RoundsFacts K D) (m : map.FinMap nat
 finalizable_there x m shown v can none = false≢true (ap (λ found. can_finalize (unwrap_or found (new_round x.me x.members (round_number x v)))) (none ∙ sym (found_at x m shown v)) ∙ can)
 
 -- the round of a tracked view is changed; y is how the fields show what is known
-pub changed_there_always : {K D : Type 0} (x y : RoundsFacts K D) → y ≡ x → (m : map.FinMap nat_cmp (RoundFacts K D)) → y.by_view ≡ map.entries m → (v : ℕ) (r s : RoundFacts K D) (change : RoundFacts K D → RoundFacts K D) → Some r ≡ map.get m v → s ≡ change r → record y { by_view = map.entries (map.insert m v s) } ≡ changed x v change
+pub changed_there_always : {K D : Type 0} (x y : RoundsFacts K D) → y ≡ x → (m : map.FinMap nat_cmp (RoundFacts K D)) → y.by_view ≡ map.entries m → (v : ℕ) (r s : RoundFacts K D) (change : RoundFacts K D → RoundFacts K D) → Some r ≡ map.get m v → s ≡ change r → record y { by_view = map.entries (map.insert m v s) } ≡ with_change x v change
 changed_there_always x y is m shown v r s change here same =
-    put_shown y m shown v s ∙ ap (with_round y v) (same ∙ ap change (lent y m shown v r here)) ∙ ap (λ z. changed z v change) is
+    put_shown y m shown v s ∙ ap (with_round y v) (same ∙ ap change (lent y m shown v r here)) ∙ ap (λ z. with_change z v change) is
 
 -- what is left of the rounds
 pub left_kept : {K D : Type 0} (x : RoundsFacts K D) (m : map.FinMap nat_cmp (RoundFacts K D)) → x.by_view ≡ map.entries m → (v : ℕ) (n : map.FinMap nat_cmp (RoundFacts K D)) → n ≡ at_or_above m v → AreKept x → AreKept (record x { by_view = map.entries n })

@@ -8,8 +8,8 @@ use Rattle.simplex_types.proofs.Maps.{is_eq-nat_cmp}
 use Rattle.simplex_types.specs.Certificates.{ProposalFacts}
 use Rattle.simplex_round.specs.Round.{RoundFacts, leader_at, new_round}
 use Rattle.simplex_voter.specs.Facts.{Facts, Elect, round_of, round_number, with_round}
-use Rattle.simplex_voter.specs.Entering.{entered, entered_round}
-use Rattle.simplex_voter.specs.Leaders.{has_leader, led, elected}
+use Rattle.simplex_voter.specs.Entering.{with_view_entered, entered_round}
+use Rattle.simplex_voter.specs.Leaders.{has_leader, with_leader_at, with_elected_leader}
 use Rattle.simplex_voter.specs.Acceptance.{added_answer}
 
 module _ {K L D : Type 0} (x : Facts K L D) (v w : ℕ) (apart : v ≢ w) where
@@ -19,19 +19,19 @@ module _ {K L D : Type 0} (x : Facts K L D) (v w : ℕ) (apart : v ≢ w) where
   pub round_of-with_round : (r : RoundFacts K D) → round_of (with_round x w r) v ≡ round_of x v
   round_of-with_round r = ap (λ found. unwrap_or found (new_round x.me x.members (round_number x v))) (found_alike r)
 
-  pub round_of-led : (member : ℕ) → round_of (led x w member) v ≡ round_of x v
+  pub round_of-led : (member : ℕ) → round_of (with_leader_at x w member) v ≡ round_of x v
   round_of-led member = elim (has_leader x w) as (λ b. round_of (cond b x (with_round x w (record (round_of x w) { leader = leader_at x.members member }))) v ≡ round_of x v) [
     | true ↦ refl
     | false ↦ round_of-with_round _
   ]
 
-  pub round_of-entered : (now : ℕ) → round_of (entered x w now) v ≡ round_of x v
+  pub round_of-entered : (now : ℕ) → round_of (with_view_entered x w now) v ≡ round_of x v
   round_of-entered now = elim (ltb x.current w) as (λ b. round_of (cond b (record (with_round x w (entered_round x (round_of x w) now)) { current = w }) x) v ≡ round_of x v) [
     | true ↦ round_of-with_round _
     | false ↦ refl
   ]
 
-  pub round_of-elected : (elect : Elect L) (seed : Option (List ℕ)) → round_of (elected elect x w seed) v ≡ round_of x v
+  pub round_of-elected : (elect : Elect L) (seed : Option (List ℕ)) → round_of (with_elected_leader elect x w seed) v ≡ round_of x v
   round_of-elected elect seed = round_of-led _
 
 pub not_next : (v : ℕ) → v ≢ v + 1

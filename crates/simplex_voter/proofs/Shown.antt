@@ -9,8 +9,8 @@ use Rattle.std.specs.Prelude.{IfErr}
 use Rattle.std.specs.Option.{option_map_or}
 use Rattle.simplex_voter.specs.Setup.{HasSameSetup, deadlines_at}
 use Rattle.simplex_round.specs.declared.round.Leader.{Leader}
-use Rattle.simplex_voter.specs.Rounds.{RoundsFacts, with_round, changed, with_entry}
-use Rattle.simplex_voter.specs.Entering.{entered}
+use Rattle.simplex_voter.specs.Rounds.{RoundsFacts, with_round, with_change, with_entry}
+use Rattle.simplex_voter.specs.Entering.{with_view_entered}
 use Rattle.simplex_voter.specs.declared.voter.rounds.Deadlines.{Deadlines}
 use Rattle.simplex_voter.specs.Facts as facts
 use Rattle.simplex_voter.specs.Facts.{Facts}
@@ -56,7 +56,7 @@ module _ {K L D : Type 0} where
   where_false y x is false r s t same stays = ap (with_rounds y) same
 
   -- a view above the current one is entered
-  pub entered_by : (y x : Facts K L D) → y ≡ x → (v now : ℕ) (d : Deadlines) (r t : RoundsFacts K D) → r ≡ changed t v (λ s. with_entry s now d) → d ≡ deadlines_at y now → ltb y.current v ≡ true → ((e : Deadlines) → with_rounds y (changed t v (λ s. with_entry s now e)) ≡ facts.with_round y v (with_entry (facts.round_of y v) now e)) → record (with_rounds y r) { current = v } ≡ entered y v now
+  pub entered_by : (y x : Facts K L D) → y ≡ x → (v now : ℕ) (d : Deadlines) (r t : RoundsFacts K D) → r ≡ with_change t v (λ s. with_entry s now d) → d ≡ deadlines_at y now → ltb y.current v ≡ true → ((e : Deadlines) → with_rounds y (with_change t v (λ s. with_entry s now e)) ≡ facts.with_round y v (with_entry (facts.round_of y v) now e)) → record (with_rounds y r) { current = v } ≡ with_view_entered y v now
   entered_by y x is v now d r t same deadlines above tie =
       rw above (
       ap (λ s. record (with_rounds y s) { current = v }) same ∙ ap (λ (z : Facts K L D). record z { current = v }) (tie d)

@@ -11,9 +11,9 @@ use Rattle.simplex_types.specs.declared.types.messages.Proposal.{Proposal}
 use Rattle.simplex_round.specs.Round.{RoundFacts, equivocator, with_notarization, with_nullification, with_finalization}
 use Rattle.simplex_voter.specs.Facts.{Facts, Elect, round_of, with_round}
 use Rattle.simplex_voter.specs.Refusals.{first_fault, is_too_large, names_too_large, enters_late, proposal_refusal, takes_round}
-use Rattle.simplex_voter.specs.Entering.{entered, at_moment}
-use Rattle.simplex_voter.specs.Leaders.{elected, slid}
-use Rattle.simplex_voter.specs.Certification.{named_also, raised, woken}
+use Rattle.simplex_voter.specs.Entering.{with_view_entered, at_moment}
+use Rattle.simplex_voter.specs.Leaders.{with_elected_leader, with_window_leaders}
+use Rattle.simplex_voter.specs.Certification.{named_also, with_finalized_view, with_waiting_candidate}
 
 -- whether the certificate is the first of its kind and view; and, where its proposal differs from the held one, the leader's key
 abbrev pub added_answer : {K D : Type 0} → (D → D → Bool) → Option (ProposalFacts D) → RoundFacts K D → Proposal D → Bool × Option K
@@ -64,11 +64,11 @@ module _ {K L D : Type 0} (elect : Elect L) where
   after_add_nullification x c now =
       let next = next_term_start x.terms.term_length c.round.view in
       nullified_also
-      (with_nullification_at (elected elect (entered (at_moment x now) next now) next (Some c.bytes)) c)
+      (with_nullification_at (with_elected_leader elect (with_view_entered (at_moment x now) next now) next (Some c.bytes)) c)
       c.round.view
 
   abbrev pub after_set_genesis : Facts K L D → D → ℕ → Facts K L D
-  after_set_genesis x payload now = elected elect (entered (record (at_moment x now) { genesis = Some payload }) 1 now) 1 None
+  after_set_genesis x payload now = with_elected_leader elect (with_view_entered (record (at_moment x now) { genesis = Some payload }) 1 now) 1 None
 
 module _ {K L D : Type 0} (same : D → D → Bool) (elect : Elect L) where
   -- `add_notarization`
@@ -84,8 +84,8 @@ module _ {K L D : Type 0} (same : D → D → Bool) (elect : Elect L) where
   abbrev pub after_add_notarization : Facts K L D → ProposalFacts D → Facts K L D
   after_add_notarization x c =
       let v = c.proposal.round.view in
-      let kept = with_notarization_at (elected elect x (v + 1) (Some c.bytes)) c in
-      if is_some (round_of x v).notarization then kept else slid (named_also kept v) v
+      let kept = with_notarization_at (with_elected_leader elect x (v + 1) (Some c.bytes)) c in
+      if is_some (round_of x v).notarization then kept else with_window_leaders (named_also kept v) v
 
   abbrev pub finalization_added : Facts K L D → ProposalFacts D → Bool × Option K
   finalization_added x c =
@@ -100,8 +100,8 @@ module _ {K L D : Type 0} (same : D → D → Bool) (elect : Elect L) where
   abbrev pub after_add_finalization : Facts K L D → ProposalFacts D → ℕ → Facts K L D
   after_add_finalization x c now =
       let v = c.proposal.round.view in
-      let kept = with_finalization_at (elected elect (entered (raised (at_moment x now) v) (v + 1) now) (v + 1) (Some c.bytes)) c in
-      if is_some (round_of x v).finalization then kept else slid (woken elect kept v) v
+      let kept = with_finalization_at (with_elected_leader elect (with_view_entered (with_finalized_view (at_moment x now) v) (v + 1) now) (v + 1) (Some c.bytes)) c in
+      if is_some (round_of x v).finalization then kept else with_window_leaders (with_waiting_candidate elect kept v) v
 
   abbrev pub after_set_floor : Facts K L D → FloorFacts D → ℕ → Facts K L D
   after_set_floor x (Genesis payload) now = after_set_genesis elect x payload now

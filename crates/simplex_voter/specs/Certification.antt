@@ -17,8 +17,8 @@ use Rattle.simplex_voter.specs.Refusals.{first_fault, enters_late, is_started}
 use Rattle.simplex_voter.specs.Payloads.{explicit_payload}
 use Rattle.simplex_voter.specs.Parents.{spans}
 use Rattle.simplex_voter.specs.Rules.{required_parent}
-use Rattle.simplex_voter.specs.Entering.{entered, at_moment}
-use Rattle.simplex_voter.specs.Timeouts.{triggered}
+use Rattle.simplex_voter.specs.Entering.{with_view_entered, at_moment}
+use Rattle.simplex_voter.specs.Timeouts.{with_timeout}
 
 -- a certification that is under way ends without a verdict
 abbrev pub without_token : {K D : Type 0} → RoundFacts K D → RoundFacts K D
@@ -30,8 +30,8 @@ module _ {K L D : Type 0} where
   named_also x v = if nat_lt x.finalized v then record x { named = insert_key nat_cmp x.named v } else x
 
   -- a finalization raises the last finalized view, and nothing at or below it waits for certification
-  abbrev pub raised : Facts K L D → ℕ → Facts K L D
-  raised x v =
+  abbrev pub with_finalized_view : Facts K L D → ℕ → Facts K L D
+  with_finalized_view x v =
       if nat_lt x.finalized v
       then record x {
         finalized = v;
@@ -48,8 +48,8 @@ module _ {K L D : Type 0} (elect : Elect L) where
       && option_map_or (λ h. option_map_or (λ q. q == p) (required_parent elect x (p + 1) h) false) r.slot.held false
 
   -- once p is certified or finalized, the view above it that waited for p is a candidate again
-  abbrev pub woken : Facts K L D → ℕ → Facts K L D
-  woken x p = if option_map_or (waits_for x p) (round_at x (p + 1)) false then named_also x (p + 1) else x
+  abbrev pub with_waiting_candidate : Facts K L D → ℕ → Facts K L D
+  with_waiting_candidate x p = if option_map_or (waits_for x p) (round_at x (p + 1)) false then named_also x (p + 1) else x
 
   -- what the proposal requires is certified
   abbrev pub has_certified_parent : Facts K L D → ℕ → Proposal D → Bool
@@ -111,14 +111,14 @@ module _ {K L D : Type 0} where
   abbrev pub certified_refusal : Facts K L D → ℕ → Bool → ℕ → Option Fault
   certified_refusal x v success now = first_fault x.failed false (success && is_tracked x v && enters_late x (v + 1) now)
 
-  abbrev pub judged : Facts K L D → ℕ → Bool → Facts K L D
-  judged x v success = with_round x v (certified_round (round_of x v) success)
+  abbrev pub with_verdict : Facts K L D → ℕ → Bool → Facts K L D
+  with_verdict x v success = with_round x v (certified_round (round_of x v) success)
 
 module _ {K L D : Type 0} (elect : Elect L) where
   -- a true verdict enters the next view and wakes what waited for this one; a false one times the view out
   abbrev pub verdict_taken : Facts K L D → ℕ → Bool → ℕ → Facts K L D
-  verdict_taken x v true now = woken elect (entered (judged x v true) (v + 1) now) v
-  verdict_taken x v false now = triggered (judged x v false) v FailedCertification now
+  verdict_taken x v true now = with_waiting_candidate elect (with_view_entered (with_verdict x v true) (v + 1) now) v
+  verdict_taken x v false now = with_timeout (with_verdict x v false) v FailedCertification now
 
   abbrev pub after_certified : Facts K L D → ℕ → Bool → ℕ → Facts K L D
   after_certified x v success now =

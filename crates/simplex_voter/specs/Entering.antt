@@ -18,6 +18,6 @@ module _ {K L D : Type 0} where
       (option_map (λ time. now + time) x.terms.stall_timeout)
 
   -- a view above the current one is entered
-  abbrev pub entered : Facts K L D → ℕ → ℕ → Facts K L D
-  entered x v now =
+  abbrev pub with_view_entered : Facts K L D → ℕ → ℕ → Facts K L D
+  with_view_entered x v now =
       if nat_lt x.current v then record (with_round x v (entered_round x (round_of x v) now)) { current = v } else x

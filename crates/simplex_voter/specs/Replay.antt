@@ -15,7 +15,7 @@ use Rattle.simplex_round.specs.Round.{RoundFacts, after_replay, TakesArtifact}
 use Rattle.simplex_voter.specs.Facts.{Facts, Elect, round_at, round_of, with_round}
 use Rattle.simplex_voter.specs.Refusals.{first_fault, is_too_large, names_too_large, takes_round}
 use Rattle.simplex_voter.specs.Windows.{is_notarized}
-use Rattle.simplex_voter.specs.Leaders.{prepared}
+use Rattle.simplex_voter.specs.Leaders.{with_next_view_ready}
 use Rattle.simplex_voter.specs.Acceptance.{nullified_also}
 
 module _ {S K G C D : Type 0} where
@@ -91,4 +91,4 @@ module _ {K L D : Type 0} (same : D → D → Bool) (elect : Elect L) where
   abbrev pub after_replayed : {S G C : Type 0} → Facts K L D → Artifact S D K G C → Facts K L D
   after_replayed x a =
       let restored = with_round (replayed_sets x a) (artifact_view a) (replayed_round same x a) in
-      if is_some (voted_proposal a) then prepared elect restored (artifact_view a) else restored
+      if is_some (voted_proposal a) then with_next_view_ready elect restored (artifact_view a) else restored

@@ -42,20 +42,20 @@ module _ {K D : Type 0} where
   with_round x v r = record x { by_view = put nat_cmp v r x.by_view }
 
   -- the round of a view after a change, tracked from then on; and of a view that is tracked, while of another nothing changes
-  abbrev pub changed : RoundsFacts K D → ℕ → (RoundFacts K D → RoundFacts K D) → RoundsFacts K D
-  changed x v change = with_round x v (change (round_of x v))
+  abbrev pub with_change : RoundsFacts K D → ℕ → (RoundFacts K D → RoundFacts K D) → RoundsFacts K D
+  with_change x v change = with_round x v (change (round_of x v))
 
-  abbrev pub changed_in_place : RoundsFacts K D → ℕ → (RoundFacts K D → RoundFacts K D) → RoundsFacts K D
-  changed_in_place x v change = if is_tracked x v then changed x v change else x
+  abbrev pub with_change_in_place : RoundsFacts K D → ℕ → (RoundFacts K D → RoundFacts K D) → RoundsFacts K D
+  with_change_in_place x v change = if is_tracked x v then with_change x v change else x
 
   -- the member leads the view, unless a leader is set
-  abbrev pub led : RoundsFacts K D → ℕ → ℕ → RoundsFacts K D
-  led x v member =
-      if is_some (round_of x v).leader then x else changed x v (λ r. record r { leader = leader_at x.members member })
+  abbrev pub rounds_with_leader : RoundsFacts K D → ℕ → ℕ → RoundsFacts K D
+  rounds_with_leader x v member =
+      if is_some (round_of x v).leader then x else with_change x v (λ r. record r { leader = leader_at x.members member })
 
   -- the leader of one view goes to another
-  abbrev pub inherited : RoundsFacts K D → ℕ → ℕ → RoundsFacts K D
-  inherited x from to = option_map_or (λ l. led x to l.idx) (round_of x from).leader x
+  abbrev pub rounds_with_leader_of : RoundsFacts K D → ℕ → ℕ → RoundsFacts K D
+  rounds_with_leader_of x from to = option_map_or (λ l. rounds_with_leader x to l.idx) (round_of x from).leader x
 
   -- they are of the same member, members and epoch
   pub record HasSameOrigin (before after : RoundsFacts K D) : Type 0 where

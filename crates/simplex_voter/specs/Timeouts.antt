@@ -47,15 +47,15 @@ module _ {K L D : Type 0} where
   can_trigger x v reason = nat_le x.current v && is_tracked x v && not (is_contradicted reason (round_of x v))
 
   -- the view times out at its next poll, where it may
-  abbrev pub triggered : Facts K L D → ℕ → TimeoutReason → ℕ → Facts K L D
-  triggered x v reason now = if can_trigger x v reason then with_round x v (with_latch (round_of x v) now reason) else x
+  abbrev pub with_timeout : Facts K L D → ℕ → TimeoutReason → ℕ → Facts K L D
+  with_timeout x v reason now = if can_trigger x v reason then with_round x v (with_latch (round_of x v) now reason) else x
 
   -- `trigger_timeout`: whether this timeout was latched
   abbrev pub trigger_answer : Facts K L D → ℕ → TimeoutReason → Bool
   trigger_answer x v reason = can_trigger x v reason && awaits_latch (round_of x v)
 
   abbrev pub after_trigger_timeout : Facts K L D → ℕ → TimeoutReason → ℕ → Facts K L D
-  after_trigger_timeout x v reason now = triggered (at_moment x now) v reason now
+  after_trigger_timeout x v reason now = with_timeout (at_moment x now) v reason now
 
   -- few enough terms lie between the first one that isn't finalized and the current one
   abbrev pub has_skip_budget : Facts K L D → Bool
@@ -72,16 +72,16 @@ module _ {K L D : Type 0} where
   stall_deadline x = option_and_then (λ e. standing_deadline e.1) (slice_get (filter (is_stalling x) x.rounds) 0)
 
   -- the current round, with the moment of its retry where nullify was decided
-  abbrev pub polled : Facts K L D → ℕ → RoundFacts K D
-  polled x now = with_retry (round_of x x.current) now x.settings.timeout_retry
+  abbrev pub round_with_retry : Facts K L D → ℕ → RoundFacts K D
+  round_with_retry x now = with_retry (round_of x x.current) now x.settings.timeout_retry
 
   -- `next_timeout`: the moment and the reason
   abbrev pub next_timeout_answer : Facts K L D → ℕ → Option (ℕ × TimeoutReason)
   next_timeout_answer x now =
-      option_map (or_stalled (stall_deadline x) now) (round_timeout (polled x now) (has_skip_budget x))
+      option_map (or_stalled (stall_deadline x) now) (round_timeout (round_with_retry x now) (has_skip_budget x))
 
   abbrev pub after_next_timeout : Facts K L D → ℕ → Facts K L D
-  after_next_timeout x now = with_tracked (at_moment x now) x.current (polled x now)
+  after_next_timeout x now = with_tracked (at_moment x now) x.current (round_with_retry x now)
 
   abbrev pub next_timeout_refusal : Facts K L D → ℕ → Option Fault
   next_timeout_refusal x now =

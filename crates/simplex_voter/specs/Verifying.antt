@@ -21,10 +21,10 @@ use Rattle.simplex_voter.specs.Gaps.{first_gap}
 use Rattle.simplex_voter.specs.Windows.{in_window, is_admitted}
 use Rattle.simplex_voter.specs.Parents.{spans, payload_for, binding_matches}
 use Rattle.simplex_voter.specs.Proposing.{views_ahead}
-use Rattle.simplex_voter.specs.Leaders.{prepared}
+use Rattle.simplex_voter.specs.Leaders.{with_next_view_ready}
 use Rattle.simplex_voter.specs.Entering.{at_moment}
 use Rattle.simplex_voter.specs.Refusals.{takes_round}
-use Rattle.simplex_voter.specs.Timeouts.{triggered}
+use Rattle.simplex_voter.specs.Timeouts.{with_timeout}
 
 -- a certificate is asked for, unless its view was the last one asked for
 abbrev pub unless_asked : {K D : Type 0} → RoundFacts K D → ℕ → Kind → Standing D
@@ -40,8 +40,8 @@ abbrev pub with_request : {K D : Type 0} → RoundFacts K D → ℕ → RoundFac
 with_request r w = record r { last_request = Some w }
 
 -- nothing is bound any more
-abbrev pub unbound : {K D : Type 0} → RoundFacts K D → RoundFacts K D
-unbound r = record r { binding = None }
+abbrev pub with_nothing_bound : {K D : Type 0} → RoundFacts K D → RoundFacts K D
+with_nothing_bound r = record r { binding = None }
 
 -- what the scan leaves of a round of this standing
 abbrev pub round_left : {K D : Type 0} → RoundFacts K D → ℕ → Standing D → RoundFacts K D
@@ -88,7 +88,7 @@ module _ {K L D : Type 0} where
   takes_proposal x v p = takes_round x p.round && p.round.view == v
 
   abbrev pub without_binding : Facts K L D → ℕ → Facts K L D
-  without_binding x v = with_tracked x v (unbound (round_of x v))
+  without_binding x v = with_tracked x v (with_nothing_bound (round_of x v))
 
   -- `set_proposal`: whether to verify it
   abbrev pub set_proposal_answer : Facts K L D → ℕ → Bool
@@ -104,7 +104,7 @@ with_mark r = if is_nullify r.decision then r else record r { slot = after_mark 
 module _ {K L D : Type 0} (same : D → D → Bool) (elect : Elect L) where
   abbrev pub after_set_proposal : Facts K L D → ℕ → Proposal D → Facts K L D
   after_set_proposal x v p =
-      let ready = prepared elect x v in
+      let ready = with_next_view_ready elect x v in
       with_round ready v (with_proposal same (round_of ready v) p)
 
   -- above no gap the parent's payload is ready, or inside the window still forming, or its notarization is lacking
@@ -134,11 +134,11 @@ module _ {K L D : Type 0} (same : D → D → Bool) (elect : Elect L) where
   verify_answer x = option_map_or (λ found. found) (slice_get (filter_map (answer_in x) (views_ahead x)) 0) verify.Wait
 
   -- the views ahead up to that one
-  abbrev pub scanned : Facts K L D → List (ℕ × RoundFacts K D)
-  scanned x = through (λ e. is_answered (standing x e)) (views_ahead x)
+  abbrev pub scanned_views : Facts K L D → List (ℕ × RoundFacts K D)
+  scanned_views x = through (λ e. is_answered (standing x e)) (views_ahead x)
 
   abbrev pub was_scanned : Facts K L D → ℕ → Bool
-  was_scanned x v = list_any (λ e. v == e.0) (scanned x)
+  was_scanned x v = list_any (λ e. v == e.0) (scanned_views x)
 
   -- the round of a view that was scanned is left by how it stood, and any other stays
   abbrev pub scan_left : Facts K L D → ℕ → RoundFacts K D → RoundFacts K D
@@ -161,4 +161,4 @@ module _ {K L D : Type 0} (same : D → D → Bool) (elect : Elect L) where
   -- `verification_failed`
   abbrev pub after_verification_failed : Facts K L D → ℕ → TimeoutReason → ℕ → Facts K L D
   after_verification_failed x v reason now =
-      if binding_matches same elect x v then triggered (at_moment x now) v reason now else without_binding (at_moment x now) v
+      if binding_matches same elect x v then with_timeout (at_moment x now) v reason now else without_binding (at_moment x now) v

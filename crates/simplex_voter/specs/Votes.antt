@@ -12,7 +12,7 @@ use Rattle.simplex_types.specs.declared.types.messages.Subject.{Subject}
 use Rattle.simplex_types.specs.declared.types.messages.Subject.TheVariants as subject
 use Rattle.simplex_types.specs.Signing.{IsSignedAs}
 use Rattle.simplex_voter.specs.Facts.{Facts, Elect, round_number, round_of, with_round}
-use Rattle.simplex_voter.specs.Leaders.{prepared}
+use Rattle.simplex_voter.specs.Leaders.{with_next_view_ready}
 use Rattle.simplex_voter.specs.Rules.{may_notarize, may_nullify, may_finalize}
 
 -- the vote is this member's, for this view of its epoch, with its signature on just that
@@ -71,4 +71,4 @@ module _ {K L D : Type 0} (same : D → D → Bool) (elect : Elect L) where
 
   abbrev pub after_construct_notarize : Facts K L D → ℕ → Facts K L D
   after_construct_notarize x v =
-      if may_notarize same elect x v then prepared elect (notarize_cast x v) v else x
+      if may_notarize same elect x v then with_next_view_ready elect (notarize_cast x v) v else x

@@ -12,8 +12,8 @@ use Rattle.simplex_voter.specs.Parents.{binding_matches}
 use Rattle.simplex_voter.specs.Facts.{Elect, round_of, with_round}
 use Rattle.simplex_voter.specs.Payloads.{optimistic_payload}
 use Rattle.simplex_types.specs.declared.reasons.TimeoutReason.TheVariants.{MissingProposal}
-use Rattle.simplex_voter.specs.Entering.{entered}
-use Rattle.simplex_voter.specs.Leaders.{elected, opened_views}
+use Rattle.simplex_voter.specs.Entering.{with_view_entered}
+use Rattle.simplex_voter.specs.Leaders.{with_elected_leader, opened_views}
 use Rattle.simplex_voter.specs.Serving.{leader_of}
 use Rattle.simplex_definitions.proofs.Examples.Scripts.{State, context, same, fresh, proposal, certificate, in_turn, voter, recovered, replies_of, after_call, voted_notarize}
 use Rattle.simplex_definitions.proofs.Examples.Scripts.Call.{Candidates, Certified, AddNotarization, AddNullification, Trigger, AddFinalization, SetProposal, TryPropose, Proposed, TryVerify, Verified, SetCertifyHandle, Notarize}
@@ -34,11 +34,11 @@ by_seed elector round None = 1
 by_seed elector round (Some bytes) = 2
 
 -- a leader that is set stays
-first_leader : leader_of (elected by_seed (elected by_seed (voter 0 1 0) 2 None) 2 (Some [])) 2 ≡ Some 1
+first_leader : leader_of (with_elected_leader by_seed (with_elected_leader by_seed (voter 0 1 0) 2 None) 2 (Some [])) 2 ≡ Some 1
 first_leader = refl
 
 -- and else the certificate decides
-later_leader : leader_of (elected by_seed (voter 0 1 0) 2 (Some [])) 2 ≡ Some 2
+later_leader : leader_of (with_elected_leader by_seed (voter 0 1 0) 2 (Some [])) 2 ≡ Some 2
 later_leader = refl
 
 -- a proposal is set at its own view, in this epoch
@@ -79,7 +79,7 @@ unfolding replies_of
 others_binding = refl
 
 -- a view's first entry is kept
-first_entry : (round_of (entered (with_round (voter 0 1 0) 2 (record (round_of (voter 0 1 0) 2) { entered_at = Some 3 })) 2 9) 2).entered_at ≡ Some 3
+first_entry : (round_of (with_view_entered (with_round (voter 0 1 0) 2 (record (round_of (voter 0 1 0) 2) { entered_at = Some 3 })) 2 9) 2).entered_at ≡ Some 3
 first_entry = refl
 
 -- a view that is passed times out no more

@@ -6,7 +6,7 @@ ghost use Rattle.simplex_member.specs.Start.{start_facts};
 ghost use Rattle.simplex_laws.specs.Exactly.{SignsExactly};
 ghost use Rattle.simplex_laws.specs.Living.{story_of};
 ghost use Rattle.simplex_laws.specs.Lawful.{IsLawful};
-ghost use Rattle.simplex_laws.specs.Shown.{shown, AreSetUpAs};
+ghost use Rattle.simplex_laws.specs.Shown.{shown_deeds, AreSetUpAs};
 ghost use Rattle.simplex_laws.specs.Stories.{deeds_of, Ran};
 
 use simplex_member::member::{Call, Member, RecoverError, Reply, Restart, Start, Step, run};
@@ -39,9 +39,9 @@ pub fn run_lawfully<S: Scheme<D>, L: Elector<S>, D: Digest>(
         (story_of S.me S.participants L.terms L.elects_early S.certificate_bytes start steps.items replies.items)) }
     ensures shows { IfOk result (λ replies.
         deeds_of (story_of S.me S.participants L.terms L.elects_early S.certificate_bytes start steps.items replies.items)
-        ≡ shown start steps.items replies.items) }
+        ≡ shown_deeds start steps.items replies.items) }
     ensures lawful { IfOk result (λ replies. (term_length i : ℕ) → AreSetUpAs S.me L.terms term_length i start steps.items
-        → IsLawful term_length (shown start steps.items replies.items)) }
+        → IsLawful term_length (shown_deeds start steps.items replies.items)) }
     ensures ended { IfErr result (EndsRunFrom D.eq L.elect
         (start_facts S.me S.participants L.terms L.elects_early S.certificate_bytes start)
         (steps_of S.me S.participants L.terms L.elects_early S.certificate_bytes steps.items)) }
@@ -76,7 +76,7 @@ impl<S: Scheme<D>, L: Elector<S>, D: Digest> LawfulMember<S, L, D> {
     ghost use Rattle.simplex_member.specs.Signed.{IsSignedReply};
     ghost use Rattle.simplex_member.specs.Recovery.{recover_error};
     ghost use Rattle.simplex_member.specs.Restarts.{restart_facts, IsRestart};
-    ghost use Rattle.simplex_member.specs.Start.{set_up, started, IsDue};
+    ghost use Rattle.simplex_member.specs.Start.{set_up, started_member, IsDue};
     ghost use Rattle.simplex_laws.specs.Exactly.{ExactAt};
     ghost use Rattle.simplex_laws.specs.Living.{DoesMore, MayBeDoneBy, OfAllDone, HasBegun, HasBegunAgain};
     ghost use Rattle.simplex_laws.specs.Shown.{votes_in, taken_by};
@@ -92,7 +92,7 @@ impl<S: Scheme<D>, L: Elector<S>, D: Digest> LawfulMember<S, L, D> {
         start: Start<S, L, D>,
     ) -> Result<LawfulMember<S, L, D>, RecoverError>
         requires { L.members start.settings.elector ≡ length (S.participants start.settings.scheme) }
-        ensures started { IfOk result (λ member. member ≡ started D.eq L.elect
+        ensures started { IfOk result (λ member. member ≡ started_member D.eq L.elect
             (set_up S.me S.participants L.terms L.elects_early start.settings)
             (floor_facts S.certificate_bytes start.floor) start.now) }
         ensures refused { IfErr result (IsDue (recover_error D.eq

@@ -18,7 +18,7 @@ use Rattle.simplex_member.specs.Calls.{CallFacts}
 use Rattle.simplex_member.specs.Entries.{entry_view}
 use Rattle.simplex_member.specs.Made.{after_call}
 use Rattle.simplex_member.specs.Openings.{Openings, context_at, is_offered}
-use Rattle.simplex_member.specs.Recovery.{replayed, retaken, taken, all_taken, recovered}
+use Rattle.simplex_member.specs.Recovery.{after_replaying, after_entry, after_kept_entry, after_entries, recovered_state}
 use Rattle.simplex_laws.specs.Events.{Event, IsEvent, after_event, SetFloor, AddNotarization, AddNullification, AddFinalization, Certified, Proposed, Supersede, Replay, in_context, events_of}
 use Rattle.simplex_laws.proofs.frames.Steps.{IsSilent}
 use Rattle.simplex_laws.proofs.frames.CallsOnWork.{is_work}
@@ -111,23 +111,23 @@ module _ {K D : Type 0} where
 -- what each event keeps, whether it is taken or not, holds of each new life
 
 module _ {K L D : Type 0} (same : D → D → Bool) (elect : Elect L) (P : Facts K L D → Type 0) (keeps : (x : Facts K L D) (e : Event K D) → P x → P (after_event same elect x e)) (now : ℕ) where
-  pub retaken_keeps : (x : Facts K L D) (e : ArtifactFacts D) → P x → P (retaken same elect x now e)
+  pub retaken_keeps : (x : Facts K L D) (e : ArtifactFacts D) → P x → P (after_entry same elect x now e)
   retaken_keeps x (NotarizeVote p m) holds = keeps x (Replay (NotarizeVote p m)) holds
   retaken_keeps x (NullifyVote round m) holds = keeps x (Replay (NullifyVote round m)) holds
   retaken_keeps x (FinalizeVote p m) holds = keeps x (Replay (FinalizeVote p m)) holds
-  retaken_keeps x (Verdict round success) holds = keeps (replayed same elect x (Verdict round success)) (Certified round.view success now) (keeps x (Replay (Verdict round success)) holds)
+  retaken_keeps x (Verdict round success) holds = keeps (after_replaying same elect x (Verdict round success)) (Certified round.view success now) (keeps x (Replay (Verdict round success)) holds)
   retaken_keeps x (Accepted (Notarized c)) holds = keeps _ (Replay (Accepted (Notarized c))) (keeps x (AddNotarization c) holds)
   retaken_keeps x (Accepted (Nullified c)) holds = keeps _ (Replay (Accepted (Nullified c))) (keeps x (AddNullification c now) holds)
   retaken_keeps x (Accepted (Finalized c)) holds = keeps _ (Replay (Accepted (Finalized c))) (keeps x (AddFinalization c now) holds)
 
-  pub all_keep : (x : Facts K L D) (entries : List (ArtifactFacts D)) → P x → P (all_taken same elect x now entries)
-  unfolding taken
+  pub all_keep : (x : Facts K L D) (entries : List (ArtifactFacts D)) → P x → P (after_entries same elect x now entries)
+  unfolding after_kept_entry
   all_keep x [] holds = holds
-  all_keep x (e ∷ rest) holds = all_keep (taken same elect x now e) rest (elim (nat_lt (entry_view e) (min_active x)) as (λ b. P (if b then x else retaken same elect x now e)) [ true ↦ holds | false ↦ retaken_keeps x e holds ])
+  all_keep x (e ∷ rest) holds = all_keep (after_kept_entry same elect x now e) rest (elim (nat_lt (entry_view e) (min_active x)) as (λ b. P (if b then x else after_entry same elect x now e)) [ true ↦ holds | false ↦ retaken_keeps x e holds ])
 
-  pub floor_then_all_keep : (x : Facts K L D) (floor : FloorFacts D) (entries : List (ArtifactFacts D)) → P (after_set_floor same elect x floor now) → P (recovered same elect x floor now entries)
-  unfolding recovered
+  pub floor_then_all_keep : (x : Facts K L D) (floor : FloorFacts D) (entries : List (ArtifactFacts D)) → P (after_set_floor same elect x floor now) → P (recovered_state same elect x floor now entries)
+  unfolding recovered_state
   floor_then_all_keep x floor entries holds = all_keep _ entries holds
 
-  pub recovered_keeps : (x : Facts K L D) (floor : FloorFacts D) (entries : List (ArtifactFacts D)) → P x → P (recovered same elect x floor now entries)
+  pub recovered_keeps : (x : Facts K L D) (floor : FloorFacts D) (entries : List (ArtifactFacts D)) → P x → P (recovered_state same elect x floor now entries)
   recovered_keeps x floor entries holds = floor_then_all_keep x floor entries (keeps x (SetFloor floor now) holds)

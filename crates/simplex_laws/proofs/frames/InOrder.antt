@@ -16,7 +16,7 @@ use Rattle.simplex_voter.proofs.Walked.{sorted-changed}
 use Rattle.simplex_member.specs.Calls.{CallFacts}
 use Rattle.simplex_member.specs.Made.{after_call}
 use Rattle.simplex_member.specs.Openings.{Openings}
-use Rattle.simplex_member.specs.Recovery.{recovered}
+use Rattle.simplex_member.specs.Recovery.{recovered_state}
 use Rattle.simplex_laws.specs.Events.{Event, after_event}
 use Rattle.simplex_laws.proofs.frames.CallsMake.{call_by_any, recovered_keeps}
 use Rattle.simplex_laws.proofs.frames.Paths.{event_path, asked_of_all}
@@ -42,5 +42,5 @@ module _ {K L D : Type 0} (same : D → D → Bool) (elect : Elect L) (x : Facts
   order_call call = call_by_any same elect x o InOrder ordered (λ e. event_in_order same elect x e ordered) call
 
 module _ {K L D : Type 0} (same : D → D → Bool) (elect : Elect L) (settings : Settings) (me : Option ℕ) (members : List K) (elector : L) (terms : Terms) (early : Bool) where
-  pub order_recovered : (floor : FloorFacts D) (now : ℕ) (copy : List (ArtifactFacts D)) → InOrder (recovered same elect (new_facts settings me members elector terms early) floor now copy)
+  pub order_recovered : (floor : FloorFacts D) (now : ℕ) (copy : List (ArtifactFacts D)) → InOrder (recovered_state same elect (new_facts settings me members elector terms early) floor now copy)
   order_recovered floor now copy = recovered_keeps same elect InOrder (λ x e. event_in_order same elect x e) now (new_facts settings me members elector terms early) floor copy tt

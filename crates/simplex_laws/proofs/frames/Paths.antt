@@ -18,14 +18,14 @@ use Rattle.simplex_round.specs.declared.round.Leader.{Leader}
 use Rattle.simplex_round.specs.declared.round.Decision.TheVariants as decision
 use Rattle.simplex_round.specs.declared.round.Decision.{Decision}
 use Rattle.simplex_round.specs.Slot.{after_own, after_vote, after_mark, holds_or_empty}
-use Rattle.simplex_round.specs.Round.{RoundFacts, new_round, armed, leader_at, is_nullify, is_finalize, is_pending, is_judged, is_verified_slot, with_latch, with_recovered, awaits_retry, after_nullify}
+use Rattle.simplex_round.specs.Round.{RoundFacts, new_round, with_decision_deadlines, leader_at, is_nullify, is_finalize, is_pending, is_judged, is_verified_slot, with_latch, with_recovered, awaits_retry, after_nullify}
 use Rattle.simplex_voter.specs.Facts.{Facts, Elect, round_at, round_of, round_number, is_tracked, with_round, with_tracked}
 use Rattle.simplex_voter.specs.Windows.{in_window}
 use Rattle.simplex_voter.specs.Payloads.{is_elected_early}
-use Rattle.simplex_voter.specs.Entering.{at_moment, entered, entered_round}
-use Rattle.simplex_voter.specs.Leaders.{has_leader, led, inherited, slid, elected, prepared}
-use Rattle.simplex_voter.specs.Timeouts.{triggered, is_contradicted, polled}
-use Rattle.simplex_voter.specs.Certification.{named_also, raised, waits_for, woken, judged, verdict_taken, after_certified, takes_verdict, takes_certify_handle, after_set_certify_handle}
+use Rattle.simplex_voter.specs.Entering.{at_moment, with_view_entered, entered_round}
+use Rattle.simplex_voter.specs.Leaders.{has_leader, with_leader_at, with_leader_of, with_window_leaders, with_elected_leader, with_next_view_ready}
+use Rattle.simplex_voter.specs.Timeouts.{with_timeout, is_contradicted, round_with_retry}
+use Rattle.simplex_voter.specs.Certification.{named_also, with_finalized_view, waits_for, with_waiting_candidate, with_verdict, verdict_taken, after_certified, takes_verdict, takes_certify_handle, after_set_certify_handle}
 use Rattle.simplex_voter.specs.Acceptance.{with_notarization_at, with_nullification_at, with_finalization_at, after_add_notarization, after_add_nullification, after_add_finalization, after_set_genesis, after_set_floor}
 use Rattle.simplex_voter.specs.Parents.{binding_matches}
 use Rattle.simplex_voter.specs.Rules.{may_notarize, may_nullify, may_finalize}
@@ -38,7 +38,7 @@ use Rattle.simplex_voter.specs.Replay.{bound_again, restored_binding}
 use Rattle.simplex_voter.proofs.Gaps.{and_parts, not_true}
 use Rattle.simplex_voter.proofs.Rules.{notarize_parts, nullify_parts, finalize_parts}
 use Rattle.simplex_member.specs.Entries.{entry_view}
-use Rattle.simplex_member.specs.Recovery.{replayed}
+use Rattle.simplex_member.specs.Recovery.{after_replaying}
 use Rattle.simplex_laws.specs.Events.{Event, after_event, SetFloor, AddNotarization, AddNullification, AddFinalization, Certified, ConstructNotarize, ConstructNullify, ConstructFinalize, SetProposal, TryPropose, Proposed, Supersede, Release, TryVerify, Verified, VerificationFailed, CertifyCandidates, SetCertifyHandle, TriggerTimeout, NextTimeout, BroadcastNotarization, BroadcastNullification, BroadcastFinalization, Prune, Replay}
 use Rattle.simplex_laws.specs.Sums.{finalized_by}
 use Rattle.simplex_laws.proofs.frames.Steps as step
@@ -53,7 +53,7 @@ tracked_by x v test fails = by_round (round_at x v)
     by_round None passes = absurd (false≢true (sym fails ∙ passes))
     by_round (Some r) passes = refl
 
-pub armed_timed : (d : Decision) (leader certified : ℕ) → is_timed (armed d leader certified) ≡ true
+pub armed_timed : (d : Decision) (leader certified : ℕ) → is_timed (with_decision_deadlines d leader certified) ≡ true
 armed_timed (decision.Pending leader certified latch) a b = refl
 armed_timed (decision.Nullify retry) a b = refl
 armed_timed decision.Finalize a b = refl
@@ -87,49 +87,49 @@ module _ {K L D : Type 0} {same : D → D → Bool} {elect : Elect L} {low : ℕ
 
   -- leaders
 
-  to_led : {y : Facts K L D} (v member : ℕ) → low ≤ v → Path same elect x e low from y → Path same elect x e low from (led y v member)
+  to_led : {y : Facts K L D} (v member : ℕ) → low ≤ v → Path same elect x e low from y → Path same elect x e low from (with_leader_at y v member)
   to_led {y} v member over path =
       let leader = leader_at y.members member in
       either (has_leader y v) y (with_round y v (record (round_of y v) { leader = leader })) (λ set. path) (λ none. put v _ (inl over) (step.Led leader none) path)
 
-  to_inherited : {y : Facts K L D} (source to : ℕ) → low ≤ to → Path same elect x e low from y → Path same elect x e low from (inherited y source to)
+  to_inherited : {y : Facts K L D} (source to : ℕ) → low ≤ to → Path same elect x e low from y → Path same elect x e low from (with_leader_of y source to)
   to_inherited {y} source to over path = inherits (round_of y source).leader
     where
-      inherits : (leader : Option (Leader K)) → Path same elect x e low from (option_map_or (λ l. led y to l.idx) leader y)
+      inherits : (leader : Option (Leader K)) → Path same elect x e low from (option_map_or (λ l. with_leader_at y to l.idx) leader y)
       inherits None = path
       inherits (Some l) = to_led to l.idx over path
 
-  slides : (count first : ℕ) (y : Facts K L D) → low ≤ first → Path same elect x e low from y → Path same elect x e low from (fold (λ y w. inherited y (w - 1) w) y (range_with_len first count))
+  slides : (count first : ℕ) (y : Facts K L D) → low ≤ first → Path same elect x e low from y → Path same elect x e low from (fold (λ y w. with_leader_of y (w - 1) w) y (range_with_len first count))
   slides zero first y over path = path
-  slides (suc count) first y over path = slides count (first + 1) (inherited y (first - 1) first) (omega arith) (to_inherited (first - 1) first over path)
+  slides (suc count) first y over path = slides count (first + 1) (with_leader_of y (first - 1) first) (omega arith) (to_inherited (first - 1) first over path)
 
-  to_slid : {y : Facts K L D} (v : ℕ) → low ≤ v → Path same elect x e low from y → Path same elect x e low from (slid y v)
+  to_slid : {y : Facts K L D} (v : ℕ) → low ≤ v → Path same elect x e low from y → Path same elect x e low from (with_window_leaders y v)
   to_slid {y} v over path = opens (y.terms.optimistic_views == 0)
     where
-      opens : (b : Bool) → Path same elect x e low from (fold (λ y w. inherited y (w - 1) w) y (if b then [] else range_with_len (v + 1) (min (term_end y.terms.term_length v) (v + y.terms.optimistic_views + 1) - v)))
+      opens : (b : Bool) → Path same elect x e low from (fold (λ y w. with_leader_of y (w - 1) w) y (if b then [] else range_with_len (v + 1) (min (term_end y.terms.term_length v) (v + y.terms.optimistic_views + 1) - v)))
       opens true = path
       opens false = slides (min (term_end y.terms.term_length v) (v + y.terms.optimistic_views + 1) - v) (v + 1) y (omega arith) path
 
-  to_elected : {y : Facts K L D} (v : ℕ) (seed : Option (List ℕ)) → low ≤ v → Path same elect x e low from y → Path same elect x e low from (elected elect y v seed)
+  to_elected : {y : Facts K L D} (v : ℕ) (seed : Option (List ℕ)) → low ≤ v → Path same elect x e low from y → Path same elect x e low from (with_elected_leader elect y v seed)
   to_elected {y} v seed over path = to_led v (elect y.elector (round_number y v) seed) over path
 
-  to_prepared : {y : Facts K L D} (v : ℕ) → low ≤ v → Path same elect x e low from y → Path same elect x e low from (prepared elect y v)
+  to_prepared : {y : Facts K L D} (v : ℕ) → low ≤ v → Path same elect x e low from y → Path same elect x e low from (with_next_view_ready elect y v)
   to_prepared {y} v over path =
-      let later = elected elect y (v + 1) None in
+      let later = with_elected_leader elect y (v + 1) None in
       let own = (round_of y v).notarize_decided && is_elected_early elect y (v + 1) in
-      either (in_window y (v + 1)) (inherited y v (v + 1)) (if own then later else y) (λ opens. to_inherited v (v + 1) (omega arith) path)
+      either (in_window y (v + 1)) (with_leader_of y v (v + 1)) (if own then later else y) (λ opens. to_inherited v (v + 1) (omega arith) path)
       (λ shut. either own later y (λ mine. to_elected (v + 1) None (omega arith) path) (λ other. path))
 
   -- entries, timeouts and what waits for certification
 
-  to_entered : {y : Facts K L D} (v now : ℕ) → (y.current < v → low ≤ v) → Path same elect x e low from y → Path same elect x e low from (entered y v now)
+  to_entered : {y : Facts K L D} (v now : ℕ) → (y.current < v → low ≤ v) → Path same elect x e low from y → Path same elect x e low from (with_view_entered y v now)
   to_entered {y} v now over path =
       let r = entered_round y (round_of y v) now in
       either (nat_lt y.current v) (record (with_round y v r) { current = v }) y
       (λ is. (let above : y.current < v = grind (arith, nat_tests) in Then (put v r (inl (over above)) (step.Entered now) path) (Reaches v above (entered_timed y v now))))
       (λ passed. path)
 
-  to_triggered : {y : Facts K L D} (v : ℕ) (reason : TimeoutReason) (now : ℕ) → Path same elect x e low from y → Path same elect x e low from (triggered y v reason now)
+  to_triggered : {y : Facts K L D} (v : ℕ) (reason : TimeoutReason) (now : ℕ) → Path same elect x e low from y → Path same elect x e low from (with_timeout y v reason now)
   to_triggered {y} v reason now path =
       let r = with_latch (round_of y v) now reason in
       either (nat_le y.current v && is_tracked y v && not (is_contradicted reason (round_of y v))) (with_round y v r) y
@@ -139,19 +139,19 @@ module _ {K L D : Type 0} {same : D → D → Bool} {elect : Elect L} {low : ℕ
   to_named : {y : Facts K L D} (v : ℕ) → Path same elect x e low from y → Path same elect x e low from (named_also y v)
   to_named {y} v path = either (nat_lt y.finalized v) _ y (λ is. Then path (Names v (grind (arith, nat_tests)))) (λ final. path)
 
-  pub to_woken : {y : Facts K L D} (p : ℕ) → Path same elect x e low from y → Path same elect x e low from (woken elect y p)
+  pub to_woken : {y : Facts K L D} (p : ℕ) → Path same elect x e low from y → Path same elect x e low from (with_waiting_candidate elect y p)
   to_woken {y} p path = either (option_map_or (waits_for elect y p) (round_at y (p + 1)) false) (named_also y (p + 1)) y (λ waits. to_named (p + 1) path) (λ none. path)
 
-  to_raised : {y : Facts K L D} (v : ℕ) → finalized_by e ≡ v → Path same elect x e low from y → Path same elect x e low from (raised y v)
+  to_raised : {y : Facts K L D} (v : ℕ) → finalized_by e ≡ v → Path same elect x e low from y → Path same elect x e low from (with_finalized_view y v)
   to_raised {y} v says path = either (nat_lt y.finalized v) _ y (λ is. Then path (Raises v says (grind (arith, nat_tests)))) (λ final. path)
 
   -- a verdict is given, from its own round on
-  from_verdict : (v : ℕ) (success : Bool) (now : ℕ) → (x.current < v + 1 → low ≤ v + 1) → Path same elect x e low from (judged (at_moment x now) v success) → Path same elect x e low from (verdict_taken elect (at_moment x now) v success now)
+  from_verdict : (v : ℕ) (success : Bool) (now : ℕ) → (x.current < v + 1 → low ≤ v + 1) → Path same elect x e low from (with_verdict (at_moment x now) v success) → Path same elect x e low from (verdict_taken elect (at_moment x now) v success now)
   from_verdict v true now over path = to_woken v (to_entered (v + 1) now over path)
   from_verdict v false now over path = to_triggered v FailedCertification now path
 
   -- genesis is set, from its entry on
-  pub from_first_entry : (payload : D) (now : ℕ) → low ≤ 1 → Path same elect x e low from (entered (record (at_moment x now) { genesis = Some payload }) 1 now) → Path same elect x e low from (after_set_genesis elect x payload now)
+  pub from_first_entry : (payload : D) (now : ℕ) → low ≤ 1 → Path same elect x e low from (with_view_entered (record (at_moment x now) { genesis = Some payload }) 1 now) → Path same elect x e low from (after_set_genesis elect x payload now)
   from_first_entry payload now over path = to_elected 1 None over path
 
   to_cast : {y : Facts K L D} (v : ℕ) → nullify_by e ≡ Some v → Path same elect x e low from y → Path same elect x e low from (nullify_cast y v)
@@ -177,14 +177,14 @@ module _ {K L D : Type 0} {same : D → D → Bool} {elect : Elect L} {low : ℕ
       put_either v (is_some r.finalization) r (record (with_recovered (same_proposal same) r c.proposal) { finalization = Some c }) (inl over) (λ set. step.Kept) (λ none. step.Finalized c says refl none) path
 
   -- from the entry of the next view on
-  pub from_entry : (c : ProposalFacts D) (now : ℕ) → finalization_by e ≡ Some c → low ≤ c.proposal.round.view → Path same elect x e low from (entered (raised (at_moment x now) c.proposal.round.view) (c.proposal.round.view + 1) now) → Path same elect x e low from (after_add_finalization same elect x c now)
+  pub from_entry : (c : ProposalFacts D) (now : ℕ) → finalization_by e ≡ Some c → low ≤ c.proposal.round.view → Path same elect x e low from (with_view_entered (with_finalized_view (at_moment x now) c.proposal.round.view) (c.proposal.round.view + 1) now) → Path same elect x e low from (after_add_finalization same elect x c now)
   from_entry c now says over path =
       let v = c.proposal.round.view in
       let kept = to_finalized c says over (to_elected (v + 1) (Some c.bytes) (omega arith) path) in
       either (is_some (round_of x v).finalization) _ _ (λ old. kept) (λ new. to_slid v over (to_woken v kept))
 
   -- and from the finalized view on
-  pub from_raised : (c : ProposalFacts D) (now : ℕ) → finalization_by e ≡ Some c → low ≤ c.proposal.round.view → Path same elect x e low from (raised (at_moment x now) c.proposal.round.view) → Path same elect x e low from (after_add_finalization same elect x c now)
+  pub from_raised : (c : ProposalFacts D) (now : ℕ) → finalization_by e ≡ Some c → low ≤ c.proposal.round.view → Path same elect x e low from (with_finalized_view (at_moment x now) c.proposal.round.view) → Path same elect x e low from (after_add_finalization same elect x c now)
   from_raised c now says over path = from_entry c now says over (to_entered (c.proposal.round.view + 1) now (λ above. omega arith) path)
 
   to_finalization : (c : ProposalFacts D) (now : ℕ) → finalization_by e ≡ Some c → finalized_by e ≡ c.proposal.round.view → low ≤ c.proposal.round.view → Path same elect x e low from x → Path same elect x e low from (after_add_finalization same elect x c now)
@@ -245,7 +245,7 @@ module _ {K L D : Type 0} (same : D → D → Bool) (elect : Elect L) (low : ℕ
   notarization_path : (c : ProposalFacts D) → low ≤ c.proposal.round.view → To (AddNotarization c) (after_add_notarization same elect x c)
   notarization_path c over =
       let v = c.proposal.round.view in
-      let kept : To (AddNotarization c) (with_notarization_at same elect (elected elect x (v + 1) (Some c.bytes)) c) = to_notarized c refl over (to_elected (v + 1) (Some c.bytes) (omega arith) Still) in
+      let kept : To (AddNotarization c) (with_notarization_at same elect (with_elected_leader elect x (v + 1) (Some c.bytes)) c) = to_notarized c refl over (to_elected (v + 1) (Some c.bytes) (omega arith) Still) in
       either (is_some (round_of x v).notarization) _ _ (λ old. kept) (λ new. to_slid v over (to_named v kept))
 
   nullification_path : (c : NullificationFacts) (now : ℕ) → low ≤ c.round.view → low ≤ next_term_start x.terms.term_length c.round.view → To (AddNullification c now) (after_add_nullification elect x c now)
@@ -258,7 +258,7 @@ module _ {K L D : Type 0} (same : D → D → Bool) (elect : Elect L) (low : ℕ
   verdict_path : (v : ℕ) (success : Bool) (now : ℕ) → low ≤ x.current → To (Certified v success now) (after_certified elect x v success now)
   verdict_path v success now reached = either (is_tracked x v) (verdict_taken elect (at_moment x now) v success now) (at_moment x now) (λ there. from_verdict v success now (λ above. omega (arith, above, reached)) (given there)) (λ gone. moved (Certified v success now) now)
     where
-      given : is_tracked x v ≡ true → To (Certified v success now) (judged (at_moment x now) v success)
+      given : is_tracked x v ≡ true → To (Certified v success now) (with_verdict (at_moment x now) v success)
       given there = put v _ (inr there) (step.Judged success refl (λ takes. verdict_fits x v success there takes)) (moved (Certified v success now) now)
 
   nullify_path : (v : ℕ) → low ≤ x.current → To (ConstructNullify v) (after_construct_nullify x v)
@@ -283,12 +283,12 @@ module _ {K L D : Type 0} (same : D → D → Bool) (elect : Elect L) (low : ℕ
   notarize_path : (v : ℕ) → (is_tracked x v ≡ true → low ≤ v) → To (ConstructNotarize v) (after_construct_notarize same elect x v)
   notarize_path v known = either (may_notarize same elect x v) _ x (λ may. decides may (tracked_by x v (λ r. is_verified_slot r.slot) refl (notarize_parts same elect x v may).verified)) (λ barred. Still)
     where
-      decides : may_notarize same elect x v ≡ true → is_tracked x v ≡ true → To (ConstructNotarize v) (prepared elect (with_round x v (record (round_of x v) { notarize_decided = true })) v)
+      decides : may_notarize same elect x v ≡ true → is_tracked x v ≡ true → To (ConstructNotarize v) (with_next_view_ready elect (with_round x v (record (round_of x v) { notarize_decided = true })) v)
       decides may there = to_prepared v (known there) (put v _ (inr there) (step.NotarizeDecided refl may) Still)
 
   proposal_path : (v : ℕ) (p : Proposal D) → low ≤ v → To (SetProposal v p) (after_set_proposal same elect x v p)
   proposal_path v p over =
-      let y = prepared elect x v in
+      let y = with_next_view_ready elect x v in
       let r = round_of y v in
       put_either v (is_nullify r.decision) r (record r { slot = after_vote (same_proposal same) r.slot p }) (inl over) (λ given_up. step.Kept) (λ free. step.Heard p refl free) (to_prepared v over Still)
 
@@ -317,20 +317,20 @@ module _ {K L D : Type 0} (same : D → D → Bool) (elect : Elect L) (low : ℕ
       (λ bound. put_tracked_either v (is_nullify r.decision) r (record r { slot = after_mark r.slot }) (λ given_up. step.Kept) (λ free. step.Marked refl bound free) Still)
       (λ loose. put_tracked v _ (step.Unbound refl) Still)
 
-  failed_path : (v : ℕ) (reason : TimeoutReason) (now : ℕ) → To (VerificationFailed v reason now) (if binding_matches same elect x v then triggered (at_moment x now) v reason now else without_binding (at_moment x now) v)
+  failed_path : (v : ℕ) (reason : TimeoutReason) (now : ℕ) → To (VerificationFailed v reason now) (if binding_matches same elect x v then with_timeout (at_moment x now) v reason now else without_binding (at_moment x now) v)
   failed_path v reason now =
       let m = moved (VerificationFailed v reason now) now in
-      either (binding_matches same elect x v) (triggered (at_moment x now) v reason now) (without_binding (at_moment x now) v) (λ bound. to_triggered v reason now m) (λ loose. put_tracked v _ (step.Unbound refl) m)
+      either (binding_matches same elect x v) (with_timeout (at_moment x now) v reason now) (without_binding (at_moment x now) v) (λ bound. to_triggered v reason now m) (λ loose. put_tracked v _ (step.Unbound refl) m)
 
   handle_path : (v token : ℕ) → To (SetCertifyHandle v token) (after_set_certify_handle x v token)
   handle_path v token = put_tracked v _ (step.Certifying token refl (λ takes. handle_fits x v takes)) Still
 
-  polled_path : (now : ℕ) → To (NextTimeout now) (with_tracked (at_moment x now) x.current (polled x now))
+  polled_path : (now : ℕ) → To (NextTimeout now) (with_tracked (at_moment x now) x.current (round_with_retry x now))
   polled_path now =
       let r = round_of x x.current in
       put_tracked_either x.current (awaits_retry r) (record r { decision = decision.Nullify (Some (now + x.settings.timeout_retry)) }) r (λ awaits. step.Retried now x.settings.timeout_retry refl awaits) (λ none. step.Kept) (moved (NextTimeout now) now)
 
-  replay_path : (e : ArtifactFacts D) → low ≤ entry_view e → To (Replay e) (replayed same elect x e)
+  replay_path : (e : ArtifactFacts D) → low ≤ entry_view e → To (Replay e) (after_replaying same elect x e)
   replay_path (NotarizeVote p m) over = to_prepared p.round.view over (put p.round.view _ (inl over) (bound (restored_binding x p) refl) Still)
     where
       bound : (o : Option (Proposal D × D)) → restored_binding x p ≡ o → RoundStep same elect x (Replay (NotarizeVote p m)) x p.round.view (round_of x p.round.view) (bound_again (record (round_of x p.round.view) { slot = after_own (same_proposal same) (round_of x p.round.view).slot p; notarize_decided = true }) o)
@@ -372,5 +372,5 @@ module _ {K L D : Type 0} (same : D → D → Bool) (elect : Elect L) (low : ℕ
   event_path (Replay e) reached over = replay_path e over
 
 module _ {K L D : Type 0} {same : D → D → Bool} {elect : Elect L} {x : Facts K L D} {e : Event K D} where
-  pub from_judged : (v : ℕ) (success : Bool) (now : ℕ) → Path same elect x e 0 (judged (at_moment x now) v success) (verdict_taken elect (at_moment x now) v success now)
+  pub from_judged : (v : ℕ) (success : Bool) (now : ℕ) → Path same elect x e 0 (with_verdict (at_moment x now) v success) (verdict_taken elect (at_moment x now) v success now)
   from_judged v success now = from_verdict v success now (λ above. omega arith) Still

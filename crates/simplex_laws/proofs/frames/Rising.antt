@@ -6,7 +6,7 @@ use Rattle.simplex_types.specs.Certificates.{ProposalFacts}
 use Rattle.simplex_voter.specs.Facts.{Facts, Elect}
 use Rattle.simplex_voter.specs.Windows.{min_active}
 use Rattle.simplex_voter.specs.Entering.{at_moment}
-use Rattle.simplex_voter.specs.Certification.{raised}
+use Rattle.simplex_voter.specs.Certification.{with_finalized_view}
 use Rattle.simplex_voter.specs.Acceptance.{after_add_finalization}
 use Rattle.simplex_member.specs.Calls.{CallFacts}
 use Rattle.simplex_member.specs.Made.{after_call}
@@ -76,10 +76,10 @@ module _ {K L D : Type 0} (same : D → D → Bool) (elect : Elect L) (x : Facts
 
 -- finalizations
 
-raised_reaches : {K L D : Type 0} (x : Facts K L D) (v : ℕ) → v ≤ (raised x v).finalized
+raised_reaches : {K L D : Type 0} (x : Facts K L D) (v : ℕ) → v ≤ (with_finalized_view x v).finalized
 raised_reaches x v = raises (nat_lt x.finalized v) refl
   where
-    raises : (b : Bool) → nat_lt x.finalized v ≡ b → v ≤ (raised x v).finalized
+    raises : (b : Bool) → nat_lt x.finalized v ≡ b → v ≤ (with_finalized_view x v).finalized
     raises true is = rw is (omega arith)
     raises false is = rw is (grind (arith, nat_tests))
 

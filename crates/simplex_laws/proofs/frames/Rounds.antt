@@ -12,7 +12,7 @@ use Rattle.simplex_round.specs.declared.round.Decision.{Decision}
 use Rattle.simplex_round.specs.declared.round.Decision.TheVariants as decision
 use Rattle.simplex_round.specs.declared.round.Certification.{Certification}
 use Rattle.simplex_round.specs.declared.round.Certification.TheVariants as certification
-use Rattle.simplex_round.specs.Round.{RoundFacts, new_round, armed, latched, is_nullify, is_finalize, is_certified, after_abort, has_no_retry, awaits_retry}
+use Rattle.simplex_round.specs.Round.{RoundFacts, new_round, with_decision_deadlines, with_first_timeout, is_nullify, is_finalize, is_certified, after_abort, has_no_retry, awaits_retry}
 use Rattle.simplex_voter.specs.Facts.{Facts, round_at, round_of, round_number, is_tracked, with_round}
 use Rattle.simplex_voter.proofs.Gaps.{and_parts}
 use Rattle.simplex_voter.proofs.Walked.{find-changed}
@@ -27,23 +27,23 @@ module _ {K L D : Type 0} where
   pub tracked_put : (x : Facts K L D) (v : ℕ) (r : RoundFacts K D) → is_tracked (with_round x v r) v ≡ true
   tracked_put x v r = ap is_some (find-put nat_cmp nat_cmp_total v v r x.rounds ∙ ap (λ b. cond b (Some r) (find nat_cmp v x.rounds)) (is_eq-nat_cmp v v ∙ eq-eqb v v refl))
 
-pub armed_nullify : (d : Decision) (a b : ℕ) → is_nullify (armed d a b) ≡ is_nullify d
+pub armed_nullify : (d : Decision) (a b : ℕ) → is_nullify (with_decision_deadlines d a b) ≡ is_nullify d
 armed_nullify (decision.Pending _ _ _) a b = refl
 armed_nullify (decision.Nullify _) a b = refl
 armed_nullify decision.Finalize a b = refl
 
-pub armed_finalize : (d : Decision) (a b : ℕ) → is_finalize (armed d a b) ≡ is_finalize d
+pub armed_finalize : (d : Decision) (a b : ℕ) → is_finalize (with_decision_deadlines d a b) ≡ is_finalize d
 armed_finalize (decision.Pending _ _ _) a b = refl
 armed_finalize (decision.Nullify _) a b = refl
 armed_finalize decision.Finalize a b = refl
 
-pub latched_nullify : (d : Decision) (t : ℕ × TimeoutReason) → is_nullify (latched d t) ≡ is_nullify d
+pub latched_nullify : (d : Decision) (t : ℕ × TimeoutReason) → is_nullify (with_first_timeout d t) ≡ is_nullify d
 latched_nullify (decision.Pending _ _ None) t = refl
 latched_nullify (decision.Pending _ _ (Some _)) t = refl
 latched_nullify (decision.Nullify _) t = refl
 latched_nullify decision.Finalize t = refl
 
-pub latched_finalize : (d : Decision) (t : ℕ × TimeoutReason) → is_finalize (latched d t) ≡ is_finalize d
+pub latched_finalize : (d : Decision) (t : ℕ × TimeoutReason) → is_finalize (with_first_timeout d t) ≡ is_finalize d
 latched_finalize (decision.Pending _ _ None) t = refl
 latched_finalize (decision.Pending _ _ (Some _)) t = refl
 latched_finalize (decision.Nullify _) t = refl

@@ -8,11 +8,11 @@ use Rattle.simplex_voter.specs.Acceptance.{after_set_floor}
 use Rattle.simplex_member.specs.declared.member.error.RecoverError.{RecoverError}
 use Rattle.simplex_member.specs.Calls.{CallFacts, Told}
 use Rattle.simplex_laws.specs.Events.{Event, after_event}
-use Rattle.simplex_member.specs.Lives.{MemberFacts, IsCall, fallen}
+use Rattle.simplex_member.specs.Lives.{MemberFacts, IsCall, without_life}
 use Rattle.simplex_member.specs.Recovery.{recover_error}
-use Rattle.simplex_member.specs.Restarts.{RestartFacts, cut, new_life, retention_grows, GoesOn, IsRestart, IsRestartWhere}
+use Rattle.simplex_member.specs.Restarts.{RestartFacts, cut_member, new_life, retention_grows, GoesOn, IsRestart, IsRestartWhere}
 use Rattle.simplex_member.specs.Runs.{StepFacts, Calls, Restarts, IsRun}
-use Rattle.simplex_member.specs.Start.{StartFacts, started, new_state}
+use Rattle.simplex_member.specs.Start.{StartFacts, started_member, new_state}
 use Rattle.simplex_laws.specs.TermLengths.{HasTerms, KeepTerms}
 use Rattle.simplex_laws.proofs.frames.Fresh.{IsFresh, fresh_state}
 use Rattle.simplex_laws.proofs.frames.CallsMake.{call_by_any, floor_then_all_keep}
@@ -31,7 +31,7 @@ module _ {K L D : Type 0} (same : D → D → Bool) (elect : Elect L) (term_leng
   from_copy n start result left fresh (inl (is, leaves)) = rw leaves tt
   from_copy n start result left fresh (inr (copy, by_view, goes)) = by_error (recover_error same (new_state start.setup) start.floor start.now copy) goes
     where
-      by_error : (o : Option RecoverError) → MatchOption o ((result ≡ Ok tt) × (left ≡ new_life same elect n start copy)) (λ e. (result ≡ Err e) × (left ≡ fallen n)) → HoldsIn P left.life
+      by_error : (o : Option RecoverError) → MatchOption o ((result ≡ Ok tt) × (left ≡ new_life same elect n start copy)) (λ e. (result ≡ Err e) × (left ≡ without_life n)) → HoldsIn P left.life
       by_error None (_, leaves) = rw leaves (floor_then_all_keep same elect P keeps start.now (new_state start.setup) start.floor copy (begins (new_state start.setup) start.floor start.now (fresh_state term_length start.setup fresh)))
       by_error (Some e) (_, leaves) = rw leaves tt
 
@@ -41,7 +41,7 @@ module _ {K L D : Type 0} (same : D → D → Bool) (elect : Elect L) (term_leng
     where
       by_test : (b : Bool) → IsRestartWhere same elect b m r result left → HoldsIn P left.life
       by_test true (_, leaves) = rw leaves sound
-      by_test false goes = from_copy (cut m r.drop r.prune) r.start result left fresh goes
+      by_test false goes = from_copy (cut_member m r.drop r.prune) r.start result left fresh goes
 
   told_keeps : (m : MemberFacts K L D) (call : CallFacts D) (told : Told K D) (left : MemberFacts K L D) → IsCall same elect m call told left → HoldsIn P m.life → HoldsIn P left.life
   told_keeps m call told left is_step sound =
@@ -62,5 +62,5 @@ module _ {K L D : Type 0} (same : D → D → Bool) (elect : Elect L) (term_leng
       run_keeps steps replies next end fresh.1 (restart_keeps m r is_step.0 next fresh.0 sound is_step.1) rest
 
   -- from the start of a run on
-  pub run_induction : (start : StartFacts K L D) (steps : List (StepFacts K L D)) (replies : List (Told K D)) (end : MemberFacts K L D) → HasTerms term_length start.setup → KeepTerms term_length steps → IsRun same elect (started same elect (new_state start.setup) start.floor start.now) steps replies end → HoldsIn P end.life
-  run_induction start steps replies end begun fresh run = run_keeps steps replies (started same elect (new_state start.setup) start.floor start.now) end fresh (begins (new_state start.setup) start.floor start.now (fresh_state term_length start.setup begun)) run
+  pub run_induction : (start : StartFacts K L D) (steps : List (StepFacts K L D)) (replies : List (Told K D)) (end : MemberFacts K L D) → HasTerms term_length start.setup → KeepTerms term_length steps → IsRun same elect (started_member same elect (new_state start.setup) start.floor start.now) steps replies end → HoldsIn P end.life
+  run_induction start steps replies end begun fresh run = run_keeps steps replies (started_member same elect (new_state start.setup) start.floor start.now) end fresh (begins (new_state start.setup) start.floor start.now (fresh_state term_length start.setup begun)) run

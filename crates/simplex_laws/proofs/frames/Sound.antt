@@ -9,8 +9,8 @@ use Rattle.simplex_round.specs.Round.{new_round}
 use Rattle.simplex_types.specs.declared.types.numbers.Round.{Round}
 use Rattle.simplex_types.specs.declared.types.window.Terms.{Terms}
 use Rattle.simplex_voter.specs.Facts.{Settings, Facts, Elect, new_facts, round_at, round_of, round_number}
-use Rattle.simplex_voter.specs.Entering.{at_moment, entered}
-use Rattle.simplex_voter.specs.Certification.{raised}
+use Rattle.simplex_voter.specs.Entering.{at_moment, with_view_entered}
+use Rattle.simplex_voter.specs.Certification.{with_finalized_view}
 use Rattle.simplex_voter.specs.Acceptance.{after_add_finalization, after_set_floor}
 use Rattle.simplex_laws.specs.Events as event
 use Rattle.simplex_laws.specs.Events.{Event, after_event}
@@ -37,10 +37,10 @@ pub record IsSound {K L D : Type 0} (term_length : ℕ) (x : Facts K L D) : Type
   pub ahead : IsAhead x
   pub placed : IsPlaced x
 
-pub entered_reaches : {K L D : Type 0} (x : Facts K L D) (v now : ℕ) → v ≤ (entered x v now).current
+pub entered_reaches : {K L D : Type 0} (x : Facts K L D) (v now : ℕ) → v ≤ (with_view_entered x v now).current
 entered_reaches x v now = enters (nat_lt x.current v) refl
   where
-    enters : (b : Bool) → nat_lt x.current v ≡ b → v ≤ (entered x v now).current
+    enters : (b : Bool) → nat_lt x.current v ≡ b → v ≤ (with_view_entered x v now).current
     enters true is = rw is (omega arith)
     enters false is = rw is (grind (arith, nat_tests))
 
@@ -50,11 +50,11 @@ module _ {K L D : Type 0} (same : D → D → Bool) (elect : Elect L) (x : Facts
   event_passes (event.AddFinalization c now) = inr (passes (event.AddFinalization c now) refl)
     where
       passes : (e : Event K D) → finalization_by e ≡ Some c → c.proposal.round.view < (after_add_finalization same elect x c now).current
-      passes e says = omega (arith, (goes_along same elect x e 0 _ _ (from_entry c now says (omega arith) Still)).current, entered_reaches (raised (at_moment x now) c.proposal.round.view) (c.proposal.round.view + 1) now)
+      passes e says = omega (arith, (goes_along same elect x e 0 _ _ (from_entry c now says (omega arith) Still)).current, entered_reaches (with_finalized_view (at_moment x now) c.proposal.round.view) (c.proposal.round.view + 1) now)
   event_passes (event.SetFloor (FinalizedFloor c) now) = inr (passes (event.SetFloor (FinalizedFloor c) now) refl)
     where
       passes : (e : Event K D) → finalization_by e ≡ Some c → c.proposal.round.view < (after_add_finalization same elect x c now).current
-      passes e says = omega (arith, (goes_along same elect x e 0 _ _ (from_entry c now says (omega arith) Still)).current, entered_reaches (raised (at_moment x now) c.proposal.round.view) (c.proposal.round.view + 1) now)
+      passes e says = omega (arith, (goes_along same elect x e 0 _ _ (from_entry c now says (omega arith) Still)).current, entered_reaches (with_finalized_view (at_moment x now) c.proposal.round.view) (c.proposal.round.view + 1) now)
   event_passes (event.SetFloor (Genesis payload) now) =
       inr (omega (arith, (goes_along same elect x (event.SetFloor (Genesis payload) now) 0 _ _ (from_first_entry payload now (omega arith) Still)).current, entered_reaches (record (at_moment x now) { genesis = Some payload }) 1 now))
   event_passes _ = inl (refl, refl)

@@ -16,10 +16,10 @@ use Rattle.simplex_round.specs.declared.round.Certification.TheVariants as certi
 use Rattle.simplex_round.specs.Slot.{SlotFacts, after_certificate}
 use Rattle.simplex_round.specs.Round.{RoundFacts, with_notarization, with_nullification, with_finalization, certified_round, is_judged}
 use Rattle.simplex_voter.specs.Facts.{Facts, Elect, round_at, round_of, is_tracked, with_round}
-use Rattle.simplex_voter.specs.Entering.{at_moment, entered}
-use Rattle.simplex_voter.specs.Leaders.{elected, slid}
-use Rattle.simplex_voter.specs.Timeouts.{triggered}
-use Rattle.simplex_voter.specs.Certification.{named_also, raised, woken, judged, takes_verdict, verdict_taken, after_certified}
+use Rattle.simplex_voter.specs.Entering.{at_moment, with_view_entered}
+use Rattle.simplex_voter.specs.Leaders.{with_elected_leader, with_window_leaders}
+use Rattle.simplex_voter.specs.Timeouts.{with_timeout}
+use Rattle.simplex_voter.specs.Certification.{named_also, with_finalized_view, with_waiting_candidate, with_verdict, takes_verdict, verdict_taken, after_certified}
 use Rattle.simplex_voter.specs.Acceptance.{with_notarization_at, with_nullification_at, with_finalization_at, after_add_notarization, after_add_nullification, after_add_finalization, after_set_floor}
 use Rattle.simplex_voter.proofs.Elsewhere.{round_of-with_round}
 use Rattle.simplex_voter.proofs.Gaps.{and_parts}
@@ -101,11 +101,11 @@ module _ {K L D : Type 0} (same : D → D → Bool) (decides : (d e : D) → sam
   pub notarization_follows : Follows same elect (AddNotarization c) x (after_add_notarization same elect x c)
   notarization_follows =
       let v = c.proposal.round.view in
-      let d = elected elect x (v + 1) (Some c.bytes) in
+      let d = with_elected_leader elect x (v + 1) (Some c.bytes) in
       let z = with_notarization_at same elect d c in
-      let y = if is_some (round_of x v).notarization then z else slid (named_also z v) v in
+      let y = if is_some (round_of x v).notarization then z else with_window_leaders (named_also z v) v in
       let before : Quiet x d = elected_quiet elect x (v + 1) (Some c.bytes) in
-      let after : Quiet z y = quiet_where z (is_some (round_of x v).notarization) z (slid (named_also z v) v) (quiet z) (both_quiet z (named_also z v) (slid (named_also z v) v) (named_quiet z v) (slid_quiet (named_also z v) v)) in
+      let after : Quiet z y = quiet_where z (is_some (round_of x v).notarization) z (with_window_leaders (named_also z v) v) (quiet z) (both_quiet z (named_also z v) (with_window_leaders (named_also z v) v) (named_quiet z v) (slid_quiet (named_also z v) v)) in
       record {
         settings = after.settings ∙ before.settings;
         terms = after.terms ∙ before.terms;
@@ -122,15 +122,15 @@ module _ {K L D : Type 0} (same : D → D → Bool) (decides : (d e : D) → sam
   finalization_follows now =
       let v = c.proposal.round.view in
       let a = at_moment x now in
-      let b = raised a v in
-      let e = entered b (v + 1) now in
-      let d = elected elect e (v + 1) (Some c.bytes) in
+      let b = with_finalized_view a v in
+      let e = with_view_entered b (v + 1) now in
+      let d = with_elected_leader elect e (v + 1) (Some c.bytes) in
       let z = with_finalization_at same elect d c in
-      let y = if is_some (round_of x v).finalization then z else slid (woken elect z v) v in
+      let y = if is_some (round_of x v).finalization then z else with_window_leaders (with_waiting_candidate elect z v) v in
       let entering : Leaves b.moment (max b.current (v + 1)) b.finalized b e = entered_leaves b (v + 1) now in
       let raising : Leaves now x.current (max x.finalized v) x b = leaves_joined now x.current x.finalized now x.current (max x.finalized v) x a b (moment_leaves x now) (raised_leaves a v) in
       let before = then_quiet b.moment (max b.current (v + 1)) b.finalized x e d (leaves_joined now x.current (max x.finalized v) b.moment (max b.current (v + 1)) b.finalized x b e raising entering) (elected_quiet elect e (v + 1) (Some c.bytes)) in
-      let after : Quiet z y = quiet_where z (is_some (round_of x v).finalization) z (slid (woken elect z v) v) (quiet z) (both_quiet z (woken elect z v) (slid (woken elect z v) v) (woken_quiet elect z v) (slid_quiet (woken elect z v) v)) in
+      let after : Quiet z y = quiet_where z (is_some (round_of x v).finalization) z (with_window_leaders (with_waiting_candidate elect z v) v) (quiet z) (both_quiet z (with_waiting_candidate elect z v) (with_window_leaders (with_waiting_candidate elect z v) v) (woken_quiet elect z v) (slid_quiet (with_waiting_candidate elect z v) v)) in
       record {
         settings = after.settings ∙ before.settings;
         terms = after.terms ∙ before.terms;
@@ -188,8 +188,8 @@ module _ {K L D : Type 0} (same : D → D → Bool) (elect : Elect L) (x : Facts
       let u = c.round.view in
       let next = next_term_start x.terms.term_length u in
       let a = at_moment x now in
-      let e = entered a next now in
-      let d = elected elect e next (Some c.bytes) in
+      let e = with_view_entered a next now in
+      let d = with_elected_leader elect e next (Some c.bytes) in
       let z = with_nullification_at d c in
       let entering : Leaves now (max x.current next) x.finalized x e = leaves_joined now x.current x.finalized now (max x.current next) x.finalized x a e (moment_leaves x now) (entered_leaves a next now) in
       let before = then_quiet now (max x.current next) x.finalized x e d entering (elected_quiet elect e next (Some c.bytes)) in
@@ -208,8 +208,8 @@ module _ {K L D : Type 0} (same : D → D → Bool) (elect : Elect L) (x : Facts
   pub genesis_follows : (payload : D) (now : ℕ) → Follows same elect (SetFloor (Genesis payload) now) x (after_set_floor same elect x (Genesis payload) now)
   genesis_follows payload now =
       let a : Facts K L D = record (at_moment x now) { genesis = Some payload } in
-      let e = entered a 1 now in
-      let y = elected elect e 1 None in
+      let e = with_view_entered a 1 now in
+      let y = with_elected_leader elect e 1 None in
       let q = then_quiet now (max x.current 1) x.finalized a e y (entered_leaves a 1 now) (elected_quiet elect e 1 None) in
       record {
         settings = q.settings;
@@ -254,7 +254,7 @@ module _ {K L D : Type 0} (x : Facts K L D) where
           rw found (not_true _ (and_parts (is_some r.notarization) _ test).1)
 
 module _ {K L D : Type 0} (same : D → D → Bool) (elect : Elect L) (x : Facts K L D) (v now : ℕ) where
-  judged_rounds : (success : Bool) (y : Facts K L D) → takes_verdict x v success ≡ true → is_tracked x v ≡ true → ((w : ℕ) → Alike (round_of (judged x v success) w) (round_of y w)) → (w : ℕ) → known_of (round_of y w) ≡ adds same elect x (Certified v success now) w (known_of (round_of x w))
+  judged_rounds : (success : Bool) (y : Facts K L D) → takes_verdict x v success ≡ true → is_tracked x v ≡ true → ((w : ℕ) → Alike (round_of (with_verdict x v success) w) (round_of y w)) → (w : ℕ) → known_of (round_of y w) ≡ adds same elect x (Certified v success now) w (known_of (round_of x w))
   judged_rounds success y takes here after w = put_between same elect x (Certified v success now) x y v (certified_round (round_of x v) success) (λ s. refl) (rw (eq-eqb v v refl, here) (λ i. record (known_of (round_of x v)) { verdict = verdict_first (round_of x v).certification success (uncontradicted x v success takes here) i })) (λ u apart k. rw apart refl) after w
 
 module _ {K L D : Type 0} (same : D → D → Bool) (elect : Elect L) (x : Facts K L D) (v now : ℕ) where
@@ -266,9 +266,9 @@ module _ {K L D : Type 0} (same : D → D → Bool) (elect : Elect L) (x : Facts
 
       by_tracked : (b : Bool) → is_tracked x v ≡ b → (s : Bool) → takes_verdict x v s ≡ true → Follows same elect (Certified v s now) x (if is_tracked x v then verdict_taken elect a v s now else a)
       by_tracked true here true taken =
-          let j = judged a v true in
-          let e = entered j (v + 1) now in
-          let y = woken elect e v in
+          let j = with_verdict a v true in
+          let e = with_view_entered j (v + 1) now in
+          let y = with_waiting_candidate elect e v in
           let after = then_quiet now (max x.current (v + 1)) x.finalized j e y (entered_leaves j (v + 1) now) (woken_quiet elect e v) in
           subst (λ b. Follows same elect (Certified v true now) x (if b then y else a)) (sym here)
           (record {
@@ -283,8 +283,8 @@ module _ {K L D : Type 0} (same : D → D → Bool) (elect : Elect L) (x : Facts
             rounds = λ w _. judged_rounds same elect x v now true y taken here after.rounds w;
           })
       by_tracked true here false taken =
-          let j = judged a v false in
-          let y = triggered j v FailedCertification now in
+          let j = with_verdict a v false in
+          let y = with_timeout j v FailedCertification now in
           let after = triggered_quiet j v FailedCertification now in
           subst (λ b. Follows same elect (Certified v false now) x (if b then y else a)) (sym here)
           (record {

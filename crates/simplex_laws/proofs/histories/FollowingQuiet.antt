@@ -14,7 +14,7 @@ use Rattle.simplex_round.specs.Slot.{after_mark}
 use Rattle.simplex_round.specs.Round.{RoundFacts, is_nullify, is_finalize, is_judged, has_no_retry, awaits_retry}
 use Rattle.simplex_voter.specs.Facts.{Facts, Elect, round_of, with_tracked}
 use Rattle.simplex_voter.specs.Entering.{at_moment}
-use Rattle.simplex_voter.specs.Timeouts.{triggered, polled, after_trigger_timeout, after_next_timeout}
+use Rattle.simplex_voter.specs.Timeouts.{with_timeout, round_with_retry, after_trigger_timeout, after_next_timeout}
 use Rattle.simplex_voter.specs.Certification.{takes_certify_handle, after_candidates, after_set_certify_handle}
 use Rattle.simplex_voter.specs.declared.voter.proposal_request.ProposalRequest.{ProposalRequest}
 use Rattle.simplex_voter.specs.declared.voter.standing.Standing.{Standing}
@@ -106,13 +106,13 @@ module _ {K L D : Type 0} (x : Facts K L D) where
   pub trigger_leaves : (v : ℕ) (reason : TimeoutReason) (now : ℕ) → Leaves now x.current x.finalized x (after_trigger_timeout x v reason now)
   trigger_leaves v reason now =
       let a = at_moment x now in
-      then_quiet now x.current x.finalized x a (triggered a v reason now) (moment_leaves x now) (triggered_quiet a v reason now)
+      then_quiet now x.current x.finalized x a (with_timeout a v reason now) (moment_leaves x now) (triggered_quiet a v reason now)
 
   pub next_timeout_leaves : (now : ℕ) → Leaves now x.current x.finalized x (after_next_timeout x now)
   next_timeout_leaves now =
       let a = at_moment x now in
-      then_quiet now x.current x.finalized x a (with_tracked a x.current (polled x now)) (moment_leaves x now)
-      (tracked_quiet a x.current (polled x now) (retried (awaits_retry r) refl))
+      then_quiet now x.current x.finalized x a (with_tracked a x.current (round_with_retry x now)) (moment_leaves x now)
+      (tracked_quiet a x.current (round_with_retry x now) (retried (awaits_retry r) refl))
     where
       r : RoundFacts K D
       r = round_of x x.current
@@ -129,5 +129,5 @@ module _ {K L D : Type 0} (x : Facts K L D) where
   failed_leaves same elect v reason now =
       let a = at_moment x now in
       then_quiet now x.current x.finalized x a (after_verification_failed same elect x v reason now) (moment_leaves x now)
-      (quiet_where a (binding_matches same elect x v) (triggered a v reason now) (without_binding a v) (triggered_quiet a v reason now)
+      (quiet_where a (binding_matches same elect x v) (with_timeout a v reason now) (without_binding a v) (triggered_quiet a v reason now)
       (tracked_quiet a v (record (round_of a v) { binding = None }) refl))

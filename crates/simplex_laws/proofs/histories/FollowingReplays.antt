@@ -10,9 +10,9 @@ use Rattle.simplex_round.specs.declared.round.Decision.TheVariants as decision
 use Rattle.simplex_round.specs.Slot.{after_own}
 use Rattle.simplex_round.specs.Round.{RoundFacts, certified_round}
 use Rattle.simplex_voter.specs.Facts.{Facts, Elect, round_of, with_round}
-use Rattle.simplex_voter.specs.Leaders.{prepared}
+use Rattle.simplex_voter.specs.Leaders.{with_next_view_ready}
 use Rattle.simplex_voter.specs.Replay.{TakesReplay, bound_again, restored_binding}
-use Rattle.simplex_member.specs.Recovery.{as_artifact, replayed}
+use Rattle.simplex_member.specs.Recovery.{as_artifact, after_replaying}
 use Rattle.simplex_laws.specs.Events.{Event, IsEvent, after_event, SetFloor, AddNotarization, AddNullification, AddFinalization, Certified, ConstructNotarize, ConstructNullify, ConstructFinalize, SetProposal, TryPropose, Proposed, Supersede, Release, TryVerify, Verified, VerificationFailed, CertifyCandidates, SetCertifyHandle, TriggerTimeout, NextTimeout, BroadcastNotarization, BroadcastNullification, BroadcastFinalization, Prune, Replay}
 use Rattle.simplex_laws.specs.Sums.{moment_by, is_among}
 use Rattle.simplex_laws.proofs.histories.Leaving.{known_of, Leaves, Quiet, prepared_quiet}
@@ -22,7 +22,7 @@ use Rattle.simplex_laws.proofs.histories.FollowingQuiet.{try_verify_quiet, relea
 use Rattle.simplex_laws.proofs.histories.FollowingVotes.{own_held, own_conflict, nullify_follows, finalize_follows, notarize_follows, proposal_follows, proposed_follows, broadcast_notarization_follows, broadcast_nullification_follows, broadcast_finalization_follows, prune_follows}
 
 module _ {K L D : Type 0} (same : D → D → Bool) (decides : (d e : D) → same d e ≡ true → d ≡ e) (elect : Elect L) (x : Facts K L D) where
-  replayed_notarize : (p : Proposal D) (signer : ℕ) → Follows same elect (Replay (NotarizeVote p signer)) x (replayed same elect x (NotarizeVote p signer))
+  replayed_notarize : (p : Proposal D) (signer : ℕ) → Follows same elect (Replay (NotarizeVote p signer)) x (after_replaying same elect x (NotarizeVote p signer))
   replayed_notarize p signer =
       record {
         settings = after.settings;
@@ -33,7 +33,7 @@ module _ {K L D : Type 0} (same : D → D → Bool) (decides : (d e : D) → sam
         finalized = omega (arith, after.finalized_is);
         nullified = λ w _. ap (λ views. is_among views w) after.nullified;
         nullify_votes = λ w _. ap (λ views. is_among views w) after.nullify_votes;
-        rounds = λ w _. put_between same elect x (Replay (NotarizeVote p signer)) x (prepared elect z v) v t (λ u. refl) voted (λ u apart k. rw apart refl) after.rounds w;
+        rounds = λ w _. put_between same elect x (Replay (NotarizeVote p signer)) x (with_next_view_ready elect z v) v t (λ u. refl) voted (λ u apart k. rw apart refl) after.rounds w;
       }
     where
       v : ℕ
@@ -51,7 +51,7 @@ module _ {K L D : Type 0} (same : D → D → Bool) (decides : (d e : D) → sam
       z : Facts K L D
       z = with_round x v t
 
-      after : Quiet z (prepared elect z v)
+      after : Quiet z (with_next_view_ready elect z v)
       after = prepared_quiet elect z v
 
       unbound : (binding : Option (Proposal D × D)) → known_of (bound_again s binding) ≡ known_of s
@@ -64,7 +64,7 @@ module _ {K L D : Type 0} (same : D → D → Bool) (decides : (d e : D) → sam
       voted : known_of t ≡ adds same elect x (Replay (NotarizeVote p signer)) v (known_of r)
       voted = unbound (restored_binding x p) ∙ said
 
-  replay_follows : (e : ArtifactFacts D) → TakesReplay x (as_artifact {K = K} e) → Follows same elect (Replay e) x (replayed same elect x e)
+  replay_follows : (e : ArtifactFacts D) → TakesReplay x (as_artifact {K = K} e) → Follows same elect (Replay e) x (after_replaying same elect x e)
   replay_follows (NotarizeVote p signer) takes = replayed_notarize p signer
   replay_follows (NullifyVote round signer) takes =
       let v = round.view in

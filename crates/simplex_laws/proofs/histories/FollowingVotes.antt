@@ -19,7 +19,7 @@ use Rattle.simplex_round.specs.Round.{RoundFacts, new_round, after_nullify, is_p
 use Rattle.simplex_voter.specs.Facts.{Facts, Elect, round_at, round_of, round_number, with_round}
 use Rattle.simplex_voter.specs.Windows.{min_active}
 use Rattle.simplex_voter.specs.Entering.{at_moment}
-use Rattle.simplex_voter.specs.Leaders.{prepared}
+use Rattle.simplex_voter.specs.Leaders.{with_next_view_ready}
 use Rattle.simplex_voter.specs.Rules.{may_notarize, may_nullify, may_finalize}
 use Rattle.simplex_voter.specs.Votes.{nullify_cast, finalize_cast, after_construct_notarize, after_construct_nullify, after_construct_finalize}
 use Rattle.simplex_voter.specs.Proposing.{proposal_of, proposed_round, proposed_answer, after_proposed}
@@ -154,9 +154,9 @@ module _ {K L D : Type 0} (same : D → D → Bool) (elect : Elect L) (x : Facts
       decided : may_notarize same elect x v ≡ true → known_of r ≡ adds same elect x (ConstructNotarize v) v (known_of (round_of x v))
       decided may = rw (may, eq-eqb v v refl) refl
 
-      by_rule : (b : Bool) → may_notarize same elect x v ≡ b → Follows same elect (ConstructNotarize v) x (if b then prepared elect z v else x)
+      by_rule : (b : Bool) → may_notarize same elect x v ≡ b → Follows same elect (ConstructNotarize v) x (if b then with_next_view_ready elect z v else x)
       by_rule true may =
-          let after : Quiet z (prepared elect z v) = prepared_quiet elect z v in
+          let after : Quiet z (with_next_view_ready elect z v) = prepared_quiet elect z v in
           record {
             settings = after.settings;
             terms = after.terms;
@@ -166,7 +166,7 @@ module _ {K L D : Type 0} (same : D → D → Bool) (elect : Elect L) (x : Facts
             finalized = omega (arith, after.finalized_is);
             nullified = λ w _. ap (λ views. is_among views w) after.nullified;
             nullify_votes = λ w _. ap (λ views. is_among views w) after.nullify_votes;
-            rounds = λ w _. put_between same elect x (ConstructNotarize v) x (prepared elect z v) v r (λ u. refl) (decided may) (λ u apart k. rw apart refl) after.rounds w;
+            rounds = λ w _. put_between same elect x (ConstructNotarize v) x (with_next_view_ready elect z v) v r (λ u. refl) (decided may) (λ u apart k. rw apart refl) after.rounds w;
           }
       by_rule false barred = record { settings = refl; terms = refl; genesis = refl; moment = refl; current = omega arith; finalized = omega arith; nullified = λ w _. refl; nullify_votes = λ w _. refl; rounds = λ w _. nothing_added same elect x (ConstructNotarize v) w (λ k. rw (barred, and_false (eqb w v)) refl) (round_of x w) (round_of x w) refl }
 
@@ -187,7 +187,7 @@ module _ {K L D : Type 0} (same : D → D → Bool) (elect : Elect L) (x : Facts
       }
     where
       y : Facts K L D
-      y = prepared elect x v
+      y = with_next_view_ready elect x v
 
       before : Quiet x y
       before = prepared_quiet elect x v

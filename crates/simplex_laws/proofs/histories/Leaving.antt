@@ -16,10 +16,10 @@ use Rattle.simplex_round.specs.Round.{RoundFacts, leader_at, with_latch, is_null
 use Rattle.simplex_voter.specs.Facts.{Facts, Elect, round_at, round_of, round_number, is_tracked, with_round, with_tracked}
 use Rattle.simplex_voter.specs.Windows.{in_window}
 use Rattle.simplex_voter.specs.Payloads.{is_elected_early}
-use Rattle.simplex_voter.specs.Entering.{at_moment, entered, entered_round}
-use Rattle.simplex_voter.specs.Leaders.{has_leader, led, inherited, opened_views, slid, elected, prepared}
-use Rattle.simplex_voter.specs.Timeouts.{triggered, is_contradicted}
-use Rattle.simplex_voter.specs.Certification.{named_also, waits_for, woken, without_token, raised}
+use Rattle.simplex_voter.specs.Entering.{at_moment, with_view_entered, entered_round}
+use Rattle.simplex_voter.specs.Leaders.{has_leader, with_leader_at, with_leader_of, opened_views, with_window_leaders, with_elected_leader, with_next_view_ready}
+use Rattle.simplex_voter.specs.Timeouts.{with_timeout, is_contradicted}
+use Rattle.simplex_voter.specs.Certification.{named_also, waits_for, with_waiting_candidate, without_token, with_finalized_view}
 use Rattle.simplex_laws.specs.Shows.{verdict_of}
 use Rattle.simplex_member.proofs.Growing.{round_of-put, round_of-same}
 use Rattle.simplex_laws.proofs.frames.Rounds.{armed_nullify, armed_finalize, latched_nullify, latched_finalize, round_changed}
@@ -168,20 +168,20 @@ module _ {K L D : Type 0} where
   entry_alike : (x : Facts K L D) (r : RoundFacts K D) (now : ℕ) → Alike r (entered_round x r now)
   entry_alike x r now = decided_alike r _ (armed_nullify r.decision (now + x.settings.leader_timeout) (now + x.settings.certification_timeout)) (armed_finalize r.decision (now + x.settings.leader_timeout) (now + x.settings.certification_timeout))
 
-  pub entered_leaves : (x : Facts K L D) (v now : ℕ) → Leaves x.moment (max x.current v) x.finalized x (entered x v now)
+  pub entered_leaves : (x : Facts K L D) (v now : ℕ) → Leaves x.moment (max x.current v) x.finalized x (with_view_entered x v now)
   entered_leaves x v now = enters (nat_lt x.current v) refl
     where
       r : RoundFacts K D
       r = entered_round x (round_of x v) now
 
-      enters : (b : Bool) → nat_lt x.current v ≡ b → Leaves x.moment (max x.current v) x.finalized x (entered x v now)
+      enters : (b : Bool) → nat_lt x.current v ≡ b → Leaves x.moment (max x.current v) x.finalized x (with_view_entered x v now)
       enters true is = rw is (record { settings = refl; terms = refl; genesis = refl; nullified = refl; nullify_votes = refl; moment_is = refl; current_is = grind (arith, nat_tests); finalized_is = refl; rounds = λ w. rounds_alike x v r (entry_alike x (round_of x v) now) w })
       enters false is = rw is (record { settings = refl; terms = refl; genesis = refl; nullified = refl; nullify_votes = refl; moment_is = refl; current_is = grind (arith, nat_tests); finalized_is = refl; rounds = λ w. alike (round_of x w) })
 
-  pub raised_leaves : (x : Facts K L D) (v : ℕ) → Leaves x.moment x.current (max x.finalized v) x (raised x v)
+  pub raised_leaves : (x : Facts K L D) (v : ℕ) → Leaves x.moment x.current (max x.finalized v) x (with_finalized_view x v)
   raised_leaves x v = raises (nat_lt x.finalized v) refl
     where
-      raises : (b : Bool) → nat_lt x.finalized v ≡ b → Leaves x.moment x.current (max x.finalized v) x (raised x v)
+      raises : (b : Bool) → nat_lt x.finalized v ≡ b → Leaves x.moment x.current (max x.finalized v) x (with_finalized_view x v)
       raises true is = rw is (record { settings = refl; terms = refl; genesis = refl; nullified = refl; nullify_votes = refl; moment_is = refl; current_is = refl; finalized_is = grind (arith, nat_tests); rounds = λ w. round_changed (λ u r. if nat_le u v then without_token r else r) x w Alike alike (λ r. alike_where r (nat_le w v) (without_token r) r (token_alike r) (alike r)) })
       raises false is = rw is (record { settings = refl; terms = refl; genesis = refl; nullified = refl; nullify_votes = refl; moment_is = refl; current_is = refl; finalized_is = grind (arith, nat_tests); rounds = λ w. alike (round_of x w) })
 
@@ -192,39 +192,39 @@ module _ {K L D : Type 0} where
 
   -- leaders
 
-  pub led_quiet : (x : Facts K L D) (v member : ℕ) → Quiet x (led x v member)
+  pub led_quiet : (x : Facts K L D) (v member : ℕ) → Quiet x (with_leader_at x v member)
   led_quiet x v member = quiet_where x (has_leader x v) x _ (quiet x) (put_quiet x v (record (round_of x v) { leader = leader_at x.members member }) refl)
 
-  pub inherited_quiet : (x : Facts K L D) (from to : ℕ) → Quiet x (inherited x from to)
+  pub inherited_quiet : (x : Facts K L D) (from to : ℕ) → Quiet x (with_leader_of x from to)
   inherited_quiet x from to = inherits (round_of x from).leader
     where
-      inherits : (leader : Option (Leader K)) → Quiet x (option_map_or (λ l. led x to l.idx) leader x)
+      inherits : (leader : Option (Leader K)) → Quiet x (option_map_or (λ l. with_leader_at x to l.idx) leader x)
       inherits None = quiet x
       inherits (Some l) = led_quiet x to l.idx
 
-  slides : (views : List ℕ) (x : Facts K L D) → Quiet x (fold (λ y w. inherited y (w - 1) w) x views)
+  slides : (views : List ℕ) (x : Facts K L D) → Quiet x (fold (λ y w. with_leader_of y (w - 1) w) x views)
   slides [] x = quiet x
-  slides (w ∷ views) x = both_quiet x (inherited x (w - 1) w) (fold (λ y w. inherited y (w - 1) w) (inherited x (w - 1) w) views) (inherited_quiet x (w - 1) w) (slides views (inherited x (w - 1) w))
+  slides (w ∷ views) x = both_quiet x (with_leader_of x (w - 1) w) (fold (λ y w. with_leader_of y (w - 1) w) (with_leader_of x (w - 1) w) views) (inherited_quiet x (w - 1) w) (slides views (with_leader_of x (w - 1) w))
 
-  pub slid_quiet : (x : Facts K L D) (v : ℕ) → Quiet x (slid x v)
+  pub slid_quiet : (x : Facts K L D) (v : ℕ) → Quiet x (with_window_leaders x v)
   slid_quiet x v = slides (opened_views x v) x
 
   -- timeouts
 
-  pub triggered_quiet : (x : Facts K L D) (v : ℕ) (reason : TimeoutReason) (now : ℕ) → Quiet x (triggered x v reason now)
+  pub triggered_quiet : (x : Facts K L D) (v : ℕ) (reason : TimeoutReason) (now : ℕ) → Quiet x (with_timeout x v reason now)
   triggered_quiet x v reason now =
       quiet_where x (nat_le x.current v && is_tracked x v && not (is_contradicted reason (round_of x v))) (with_round x v (with_latch (round_of x v) now reason)) x
       (put_quiet x v (with_latch (round_of x v) now reason) (latch_alike (round_of x v) now reason)) (quiet x)
 
 module _ {K L D : Type 0} (elect : Elect L) where
-  pub elected_quiet : (x : Facts K L D) (v : ℕ) (seed : Option (List ℕ)) → Quiet x (elected elect x v seed)
+  pub elected_quiet : (x : Facts K L D) (v : ℕ) (seed : Option (List ℕ)) → Quiet x (with_elected_leader elect x v seed)
   elected_quiet x v seed = led_quiet x v (elect x.elector (round_number x v) seed)
 
-  pub prepared_quiet : (x : Facts K L D) (v : ℕ) → Quiet x (prepared elect x v)
+  pub prepared_quiet : (x : Facts K L D) (v : ℕ) → Quiet x (with_next_view_ready elect x v)
   prepared_quiet x v =
-      let later = elected elect x (v + 1) None in
-      quiet_where x (in_window x (v + 1)) (inherited x v (v + 1)) _ (inherited_quiet x v (v + 1))
+      let later = with_elected_leader elect x (v + 1) None in
+      quiet_where x (in_window x (v + 1)) (with_leader_of x v (v + 1)) _ (inherited_quiet x v (v + 1))
       (quiet_where x ((round_of x v).notarize_decided && is_elected_early elect x (v + 1)) later x (elected_quiet x (v + 1) None) (quiet x))
 
-  pub woken_quiet : (x : Facts K L D) (p : ℕ) → Quiet x (woken elect x p)
+  pub woken_quiet : (x : Facts K L D) (p : ℕ) → Quiet x (with_waiting_candidate elect x p)
   woken_quiet x p = quiet_where x (option_map_or (waits_for elect x p) (round_at x (p + 1)) false) (named_also x (p + 1)) x (named_quiet x (p + 1)) (quiet x)

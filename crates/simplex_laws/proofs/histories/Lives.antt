@@ -17,13 +17,13 @@ use Rattle.simplex_member.specs.Made.{answer, after_call}
 use Rattle.simplex_member.specs.Check.{first_error, floor_rules, first_broken_after, first_broken_rule}
 use Rattle.simplex_member.specs.Entries.{entry_view, entries_of}
 use Rattle.simplex_laws.specs.Events.{History, with_event, SetFloor, AddNotarization, AddNullification, AddFinalization, Certified, Replay, events_of}
-use Rattle.simplex_laws.specs.Histories.{retaken_events, with_events, with_call, with_entry, with_entries, recovery, IsShown, LeadsTo}
-use Rattle.simplex_member.specs.Lives.{MemberFacts, fallen, reply_of, left_of, AnswersAlive, IsCall}
-use Rattle.simplex_member.specs.Recovery.{as_artifact, replayed, retaken, taken, all_taken, recovered, recover_error, TakesEntry, TakesEntries}
-use Rattle.simplex_member.specs.Restarts.{RestartFacts, IsByView, IsRestart, IsRestartWhere, GoesOn, new_life, cut, retention_grows}
+use Rattle.simplex_laws.specs.Histories.{retaken_events, with_events, with_call_events, with_entry_taken, with_entries, recovery, IsShown, LeadsTo}
+use Rattle.simplex_member.specs.Lives.{MemberFacts, without_life, reply_of, left_of, AnswersAlive, IsCall}
+use Rattle.simplex_member.specs.Recovery.{as_artifact, after_replaying, after_entry, after_kept_entry, after_entries, recovered_state, recover_error, TakesEntry, TakesEntries}
+use Rattle.simplex_member.specs.Restarts.{RestartFacts, IsByView, IsRestart, IsRestartWhere, GoesOn, new_life, cut_member, retention_grows}
 use Rattle.simplex_member.specs.Runs.{StepFacts, Calls, Restarts, restart_told, IsRun}
 use Rattle.simplex_laws.specs.Shows.{Shows}
-use Rattle.simplex_member.specs.Start.{Setup, StartFacts, started, new_state}
+use Rattle.simplex_member.specs.Start.{Setup, StartFacts, started_member, new_state}
 use Rattle.simplex_laws.specs.Sums.{finalized_in}
 use Rattle.simplex_member.proofs.Allowing.{new_bears}
 use Rattle.simplex_member.proofs.Bearing.{BearsAll}
@@ -76,7 +76,7 @@ module _ {K L D : Type 0} (same : D → D → Bool) (elect : Elect L) where
   }
 
   -- what is answered is not refused
-  told_events : (history : History K L D) (x : Facts K L D) (o : Openings K D) (call : CallFacts D) → with_call history o call (answer same elect x o call) ≡ with_events history (events_of o call)
+  told_events : (history : History K L D) (x : Facts K L D) (o : Openings K D) (call : CallFacts D) → with_call_events history o call (answer same elect x o call) ≡ with_events history (events_of o call)
   told_events history x o calls.GetBestCertificate = refl
   told_events history x o _ = refl
 
@@ -87,13 +87,13 @@ module _ {K L D : Type 0} (same : D → D → Bool) (decides : (d e : D) → sam
 
   -- an entry that is taken again
 
-  retaken_shown : (now : ℕ) (e : ArtifactFacts D) → TakesEntry (λ b. b) same elect x now (as_artifact {K = K} e) → Shows same elect (with_events history (retaken_events now e)) (retaken same elect x now e)
+  retaken_shown : (now : ℕ) (e : ArtifactFacts D) → TakesEntry (λ b. b) same elect x now (as_artifact {K = K} e) → Shows same elect (with_events history (retaken_events now e)) (after_entry same elect x now e)
   retaken_shown now (NotarizeVote p signer) takes = event_shown same elect history x shows decides (Replay (NotarizeVote p signer)) takes.replays
   retaken_shown now (NullifyVote round signer) takes = event_shown same elect history x shows decides (Replay (NullifyVote round signer)) takes.replays
   retaken_shown now (FinalizeVote p signer) takes = event_shown same elect history x shows decides (Replay (FinalizeVote p signer)) takes.replays
   retaken_shown now (Verdict round success) takes =
       let e = Replay (Verdict round success) in
-      event_shown same elect (with_event history e) (replayed same elect x (Verdict round success)) (event_shown same elect history x shows decides e takes.replays) decides (Certified round.view success now) takes.gives
+      event_shown same elect (with_event history e) (after_replaying same elect x (Verdict round success)) (event_shown same elect history x shows decides e takes.replays) decides (Certified round.view success now) takes.gives
   retaken_shown now (Accepted (Notarized c)) takes =
       event_shown same elect (with_event history (AddNotarization c)) (after_add_notarization same elect x c) (event_shown same elect history x shows decides (AddNotarization c) takes.kept) decides (Replay (Accepted (Notarized c))) takes.replays
   retaken_shown now (Accepted (Nullified c)) takes =
@@ -101,14 +101,14 @@ module _ {K L D : Type 0} (same : D → D → Bool) (decides : (d e : D) → sam
   retaken_shown now (Accepted (Finalized c)) takes =
       event_shown same elect (with_event history (AddFinalization c now)) (after_add_finalization same elect x c now) (event_shown same elect history x shows decides (AddFinalization c now) takes.kept) decides (Replay (Accepted (Finalized c))) takes.replays
 
-  taken_shown : (now : ℕ) (e : ArtifactFacts D) → (nat_lt (entry_view e) (min_active x) ≡ false → TakesEntry (λ b. b) same elect x now (as_artifact {K = K} e)) → Shows same elect (with_entry history now e) (taken same elect x now e)
-  unfolding taken
+  taken_shown : (now : ℕ) (e : ArtifactFacts D) → (nat_lt (entry_view e) (min_active x) ≡ false → TakesEntry (λ b. b) same elect x now (as_artifact {K = K} e)) → Shows same elect (with_entry_taken history now e) (after_kept_entry same elect x now e)
+  unfolding after_kept_entry
   taken_shown now e takes = by_view (nat_lt (entry_view e) (min_active x)) refl
     where
       lowest_alike : finalized_in history.events - history.fresh.settings.view_retention ≡ min_active x
       lowest_alike = ap (λ n. n - history.fresh.settings.view_retention) (sym shows.finalized) ∙ ap (λ s. x.finalized - s.view_retention) (sym shows.settings)
 
-      by_view : (b : Bool) → nat_lt (entry_view e) (min_active x) ≡ b → Shows same elect (if nat_lt (entry_view e) (finalized_in history.events - history.fresh.settings.view_retention) then history else with_events history (retaken_events now e)) (if nat_lt (entry_view e) (min_active x) then x else retaken same elect x now e)
+      by_view : (b : Bool) → nat_lt (entry_view e) (min_active x) ≡ b → Shows same elect (if nat_lt (entry_view e) (finalized_in history.events - history.fresh.settings.view_retention) then history else with_events history (retaken_events now e)) (if nat_lt (entry_view e) (min_active x) then x else after_entry same elect x now e)
       by_view true below = rw (lowest_alike, below) shows
       by_view false above = rw (lowest_alike, above) (retaken_shown now e (takes above))
 
@@ -123,20 +123,20 @@ view_back K (Accepted (Nullified c)) = refl
 view_back K (Accepted (Finalized c)) = refl
 
 module _ {K L D : Type 0} (same : D → D → Bool) (decides : (d e : D) → same d e ≡ true → d ≡ e) (elect : Elect L) (now : ℕ) where
-  entries_shown : (entries : List (ArtifactFacts D)) (history : History K L D) (x : Facts K L D) → Shows same elect history x → TakesEntries (λ b. b) same elect x now (map (as_artifact {K = K}) entries) → Shows same elect (with_entries history now entries) (all_taken same elect x now entries)
+  entries_shown : (entries : List (ArtifactFacts D)) (history : History K L D) (x : Facts K L D) → Shows same elect history x → TakesEntries (λ b. b) same elect x now (map (as_artifact {K = K}) entries) → Shows same elect (with_entries history now entries) (after_entries same elect x now entries)
   entries_shown [] history x shows takes = shows
   entries_shown (e ∷ rest) history x shows takes =
-      let y = taken same elect x now e in
-      let next : Shows same elect (with_entry history now e) y = taken_shown same decides elect history x shows now e (λ above. takes.0.taken (ap (λ v. nat_lt v (min_active x)) (view_back K e) ∙ above)) in
-      entries_shown rest (with_entry history now e) y next (subst (λ a. TakesEntries (λ b. b) same elect (taken same elect x now a) now (map (as_artifact {K = K}) rest)) (entry_back K e) takes.1)
+      let y = after_kept_entry same elect x now e in
+      let next : Shows same elect (with_entry_taken history now e) y = taken_shown same decides elect history x shows now e (λ above. takes.0.taken (ap (λ v. nat_lt v (min_active x)) (view_back K e) ∙ above)) in
+      entries_shown rest (with_entry_taken history now e) y next (subst (λ a. TakesEntries (λ b. b) same elect (after_kept_entry same elect x now a) now (map (as_artifact {K = K}) rest)) (entry_back K e) takes.1)
 
 module _ {K L D : Type 0} (same : D → D → Bool) (decides : (d e : D) → same d e ≡ true → d ≡ e) (elect : Elect L) (start : StartFacts K L D) where
   -- a floor that breaks no rule
   floor_shown : first_error (floor_rules start.setup.settings.epoch start.floor) ≡ None → Shows same elect (record { fresh = new_state start.setup; events = SetFloor start.floor start.now ∷ [] }) (after_set_floor same elect (new_state start.setup) start.floor start.now)
   floor_shown good = event_shown same elect (record { fresh = new_state start.setup; events = [] }) (new_state start.setup) (begun_shown same elect start.setup) decides (SetFloor start.floor start.now) (good_floor (new_state start.setup) refl start.floor good)
 
-  unbroken_shown : (entries : List (ArtifactFacts D)) → first_broken_rule same start.setup.settings.epoch start.setup.me start.floor entries ≡ None → Shows same elect (recovery start entries) (recovered same elect (new_state start.setup) start.floor start.now entries)
-  unfolding recovered first_broken_rule
+  unbroken_shown : (entries : List (ArtifactFacts D)) → first_broken_rule same start.setup.settings.epoch start.setup.me start.floor entries ≡ None → Shows same elect (recovery start entries) (recovered_state same elect (new_state start.setup) start.floor start.now entries)
+  unfolding recovered_state first_broken_rule
   unbroken_shown entries none =
       let x = new_state start.setup in
       let y = after_set_floor same elect x start.floor start.now in
@@ -146,28 +146,28 @@ module _ {K L D : Type 0} (same : D → D → Bool) (decides : (d e : D) → sam
       let takes : TakesEntries (λ b. b) same elect y start.now (map (as_artifact {K = K}) entries) = set_takes same elect x start.floor start.now (λ b. b) (map (as_artifact {K = K}) entries) going bears (subst (λ es. first_broken_rule same x.settings.epoch x.me start.floor es ≡ None) (sym (entries_back K entries)) none) in
       entries_shown same decides elect start.now entries (record { fresh = x; events = SetFloor start.floor start.now ∷ [] }) y (floor_shown good) takes
 
-  pub recovered_shown : (entries : List (ArtifactFacts D)) → recover_error same (new_state start.setup) start.floor start.now entries ≡ None → Shows same elect (recovery start entries) (recovered same elect (new_state start.setup) start.floor start.now entries)
+  pub recovered_shown : (entries : List (ArtifactFacts D)) → recover_error same (new_state start.setup) start.floor start.now entries ≡ None → Shows same elect (recovery start entries) (recovered_state same elect (new_state start.setup) start.floor start.now entries)
   recovered_shown entries none = unbroken_shown entries (first_none (first_broken_rule same start.setup.settings.epoch start.setup.me start.floor entries) _ none).0
 
 module _ {K L D : Type 0} (same : D → D → Bool) (decides : (d e : D) → same d e ≡ true → d ≡ e) (elect : Elect L) (m : MemberFacts K L D) where
   -- a call
 
-  answered : (history : History K L D) (call : CallFacts D) (x : Facts K L D) → IsShown same elect history m → Shows same elect history x → IsShown same elect (with_call history m.openings call (reply_of same elect x m.openings call)) (left_of same elect x m call)
+  answered : (history : History K L D) (call : CallFacts D) (x : Facts K L D) → IsShown same elect history m → Shows same elect history x → IsShown same elect (with_call_events history m.openings call (reply_of same elect x m.openings call)) (left_of same elect x m call)
   answered history call x shown shows = by_allowed (is_allowed x m.openings call) refl
     where
-      by_fault : (o : Option Fault) → fault_of x call ≡ o → is_allowed x m.openings call ≡ true → IsShown same elect (with_call history m.openings call (reply_of same elect x m.openings call)) (left_of same elect x m call)
+      by_fault : (o : Option Fault) → fault_of x call ≡ o → is_allowed x m.openings call ≡ true → IsShown same elect (with_call_events history m.openings call (reply_of same elect x m.openings call)) (left_of same elect x m call)
       by_fault None no_fault allowed = rw (allowed, no_fault) (subst (λ h. Shows same elect h (after_call same elect x m.openings call)) (sym (told_events same elect history x m.openings call)) (call_shown same decides elect history x shows m.openings call allowed))
       by_fault (Some f) refused allowed = rw (allowed, refused) shown
 
-      by_allowed : (b : Bool) → is_allowed x m.openings call ≡ b → IsShown same elect (with_call history m.openings call (reply_of same elect x m.openings call)) (left_of same elect x m call)
+      by_allowed : (b : Bool) → is_allowed x m.openings call ≡ b → IsShown same elect (with_call_events history m.openings call (reply_of same elect x m.openings call)) (left_of same elect x m call)
       by_allowed true allowed = by_fault (fault_of x call) refl allowed
       by_allowed false not_allowed = rw not_allowed shown
 
-  pub called_shown : (history : History K L D) (left : MemberFacts K L D) (call : CallFacts D) (told : Told K D) → IsShown same elect history m → IsCall same elect m call told left → IsShown same elect (with_call history m.openings call told) left
+  pub called_shown : (history : History K L D) (left : MemberFacts K L D) (call : CallFacts D) (told : Told K D) → IsShown same elect history m → IsCall same elect m call told left → IsShown same elect (with_call_events history m.openings call told) left
   unfolding IsCall
   called_shown history left call told shown is_call = by_life m.life refl is_call
     where
-      by_life : (o : Option (Facts K L D)) → m.life ≡ o → AnswersAlive same elect o m call told left → IsShown same elect (with_call history m.openings call told) left
+      by_life : (o : Option (Facts K L D)) → m.life ≡ o → AnswersAlive same elect o m call told left → IsShown same elect (with_call_events history m.openings call told) left
       by_life None dead (tells, leaves) = rw (tells, leaves) shown
       by_life (Some x) alive (inl (tells, leaves)) = rw (tells, leaves) (answered history call x shown (subst (λ o. MatchOption o (Unit {0}) (Shows same elect history)) alive shown))
       by_life (Some x) alive (inr (_, tells, inl leaves)) = rw (tells, leaves) shown
@@ -178,11 +178,11 @@ module _ {K L D : Type 0} (same : D → D → Bool) (decides : (d e : D) → sam
   unfolding IsRestart
   refused_shown history left r result found refused shown restarts = by_test (retention_grows m r.prune r.start.setup.settings.view_retention) restarts
     where
-      by_error : (o : Option RecoverError) (copy : List (ArtifactFacts D)) → MatchOption o ((result ≡ Ok tt) × (left ≡ new_life same elect (cut m r.drop r.prune) r.start copy)) (λ e. (result ≡ Err e) × (left ≡ fallen (cut m r.drop r.prune))) → IsShown same elect history left
+      by_error : (o : Option RecoverError) (copy : List (ArtifactFacts D)) → MatchOption o ((result ≡ Ok tt) × (left ≡ new_life same elect (cut_member m r.drop r.prune) r.start copy)) (λ e. (result ≡ Err e) × (left ≡ without_life (cut_member m r.drop r.prune))) → IsShown same elect history left
       by_error None copy (is, leaves) = absurd (cc)
       by_error (Some e) copy (is, leaves) = rw leaves tt
 
-      by_going : GoesOn same elect (cut m r.drop r.prune) r.start result left → IsShown same elect history left
+      by_going : GoesOn same elect (cut_member m r.drop r.prune) r.start result left → IsShown same elect history left
       by_going (inl (is, leaves)) = rw leaves tt
       by_going (inr (copy, by_view, goes)) = by_error (recover_error same (new_state r.start.setup) r.start.floor r.start.now copy) copy goes
 
@@ -192,22 +192,22 @@ module _ {K L D : Type 0} (same : D → D → Bool) (decides : (d e : D) → sam
 
   -- one that is not refused
 
-  from_copy : (n left : MemberFacts K L D) (start : StartFacts K L D) (result : Result (Unit {0}) RecoverError) (copy : List (ArtifactFacts D)) → result ≡ Ok tt → MatchOption (recover_error same (new_state start.setup) start.floor start.now copy) ((result ≡ Ok tt) × (left ≡ new_life same elect n start copy)) (λ e. (result ≡ Err e) × (left ≡ fallen n)) → IsShown same elect (recovery start copy) left
+  from_copy : (n left : MemberFacts K L D) (start : StartFacts K L D) (result : Result (Unit {0}) RecoverError) (copy : List (ArtifactFacts D)) → result ≡ Ok tt → MatchOption (recover_error same (new_state start.setup) start.floor start.now copy) ((result ≡ Ok tt) × (left ≡ new_life same elect n start copy)) (λ e. (result ≡ Err e) × (left ≡ without_life n)) → IsShown same elect (recovery start copy) left
   from_copy n left start result copy well goes = by_error (recover_error same (new_state start.setup) start.floor start.now copy) refl goes
     where
-      by_error : (o : Option RecoverError) → recover_error same (new_state start.setup) start.floor start.now copy ≡ o → MatchOption o ((result ≡ Ok tt) × (left ≡ new_life same elect n start copy)) (λ e. (result ≡ Err e) × (left ≡ fallen n)) → IsShown same elect (recovery start copy) left
+      by_error : (o : Option RecoverError) → recover_error same (new_state start.setup) start.floor start.now copy ≡ o → MatchOption o ((result ≡ Ok tt) × (left ≡ new_life same elect n start copy)) (λ e. (result ≡ Err e) × (left ≡ without_life n)) → IsShown same elect (recovery start copy) left
       by_error None none (_, leaves) = rw leaves (recovered_shown same decides elect start copy none)
       by_error (Some e) due (is, leaves) = absurd (cc)
 
-  pub restarted_shown : (left : MemberFacts K L D) (r : RestartFacts K L D) (result : Result (Unit {0}) RecoverError) → result ≡ Ok tt → IsRestart same elect m r result left → (copy : List (ArtifactFacts D)) × IsByView (cut m r.drop r.prune).entries copy × IsShown same elect (recovery r.start copy) left
+  pub restarted_shown : (left : MemberFacts K L D) (r : RestartFacts K L D) (result : Result (Unit {0}) RecoverError) → result ≡ Ok tt → IsRestart same elect m r result left → (copy : List (ArtifactFacts D)) × IsByView (cut_member m r.drop r.prune).entries copy × IsShown same elect (recovery r.start copy) left
   unfolding IsRestart
   restarted_shown left r result well restarts = by_test (retention_grows m r.prune r.start.setup.settings.view_retention) restarts
     where
-      by_going : GoesOn same elect (cut m r.drop r.prune) r.start result left → (copy : List (ArtifactFacts D)) × IsByView (cut m r.drop r.prune).entries copy × IsShown same elect (recovery r.start copy) left
+      by_going : GoesOn same elect (cut_member m r.drop r.prune) r.start result left → (copy : List (ArtifactFacts D)) × IsByView (cut_member m r.drop r.prune).entries copy × IsShown same elect (recovery r.start copy) left
       by_going (inl (is, leaves)) = absurd (cc)
-      by_going (inr (copy, by_view, goes)) = (copy, by_view, from_copy (cut m r.drop r.prune) left r.start result copy well goes)
+      by_going (inr (copy, by_view, goes)) = (copy, by_view, from_copy (cut_member m r.drop r.prune) left r.start result copy well goes)
 
-      by_test : (b : Bool) → IsRestartWhere same elect b m r result left → (copy : List (ArtifactFacts D)) × IsByView (cut m r.drop r.prune).entries copy × IsShown same elect (recovery r.start copy) left
+      by_test : (b : Bool) → IsRestartWhere same elect b m r result left → (copy : List (ArtifactFacts D)) × IsByView (cut_member m r.drop r.prune).entries copy × IsShown same elect (recovery r.start copy) left
       by_test true (is, leaves) = absurd (cc)
       by_test false goes = by_going goes
 
@@ -217,7 +217,7 @@ module _ {K L D : Type 0} (same : D → D → Bool) (decides : (d e : D) → sam
   run_shown [] (told ∷ replies) history m end shown run = absurd run
   run_shown (step ∷ steps) [] history m end shown run = absurd run
   run_shown (Calls call ∷ steps) (told ∷ replies) history m end shown (next, is_step, rest) =
-      let later = run_shown steps replies (with_call history m.openings call told) next end (called_shown same decides elect m history next call told shown is_step) rest in
+      let later = run_shown steps replies (with_call_events history m.openings call told) next end (called_shown same decides elect m history next call told shown is_step) rest in
       (later.0, (next, is_step, later.1), later.2)
   run_shown (Restarts r ∷ steps) (told ∷ replies) history m end shown (next, (result, is_restart, tells), rest) =
       by_result result refl is_restart (tells ∙ refl) (λ left_shown. run_shown steps replies history next end left_shown rest) (λ copy copy_shown. run_shown steps replies (recovery r.start copy) next end copy_shown rest)
@@ -240,7 +240,7 @@ module _ {K L D : Type 0} (same : D → D → Bool) (decides : (d e : D) → sam
           subst After (sym so) (later.0, (next, (result, restarts, sym (ap restart_told is)), later.1), later.2)
 
   -- from the start on
-  pub ran_shown : (start : StartFacts K L D) (steps : List (StepFacts K L D)) (replies : List (Told K D)) (end : MemberFacts K L D) → recover_error same (new_state start.setup) start.floor start.now [] ≡ None → IsRun same elect (started same elect (new_state start.setup) start.floor start.now) steps replies end → (last : History K L D) × LeadsTo same elect (started same elect (new_state start.setup) start.floor start.now) (recovery start []) steps replies last end × IsShown same elect last end
-  unfolding recovered
+  pub ran_shown : (start : StartFacts K L D) (steps : List (StepFacts K L D)) (replies : List (Told K D)) (end : MemberFacts K L D) → recover_error same (new_state start.setup) start.floor start.now [] ≡ None → IsRun same elect (started_member same elect (new_state start.setup) start.floor start.now) steps replies end → (last : History K L D) × LeadsTo same elect (started_member same elect (new_state start.setup) start.floor start.now) (recovery start []) steps replies last end × IsShown same elect last end
+  unfolding recovered_state
   ran_shown start steps replies end good run =
-      run_shown steps replies (recovery start []) (started same elect (new_state start.setup) start.floor start.now) end (recovered_shown same decides elect start [] good) run
+      run_shown steps replies (recovery start []) (started_member same elect (new_state start.setup) start.floor start.now) end (recovered_shown same decides elect start [] good) run

@@ -9,7 +9,7 @@ use Rattle.simplex_round.specs.declared.round.Decision.TheVariants.{Nullify, Fin
 use Rattle.simplex_round.specs.Round.{RoundFacts, is_finalize}
 use Rattle.simplex_voter.specs.Facts.{Facts, Elect, round_of}
 use Rattle.simplex_laws.specs.Events.{Event, History, with_event}
-use Rattle.simplex_laws.specs.Leading.{leads}
+use Rattle.simplex_laws.specs.Leading.{leader_by_event}
 use Rattle.simplex_laws.specs.OwnWork.{facts_after, was_done, first_said, last_said, held_in, conflict_in, contradicts, settles, hears, owns, hands_out_notarization, hands_out_nullification, hands_out_finalization, decides_notarize, decides_nullify, decides_finalize}
 use Rattle.simplex_laws.specs.Requested.{verifies, asks_to_build, asks_to_verify, asks_for, binds, certifies}
 use Rattle.simplex_laws.specs.ShownRounds.{round_in}
@@ -71,7 +71,7 @@ module _ {K L D : Type 0} (same : D → D → Bool) (elect : Elect L) (history :
         round = (ap (λ k. k.round) work ∙ ap (λ r. r.round) earlier) i;
         entered_at = (ap (λ k. k.entered_at) work ∙ first_further same elect history x facts e (enters v) (round_of x v).entered_at (ap (λ r. r.entered_at) earlier)) i;
         proposed_at = (ap (λ k. k.proposed_at) work ∙ last_further same elect history x facts e (proposes same elect v) (round_of x v).proposed_at (ap (λ r. r.proposed_at) earlier)) i;
-        leader = (ap (λ k. k.leader) work ∙ first_further same elect history x facts e (leads same elect v) (round_of x v).leader (ap (λ r. r.leader) earlier)) i;
+        leader = (ap (λ k. k.leader) work ∙ first_further same elect history x facts e (leader_by_event same elect v) (round_of x v).leader (ap (λ r. r.leader) earlier)) i;
         slot = record {
           held = held_further i;
           conflict = conflict_further i;

@@ -17,7 +17,7 @@ use Rattle.simplex_round.specs.declared.round.Certification.{Certification}
 use Rattle.simplex_round.specs.Round.{RoundFacts}
 use Rattle.simplex_voter.specs.Facts.{Settings, Facts, Elect, round_of, is_tracked, with_round}
 use Rattle.simplex_laws.specs.Events.{Event}
-use Rattle.simplex_laws.specs.Leading.{leads, tracks}
+use Rattle.simplex_laws.specs.Leading.{leader_by_event, tracks}
 use Rattle.simplex_laws.specs.OwnWork.{decides_nullify, decides_finalize}
 use Rattle.simplex_laws.specs.Requested.{names, certifies, verifies, asks_to_build, asks_to_verify, asks_for, binds}
 use Rattle.simplex_laws.specs.Sums.{or_new, is_among}
@@ -94,7 +94,7 @@ module _ {K L D : Type 0} (same : D → D → Bool) (elect : Elect L) where
     tracked = is_some (enters v x e) || (tracks same elect v x e || k.tracked);
     entered_at = or_new k.entered_at (enters v x e);
     proposed_at = option_or (proposes same elect v x e) k.proposed_at;
-    leader = or_new k.leader (leads same elect v x e);
+    leader = or_new k.leader (leader_by_event same elect v x e);
     verified = unwrap_or (verifies same elect v x e) k.verified;
     build_requested = unwrap_or (asks_to_build same elect v x e) k.build_requested;
     verify_requested = asks_to_verify same elect v x e || k.verify_requested;

@@ -11,7 +11,7 @@ use Rattle.simplex_types.specs.declared.reasons.TimeoutReason.TheVariants.{Leade
 use Rattle.simplex_types.specs.declared.types.window.Terms.{Terms}
 use Rattle.simplex_round.specs.declared.round.Decision.{Decision}
 use Rattle.simplex_round.specs.declared.round.Decision.TheVariants as decision
-use Rattle.simplex_round.specs.Round.{RoundFacts, new_round, latched, has_no_retry, is_certified, is_finalize, awaits_retry, round_timeout, decision_timeout}
+use Rattle.simplex_round.specs.Round.{RoundFacts, new_round, with_first_timeout, has_no_retry, is_certified, is_finalize, awaits_retry, round_timeout, decision_timeout}
 use Rattle.simplex_voter.specs.Facts.{Settings, Facts, Elect, new_facts, round_at, round_of, round_number}
 use Rattle.simplex_voter.specs.Timeouts.{has_timeout, has_skip_budget}
 use Rattle.simplex_voter.specs.Serving.{after_prune}
@@ -25,7 +25,7 @@ use Rattle.simplex_laws.specs.LifeLaws.{CurrentTimesOut}
 use Rattle.simplex_member.specs.Calls.{Told}
 use Rattle.simplex_member.specs.Lives.{MemberFacts}
 use Rattle.simplex_member.specs.Runs.{StepFacts, IsRun}
-use Rattle.simplex_member.specs.Start.{StartFacts, started, new_state}
+use Rattle.simplex_member.specs.Start.{StartFacts, started_member, new_state}
 use Rattle.simplex_laws.proofs.frames.RunsKeep.{HoldsIn, run_induction}
 use Rattle.simplex_laws.proofs.frames.EachRound.{IsGone, step_round, rounds_or_gone, pruned_round, prune_alone}
 use Rattle.simplex_laws.proofs.frames.Paths.{event_path, asked_of_all, armed_timed}
@@ -39,7 +39,7 @@ pub record TimesOut {K L D : Type 0} (x : Facts K L D) : Type 0 where
   pub unfinalized : (v : ℕ) → x.current ≤ v → (round_of x v).finalization ≡ None
   pub timed : is_timed (round_of x x.current).decision ≡ true
 
-latched_timed : (d : Decision) (now : ℕ) (reason : TimeoutReason) → is_timed d ≡ true → is_timed (latched d (now, reason)) ≡ true
+latched_timed : (d : Decision) (now : ℕ) (reason : TimeoutReason) → is_timed d ≡ true → is_timed (with_first_timeout d (now, reason)) ≡ true
 latched_timed (decision.Pending leader certified None) now reason is = is
 latched_timed (decision.Pending leader certified (Some first)) now reason is = is
 latched_timed (decision.Nullify retry) now reason is = is
@@ -190,7 +190,7 @@ module _ {K L D : Type 0} (x : Facts K L D) where
 
 module _ {K L D : Type 0} (same : D → D → Bool) (elect : Elect L) where
   pub states_time_out : (term_length : ℕ) (start : StartFacts K L D) (steps : List (StepFacts K L D)) (replies : List (Told K D)) (end : MemberFacts K L D) → HasTerms term_length start.setup → KeepTerms term_length steps
-      → IsRun same elect (started same elect (new_state start.setup) start.floor start.now) steps replies end → MatchOption end.life (Unit {0}) CurrentTimesOut
+      → IsRun same elect (started_member same elect (new_state start.setup) start.floor start.now) steps replies end → MatchOption end.life (Unit {0}) CurrentTimesOut
   states_time_out term_length start steps replies end begins fresh run =
       by_life end.life (run_induction same elect term_length TimesOut (floor_times_out same elect term_length) (event_times_out same elect) start steps replies end begins fresh run)
     where

@@ -12,9 +12,9 @@ use Rattle.simplex_member.specs.Calls.{CallFacts, Told, Refused, Restarted}
 use Rattle.simplex_member.specs.Entries.{entry_view}
 use Rattle.simplex_member.specs.Lives.{MemberFacts, AnswersAlive, IsCall, reply_of, left_of}
 use Rattle.simplex_member.specs.Recovery.{recover_error}
-use Rattle.simplex_member.specs.Restarts.{RestartFacts, cut, new_life, retention_grows, GoesOnFrom, IsRestart, IsRestartWhere}
+use Rattle.simplex_member.specs.Restarts.{RestartFacts, cut_member, new_life, retention_grows, GoesOnFrom, IsRestart, IsRestartWhere}
 use Rattle.simplex_member.specs.Runs.{StepFacts, Calls, Restarts, IsRun, IsRunFrom}
-use Rattle.simplex_member.specs.Start.{StartFacts, started, new_state}
+use Rattle.simplex_member.specs.Start.{StartFacts, started_member, new_state}
 use Rattle.simplex_laws.specs.Stories.{Story, BeginsAs}
 use Rattle.simplex_laws.proofs.lists.Splits.{Contains-cases}
 
@@ -27,7 +27,7 @@ module _ {K L D : Type 0} (same : D → D → Bool) (elect : Elect L) where
 
   -- and what is left
   abbrev pub next_then : Option (Facts K L D) → MemberFacts K L D → StepFacts K L D → MemberFacts K L D
-  next_then life m (Restarts r) = new_life same elect (cut m r.drop r.prune) r.start (cut m r.drop r.prune).entries
+  next_then life m (Restarts r) = new_life same elect (cut_member m r.drop r.prune) r.start (cut_member m r.drop r.prune).entries
   next_then None m (Calls call) = m
   next_then (Some x) m (Calls call) = left_of same elect x m call
 
@@ -44,8 +44,8 @@ module _ {K L D : Type 0} (same : D → D → Bool) (elect : Elect L) where
   Fits m [] = Unit {0}
   Fits m (Restarts r ∷ steps) =
       (retention_grows m r.prune r.start.setup.settings.view_retention ≡ false)
-      × IsNonDecreasingBy entry_view (cut m r.drop r.prune).entries
-      × (recover_error same (new_state r.start.setup) r.start.floor r.start.now (cut m r.drop r.prune).entries ≡ None)
+      × IsNonDecreasingBy entry_view (cut_member m r.drop r.prune).entries
+      × (recover_error same (new_state r.start.setup) r.start.floor r.start.now (cut_member m r.drop r.prune).entries ≡ None)
       × Fits (next_then m.life m (Restarts r)) steps
   Fits m (Calls call ∷ steps) = Fits (next_then m.life m (Calls call)) steps
 
@@ -60,10 +60,10 @@ module _ {K L D : Type 0} (same : D → D → Bool) (elect : Elect L) where
   goes_on : (m : MemberFacts K L D) (start : StartFacts K L D) → recover_error same (new_state start.setup) start.floor start.now m.entries ≡ None → GoesOnFrom same elect m start m.entries (Ok tt) (new_life same elect m start m.entries)
   goes_on m start none = rw none (refl, refl)
 
-  restart_made : (m : MemberFacts K L D) (r : RestartFacts K L D) → retention_grows m r.prune r.start.setup.settings.view_retention ≡ false → IsNonDecreasingBy entry_view (cut m r.drop r.prune).entries → recover_error same (new_state r.start.setup) r.start.floor r.start.now (cut m r.drop r.prune).entries ≡ None → IsRestart same elect m r (Ok tt) (next_then m.life m (Restarts r))
+  restart_made : (m : MemberFacts K L D) (r : RestartFacts K L D) → retention_grows m r.prune r.start.setup.settings.view_retention ≡ false → IsNonDecreasingBy entry_view (cut_member m r.drop r.prune).entries → recover_error same (new_state r.start.setup) r.start.floor r.start.now (cut_member m r.drop r.prune).entries ≡ None → IsRestart same elect m r (Ok tt) (next_then m.life m (Restarts r))
   unfolding IsRestart
   restart_made m r grows rising none =
-      let n = cut m r.drop r.prune in
+      let n = cut_member m r.drop r.prune in
       subst (λ (b : Bool). IsRestartWhere same elect b m r (Ok tt) (new_life same elect n r.start n.entries)) (sym grows)
       (inr (n.entries, record { rising = rising; of_each_view = λ v. refl }, goes_on n r.start none))
 
@@ -73,7 +73,7 @@ module _ {K L D : Type 0} (same : D → D → Bool) (elect : Elect L) where
   fits_run m (Restarts r ∷ steps) fits = (next_then m.life m (Restarts r), (Ok tt, restart_made m r fits.0 fits.1 fits.2, refl), fits_run (next_then m.life m (Restarts r)) steps fits.3)
 
   abbrev pub begun : StartFacts K L D → MemberFacts K L D
-  begun start = started same elect (new_state start.setup) start.floor start.now
+  begun start = started_member same elect (new_state start.setup) start.floor start.now
 
   pub fits_run_from : (s : Story K L D) → recover_error same (new_state s.start.setup) s.start.floor s.start.now [] ≡ None → Fits (begun s.start) s.steps → replies_from (begun s.start) s.steps ≡ s.replies → IsRunFrom same elect s.start s.steps s.replies
   unfolding IsRunFrom

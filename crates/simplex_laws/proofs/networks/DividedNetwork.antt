@@ -13,9 +13,9 @@ use Rattle.simplex_voter.specs.Rules.{may_notarize, may_nullify, may_finalize, i
 use Rattle.simplex_voter.specs.Verifying.{standing}
 use Rattle.simplex_voter.specs.Windows.{is_admitted, in_window}
 use Rattle.simplex_member.specs.Check.{first_broken_rule}
-use Rattle.simplex_member.specs.Cuts.{may_drop, pruned}
+use Rattle.simplex_member.specs.Cuts.{may_drop, pruned_entries}
 use Rattle.simplex_member.specs.Entries.{entry_view}
-use Rattle.simplex_member.specs.Recovery.{recovered, taken}
+use Rattle.simplex_member.specs.Recovery.{recovered_state, after_kept_entry}
 use Rattle.simplex_laws.specs.DividedNetwork.{rival, deceived, warned, divided, after_conflict, leads_on, follows_on, united}
 use Rattle.simplex_laws.specs.Continuations.{and_then, PlacesGoOn, GoesOnToFinalize}
 use Rattle.simplex_laws.specs.Deeds.{Deed, Signs}
@@ -38,15 +38,15 @@ abbrev forgetting : Story ℕ ℕ ℕ
 forgetting = and_then (warned 2) (follows_on 2 1000 LeaderTimeout)
 
 leading_told : told_in leading ≡ leading.replies
-unfolding recovered taken may_drop pruned standing propose_answer proposed_answer preferred_parent may_stand spans payload_for first_gap explicit_payload in_window is_admitted binding_matches parent_payload may_notarize may_nullify may_finalize is_gated required_parent
+unfolding recovered_state after_kept_entry may_drop pruned_entries standing propose_answer proposed_answer preferred_parent may_stand spans payload_for first_gap explicit_payload in_window is_admitted binding_matches parent_payload may_notarize may_nullify may_finalize is_gated required_parent
 leading_told = refl
 
 following_told : told_in following ≡ following.replies
-unfolding recovered taken may_drop pruned standing spans payload_for first_gap explicit_payload in_window is_admitted binding_matches parent_payload may_notarize may_nullify may_finalize is_gated required_parent
+unfolding recovered_state after_kept_entry may_drop pruned_entries standing spans payload_for first_gap explicit_payload in_window is_admitted binding_matches parent_payload may_notarize may_nullify may_finalize is_gated required_parent
 following_told = refl
 
 forgetting_told : told_in forgetting ≡ forgetting.replies
-unfolding recovered taken may_drop pruned standing spans payload_for first_gap explicit_payload in_window is_admitted binding_matches parent_payload may_notarize may_nullify may_finalize is_gated required_parent
+unfolding recovered_state after_kept_entry may_drop pruned_entries standing spans payload_for first_gap explicit_payload in_window is_admitted binding_matches parent_payload may_notarize may_nullify may_finalize is_gated required_parent
 forgetting_told = refl
 
 -- the record that is left at a restart: a vote, or nothing
@@ -60,15 +60,15 @@ abbrev with_none : List (ArtifactFacts ℕ)
 with_none = []
 
 leading_fits : FitsIn leading
-unfolding first_broken_rule recovered taken may_drop pruned standing propose_answer proposed_answer preferred_parent may_stand spans payload_for first_gap explicit_payload in_window is_admitted binding_matches parent_payload may_notarize may_nullify may_finalize is_gated required_parent
+unfolding first_broken_rule recovered_state after_kept_entry may_drop pruned_entries standing propose_answer proposed_answer preferred_parent may_stand spans payload_for first_gap explicit_payload in_window is_admitted binding_matches parent_payload may_notarize may_nullify may_finalize is_gated required_parent
 leading_fits = (refl, rises entry_view 0 with_vote refl, refl, tt)
 
 following_fits : FitsIn following
-unfolding first_broken_rule recovered taken may_drop pruned standing spans payload_for first_gap explicit_payload in_window is_admitted binding_matches parent_payload may_notarize may_nullify may_finalize is_gated required_parent
+unfolding first_broken_rule recovered_state after_kept_entry may_drop pruned_entries standing spans payload_for first_gap explicit_payload in_window is_admitted binding_matches parent_payload may_notarize may_nullify may_finalize is_gated required_parent
 following_fits = (refl, rises entry_view 0 with_other_vote refl, refl, tt)
 
 forgetting_fits : FitsIn forgetting
-unfolding first_broken_rule recovered taken may_drop pruned standing spans payload_for first_gap explicit_payload in_window is_admitted binding_matches parent_payload may_notarize may_nullify may_finalize is_gated required_parent
+unfolding first_broken_rule recovered_state after_kept_entry may_drop pruned_entries standing spans payload_for first_gap explicit_payload in_window is_admitted binding_matches parent_payload may_notarize may_nullify may_finalize is_gated required_parent
 forgetting_fits = (refl, rises entry_view 0 with_none refl, refl, tt)
 
 leading_ran : Ran nat_eq in_turn 1 0 leading

@@ -13,9 +13,9 @@ use Rattle.simplex_voter.specs.Rules.{may_notarize, may_nullify, may_finalize, i
 use Rattle.simplex_voter.specs.Verifying.{standing}
 use Rattle.simplex_member.specs.Calls.{Told}
 use Rattle.simplex_member.specs.Check.{first_broken_rule}
-use Rattle.simplex_member.specs.Cuts.{may_drop, pruned}
+use Rattle.simplex_member.specs.Cuts.{may_drop, pruned_entries}
 use Rattle.simplex_member.specs.Entries.{entry_view}
-use Rattle.simplex_member.specs.Recovery.{recovered, taken}
+use Rattle.simplex_member.specs.Recovery.{recovered_state, after_kept_entry}
 use Rattle.simplex_laws.specs.Places.{Honest, Backed, IsNetworkOf}
 use Rattle.simplex_laws.specs.Scripts.{leader, start_at, round, proposal, certificate, one, two, impatient, patient, forgetful, four, restarting, skipping, five}
 use Rattle.simplex_laws.specs.Deeds.{Accepts}
@@ -42,11 +42,11 @@ module _ where
   kept = NotarizeVote one 2 ∷ Accepted (Notarized (certificate one)) ∷ Verdict (round 1) true ∷ FinalizeVote one 2 ∷ []
 
   forgetful_told : from_start (forgetful) ≡ (forgetful).replies
-  unfolding recovered taken may_drop pruned standing spans payload_for first_gap explicit_payload in_window is_admitted binding_matches parent_payload may_notarize may_nullify may_finalize is_gated required_parent
+  unfolding recovered_state after_kept_entry may_drop pruned_entries standing spans payload_for first_gap explicit_payload in_window is_admitted binding_matches parent_payload may_notarize may_nullify may_finalize is_gated required_parent
   forgetful_told = refl
 
   forgetful_fits : Fits nat_eq leader (begun nat_eq leader (forgetful).start) (forgetful).steps
-  unfolding first_broken_rule recovered taken may_drop pruned standing spans payload_for first_gap explicit_payload in_window is_admitted binding_matches parent_payload may_notarize may_nullify may_finalize is_gated required_parent
+  unfolding first_broken_rule recovered_state after_kept_entry may_drop pruned_entries standing spans payload_for first_gap explicit_payload in_window is_admitted binding_matches parent_payload may_notarize may_nullify may_finalize is_gated required_parent
   forgetful_fits = (refl, rises entry_view 0 kept refl, refl, tt)
 
   pub forgetful_ran : Ran nat_eq leader 5 2 (forgetful)
@@ -76,11 +76,11 @@ module _ where
   twice = Accepted (Notarized (certificate two)) ∷ Verdict (round 2) true ∷ FinalizeVote two 1 ∷ Accepted (CertifiedFinal (certificate (proposal 3 2))) ∷ []
 
   restarting_told : from_start restarting ≡ restarting.replies
-  unfolding recovered taken may_drop pruned standing spans payload_for first_gap explicit_payload in_window is_admitted binding_matches parent_payload may_notarize may_nullify may_finalize is_gated required_parent
+  unfolding recovered_state after_kept_entry may_drop pruned_entries standing spans payload_for first_gap explicit_payload in_window is_admitted binding_matches parent_payload may_notarize may_nullify may_finalize is_gated required_parent
   restarting_told = refl
 
   restarting_fits : Fits nat_eq leader (begun nat_eq leader restarting.start) restarting.steps
-  unfolding first_broken_rule recovered taken may_drop pruned standing spans payload_for first_gap explicit_payload in_window is_admitted binding_matches parent_payload may_notarize may_nullify may_finalize is_gated required_parent
+  unfolding first_broken_rule recovered_state after_kept_entry may_drop pruned_entries standing spans payload_for first_gap explicit_payload in_window is_admitted binding_matches parent_payload may_notarize may_nullify may_finalize is_gated required_parent
   restarting_fits = (
     refl,
     rises entry_view 0 once refl,

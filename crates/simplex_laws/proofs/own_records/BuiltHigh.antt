@@ -21,7 +21,7 @@ use Rattle.simplex_member.specs.Check.{first_error, beside_rules, own_rules, flo
 use Rattle.simplex_member.specs.Entries.{entry_view}
 use Rattle.simplex_member.specs.Made.{after_call}
 use Rattle.simplex_member.specs.Openings.{Openings, context_at}
-use Rattle.simplex_member.specs.Recovery.{recover_error, replayed, retaken, taken, all_taken, recovered}
+use Rattle.simplex_member.specs.Recovery.{recover_error, after_replaying, after_entry, after_kept_entry, after_entries, recovered_state}
 use Rattle.simplex_member.specs.Runs.{StepFacts, Calls}
 use Rattle.simplex_member.specs.Start.{Setup, new_state}
 use Rattle.simplex_laws.specs.Events.{Event, after_event, SetFloor, AddNotarization, AddNullification, AddFinalization, Certified, Proposed, Supersede, Replay, in_context, events_of}
@@ -202,7 +202,7 @@ module _ {K L D : Type 0} (same : D → D → Bool) (decides : (d e : D) → sam
     built = λ d other moment says. absurd (cc);
   }) all
 
-  replayed_held : (x : Facts K L D) (e : ArtifactFacts D) → entry_too_large e ≡ false → AllHeld Q x → AllHeld Q (replayed same elect x e)
+  replayed_held : (x : Facts K L D) (e : ArtifactFacts D) → entry_too_large e ≡ false → AllHeld Q x → AllHeld Q (after_replaying same elect x e)
   replayed_held x (NotarizeVote p m) small all = by_event x (Replay (NotarizeVote p m)) (record {
     notarized = λ d says. absurd (cc);
     finalized = λ d says. absurd (cc);
@@ -215,12 +215,12 @@ module _ {K L D : Type 0} (same : D → D → Bool) (decides : (d e : D) → sam
   replayed_held x (Verdict round success) small all = by_event x (Replay (Verdict round success)) (brings_nothing Q refl refl refl refl (λ d other moment says. absurd (cc))) all
   replayed_held x (Accepted c) small all = by_event x (Replay (Accepted c)) (brings_nothing Q refl refl refl refl (λ d other moment says. absurd (cc))) all
 
-  retaken_held : (x : Facts K L D) (e : ArtifactFacts D) → entry_too_large e ≡ false → AllHeld Q x → AllHeld Q (retaken same elect x now e)
+  retaken_held : (x : Facts K L D) (e : ArtifactFacts D) → entry_too_large e ≡ false → AllHeld Q x → AllHeld Q (after_entry same elect x now e)
   retaken_held x (NotarizeVote p m) small all = replayed_held x (NotarizeVote p m) small all
   retaken_held x (NullifyVote round m) small all = replayed_held x (NullifyVote round m) small all
   retaken_held x (FinalizeVote p m) small all = replayed_held x (FinalizeVote p m) small all
   retaken_held x (Verdict round success) small all =
-      by_event (replayed same elect x (Verdict round success)) (Certified round.view success now)
+      by_event (after_replaying same elect x (Verdict round success)) (Certified round.view success now)
       (brings_nothing Q refl refl refl refl (λ d other moment says. absurd (cc)))
       (replayed_held x (Verdict round success) small all)
   retaken_held x (Accepted (Notarized c)) small all =
@@ -242,13 +242,13 @@ module _ {K L D : Type 0} (same : D → D → Bool) (decides : (d e : D) → sam
         built = λ d other moment says. absurd (cc);
       }) all)
 
-  all_taken_held : (x : Facts K L D) (entries : List (ArtifactFacts D)) → AllSmall entries → AllHeld Q x → AllHeld Q (all_taken same elect x now entries)
-  unfolding taken
+  all_taken_held : (x : Facts K L D) (entries : List (ArtifactFacts D)) → AllSmall entries → AllHeld Q x → AllHeld Q (after_entries same elect x now entries)
+  unfolding after_kept_entry
   all_taken_held x [] small all = all
   all_taken_held x (e ∷ rest) small all =
-      all_taken_held (taken same elect x now e) rest small.1 (elim (nat_lt (entry_view e) (min_active x)) as (λ b. AllHeld Q (if b then x else retaken same elect x now e)) [ true ↦ all | false ↦ retaken_held x e small.0 all ])
+      all_taken_held (after_kept_entry same elect x now e) rest small.1 (elim (nat_lt (entry_view e) (min_active x)) as (λ b. AllHeld Q (if b then x else after_entry same elect x now e)) [ true ↦ all | false ↦ retaken_held x e small.0 all ])
 
   -- a new life holds no such proposal
-  pub recovered_held : (setup : Setup K L) (floor : FloorFacts D) (entries : List (ArtifactFacts D)) → is_floor_too_large floor ≡ false → AllSmall entries → AllHeld Q (recovered same elect (new_state setup) floor now entries)
-  unfolding recovered
+  pub recovered_held : (setup : Setup K L) (floor : FloorFacts D) (entries : List (ArtifactFacts D)) → is_floor_too_large floor ≡ false → AllSmall entries → AllHeld Q (recovered_state same elect (new_state setup) floor now entries)
+  unfolding recovered_state
   recovered_held setup floor entries fine small = all_taken_held (after_set_floor same elect (new_state setup) floor now) entries small (floor_held (new_state setup) floor fine (λ v p is. absurd (cc)))

@@ -17,13 +17,13 @@ use Rattle.simplex_member.specs.declared.member.error.RecoverError.TheVariants a
 use Rattle.simplex_member.specs.Allowed.{is_allowed, fault_of}
 use Rattle.simplex_member.specs.Calls as calls
 use Rattle.simplex_member.specs.Calls.{CallFacts, Told, Added, AddedNullification}
-use Rattle.simplex_member.specs.Lives.{MemberFacts, IsCall, AnswersAlive, left_of, fallen}
-use Rattle.simplex_member.specs.Recovery.{recover_error, recovered}
-use Rattle.simplex_member.specs.Restarts.{RestartFacts, IsByView, cut, new_life, retention_grows, GoesOn, IsRestart, IsRestartWhere}
+use Rattle.simplex_member.specs.Lives.{MemberFacts, IsCall, AnswersAlive, left_of, without_life}
+use Rattle.simplex_member.specs.Recovery.{recover_error, recovered_state}
+use Rattle.simplex_member.specs.Restarts.{RestartFacts, IsByView, cut_member, new_life, retention_grows, GoesOn, IsRestart, IsRestartWhere}
 use Rattle.simplex_member.specs.Runs.{StepFacts, Calls, Restarts, restart_told, IsRun}
-use Rattle.simplex_member.specs.Start.{StartFacts, started, new_state}
+use Rattle.simplex_member.specs.Start.{StartFacts, started_member, new_state}
 use Rattle.simplex_laws.specs.Deeds.{Deed, Signs, handed_in, of_floor, signed_in, accepted_by, deeds_of_call, deeds_at, deeds_of_steps}
-use Rattle.simplex_laws.specs.Exactly.{ExactAt, held}
+use Rattle.simplex_laws.specs.Exactly.{ExactAt, held_proposal}
 use Rattle.simplex_laws.specs.Lawful.{HasSigned}
 use Rattle.simplex_laws.specs.Outside.{VotedTooHigh, is_floor_too_large}
 use Rattle.simplex_laws.specs.TermLengths.{HasTerms, KeepTerms}
@@ -77,8 +77,8 @@ none_finalized (Some h) vote i j p about is = absurd (cc)
 module _ {K L D : Type 0} (same : D → D → Bool) (elect : Elect L) where
   -- a vote to notarize is for what is held
   noted_held : (x : Facts K L D) (call : CallFacts D) (told : Told K D) (i : ℕ) (p : Proposal D) → ExactAt same elect (Some x) (Calls call) told → Contains (signed_in told) (Signs i (subject.Notarize p)) → (v : ℕ) × ((round_of x v).slot.held ≡ Some p)
-  noted_held x (calls.ConstructNotarize v) told i p exact h = (let so = (exact.only (Signs i (subject.Notarize p)) h).1 in (v, held_voted (held x v) so.1 i so.0 p so.3 so.4))
-  noted_held x (calls.ConstructFinalize v) told i p exact h = (let so = (exact.only (Signs i (subject.Notarize p)) h).1 in absurd (none_finalized (held x v) so.1 i so.0 p so.3 so.4))
+  noted_held x (calls.ConstructNotarize v) told i p exact h = (let so = (exact.only (Signs i (subject.Notarize p)) h).1 in (v, held_voted (held_proposal x v) so.1 i so.0 p so.3 so.4))
+  noted_held x (calls.ConstructFinalize v) told i p exact h = (let so = (exact.only (Signs i (subject.Notarize p)) h).1 in absurd (none_finalized (held_proposal x v) so.1 i so.0 p so.3 so.4))
   noted_held x (calls.ConstructNullify v) told i p exact h = (let so = (exact.only (Signs i (subject.Notarize p)) h).1 in absurd (cc))
   noted_held x _ told i p exact h = absurd (let none = subst (λ ds. Contains ds (Signs i (subject.Notarize p))) exact h in omega (arith, none.1))
 
@@ -142,7 +142,7 @@ module _ {K L D : Type 0} (same : D → D → Bool) (decides : (d e : D) → sam
   goes_on_holds n left r result (inl (is, leaves)) = rw leaves tt
   goes_on_holds n left r result (inr (copy, by_view, goes)) = by_error (recover_error same (new_state r.start.setup) r.start.floor r.start.now copy) refl goes
     where
-      by_error : (o : Option RecoverError) → recover_error same (new_state r.start.setup) r.start.floor r.start.now copy ≡ o → MatchOption o ((result ≡ Ok tt) × (left ≡ new_life same elect n r.start copy)) (λ e. (result ≡ Err e) × (left ≡ fallen n)) → HoldsBuilt (past ++ Restarts r ∷ []) left.life
+      by_error : (o : Option RecoverError) → recover_error same (new_state r.start.setup) r.start.floor r.start.now copy ≡ o → MatchOption o ((result ≡ Ok tt) × (left ≡ new_life same elect n r.start copy)) (λ e. (result ≡ Err e) × (left ≡ without_life n)) → HoldsBuilt (past ++ Restarts r ∷ []) left.life
       by_error None none (is, leaves) =
           let small = taken_small same (new_state r.start.setup) r.start.floor r.start.now copy none in
           rw leaves (recovered_held same decides elect (past ++ Restarts r ∷ []) r.start.now r.start.setup r.start.floor copy small.0 small.1)
@@ -154,7 +154,7 @@ module _ {K L D : Type 0} (same : D → D → Bool) (decides : (d e : D) → sam
     where
       by_test : (b : Bool) → IsRestartWhere same elect b m r result next → HoldsBuilt (past ++ Restarts r ∷ []) next.life
       by_test true (is, leaves) = rw leaves (holds_still past (Restarts r ∷ []) m.life votes.holds)
-      by_test false goes = goes_on_holds (cut m r.drop r.prune) next r result goes
+      by_test false goes = goes_on_holds (cut_member m r.drop r.prune) next r result goes
 
   pub restart_builds : (next : MemberFacts K L D) (r : RestartFacts K L D) (result : Result (Unit {0}) RecoverError) → IsRestart same elect m r result next → VotesBuilt (past ++ Restarts r ∷ []) (deeds ++ deeds_at (Restarts r) (restart_told {K = K} {D = D} result)) next
   restart_builds next r result restarts = record {
@@ -192,8 +192,8 @@ module _ {K L D : Type 0} (same : D → D → Bool) (decides : (d e : D) → sam
       rest)
 
 module _ {K L D : Type 0} (same : D → D → Bool) (decides : (d e : D) → same d e ≡ true → d ≡ e) (itself : (d : D) → same d d ≡ true) (elect : Elect L) (term_length : ℕ) (start : StartFacts K L D) (begins : HasTerms term_length start.setup) (accepted : recover_error same (new_state start.setup) start.floor start.now [] ≡ None) where
-  start_builds : VotesBuilt [] (of_floor start.floor) (started same elect (new_state start.setup) start.floor start.now)
-  unfolding recovered
+  start_builds : VotesBuilt [] (of_floor start.floor) (started_member same elect (new_state start.setup) start.floor start.now)
+  unfolding recovered_state
   start_builds =
       let small = taken_small same (new_state start.setup) start.floor start.now [] accepted in
       record {
@@ -203,9 +203,9 @@ module _ {K L D : Type 0} (same : D → D → Bool) (decides : (d e : D) → sam
 
   -- a copy of a member's own record is refused for a view that is too large only where the next floor names one, or the member
   -- voted in one
-  pub own_high_voted : (steps : List (StepFacts K L D)) (replies : List (Told K D)) (end : MemberFacts K L D) (next : RestartFacts K L D) (copy : List (ArtifactFacts D)) → KeepTerms term_length steps → IsRun same elect (started same elect (new_state start.setup) start.floor start.now) steps replies end → IsByView (cut end next.drop next.prune).entries copy → recover_error same (new_state next.start.setup) next.start.floor next.start.now copy ≡ Some error.ViewTooLarge → (is_floor_too_large next.start.floor ≡ true) ⊎ VotedTooHigh steps (of_floor start.floor ++ deeds_of_steps steps replies)
+  pub own_high_voted : (steps : List (StepFacts K L D)) (replies : List (Told K D)) (end : MemberFacts K L D) (next : RestartFacts K L D) (copy : List (ArtifactFacts D)) → KeepTerms term_length steps → IsRun same elect (started_member same elect (new_state start.setup) start.floor start.now) steps replies end → IsByView (cut_member end next.drop next.prune).entries copy → recover_error same (new_state next.start.setup) next.start.floor next.start.now copy ≡ Some error.ViewTooLarge → (is_floor_too_large next.start.floor ≡ true) ⊎ VotedTooHigh steps (of_floor start.floor ++ deeds_of_steps steps replies)
   own_high_voted steps replies end next copy fresh run by_view is =
-      let begun = started same elect (new_state start.setup) start.floor start.now in
+      let begun = started_member same elect (new_state start.setup) start.floor start.now in
       let deeds = of_floor start.floor ++ deeds_of_steps steps replies in
       let first = start_own same decides itself elect term_length start begins in
       let own = run_own same decides itself elect term_length begins.some steps replies (of_floor start.floor) begun end fresh first run in

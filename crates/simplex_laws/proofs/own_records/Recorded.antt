@@ -10,7 +10,7 @@ use Rattle.simplex_types.specs.declared.types.messages.Proposal.{Proposal}
 use Rattle.simplex_types.specs.declared.types.messages.Subject.{Subject}
 use Rattle.simplex_types.specs.declared.types.messages.Subject.TheVariants as subject
 use Rattle.simplex_types.specs.declared.types.numbers.Round.{Round}
-use Rattle.simplex_member.specs.Made.{newly}
+use Rattle.simplex_member.specs.Made.{if_new}
 use Rattle.simplex_member.specs.Check.{stands}
 use Rattle.simplex_member.specs.Entries.{entry_view}
 use Rattle.simplex_member.specs.Recovery.{is_finalization, with_floor}
@@ -66,7 +66,7 @@ module _ {D : Type 0} where
   pub quiet_one : (f : ArtifactFacts D) → is_weighed f ≡ false → AreQuiet (f ∷ [])
   quiet_one f is e h = ap is_weighed (sym (only_one f e h)) ∙ is
 
-  pub quiet_newly : (is_new : Bool) (f : ArtifactFacts D) → is_weighed f ≡ false → AreQuiet (newly is_new f)
+  pub quiet_newly : (is_new : Bool) (f : ArtifactFacts D) → is_weighed f ≡ false → AreQuiet (if_new is_new f)
   quiet_newly true f is = quiet_one f is
   quiet_newly false f is = quiet_none
 

@@ -15,7 +15,7 @@ use Rattle.simplex_voter.specs.Facts.{Settings, Facts, Elect, new_facts, round_o
 use Rattle.simplex_voter.specs.Windows.{min_active}
 use Rattle.simplex_voter.specs.Acceptance.{after_add_notarization, after_add_nullification, after_add_finalization, after_set_floor}
 use Rattle.simplex_member.specs.Entries.{entry_view}
-use Rattle.simplex_member.specs.Recovery.{replayed, retaken, taken, all_taken, recovered}
+use Rattle.simplex_member.specs.Recovery.{after_replaying, after_entry, after_kept_entry, after_entries, recovered_state}
 use Rattle.simplex_laws.proofs.lists.Filters.{Contains-filter, Contains-filtered, filtered_passes}
 use Rattle.simplex_laws.proofs.records.DeedsShown.{only_one}
 use Rattle.simplex_laws.proofs.own_records.Recorded.{HasNoVerdict}
@@ -63,7 +63,7 @@ module _ {K L D : Type 0} (same : D → D → Bool) (elect : Elect L) (base top 
 
 module _ {K L D : Type 0} (same : D → D → Bool) (elect : Elect L) (now base top : ℕ) (done : List (ArtifactFacts D)) (x : Facts K L D) (recovers : Recovers base top done x) where
   -- an entry that is taken again; those of its verdict's view agree with it
-  retaken_recovers : (e : ArtifactFacts D) → top ≤ entry_view e → min_active x ≤ entry_view e → ((round other : Round) (success given : Bool) → e ≡ Verdict round success → Contains done (Verdict other given) → other.view ≡ round.view → given ≡ success) → Recovers base (entry_view e) (done ++ e ∷ []) (retaken same elect x now e)
+  retaken_recovers : (e : ArtifactFacts D) → top ≤ entry_view e → min_active x ≤ entry_view e → ((round other : Round) (success given : Bool) → e ≡ Verdict round success → Contains done (Verdict other given) → other.view ≡ round.view → given ≡ success) → Recovers base (entry_view e) (done ++ e ∷ []) (after_entry same elect x now e)
   retaken_recovers (NotarizeVote p m) over kept agree =
       let a : ArtifactFacts D = NotarizeVote p m in
       quiet_recovers same elect base top done x recovers (event.Replay a) p.round.view over (omega arith) (λ v token is. absurd (cc)) (a ∷ []) (λ round success h. (let e = only_one a (Verdict round success) h in cc)) refl refl
@@ -79,7 +79,7 @@ module _ {K L D : Type 0} (same : D → D → Bool) (elect : Elect L) (now base 
       let whole = done ++ a ∷ [] in
       let replay : Event K D = event.Replay a in
       let give : Event K D = event.Certified v success now in
-      let j = replayed same elect x a in
+      let j = after_replaying same elect x a in
       let agreed : (other : Round) (given : Bool) → Contains whole (Verdict other given) → other.view ≡ v → given ≡ success = λ other given h at. elim (Contains-push_cases done a (Verdict other given) h) [
         | inl old ↦ agree round other success given refl old at
         | inr new ↦ cc
@@ -131,16 +131,16 @@ pub record Recovered {K L D : Type 0} (base : ℕ) (entries : List (ArtifactFact
   pub reached : base ≤ min_active x
 
 module _ {K L D : Type 0} (same : D → D → Bool) (elect : Elect L) (now base : ℕ) (copy : List (ArtifactFacts D)) (one_verdict : (round other : Round) (success given : Bool) → Contains copy (Verdict round success) → Contains copy (Verdict other given) → round.view ≡ other.view → success ≡ given) where
-  passed_over : (x : Facts K L D) (e : ArtifactFacts D) → nat_lt (entry_view e) (min_active x) ≡ true → taken same elect x now e ≡ x
-  unfolding taken
+  passed_over : (x : Facts K L D) (e : ArtifactFacts D) → nat_lt (entry_view e) (min_active x) ≡ true → after_kept_entry same elect x now e ≡ x
+  unfolding after_kept_entry
   passed_over x e is = rw is refl
 
-  taken_again : (x : Facts K L D) (e : ArtifactFacts D) → nat_lt (entry_view e) (min_active x) ≡ false → taken same elect x now e ≡ retaken same elect x now e
-  unfolding taken
+  taken_again : (x : Facts K L D) (e : ArtifactFacts D) → nat_lt (entry_view e) (min_active x) ≡ false → after_kept_entry same elect x now e ≡ after_entry same elect x now e
+  unfolding after_kept_entry
   taken_again x e is = rw is refl
 
   -- the rest of a record by rising views
-  all_recover : (rest done : List (ArtifactFacts D)) (top : ℕ) (x : Facts K L D) → Recovers base top done x → Rises top rest → ((e : ArtifactFacts D) → Contains done e → Contains copy e) → ((e : ArtifactFacts D) → Contains rest e → Contains copy e) → Recovered base (done ++ above base rest) (all_taken same elect x now rest)
+  all_recover : (rest done : List (ArtifactFacts D)) (top : ℕ) (x : Facts K L D) → Recovers base top done x → Rises top rest → ((e : ArtifactFacts D) → Contains done e → Contains copy e) → ((e : ArtifactFacts D) → Contains rest e → Contains copy e) → Recovered base (done ++ above base rest) (after_entries same elect x now rest)
   all_recover [] done top x recovers rises known coming = record { shows = subst (λ es. Shows es x) (sym (append-nil done)) recovers.shows; reached = recovers.reached }
   all_recover (e ∷ rest) done top x recovers rises known coming = elim (cases_Bool (nat_lt (entry_view e) (min_active x))) [
     | inl passed ↦
@@ -152,10 +152,10 @@ module _ {K L D : Type 0} (same : D → D → Bool) (elect : Elect L) (now base 
         let stays : nat_le base (entry_view e) ≡ true = le-leb base (entry_view e) (omega (arith, over, recovers.reached)) in
         let here : Contains copy e = coming e (0, omega arith, refl) in
         let next = retaken_recovers same elect now base top done x recovers e rises.0 over (λ round other success given is h at. one_verdict other round given success (known (Verdict other given) h) (subst (λ f. Contains copy f) is here) at) in
-        let ends = all_recover rest (done ++ e ∷ []) (entry_view e) (retaken same elect x now e) next rises.1
+        let ends = all_recover rest (done ++ e ∷ []) (entry_view e) (after_entry same elect x now e) next rises.1
         (λ f h. elim (Contains-push_cases done e f h) [ inl old ↦ known f old | inr new ↦ subst (λ g. Contains copy g) new here ])
         (λ f h. coming f (Contains-cons_rest e rest f h)) in
-        rw (taken_again x e kept, stays) (subst (λ es. Recovered base es (all_taken same elect (retaken same elect x now e) now rest)) (append_assoc done (e ∷ []) (above base rest)) ends))
+        rw (taken_again x e kept, stays) (subst (λ es. Recovered base es (after_entries same elect (after_entry same elect x now e) now rest)) (append_assoc done (e ∷ []) (above base rest)) ends))
   ]
 
 module _ {K L D : Type 0} (base : ℕ) (copy : List (ArtifactFacts D)) (x : Facts K L D) where
@@ -180,8 +180,8 @@ module _ {K L D : Type 0} (same : D → D → Bool) (elect : Elect L) (settings 
   abbrev pub fresh : Facts K L D
   fresh = new_facts settings me members elector terms early
 
-  pub recovered_shows : (copy : List (ArtifactFacts D)) (floor : FloorFacts D) (now : ℕ) → IsNonDecreasingBy entry_view copy → ((round other : Round) (success given : Bool) → Contains copy (Verdict round success) → Contains copy (Verdict other given) → round.view ≡ other.view → success ≡ given) → Shows copy (recovered same elect fresh floor now copy)
-  unfolding recovered
+  pub recovered_shows : (copy : List (ArtifactFacts D)) (floor : FloorFacts D) (now : ℕ) → IsNonDecreasingBy entry_view copy → ((round other : Round) (success given : Bool) → Contains copy (Verdict round success) → Contains copy (Verdict other given) → round.view ≡ other.view → success ≡ given) → Shows copy (recovered_state same elect fresh floor now copy)
+  unfolding recovered_state
   recovered_shows copy floor now rising one_verdict =
       let x = after_set_floor same elect fresh floor now in
       let e : Event K D = event.SetFloor floor now in
@@ -193,4 +193,4 @@ module _ {K L D : Type 0} (same : D → D → Bool) (elect : Elect L) (settings 
         within = omega arith;
       } in
       let ends = all_recover same elect now base copy one_verdict copy [] 0 x start (rises_from 0 copy rising (λ e h. omega arith)) (λ e h. absurd (omega (arith, h.1))) (λ e h. h) in
-      whole_shown base copy (all_taken same elect x now copy) ends
+      whole_shown base copy (after_entries same elect x now copy) ends

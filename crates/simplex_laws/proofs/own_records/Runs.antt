@@ -13,14 +13,14 @@ use Rattle.simplex_member.specs.declared.member.error.RecoverError.TheVariants a
 use Rattle.simplex_member.specs.Allowed.{is_allowed, fault_of}
 use Rattle.simplex_member.specs.Calls.{CallFacts, Told}
 use Rattle.simplex_member.specs.Check.{stands}
-use Rattle.simplex_member.specs.Cuts.{may_drop, without_last, finalized_in, pruned}
+use Rattle.simplex_member.specs.Cuts.{may_drop, without_last, finalized_in, pruned_entries}
 use Rattle.simplex_member.specs.Entries.{entry_view}
-use Rattle.simplex_member.specs.Lives.{MemberFacts, IsCall, AnswersAlive, reply_of, left_of, fallen}
+use Rattle.simplex_member.specs.Lives.{MemberFacts, IsCall, AnswersAlive, reply_of, left_of, without_life}
 use Rattle.simplex_laws.specs.Outside.{AcceptedParentAbove, is_floor_too_large, IsFromOutside, IsExcused, VerdictsFollowNotarizations}
-use Rattle.simplex_member.specs.Recovery.{recover_error, recovered, is_finalization, with_floor}
-use Rattle.simplex_member.specs.Restarts.{RestartFacts, IsByView, cut, new_life, retention_grows, GoesOn, IsRestart, IsRestartWhere}
+use Rattle.simplex_member.specs.Recovery.{recover_error, recovered_state, is_finalization, with_floor}
+use Rattle.simplex_member.specs.Restarts.{RestartFacts, IsByView, cut_member, new_life, retention_grows, GoesOn, IsRestart, IsRestartWhere}
 use Rattle.simplex_member.specs.Runs.{StepFacts, Calls, Restarts, restart_told, IsRun, EndsRun, EndsRunFrom}
-use Rattle.simplex_member.specs.Start.{StartFacts, started, new_state}
+use Rattle.simplex_member.specs.Start.{StartFacts, started_member, new_state}
 use Rattle.simplex_member.proofs.Cuts.{none_dropped}
 use Rattle.simplex_laws.specs.Deeds.{Deed, of_floor, deeds_of_call, deeds_at, deeds_of_steps}
 use Rattle.simplex_laws.specs.TermLengths.{HasTerms, KeepTerms}
@@ -61,8 +61,8 @@ module _ {D : Type 0} where
         subst (λ left. (tail : List (ArtifactFacts D)) × (entries ≡ left ++ tail)) fewer (rest.0 ++ last, joined))
   ]
 
-  pruned_own : (deeds : List (Deed D)) (entries : List (ArtifactFacts D)) (retention : ℕ) → OwnRecord deeds entries → OwnRecord deeds (pruned retention entries)
-  unfolding pruned
+  pruned_own : (deeds : List (Deed D)) (entries : List (ArtifactFacts D)) (retention : ℕ) → OwnRecord deeds entries → OwnRecord deeds (pruned_entries retention entries)
+  unfolding pruned_entries
   pruned_own deeds entries retention own = own_bounded deeds entries own (finalized_in entries - retention)
 
   -- the floor adds no verdict
@@ -82,7 +82,7 @@ module _ {K L D : Type 0} where
   untold : (deeds : List (Deed D)) (m : MemberFacts K L D) → MemberTells deeds m → MemberTells (deeds ++ []) m
   untold deeds m tells = subst (λ a. MemberTells a m) (sym (append-nil deeds)) tells
 
-  cut_own : (deeds : List (Deed D)) (m : MemberFacts K L D) (n : ℕ) (prune : Bool) → OwnRecord deeds m.entries → OwnRecord deeds (cut m n prune).entries
+  cut_own : (deeds : List (Deed D)) (m : MemberFacts K L D) (n : ℕ) (prune : Bool) → OwnRecord deeds m.entries → OwnRecord deeds (cut_member m n prune).entries
   cut_own deeds m n false own = let left = left_first m.closed n m.entries in own_left deeds m.entries own (without_last m.closed n m.entries) left.0 left.1
   cut_own deeds m n true own =
       let left = left_first m.closed n m.entries in
@@ -122,7 +122,7 @@ module _ {K L D : Type 0} (same : D → D → Bool) (elect : Elect L) (term_leng
       by_life None dead (tell, leaves) = rw (tell, leaves) (untold deeds m tells)
       by_life (Some x) alive (inl (tell, leaves)) = rw (tell, leaves) (answered call x alive tells)
       by_life (Some x) alive (inr (_, tell, inl leaves)) = rw (tell, leaves) (untold deeds m tells)
-      by_life (Some x) alive (inr (_, tell, inr (_, _, leaves))) = rw (tell, leaves) (untold deeds (fallen m) (own_of deeds m.entries m.life tells))
+      by_life (Some x) alive (inr (_, tell, inr (_, _, leaves))) = rw (tell, leaves) (untold deeds (without_life m) (own_of deeds m.entries m.life tells))
 
   -- a restart
 
@@ -133,18 +133,18 @@ module _ {K L D : Type 0} (same : D → D → Bool) (elect : Elect L) (term_leng
       let shows = recovered_shows same elect x.settings x.me x.members x.elector x.terms x.elects_early copy start.floor start.now by_view.rising in_copy.one_verdict in
       record {
         own = own_floor deeds n.entries own (of_floor start.floor) start.floor;
-        shows = shows_whole n.entries copy start.floor (recovered same elect x start.floor start.now copy) by_view.of_each_view shows;
+        shows = shows_whole n.entries copy start.floor (recovered_state same elect x start.floor start.now copy) by_view.of_each_view shows;
       }
 
   goes_on : (n : MemberFacts K L D) (r : RestartFacts K L D) (result : Result (Unit {0}) RecoverError) (left : MemberFacts K L D) → OwnRecord deeds n.entries → GoesOn same elect n r.start result left → MemberTells (deeds ++ deeds_at (Restarts r) (restart_told {K = K} {D = D} result)) left
-  goes_on n r result left own (inl (is, leaves)) = rw (is, leaves) (untold deeds (fallen n) own)
+  goes_on n r result left own (inl (is, leaves)) = rw (is, leaves) (untold deeds (without_life n) own)
   goes_on n r result left own (inr (copy, by_view, goes)) = by_error (recover_error same (new_state r.start.setup) r.start.floor r.start.now copy) goes
     where
-      by_error : (o : Option RecoverError) → MatchOption o ((result ≡ Ok tt) × (left ≡ new_life same elect n r.start copy)) (λ e. (result ≡ Err e) × (left ≡ fallen n)) → MemberTells (deeds ++ deeds_at (Restarts r) (restart_told {K = K} {D = D} result)) left
+      by_error : (o : Option RecoverError) → MatchOption o ((result ≡ Ok tt) × (left ≡ new_life same elect n r.start copy)) (λ e. (result ≡ Err e) × (left ≡ without_life n)) → MemberTells (deeds ++ deeds_at (Restarts r) (restart_told {K = K} {D = D} result)) left
       by_error None (is, leaves) =
           rw (is, leaves)
           (subst (λ more. MemberTells (deeds ++ more) (new_life same elect n r.start copy)) (sym (append-nil (of_floor r.start.floor))) (from_copy n r.start copy own by_view))
-      by_error (Some e) (is, leaves) = rw (is, leaves) (untold deeds (fallen n) own)
+      by_error (Some e) (is, leaves) = rw (is, leaves) (untold deeds (without_life n) own)
 
   restart_tells_on : (r : RestartFacts K L D) (result : Result (Unit {0}) RecoverError) (left : MemberFacts K L D) → MemberTells deeds m → IsRestart same elect m r result left → MemberTells (deeds ++ deeds_at (Restarts r) (restart_told {K = K} {D = D} result)) left
   unfolding IsRestart
@@ -152,7 +152,7 @@ module _ {K L D : Type 0} (same : D → D → Bool) (elect : Elect L) (term_leng
     where
       by_test : (b : Bool) → IsRestartWhere same elect b m r result left → MemberTells (deeds ++ deeds_at (Restarts r) (restart_told {K = K} {D = D} result)) left
       by_test true (is, leaves) = rw (is, leaves) (untold deeds m tells)
-      by_test false goes = goes_on (cut m r.drop r.prune) r result left (cut_own deeds m r.drop r.prune (own_of deeds m.entries m.life tells)) goes
+      by_test false goes = goes_on (cut_member m r.drop r.prune) r result left (cut_own deeds m r.drop r.prune (own_of deeds m.entries m.life tells)) goes
 
 -- the error of a refusal
 abbrev error_in : Result (Unit {0}) RecoverError → RecoverError
@@ -190,28 +190,28 @@ module _ {K L D : Type 0} (same : D → D → Bool) (decides : (d e : D) → sam
       (run_own steps replies (deeds ++ deeds_at (Restarts r) told) next end fresh.1 (restarted deeds m next r told fresh.0 own is_step) rest)
 
   -- a copy of what any cut leaves breaks no rule on how entries stand beside one another
-  copy_fits : (deeds : List (Deed D)) (m : MemberFacts K L D) (n : ℕ) (prune : Bool) (copy : List (ArtifactFacts D)) → KeepsRecord term_length deeds m → IsByView (cut m n prune).entries copy → Fit same [] copy
+  copy_fits : (deeds : List (Deed D)) (m : MemberFacts K L D) (n : ℕ) (prune : Bool) (copy : List (ArtifactFacts D)) → KeepsRecord term_length deeds m → IsByView (cut_member m n prune).entries copy → Fit same [] copy
   copy_fits deeds m n prune copy own by_view =
-      let left = (cut m n prune).entries in
+      let left = (cut_member m n prune).entries in
       let between = cut_between term_length deeds m n own.lives.0 prune (between_of term_length deeds m.closed own.lives.0 m.entries m.openings m.life own.lives.1) in
       let remembers = copy_remembers deeds between.0 left between.1.remembers copy by_view.of_each_view in
       let in_copy = own_copy deeds left (cut_own deeds m n prune (own_of deeds m.entries m.life own.tells)) copy by_view.of_each_view in
       record_fits same itself copy (own_together term_length deeds between.0 copy between.1.lawful remembers in_copy) by_view.rising
 
-  copy_outside : (deeds : List (Deed D)) (m : MemberFacts K L D) (r : RestartFacts K L D) (copy : List (ArtifactFacts D)) (found : RecoverError) → KeepsRecord term_length deeds m → IsByView (cut m r.drop r.prune).entries copy → recover_error same (new_state r.start.setup) r.start.floor r.start.now copy ≡ Some found → IsFromOutside found
+  copy_outside : (deeds : List (Deed D)) (m : MemberFacts K L D) (r : RestartFacts K L D) (copy : List (ArtifactFacts D)) (found : RecoverError) → KeepsRecord term_length deeds m → IsByView (cut_member m r.drop r.prune).entries copy → recover_error same (new_state r.start.setup) r.start.floor r.start.now copy ≡ Some found → IsFromOutside found
   copy_outside deeds m r copy found own by_view is = error_outside same (new_state r.start.setup) r.start.floor r.start.now copy found (copy_fits deeds m r.drop r.prune copy own by_view) is
 
-  copy_parent : (deeds : List (Deed D)) (m : MemberFacts K L D) (r : RestartFacts K L D) (copy : List (ArtifactFacts D)) → KeepsRecord term_length deeds m → IsByView (cut m r.drop r.prune).entries copy → recover_error same (new_state r.start.setup) r.start.floor r.start.now copy ≡ Some error.ParentNotBelow → AcceptedParentAbove deeds
+  copy_parent : (deeds : List (Deed D)) (m : MemberFacts K L D) (r : RestartFacts K L D) (copy : List (ArtifactFacts D)) → KeepsRecord term_length deeds m → IsByView (cut_member m r.drop r.prune).entries copy → recover_error same (new_state r.start.setup) r.start.floor r.start.now copy ≡ Some error.ParentNotBelow → AcceptedParentAbove deeds
   copy_parent deeds m r copy own by_view is =
-      let left = (cut m r.drop r.prune).entries in
+      let left = (cut_member m r.drop r.prune).entries in
       let between = cut_between term_length deeds m r.drop own.lives.0 r.prune (between_of term_length deeds m.closed own.lives.0 m.entries m.openings m.life own.lives.1) in
       let remembers = copy_remembers deeds between.0 left between.1.remembers copy by_view.of_each_view in
       let in_copy = own_copy deeds left (cut_own deeds m r.drop r.prune (own_of deeds m.entries m.life own.tells)) copy by_view.of_each_view in
       parent_accepted same term_length deeds between.1.lawful (new_state r.start.setup) r.start.floor r.start.now copy in_copy.notarize_cast remembers.finalize_cast is
 
-  pub copy_high : (deeds : List (Deed D)) (m : MemberFacts K L D) (r : RestartFacts K L D) (copy : List (ArtifactFacts D)) → AreSmall deeds → KeepsRecord term_length deeds m → IsByView (cut m r.drop r.prune).entries copy → recover_error same (new_state r.start.setup) r.start.floor r.start.now copy ≡ Some error.ViewTooLarge → (is_floor_too_large r.start.floor ≡ true) ⊎ HasHighVote deeds
+  pub copy_high : (deeds : List (Deed D)) (m : MemberFacts K L D) (r : RestartFacts K L D) (copy : List (ArtifactFacts D)) → AreSmall deeds → KeepsRecord term_length deeds m → IsByView (cut_member m r.drop r.prune).entries copy → recover_error same (new_state r.start.setup) r.start.floor r.start.now copy ≡ Some error.ViewTooLarge → (is_floor_too_large r.start.floor ≡ true) ⊎ HasHighVote deeds
   copy_high deeds m r copy small own by_view is =
-      let left = (cut m r.drop r.prune).entries in
+      let left = (cut_member m r.drop r.prune).entries in
       let between = cut_between term_length deeds m r.drop own.lives.0 r.prune (between_of term_length deeds m.closed own.lives.0 m.entries m.openings m.life own.lives.1) in
       let remembers = copy_remembers deeds between.0 left between.1.remembers copy by_view.of_each_view in
       let in_copy = own_copy deeds left (cut_own deeds m r.drop r.prune (own_of deeds m.entries m.life own.tells)) copy by_view.of_each_view in
@@ -221,7 +221,7 @@ module _ {K L D : Type 0} (same : D → D → Bool) (decides : (d e : D) → sam
   unfolding IsRestart
   restart_excused deeds m left r result found refused own restarts = by_test (retention_grows m r.prune r.start.setup.settings.view_retention) restarts
     where
-      by_error : (copy : List (ArtifactFacts D)) → IsByView (cut m r.drop r.prune).entries copy → (o : Option RecoverError) → recover_error same (new_state r.start.setup) r.start.floor r.start.now copy ≡ o → MatchOption o ((result ≡ Ok tt) × (left ≡ new_life same elect (cut m r.drop r.prune) r.start copy)) (λ e. (result ≡ Err e) × (left ≡ fallen (cut m r.drop r.prune))) → IsExcused found
+      by_error : (copy : List (ArtifactFacts D)) → IsByView (cut_member m r.drop r.prune).entries copy → (o : Option RecoverError) → recover_error same (new_state r.start.setup) r.start.floor r.start.now copy ≡ o → MatchOption o ((result ≡ Ok tt) × (left ≡ new_life same elect (cut_member m r.drop r.prune) r.start copy)) (λ e. (result ≡ Err e) × (left ≡ without_life (cut_member m r.drop r.prune))) → IsExcused found
       by_error copy by_view None none (is, leaves) = absurd (cc)
       by_error copy by_view (Some e) due (is, leaves) = inl (copy_outside deeds m r copy found own by_view (due ∙ ap Some (sym (ap error_in is) ∙ ap error_in refused)))
 
@@ -238,43 +238,43 @@ module _ {K L D : Type 0} (same : D → D → Bool) (decides : (d e : D) → sam
   run_excused (Restarts r ∷ steps) deeds m found fresh own (inr (told, next, is_step, served, later)) = run_excused steps (deeds ++ deeds_at (Restarts r) told) next found fresh.1 (restarted deeds m next r told fresh.0 own is_step) later
 
 module _ {K L D : Type 0} (same : D → D → Bool) (decides : (d e : D) → same d e ≡ true → d ≡ e) (itself : (d : D) → same d d ≡ true) (elect : Elect L) (term_length : ℕ) (start : StartFacts K L D) (begins : HasTerms term_length start.setup) where
-  start_tells : MemberTells (of_floor start.floor) (started same elect (new_state start.setup) start.floor start.now)
-  unfolding recovered
+  start_tells : MemberTells (of_floor start.floor) (started_member same elect (new_state start.setup) start.floor start.now)
+  unfolding recovered_state
   start_tells =
       let x = new_state start.setup in
       let none : List (ArtifactFacts D) = [] in
       let shows = recovered_shows same elect x.settings x.me x.members x.elector x.terms x.elects_early none start.floor start.now (λ i j d low within. absurd (omega arith)) (λ round other success given h. absurd (omega (arith, h.1))) in
       record {
         own = own_floor [] [] own_nothing (of_floor start.floor) start.floor;
-        shows = shows_whole none none start.floor (recovered same elect x start.floor start.now none) (λ v. refl) shows;
+        shows = shows_whole none none start.floor (recovered_state same elect x start.floor start.now none) (λ v. refl) shows;
       }
 
-  pub start_own : KeepsRecord term_length (of_floor start.floor) (started same elect (new_state start.setup) start.floor start.now)
+  pub start_own : KeepsRecord term_length (of_floor start.floor) (started_member same elect (new_state start.setup) start.floor start.now)
   start_own = record { lives = start_lives same decides elect term_length start begins; tells = start_tells }
 
   module _ (steps : List (StepFacts K L D)) (fresh : KeepTerms term_length steps) where
     -- a copy of a member's own record is refused only for what comes from outside
-    pub own_record_outside : (replies : List (Told K D)) (end : MemberFacts K L D) (next : RestartFacts K L D) (copy : List (ArtifactFacts D)) (found : RecoverError) → IsRun same elect (started same elect (new_state start.setup) start.floor start.now) steps replies end → IsByView (cut end next.drop next.prune).entries copy → recover_error same (new_state next.start.setup) next.start.floor next.start.now copy ≡ Some found → IsFromOutside found
+    pub own_record_outside : (replies : List (Told K D)) (end : MemberFacts K L D) (next : RestartFacts K L D) (copy : List (ArtifactFacts D)) (found : RecoverError) → IsRun same elect (started_member same elect (new_state start.setup) start.floor start.now) steps replies end → IsByView (cut_member end next.drop next.prune).entries copy → recover_error same (new_state next.start.setup) next.start.floor next.start.now copy ≡ Some found → IsFromOutside found
     own_record_outside replies end next copy found run by_view is =
-        let own = run_own same decides itself elect term_length begins.some steps replies (of_floor start.floor) (started same elect (new_state start.setup) start.floor start.now) end fresh start_own run in
+        let own = run_own same decides itself elect term_length begins.some steps replies (of_floor start.floor) (started_member same elect (new_state start.setup) start.floor start.now) end fresh start_own run in
         copy_outside same decides itself elect term_length begins.some (of_floor start.floor ++ deeds_of_steps steps replies) end next copy found own by_view is
 
     -- for a parent, only where such a notarization was accepted
-    pub own_parent_accepted : (replies : List (Told K D)) (end : MemberFacts K L D) (next : RestartFacts K L D) (copy : List (ArtifactFacts D)) → IsRun same elect (started same elect (new_state start.setup) start.floor start.now) steps replies end → IsByView (cut end next.drop next.prune).entries copy → recover_error same (new_state next.start.setup) next.start.floor next.start.now copy ≡ Some error.ParentNotBelow → AcceptedParentAbove (of_floor start.floor ++ deeds_of_steps steps replies)
+    pub own_parent_accepted : (replies : List (Told K D)) (end : MemberFacts K L D) (next : RestartFacts K L D) (copy : List (ArtifactFacts D)) → IsRun same elect (started_member same elect (new_state start.setup) start.floor start.now) steps replies end → IsByView (cut_member end next.drop next.prune).entries copy → recover_error same (new_state next.start.setup) next.start.floor next.start.now copy ≡ Some error.ParentNotBelow → AcceptedParentAbove (of_floor start.floor ++ deeds_of_steps steps replies)
     own_parent_accepted replies end next copy run by_view is =
-        let own = run_own same decides itself elect term_length begins.some steps replies (of_floor start.floor) (started same elect (new_state start.setup) start.floor start.now) end fresh start_own run in
+        let own = run_own same decides itself elect term_length begins.some steps replies (of_floor start.floor) (started_member same elect (new_state start.setup) start.floor start.now) end fresh start_own run in
         copy_parent same decides itself elect term_length begins.some (of_floor start.floor ++ deeds_of_steps steps replies) end next copy own by_view is
 
     -- behind its verdicts stand notarizations, in its own order
-    pub own_verdicts_follow : (replies : List (Told K D)) (end : MemberFacts K L D) → IsRun same elect (started same elect (new_state start.setup) start.floor start.now) steps replies end → VerdictsFollowNotarizations end
+    pub own_verdicts_follow : (replies : List (Told K D)) (end : MemberFacts K L D) → IsRun same elect (started_member same elect (new_state start.setup) start.floor start.now) steps replies end → VerdictsFollowNotarizations end
     own_verdicts_follow replies end run =
-        let own = run_own same decides itself elect term_length begins.some steps replies (of_floor start.floor) (started same elect (new_state start.setup) start.floor start.now) end fresh start_own run in
+        let own = run_own same decides itself elect term_length begins.some steps replies (of_floor start.floor) (started_member same elect (new_state start.setup) start.floor start.now) end fresh start_own run in
         (own_of (of_floor start.floor ++ deeds_of_steps steps replies) end.entries end.life own.tells).notarized
 
     -- so is a restart, but for its retention and want of memory
-    pub own_restart_excused : (replies : List (Told K D)) (end left : MemberFacts K L D) (next : RestartFacts K L D) (found : RecoverError) → IsRun same elect (started same elect (new_state start.setup) start.floor start.now) steps replies end → IsRestart same elect end next (Err found) left → IsExcused found
+    pub own_restart_excused : (replies : List (Told K D)) (end left : MemberFacts K L D) (next : RestartFacts K L D) (found : RecoverError) → IsRun same elect (started_member same elect (new_state start.setup) start.floor start.now) steps replies end → IsRestart same elect end next (Err found) left → IsExcused found
     own_restart_excused replies end left next found run restarts =
-        let own = run_own same decides itself elect term_length begins.some steps replies (of_floor start.floor) (started same elect (new_state start.setup) start.floor start.now) end fresh start_own run in
+        let own = run_own same decides itself elect term_length begins.some steps replies (of_floor start.floor) (started_member same elect (new_state start.setup) start.floor start.now) end fresh start_own run in
         restart_excused same decides itself elect term_length begins.some (of_floor start.floor ++ deeds_of_steps steps replies) end left next (Err found) found refl own restarts
 
     -- and a run
@@ -282,4 +282,4 @@ module _ {K L D : Type 0} (same : D → D → Bool) (decides : (d e : D) → sam
     unfolding EndsRunFrom
     own_run_excused found (inl memory) = inr (inr memory)
     own_run_excused found (inr (inl refused)) = inl (error_outside same (new_state start.setup) start.floor start.now [] found tt refused)
-    own_run_excused found (inr (inr ends)) = run_excused same decides itself elect term_length begins.some steps (of_floor start.floor) (started same elect (new_state start.setup) start.floor start.now) found fresh start_own ends
+    own_run_excused found (inr (inr ends)) = run_excused same decides itself elect term_length begins.some steps (of_floor start.floor) (started_member same elect (new_state start.setup) start.floor start.now) found fresh start_own ends

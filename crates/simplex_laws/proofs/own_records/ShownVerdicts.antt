@@ -18,7 +18,7 @@ use Rattle.simplex_voter.specs.Votes.{nullify_answer, finalize_answer}
 use Rattle.simplex_voter.proofs.Gaps.{and_parts, not_true}
 use Rattle.simplex_member.specs.Calls.{CallFacts, AddNotarization, AddNullification, AddFinalization, Certified, ConstructNullify, ConstructFinalize, BroadcastNotarization, BroadcastNullification, BroadcastFinalization, GetBestCertificate, Prune}
 use Rattle.simplex_member.specs.Allowed.{is_allowed}
-use Rattle.simplex_member.specs.Made.{nullify_vote, finalize_vote, newly, first_vote, vote_entry, answer, after_call, recorded_by}
+use Rattle.simplex_member.specs.Made.{nullify_vote, finalize_vote, if_new, first_vote, vote_entry, answer, after_call, recorded_by}
 use Rattle.simplex_member.specs.Openings.{Openings}
 use Rattle.simplex_laws.specs.Deeds.{Deed, deeds_of_call}
 use Rattle.simplex_laws.proofs.own_records.Recorded.{OwnRecord, AreQuiet, quiet_none, quiet_newly, HasNoVerdict, no_verdict, own_quiet, own_verdict}
@@ -72,20 +72,20 @@ module _ {K L D : Type 0} (same : D → D → Bool) (elect : Elect L) (deeds : L
   pub quiet_told : (more : List (Deed D)) (new : List (ArtifactFacts D)) (e : Event K D) → IsEvent x e → notarization_by e ≡ None → verdict_by e ≡ None → AreQuiet new → Tells (deeds ++ more) (entries ++ new) (after_event same elect x e)
   quiet_told more new e takes no_notarization no_judgement quiet = record { own = own_quiet deeds entries tells.own more new quiet; shows = quiet_shows new e takes no_notarization no_judgement (no_verdict new quiet) }
 
-  notarization_told : (more : List (Deed D)) (c : ProposalFacts D) → takes_proposal_certificate x c ≡ true → Tells (deeds ++ more) (entries ++ newly (notarization_added same elect x c).0 (Accepted (Notarized c))) (after_add_notarization same elect x c)
+  notarization_told : (more : List (Deed D)) (c : ProposalFacts D) → takes_proposal_certificate x c ≡ true → Tells (deeds ++ more) (entries ++ if_new (notarization_added same elect x c).0 (Accepted (Notarized c))) (after_add_notarization same elect x c)
   notarization_told more c takes =
       let is_new = (notarization_added same elect x c).0 in
       let entry : ArtifactFacts D = Accepted (Notarized c) in
       let e : Event K D = event.AddNotarization c in
       let quiet = quiet_newly is_new entry refl in
       record {
-        own = own_quiet deeds entries tells.own more (newly is_new entry) quiet;
-        shows = event_shows same elect x e (λ v token is. takes) entries (entries ++ newly is_new entry) (brings_kept x e takes refl).notarization (λ round given success h is. absurd (cc)) (λ a h. Contains-append_left entries (newly is_new entry) a h)
-            (λ d is none. (let alike : c ≡ d = cc in subst (λ (f : ProposalFacts D). Contains (entries ++ newly is_new entry) (Accepted (Notarized f))) alike (let here : is_some (round_of x c.proposal.round.view).notarization ≡ false = subst (λ (f : ProposalFacts D). is_some (round_of x f.proposal.round.view).notarization ≡ false) (sym alike) none in rw here (Contains-append_right entries (entry ∷ []) entry (0, omega arith, refl)))))
-            (λ round success h. elim (Contains-append_cases entries (newly is_new entry) (Verdict round success) h) [ inl old ↦ inl old | inr late ↦ absurd (no_verdict (newly is_new entry) quiet round success late) ]) tells.shows;
+        own = own_quiet deeds entries tells.own more (if_new is_new entry) quiet;
+        shows = event_shows same elect x e (λ v token is. takes) entries (entries ++ if_new is_new entry) (brings_kept x e takes refl).notarization (λ round given success h is. absurd (cc)) (λ a h. Contains-append_left entries (if_new is_new entry) a h)
+            (λ d is none. (let alike : c ≡ d = cc in subst (λ (f : ProposalFacts D). Contains (entries ++ if_new is_new entry) (Accepted (Notarized f))) alike (let here : is_some (round_of x c.proposal.round.view).notarization ≡ false = subst (λ (f : ProposalFacts D). is_some (round_of x f.proposal.round.view).notarization ≡ false) (sym alike) none in rw here (Contains-append_right entries (entry ∷ []) entry (0, omega arith, refl)))))
+            (λ round success h. elim (Contains-append_cases entries (if_new is_new entry) (Verdict round success) h) [ inl old ↦ inl old | inr late ↦ absurd (no_verdict (if_new is_new entry) quiet round success late) ]) tells.shows;
       }
 
-  verdict_told : (more : List (Deed D)) (v : ℕ) (success : Bool) (now : ℕ) → takes_verdict x v success ≡ true → Tells (deeds ++ more) (entries ++ newly (is_first_verdict x v) (Verdict (round_number x v) success)) (after_certified elect x v success now)
+  verdict_told : (more : List (Deed D)) (v : ℕ) (success : Bool) (now : ℕ) → takes_verdict x v success ≡ true → Tells (deeds ++ more) (entries ++ if_new (is_first_verdict x v) (Verdict (round_number x v) success)) (after_certified elect x v success now)
   verdict_told more v success now takes = by_tracked (is_tracked x v) refl
     where
       entry : ArtifactFacts D
@@ -117,13 +117,13 @@ module _ {K L D : Type 0} (same : D → D → Bool) (elect : Elect L) (deeds : L
                 (subst (λ b. is_judged b (round_of (after_certified elect x v success now) v).certification ≡ true) one.1 (verdict_stands same elect x v success now tracked)))
           ]) tells.shows
 
-      by_first : is_tracked x v ≡ true → (b : Bool) → Tells (deeds ++ more) (entries ++ newly b entry) (after_certified elect x v success now)
+      by_first : is_tracked x v ≡ true → (b : Bool) → Tells (deeds ++ more) (entries ++ if_new b entry) (after_certified elect x v success now)
       by_first tracked false = record { own = own_quiet deeds entries tells.own more [] quiet_none; shows = shown tracked [] (λ round given h. absurd (omega (arith, h.1))) }
       by_first tracked true =
           let c = tells.shows.notarized v (taken_beside x v success tracked takes).0 in
           record { own = own_verdict deeds entries tells.own more (round_number x v) success c (agree tracked); shows = shown tracked (entry ∷ []) same_verdict_as }
 
-      by_tracked : (b : Bool) → is_tracked x v ≡ b → Tells (deeds ++ more) (entries ++ newly (is_first_verdict x v) entry) (after_certified elect x v success now)
+      by_tracked : (b : Bool) → is_tracked x v ≡ b → Tells (deeds ++ more) (entries ++ if_new (is_first_verdict x v) entry) (after_certified elect x v success now)
       by_tracked true tracked = by_first tracked (is_first_verdict x v)
       by_tracked false untracked =
           let later = untracked_later x v success untracked in

@@ -16,10 +16,10 @@ use Rattle.simplex_member.specs.Allowed.{is_allowed, fault_of}
 use Rattle.simplex_member.specs.Calls as calls
 use Rattle.simplex_member.specs.Calls.{CallFacts, AddNotarization, AddNullification, AddFinalization, Told, Added, AddedNullification, Nullify, Finalize, Notarize}
 use Rattle.simplex_member.specs.Check.{first_error, floor_rules, first_broken_after, first_broken_rule}
-use Rattle.simplex_member.specs.Lives.{MemberFacts, IsCall, AnswersAlive, reply_of, unless_refused, fallen}
+use Rattle.simplex_member.specs.Lives.{MemberFacts, IsCall, AnswersAlive, reply_of, unless_refused, without_life}
 use Rattle.simplex_member.specs.Made.{answer}
 use Rattle.simplex_member.specs.Recovery.{recover_error}
-use Rattle.simplex_member.specs.Restarts.{RestartFacts, cut, new_life, retention_grows, GoesOn, IsRestart, IsRestartWhere}
+use Rattle.simplex_member.specs.Restarts.{RestartFacts, cut_member, new_life, retention_grows, GoesOn, IsRestart, IsRestartWhere}
 use Rattle.simplex_member.specs.Runs.{StepFacts, Calls, Restarts, restart_told, IsRun}
 use Rattle.simplex_member.specs.Start.{new_state}
 use Rattle.simplex_laws.specs.Deeds.{Deed, Accepts, handed_in, of_floor, of_vote, signed_in, accepted_by, deeds_of_call, deeds_at, deeds_of_steps}
@@ -129,7 +129,7 @@ module _ {K L D : Type 0} (same : D → D → Bool) (elect : Elect L) where
   goes_on_small n left r result (inl (is, leaves)) = rw is small_none
   goes_on_small n left r result (inr (copy, by_view, goes)) = by_error (recover_error same (new_state r.start.setup) r.start.floor r.start.now copy) refl goes
     where
-      by_error : (o : Option RecoverError) → recover_error same (new_state r.start.setup) r.start.floor r.start.now copy ≡ o → MatchOption o ((result ≡ Ok tt) × (left ≡ new_life same elect n r.start copy)) (λ e. (result ≡ Err e) × (left ≡ fallen n)) → AreSmall (deeds_at (Restarts r) (restart_told {K = K} {D = D} result))
+      by_error : (o : Option RecoverError) → recover_error same (new_state r.start.setup) r.start.floor r.start.now copy ≡ o → MatchOption o ((result ≡ Ok tt) × (left ≡ new_life same elect n r.start copy)) (λ e. (result ≡ Err e) × (left ≡ without_life n)) → AreSmall (deeds_at (Restarts r) (restart_told {K = K} {D = D} result))
       by_error None none (is, leaves) = rw is (small_both (of_floor r.start.floor) [] (floor_small same (new_state r.start.setup) r.start.floor r.start.now copy none) small_none)
       by_error (Some e) due (is, leaves) = rw is small_none
 
@@ -139,7 +139,7 @@ module _ {K L D : Type 0} (same : D → D → Bool) (elect : Elect L) where
     where
       by_test : (b : Bool) → IsRestartWhere same elect b m r result next → AreSmall (deeds_at (Restarts r) (restart_told {K = K} {D = D} result))
       by_test true (is, leaves) = rw is small_none
-      by_test false goes = goes_on_small (cut m r.drop r.prune) next r result goes
+      by_test false goes = goes_on_small (cut_member m r.drop r.prune) next r result goes
 
   -- a run
   pub steps_small : (steps : List (StepFacts K L D)) (replies : List (Told K D)) (m end : MemberFacts K L D) → IsRun same elect m steps replies end → AreSmall (deeds_of_steps steps replies)

@@ -10,7 +10,7 @@ use Rattle.simplex_round.specs.Round.{RoundFacts, new_round, is_judged, after_ab
 use Rattle.simplex_voter.specs.Facts.{Facts, Elect, round_at, round_of, round_number, is_tracked}
 use Rattle.simplex_voter.specs.Windows.{min_active}
 use Rattle.simplex_voter.specs.Entering.{at_moment}
-use Rattle.simplex_voter.specs.Certification.{judged, verdict_taken, after_certified}
+use Rattle.simplex_voter.specs.Certification.{with_verdict, verdict_taken, after_certified}
 use Rattle.simplex_laws.specs.Events as event
 use Rattle.simplex_laws.specs.Events.{Event, IsEvent, after_event}
 use Rattle.simplex_laws.specs.Sums.{is_prune}
@@ -119,7 +119,7 @@ module _ {K L D : Type 0} (same : D → D → Bool) (elect : Elect L) (x : Facts
   pub verdict_stands : (v : ℕ) (success : Bool) (now : ℕ) → is_tracked x v ≡ true → is_judged success (round_of (after_certified elect x v success now) v).certification ≡ true
   verdict_stands v success now tracked =
       let m = at_moment x now in
-      let j = judged m v success in
+      let j = with_verdict m v success in
       let e : Event K D = event.Certified v success now in
       let handles : (w token : ℕ) → e ≡ event.SetCertifyHandle w token → IsEvent x e = λ w token is. absurd (cc) in
       let change = rounds_along same elect x e 0 (Weighs e) (weighs_on same elect x e handles) (weighs same elect x e handles) refl j (verdict_taken elect m v success now) (from_judged v success now) v in

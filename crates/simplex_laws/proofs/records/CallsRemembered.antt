@@ -20,7 +20,7 @@ use Rattle.simplex_voter.proofs.Gaps.{and_parts}
 use Rattle.simplex_voter.proofs.Rules.{nullify_parts, finalize_parts}
 use Rattle.simplex_member.specs.Calls.{CallFacts, AddNotarization, AddNullification, AddFinalization, Certified, ConstructNullify, ConstructFinalize, BroadcastNotarization, BroadcastNullification, BroadcastFinalization, GetBestCertificate, Prune, Nullify, Finalize}
 use Rattle.simplex_member.specs.Allowed.{is_allowed}
-use Rattle.simplex_member.specs.Made.{nullify_vote, finalize_vote, newly, first_vote, vote_entry, answer, after_call, recorded_by}
+use Rattle.simplex_member.specs.Made.{nullify_vote, finalize_vote, if_new, first_vote, vote_entry, answer, after_call, recorded_by}
 use Rattle.simplex_member.specs.Openings.{Openings}
 use Rattle.simplex_laws.specs.Deeds.{Deed, Accepts, Signs, deeds_of_call}
 use Rattle.simplex_laws.proofs.votes.Standing.{Stays}
@@ -66,31 +66,31 @@ module _ {K L D : Type 0} (same : D → D → Bool) (elect : Elect L) (term_leng
   quiet_follows : (e : Event K D) → verdict_by e ≡ None → nullify_by e ≡ None → Follows (deeds ++ []) kept (entries ++ []) (after_event same elect x e)
   quiet_follows e verdict nullify = nothing_follows (after_event same elect x e) (quiet_on e verdict nullify)
 
-  certificate_follows : (is_new : Bool) (c : CertificateFacts D) (e : Event K D) → verdict_by e ≡ None → nullify_by e ≡ None → Follows (deeds ++ Accepts (subject_of c) ∷ []) kept (entries ++ newly is_new (Accepted c)) (after_event same elect x e)
+  certificate_follows : (is_new : Bool) (c : CertificateFacts D) (e : Event K D) → verdict_by e ≡ None → nullify_by e ≡ None → Follows (deeds ++ Accepts (subject_of c) ∷ []) kept (entries ++ if_new is_new (Accepted c)) (after_event same elect x e)
   certificate_follows is_new c e verdict nullify = record {
-    remembers = remembers_more deeds entries kept (Accepts (subject_of c) ∷ []) (newly is_new (Accepted c)) (grows_certificate deeds entries is_new c) follows.remembers;
-    marked = marked_more entries (newly is_new (Accepted c)) (after_event same elect x e) (quiet_on e verdict nullify);
+    remembers = remembers_more deeds entries kept (Accepts (subject_of c) ∷ []) (if_new is_new (Accepted c)) (grows_certificate deeds entries is_new c) follows.remembers;
+    marked = marked_more entries (if_new is_new (Accepted c)) (after_event same elect x e) (quiet_on e verdict nullify);
   }
 
   -- verdicts
 
-  certified_follows : (v : ℕ) (success : Bool) (now : ℕ) → takes_verdict x v success ≡ true → Follows (deeds ++ []) kept (entries ++ newly (is_first_verdict x v) (Verdict (round_number x v) success)) (after_certified elect x v success now)
+  certified_follows : (v : ℕ) (success : Bool) (now : ℕ) → takes_verdict x v success ≡ true → Follows (deeds ++ []) kept (entries ++ if_new (is_first_verdict x v) (Verdict (round_number x v) success)) (after_certified elect x v success now)
   certified_follows v success now takes = record {
     remembers = remembers_more deeds entries kept [] new (grows_verdict deeds entries (is_first_verdict x v) (round_number x v) success) follows.remembers;
     marked = event_marked same elect x given entries (entries ++ new) (λ a h. Contains-append_left entries new a h) (λ w says before after. shown w says before after) (λ w says before after key. absurd (cc)) follows.marked;
   }
     where
       new : List (ArtifactFacts D)
-      new = newly (is_first_verdict x v) (Verdict (round_number x v) success)
+      new = if_new (is_first_verdict x v) (Verdict (round_number x v) success)
 
       given : Event K D
       given = event.Certified v success now
 
-      verdict : is_tracked x v ≡ true → success ≡ true → (b : Bool) → is_first_verdict x v ≡ b → (round : Round) × Contains (entries ++ newly (is_first_verdict x v) (Verdict (round_number x v) success)) (Verdict round true) × (round.view ≡ v)
+      verdict : is_tracked x v ≡ true → success ≡ true → (b : Bool) → is_first_verdict x v ≡ b → (round : Round) × Contains (entries ++ if_new (is_first_verdict x v) (Verdict (round_number x v) success)) (Verdict round true) × (round.view ≡ v)
       verdict tracked is true first = rw (first, is) (round_number x v, Contains-append_right entries (Verdict (round_number x v) true ∷ []) (Verdict (round_number x v) true) (0, omega arith, refl), refl)
       verdict tracked is false later =
           let e = follows.marked.certified v (standing_verdict x v tracked (subst (λ s. takes_verdict x v s ≡ true) is takes) later) in
-          (e.0, Contains-append_left entries (newly (is_first_verdict x v) (Verdict (round_number x v) success)) (Verdict e.0 true) e.1, e.2)
+          (e.0, Contains-append_left entries (if_new (is_first_verdict x v) (Verdict (round_number x v) success)) (Verdict e.0 true) e.1, e.2)
 
       by_tracked : (w : ℕ) → v ≡ w → success ≡ true → is_certified (round_of x w).certification ≡ false → is_certified (round_of (after_certified elect x v success now) w).certification ≡ true → (b : Bool) → is_tracked x v ≡ b → (round : Round) × Contains (entries ++ new) (Verdict round true) × (round.view ≡ w)
       by_tracked w at is before after true tracked = (let e = verdict tracked is (is_first_verdict x v) refl in (e.0, e.1, e.2 ∙ at))

@@ -9,7 +9,7 @@ use Rattle.simplex_types.specs.declared.types.messages.Subject.{Subject}
 use Rattle.simplex_types.specs.declared.types.messages.Subject.TheVariants as subject
 use Rattle.simplex_types.specs.declared.types.numbers.Round.{Round}
 use Rattle.simplex_voter.specs.Facts.{Facts, Elect}
-use Rattle.simplex_member.specs.Recovery.{taken, all_taken}
+use Rattle.simplex_member.specs.Recovery.{after_kept_entry, after_entries}
 use Rattle.simplex_laws.specs.Deeds.{Deed, Accepts, Signs}
 use Rattle.simplex_laws.specs.Lawful.{HasSigned, IsLawful}
 use Rattle.simplex_laws.proofs.lists.Signed.{signed_none, signed_cases, only_signed}
@@ -143,10 +143,10 @@ module _ {D : Type 0} (term_length : ℕ) (deeds : List (Deed D)) (lawful : IsLa
   )
 
 module _ {K L D : Type 0} (same : D → D → Bool) (decides : (d e : D) → same d e ≡ true → d ≡ e) (elect : Elect L) (term_length : ℕ) (deeds : List (Deed D)) (lawful : IsLawful term_length deeds) (kept : ℕ) (copy : List (ArtifactFacts D)) (remembers : Remembers deeds kept copy) (now : ℕ) where
-  pub all_stay : (rest before : List (ArtifactFacts D)) (a : List (Deed D)) (x : Facts K L D) → copy ≡ before ++ rest → AreRecorded deeds a → ((round : Round) → Contains before (Verdict round true) → round.view < x.current) → Stays term_length a x → Stays term_length (a ++ entries_deeds rest) (all_taken same elect x now rest)
+  pub all_stay : (rest before : List (ArtifactFacts D)) (a : List (Deed D)) (x : Facts K L D) → copy ≡ before ++ rest → AreRecorded deeds a → ((round : Round) → Contains before (Verdict round true) → round.view < x.current) → Stays term_length a x → Stays term_length (a ++ entries_deeds rest) (after_entries same elect x now rest)
   all_stay [] before a x split recorded passed stays = subst (λ b. Stays term_length b x) (sym (append-nil a)) stays
   all_stay (e ∷ rest) before a x split recorded passed stays =
-      let y = taken same elect x now e in
+      let y = after_kept_entry same elect x now e in
       let further : List (ArtifactFacts D) = before ++ e ∷ [] in
       let here : Contains copy e = subst (λ es. Contains es e) (sym split) (Contains-append_right before (e ∷ rest) e (0, omega arith, refl)) in
       let next : copy ≡ further ++ rest = split ∙ sym (append_assoc before (e ∷ []) rest) in
@@ -157,4 +157,4 @@ module _ {K L D : Type 0} (same : D → D → Bool) (decides : (d e : D) → sam
         | inl old ↦ omega (arith, passed round old)
         | inr new ↦ taken_passes same decides elect term_length a x now e round new stays.ahead
       ] in
-      subst (λ b. Stays term_length b (all_taken same elect y now rest)) (append_assoc a (entry_deeds e) (entries_deeds rest)) (all_stay rest further (a ++ entry_deeds e) y next (recorded_also term_length deeds lawful kept copy remembers a e here recorded) passes took)
+      subst (λ b. Stays term_length b (after_entries same elect y now rest)) (append_assoc a (entry_deeds e) (entries_deeds rest)) (all_stay rest further (a ++ entry_deeds e) y next (recorded_also term_length deeds lawful kept copy remembers a e here recorded) passes took)

@@ -14,7 +14,7 @@ use Rattle.simplex_voter.specs.Facts.{Facts, Elect, round_of, with_round}
 use Rattle.simplex_voter.specs.Windows.{min_active}
 use Rattle.simplex_voter.specs.Certification.{after_certified}
 use Rattle.simplex_member.specs.Entries.{entry_view}
-use Rattle.simplex_member.specs.Recovery.{retaken, taken}
+use Rattle.simplex_member.specs.Recovery.{after_entry, after_kept_entry}
 use Rattle.simplex_laws.specs.Deeds.{Deed, Accepts}
 use Rattle.simplex_laws.specs.Events as event
 use Rattle.simplex_laws.specs.Events.{Event, after_event}
@@ -30,14 +30,14 @@ use Rattle.simplex_laws.proofs.votes.StandingSteps.{Suits, plain_suits, event_st
 module _ {K L D : Type 0} (same : D → D → Bool) (elect : Elect L) (x : Facts K L D) (now : ℕ) where
   -- neither the current view nor the finalized one falls
 
-  pub taken_if : (P : Facts K L D → Type 0) (e : ArtifactFacts D) → P x → P (retaken same elect x now e) → P (taken same elect x now e)
-  unfolding taken
-  taken_if P e still again = elim (nat_lt (entry_view e) (min_active x)) as (λ b. P (if b then x else retaken same elect x now e)) [ true ↦ still | false ↦ again ]
+  pub taken_if : (P : Facts K L D → Type 0) (e : ArtifactFacts D) → P x → P (after_entry same elect x now e) → P (after_kept_entry same elect x now e)
+  unfolding after_kept_entry
+  taken_if P e still again = elim (nat_lt (entry_view e) (min_active x)) as (λ b. P (if b then x else after_entry same elect x now e)) [ true ↦ still | false ↦ again ]
 
-  pub taken_keeps : (P : Facts K L D → Type 0) → ((y : Facts K L D) (e : Event K D) → P y → P (after_event same elect y e)) → (e : ArtifactFacts D) → P x → P (taken same elect x now e)
+  pub taken_keeps : (P : Facts K L D → Type 0) → ((y : Facts K L D) (e : Event K D) → P y → P (after_event same elect y e)) → (e : ArtifactFacts D) → P x → P (after_kept_entry same elect x now e)
   taken_keeps P keeps e holds = taken_if P e holds (retaken_keeps same elect P keeps now x e holds)
 
-  pub taken_rises : (e : ArtifactFacts D) → x.current ≤ (taken same elect x now e).current
+  pub taken_rises : (e : ArtifactFacts D) → x.current ≤ (after_kept_entry same elect x now e).current
   taken_rises e = taken_keeps (λ y. x.current ≤ y.current) (λ y f p. omega (arith, p, (event_goes same elect y f).current)) e (omega arith)
 
 module _ {K L D : Type 0} (same : D → D → Bool) (decides : (d e : D) → same d e ≡ true → d ≡ e) (elect : Elect L) (term_length : ℕ) (deeds : List (Deed D)) (x : Facts K L D) (now : ℕ) where
@@ -68,7 +68,7 @@ module _ {K L D : Type 0} (same : D → D → Bool) (decides : (d e : D) → sam
     replayed_stays : (a : List (Deed D)) (c : CertificateFacts D) (y : Facts K L D) → Stays term_length a y → Stays term_length a (after_event same elect y (event.Replay (Accepted c)))
     replayed_stays a c y keeps = stays_on same decides elect term_length a y (event.Replay (Accepted c)) (plain_suits a _ y (event.Replay (Accepted c)) refl refl refl refl (λ w says. absurd (cc))) keeps
 
-    retaken_stays : (e : ArtifactFacts D) → MayRetake deeds x.current e → Stays term_length (deeds ++ entry_deeds e) (retaken same elect x now e)
+    retaken_stays : (e : ArtifactFacts D) → MayRetake deeds x.current e → Stays term_length (deeds ++ entry_deeds e) (after_entry same elect x now e)
     retaken_stays (NotarizeVote p m) may =
         let e : Event K D = event.Replay (NotarizeVote p m) in
         notarize_cast_stays term_length deeds (after_event same elect x e) (stays_on same decides elect term_length deeds x e (plain_suits deeds _ x e refl refl refl refl (λ w says. absurd (cc))) stays) p m
@@ -100,7 +100,7 @@ module _ {K L D : Type 0} (same : D → D → Bool) (decides : (d e : D) → sam
           finalizes = λ w says. inr (λ round h at. (let here : v ≡ w = cc in may.1 round h (at ∙ sym here)));
         } in
         finalize_cast_stays term_length deeds z (stays_on same decides elect term_length deeds x e suits stays) p m may.0 (inl (ap (λ s. is_finalize s.decision) (round_put x v r)))
-    retaken_stays (Verdict round success) may = subst (λ a. Stays term_length a (retaken same elect x now (Verdict round success))) (sym (append-nil deeds)) (verdict_again_stays round success)
+    retaken_stays (Verdict round success) may = subst (λ a. Stays term_length a (after_entry same elect x now (Verdict round success))) (sym (append-nil deeds)) (verdict_again_stays round success)
     retaken_stays (Accepted (Notarized c)) may =
         let e : Event K D = event.AddNotarization c in
         replayed_stays (deeds ++ Accepts (subject.Notarize c.proposal) ∷ []) (Notarized c) (after_event same elect x e) (notarization_stays same decides elect term_length deeds x stays c)
@@ -112,16 +112,16 @@ module _ {K L D : Type 0} (same : D → D → Bool) (decides : (d e : D) → sam
         replayed_stays (deeds ++ Accepts (subject.Finalize c.proposal) ∷ []) (Finalized c) (after_event same elect x e) (finalization_stays same decides elect term_length deeds x stays c now)
 
     -- an entry is taken again, or passed over
-    pub taken_stays : (e : ArtifactFacts D) → MayRetake deeds x.current e → Stays term_length (deeds ++ entry_deeds e) (taken same elect x now e)
-    unfolding taken
+    pub taken_stays : (e : ArtifactFacts D) → MayRetake deeds x.current e → Stays term_length (deeds ++ entry_deeds e) (after_kept_entry same elect x now e)
+    unfolding after_kept_entry
     taken_stays e may = by_view (nat_lt (entry_view e) (min_active x)) refl
       where
-        by_view : (b : Bool) → nat_lt (entry_view e) (min_active x) ≡ b → Stays term_length (deeds ++ entry_deeds e) (if nat_lt (entry_view e) (min_active x) then x else retaken same elect x now e)
+        by_view : (b : Bool) → nat_lt (entry_view e) (min_active x) ≡ b → Stays term_length (deeds ++ entry_deeds e) (if nat_lt (entry_view e) (min_active x) then x else after_entry same elect x now e)
         by_view true is = rw is (passed_over term_length deeds x stays e (omega (arith, ltb-true (entry_view e) (min_active x) is)) may)
         by_view false is = rw is (retaken_stays e may)
 
-  pub taken_passes : (e : ArtifactFacts D) (round : Round) → e ≡ Verdict round true → x.finalized < x.current → round.view < (taken same elect x now e).current
-  unfolding taken
+  pub taken_passes : (e : ArtifactFacts D) (round : Round) → e ≡ Verdict round true → x.finalized < x.current → round.view < (after_kept_entry same elect x now e).current
+  unfolding after_kept_entry
   taken_passes e round is ahead = rw is (by_view (nat_lt round.view (min_active x)) refl)
     where
       by_view : (b : Bool) → nat_lt round.view (min_active x) ≡ b → round.view < (if nat_lt round.view (min_active x) then x else after_certified elect (with_round x round.view (certified_round (round_of x round.view) true)) round.view true now).current

@@ -7,7 +7,7 @@ use Rattle.std.proofs.lemmas.List.{append-nil, length-append}
 use Rattle.std.proofs.lemmas.List.Elements.{Contains-push_cases}
 use Rattle.simplex_types.specs.Certificates.{ProposalFacts, Finalized, ArtifactFacts, Accepted}
 use Rattle.simplex_voter.proofs.Gaps.{and_parts, not_true}
-use Rattle.simplex_member.specs.Cuts.{is_vote, may_drop, without_last, finalized_by, finalized_in, pruned}
+use Rattle.simplex_member.specs.Cuts.{is_vote, may_drop, without_last, finalized_by, finalized_in, pruned_entries}
 use Rattle.simplex_member.specs.Entries.{entry_view}
 use Rattle.simplex_member.proofs.Cuts.{none_dropped}
 use Rattle.simplex_laws.specs.Deeds.{Deed}
@@ -132,8 +132,8 @@ module _ {D : Type 0} (term_length : ℕ) (deeds : List (Deed D)) (closed kept :
       }
 
   -- a prune, which closes what it leaves
-  pub pruned_between : (retention : ℕ) → Between term_length deeds (length (pruned retention entries)) (max kept (finalized_in entries - retention)) (pruned retention entries)
-  unfolding pruned
+  pub pruned_between : (retention : ℕ) → Between term_length deeds (length (pruned_entries retention entries)) (max kept (finalized_in entries - retention)) (pruned_entries retention entries)
+  unfolding pruned_entries
   pruned_between retention =
       let bound = finalized_in entries - retention in
       let left = filter (λ e. nat_le bound (entry_view e)) entries in

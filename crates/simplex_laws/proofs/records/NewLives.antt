@@ -17,7 +17,7 @@ use Rattle.simplex_member.specs.Calls.{CallFacts}
 use Rattle.simplex_member.specs.Made.{answer, after_call, openings_after, recorded_by}
 use Rattle.simplex_member.specs.Check.{first_error, entry_rules, first_broken_after, stands}
 use Rattle.simplex_member.specs.Entries.{entry_round, entry_view}
-use Rattle.simplex_member.specs.Recovery.{recovered, with_floor, is_finalization}
+use Rattle.simplex_member.specs.Recovery.{recovered_state, with_floor, is_finalization}
 use Rattle.simplex_laws.specs.Deeds.{Deed, Accepts, of_floor, deeds_of_call}
 use Rattle.simplex_laws.specs.Lawful.{IsLawful}
 use Rattle.simplex_laws.proofs.agreement.Lawful.{lawful_push}
@@ -121,10 +121,10 @@ floor_lawful term_length deeds (FinalizedFloor c) lawful = lawful_push term_leng
 
 module _ {K L D : Type 0} (same : D → D → Bool) (decides : (d e : D) → same d e ≡ true → d ≡ e) (elect : Elect L) (settings : Settings) (me : Option ℕ) (members : List K) (elector : L) (terms : Terms) (early : Bool) where
   -- a new life from a copy of the record by view
-  pub new_life_lives : (deeds : List (Deed D)) (closed kept : ℕ) (entries copy : List (ArtifactFacts D)) (floor : FloorFacts D) (now : ℕ) → Between terms.term_length deeds closed kept entries → ((v : ℕ) → filter (λ e. entry_view e == v) copy ≡ filter (λ e. entry_view e == v) entries) → ((e : ArtifactFacts D) → Contains copy e → (entry_round e).epoch ≡ settings.epoch) → Living terms.term_length (deeds ++ of_floor floor) closed kept (with_floor entries floor) no_openings (recovered same elect (new_facts settings me members elector terms early) floor now copy)
+  pub new_life_lives : (deeds : List (Deed D)) (closed kept : ℕ) (entries copy : List (ArtifactFacts D)) (floor : FloorFacts D) (now : ℕ) → Between terms.term_length deeds closed kept entries → ((v : ℕ) → filter (λ e. entry_view e == v) copy ≡ filter (λ e. entry_view e == v) entries) → ((e : ArtifactFacts D) → Contains copy e → (entry_round e).epoch ≡ settings.epoch) → Living terms.term_length (deeds ++ of_floor floor) closed kept (with_floor entries floor) no_openings (recovered_state same elect (new_facts settings me members elector terms early) floor now copy)
   new_life_lives deeds closed kept entries copy floor now between by_view epochs =
       let t = terms.term_length in
-      let x = recovered same elect (new_facts settings me members elector terms early) floor now copy in
+      let x = recovered_state same elect (new_facts settings me members elector terms early) floor now copy in
       let remembers = copy_remembers deeds kept entries between.remembers copy by_view in
       let into_copy = in_copy deeds kept entries between.remembers copy by_view in
       let into_record = in_record deeds kept entries between.remembers copy by_view in

@@ -16,7 +16,7 @@ use Rattle.simplex_voter.specs.Votes.{nullify_answer, finalize_answer}
 use Rattle.simplex_voter.specs.Acceptance.{notarization_added, nullification_added, finalization_added}
 use Rattle.simplex_voter.specs.Certification.{is_first_verdict}
 use Rattle.simplex_member.specs.Calls.{CallFacts, AddNotarization, AddNullification, AddFinalization, ConstructNotarize, Certified, ConstructNullify, ConstructFinalize, Nullify, Finalize}
-use Rattle.simplex_member.specs.Made.{newly, first_vote, vote_entry, answer, recorded_by}
+use Rattle.simplex_member.specs.Made.{if_new, first_vote, vote_entry, answer, recorded_by}
 use Rattle.simplex_member.specs.Openings.{Openings}
 use Rattle.simplex_member.specs.Check.{stands}
 use Rattle.simplex_member.specs.Cuts.{is_vote}
@@ -147,7 +147,7 @@ module _ {D : Type 0} where
   notes_accepted : (e : ArtifactFacts D) → ((p : Proposal D) (m : ℕ) → e ≡ NotarizeVote p m → ⊥) → NotesNone (e ∷ [])
   notes_accepted e other p m h = other p m (only_one e (NotarizeVote p m) h)
 
-  notes_newly : (b : Bool) (e : ArtifactFacts D) → ((p : Proposal D) (m : ℕ) → e ≡ NotarizeVote p m → ⊥) → NotesNone (newly b e)
+  notes_newly : (b : Bool) (e : ArtifactFacts D) → ((p : Proposal D) (m : ℕ) → e ≡ NotarizeVote p m → ⊥) → NotesNone (if_new b e)
   notes_newly b e other = notes_if b (e ∷ []) [] (notes_accepted e other) notes_nothing
 
   -- with the floor's finalization

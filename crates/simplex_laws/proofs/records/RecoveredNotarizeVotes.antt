@@ -18,14 +18,14 @@ use Rattle.simplex_round.specs.Slot.{SlotFacts, holds_or_empty, after_own}
 use Rattle.simplex_round.specs.Round.{RoundFacts, certified_round}
 use Rattle.simplex_voter.specs.Facts.{Settings, Facts, Elect, new_facts, round_of, with_round}
 use Rattle.simplex_voter.specs.Windows.{min_active}
-use Rattle.simplex_voter.specs.Entering.{at_moment, entered}
-use Rattle.simplex_voter.specs.Leaders.{elected, prepared}
+use Rattle.simplex_voter.specs.Entering.{at_moment, with_view_entered}
+use Rattle.simplex_voter.specs.Leaders.{with_elected_leader, with_next_view_ready}
 use Rattle.simplex_voter.specs.Replay.{bound_again, restored_binding}
 use Rattle.simplex_voter.specs.Acceptance.{nullified_also, with_nullification_at, after_add_notarization, after_add_finalization, after_set_floor}
 use Rattle.simplex_voter.proofs.Elsewhere.{round_of-with_round}
 use Rattle.simplex_member.specs.Entries.{entry_view}
 use Rattle.simplex_member.specs.Openings.{no_openings}
-use Rattle.simplex_member.specs.Recovery.{retaken, taken, all_taken, recovered}
+use Rattle.simplex_member.specs.Recovery.{after_entry, after_kept_entry, after_entries, recovered_state}
 use Rattle.simplex_laws.specs.Deeds.{Deed, Accepts}
 use Rattle.simplex_laws.proofs.frames.Rising.{finalization_passes}
 use Rattle.simplex_laws.proofs.lists.Splits.{Contains-cases, Contains-cons_rest}
@@ -176,46 +176,46 @@ module _ {K L D : Type 0} (same : D → D → Bool) (elect : Elect L) (now : ℕ
     voted_again : (p : Proposal D) → (own_round_again p).notarize_decided ≡ true
     voted_again p = bound_decided (record (round_of x p.round.view) { slot = after_own (same_proposal same) (round_of x p.round.view).slot p; notarize_decided = true }) (option_and_then (restored_binding x) (Some p))
 
-    remakes_vote : (p : Proposal D) (m : ℕ) → Remakes copy x (retaken same elect x now (NotarizeVote p m))
+    remakes_vote : (p : Proposal D) (m : ℕ) → Remakes copy x (after_entry same elect x now (NotarizeVote p m))
     remakes_vote p m =
         let v = p.round.view in
         let y = with_round x v (own_round_again p) in
-        remakes_joined copy x y (prepared elect y v)
+        remakes_joined copy x y (with_next_view_ready elect y v)
         (remakes_put copy x v (own_round_again p) (voted_again p) (own_remade same (round_of x v) p (option_and_then (restored_binding x) (Some p))))
-        (remakes_calm copy y (prepared elect y v) (on_prepared 0 elect y v (omega arith)))
+        (remakes_calm copy y (with_next_view_ready elect y v) (on_prepared 0 elect y v (omega arith)))
 
-    noted_again : (p : Proposal D) (m : ℕ) → (round_of (retaken same elect x now (NotarizeVote p m)) p.round.view).notarize_decided ≡ true
+    noted_again : (p : Proposal D) (m : ℕ) → (round_of (after_entry same elect x now (NotarizeVote p m)) p.round.view).notarize_decided ≡ true
     noted_again p m =
         let v = p.round.view in
         let y = with_round x v (own_round_again p) in
         ((on_prepared 0 elect y v (omega arith)).rounds v).grown.decided (ap (λ (s : RoundFacts K D). s.notarize_decided) (round_put x v (own_round_again p)) ∙ voted_again p)
 
-    remakes_verdict : (round : Round) (success : Bool) → Remakes copy x (retaken same elect x now (Verdict round success))
+    remakes_verdict : (round : Round) (success : Bool) → Remakes copy x (after_entry same elect x now (Verdict round success))
     remakes_verdict round success =
         let v = round.view in
         let r = certified_round (round_of x v) success in
         let j = with_round x v r in
         remakes_calm copy x _ (on_joined 0 x j _ (on_put 0 x v r (omega arith) (calm_alike v (round_of x v) r refl refl refl refl refl)) (on_certified 0 elect j v success now (λ tracked. omega arith)))
 
-    remakes_notarization : (c : ProposalFacts D) → Remakes copy x (retaken same elect x now (Accepted (Notarized c)))
+    remakes_notarization : (c : ProposalFacts D) → Remakes copy x (after_entry same elect x now (Accepted (Notarized c)))
     remakes_notarization c =
         let v = c.proposal.round.view in
         let y = after_add_notarization same elect x c in
         let r : RoundFacts K D = record (round_of y v) { notarization_broadcast = true } in
         remakes_calm copy x (with_round y v r) (on_joined 0 x y (with_round y v r) (on_add_notarization 0 same elect x c (omega arith)) (on_put 0 y v r (omega arith) (calm_alike v (round_of y v) r refl refl refl refl refl)))
 
-    remakes_finalization : (c : ProposalFacts D) → Remakes copy x (retaken same elect x now (Accepted (Finalized c)))
+    remakes_finalization : (c : ProposalFacts D) → Remakes copy x (after_entry same elect x now (Accepted (Finalized c)))
     remakes_finalization c =
         let v = c.proposal.round.view in
         let y = after_add_finalization same elect x c now in
         let r : RoundFacts K D = record (round_of y v) { finalization_broadcast = true } in
         remakes_calm copy x (with_round y v r) (on_joined 0 x y (with_round y v r) (on_add_finalization 0 same elect x c now (omega arith)) (on_put 0 y v r (omega arith) (calm_alike v (round_of y v) r refl refl refl refl refl)))
 
-    remakes_nullification : (c : NullificationFacts) → Contains copy (Accepted (Nullified c)) → Remakes copy x (retaken same elect x now (Accepted (Nullified c)))
+    remakes_nullification : (c : NullificationFacts) → Contains copy (Accepted (Nullified c)) → Remakes copy x (after_entry same elect x now (Accepted (Nullified c)))
     remakes_nullification c here =
         let v = c.round.view in
         let next = next_term_start x.terms.term_length v in
-        let k = with_nullification_at (elected elect (entered (at_moment x now) next now) next (Some c.bytes)) c in
+        let k = with_nullification_at (with_elected_leader elect (with_view_entered (at_moment x now) next now) next (Some c.bytes)) c in
         let y = nullified_also k v in
         let n = nullified_also y v in
         let r : RoundFacts K D = record (round_of n v) { nullification_broadcast = true } in
@@ -224,7 +224,7 @@ module _ {K L D : Type 0} (same : D → D → Bool) (elect : Elect L) (now : ℕ
         (remakes_joined copy y n (with_round n v r) (remakes_nullified copy y c here)
         (remakes_calm copy n (with_round n v r) (on_put 0 n v r (omega arith) (calm_alike v (round_of n v) r refl refl refl refl refl)))))
 
-    retaken_remakes : (e : ArtifactFacts D) → Contains copy e → Remakes copy x (retaken same elect x now e)
+    retaken_remakes : (e : ArtifactFacts D) → Contains copy e → Remakes copy x (after_entry same elect x now e)
     retaken_remakes (NotarizeVote p m) here = remakes_vote p m
     retaken_remakes (NullifyVote round m) here =
         let v = round.view in
@@ -243,59 +243,59 @@ module _ {K L D : Type 0} (same : D → D → Bool) (elect : Elect L) (now : ℕ
 
   -- an entry is taken again, or passed over
 
-  taken_remakes : (x : Facts K L D) (e : ArtifactFacts D) → Contains copy e → Remakes copy x (taken same elect x now e)
-  unfolding taken
-  taken_remakes x e here = elim (nat_lt (entry_view e) (min_active x)) as (λ b. Remakes copy x (if b then x else retaken same elect x now e)) [
+  taken_remakes : (x : Facts K L D) (e : ArtifactFacts D) → Contains copy e → Remakes copy x (after_kept_entry same elect x now e)
+  unfolding after_kept_entry
+  taken_remakes x e here = elim (nat_lt (entry_view e) (min_active x)) as (λ b. Remakes copy x (if b then x else after_entry same elect x now e)) [
     | true ↦ remakes_same copy x
     | false ↦ retaken_remakes x e here
   ]
 
-  taken_noted : (x : Facts K L D) (p : Proposal D) (m : ℕ) → ((round_of (taken same elect x now (NotarizeVote p m)) p.round.view).notarize_decided ≡ true) ⊎ (p.round.view ≤ (taken same elect x now (NotarizeVote p m)).finalized)
-  unfolding taken
+  taken_noted : (x : Facts K L D) (p : Proposal D) (m : ℕ) → ((round_of (after_kept_entry same elect x now (NotarizeVote p m)) p.round.view).notarize_decided ≡ true) ⊎ (p.round.view ≤ (after_kept_entry same elect x now (NotarizeVote p m)).finalized)
+  unfolding after_kept_entry
   taken_noted x p m = by_view (nat_lt p.round.view (min_active x)) refl
     where
-      by_view : (b : Bool) → nat_lt p.round.view (min_active x) ≡ b → ((round_of (if b then x else retaken same elect x now (NotarizeVote p m)) p.round.view).notarize_decided ≡ true) ⊎ (p.round.view ≤ (if b then x else retaken same elect x now (NotarizeVote p m)).finalized)
+      by_view : (b : Bool) → nat_lt p.round.view (min_active x) ≡ b → ((round_of (if b then x else after_entry same elect x now (NotarizeVote p m)) p.round.view).notarize_decided ≡ true) ⊎ (p.round.view ≤ (if b then x else after_entry same elect x now (NotarizeVote p m)).finalized)
       by_view true is = inr (omega (arith, ltb-true p.round.view (min_active x) is))
       by_view false is = inl (noted_again x p m)
 
-  taken_reaches : (x : Facts K L D) (c : ProposalFacts D) → c.proposal.round.view ≤ (taken same elect x now (Accepted (Finalized c))).finalized
-  unfolding taken
+  taken_reaches : (x : Facts K L D) (c : ProposalFacts D) → c.proposal.round.view ≤ (after_kept_entry same elect x now (Accepted (Finalized c))).finalized
+  unfolding after_kept_entry
   taken_reaches x c = by_view (nat_lt c.proposal.round.view (min_active x)) refl
     where
-      by_view : (b : Bool) → nat_lt c.proposal.round.view (min_active x) ≡ b → c.proposal.round.view ≤ (if b then x else retaken same elect x now (Accepted (Finalized c))).finalized
+      by_view : (b : Bool) → nat_lt c.proposal.round.view (min_active x) ≡ b → c.proposal.round.view ≤ (if b then x else after_entry same elect x now (Accepted (Finalized c))).finalized
       by_view true is = omega (arith, ltb-true c.proposal.round.view (min_active x) is)
       by_view false is = finalization_passes same elect x now c
 
   -- all entries
 
-  all_remake : (rest : List (ArtifactFacts D)) (x : Facts K L D) → ((e : ArtifactFacts D) → Contains rest e → Contains copy e) → Remakes copy x (all_taken same elect x now rest)
+  all_remake : (rest : List (ArtifactFacts D)) (x : Facts K L D) → ((e : ArtifactFacts D) → Contains rest e → Contains copy e) → Remakes copy x (after_entries same elect x now rest)
   all_remake [] x all = remakes_same copy x
   all_remake (e ∷ rest) x all =
-      let y = taken same elect x now e in
-      remakes_joined copy x y (all_taken same elect y now rest) (taken_remakes x e (all e (0, omega arith, refl))) (all_remake rest y (λ f h. all f (Contains-cons_rest e rest f h)))
+      let y = after_kept_entry same elect x now e in
+      remakes_joined copy x y (after_entries same elect y now rest) (taken_remakes x e (all e (0, omega arith, refl))) (all_remake rest y (λ f h. all f (Contains-cons_rest e rest f h)))
 
-  all_noted : (rest : List (ArtifactFacts D)) (x : Facts K L D) → ((e : ArtifactFacts D) → Contains rest e → Contains copy e) → (p : Proposal D) (m : ℕ) → Contains rest (NotarizeVote p m) → ((round_of (all_taken same elect x now rest) p.round.view).notarize_decided ≡ true) ⊎ (p.round.view ≤ (all_taken same elect x now rest).finalized)
+  all_noted : (rest : List (ArtifactFacts D)) (x : Facts K L D) → ((e : ArtifactFacts D) → Contains rest e → Contains copy e) → (p : Proposal D) (m : ℕ) → Contains rest (NotarizeVote p m) → ((round_of (after_entries same elect x now rest) p.round.view).notarize_decided ≡ true) ⊎ (p.round.view ≤ (after_entries same elect x now rest).finalized)
   all_noted [] x all p m h = absurd (omega (arith, h.1))
   all_noted (e ∷ rest) x all p m h =
-      let y = taken same elect x now e in
+      let y = after_kept_entry same elect x now e in
       let later = all_remake rest y (λ f there. all f (Contains-cons_rest e rest f there)) in
       elim (Contains-cases e rest (NotarizeVote p m) h) [
         | inr behind ↦ all_noted rest y (λ f there. all f (Contains-cons_rest e rest f there)) p m behind
-        | inl here ↦ elim (subst (λ f. ((round_of (taken same elect x now f) p.round.view).notarize_decided ≡ true) ⊎ (p.round.view ≤ (taken same elect x now f).finalized)) (sym here) (taken_noted x p m)) [
+        | inl here ↦ elim (subst (λ f. ((round_of (after_kept_entry same elect x now f) p.round.view).notarize_decided ≡ true) ⊎ (p.round.view ≤ (after_kept_entry same elect x now f).finalized)) (sym here) (taken_noted x p m)) [
           | inl is ↦ inl (later.decided p.round.view is)
           | inr below ↦ inr (omega (arith, below, later.finalized))
         ]
       ]
 
-  all_reach : (rest : List (ArtifactFacts D)) (x : Facts K L D) → ((e : ArtifactFacts D) → Contains rest e → Contains copy e) → (c : ProposalFacts D) → Contains rest (Accepted (Finalized c)) → c.proposal.round.view ≤ (all_taken same elect x now rest).finalized
+  all_reach : (rest : List (ArtifactFacts D)) (x : Facts K L D) → ((e : ArtifactFacts D) → Contains rest e → Contains copy e) → (c : ProposalFacts D) → Contains rest (Accepted (Finalized c)) → c.proposal.round.view ≤ (after_entries same elect x now rest).finalized
   all_reach [] x all c h = absurd (omega (arith, h.1))
   all_reach (e ∷ rest) x all c h =
-      let y = taken same elect x now e in
+      let y = after_kept_entry same elect x now e in
       let later = all_remake rest y (λ f there. all f (Contains-cons_rest e rest f there)) in
       elim (Contains-cases e rest (Accepted (Finalized c)) h) [
         | inr behind ↦ all_reach rest y (λ f there. all f (Contains-cons_rest e rest f there)) c behind
         | inl here ↦
-            (let reached = subst (λ f. c.proposal.round.view ≤ (taken same elect x now f).finalized) (sym here) (taken_reaches x c) in
+            (let reached = subst (λ f. c.proposal.round.view ≤ (after_kept_entry same elect x now f).finalized) (sym here) (taken_reaches x c) in
             omega (arith, reached, later.finalized))
       ]
 
@@ -304,16 +304,16 @@ module _ {K L D : Type 0} (same : D → D → Bool) (elect : Elect L) (now : ℕ
   floor_remakes : (x : Facts K L D) (floor : FloorFacts D) → Remakes copy x (after_set_floor same elect x floor now)
   floor_remakes x (Genesis payload) =
       let g : Facts K L D = record (at_moment x now) { genesis = Some payload } in
-      let e = entered g 1 now in
+      let e = with_view_entered g 1 now in
       let same_so_far : CalmOn 0 x g = record { settings = refl; current = omega arith; finalized = omega arith; nullified = refl; above = λ above. above; rounds = λ w. calm w (round_of x w) } in
-      remakes_calm copy x (elected elect e 1 None) (on_joined 0 x g (elected elect e 1 None) same_so_far (on_joined 0 g e (elected elect e 1 None) (on_entered 0 g 1 now (omega arith)) (on_elected 0 elect e 1 None (omega arith))))
+      remakes_calm copy x (with_elected_leader elect e 1 None) (on_joined 0 x g (with_elected_leader elect e 1 None) same_so_far (on_joined 0 g e (with_elected_leader elect e 1 None) (on_entered 0 g 1 now (omega arith)) (on_elected 0 elect e 1 None (omega arith))))
   floor_remakes x (FinalizedFloor c) =
       let y = after_add_finalization same elect x c now in
       remakes_calm copy x _ (on_joined 0 x y _ (on_add_finalization 0 same elect x c now (omega arith)) (on_floor 0 y c.proposal.round.view (omega arith)))
 
 module _ {K L D : Type 0} (same : D → D → Bool) (elect : Elect L) (settings : Settings) (me : Option ℕ) (members : List K) (elector : L) (terms : Terms) (early : Bool) where
   abbrev pub made_again : FloorFacts D → ℕ → List (ArtifactFacts D) → Facts K L D
-  made_again floor now copy = recovered same elect (new_facts settings me members elector terms early) floor now copy
+  made_again floor now copy = recovered_state same elect (new_facts settings me members elector terms early) floor now copy
 
   fresh_remade : (copy : List (ArtifactFacts D)) → Remade copy (new_facts {K = K} {L = L} {D = D} settings me members elector terms early)
   fresh_remade copy = record {
@@ -335,14 +335,14 @@ module _ {K L D : Type 0} (same : D → D → Bool) (elect : Elect L) (settings 
 
   -- the votes to notarize that were cast above the finalized view are decided
   pub recovered_notes : (deeds : List (Deed D)) (kept : ℕ) (copy : List (ArtifactFacts D)) (floor : FloorFacts D) (now : ℕ) → RemembersNotes deeds kept copy → ((c : NullificationFacts) → Contains copy (Accepted (Nullified c)) → Contains deeds (Accepts (subject.Nullify c.round))) → (kept ≡ 0) ⊎ ((c : ProposalFacts D) × Contains copy (Accepted (Finalized c)) × (kept ≤ c.proposal.round.view)) → (made_again floor now copy).finalized < (made_again floor now copy).current → NotesStand 0 ((made_again floor now copy).finalized + 1) deeds no_openings (made_again floor now copy)
-  unfolding recovered
+  unfolding recovered_state
   recovered_notes deeds kept copy floor now remembers accepted high ahead = record {
     above = λ v tracked. omega arith;
     active = omega arith;
     reached = omega (arith, ahead);
     tidy = λ v over. (remade.rounds v).tidy;
     placed = λ v. (remade.rounds v).placed;
-    worked = λ v is un. absurd (opposite (round_of (all_taken same elect z now copy) v).notarize_decided ((remade.rounds v).worked is) un);
+    worked = λ v is un. absurd (opposite (round_of (after_entries same elect z now copy) v).notarize_decided ((remade.rounds v).worked is) un);
     verifying_low = λ v is. absurd (false≢true is);
     context_low = λ v is. absurd (false≢true is);
     contexts_placed = λ v c is. absurd (false≢true (ap is_some is));
@@ -362,5 +362,5 @@ module _ {K L D : Type 0} (same : D → D → Bool) (elect : Elect L) (settings 
       z : Facts K L D
       z = after_set_floor same elect (new_facts settings me members elector terms early) floor now
 
-      remade : Remade copy (all_taken same elect z now copy)
+      remade : Remade copy (after_entries same elect z now copy)
       remade = (all_remake same elect now copy copy z (λ f there. there)).made ((floor_remakes same elect now copy (new_facts settings me members elector terms early) floor).made (fresh_remade copy))

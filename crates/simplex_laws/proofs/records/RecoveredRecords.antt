@@ -8,7 +8,7 @@ use Rattle.simplex_types.specs.declared.types.numbers.Round.{Round}
 use Rattle.simplex_types.specs.declared.types.window.Terms.{Terms}
 use Rattle.simplex_voter.specs.Facts.{Settings, Facts, Elect, new_facts, round_number}
 use Rattle.simplex_member.specs.Entries.{entry_round}
-use Rattle.simplex_member.specs.Recovery.{retaken, taken, all_taken, recovered}
+use Rattle.simplex_member.specs.Recovery.{after_entry, after_kept_entry, after_entries, recovered_state}
 use Rattle.simplex_laws.specs.Events as event
 use Rattle.simplex_laws.specs.Events.{Event, after_event}
 use Rattle.simplex_laws.proofs.records.RecordedVotes.{Marked, event_marked, quiet_marked}
@@ -30,7 +30,7 @@ module _ {K L D : Type 0} (same : D → D → Bool) (elect : Elect L) (entries :
       (round, subst (λ b. Contains entries (Verdict round b)) (ap (λ (p : ℕ × Bool). p.1) pair) here, ap (λ (p : ℕ × Bool). p.0) pair)))
       (λ v says before after key. absurd (cc)) marked
 
-  retaken_marked : (x : Facts K L D) (e : ArtifactFacts D) → Contains entries e → (entry_round e).epoch ≡ x.settings.epoch → Marked entries x → Marked entries (retaken same elect x now e)
+  retaken_marked : (x : Facts K L D) (e : ArtifactFacts D) → Contains entries e → (entry_round e).epoch ≡ x.settings.epoch → Marked entries x → Marked entries (after_entry same elect x now e)
   retaken_marked x (NotarizeVote p m) here epoch marked = quiet_on x (event.Replay (NotarizeVote p m)) refl refl marked
   retaken_marked x (NullifyVote round m) here epoch marked =
       event_marked same elect x (event.Replay (NullifyVote round m)) entries entries (λ a h. h) (λ v says before after. absurd (cc))
@@ -54,19 +54,19 @@ module _ {K L D : Type 0} (same : D → D → Bool) (elect : Elect L) (entries :
       quiet_on (after_event same elect x added) (event.Replay (Accepted (Finalized c))) refl refl (quiet_on x added refl refl marked)
 
   -- the rest of a record whose entries are all of this epoch
-  all_marked : (x : Facts K L D) (rest : List (ArtifactFacts D)) → ((e : ArtifactFacts D) → Contains rest e → Contains entries e × ((entry_round e).epoch ≡ x.settings.epoch)) → Marked entries x → Marked entries (all_taken same elect x now rest)
+  all_marked : (x : Facts K L D) (rest : List (ArtifactFacts D)) → ((e : ArtifactFacts D) → Contains rest e → Contains entries e × ((entry_round e).epoch ≡ x.settings.epoch)) → Marked entries x → Marked entries (after_entries same elect x now rest)
   all_marked x [] all marked = marked
   all_marked x (e ∷ rest) all marked =
       let here = all e (0, omega arith, refl) in
-      let y = taken same elect x now e in
+      let y = after_kept_entry same elect x now e in
       let set_up : y.settings ≡ x.settings = taken_keeps same elect x now (λ z. z.settings ≡ x.settings) (λ z f is. (event_goes same elect z f).settings ∙ is) e refl in
       all_marked y rest (λ f h. (let known = all f (Contains-cons_rest e rest f h) in (known.0, known.1 ∙ ap (λ (s : Settings). s.epoch) (sym set_up))))
       (taken_if same elect x now (Marked entries) e marked (retaken_marked x e here.0 here.1 marked))
 
 module _ {K L D : Type 0} (same : D → D → Bool) (elect : Elect L) (settings : Settings) (me : Option ℕ) (members : List K) (elector : L) (terms : Terms) (early : Bool) where
   -- a state that is made from a record, whose entries are of the settings' epoch, shows nothing that the record doesn't hold
-  pub recovered_marked : (copy : List (ArtifactFacts D)) (floor : FloorFacts D) (now : ℕ) → ((e : ArtifactFacts D) → Contains copy e → (entry_round e).epoch ≡ settings.epoch) → Marked copy (recovered same elect (new_facts settings me members elector terms early) floor now copy)
-  unfolding recovered
+  pub recovered_marked : (copy : List (ArtifactFacts D)) (floor : FloorFacts D) (now : ℕ) → ((e : ArtifactFacts D) → Contains copy e → (entry_round e).epoch ≡ settings.epoch) → Marked copy (recovered_state same elect (new_facts settings me members elector terms early) floor now copy)
+  unfolding recovered_state
   recovered_marked copy floor now epochs =
       let fresh : Facts K L D = new_facts settings me members elector terms early in
       let floored : Event K D = event.SetFloor floor now in

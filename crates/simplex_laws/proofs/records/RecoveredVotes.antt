@@ -11,7 +11,7 @@ use Rattle.simplex_types.specs.declared.types.window.Terms.{Terms}
 use Rattle.simplex_voter.specs.Facts.{Settings, Facts, Elect, new_facts}
 use Rattle.simplex_voter.specs.Windows.{min_active}
 use Rattle.simplex_voter.specs.Acceptance.{after_add_finalization, after_set_floor}
-use Rattle.simplex_member.specs.Recovery.{retaken, taken, all_taken, recovered}
+use Rattle.simplex_member.specs.Recovery.{after_entry, after_kept_entry, after_entries, recovered_state}
 use Rattle.simplex_laws.specs.Deeds.{Deed, Accepts, Signs, of_floor}
 use Rattle.simplex_laws.specs.Lawful.{IsLawful}
 use Rattle.simplex_laws.proofs.lists.Signed.{signed_right, signed_cases}
@@ -25,34 +25,34 @@ use Rattle.simplex_laws.specs.Events.{Event}
 use Rattle.simplex_laws.proofs.records.DeedsShown.{Remembers, AreRecorded, entries_deeds, entry_of, deed_of, of_accept, all_stay, stays_over}
 
 module _ {K L D : Type 0} (same : D → D → Bool) (elect : Elect L) (x : Facts K L D) (now : ℕ) where
-  taken_finalizes : (e : ArtifactFacts D) (c : ProposalFacts D) → e ≡ Accepted (Finalized c) → c.proposal.round.view ≤ (taken same elect x now e).finalized
-  unfolding taken
+  taken_finalizes : (e : ArtifactFacts D) (c : ProposalFacts D) → e ≡ Accepted (Finalized c) → c.proposal.round.view ≤ (after_kept_entry same elect x now e).finalized
+  unfolding after_kept_entry
   taken_finalizes e c is = rw is (by_view (nat_lt c.proposal.round.view (min_active x)) refl)
     where
-      by_view : (b : Bool) → nat_lt c.proposal.round.view (min_active x) ≡ b → c.proposal.round.view ≤ (if nat_lt c.proposal.round.view (min_active x) then x else retaken same elect x now (Accepted (Finalized c))).finalized
+      by_view : (b : Bool) → nat_lt c.proposal.round.view (min_active x) ≡ b → c.proposal.round.view ≤ (if nat_lt c.proposal.round.view (min_active x) then x else after_entry same elect x now (Accepted (Finalized c))).finalized
       by_view true below = rw below (omega (arith, ltb-true c.proposal.round.view (min_active x) below))
       by_view false kept = rw kept (omega (arith, finalization_passes same elect x now c, (event_goes same elect (after_add_finalization same elect x c now) (event.Replay (Accepted (Finalized c)))).finalized))
 
 module _ {K L D : Type 0} (same : D → D → Bool) (elect : Elect L) (now : ℕ) where
-  all_final : (x : Facts K L D) (entries : List (ArtifactFacts D)) → x.finalized ≤ (all_taken same elect x now entries).finalized
+  all_final : (x : Facts K L D) (entries : List (ArtifactFacts D)) → x.finalized ≤ (after_entries same elect x now entries).finalized
   all_final x entries = all_keep same elect (λ y. x.finalized ≤ y.finalized) (λ y e p. omega (arith, p, (event_goes same elect y e).finalized)) now x entries (omega arith)
 
   -- each recorded finalization is no higher
-  pub all_finalizes : (x : Facts K L D) (entries : List (ArtifactFacts D)) (c : ProposalFacts D) → Contains entries (Accepted (Finalized c)) → c.proposal.round.view ≤ (all_taken same elect x now entries).finalized
+  pub all_finalizes : (x : Facts K L D) (entries : List (ArtifactFacts D)) (c : ProposalFacts D) → Contains entries (Accepted (Finalized c)) → c.proposal.round.view ≤ (after_entries same elect x now entries).finalized
   all_finalizes x [] c h = absurd (omega (arith, h.1))
   all_finalizes x (e ∷ rest) c h = elim (Contains-cases e rest (Accepted (Finalized c)) h) [
-    | inl here ↦ omega (arith, taken_finalizes same elect x now e c here, all_final (taken same elect x now e) rest)
-    | inr later ↦ all_finalizes (taken same elect x now e) rest c later
+    | inl here ↦ omega (arith, taken_finalizes same elect x now e c here, all_final (after_kept_entry same elect x now e) rest)
+    | inr later ↦ all_finalizes (after_kept_entry same elect x now e) rest c later
   ]
 
 module _ {K L D : Type 0} (same : D → D → Bool) (decides : (d e : D) → same d e ≡ true → d ≡ e) (elect : Elect L) (settings : Settings) (me : Option ℕ) (members : List K) (elector : L) (terms : Terms) (early : Bool) where
   -- a state made from a record of all deeds before shows them, and the floor's finalization besides; of the views that the
   -- record may lack votes of, one that is no lower is finalized in it
-  pub recovered_stays : (deeds : List (Deed D)) (kept : ℕ) (copy : List (ArtifactFacts D)) (floor : FloorFacts D) (now : ℕ) → IsLawful terms.term_length deeds → Remembers deeds kept copy → (kept ≡ 0) ⊎ ((c : ProposalFacts D) × Contains copy (Accepted (Finalized c)) × (kept ≤ c.proposal.round.view)) → Stays terms.term_length (deeds ++ of_floor floor) (recovered same elect (new_facts settings me members elector terms early) floor now copy)
-  unfolding recovered
+  pub recovered_stays : (deeds : List (Deed D)) (kept : ℕ) (copy : List (ArtifactFacts D)) (floor : FloorFacts D) (now : ℕ) → IsLawful terms.term_length deeds → Remembers deeds kept copy → (kept ≡ 0) ⊎ ((c : ProposalFacts D) × Contains copy (Accepted (Finalized c)) × (kept ≤ c.proposal.round.view)) → Stays terms.term_length (deeds ++ of_floor floor) (recovered_state same elect (new_facts settings me members elector terms early) floor now copy)
+  unfolding recovered_state
   recovered_stays deeds kept copy floor now lawful remembers final =
       let x = after_set_floor same elect (new_facts settings me members elector terms early) floor now in
-      let z = all_taken same elect x now copy in
+      let z = after_entries same elect x now copy in
       let t = terms.term_length in
       let a = of_floor floor ++ entries_deeds copy in
       let b = deeds ++ of_floor floor in

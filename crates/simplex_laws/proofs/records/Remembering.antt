@@ -6,7 +6,7 @@ use Rattle.simplex_types.specs.Certificates.{CertificateFacts, ArtifactFacts, Nu
 use Rattle.simplex_types.specs.declared.types.messages.Proposal.{Proposal}
 use Rattle.simplex_types.specs.declared.types.messages.Subject.TheVariants as subject
 use Rattle.simplex_types.specs.declared.types.numbers.Round.{Round}
-use Rattle.simplex_member.specs.Made.{newly}
+use Rattle.simplex_member.specs.Made.{if_new}
 use Rattle.simplex_laws.specs.Deeds.{Deed, Accepts, Signs}
 use Rattle.simplex_laws.specs.Lawful.{HasSigned}
 use Rattle.simplex_laws.proofs.lists.Signed.{signed_none, signed_left, signed_cases, signed_last, only_signed}
@@ -98,7 +98,7 @@ module _ {D : Type 0} (deeds : List (Deed D)) (entries : List (ArtifactFacts D))
   }
 
   -- a verdict is no deed
-  pub grows_verdict : (is_new : Bool) (round : Round) (success : Bool) → Grows deeds [] entries (newly is_new (Verdict round success))
+  pub grows_verdict : (is_new : Bool) (round : Round) (success : Bool) → Grows deeds [] entries (if_new is_new (Verdict round success))
   grows_verdict false round success = grows_nothing
   grows_verdict true round success = record {
     accepted = λ c h. absurd (let e = only_one (Verdict round success) (Accepted c) h in cc);
@@ -110,7 +110,7 @@ module _ {D : Type 0} (deeds : List (Deed D)) (entries : List (ArtifactFacts D))
   }
 
   -- a certificate is accepted, whether it is recorded or not
-  pub grows_certificate : (is_new : Bool) (c : CertificateFacts D) → Grows deeds (Accepts (subject_of c) ∷ []) entries (newly is_new (Accepted c))
+  pub grows_certificate : (is_new : Bool) (c : CertificateFacts D) → Grows deeds (Accepts (subject_of c) ∷ []) entries (if_new is_new (Accepted c))
   grows_certificate false c = record {
     accepted = λ d h. absurd (omega (arith, h.1));
     nullify_cast = λ round m h. absurd (omega (arith, h.1));

@@ -16,13 +16,13 @@ use Rattle.simplex_member.specs.Calls.{CallFacts, Told, Restarted}
 use Rattle.simplex_member.specs.Made.{recorded_by}
 use Rattle.simplex_member.specs.Check.{stands}
 use Rattle.simplex_member.specs.Cuts.{may_drop, without_last}
-use Rattle.simplex_member.specs.Journal.{stored_of, stored_facts, uncut, IsResumed, IsNotResumed}
-use Rattle.simplex_member.specs.Lives.{MemberFacts, fallen, left_of, AnswersAlive, IsCall}
+use Rattle.simplex_member.specs.Journal.{stored_of, stored_facts, whole_restart, IsResumed, IsNotResumed}
+use Rattle.simplex_member.specs.Lives.{MemberFacts, without_life, left_of, AnswersAlive, IsCall}
 use Rattle.simplex_member.specs.Openings.{Openings, no_openings}
 use Rattle.simplex_member.specs.Recovery.{recover_error, is_finalization, with_floor}
-use Rattle.simplex_member.specs.Restarts.{RestartFacts, cut, retention_grows, new_life, GoesOn, IsRestartWhere, IsRestart}
+use Rattle.simplex_member.specs.Restarts.{RestartFacts, cut_member, retention_grows, new_life, GoesOn, IsRestartWhere, IsRestart}
 use Rattle.simplex_member.specs.Runs.{StepFacts, Calls, Restarts, IsStep, IsRun, IsRefused}
-use Rattle.simplex_member.specs.Start.{StartFacts, started, new_state}
+use Rattle.simplex_member.specs.Start.{StartFacts, started_member, new_state}
 use Rattle.simplex_laws.specs.Resumes.{LosesNothing}
 
 -- all that was closed stands in its record
@@ -61,7 +61,7 @@ module _ {D : Type 0} where
       by_record false is = rw is (grown entries _)
 
 module _ {K L D : Type 0} where
-  cut_within : (m : MemberFacts K L D) (n : ℕ) (prune : Bool) → Within m → Within (cut m n prune)
+  cut_within : (m : MemberFacts K L D) (n : ℕ) (prune : Bool) → Within m → Within (cut_member m n prune)
   cut_within m n false within = drop_within m.closed n m.entries within
   cut_within m n true within = omega arith
 
@@ -92,7 +92,7 @@ module _ {K L D : Type 0} (same : D → D → Bool) (elect : Elect L) where
   goes_on_within n start result left within (inl (is, leaves)) = rw leaves within
   goes_on_within n start result left within (inr (copy, by_view, goes)) = by_error (recover_error same (new_state start.setup) start.floor start.now copy) goes
     where
-      by_error : (o : Option RecoverError) → MatchOption o ((result ≡ Ok tt) × (left ≡ new_life same elect n start copy)) (λ e. (result ≡ Err e) × (left ≡ fallen n)) → Within left
+      by_error : (o : Option RecoverError) → MatchOption o ((result ≡ Ok tt) × (left ≡ new_life same elect n start copy)) (λ e. (result ≡ Err e) × (left ≡ without_life n)) → Within left
       by_error None (is, leaves) = rw leaves (let grows = floor_grown n.entries start.floor in omega (arith, grows, within))
       by_error (Some e) (is, leaves) = rw leaves within
 
@@ -102,7 +102,7 @@ module _ {K L D : Type 0} (same : D → D → Bool) (elect : Elect L) where
     where
       by_test : (b : Bool) → IsRestartWhere same elect b m r result left → Within left
       by_test true (is, leaves) = rw leaves within
-      by_test false goes = goes_on_within (cut m r.drop r.prune) r.start result left (cut_within m r.drop r.prune within) goes
+      by_test false goes = goes_on_within (cut_member m r.drop r.prune) r.start result left (cut_within m r.drop r.prune within) goes
 
   run_within : (m end : MemberFacts K L D) (steps : List (StepFacts K L D)) (replies : List (Told K D)) → Within m → IsRun same elect m steps replies end → Within end
   run_within m end [] [] within run = subst Within run within
@@ -111,65 +111,65 @@ module _ {K L D : Type 0} (same : D → D → Bool) (elect : Elect L) where
   run_within m end (Calls call ∷ steps) (told ∷ replies) within (next, is_step, rest) = run_within next end steps replies (call_within same elect m within call told next is_step) rest
   run_within m end (Restarts r ∷ steps) (told ∷ replies) within (next, (result, restarts, tell), rest) = run_within next end steps replies (restart_within m r result next within restarts) rest
 
-  pub run_loses_nothing : (start : StartFacts K L D) (steps : List (StepFacts K L D)) (replies : List (Told K D)) (m : MemberFacts K L D) → IsRun same elect (started same elect (new_state start.setup) start.floor start.now) steps replies m → LosesNothing m
-  run_loses_nothing start steps replies m run = not_below m.closed (length m.entries) (run_within (started same elect (new_state start.setup) start.floor start.now) m steps replies (omega arith) run)
+  pub run_loses_nothing : (start : StartFacts K L D) (steps : List (StepFacts K L D)) (replies : List (Told K D)) (m : MemberFacts K L D) → IsRun same elect (started_member same elect (new_state start.setup) start.floor start.now) steps replies m → LosesNothing m
+  run_loses_nothing start steps replies m run = not_below m.closed (length m.entries) (run_within (started_member same elect (new_state start.setup) start.floor start.now) m steps replies (omega arith) run)
 
 -- the member that a journal holds restarts as the one that it was stored of
 
 module _ {K L D : Type 0} (same : D → D → Bool) (elect : Elect L) (start : StartFacts K L D) where
   -- whether it lives, and what it has open, doesn't matter to a new life
-  other_life : (m next : MemberFacts K L D) (life : Option (Facts K L D)) (openings : Openings K D) → IsRestart same elect m (uncut start) (Ok tt) next → IsRestart same elect (record m { life = life; openings = openings }) (uncut start) (Ok tt) next
+  other_life : (m next : MemberFacts K L D) (life : Option (Facts K L D)) (openings : Openings K D) → IsRestart same elect m (whole_restart start) (Ok tt) next → IsRestart same elect (record m { life = life; openings = openings }) (whole_restart start) (Ok tt) next
   unfolding IsRestart
   other_life m next life openings restarts = by_test (retention_grows m false start.setup.settings.view_retention) restarts
     where
       by_error : (copy : List (ArtifactFacts D)) (o : Option RecoverError)
-          → MatchOption o ((◌≡◌ {A = Result (Unit {0}) RecoverError} (Ok tt) (Ok tt)) × (next ≡ new_life same elect m start copy)) (λ e. (◌≡◌ {A = Result (Unit {0}) RecoverError} (Ok tt) (Err e)) × (next ≡ fallen m))
-          → MatchOption o ((◌≡◌ {A = Result (Unit {0}) RecoverError} (Ok tt) (Ok tt)) × (next ≡ new_life same elect m start copy)) (λ e. (◌≡◌ {A = Result (Unit {0}) RecoverError} (Ok tt) (Err e)) × (next ≡ fallen (record m { life = life; openings = openings })))
+          → MatchOption o ((◌≡◌ {A = Result (Unit {0}) RecoverError} (Ok tt) (Ok tt)) × (next ≡ new_life same elect m start copy)) (λ e. (◌≡◌ {A = Result (Unit {0}) RecoverError} (Ok tt) (Err e)) × (next ≡ without_life m))
+          → MatchOption o ((◌≡◌ {A = Result (Unit {0}) RecoverError} (Ok tt) (Ok tt)) × (next ≡ new_life same elect m start copy)) (λ e. (◌≡◌ {A = Result (Unit {0}) RecoverError} (Ok tt) (Err e)) × (next ≡ without_life (record m { life = life; openings = openings })))
       by_error copy None (is, leaves) = (is, leaves)
       by_error copy (Some e) (is, leaves) = absurd cc
 
-      by_test : (b : Bool) → IsRestartWhere same elect b m (uncut start) (Ok tt) next → IsRestartWhere same elect b (record m { life = life; openings = openings }) (uncut start) (Ok tt) next
+      by_test : (b : Bool) → IsRestartWhere same elect b m (whole_restart start) (Ok tt) next → IsRestartWhere same elect b (record m { life = life; openings = openings }) (whole_restart start) (Ok tt) next
       by_test true (is, leaves) = absurd cc
       by_test false (inl (is, leaves)) = absurd cc
       by_test false (inr (copy, by_view, goes)) = inr (copy, by_view, by_error copy (recover_error same (new_state start.setup) start.floor start.now copy) goes)
 
   -- nor does it to a refusal, which leaves them
-  other_refusal : (m left : MemberFacts K L D) (life : Option (Facts K L D)) (openings : Openings K D) (found : RecoverError) → IsRestart same elect m (uncut start) (Err found) left
-      → IsRestartWhere same elect (retention_grows m false start.setup.settings.view_retention) (record m { life = life; openings = openings }) (uncut start) (Err found) (record m { life = if retention_grows m false start.setup.settings.view_retention then life else None; openings = if retention_grows m false start.setup.settings.view_retention then openings else no_openings })
+  other_refusal : (m left : MemberFacts K L D) (life : Option (Facts K L D)) (openings : Openings K D) (found : RecoverError) → IsRestart same elect m (whole_restart start) (Err found) left
+      → IsRestartWhere same elect (retention_grows m false start.setup.settings.view_retention) (record m { life = life; openings = openings }) (whole_restart start) (Err found) (record m { life = if retention_grows m false start.setup.settings.view_retention then life else None; openings = if retention_grows m false start.setup.settings.view_retention then openings else no_openings })
   unfolding IsRestart
   other_refusal m left life openings found restarts = by_test (retention_grows m false start.setup.settings.view_retention) restarts
     where
       by_error : (copy : List (ArtifactFacts D)) (o : Option RecoverError)
-          → MatchOption o ((◌≡◌ {A = Result (Unit {0}) RecoverError} (Err found) (Ok tt)) × (left ≡ new_life same elect m start copy)) (λ e. (◌≡◌ {A = Result (Unit {0}) RecoverError} (Err found) (Err e)) × (left ≡ fallen m))
+          → MatchOption o ((◌≡◌ {A = Result (Unit {0}) RecoverError} (Err found) (Ok tt)) × (left ≡ new_life same elect m start copy)) (λ e. (◌≡◌ {A = Result (Unit {0}) RecoverError} (Err found) (Err e)) × (left ≡ without_life m))
           → MatchOption o ((◌≡◌ {A = Result (Unit {0}) RecoverError} (Err found) (Ok tt)) × (record m { life = None; openings = no_openings } ≡ new_life same elect m start copy)) (λ e. (◌≡◌ {A = Result (Unit {0}) RecoverError} (Err found) (Err e)) × (◌≡◌ {A = MemberFacts K L D} (record m { life = None; openings = no_openings }) (record m { life = None; openings = no_openings })))
       by_error copy None (is, leaves) = absurd cc
       by_error copy (Some e) (is, leaves) = (is, refl)
 
-      by_test : (b : Bool) → IsRestartWhere same elect b m (uncut start) (Err found) left
-          → IsRestartWhere same elect b (record m { life = life; openings = openings }) (uncut start) (Err found) (record m { life = if b then life else None; openings = if b then openings else no_openings })
+      by_test : (b : Bool) → IsRestartWhere same elect b m (whole_restart start) (Err found) left
+          → IsRestartWhere same elect b (record m { life = life; openings = openings }) (whole_restart start) (Err found) (record m { life = if b then life else None; openings = if b then openings else no_openings })
       by_test true (is, leaves) = (is, refl)
       by_test false (inl (is, leaves)) = inl (is, refl)
       by_test false (inr (copy, by_view, goes)) = inr (copy, by_view, by_error copy (recover_error same (new_state start.setup) start.floor start.now copy) goes)
 
   -- so for the one that is stored
 
-  pub resumes : (m next : MemberFacts K L D) → LosesNothing m → IsStep same elect m (Restarts (uncut start)) Restarted next → IsResumed same elect (stored_of m) m.entries start next
+  pub resumes : (m next : MemberFacts K L D) → LosesNothing m → IsStep same elect m (Restarts (whole_restart start)) Restarted next → IsResumed same elect (stored_of m) m.entries start next
   resumes m next whole (Ok u, restarts, tell) = record { whole = whole; restarted = other_life m next None no_openings restarts }
   resumes m next whole (Err e, restarts, tell) = absurd cc
 
-  pub restarts : (m next : MemberFacts K L D) → IsResumed same elect (stored_of m) m.entries start next → IsStep same elect m (Restarts (uncut start)) Restarted next
+  pub restarts : (m next : MemberFacts K L D) → IsResumed same elect (stored_of m) m.entries start next → IsStep same elect m (Restarts (whole_restart start)) Restarted next
   restarts m next is = (Ok tt, other_life (stored_facts (stored_of m) m.entries) next m.life m.openings is.restarted, refl)
 
   stays_ended : (m : MemberFacts K L D) (b : Bool) → ◌≡◌ {A = MemberFacts K L D} (record m { life = if b then None else None; openings = if b then no_openings else no_openings }) (stored_facts (stored_of m) m.entries)
   stays_ended m true = refl
   stays_ended m false = refl
 
-  pub refuses_resume : (m : MemberFacts K L D) (found : RecoverError) → LosesNothing m → IsRefused same elect m (Restarts (uncut start)) found → IsNotResumed same elect (stored_of m) m.entries start (Recover found)
+  pub refuses_resume : (m : MemberFacts K L D) (found : RecoverError) → LosesNothing m → IsRefused same elect m (Restarts (whole_restart start)) found → IsNotResumed same elect (stored_of m) m.entries start (Recover found)
   unfolding IsRestart
   refuses_resume m found whole (left, restarts) =
-      (whole, subst (IsRestart same elect (stored_facts (stored_of m) m.entries) (uncut start) (Err found)) (stays_ended m (retention_grows m false start.setup.settings.view_retention)) (other_refusal m left None no_openings found restarts))
+      (whole, subst (IsRestart same elect (stored_facts (stored_of m) m.entries) (whole_restart start) (Err found)) (stays_ended m (retention_grows m false start.setup.settings.view_retention)) (other_refusal m left None no_openings found restarts))
 
-  pub refuses_restart : (m : MemberFacts K L D) (found : RecoverError) → IsNotResumed same elect (stored_of m) m.entries start (Recover found) → IsRefused same elect m (Restarts (uncut start)) found
+  pub refuses_restart : (m : MemberFacts K L D) (found : RecoverError) → IsNotResumed same elect (stored_of m) m.entries start (Recover found) → IsRefused same elect m (Restarts (whole_restart start)) found
   unfolding IsRestart
   refuses_restart m found (whole, restarts) = (
     record m { life = if retention_grows m false start.setup.settings.view_retention then m.life else None; openings = if retention_grows m false start.setup.settings.view_retention then m.openings else no_openings },
@@ -177,8 +177,8 @@ module _ {K L D : Type 0} (same : D → D → Bool) (elect : Elect L) (start : S
   )
 
   -- of the member that a journal was stored of, a resume is its restart
-  pub resumed_restart : (stored : Stored) (entries : List (ArtifactFacts D)) (m next : MemberFacts K L D) → stored_of m ≡ stored → m.entries ≡ entries → IsResumed same elect stored entries start next → IsRestart same elect m (uncut start) (Ok tt) next
+  pub resumed_restart : (stored : Stored) (entries : List (ArtifactFacts D)) (m next : MemberFacts K L D) → stored_of m ≡ stored → m.entries ≡ entries → IsResumed same elect stored entries start next → IsRestart same elect m (whole_restart start) (Ok tt) next
   resumed_restart stored entries m next same_stored same_entries is =
-      let of_stored = subst (λ kept. IsRestart same elect (stored_facts kept entries) (uncut start) (Ok tt) next) (sym same_stored) is.restarted in
-      let of_entries = subst (λ es. IsRestart same elect (stored_facts (stored_of m) es) (uncut start) (Ok tt) next) (sym same_entries) of_stored in
+      let of_stored = subst (λ kept. IsRestart same elect (stored_facts kept entries) (whole_restart start) (Ok tt) next) (sym same_stored) is.restarted in
+      let of_entries = subst (λ es. IsRestart same elect (stored_facts (stored_of m) es) (whole_restart start) (Ok tt) next) (sym same_entries) of_stored in
       other_life (stored_facts (stored_of m) m.entries) next m.life m.openings of_entries

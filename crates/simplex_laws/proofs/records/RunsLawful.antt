@@ -14,9 +14,9 @@ use Rattle.simplex_member.specs.Calls.{CallFacts, Told}
 use Rattle.simplex_member.specs.Check.{first_broken_rule, first_broken_after, first_error, floor_rules}
 use Rattle.simplex_member.specs.Cuts.{without_last}
 use Rattle.simplex_member.specs.Openings.{Openings, no_openings}
-use Rattle.simplex_member.specs.Lives.{MemberFacts, IsCall, AnswersAlive, reply_of, left_of, fallen}
-use Rattle.simplex_member.specs.Recovery.{recover_error, recovered, with_floor}
-use Rattle.simplex_member.specs.Restarts.{RestartFacts, IsByView, cut, new_life, retention_grows, GoesOn, IsRestart, IsRestartWhere}
+use Rattle.simplex_member.specs.Lives.{MemberFacts, IsCall, AnswersAlive, reply_of, left_of, without_life}
+use Rattle.simplex_member.specs.Recovery.{recover_error, recovered_state, with_floor}
+use Rattle.simplex_member.specs.Restarts.{RestartFacts, IsByView, cut_member, new_life, retention_grows, GoesOn, IsRestart, IsRestartWhere}
 use Rattle.simplex_laws.specs.Deeds.{Deed, of_floor, deeds_of_call, deeds_at, deeds_of_steps}
 use Rattle.simplex_laws.specs.Lawful.{IsLawful}
 use Rattle.simplex_laws.specs.Stories.{Story, deeds_of, BeginsAs, Ran}
@@ -24,7 +24,7 @@ use Rattle.simplex_laws.proofs.lists.Signed.{signed_none}
 use Rattle.simplex_laws.proofs.lists.Splits.{Contains-cons_rest}
 use Rattle.simplex_laws.specs.TermLengths.{HasTerms, KeepTerms}
 use Rattle.simplex_member.specs.Runs.{StepFacts, Calls, Restarts, restart_told, IsRun, IsRunFrom}
-use Rattle.simplex_member.specs.Start.{StartFacts, started, new_state}
+use Rattle.simplex_member.specs.Start.{StartFacts, started_member, new_state}
 use Rattle.simplex_laws.proofs.agreement.Lawful.{lawful_start}
 use Rattle.simplex_laws.proofs.records.Remembering.{none_split}
 use Rattle.simplex_laws.proofs.records.Lifetimes.{Between, dropped_between, pruned_between}
@@ -54,7 +54,7 @@ module _ {K L D : Type 0} where
   quiet term_length deeds m lives = subst (λ a. MemberLives term_length a m) (sym (append-nil deeds)) lives
 
   -- what a restart leaves of the record
-  pub cut_between : (term_length : ℕ) (deeds : List (Deed D)) (m : MemberFacts K L D) (drop kept : ℕ) (prune : Bool) → Between term_length deeds m.closed kept m.entries → (k : ℕ) × Between term_length deeds (cut m drop prune).closed k (cut m drop prune).entries
+  pub cut_between : (term_length : ℕ) (deeds : List (Deed D)) (m : MemberFacts K L D) (drop kept : ℕ) (prune : Bool) → Between term_length deeds m.closed kept m.entries → (k : ℕ) × Between term_length deeds (cut_member m drop prune).closed k (cut_member m drop prune).entries
   cut_between term_length deeds m drop kept false between = (kept, dropped_between term_length deeds m.closed kept m.entries between drop)
   cut_between term_length deeds m drop kept true between =
       let left = dropped_between term_length deeds m.closed kept m.entries between drop in
@@ -82,7 +82,7 @@ module _ {K L D : Type 0} (same : D → D → Bool) (decides : (d e : D) → sam
       by_life None dead (tells, leaves) = rw (tells, leaves) (quiet term_length deeds m lives)
       by_life (Some x) alive (inl (tells, leaves)) = rw (tells, leaves) (answered call x alive lives)
       by_life (Some x) alive (inr (_, tells, inl leaves)) = rw (tells, leaves) (quiet term_length deeds m lives)
-      by_life (Some x) alive (inr (_, tells, inr (_, _, leaves))) = rw (tells, leaves) (quiet term_length deeds (fallen m) (lives.0, between_of term_length deeds m.closed lives.0 m.entries m.openings m.life lives.1))
+      by_life (Some x) alive (inr (_, tells, inr (_, _, leaves))) = rw (tells, leaves) (quiet term_length deeds (without_life m) (lives.0, between_of term_length deeds m.closed lives.0 m.entries m.openings m.life lives.1))
 
   -- a restart
 
@@ -92,17 +92,17 @@ module _ {K L D : Type 0} (same : D → D → Bool) (decides : (d e : D) → sam
       let epochs = all_of_epoch same x.settings.epoch x.me [] copy (unbroken same x.settings.epoch x.me start.floor copy none) in
       let here : Between x.terms.term_length deeds n.closed kept n.entries = subst (λ t. Between t deeds n.closed kept n.entries) (sym fresh.terms) between in
       let lives = new_life_lives same decides elect x.settings x.me x.members x.elector x.terms x.elects_early deeds n.closed kept n.entries copy start.floor start.now here by_view.of_each_view epochs in
-      (kept, subst (λ t. Living t (deeds ++ of_floor start.floor) n.closed kept (new_life same elect n start copy).entries no_openings (recovered same elect x start.floor start.now copy)) fresh.terms lives)
+      (kept, subst (λ t. Living t (deeds ++ of_floor start.floor) n.closed kept (new_life same elect n start copy).entries no_openings (recovered_state same elect x start.floor start.now copy)) fresh.terms lives)
 
   -- where a life is refused, what is left of the record is kept
-  refused_life : (n : MemberFacts K L D) (kept : ℕ) → Between term_length deeds n.closed kept n.entries → MemberLives term_length (deeds ++ []) (fallen n)
-  refused_life n kept between = quiet term_length deeds (fallen n) (kept, between)
+  refused_life : (n : MemberFacts K L D) (kept : ℕ) → Between term_length deeds n.closed kept n.entries → MemberLives term_length (deeds ++ []) (without_life n)
+  refused_life n kept between = quiet term_length deeds (without_life n) (kept, between)
 
   goes_on : (n : MemberFacts K L D) (r : RestartFacts K L D) (result : Result (Unit {0}) RecoverError) (left : MemberFacts K L D) (kept : ℕ) → HasTerms term_length r.start.setup → Between term_length deeds n.closed kept n.entries → GoesOn same elect n r.start result left → MemberLives term_length (deeds ++ deeds_at (Restarts r) (restart_told {K = K} {D = D} result)) left
   goes_on n r result left kept fresh between (inl (is, leaves)) = rw (is, leaves) (refused_life n kept between)
   goes_on n r result left kept fresh between (inr (copy, by_view, goes)) = by_error (recover_error same (new_state r.start.setup) r.start.floor r.start.now copy) refl goes
     where
-      by_error : (o : Option RecoverError) → recover_error same (new_state r.start.setup) r.start.floor r.start.now copy ≡ o → MatchOption o ((result ≡ Ok tt) × (left ≡ new_life same elect n r.start copy)) (λ e. (result ≡ Err e) × (left ≡ fallen n)) → MemberLives term_length (deeds ++ deeds_at (Restarts r) (restart_told {K = K} {D = D} result)) left
+      by_error : (o : Option RecoverError) → recover_error same (new_state r.start.setup) r.start.floor r.start.now copy ≡ o → MatchOption o ((result ≡ Ok tt) × (left ≡ new_life same elect n r.start copy)) (λ e. (result ≡ Err e) × (left ≡ without_life n)) → MemberLives term_length (deeds ++ deeds_at (Restarts r) (restart_told {K = K} {D = D} result)) left
       by_error None none (is, leaves) =
           rw (is, leaves)
           (subst (λ more. MemberLives term_length (deeds ++ more) (new_life same elect n r.start copy)) (sym (append-nil (of_floor r.start.floor)))
@@ -117,7 +117,7 @@ module _ {K L D : Type 0} (same : D → D → Bool) (decides : (d e : D) → sam
       by_test true (is, leaves) = rw (is, leaves) (quiet term_length deeds m lives)
       by_test false goes =
           let between = cut_between term_length deeds m r.drop lives.0 r.prune (between_of term_length deeds m.closed lives.0 m.entries m.openings m.life lives.1) in
-          goes_on (cut m r.drop r.prune) r result left between.0 fresh between.1 goes
+          goes_on (cut_member m r.drop r.prune) r result left between.0 fresh between.1 goes
 
 module _ {K L D : Type 0} (same : D → D → Bool) (decides : (d e : D) → same d e ≡ true → d ≡ e) (elect : Elect L) (term_length : ℕ) (some : 0 < term_length) where
   pub run_lawful : (steps : List (StepFacts K L D)) (replies : List (Told K D)) (deeds : List (Deed D)) (m end : MemberFacts K L D) → KeepTerms term_length steps → MemberLives term_length deeds m → IsRun same elect m steps replies end → IsLawful term_length (deeds ++ deeds_of_steps steps replies)
@@ -151,19 +151,19 @@ nothing_between term_length = record {
 }
 
 module _ {K L D : Type 0} (same : D → D → Bool) (decides : (d e : D) → same d e ≡ true → d ≡ e) (elect : Elect L) (term_length : ℕ) (start : StartFacts K L D) (begins : HasTerms term_length start.setup) where
-  pub start_lives : MemberLives term_length (of_floor start.floor) (started same elect (new_state start.setup) start.floor start.now)
-  unfolding recovered
+  pub start_lives : MemberLives term_length (of_floor start.floor) (started_member same elect (new_state start.setup) start.floor start.now)
+  unfolding recovered_state
   start_lives =
       let x = new_state start.setup in
       let lives = new_life_lives same decides elect x.settings x.me x.members x.elector x.terms x.elects_early [] 0 0 [] [] start.floor start.now (nothing_between x.terms.term_length) (λ v. refl) (λ e h. absurd (omega (arith, h.1))) in
       let whole : List (ArtifactFacts D) = with_floor [] start.floor in
-      (0, subst (λ t. Living t (of_floor start.floor) 0 0 whole no_openings (recovered same elect x start.floor start.now [])) begins.terms lives)
+      (0, subst (λ t. Living t (of_floor start.floor) 0 0 whole no_openings (recovered_state same elect x start.floor start.now [])) begins.terms lives)
 
   -- from the start on
   pub run_from_lawful : (steps : List (StepFacts K L D)) (replies : List (Told K D)) → KeepTerms term_length steps → IsRunFrom same elect start steps replies → IsLawful term_length (of_floor start.floor ++ deeds_of_steps steps replies)
   unfolding IsRunFrom
   run_from_lawful steps replies fresh (accepted, end, run) =
-      run_lawful same decides elect term_length begins.some steps replies (of_floor start.floor) (started same elect (new_state start.setup) start.floor start.now) end fresh start_lives run
+      run_lawful same decides elect term_length begins.some steps replies (of_floor start.floor) (started_member same elect (new_state start.setup) start.floor start.now) end fresh start_lives run
 
 -- the lives of a member of a network share a length of terms
 keep_terms : {K L D : Type 0} (term_length i : ℕ) (steps : List (StepFacts K L D)) → ((r : RestartFacts K L D) → Contains steps (Restarts r) → BeginsAs term_length i r.start.setup) → KeepTerms term_length steps

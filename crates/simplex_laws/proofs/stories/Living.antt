@@ -10,7 +10,7 @@ use Rattle.simplex_member.specs.Lives.{MemberFacts, IsCall}
 use Rattle.simplex_member.specs.Recovery.{recover_error}
 use Rattle.simplex_member.specs.Restarts.{RestartFacts, IsRestart}
 use Rattle.simplex_member.specs.Runs.{StepFacts, Calls, Restarts, restart_told, IsStep, IsRun, IsRunFrom}
-use Rattle.simplex_member.specs.Start.{StartFacts, started, new_state}
+use Rattle.simplex_member.specs.Start.{StartFacts, started_member, new_state}
 use Rattle.std.proofs.lemmas.List.{append-nil}
 use Rattle.simplex_laws.specs.Living.{new_story, with_step, HasStory, HasDone}
 use Rattle.simplex_laws.specs.Deeds.{Deed, of_floor, deeds_at, deeds_of_steps}
@@ -48,10 +48,10 @@ module _ {K L D : Type 0} (same : D → D → Bool) (elect : Elect L) where
     step_on s m next step told begins has is_step = record {
       lives = lives_on s.start s.steps step has.lives begins;
       accepted = has.accepted;
-      run = run_push (started same elect (new_state s.start.setup) s.start.floor s.start.now) m next s.steps s.replies step told has.run is_step;
+      run = run_push (started_member same elect (new_state s.start.setup) s.start.floor s.start.now) m next s.steps s.replies step told has.run is_step;
     }
 
-    pub begin_story : (start : StartFacts K L D) (m : MemberFacts K L D) → BeginsAs term_length i start.setup → recover_error same (new_state start.setup) start.floor start.now [] ≡ None → m ≡ started same elect (new_state start.setup) start.floor start.now → HasStory same elect term_length i (new_story start) m
+    pub begin_story : (start : StartFacts K L D) (m : MemberFacts K L D) → BeginsAs term_length i start.setup → recover_error same (new_state start.setup) start.floor start.now [] ≡ None → m ≡ started_member same elect (new_state start.setup) start.floor start.now → HasStory same elect term_length i (new_story start) m
     begin_story start m begins none is = record {
       lives = record { first = begins; later = λ r h. absurd (omega (arith, h.1)) };
       accepted = none;
@@ -79,12 +79,12 @@ module _ {K L D : Type 0} (same : D → D → Bool) (elect : Elect L) where
       story = with_step s step told;
       told = now;
       same_deeds =
-          ap (λ ds. of_floor s.start.floor ++ ds) (steps_pushed (started same elect (new_state s.start.setup) s.start.floor s.start.now) m s.steps s.replies step told has.run)
+          ap (λ ds. of_floor s.start.floor ++ ds) (steps_pushed (started_member same elect (new_state s.start.setup) s.start.floor s.start.now) m s.steps s.replies step told has.run)
           ∙ (sym (append_assoc (of_floor s.start.floor) (deeds_of_steps s.steps s.replies) (deeds_at step told))
           ∙ (ap (λ ds. ds ++ deeds_at step told) is ∙ ap (λ ds. all ++ ds) shows));
     }
 
-    pub start_done : (start : StartFacts K L D) (m : MemberFacts K L D) (all : List (Deed D)) → BeginsAs term_length i start.setup → recover_error same (new_state start.setup) start.floor start.now [] ≡ None → m ≡ started same elect (new_state start.setup) start.floor start.now → of_floor start.floor ≡ all → HasDone same elect term_length i all m
+    pub start_done : (start : StartFacts K L D) (m : MemberFacts K L D) (all : List (Deed D)) → BeginsAs term_length i start.setup → recover_error same (new_state start.setup) start.floor start.now [] ≡ None → m ≡ started_member same elect (new_state start.setup) start.floor start.now → of_floor start.floor ≡ all → HasDone same elect term_length i all m
     start_done start m all begins none is shows = record { story = new_story start; told = begin_story start m begins none is; same_deeds = append-nil (of_floor start.floor) ∙ shows }
 
     pub call_done : (m next : MemberFacts K L D) (call : CallFacts D) (told : Told K D) (all more : List (Deed D)) → IsCall same elect m call told next → deeds_at {L = L} (Calls call) told ≡ more → HasDone same elect term_length i all m → HasDone same elect term_length i (all ++ more) next

@@ -20,7 +20,7 @@ use Rattle.simplex_member.specs.Start.{start_facts, new_state}
 use Rattle.simplex_member.specs.declared.member.error.RecoverError.{RecoverError}
 use Rattle.std.proofs.lemmas.List.{append-nil}
 use Rattle.simplex_laws.specs.Living.{story_of}
-use Rattle.simplex_laws.specs.Shown.{votes_in, certificates_in, floor_in, taken_by, taken_in, begun_by, shown_by, shown, IsSetUpAs, AreSetUpAs}
+use Rattle.simplex_laws.specs.Shown.{votes_in, certificates_in, floor_in, taken_by, taken_in, begun_by, shown_by, shown_deeds, IsSetUpAs, AreSetUpAs}
 use Rattle.simplex_laws.specs.Deeds.{Deed, handed_in, accepted_by, of_floor, signed_in, accepted_at, deeds_at, deeds_of_steps}
 use Rattle.simplex_laws.specs.Stories.{deeds_of, BeginsAs, LivesAs}
 use Rattle.simplex_laws.proofs.lists.Splits.{Contains-cases, Contains-cons_rest}
@@ -82,7 +82,7 @@ module _ {S L D K G C : Type 0} (me : S → Option ℕ) (members : S → List K)
       ∙ (ap (λ ds. (accepted_at (step_facts me members terms elects_early bytes_of s) (told bytes_of r) ++ ds) ++ shown_by steps replies) (votes_shown bytes_of r)
       ∙ ap (λ ds. deeds_at (step_facts me members terms elects_early bytes_of s) (told bytes_of r) ++ ds) (all_shown steps replies))
 
-  pub story_shown : (start : Start S L D K G C) (steps : List (Step S L D K G C)) (replies : List (Reply S D K G C)) → deeds_of (story_of me members terms elects_early bytes_of start steps replies) ≡ shown start steps replies
+  pub story_shown : (start : Start S L D K G C) (steps : List (Step S L D K G C)) (replies : List (Reply S D K G C)) → deeds_of (story_of me members terms elects_early bytes_of start steps replies) ≡ shown_deeds start steps replies
   story_shown start steps replies = sym
       (ap (λ ds. ds ++ shown_by steps replies) (floor_shown bytes_of start.floor)
       ∙ ap (λ ds. of_floor (floor_facts bytes_of start.floor) ++ ds) (all_shown steps replies))

@@ -13,7 +13,7 @@ use Rattle.simplex_round.specs.Slot.{is_unequivocated}
 use Rattle.simplex_round.specs.Round.{RoundFacts, new_round}
 use Rattle.simplex_voter.specs.Facts.{Facts, Elect, round_at, round_of, round_number, is_tracked, with_round}
 use Rattle.simplex_voter.specs.Windows.{is_admitted}
-use Rattle.simplex_voter.specs.Leaders.{prepared}
+use Rattle.simplex_voter.specs.Leaders.{with_next_view_ready}
 use Rattle.simplex_voter.specs.Rules.{may_notarize, NotarizeRule}
 use Rattle.simplex_voter.specs.Votes.{notarize_answer}
 use Rattle.simplex_voter.proofs.Gaps.{and_parts, not_true}
@@ -93,10 +93,10 @@ module _ {K L D : Type 0} (same : D → D → Bool) (decides : (d e : D) → sam
       }
 
   -- and it is decided then
-  pub notarize_noted : (p : Proposal D) (m : ℕ) → (round_of x v).slot.held ≡ Some p → NotesStand base low (deeds ++ Signs m (subject.Notarize p) ∷ []) o (prepared elect (with_round x v (record (round_of x v) { notarize_decided = true })) v)
+  pub notarize_noted : (p : Proposal D) (m : ℕ) → (round_of x v).slot.held ≡ Some p → NotesStand base low (deeds ++ Signs m (subject.Notarize p) ∷ []) o (with_next_view_ready elect (with_round x v (record (round_of x v) { notarize_decided = true })) v)
   notarize_noted p m holds =
       let y = with_round x v (record (round_of x v) { notarize_decided = true }) in
-      let z = prepared elect y v in
+      let z = with_next_view_ready elect y v in
       let kept = decided_notes same decides elect base low deeds o x notes v may voted_tracked in
       let at : p.round.view ≡ v = notes.placed v p holds in
       let decided : (round_of z v).notarize_decided ≡ true = ((on_prepared base elect y v (notes.above v voted_tracked)).rounds v).grown.decided (ap (λ (r : RoundFacts K D). r.notarize_decided) (round_put x v (record (round_of x v) { notarize_decided = true }))) in

@@ -19,7 +19,7 @@ use Rattle.simplex_voter.specs.Facts.{Facts, Elect, round_at, round_of, round_nu
 use Rattle.simplex_voter.specs.Windows.{min_active, is_start, is_admitted}
 use Rattle.simplex_voter.specs.Refusals.{is_started, takes_round}
 use Rattle.simplex_voter.specs.Entering.{at_moment}
-use Rattle.simplex_voter.specs.Leaders.{prepared}
+use Rattle.simplex_voter.specs.Leaders.{with_next_view_ready}
 use Rattle.simplex_voter.specs.Parents.{binding_matches, preferred_parent}
 use Rattle.simplex_voter.specs.Rules.{may_notarize}
 use Rattle.simplex_voter.specs.declared.voter.proposal_request.ProposalRequest.{ProposalRequest}
@@ -30,7 +30,7 @@ use Rattle.simplex_voter.specs.declared.voter.verification.Verify.{Verify}
 use Rattle.simplex_voter.specs.declared.voter.verification.Verify.TheVariants as verify
 use Rattle.simplex_voter.specs.Proposing.{request_context, request_on, request_in, context_on, propose_answer, proposed_answer, supersede_answer, context_stands, with_build, build_requested, proposed_round, proposal_of, views_ahead, voted_nullify, parent_certified, after_proposed, after_supersede, after_release}
 use Rattle.simplex_voter.specs.Verifying.{standing, parent_standing, is_answered, through, answer_at, answer_in, verify_answer, verifying_round, round_left, was_scanned, scan_left, with_mark, without_binding, takes_proposal, after_set_proposal, after_try_verify, after_verified, after_verification_failed}
-use Rattle.simplex_voter.specs.Timeouts.{triggered, after_next_timeout}
+use Rattle.simplex_voter.specs.Timeouts.{with_timeout, after_next_timeout}
 use Rattle.simplex_voter.specs.Certification.{after_candidates}
 use Rattle.simplex_voter.proofs.Elsewhere.{round_of-with_round}
 use Rattle.simplex_voter.proofs.Gaps.{and_parts, not_true}
@@ -202,7 +202,7 @@ module _ {K L D : Type 0} (same : D → D → Bool) (decides : (d e : D) → sam
       let at : p.round.view ≡ v = eqb-true p.round.view v parts.1 in
       let active = (and_parts (nat_le 1 p.round.view) (nat_le (min_active x) p.round.view) (and_parts (is_started x && p.round.epoch == x.settings.epoch) _ parts.0).1).1 in
       let over : base ≤ v = kept_view v (grind (arith, nat_tests, active, at)) in
-      let y = prepared elect x v in
+      let y = with_next_view_ready elect x v in
       left_notes (after_set_proposal same elect x v p) (on_joined base x y (after_set_proposal same elect x v p) (on_prepared base elect x v over) (on_put base y v _ over (calm_proposal same v (round_of y v) p at)))
 
   build_calm : (v : ℕ) (requested : Bool) → CalmOn base x (with_build x v requested)
@@ -354,8 +354,8 @@ module _ {K L D : Type 0} (same : D → D → Bool) (decides : (d e : D) → sam
   failed_notes : (v : ℕ) (reason : TimeoutReason) (now : ℕ) → is_verifying o v ≡ true → NotesStand base low deeds (without_verification o v) (after_verification_failed same elect x v reason now)
   failed_notes v reason now open_now =
       let m = at_moment x now in
-      elim (binding_matches same elect x v) as (λ b. NotesStand base low deeds (without_verification o v) (if b then triggered m v reason now else without_binding m v)) [
-        | true ↦ answered_notes v (triggered m v reason now) (on_joined base x m (triggered m v reason now) (on_moment base x now) (on_triggered base m v reason now))
+      elim (binding_matches same elect x v) as (λ b. NotesStand base low deeds (without_verification o v) (if b then with_timeout m v reason now else without_binding m v)) [
+        | true ↦ answered_notes v (with_timeout m v reason now) (on_joined base x m (with_timeout m v reason now) (on_moment base x now) (on_triggered base m v reason now))
         | false ↦ unbound_notes now v open_now m (on_moment base x now)
       ]
 
@@ -514,11 +514,11 @@ module _ {K L D : Type 0} (same : D → D → Bool) (elect : Elect L) (base low 
 
 -- all calls on the work of a view but a vote to notarize
 module _ {K L D : Type 0} (same : D → D → Bool) (decides : (d e : D) → same d e ≡ true → d ≡ e) (elect : Elect L) (base low : ℕ) (deeds : List (Deed D)) (o : Openings K D) (x : Facts K L D) (notes : NotesStand base low deeds o x) where
-  pub decided_notes : (v : ℕ) → may_notarize same elect x v ≡ true → is_tracked x v ≡ true → NotesStand base low deeds o (prepared elect (with_round x v (record (round_of x v) { notarize_decided = true })) v)
+  pub decided_notes : (v : ℕ) → may_notarize same elect x v ≡ true → is_tracked x v ≡ true → NotesStand base low deeds o (with_next_view_ready elect (with_round x v (record (round_of x v) { notarize_decided = true })) v)
   decided_notes v may tracked =
       let y = with_round x v (record (round_of x v) { notarize_decided = true }) in
-      left_notes same decides elect base low deeds o x notes (prepared elect y v)
-      (on_joined base x y (prepared elect y v) (on_there base x v _ tracked (calm_decided v (round_of x v))) (on_prepared base elect y v (notes.above v tracked)))
+      left_notes same decides elect base low deeds o x notes (with_next_view_ready elect y v)
+      (on_joined base x y (with_next_view_ready elect y v) (on_there base x v _ tracked (calm_decided v (round_of x v))) (on_prepared base elect y v (notes.above v tracked)))
 
   superseded_notes : (v : ℕ) (context : Option (Context D K)) (b : Bool) → NotesStand base low deeds (if b then without_context o v else o) (option_map_or (λ c. after_supersede same elect x c) context x)
   superseded_notes v None true = closed_notes same decides elect base low deeds o x notes v x (on_same base x)
@@ -543,7 +543,7 @@ module _ {K L D : Type 0} (same : D → D → Bool) (decides : (d e : D) → sam
   work_notes (SetCertifyHandle v token) ordered allowed silent = left_notes same decides elect base low deeds o x notes _ (on_tracked base x v _ (calm_alike v (round_of x v) _ refl refl refl refl refl))
   work_notes (TriggerTimeout v reason now) ordered allowed silent =
       let m = at_moment x now in
-      left_notes same decides elect base low deeds o x notes (triggered m v reason now) (on_joined base x m (triggered m v reason now) (on_moment base x now) (on_triggered base m v reason now))
+      left_notes same decides elect base low deeds o x notes (with_timeout m v reason now) (on_joined base x m (with_timeout m v reason now) (on_moment base x now) (on_triggered base m v reason now))
   work_notes (NextTimeout now) ordered allowed silent =
       let m = at_moment x now in
       left_notes same decides elect base low deeds o x notes (after_next_timeout x now) (on_joined base x m (after_next_timeout x now) (on_moment base x now) (on_tracked base m x.current _ (calm_retry x.current (round_of x x.current) now x.settings.timeout_retry)))

@@ -5,8 +5,8 @@ use Rattle.simplex_types.specs.Certificates.{ProposalFacts, NullificationFacts}
 use Rattle.simplex_types.specs.declared.types.messages.Subject.TheVariants as subject
 use Rattle.simplex_voter.specs.Acceptance.{after_add_notarization, after_add_nullification, after_add_finalization}
 use Rattle.simplex_voter.specs.Facts.{Facts, Elect, is_tracked}
-use Rattle.simplex_voter.specs.Entering.{at_moment, entered}
-use Rattle.simplex_voter.specs.Certification.{judged, verdict_taken, after_certified}
+use Rattle.simplex_voter.specs.Entering.{at_moment, with_view_entered}
+use Rattle.simplex_voter.specs.Certification.{with_verdict, verdict_taken, after_certified}
 use Rattle.simplex_laws.specs.Deeds.{Deed, Accepts}
 use Rattle.simplex_laws.specs.Events as event
 use Rattle.simplex_laws.specs.Events.{Event, after_event}
@@ -22,8 +22,8 @@ module _ {K L D : Type 0} (same : D → D → Bool) (elect : Elect L) (x : Facts
   verdict_passes : v < (verdict_taken elect (at_moment x now) v true now).current
   verdict_passes =
       let e : Event K D = event.Certified v true now in
-      let y = entered (judged (at_moment x now) v true) (v + 1) now in
-      omega (arith, (goes_along same elect x e 0 y (verdict_taken elect (at_moment x now) v true now) (to_woken v Still)).current, entered_reaches (judged (at_moment x now) v true) (v + 1) now)
+      let y = with_view_entered (with_verdict (at_moment x now) v true) (v + 1) now in
+      omega (arith, (goes_along same elect x e 0 y (verdict_taken elect (at_moment x now) v true now) (to_woken v Still)).current, entered_reaches (with_verdict (at_moment x now) v true) (v + 1) now)
 
   pub certified_passes : (success : Bool) → is_tracked x v ≡ true → success ≡ true → v < (after_certified elect x v success now).current
   certified_passes success tracked is = rw (is, tracked) verdict_passes

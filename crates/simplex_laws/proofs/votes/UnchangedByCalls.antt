@@ -9,10 +9,10 @@ use Rattle.simplex_types.specs.declared.reasons.TimeoutReason.TheVariants.{Faile
 use Rattle.simplex_round.specs.Round.{after_nullify}
 use Rattle.simplex_voter.specs.Facts.{Facts, Elect, round_of, is_tracked, with_round}
 use Rattle.simplex_voter.specs.Rules.{may_nullify, may_finalize}
-use Rattle.simplex_voter.specs.Entering.{at_moment, entered}
-use Rattle.simplex_voter.specs.Leaders.{elected, slid}
-use Rattle.simplex_voter.specs.Timeouts.{triggered}
-use Rattle.simplex_voter.specs.Certification.{raised, woken, judged, verdict_taken, after_certified}
+use Rattle.simplex_voter.specs.Entering.{at_moment, with_view_entered}
+use Rattle.simplex_voter.specs.Leaders.{with_elected_leader, with_window_leaders}
+use Rattle.simplex_voter.specs.Timeouts.{with_timeout}
+use Rattle.simplex_voter.specs.Certification.{with_finalized_view, with_waiting_candidate, with_verdict, verdict_taken, after_certified}
 use Rattle.simplex_voter.specs.Acceptance.{with_notarization_at, with_nullification_at, with_finalization_at, after_add_notarization, after_add_finalization}
 use Rattle.simplex_voter.specs.Votes.{nullify_cast, finalize_cast, after_construct_nullify, after_construct_finalize}
 use Rattle.simplex_voter.proofs.Rules.{nullify_parts, finalize_parts}
@@ -25,19 +25,19 @@ module _ {K L D : Type 0} (base : ℕ) (same : D → D → Bool) (elect : Elect 
   pub on_add_notarization : (c : ProposalFacts D) → base ≤ c.proposal.round.view → CalmOn base x (after_add_notarization same elect x c)
   on_add_notarization c over =
       let v = c.proposal.round.view in
-      let y = elected elect x (v + 1) (Some c.bytes) in
+      let y = with_elected_leader elect x (v + 1) (Some c.bytes) in
       let z = with_notarization_at same elect y c in
       let up = on_joined base x y z (on_elected base elect x (v + 1) (Some c.bytes) (omega arith)) (on_notarized base same elect y c over) in
       on_if base x (is_some (round_of x v).notarization) z _ up (on_joined base x z _ up (on_named_slid base z v over))
 
   -- but for the views with a nullification
   pub on_nullification_kept : (c : NullificationFacts) (now : ℕ) → base ≤ c.round.view → base ≤ next_term_start x.terms.term_length c.round.view
-      → CalmOn base x (with_nullification_at (elected elect (entered (at_moment x now) (next_term_start x.terms.term_length c.round.view) now) (next_term_start x.terms.term_length c.round.view) (Some c.bytes)) c)
+      → CalmOn base x (with_nullification_at (with_elected_leader elect (with_view_entered (at_moment x now) (next_term_start x.terms.term_length c.round.view) now) (next_term_start x.terms.term_length c.round.view) (Some c.bytes)) c)
   on_nullification_kept c now over later =
       let next = next_term_start x.terms.term_length c.round.view in
       let m = at_moment x now in
-      let e = entered m next now in
-      let y = elected elect e next (Some c.bytes) in
+      let e = with_view_entered m next now in
+      let y = with_elected_leader elect e next (Some c.bytes) in
       on_joined base x m _ (on_moment base x now)
       (on_joined base m e _ (on_entered base m next now later)
       (on_joined base e y _ (on_elected base elect e next (Some c.bytes) later) (on_nullification base y c over)))
@@ -46,26 +46,26 @@ module _ {K L D : Type 0} (base : ℕ) (same : D → D → Bool) (elect : Elect 
   on_add_finalization c now over =
       let v = c.proposal.round.view in
       let m = at_moment x now in
-      let r = raised m v in
-      let e = entered r (v + 1) now in
-      let y = elected elect e (v + 1) (Some c.bytes) in
+      let r = with_finalized_view m v in
+      let e = with_view_entered r (v + 1) now in
+      let y = with_elected_leader elect e (v + 1) (Some c.bytes) in
       let z = with_finalization_at same elect y c in
       let up = on_joined base x m z (on_moment base x now) (on_joined base m r z (on_raised base m v) (on_joined base r e z (on_entered base r (v + 1) now (omega arith)) (on_joined base e y z (on_elected base elect e (v + 1) (Some c.bytes) (omega arith)) (on_finalized base same elect y c over)))) in
-      let w = woken elect z v in
-      on_if base x (is_some (round_of x v).finalization) z (slid w v) up (on_joined base x z (slid w v) up (on_joined base z w (slid w v) (on_woken base elect z v) (on_slid base w v over)))
+      let w = with_waiting_candidate elect z v in
+      on_if base x (is_some (round_of x v).finalization) z (with_window_leaders w v) up (on_joined base x z (with_window_leaders w v) up (on_joined base z w (with_window_leaders w v) (on_woken base elect z v) (on_slid base w v over)))
 
 module _ {K L D : Type 0} (base : ℕ) (elect : Elect L) (x : Facts K L D) where
   -- verdicts
 
   pub on_verdict : (v : ℕ) (success : Bool) (now : ℕ) → is_tracked x v ≡ true → base ≤ v → CalmOn base x (verdict_taken elect x v success now)
   on_verdict v true now tracked over =
-      let j = judged x v true in
-      let e = entered j (v + 1) now in
+      let j = with_verdict x v true in
+      let e = with_view_entered j (v + 1) now in
       on_joined base x j _ (on_there base x v _ tracked (calm_alike v (round_of x v) _ refl refl refl refl refl))
-      (on_joined base j e (woken elect e v) (on_entered base j (v + 1) now (omega arith)) (on_woken base elect e v))
+      (on_joined base j e (with_waiting_candidate elect e v) (on_entered base j (v + 1) now (omega arith)) (on_woken base elect e v))
   on_verdict v false now tracked over =
-      let j = judged x v false in
-      on_joined base x j (triggered j v FailedCertification now) (on_there base x v _ tracked (calm_alike v (round_of x v) _ refl refl refl refl refl)) (on_triggered base j v FailedCertification now)
+      let j = with_verdict x v false in
+      on_joined base x j (with_timeout j v FailedCertification now) (on_there base x v _ tracked (calm_alike v (round_of x v) _ refl refl refl refl refl)) (on_triggered base j v FailedCertification now)
 
 module _ {K L D : Type 0} (base : ℕ) (elect : Elect L) (x : Facts K L D) where
   pub on_certified : (v : ℕ) (success : Bool) (now : ℕ) → (is_tracked x v ≡ true → base ≤ v) → CalmOn base x (after_certified elect x v success now)

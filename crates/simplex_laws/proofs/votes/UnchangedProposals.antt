@@ -16,10 +16,10 @@ use Rattle.simplex_round.specs.Round.{RoundFacts, leader_at, with_latch}
 use Rattle.simplex_voter.specs.Facts.{Facts, Elect, round_at, round_of, is_tracked, with_round, with_tracked}
 use Rattle.simplex_voter.specs.Windows.{in_window}
 use Rattle.simplex_voter.specs.Payloads.{is_elected_early}
-use Rattle.simplex_voter.specs.Entering.{at_moment, entered, entered_round}
-use Rattle.simplex_voter.specs.Leaders.{has_leader, led, inherited, slid, elected, prepared}
-use Rattle.simplex_voter.specs.Timeouts.{triggered, is_contradicted}
-use Rattle.simplex_voter.specs.Certification.{named_also, raised, waits_for, woken, without_token}
+use Rattle.simplex_voter.specs.Entering.{at_moment, with_view_entered, entered_round}
+use Rattle.simplex_voter.specs.Leaders.{has_leader, with_leader_at, with_leader_of, with_window_leaders, with_elected_leader, with_next_view_ready}
+use Rattle.simplex_voter.specs.Timeouts.{with_timeout, is_contradicted}
+use Rattle.simplex_voter.specs.Certification.{named_also, with_finalized_view, waits_for, with_waiting_candidate, without_token}
 use Rattle.simplex_voter.specs.Acceptance.{with_notarization_at, with_nullification_at, with_finalization_at, with_finalization_broadcast}
 use Rattle.simplex_voter.proofs.Elsewhere.{round_of-with_round}
 use Rattle.simplex_types.proofs.Maps.{is_eq-nat_cmp}
@@ -92,53 +92,53 @@ module _ {K L D : Type 0} (base : ℕ) where
 
   -- leaders
 
-  pub on_led : (x : Facts K L D) (v member : ℕ) → base ≤ v → CalmOn base x (led x v member)
+  pub on_led : (x : Facts K L D) (v member : ℕ) → base ≤ v → CalmOn base x (with_leader_at x v member)
   on_led x v member over = by_leader (has_leader x v) refl
     where
       by_leader : (b : Bool) → has_leader x v ≡ b → CalmOn base x (if b then x else with_round x v (record (round_of x v) { leader = leader_at x.members member }))
       by_leader true is = on_same x
       by_leader false is = on_put x v _ over (calm_led v (round_of x v) (leader_at x.members member) is)
 
-  on_inherited : (x : Facts K L D) (from to : ℕ) → base ≤ to → CalmOn base x (inherited x from to)
+  on_inherited : (x : Facts K L D) (from to : ℕ) → base ≤ to → CalmOn base x (with_leader_of x from to)
   on_inherited x from to over = inherits (round_of x from).leader
     where
-      inherits : (leader : Option (Leader K)) → CalmOn base x (option_map_or (λ l. led x to l.idx) leader x)
+      inherits : (leader : Option (Leader K)) → CalmOn base x (option_map_or (λ l. with_leader_at x to l.idx) leader x)
       inherits None = on_same x
       inherits (Some l) = on_led x to l.idx over
 
-  slides : (low n : ℕ) (x : Facts K L D) → base ≤ low → CalmOn base x (fold (λ y w. inherited y (w - 1) w) x (range_with_len low n))
+  slides : (low n : ℕ) (x : Facts K L D) → base ≤ low → CalmOn base x (fold (λ y w. with_leader_of y (w - 1) w) x (range_with_len low n))
   slides low zero x over = on_same x
   slides low (suc n) x over =
-      let y = inherited x (low - 1) low in
-      on_joined x y (fold (λ y w. inherited y (w - 1) w) y (range_with_len (low + 1) n)) (on_inherited x (low - 1) low over) (slides (low + 1) n y (omega arith))
+      let y = with_leader_of x (low - 1) low in
+      on_joined x y (fold (λ y w. with_leader_of y (w - 1) w) y (range_with_len (low + 1) n)) (on_inherited x (low - 1) low over) (slides (low + 1) n y (omega arith))
 
-  pub on_slid : (x : Facts K L D) (v : ℕ) → base ≤ v → CalmOn base x (slid x v)
-  on_slid x v over = elim (nat_eq x.terms.optimistic_views 0) as (λ b. CalmOn base x (fold (λ y w. inherited y (w - 1) w) x (if b then [] else range_with_len (v + 1) (min (term_end x.terms.term_length v) (v + x.terms.optimistic_views + 1) - v)))) [
+  pub on_slid : (x : Facts K L D) (v : ℕ) → base ≤ v → CalmOn base x (with_window_leaders x v)
+  on_slid x v over = elim (nat_eq x.terms.optimistic_views 0) as (λ b. CalmOn base x (fold (λ y w. with_leader_of y (w - 1) w) x (if b then [] else range_with_len (v + 1) (min (term_end x.terms.term_length v) (v + x.terms.optimistic_views + 1) - v)))) [
     | true ↦ on_same x
     | false ↦ slides (v + 1) (min (term_end x.terms.term_length v) (v + x.terms.optimistic_views + 1) - v) x (omega arith)
   ]
 
-  pub on_elected : (elect : Elect L) (x : Facts K L D) (v : ℕ) (seed : Option (List ℕ)) → base ≤ v → CalmOn base x (elected elect x v seed)
+  pub on_elected : (elect : Elect L) (x : Facts K L D) (v : ℕ) (seed : Option (List ℕ)) → base ≤ v → CalmOn base x (with_elected_leader elect x v seed)
   on_elected elect x v seed over = on_led x v _ over
 
-  pub on_prepared : (elect : Elect L) (x : Facts K L D) (v : ℕ) → base ≤ v → CalmOn base x (prepared elect x v)
+  pub on_prepared : (elect : Elect L) (x : Facts K L D) (v : ℕ) → base ≤ v → CalmOn base x (with_next_view_ready elect x v)
   on_prepared elect x v over =
-      on_if x (in_window x (v + 1)) (inherited x v (v + 1)) _ (on_inherited x v (v + 1) (omega arith))
-      (on_if x ((round_of x v).notarize_decided && is_elected_early elect x (v + 1)) (elected elect x (v + 1) None) x (on_elected elect x (v + 1) None (omega arith)) (on_same x))
+      on_if x (in_window x (v + 1)) (with_leader_of x v (v + 1)) _ (on_inherited x v (v + 1) (omega arith))
+      (on_if x ((round_of x v).notarize_decided && is_elected_early elect x (v + 1)) (with_elected_leader elect x (v + 1) None) x (on_elected elect x (v + 1) None (omega arith)) (on_same x))
 
   -- entries, timeouts and candidates
 
-  pub on_entered : (x : Facts K L D) (v now : ℕ) → base ≤ v → CalmOn base x (entered x v now)
+  pub on_entered : (x : Facts K L D) (v now : ℕ) → base ≤ v → CalmOn base x (with_view_entered x v now)
   on_entered x v now over = enters (nat_lt x.current v) refl
     where
-      enters : (b : Bool) → nat_lt x.current v ≡ b → CalmOn base x (entered x v now)
+      enters : (b : Bool) → nat_lt x.current v ≡ b → CalmOn base x (with_view_entered x v now)
       enters true is =
           let r = entered_round x (round_of x v) now in
           let put = on_put x v r over (calm_alike v (round_of x v) r refl refl refl refl refl) in
           rw is (record { settings = refl; current = grind (arith, nat_tests); finalized = omega arith; nullified = refl; above = put.above; rounds = λ w. put.rounds w })
       enters false is = rw is (on_same x)
 
-  pub on_triggered : (x : Facts K L D) (v : ℕ) (reason : TimeoutReason) (now : ℕ) → CalmOn base x (triggered x v reason now)
+  pub on_triggered : (x : Facts K L D) (v : ℕ) (reason : TimeoutReason) (now : ℕ) → CalmOn base x (with_timeout x v reason now)
   on_triggered x v reason now = by_test (nat_le x.current v && is_tracked x v && not (is_contradicted reason (round_of x v))) refl
     where
       by_test : (b : Bool) → (nat_le x.current v && is_tracked x v && not (is_contradicted reason (round_of x v))) ≡ b → CalmOn base x (if b then with_round x v (with_latch (round_of x v) now reason) else x)
@@ -150,11 +150,11 @@ module _ {K L D : Type 0} (base : ℕ) where
   on_named : (x : Facts K L D) (v : ℕ) → CalmOn base x (named_also x v)
   on_named x v = on_if x (nat_lt x.finalized v) _ x (record { settings = refl; current = omega arith; finalized = omega arith; nullified = refl; above = λ above. above; rounds = λ w. calm w (round_of x w) }) (on_same x)
 
-  pub on_woken : (elect : Elect L) (x : Facts K L D) (p : ℕ) → CalmOn base x (woken elect x p)
+  pub on_woken : (elect : Elect L) (x : Facts K L D) (p : ℕ) → CalmOn base x (with_waiting_candidate elect x p)
   on_woken elect x p = on_if x (option_map_or (waits_for elect x p) (round_at x (p + 1)) false) (named_also x (p + 1)) x (on_named x (p + 1)) (on_same x)
 
-  pub on_named_slid : (x : Facts K L D) (v : ℕ) → base ≤ v → CalmOn base x (slid (named_also x v) v)
-  on_named_slid x v over = on_joined x (named_also x v) (slid (named_also x v) v) (on_named x v) (on_slid (named_also x v) v over)
+  pub on_named_slid : (x : Facts K L D) (v : ℕ) → base ≤ v → CalmOn base x (with_window_leaders (named_also x v) v)
+  on_named_slid x v over = on_joined x (named_also x v) (with_window_leaders (named_also x v) v) (on_named x v) (on_slid (named_also x v) v over)
 
   -- certificates
 
@@ -176,10 +176,10 @@ calm_aborted : {K D : Type 0} (w : ℕ) (b : Bool) (r : RoundFacts K D) → Calm
 calm_aborted w true r = calm_token w r
 calm_aborted w false r = calm w r
 
-pub on_raised : {K L D : Type 0} (base : ℕ) (x : Facts K L D) (v : ℕ) → CalmOn base x (raised x v)
+pub on_raised : {K L D : Type 0} (base : ℕ) (x : Facts K L D) (v : ℕ) → CalmOn base x (with_finalized_view x v)
 on_raised base x v = raises (nat_lt x.finalized v) refl
   where
-    raises : (b : Bool) → nat_lt x.finalized v ≡ b → CalmOn base x (raised x v)
+    raises : (b : Bool) → nat_lt x.finalized v ≡ b → CalmOn base x (with_finalized_view x v)
     raises true is = rw is (record {
       settings = refl;
       current = omega arith;

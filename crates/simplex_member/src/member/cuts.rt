@@ -3,7 +3,7 @@
 ghost use Rattle.std.specs.Prelude.{◌≡◌, ◌<◌, Bool, true, length, nat_le, filter};
 ghost use Rattle.simplex_types.specs.Certificates.{artifact_facts};
 ghost use Rattle.simplex_member.specs.Entries.{entries_of, entry_view};
-ghost use Rattle.simplex_member.specs.Cuts.{is_vote, finalized_by, may_drop, without_last, finalized_in, pruned};
+ghost use Rattle.simplex_member.specs.Cuts.{is_vote, finalized_by, may_drop, without_last, finalized_in, pruned_entries};
 
 use simplex_types::types::{Artifact, CertificateScheme, Digest, View, ViewDelta, Viewable};
 
@@ -25,12 +25,12 @@ pub fn drop_last<S: CertificateScheme, D: Digest>(
 }
 
 /// Drops every entry whose view is below the highest finalized one of the record by more than `retention` views.
-#[tactic(auto, unfolding(crate::specs::Cuts::pruned))]
+#[tactic(auto, unfolding(crate::specs::Cuts::pruned_entries))]
 pub fn prune_record<S: CertificateScheme, D: Digest>(
     entries: &mut Vec<Artifact<S, D>>,
     retention: ViewDelta,
 )
-    ensures { entries_of S.certificate_bytes entries.new.items ≡ pruned retention (entries_of S.certificate_bytes entries.old.items) }
+    ensures { entries_of S.certificate_bytes entries.new.items ≡ pruned_entries retention (entries_of S.certificate_bytes entries.old.items) }
 {
     let finalized = last_finalized(entries);
     let lowest = View::new(finalized.get().saturating_sub(retention.get()));

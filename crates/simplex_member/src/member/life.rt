@@ -69,7 +69,7 @@ impl<S: CertificateScheme, L: Elector<S>, D: Digest> Member<S, L, D> {
     ghost use Rattle.simplex_member.specs.Signed.{IsSignedReply};
     ghost use Rattle.simplex_member.specs.Typed.{is_reply_to, IfAnswered, IfRefused, IsAnswered, Keeps};
     ghost use Rattle.simplex_member.specs.Recovery.{recover_error};
-    ghost use Rattle.simplex_member.specs.Start.{set_up, started, IsDue};
+    ghost use Rattle.simplex_member.specs.Start.{set_up, started_member, IsDue};
     ghost use Rattle.simplex_types.specs.Config.{floor_facts};
 
     /// A member that never voted: its state starts at a floor, with nothing in its record but the floor's finalization. A
@@ -80,7 +80,7 @@ impl<S: CertificateScheme, L: Elector<S>, D: Digest> Member<S, L, D> {
     /// passes 2^64 - 1 milliseconds.
     pub fn start(alloc: Global, start: Start<S, L, D>) -> Result<Member<S, L, D>, RecoverError>
         requires { L.members start.settings.elector ≡ length (S.participants start.settings.scheme) }
-        ensures started { IfOk result (λ member. member ≡ started D.eq L.elect
+        ensures started { IfOk result (λ member. member ≡ started_member D.eq L.elect
             (set_up S.me S.participants L.terms L.elects_early start.settings) (floor_facts S.certificate_bytes start.floor) start.now) }
         ensures accepted { OnOk result (recover_error D.eq (set_up S.me S.participants L.terms L.elects_early start.settings)
             (floor_facts S.certificate_bytes start.floor) start.now [] ≡ None) }

@@ -11,7 +11,7 @@ ghost use Rattle.simplex_voter.specs.Facts.{round_number};
 ghost use Rattle.simplex_voter.specs.Refusals.{is_started};
 ghost use Rattle.simplex_member.specs.Calls.{told, asked};
 ghost use Rattle.simplex_member.specs.Allowed.{fault_of, is_ready};
-ghost use Rattle.simplex_member.specs.Made.{newly, answer, after_call, recorded_by};
+ghost use Rattle.simplex_member.specs.Made.{if_new, answer, after_call, recorded_by};
 ghost use Rattle.simplex_member.specs.Parts.{EndsBy, family_of, EndsCall};
 ghost use Rattle.simplex_member.specs.Openings.{no_openings};
 ghost use Rattle.simplex_member.specs.Signed.{is_vote_reply, signatures_of};
@@ -94,7 +94,7 @@ fn add_notarization<S: CertificateScheme, L: Elector<S>, D: Digest>(
     ensures answer { IfOk result (λ added. added ≡ notarization_added D.eq L.elect state.old (notarization_facts S.certificate_bytes notarization)) }
     ensures after { OnOk result (state.new ≡ after_add_notarization D.eq L.elect state.old (notarization_facts S.certificate_bytes notarization)) }
     ensures recorded { OnOk result (entries_of S.certificate_bytes artifacts.new.items
-        ≡ entries_of S.certificate_bytes artifacts.old.items ++ newly
+        ≡ entries_of S.certificate_bytes artifacts.old.items ++ if_new
         (notarization_added D.eq L.elect state.old (notarization_facts S.certificate_bytes notarization)).0
         (Accepted (Notarized (notarization_facts S.certificate_bytes notarization)))) }
     ensures refused { IfErr result (EndsBy (notarization_refusal state.old (notarization_facts S.certificate_bytes notarization)) state.old state.new) }
@@ -123,7 +123,7 @@ fn add_nullification<S: CertificateScheme, L: Elector<S>, D: Digest>(
     ensures answer { IfOk result (λ added. added ≡ nullification_added state.old (nullification_facts S.certificate_bytes nullification)) }
     ensures after { OnOk result (state.new ≡ after_add_nullification L.elect state.old (nullification_facts S.certificate_bytes nullification) now) }
     ensures recorded { OnOk result (entries_of S.certificate_bytes artifacts.new.items
-        ≡ entries_of S.certificate_bytes artifacts.old.items ++ newly
+        ≡ entries_of S.certificate_bytes artifacts.old.items ++ if_new
         (nullification_added state.old (nullification_facts S.certificate_bytes nullification))
         (Accepted (Nullified (nullification_facts S.certificate_bytes nullification)))) }
     ensures refused { IfErr result (EndsBy (nullification_refusal state.old (nullification_facts S.certificate_bytes nullification) now) state.old state.new) }
@@ -154,7 +154,7 @@ fn add_finalization<S: CertificateScheme, L: Elector<S>, D: Digest>(
     ensures answer { IfOk result (λ added. added ≡ finalization_added D.eq L.elect state.old (finalization_facts S.certificate_bytes finalization)) }
     ensures after { OnOk result (state.new ≡ after_add_finalization D.eq L.elect state.old (finalization_facts S.certificate_bytes finalization) now) }
     ensures recorded { OnOk result (entries_of S.certificate_bytes artifacts.new.items
-        ≡ entries_of S.certificate_bytes artifacts.old.items ++ newly
+        ≡ entries_of S.certificate_bytes artifacts.old.items ++ if_new
         (finalization_added D.eq L.elect state.old (finalization_facts S.certificate_bytes finalization)).0
         (Accepted (Finalized (finalization_facts S.certificate_bytes finalization)))) }
     ensures refused { IfErr result (EndsBy (finalization_refusal state.old finalization.proposal now) state.old state.new) }
@@ -185,7 +185,7 @@ pub(super) fn certified<S: CertificateScheme, L: Elector<S>, D: Digest>(
     ensures answer { IfOk result (λ answer. option_map (notarization_facts S.certificate_bytes) answer ≡ certified_answer state.old view) }
     ensures after { OnOk result (state.new ≡ after_certified L.elect state.old view success now) }
     ensures recorded { OnOk result (entries_of S.certificate_bytes artifacts.new.items ≡ entries_of S.certificate_bytes artifacts.old.items
-        ++ newly (is_first_verdict state.old view) (Verdict (round_number state.old view) success)) }
+        ++ if_new (is_first_verdict state.old view) (Verdict (round_number state.old view) success)) }
     ensures refused { IfErr result (EndsBy (certified_refusal state.old view success now) state.old state.new) }
     ensures same_record { OnErr result (entries_of S.certificate_bytes artifacts.new.items ≡ entries_of S.certificate_bytes artifacts.old.items) }
 {

@@ -8,7 +8,7 @@ ghost use Rattle.simplex_voter.specs.Acceptance.{floor_answer};
 ghost use Rattle.simplex_voter.specs.Refusals.{is_started, takes_round, has_late_deadline};
 ghost use Rattle.simplex_voter.specs.Replay.{TakesReplay, artifact_round, artifact_too_large};
 ghost use Rattle.simplex_member.specs.Entries.{entries_of};
-ghost use Rattle.simplex_member.specs.Recovery.{added, replayed, given, retaken, taken, all_taken, recovered, recover_error, GivesVerdict, TakesEntry, TakesNext, TakesEntries};
+ghost use Rattle.simplex_member.specs.Recovery.{after_adding, after_replaying, after_verdict_of, after_entry, after_kept_entry, after_entries, recovered_state, recover_error, GivesVerdict, TakesEntry, TakesNext, TakesEntries};
 ghost use Rattle.simplex_member.specs.Start.{set_up, IsDue};
 
 use super::check::check_record;
@@ -31,7 +31,7 @@ fn add<S: CertificateScheme, L: Elector<S>, D: Digest>(
     requires in_time { has_late_deadline state.old now ≡ false }
     requires kept { takes_round state.old (artifact_round artifact.now) ≡ true }
     requires small { artifact_too_large artifact.now ≡ false }
-    ensures after { OnOk result (state.new ≡ added D.eq L.elect state.old now (artifact_facts S.certificate_bytes artifact.now)) }
+    ensures after { OnOk result (state.new ≡ after_adding D.eq L.elect state.old now (artifact_facts S.certificate_bytes artifact.now)) }
     ensures refused { IfErr result (λ fault. fault ≡ OutOfMemory) }
 {
     match artifact {
@@ -65,7 +65,7 @@ fn replay<S: CertificateScheme, L: Elector<S>, D: Digest>(
     requires going_on { state.old.failed ≡ false }
     requires small { artifact_too_large artifact.now ≡ false }
     requires taken { TakesReplay state.old artifact.now }
-    ensures after { OnOk result (state.new ≡ replayed D.eq L.elect state.old (artifact_facts S.certificate_bytes artifact.now)) }
+    ensures after { OnOk result (state.new ≡ after_replaying D.eq L.elect state.old (artifact_facts S.certificate_bytes artifact.now)) }
     ensures refused { IfErr result (λ fault. fault ≡ OutOfMemory) }
 {
     state.replay(artifact)
@@ -80,7 +80,7 @@ fn give<S: CertificateScheme, L: Elector<S>, D: Digest>(
     requires going_on { state.old.failed ≡ false }
     requires in_time { has_late_deadline state.old now ≡ false }
     requires allowed { GivesVerdict state.old (artifact_facts S.certificate_bytes artifact.now) }
-    ensures after { OnOk result (state.new ≡ given L.elect state.old now (artifact_facts S.certificate_bytes artifact.now)) }
+    ensures after { OnOk result (state.new ≡ after_verdict_of L.elect state.old now (artifact_facts S.certificate_bytes artifact.now)) }
     ensures refused { IfErr result (λ fault. fault ≡ OutOfMemory) }
 {
     if let Artifact::Certification(round, success) = artifact {
@@ -100,7 +100,7 @@ fn take<S: CertificateScheme, L: Elector<S>, D: Digest>(
     requires in_time { has_late_deadline state.old now ≡ false }
     requires small { artifact_too_large artifact.now ≡ false }
     requires taken { TakesEntry S.certificate_bytes D.eq L.elect state.old now artifact.now }
-    ensures after { OnOk result (state.new ≡ retaken D.eq L.elect state.old now (artifact_facts S.certificate_bytes artifact.now)) }
+    ensures after { OnOk result (state.new ≡ after_entry D.eq L.elect state.old now (artifact_facts S.certificate_bytes artifact.now)) }
     ensures refused { IfErr result (λ fault. fault ≡ OutOfMemory) }
 {
     add(alloc, state, artifact, now)?;
@@ -119,7 +119,7 @@ fn take_kept<S: CertificateScheme, L: Elector<S>, D: Digest>(
     requires going_on { state.old.failed ≡ false }
     requires in_time { has_late_deadline state.old now ≡ false }
     requires next { TakesNext S.certificate_bytes D.eq L.elect state.old now artifact.now }
-    ensures after { OnOk result (state.new ≡ taken D.eq L.elect state.old now (artifact_facts S.certificate_bytes artifact.now)) }
+    ensures after { OnOk result (state.new ≡ after_kept_entry D.eq L.elect state.old now (artifact_facts S.certificate_bytes artifact.now)) }
     ensures refused { IfErr result (λ fault. fault ≡ OutOfMemory) }
 {
     if artifact.view() < state.min_active() {
@@ -138,7 +138,7 @@ fn take_all<S: CertificateScheme, L: Elector<S>, D: Digest>(
     requires going_on { state.old.failed ≡ false }
     requires in_time { has_late_deadline state.old now ≡ false }
     requires each { TakesEntries S.certificate_bytes D.eq L.elect state.old now entries.now }
-    ensures after { OnOk result (state.new ≡ all_taken D.eq L.elect state.old now (entries_of S.certificate_bytes entries.now)) }
+    ensures after { OnOk result (state.new ≡ after_entries D.eq L.elect state.old now (entries_of S.certificate_bytes entries.now)) }
     ensures refused { IfErr result (λ fault. fault ≡ OutOfMemory) }
 {
     for artifact in entries {
@@ -154,7 +154,7 @@ pub(super) fn remake<S: CertificateScheme, L: Elector<S>, D: Digest>(
     entries: &[Artifact<S, D>],
 ) -> Result<(State<S, L, D>, Option<Finalization<S, D>>), RecoverError>
     requires { L.members start.settings.elector ≡ length (S.participants start.settings.scheme) }
-    ensures recovered { IfOk result (λ made. made.0 ≡ recovered D.eq L.elect (set_up S.me S.participants L.terms L.elects_early start.settings)
+    ensures recovered { IfOk result (λ made. made.0 ≡ recovered_state D.eq L.elect (set_up S.me S.participants L.terms L.elects_early start.settings)
         (floor_facts S.certificate_bytes start.floor) start.now (entries_of S.certificate_bytes entries.now)) }
     ensures going_on { IfOk result (λ made. (made.0.failed ≡ false) × (is_started made.0 ≡ true)) }
     ensures floor { IfOk result (λ made. option_map (finalization_facts S.certificate_bytes) made.1
@@ -192,7 +192,7 @@ pub fn recover<S: CertificateScheme, L: Elector<S>, D: Digest>(
     entries: &[Artifact<S, D>],
 ) -> Result<State<S, L, D>, RecoverError>
     requires { L.members start.settings.elector ≡ length (S.participants start.settings.scheme) }
-    ensures recovered { IfOk result (λ state. state ≡ recovered D.eq L.elect (set_up S.me S.participants L.terms L.elects_early start.settings)
+    ensures recovered { IfOk result (λ state. state ≡ recovered_state D.eq L.elect (set_up S.me S.participants L.terms L.elects_early start.settings)
         (floor_facts S.certificate_bytes start.floor) start.now (entries_of S.certificate_bytes entries.now)) }
     ensures accepted { OnOk result (recover_error D.eq (set_up S.me S.participants L.terms L.elects_early start.settings)
         (floor_facts S.certificate_bytes start.floor) start.now (entries_of S.certificate_bytes entries.now) ≡ None) }

@@ -8,7 +8,7 @@ ghost use Rattle.simplex_voter.specs.Refusals.{is_started};
 ghost use Rattle.simplex_member.specs.Check.{stands};
 ghost use Rattle.simplex_member.specs.Entries.{entries_of, entry_view};
 ghost use Rattle.simplex_member.specs.Remade.{IsRemadeBy, IsRefusedBy};
-ghost use Rattle.simplex_member.specs.Recovery.{is_finalization, with_finalization, with_floor};
+ghost use Rattle.simplex_member.specs.Recovery.{is_finalization, with_finalization_entry, with_floor};
 ghost use Rattle.simplex_member.specs.Restarts.{IsByView};
 ghost use Rattle.simplex_member.specs.Start.{start_facts};
 ghost use Rattle.simplex_member.specs.declared.member.error.RecoverError.TheVariants.{OutOfMemory};
@@ -37,7 +37,7 @@ pub struct Restart<S: CertificateScheme, L: Elector<S>, D: Digest> {
 }
 
 impl<S: CertificateScheme, L: Elector<S>, D: Digest> Member<S, L, D> {
-    ghost use Rattle.simplex_member.specs.Restarts.{restart_facts, retention_grows, cut, GoesOn, IsRestart};
+    ghost use Rattle.simplex_member.specs.Restarts.{restart_facts, retention_grows, cut_member, GoesOn, IsRestart};
 
     /// Ends the member's life, also one that has failed, and begins another from its record.
     ///
@@ -71,7 +71,7 @@ impl<S: CertificateScheme, L: Elector<S>, D: Digest> Member<S, L, D> {
 
     /// Drops the last entries, and prunes the record where asked.
     fn cut(&mut self, drop: u64, prune: bool)
-        ensures { self.new ≡ cut self.old drop prune }
+        ensures { self.new ≡ cut_member self.old drop prune }
     {
         drop_last(&mut self.artifacts, self.closed, drop);
         if prune {
@@ -181,7 +181,7 @@ pub(super) fn keep_finalization<S: CertificateScheme, D: Digest>(
     finalization: Option<Finalization<S, D>>,
 ) -> Result<(), RecoverError>
     ensures kept { OnOk result (entries_of S.certificate_bytes artifacts.new.items
-        ≡ with_finalization (entries_of S.certificate_bytes artifacts.old.items) (option_map (finalization_facts S.certificate_bytes) finalization)) }
+        ≡ with_finalization_entry (entries_of S.certificate_bytes artifacts.old.items) (option_map (finalization_facts S.certificate_bytes) finalization)) }
     ensures same { OnErr result (artifacts.new.items ≡ artifacts.old.items) }
     ensures refused { IfErr result (λ error. error ≡ OutOfMemory) }
 {

@@ -4,7 +4,7 @@ ghost use Rattle.std.specs.Prelude.{◌≡◌, ◌<◌, ◌≤◌, ◌^◌, ◌+
 ghost use Rattle.std.specs.Option.{option_copied};
 ghost use Rattle.std.specs.FinMap as map;
 ghost use Rattle.simplex_types.specs.ByTerm.{is_covered};
-ghost use Rattle.simplex_resolver.specs.Facts.{covering_encoding, uncovered, end_of_scan};
+ghost use Rattle.simplex_resolver.specs.Facts.{covering_encoding, uncovered_anchors, end_of_scan};
 ghost use Rattle.simplex_resolver.specs.Steps.{missing_fetches, failure_fetches};
 
 use crate::resolver::effect::Effect;
@@ -47,7 +47,7 @@ pub(super) fn scan(
     requires current { current < 2 ^ 63 }
     ensures end { IfOk result (λ end. end ≡ end_of_scan term_length first current) }
     ensures fetched { OnOk result (effects.new.items ≡ effects.old.items
-        ++ missing_fetches cause (uncovered nullifications.now first current)) }
+        ++ missing_fetches cause (uncovered_anchors nullifications.now first current)) }
 {
     let mut anchor = first;
     while anchor < current {

@@ -22,13 +22,13 @@ pub struct ByTerm<V> {
 }
 
 impl<V> Model for ByTerm<V> {
-    ghost use Rattle.simplex_types.specs.ByTerm.{TermMap, term_map_code, joined, IsByTerm};
+    ghost use Rattle.simplex_types.specs.ByTerm.{TermMap, term_map_code, entries_by_view, IsByTerm};
 
     ghost Value = { TermMap V };
 
     ghost coded = { term_map_code V.code };
 
-    ghost view = { λ t. record { term_length = t.term_length; by_view = joined t.terms } };
+    ghost view = { λ t. record { term_length = t.term_length; by_view = entries_by_view t.terms } };
 
     ghost invariant = { λ t. IsByTerm t.term_length t.terms };
 }

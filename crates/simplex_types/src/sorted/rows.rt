@@ -3,7 +3,7 @@
 ghost use Rattle.std.specs.Prelude.{◌≡◌, suc, ◌+◌, ◌-◌, ◌^◌, ◌<◌, ◌≤◌, [], ◌++◌, drop, length, slice_index_or, slice_set, IfSome, IsSome, IfErr, OnOk, OnErr, ◌↔◌, IsTrue, IsFalse};
 ghost use Rattle.std.specs.List.{insert, remove};
 ghost use Rattle.std.specs.VecDeque.{deque_len, deque_capacity};
-ghost use Rattle.simplex_types.specs.Rows.{row_size, joined, IsCut, HasRoomAt, IsFull, EndsShort};
+ghost use Rattle.simplex_types.specs.Rows.{row_size, row_entries, IsCut, HasRoomAt, IsFull, EndsShort};
 
 use crate::types::AllocFailed;
 use std::alloc::{AllocError, Global};
@@ -26,13 +26,13 @@ pub struct Rows<T> {
 impl<T> Model for Rows<T> {
     ghost use Rattle.std.specs.Prelude.{List, ◌++◌};
     ghost use Rattle.std.specs.Coded.{coded_list};
-    ghost use Rattle.simplex_types.specs.Rows.{joined, IsInRows};
+    ghost use Rattle.simplex_types.specs.Rows.{row_entries, IsInRows};
 
     ghost Value = { List T };
 
     ghost coded = { coded_list T.code };
 
-    ghost view = { λ r. r.first.items ++ joined r.rest.items };
+    ghost view = { λ r. r.first.items ++ row_entries r.rest.items };
 
     ghost invariant = { λ r. IsInRows r.count r.first r.rest };
 }
@@ -172,8 +172,8 @@ impl<T: Drop> Rows<T> {
 
 /// The entry at a place of rows.
 fn at<T>(rows: &VecDeque<VecDeque<T>>, place: usize) -> &T
-    requires { IsCut rows.now.items × (place < length (joined rows.now.items)) }
-    ensures { result.now ≡ slice_index_or (joined rows.now.items) place result.now }
+    requires { IsCut rows.now.items × (place < length (row_entries rows.now.items)) }
+    ensures { result.now ≡ slice_index_or (row_entries rows.now.items) place result.now }
 {
     &rows[place / ROW][place % ROW]
 }
@@ -201,7 +201,7 @@ fn end_full_row<T>(
     rest: &mut VecDeque<VecDeque<T>>,
 ) -> Result<(), AllocError>
     requires { (deque_len first.old ≤ row_size) × IsCut rest.old.items }
-    ensures same { first.new.items ++ joined rest.new.items ≡ first.old.items ++ joined rest.old.items }
+    ensures same { first.new.items ++ row_entries rest.new.items ≡ first.old.items ++ row_entries rest.old.items }
     ensures places { (deque_len first.new ≤ row_size) × OnOk result (deque_len first.new < row_size) }
     ensures cut { IsCut rest.new.items }
 {
@@ -221,10 +221,10 @@ fn insert_in<T>(
     place: usize,
     value: T,
 ) -> Result<(), AllocFailed<T>>
-    requires { IsCut rows.old.items × (place ≤ length (joined rows.old.items)) }
-    ensures items { OnOk result (joined rows.new.items ≡ insert (joined rows.old.items) place value) }
+    requires { IsCut rows.old.items × (place ≤ length (row_entries rows.old.items)) }
+    ensures items { OnOk result (row_entries rows.new.items ≡ insert (row_entries rows.old.items) place value) }
     ensures value_returned { IfErr result (λ refused. refused.value ≡ value) }
-    ensures unchanged { OnErr result (joined rows.new.items ≡ joined rows.old.items) }
+    ensures unchanged { OnErr result (row_entries rows.new.items ≡ row_entries rows.old.items) }
     ensures cut { IsCut rows.new.items }
 {
     if make_room(rows).is_err() {
@@ -240,7 +240,7 @@ fn insert_in<T>(
 /// Makes room for one more entry in the last row.
 fn make_room<T>(rows: &mut VecDeque<VecDeque<T>>) -> Result<(), AllocError>
     requires { IsCut rows.old.items }
-    ensures same { joined rows.new.items ≡ joined rows.old.items }
+    ensures same { row_entries rows.new.items ≡ row_entries rows.old.items }
     ensures room { OnOk result (HasRoomAt (deque_len rows.new - 1) rows.new.items) }
     ensures cut { OnErr result (IsCut rows.new.items) }
 {
@@ -268,7 +268,7 @@ fn ends_full<T>(rows: &VecDeque<VecDeque<T>>) -> bool
 /// Puts an empty row behind full ones.
 fn add_row<T>(rows: &mut VecDeque<VecDeque<T>>) -> Result<(), AllocError>
     requires { IsFull rows.old.items }
-    ensures same { joined rows.new.items ≡ joined rows.old.items }
+    ensures same { row_entries rows.new.items ≡ row_entries rows.old.items }
     ensures room { OnOk result (HasRoomAt (deque_len rows.new - 1) rows.new.items) }
     ensures cut { OnErr result (IsCut rows.new.items) }
 {
@@ -282,7 +282,7 @@ fn add_row<T>(rows: &mut VecDeque<VecDeque<T>>) -> Result<(), AllocError>
 /// Hands one entry of each row from one on to the next, as far as a row that has room. The room is then in the first.
 fn hand_over<T>(rows: &mut VecDeque<VecDeque<T>>, from: usize, to: usize)
     requires { (from ≤ to) × HasRoomAt to rows.old.items }
-    ensures same { joined rows.new.items ≡ joined rows.old.items }
+    ensures same { row_entries rows.new.items ≡ row_entries rows.old.items }
     ensures room { HasRoomAt from rows.new.items }
 {
     let mut row = to;
@@ -295,7 +295,7 @@ fn hand_over<T>(rows: &mut VecDeque<VecDeque<T>>, from: usize, to: usize)
 /// Hands the last entry of a row to the next row, which has room.
 fn hand_on<T>(rows: &mut VecDeque<VecDeque<T>>, row: usize)
     requires { HasRoomAt (suc row) rows.old.items }
-    ensures same { joined rows.new.items ≡ joined rows.old.items }
+    ensures same { row_entries rows.new.items ≡ row_entries rows.old.items }
     ensures room { HasRoomAt row rows.new.items }
 {
     let Some(value) = rows[row].pop_back() else {
@@ -316,8 +316,8 @@ fn drop_at<T: Drop>(row: &mut VecDeque<T>, place: usize)
 
 /// Removes the entry at a place of rows. The first row then has room.
 fn remove_in<T: Drop>(rows: &mut VecDeque<VecDeque<T>>, place: usize)
-    requires { IsCut rows.old.items × (place < length (joined rows.old.items)) }
-    ensures removed { joined rows.new.items ≡ remove (joined rows.old.items) place }
+    requires { IsCut rows.old.items × (place < length (row_entries rows.old.items)) }
+    ensures removed { row_entries rows.new.items ≡ remove (row_entries rows.old.items) place }
     ensures room { HasRoomAt 0 rows.new.items }
 {
     let row = place / ROW;
@@ -328,7 +328,7 @@ fn remove_in<T: Drop>(rows: &mut VecDeque<VecDeque<T>>, place: usize)
 /// Fills the room in the row behind the first by the last entry of the first. Where there is none, it becomes the first.
 fn fill_room<T: Drop>(first: &mut VecDeque<T>, rest: &mut VecDeque<VecDeque<T>>)
     requires { (deque_len first.old ≤ row_size) × HasRoomAt 0 rest.old.items }
-    ensures same { first.new.items ++ joined rest.new.items ≡ first.old.items ++ joined rest.old.items }
+    ensures same { first.new.items ++ row_entries rest.new.items ≡ first.old.items ++ row_entries rest.old.items }
     ensures places { deque_len first.new ≤ row_size }
     ensures cut { IsCut rest.new.items }
 {

@@ -15,7 +15,7 @@ impl<S: CertificateScheme, L: Elector<S>, D: Digest> State<S, L, D> {
     ghost use Rattle.simplex_voter.specs.Facts.{round_at, is_tracked};
     ghost use Rattle.simplex_voter.specs.Refusals.{HasFailed, enters_late};
     ghost use Rattle.simplex_voter.specs.Entering.{at_moment};
-    ghost use Rattle.simplex_voter.specs.Certification.{waits_for, woken, takes_verdict, certified_refusal, certified_answer, judged, verdict_taken, after_certified};
+    ghost use Rattle.simplex_voter.specs.Certification.{waits_for, with_waiting_candidate, takes_verdict, certified_refusal, certified_answer, with_verdict, verdict_taken, after_certified};
 
     /// Takes the verdict of a view's certification. A true one enters the next view, where that is ahead, and names the
     /// view above where that waited for this one; a false one times the view out. Answers the view's notarization; where
@@ -138,7 +138,7 @@ impl<S: CertificateScheme, L: Elector<S>, D: Digest> State<S, L, D> {
     fn judge(&mut self, view: View, success: bool)
         requires taken { takes_verdict self.old view success ≡ true }
         requires tracked { is_tracked self.old view ≡ true }
-        ensures { self.new ≡ judged self.old view success }
+        ensures { self.new ≡ with_verdict self.old view success }
     {
         self.rounds.judge(view, success);
     }
@@ -146,7 +146,7 @@ impl<S: CertificateScheme, L: Elector<S>, D: Digest> State<S, L, D> {
     /// Once a view is certified or finalized, the view above it that waited for it is a candidate again.
     pub(super) fn wake(&mut self, view: View) -> Result<(), Fault>
         requires { view + 1 < 2 ^ 64 }
-        ensures woken { OnOk result (self.new ≡ woken L.elect self.old view) }
+        ensures woken { OnOk result (self.new ≡ with_waiting_candidate L.elect self.old view) }
         ensures refused { IfErr result (λ fault. fault ≡ OutOfMemory) }
         ensures setup { HasSameSetup self.old self.new }
     {

@@ -10,7 +10,7 @@ use simplex_types::types::{
 };
 
 impl<S: CertificateScheme, D: Digest> Rounds<S, D> {
-    ghost use Rattle.simplex_voter.specs.Rounds.{round_at, changed_in_place, HasSameOrigin};
+    ghost use Rattle.simplex_voter.specs.Rounds.{round_at, with_change_in_place, HasSameOrigin};
     ghost use Rattle.simplex_round.specs.Round.{once};
 
     /// Hands out the notarization of a view, once.
@@ -18,7 +18,7 @@ impl<S: CertificateScheme, D: Digest> Rounds<S, D> {
         ensures answer { IfOk result (λ c.
             option_map (notarization_facts S.certificate_bytes) c
             ≡ option_and_then (λ r. once r.notarization_broadcast r.notarization) (round_at self.old view)) }
-        ensures handed_out { OnOk result (self.new ≡ changed_in_place self.old view (λ r.
+        ensures handed_out { OnOk result (self.new ≡ with_change_in_place self.old view (λ r.
             record r { notarization_broadcast = r.notarization_broadcast || is_some r.notarization })) }
         ensures refused { IfErr result (λ fault. fault ≡ OutOfMemory) }
         ensures refused_only_a_copy { OnErr result (is_some
@@ -36,7 +36,7 @@ impl<S: CertificateScheme, D: Digest> Rounds<S, D> {
         ensures answer { IfOk result (λ c.
             option_map (nullification_facts S.certificate_bytes) c
             ≡ option_and_then (λ r. once r.nullification_broadcast r.nullification) (round_at self.old view)) }
-        ensures handed_out { OnOk result (self.new ≡ changed_in_place self.old view (λ r.
+        ensures handed_out { OnOk result (self.new ≡ with_change_in_place self.old view (λ r.
             record r { nullification_broadcast = r.nullification_broadcast || is_some r.nullification })) }
         ensures refused { IfErr result (λ fault. fault ≡ OutOfMemory) }
         ensures refused_only_a_copy { OnErr result (is_some
@@ -54,7 +54,7 @@ impl<S: CertificateScheme, D: Digest> Rounds<S, D> {
         ensures answer { IfOk result (λ c.
             option_map (finalization_facts S.certificate_bytes) c
             ≡ option_and_then (λ r. once r.finalization_broadcast r.finalization) (round_at self.old view)) }
-        ensures handed_out { OnOk result (self.new ≡ changed_in_place self.old view (λ r.
+        ensures handed_out { OnOk result (self.new ≡ with_change_in_place self.old view (λ r.
             record r { finalization_broadcast = r.finalization_broadcast || is_some r.finalization })) }
         ensures refused { IfErr result (λ fault. fault ≡ OutOfMemory) }
         ensures refused_only_a_copy { OnErr result (is_some

@@ -13,14 +13,14 @@ use simplex_types::types::{CertificateScheme, Digest, Fault, Proposal, View};
 
 impl<S: CertificateScheme, D: Digest> Rounds<S, D> {
     ghost use Rattle.simplex_voter.specs.Refusals.{is_past_u64};
-    ghost use Rattle.simplex_voter.specs.Rounds.{is_tracked, round_at, round_of, changed, changed_in_place, HasSameOrigin};
+    ghost use Rattle.simplex_voter.specs.Rounds.{is_tracked, round_at, round_of, with_change, with_change_in_place, HasSameOrigin};
     ghost use Rattle.simplex_voter.specs.Proposing.{build_requested};
 
     /// Decides the vote to finalize a view, whose round allows that, and answers what is voted for.
     pub fn decide_finalize(&mut self, view: View) -> Option<Proposal<D>>
         requires { can_finalize (round_of self.old view) ≡ true }
         ensures vote { result ≡ (round_of self.old view).slot.held }
-        ensures decided { self.new ≡ changed self.old view (λ r. record r { decision = Finalize }) }
+        ensures decided { self.new ≡ with_change self.old view (λ r. record r { decision = Finalize }) }
         ensures origin { HasSameOrigin self.old self.new }
     {
         let Some(round) = self.by_view.get_mut(view) else {
@@ -32,7 +32,7 @@ impl<S: CertificateScheme, D: Digest> Rounds<S, D> {
     /// Keeps the verdict of a view's certification. No contradicting one stands.
     pub fn judge(&mut self, view: View, success: bool)
         requires { option_map_or (λ r. is_judged (not success) r.certification) (round_at self.old view) false ≡ false }
-        ensures judged { self.new ≡ changed_in_place self.old view (λ r. certified_round r success) }
+        ensures judged { self.new ≡ with_change_in_place self.old view (λ r. certified_round r success) }
         ensures origin { HasSameOrigin self.old self.new }
     {
         let Some(round) = self.by_view.get_mut(view) else {
@@ -44,7 +44,7 @@ impl<S: CertificateScheme, D: Digest> Rounds<S, D> {
     /// Latches an explicit timeout of a view, and answers whether it did: the first one stays.
     pub fn latch(&mut self, view: View, now: u64, reason: TimeoutReason) -> bool
         ensures answer { result ≡ (is_tracked self.old view && awaits_latch (round_of self.old view)) }
-        ensures latched { self.new ≡ changed_in_place self.old view (λ r. with_latch r now reason) }
+        ensures latched { self.new ≡ with_change_in_place self.old view (λ r. with_latch r now reason) }
         ensures origin { HasSameOrigin self.old self.new }
     {
         let Some(round) = self.by_view.get_mut(view) else {
@@ -64,7 +64,7 @@ impl<S: CertificateScheme, D: Digest> Rounds<S, D> {
     ) -> Result<Option<(u64, TimeoutReason)>, Fault>
         ensures late { is_err result ≡ (awaits_retry (round_of self.old view) && is_past_u64 (now + retry)) }
         ensures refused { IfErr result (λ fault. (fault ≡ TimeOverflow) × (self.new ≡ self.old)) }
-        ensures polled { OnOk result (self.new ≡ changed_in_place self.old view (λ r. with_retry r now retry)) }
+        ensures polled { OnOk result (self.new ≡ with_change_in_place self.old view (λ r. with_retry r now retry)) }
         ensures answer { IfOk result (λ timeout.
             timeout ≡ option_and_then (λ r. round_timeout (with_retry r now retry) allow_latched) (round_at self.old view)) }
         ensures origin { HasSameOrigin self.old self.new }
@@ -77,7 +77,7 @@ impl<S: CertificateScheme, D: Digest> Rounds<S, D> {
 
     /// Keeps the token of a view's certification, in place of all before.
     pub fn set_certify_handle(&mut self, view: View, token: u64)
-        ensures set { self.new ≡ changed_in_place self.old view (λ r. record r { certification = Outstanding token }) }
+        ensures set { self.new ≡ with_change_in_place self.old view (λ r. record r { certification = Outstanding token }) }
         ensures origin { HasSameOrigin self.old self.new }
     {
         let Some(round) = self.by_view.get_mut(view) else {
@@ -88,7 +88,7 @@ impl<S: CertificateScheme, D: Digest> Rounds<S, D> {
 
     /// Clears the request to build a proposal in a view.
     pub fn release(&mut self, view: View)
-        ensures released { self.new ≡ changed_in_place self.old view (λ r. record r { slot = build_requested false r.slot }) }
+        ensures released { self.new ≡ with_change_in_place self.old view (λ r. record r { slot = build_requested false r.slot }) }
         ensures origin { HasSameOrigin self.old self.new }
     {
         let Some(round) = self.by_view.get_mut(view) else {

@@ -12,7 +12,7 @@ use simplex_types::types::{
 };
 
 impl<S: CertificateScheme, D: Digest> Rounds<S, D> {
-    ghost use Rattle.simplex_voter.specs.Rounds.{round_of, changed, largest_tracked, HasSameOrigin};
+    ghost use Rattle.simplex_voter.specs.Rounds.{round_of, with_change, largest_tracked, HasSameOrigin};
     ghost use Rattle.simplex_voter.specs.Acceptance.{added_answer};
     ghost use Rattle.simplex_voter.specs.Verifying.{is_new_proposal, with_proposal};
 
@@ -25,7 +25,7 @@ impl<S: CertificateScheme, D: Digest> Rounds<S, D> {
         requires { view < 2 ^ 63 }
         ensures added { IfOk result (λ added.
             added ≡ added_answer D.eq (round_of self.old view).notarization (round_of self.old view) notarization.proposal) }
-        ensures kept { OnOk result (self.new ≡ changed self.old view (λ r.
+        ensures kept { OnOk result (self.new ≡ with_change self.old view (λ r.
             with_notarization (same_proposal D.eq) r (notarization_facts S.certificate_bytes notarization))) }
         ensures refused { IfErr result (λ fault. fault ≡ OutOfMemory) }
         ensures origin { HasSameOrigin self.old self.new }
@@ -44,7 +44,7 @@ impl<S: CertificateScheme, D: Digest> Rounds<S, D> {
         nullification: Nullification<S>,
     ) -> Result<(), Fault>
         requires { view ≤ largest_tracked }
-        ensures kept { OnOk result (self.new ≡ changed self.old view (λ r. with_nullification r (nullification_facts S.certificate_bytes nullification))) }
+        ensures kept { OnOk result (self.new ≡ with_change self.old view (λ r. with_nullification r (nullification_facts S.certificate_bytes nullification))) }
         ensures refused { IfErr result (λ fault. fault ≡ OutOfMemory) }
         ensures origin { HasSameOrigin self.old self.new }
     {
@@ -65,7 +65,7 @@ impl<S: CertificateScheme, D: Digest> Rounds<S, D> {
         requires { view ≤ largest_tracked }
         ensures added { IfOk result (λ added.
             added ≡ added_answer D.eq (round_of self.old view).finalization (round_of self.old view) finalization.proposal) }
-        ensures kept { OnOk result (self.new ≡ changed self.old view (λ r.
+        ensures kept { OnOk result (self.new ≡ with_change self.old view (λ r.
             with_finalization (same_proposal D.eq) r (finalization_facts S.certificate_bytes finalization))) }
         ensures refused { IfErr result (λ fault. fault ≡ OutOfMemory) }
         ensures origin { HasSameOrigin self.old self.new }
@@ -81,7 +81,7 @@ impl<S: CertificateScheme, D: Digest> Rounds<S, D> {
     pub fn take_proposal(&mut self, view: View, proposal: &Proposal<D>) -> Result<bool, Fault>
         requires { view ≤ largest_tracked }
         ensures first { IfOk result (λ first. first ≡ is_new_proposal (round_of self.old view)) }
-        ensures taken { OnOk result (self.new ≡ changed self.old view (λ r. with_proposal D.eq r proposal.now)) }
+        ensures taken { OnOk result (self.new ≡ with_change self.old view (λ r. with_proposal D.eq r proposal.now)) }
         ensures refused { IfErr result (λ fault. fault ≡ OutOfMemory) }
         ensures origin { HasSameOrigin self.old self.new }
     {

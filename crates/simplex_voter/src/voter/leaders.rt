@@ -11,12 +11,12 @@ use simplex_types::types::{CertificateScheme, Digest, Elector, Fault, View};
 impl<S: CertificateScheme, L: Elector<S>, D: Digest> State<S, L, D> {
     ghost use Rattle.simplex_voter.specs.Setup.{HasSameSetup};
     ghost use Rattle.simplex_voter.specs.Rounds.{largest_tracked};
-    ghost use Rattle.simplex_voter.specs.Leaders.{inherited, opened_views, slid};
+    ghost use Rattle.simplex_voter.specs.Leaders.{with_leader_of, opened_views, with_window_leaders};
 
     /// The leader of one view, where it is known, goes on to another that has none.
     pub(super) fn inherit(&mut self, from: View, to: View) -> Result<(), Fault>
         requires { to ≤ largest_tracked }
-        ensures inherited { OnOk result (self.new ≡ inherited self.old from to) }
+        ensures inherited { OnOk result (self.new ≡ with_leader_of self.old from to) }
         ensures refused { IfErr result (λ fault. fault ≡ OutOfMemory) }
         ensures setup { HasSameSetup self.old self.new }
     {
@@ -26,7 +26,7 @@ impl<S: CertificateScheme, L: Elector<S>, D: Digest> State<S, L, D> {
     /// Each view whose window a certificate of this view opens takes the leader of the view before it, in turn.
     pub(super) fn slide(&mut self, view: View) -> Result<(), Fault>
         requires { IsVotable view }
-        ensures slid { OnOk result (self.new ≡ slid self.old view) }
+        ensures slid { OnOk result (self.new ≡ with_window_leaders self.old view) }
         ensures refused { IfErr result (λ fault. fault ≡ OutOfMemory) }
         ensures setup { HasSameSetup self.old self.new }
     {

@@ -14,7 +14,7 @@ use simplex_types::types::{
 impl<S: CertificateScheme, L: Elector<S>, D: Digest> State<S, L, D> {
     ghost use Rattle.simplex_voter.specs.Setup.{HasSameSetup};
     ghost use Rattle.simplex_voter.specs.Facts.{round_of};
-    ghost use Rattle.simplex_voter.specs.Leaders.{prepared};
+    ghost use Rattle.simplex_voter.specs.Leaders.{with_next_view_ready};
     ghost use Rattle.simplex_voter.specs.Refusals.{HasFailed, plain_refusal, is_started};
     ghost use Rattle.simplex_voter.specs.Rules.{has_ancestry, may_notarize};
     ghost use Rattle.simplex_voter.specs.Votes.{notarize_answer, signed_proposal, notarize_cast, after_construct_notarize, IsSignedNotarize};
@@ -55,7 +55,7 @@ impl<S: CertificateScheme, L: Elector<S>, D: Digest> State<S, L, D> {
         S: Scheme<D>,
         requires may { can_notarize (round_of self.old view) ≡ true }
         requires view { view < largest_tracked }
-        ensures cast { OnOk result (self.new ≡ prepared L.elect (notarize_cast self.old view) view) }
+        ensures cast { OnOk result (self.new ≡ with_next_view_ready L.elect (notarize_cast self.old view) view) }
         ensures vote { IfOk result (λ vote. option_map (λ v. v.proposal) vote ≡ signed_proposal self.old view) }
         ensures signed { IfOk result (λ vote. IfSome vote (IsSignedNotarize S.IsSignature self.old)) }
         ensures refused { IfErr result (λ fault. fault ≡ OutOfMemory) }

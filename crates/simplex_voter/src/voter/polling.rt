@@ -50,7 +50,7 @@ fn or_stalled(stall: Option<u64>, now: u64, timeout: (u64, TimeoutReason)) -> (u
 impl<S: CertificateScheme, L: Elector<S>, D: Digest> State<S, L, D> {
     ghost use Rattle.simplex_voter.specs.Facts.{round_of, with_tracked};
     ghost use Rattle.simplex_voter.specs.Refusals.{is_past_u64, is_started};
-    ghost use Rattle.simplex_voter.specs.Timeouts.{after_next_timeout, has_skip_budget, has_timeout, next_timeout_answer, next_timeout_refusal, polled};
+    ghost use Rattle.simplex_voter.specs.Timeouts.{after_next_timeout, has_skip_budget, has_timeout, next_timeout_answer, next_timeout_refusal, round_with_retry};
 
     /// Whether the current view has a timeout. Once a floor is set, it lacks one only where it is finalized, or this
     /// member voted to finalize it, or its held proposal is certified and no latched timeout counts.
@@ -94,8 +94,8 @@ impl<S: CertificateScheme, L: Elector<S>, D: Digest> State<S, L, D> {
     fn poll(&mut self, now: u64) -> Result<Option<(u64, TimeoutReason)>, Fault>
         ensures late { is_err result ≡ (awaits_retry (round_of self.old self.old.current) && is_past_u64 (now + self.old.settings.timeout_retry)) }
         ensures refused { IfErr result (λ fault. (fault ≡ TimeOverflow) × (self.new ≡ self.old)) }
-        ensures polled { OnOk result (self.new ≡ with_tracked self.old self.old.current (polled self.old now)) }
-        ensures answer { IfOk result (λ timeout. timeout ≡ round_timeout (polled self.old now) (has_skip_budget self.old)) }
+        ensures polled { OnOk result (self.new ≡ with_tracked self.old self.old.current (round_with_retry self.old now)) }
+        ensures answer { IfOk result (λ timeout. timeout ≡ round_timeout (round_with_retry self.old now) (has_skip_budget self.old)) }
     {
         let allow_latched = self.has_skip_budget();
         self.rounds

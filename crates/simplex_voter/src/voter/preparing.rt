@@ -9,13 +9,13 @@ use simplex_types::types::{CertificateScheme, Digest, Elector, Fault, View};
 impl<S: CertificateScheme, L: Elector<S>, D: Digest> State<S, L, D> {
     ghost use Rattle.simplex_voter.specs.Setup.{HasSameSetup};
     ghost use Rattle.simplex_voter.specs.Rounds.{largest_tracked};
-    ghost use Rattle.simplex_voter.specs.Leaders.{prepared};
+    ghost use Rattle.simplex_voter.specs.Leaders.{with_next_view_ready};
 
     /// The next view takes the leader of this one in its window; at a term's start, after a vote here, this member leads
     /// it where it is elected early.
     pub(super) fn prepare(&mut self, view: View) -> Result<(), Fault>
         requires { view < largest_tracked }
-        ensures prepared { OnOk result (self.new ≡ prepared L.elect self.old view) }
+        ensures prepared { OnOk result (self.new ≡ with_next_view_ready L.elect self.old view) }
         ensures refused { IfErr result (λ fault. fault ≡ OutOfMemory) }
         ensures setup { HasSameSetup self.old self.new }
     {

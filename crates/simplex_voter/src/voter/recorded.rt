@@ -28,7 +28,7 @@ fn recall_round<S: CertificateScheme, D: Digest>(
 }
 
 impl<S: CertificateScheme, D: Digest> Rounds<S, D> {
-    ghost use Rattle.simplex_voter.specs.Rounds.{round_of, changed, largest_tracked, HasSameOrigin};
+    ghost use Rattle.simplex_voter.specs.Rounds.{round_of, with_change, largest_tracked, HasSameOrigin};
 
     /// The round of a view takes an entry of the record, with a binding where there is one. The view is tracked from then
     /// on.
@@ -40,7 +40,7 @@ impl<S: CertificateScheme, D: Digest> Rounds<S, D> {
     ) -> Result<(), Fault>
         requires in_range { view ≤ largest_tracked }
         requires taken { TakesArtifact (round_of self.old view) artifact.now }
-        ensures recalled { OnOk result (self.new ≡ changed self.old view (λ r. bound_again (after_replay (same_proposal D.eq) r artifact.now) binding)) }
+        ensures recalled { OnOk result (self.new ≡ with_change self.old view (λ r. bound_again (after_replay (same_proposal D.eq) r artifact.now) binding)) }
         ensures refused { IfErr result (λ fault. fault ≡ OutOfMemory) }
         ensures origin { HasSameOrigin self.old self.new }
     {

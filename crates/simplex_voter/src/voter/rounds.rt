@@ -59,7 +59,7 @@ impl<S: CertificateScheme, D: Digest> Model for Rounds<S, D> {
 }
 
 impl<S: CertificateScheme, D: Digest> Rounds<S, D> {
-    ghost use Rattle.simplex_voter.specs.Rounds.{no_rounds, round_at, round_of, with_round, changed, led, inherited, with_entry, largest_tracked, HasSameOrigin};
+    ghost use Rattle.simplex_voter.specs.Rounds.{no_rounds, round_at, round_of, with_round, with_change, rounds_with_leader, rounds_with_leader_of, with_entry, largest_tracked, HasSameOrigin};
 
     /// No view is tracked.
     pub fn new(alloc: Global, scheme: S, epoch: Epoch) -> Rounds<S, D>
@@ -119,7 +119,7 @@ impl<S: CertificateScheme, D: Digest> Rounds<S, D> {
     pub fn lead(&mut self, view: View, leader: Participant) -> Result<(), Fault>
         requires in_range { view ≤ largest_tracked }
         requires member { leader < length self.old.members }
-        ensures led { OnOk result (self.new ≡ led self.old view leader) }
+        ensures led { OnOk result (self.new ≡ rounds_with_leader self.old view leader) }
         ensures refused { IfErr result (λ fault. fault ≡ OutOfMemory) }
         ensures origin { HasSameOrigin self.old self.new }
     {
@@ -137,7 +137,7 @@ impl<S: CertificateScheme, D: Digest> Rounds<S, D> {
     /// The leader of one view, where it is known, goes on to another that has none.
     pub fn inherit(&mut self, from: View, to: View) -> Result<(), Fault>
         requires { to ≤ largest_tracked }
-        ensures inherited { OnOk result (self.new ≡ inherited self.old from to) }
+        ensures inherited { OnOk result (self.new ≡ rounds_with_leader_of self.old from to) }
         ensures refused { IfErr result (λ fault. fault ≡ OutOfMemory) }
         ensures origin { HasSameOrigin self.old self.new }
     {
@@ -183,7 +183,7 @@ impl<S: CertificateScheme, D: Digest> Rounds<S, D> {
     /// Notes the entry of a view, the first one, and arms its deadlines.
     pub fn enter(&mut self, view: View, now: u64, deadlines: &Deadlines) -> Result<(), Fault>
         requires { view ≤ largest_tracked }
-        ensures entered { OnOk result (self.new ≡ changed self.old view (λ r. with_entry r now deadlines.now)) }
+        ensures entered { OnOk result (self.new ≡ with_change self.old view (λ r. with_entry r now deadlines.now)) }
         ensures refused { IfErr result (λ fault. fault ≡ OutOfMemory) }
         ensures origin { HasSameOrigin self.old self.new }
     {
@@ -199,7 +199,7 @@ impl<S: CertificateScheme, D: Digest> Rounds<S, D> {
     /// Decides the vote to nullify a view, unless the vote to finalize it was decided.
     pub fn decide_nullify(&mut self, view: View) -> Result<(), Fault>
         requires { view ≤ largest_tracked }
-        ensures decided { OnOk result (self.new ≡ changed self.old view after_nullify) }
+        ensures decided { OnOk result (self.new ≡ with_change self.old view after_nullify) }
         ensures refused { IfErr result (λ fault. fault ≡ OutOfMemory) }
         ensures origin { HasSameOrigin self.old self.new }
     {

@@ -91,8 +91,8 @@ impl<S: CertificateScheme, L: Elector<S>, D: Digest> State<S, L, D> {
     ghost use Rattle.simplex_voter.specs.Rounds.{largest_tracked};
     ghost use Rattle.simplex_voter.specs.Setup.{HasSameSetup, deadlines_at};
     ghost use Rattle.simplex_voter.specs.Refusals.{has_late_deadline, enters_late};
-    ghost use Rattle.simplex_voter.specs.Entering.{at_moment, entered};
-    ghost use Rattle.simplex_voter.specs.Leaders.{led, elected};
+    ghost use Rattle.simplex_voter.specs.Entering.{at_moment, with_view_entered};
+    ghost use Rattle.simplex_voter.specs.Leaders.{with_leader_at, with_elected_leader};
 
     /// A state that has no floor yet: nothing is known, and no view is entered.
     pub fn new(alloc: Global, config: Config<S, L>) -> State<S, L, D>
@@ -172,7 +172,7 @@ impl<S: CertificateScheme, L: Elector<S>, D: Digest> State<S, L, D> {
     pub(super) fn enter(&mut self, view: View, now: u64, deadlines: &Deadlines) -> Result<(), Fault>
         requires in_range { view ≤ largest_current }
         requires deadlines { nat_lt self.old.current view ≡ true → deadlines.now ≡ deadlines_at self.old now }
-        ensures entered { OnOk result (self.new ≡ entered self.old view now) }
+        ensures entered { OnOk result (self.new ≡ with_view_entered self.old view now) }
         ensures refused { IfErr result (λ fault. fault ≡ OutOfMemory) }
         ensures setup { HasSameSetup self.old self.new }
     {
@@ -191,7 +191,7 @@ impl<S: CertificateScheme, L: Elector<S>, D: Digest> State<S, L, D> {
         certificate: Option<&S::Certificate>,
     ) -> Result<(), Fault>
         requires { view ≤ largest_tracked }
-        ensures elected { OnOk result (self.new ≡ elected L.elect self.old view (option_map S.certificate_bytes (option_copied certificate.entry))) }
+        ensures elected { OnOk result (self.new ≡ with_elected_leader L.elect self.old view (option_map S.certificate_bytes (option_copied certificate.entry))) }
         ensures refused { IfErr result (λ fault. fault ≡ OutOfMemory) }
         ensures setup { HasSameSetup self.old self.new }
     {
@@ -238,7 +238,7 @@ impl<S: CertificateScheme, L: Elector<S>, D: Digest> State<S, L, D> {
     pub(super) fn set_leader(&mut self, view: View, leader: Participant) -> Result<(), Fault>
         requires in_range { view ≤ largest_tracked }
         requires member { leader < length self.old.members }
-        ensures led { OnOk result (self.new ≡ led self.old view leader) }
+        ensures led { OnOk result (self.new ≡ with_leader_at self.old view leader) }
         ensures refused { IfErr result (λ fault. fault ≡ OutOfMemory) }
         ensures setup { HasSameSetup self.old self.new }
     {

@@ -10,7 +10,7 @@ impl<S: CertificateScheme, L: Elector<S>, D: Digest> State<S, L, D> {
     ghost use Rattle.simplex_voter.specs.Facts.{is_tracked, round_of, with_tracked};
     ghost use Rattle.simplex_round.specs.Round.{awaits_latch, with_latch};
     ghost use Rattle.simplex_voter.specs.Refusals.{is_started, plain_refusal};
-    ghost use Rattle.simplex_voter.specs.Timeouts.{after_trigger_timeout, is_contradicted, trigger_answer, triggered};
+    ghost use Rattle.simplex_voter.specs.Timeouts.{after_trigger_timeout, is_contradicted, trigger_answer, with_timeout};
 
     /// Times a view out at its next poll, for a reason and at a moment in milliseconds: the first such timeout of a view
     /// stays, and none comes once either vote was decided. A view that is passed or isn't tracked stays as it is, and so
@@ -41,7 +41,7 @@ impl<S: CertificateScheme, L: Elector<S>, D: Digest> State<S, L, D> {
     /// whether this timeout was latched.
     pub(super) fn trigger(&mut self, view: View, reason: TimeoutReason, now: u64) -> bool
         ensures answer { result ≡ trigger_answer self.old view reason }
-        ensures triggered { self.new ≡ triggered self.old view reason now }
+        ensures triggered { self.new ≡ with_timeout self.old view reason now }
     {
         if view < self.current {
             return false;

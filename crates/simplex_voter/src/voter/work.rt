@@ -22,14 +22,14 @@ fn proposal_of<D: Digest, P: Copy>(context: &Context<D, P>, payload: D) -> Propo
 }
 
 impl<S: CertificateScheme, D: Digest> Rounds<S, D> {
-    ghost use Rattle.simplex_voter.specs.Rounds.{round_at, round_of, changed, changed_in_place, HasSameOrigin};
+    ghost use Rattle.simplex_voter.specs.Rounds.{round_at, round_of, with_change, with_change_in_place, HasSameOrigin};
     ghost use Rattle.simplex_voter.specs.Proposing.{build_requested, proposed_round};
-    ghost use Rattle.simplex_voter.specs.Verifying.{with_request, verifying_round, with_mark, unbound};
+    ghost use Rattle.simplex_voter.specs.Verifying.{with_request, verifying_round, with_mark, with_nothing_bound};
 
     /// Sets the request to build a proposal in a view that is ready for it.
     pub fn ask_to_build(&mut self, view: View)
         requires { should_propose (round_of self.old view) ≡ true }
-        ensures asked { self.new ≡ changed_in_place self.old view (λ r. record r { slot = build_requested true r.slot }) }
+        ensures asked { self.new ≡ with_change_in_place self.old view (λ r. record r { slot = build_requested true r.slot }) }
         ensures origin { HasSameOrigin self.old self.new }
     {
         let Some(round) = self.by_view.get_mut(view) else {
@@ -40,7 +40,7 @@ impl<S: CertificateScheme, D: Digest> Rounds<S, D> {
 
     /// Notes that the verification of a view's proposal asks for a certificate of another view.
     pub fn note_request(&mut self, view: View, wanted: View)
-        ensures noted { self.new ≡ changed_in_place self.old view (λ r. with_request r wanted) }
+        ensures noted { self.new ≡ with_change_in_place self.old view (λ r. with_request r wanted) }
         ensures origin { HasSameOrigin self.old self.new }
     {
         let Some(round) = self.by_view.get_mut(view) else {
@@ -52,7 +52,7 @@ impl<S: CertificateScheme, D: Digest> Rounds<S, D> {
     /// Gives the proposal of a view out to be verified, bound to its parent's payload.
     pub fn give_out(&mut self, view: View, payload: D)
         requires { is_some (pending_proposal (round_of self.old view)) ≡ true }
-        ensures given { self.new ≡ changed_in_place self.old view (λ r. verifying_round r payload) }
+        ensures given { self.new ≡ with_change_in_place self.old view (λ r. verifying_round r payload) }
         ensures origin { HasSameOrigin self.old self.new }
     {
         let Some(round) = self.by_view.get_mut(view) else {
@@ -68,7 +68,7 @@ impl<S: CertificateScheme, D: Digest> Rounds<S, D> {
     /// Marks the held proposal of a view as verified, and answers whether it did.
     pub fn mark(&mut self, view: View) -> bool
         ensures first { result ≡ option_map_or (λ r. not (is_nullify r.decision) && is_unverified r.slot) (round_at self.old view) false }
-        ensures marked { self.new ≡ changed_in_place self.old view with_mark }
+        ensures marked { self.new ≡ with_change_in_place self.old view with_mark }
         ensures origin { HasSameOrigin self.old self.new }
     {
         let Some(round) = self.by_view.get_mut(view) else {
@@ -79,7 +79,7 @@ impl<S: CertificateScheme, D: Digest> Rounds<S, D> {
 
     /// Takes the binding of a view away.
     pub fn unbind(&mut self, view: View)
-        ensures unbound { self.new ≡ changed_in_place self.old view unbound }
+        ensures unbound { self.new ≡ with_change_in_place self.old view with_nothing_bound }
         ensures origin { HasSameOrigin self.old self.new }
     {
         let Some(round) = self.by_view.get_mut(view) else {
@@ -100,7 +100,7 @@ impl<S: CertificateScheme, D: Digest> Rounds<S, D> {
             (λ r. not (is_nullify r.decision) && holds_or_empty (same_proposal D.eq) r.slot (proposal_of context.now payload))
             (round_at self.old context.now.round.view) false }
         ensures after { self.new ≡ (if result
-            then changed self.old context.now.round.view (λ r. proposed_round D.eq r context.now payload now)
+            then with_change self.old context.now.round.view (λ r. proposed_round D.eq r context.now payload now)
             else self.old) }
         ensures origin { HasSameOrigin self.old self.new }
     {
@@ -119,7 +119,7 @@ impl<S: CertificateScheme, D: Digest> Rounds<S, D> {
     pub fn decide_notarize(&mut self, view: View) -> Option<Proposal<D>>
         requires { can_notarize (round_of self.old view) ≡ true }
         ensures vote { result ≡ (round_of self.old view).slot.held }
-        ensures decided { self.new ≡ changed self.old view (λ r. record r { notarize_decided = true }) }
+        ensures decided { self.new ≡ with_change self.old view (λ r. record r { notarize_decided = true }) }
         ensures origin { HasSameOrigin self.old self.new }
     {
         let Some(round) = self.by_view.get_mut(view) else {

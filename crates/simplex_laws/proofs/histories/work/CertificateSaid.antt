@@ -7,7 +7,7 @@ use Rattle.simplex_round.specs.declared.round.Decision.TheVariants.{Nullify, Fin
 use Rattle.simplex_round.specs.declared.round.Certification.{Certification}
 use Rattle.simplex_voter.specs.Facts.{Facts, Elect}
 use Rattle.simplex_laws.specs.Events.{Event}
-use Rattle.simplex_laws.specs.Leading.{leads, tracks}
+use Rattle.simplex_laws.specs.Leading.{leader_by_event, tracks}
 use Rattle.simplex_laws.specs.OwnWork.{decides_nullify, decides_finalize}
 use Rattle.simplex_laws.specs.Requested.{names, certifies, verifies, asks_to_build, asks_to_verify, asks_for, binds}
 use Rattle.simplex_laws.specs.Sums.{or_new, is_among}
@@ -38,7 +38,7 @@ with_said x s k = with_leader s.opened s.inherited (with_settled s.here s.overru
 pub record Says {K L D : Type 0} (same : D → D → Bool) (elect : Elect L) (x : Facts K L D) (e : Event K D) (v : ℕ) (s : Said K) : Type 0 where
   pub entered : enters v x e ≡ s.entry
   pub tracked : tracks same elect v x e ≡ (s.here || s.next || s.opened)
-  pub led : leads same elect v x e ≡ option_or s.chosen s.inherited
+  pub led : leader_by_event same elect v x e ≡ option_or s.chosen s.inherited
   pub verified : verifies same elect v x e ≡ (if s.overruled then Some false else None)
   pub build : asks_to_build same elect v x e ≡ (if s.overruled then Some true else None)
   pub verify : asks_to_verify same elect v x e ≡ s.overruled

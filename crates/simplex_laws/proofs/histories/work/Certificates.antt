@@ -14,7 +14,7 @@ use Rattle.simplex_round.specs.declared.round.Certification.TheVariants.{Ready, 
 use Rattle.simplex_round.specs.Round.{RoundFacts, new_round, token_of, after_abort, with_recovered, with_notarization, with_nullification, with_finalization}
 use Rattle.simplex_voter.specs.Facts.{Facts, Elect, round_at, round_of, round_number, is_tracked, with_round}
 use Rattle.simplex_voter.specs.Acceptance.{with_notarization_at, with_nullification_at, with_finalization_at}
-use Rattle.simplex_voter.specs.Certification.{without_token, raised}
+use Rattle.simplex_voter.specs.Certification.{without_token, with_finalized_view}
 use Rattle.simplex_voter.proofs.Walked.{find-changed}
 use Rattle.simplex_laws.specs.OwnWork.{contradicts}
 use Rattle.simplex_laws.specs.Requested.{ends}
@@ -115,7 +115,7 @@ token_work tracked r = by_certification r.certification
     by_certification Aborted = refl
 
 module _ {K L D : Type 0} (x : Facts K L D) (u : ℕ) where
-  pub raised_work : (v : ℕ) → work_of (raised x u) v ≡ with_certification (ends v x u) (work_of x v)
+  pub raised_work : (v : ℕ) → work_of (with_finalized_view x u) v ≡ with_certification (ends v x u) (work_of x v)
   raised_work v = by_above (nat_lt x.finalized u) refl
     where
       -- what is found of a view, as if it were this
@@ -128,12 +128,12 @@ module _ {K L D : Type 0} (x : Facts K L D) (u : ℕ) where
       ended (Some r) true = token_work true r
       ended (Some r) false = refl
 
-      by_above : (b : Bool) → nat_lt x.finalized u ≡ b → work_of (raised x u) v ≡ with_certification (ends v x u) (work_of x v)
+      by_above : (b : Bool) → nat_lt x.finalized u ≡ b → work_of (with_finalized_view x u) v ≡ with_certification (ends v x u) (work_of x v)
       by_above true is = rw is (ap found (find-changed (λ w r. if nat_le w u then without_token r else r) v x.rounds) ∙ ended (round_at x v) (nat_le v u))
       by_above false is = rw is refl
 
   -- nothing up to it waits
-  pub raised_among : (v : ℕ) → is_among (raised x u).named v ≡ unwrap_or (if nat_lt x.finalized u && nat_le v u then Some false else None) (is_among x.named v)
+  pub raised_among : (v : ℕ) → is_among (with_finalized_view x u).named v ≡ unwrap_or (if nat_lt x.finalized u && nat_le v u then Some false else None) (is_among x.named v)
   raised_among v = by_above (nat_lt x.finalized u) refl
     where
       kept : nat_lt u v ≡ not (nat_le v u)
@@ -143,6 +143,6 @@ module _ {K L D : Type 0} (x : Facts K L D) (u : ℕ) where
       below true = refl
       below false = refl
 
-      by_above : (b : Bool) → nat_lt x.finalized u ≡ b → is_among (raised x u).named v ≡ unwrap_or (if nat_lt x.finalized u && nat_le v u then Some false else None) (is_among x.named v)
+      by_above : (b : Bool) → nat_lt x.finalized u ≡ b → is_among (with_finalized_view x u).named v ≡ unwrap_or (if nat_lt x.finalized u && nat_le v u then Some false else None) (is_among x.named v)
       by_above true is = rw is (any-filter_same (λ w. eqb v w) (λ w. nat_lt u w) (nat_lt u v) (λ w at. ap (nat_lt u) (sym (eqb-true v w at))) x.named ∙ ap (λ b. b && is_among x.named v) kept ∙ below (nat_le v u))
       by_above false is = rw is refl

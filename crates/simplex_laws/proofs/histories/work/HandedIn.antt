@@ -10,13 +10,13 @@ use Rattle.simplex_types.specs.Config.{Genesis, Finalized}
 use Rattle.simplex_types.specs.Certificates.{ProposalFacts, NullificationFacts}
 use Rattle.simplex_round.specs.Round.{RoundFacts, with_finalization}
 use Rattle.simplex_voter.specs.Facts.{Facts, Elect, round_of, is_tracked, with_round}
-use Rattle.simplex_voter.specs.Leaders.{elected, slid}
-use Rattle.simplex_voter.specs.Entering.{at_moment, entered}
-use Rattle.simplex_voter.specs.Certification.{named_also, raised, woken}
+use Rattle.simplex_voter.specs.Leaders.{with_elected_leader, with_window_leaders}
+use Rattle.simplex_voter.specs.Entering.{at_moment, with_view_entered}
+use Rattle.simplex_voter.specs.Certification.{named_also, with_finalized_view, with_waiting_candidate}
 use Rattle.simplex_voter.specs.Acceptance.{with_notarization_at, with_finalization_at, after_add_notarization, after_add_nullification, after_add_finalization, after_set_floor}
 use Rattle.simplex_voter.proofs.Elsewhere.{round_of-with_round}
 use Rattle.simplex_laws.specs.Events.{SetFloor, AddNotarization, AddNullification, AddFinalization}
-use Rattle.simplex_laws.specs.Leading.{chosen}
+use Rattle.simplex_laws.specs.Leading.{elected_leader}
 use Rattle.simplex_laws.specs.OwnWork.{contradicts}
 use Rattle.simplex_laws.specs.Requested.{names, ends, wakes}
 use Rattle.simplex_laws.specs.Sums.{is_among}
@@ -70,7 +70,7 @@ module _ {K L D : Type 0} (same : D → D → Bool) (elect : Elect L) (x : Facts
       standing = (round_of x u).notarization
 
       d : Facts K L D
-      d = elected elect x (u + 1) (Some c.bytes)
+      d = with_elected_leader elect x (u + 1) (Some c.bytes)
 
       z : Facts K L D
       z = with_notarization_at same elect d c
@@ -79,7 +79,7 @@ module _ {K L D : Type 0} (same : D → D → Bool) (elect : Elect L) (x : Facts
       kept = elected_steady elect x (u + 1) (Some c.bytes)
 
       steady : Steady x (after_add_notarization same elect x c)
-      steady = steady_where x (is_some standing) z (slid (named_also z u) u) kept (slid_steady (named_also z u) u ∙ named_steady z u ∙ kept)
+      steady = steady_where x (is_some standing) z (with_window_leaders (named_also z u) u) kept (slid_steady (named_also z u) u ∙ named_steady z u ∙ kept)
 
       settled : (v : ℕ) → work_of z v ≡ with_settled (eqb v u) (contradicts same (round_of x v).slot.held (settled_by c (is_none standing) v)) (work_of d v)
       settled v =
@@ -92,7 +92,7 @@ module _ {K L D : Type 0} (same : D → D → Bool) (elect : Elect L) (x : Facts
       waiting : (v : ℕ) → is_among (after_add_notarization same elect x c).named v ≡ unwrap_or (names elect v x (AddNotarization c)) (is_among x.named v)
       waiting v = first standing
         where
-          first : (o : Option (ProposalFacts D)) → is_among (if is_some o then z else slid (named_also z u) u).named v ≡ unwrap_or (if eqb v u && is_none o && nat_lt x.finalized u then Some true else None) (is_among x.named v)
+          first : (o : Option (ProposalFacts D)) → is_among (if is_some o then z else with_window_leaders (named_also z u) u).named v ≡ unwrap_or (if eqb v u && is_none o && nat_lt x.finalized u then Some true else None) (is_among x.named v)
           first None =
               ap (λ (a : Facts K L D). is_among a.named v) (slid_only (named_also z u) u) ∙ named_among z u v
               ∙ (λ i. unwrap_or (if sym (and-true (eqb v u)) i && nat_lt (only i).finalized u then Some true else None) (is_among (only i).named v))
@@ -106,7 +106,7 @@ module _ {K L D : Type 0} (same : D → D → Bool) (elect : Elect L) (x : Facts
       said_follows same elect x (AddNullification c now) (after_add_nullification elect x c now) (λ v. entry_said elect x (eqb v u) next now (Some c.bytes) v) steady
       (λ v. ap (λ (a : Facts K L D). is_among a.named v) (elected_only elect e next (Some c.bytes)) ∙ ap (λ views. is_among views v) (entered_named (at_moment x now) next now))
       says
-      (λ v. nullified_work (elected elect e next (Some c.bytes)) c v ∙ ap (with_settled (eqb v u) false) (entry_work elect x (at_moment x now) next now (Some c.bytes) v refl refl refl))
+      (λ v. nullified_work (with_elected_leader elect e next (Some c.bytes)) c v ∙ ap (with_settled (eqb v u) false) (entry_work elect x (at_moment x now) next now (Some c.bytes) v refl refl refl))
     where
       u : ℕ
       u = c.round.view
@@ -115,7 +115,7 @@ module _ {K L D : Type 0} (same : D → D → Bool) (elect : Elect L) (x : Facts
       next = next_term_start x.terms.term_length u
 
       e : Facts K L D
-      e = entered (at_moment x now) next now
+      e = with_view_entered (at_moment x now) next now
 
       steady : Steady x (after_add_nullification elect x c now)
       steady = elected_steady elect e next (Some c.bytes) ∙ entered_steady (at_moment x now) next now
@@ -124,7 +124,7 @@ module _ {K L D : Type 0} (same : D → D → Bool) (elect : Elect L) (x : Facts
       says v = record {
         entered = refl;
         tracked = sym (or-false (eqb v u || eqb v next));
-        led = sym (option_or_none (chosen elect x v next (Some c.bytes)));
+        led = sym (option_or_none (elected_leader elect x v next (Some c.bytes)));
         verified = refl;
         build = refl;
         verify = refl;
@@ -149,7 +149,7 @@ module _ {K L D : Type 0} (same : D → D → Bool) (elect : Elect L) (x : Facts
       a = record (at_moment x now) { genesis = Some payload }
 
       e : Facts K L D
-      e = entered a 1 now
+      e = with_view_entered a 1 now
 
       steady : Steady x (after_set_floor same elect x (Genesis payload) now)
       steady = elected_steady elect e 1 None ∙ entered_steady a 1 now
@@ -158,7 +158,7 @@ module _ {K L D : Type 0} (same : D → D → Bool) (elect : Elect L) (x : Facts
       says v = record {
         entered = refl;
         tracked = sym (or-false (eqb v 1));
-        led = sym (option_or_none (chosen elect x v 1 None));
+        led = sym (option_or_none (elected_leader elect x v 1 None));
         verified = refl;
         build = refl;
         verify = refl;
@@ -203,7 +203,7 @@ module _ {K L D : Type 0} (same : D → D → Bool) (elect : Elect L) (x : Facts
   pub finalization_works : WorkFollows same elect (AddFinalization c now) x (after_add_finalization same elect x c now)
   finalization_works =
       said_follows same elect x (AddFinalization c now) (after_add_finalization same elect x c now) (λ v. proposal_said same elect x c (is_none standing) (entry_at x (u + 1) now v) (ends v x u) v) steady waiting finalization_says
-      (λ v. proposal_work same elect x c e (entry_at x (u + 1) now) (λ w. ends w x u) entering before standing z (woken elect z u) (woken_steady elect z u ∙ kept) settled (λ w. woken_work elect z u w) v)
+      (λ v. proposal_work same elect x c e (entry_at x (u + 1) now) (λ w. ends w x u) entering before standing z (with_waiting_candidate elect z u) (woken_steady elect z u ∙ kept) settled (λ w. woken_work elect z u w) v)
     where
       u : ℕ
       u = c.proposal.round.view
@@ -215,13 +215,13 @@ module _ {K L D : Type 0} (same : D → D → Bool) (elect : Elect L) (x : Facts
       a = at_moment x now
 
       b : Facts K L D
-      b = raised a u
+      b = with_finalized_view a u
 
       e : Facts K L D
-      e = entered b (u + 1) now
+      e = with_view_entered b (u + 1) now
 
       d : Facts K L D
-      d = elected elect e (u + 1) (Some c.bytes)
+      d = with_elected_leader elect e (u + 1) (Some c.bytes)
 
       z : Facts K L D
       z = with_finalization_at same elect d c
@@ -233,7 +233,7 @@ module _ {K L D : Type 0} (same : D → D → Bool) (elect : Elect L) (x : Facts
       kept = elected_steady elect e (u + 1) (Some c.bytes) ∙ entering
 
       steady : Steady x (after_add_finalization same elect x c now)
-      steady = steady_where x (is_some standing) z (slid (woken elect z u) u) kept (slid_steady (woken elect z u) u ∙ woken_steady elect z u ∙ kept)
+      steady = steady_where x (is_some standing) z (with_window_leaders (with_waiting_candidate elect z u) u) kept (slid_steady (with_waiting_candidate elect z u) u ∙ woken_steady elect z u ∙ kept)
 
       raising : Leaves now x.current (max x.finalized u) x b
       raising = leaves_joined now x.current x.finalized now x.current (max x.finalized u) x a b (moment_leaves x now) (raised_leaves a u)
@@ -273,9 +273,9 @@ module _ {K L D : Type 0} (same : D → D → Bool) (elect : Elect L) (x : Facts
           gone : Option Bool
           gone = if nat_lt x.finalized u && nat_le v u then Some false else None
 
-          first : (o : Option (ProposalFacts D)) → is_among (if is_some o then z else slid (woken elect z u) u).named v ≡ unwrap_or (if is_none o && wakes elect x (max x.finalized u) u v then Some true else gone) (is_among x.named v)
+          first : (o : Option (ProposalFacts D)) → is_among (if is_some o then z else with_window_leaders (with_waiting_candidate elect z u) u).named v ≡ unwrap_or (if is_none o && wakes elect x (max x.finalized u) u v then Some true else gone) (is_among x.named v)
           first None =
-              ap (λ (y : Facts K L D). is_among y.named v) (slid_only (woken elect z u) u) ∙ woken_among elect z u v
+              ap (λ (y : Facts K L D). is_among y.named v) (slid_only (with_waiting_candidate elect z u) u) ∙ woken_among elect z u v
               ∙ (λ i. unwrap_or (if above v i then Some true else None) (dropped v i))
               ∙ named_later (wakes elect x (max x.finalized u) u v) gone (is_among x.named v)
           first (Some s) = dropped v

@@ -12,10 +12,10 @@ use Rattle.simplex_types.specs.Window.{issuance_floor}
 use Rattle.simplex_round.specs.declared.round.Leader.{Leader}
 use Rattle.simplex_round.specs.Round.{RoundFacts, leader_at, new_round}
 use Rattle.simplex_voter.specs.Facts.{Facts, Elect, round_of, round_number, with_round}
-use Rattle.simplex_voter.specs.Leaders.{has_leader, led, inherited, elected, prepared}
+use Rattle.simplex_voter.specs.Leaders.{has_leader, with_leader_at, with_leader_of, with_elected_leader, with_next_view_ready}
 use Rattle.simplex_voter.specs.Payloads.{is_elected_early}
 use Rattle.simplex_voter.specs.Windows.{is_notarized, is_open, in_window}
-use Rattle.simplex_laws.specs.Leading.{same_member, chosen, leads_after, tracks_after}
+use Rattle.simplex_laws.specs.Leading.{same_member, elected_leader, leads_after, tracks_after}
 use Rattle.std.proofs.Math.Bool.{and-true}
 use Rattle.simplex_laws.proofs.histories.FollowingHanded.{and_false}
 use Rattle.simplex_member.proofs.Growing.{round_of-put, round_of-same}
@@ -83,7 +83,7 @@ leaders_where x true y z p q = p
 leaders_where x false y z p q = q
 
 module _ {K L D : Type 0} where
-  led_leaders : (x : Facts K L D) (v member : ℕ) → OnlyLeaders x (led x v member)
+  led_leaders : (x : Facts K L D) (v member : ℕ) → OnlyLeaders x (with_leader_at x v member)
   led_leaders x v member = leaders_where x (has_leader x v) x (with_round x v r) (λ w. refl) (λ w. put w (cases_eq w v))
     where
       r : RoundFacts K D
@@ -93,37 +93,37 @@ module _ {K L D : Type 0} where
       put w (inl here) = rw (round_of-put x w v r, here, eq-eqb v v refl) refl
       put w (inr apart) = rw (round_of-put x w v r, ne_eqb w v apart) refl
 
-  inherited_leaders : (x : Facts K L D) (from to : ℕ) → OnlyLeaders x (inherited x from to)
+  inherited_leaders : (x : Facts K L D) (from to : ℕ) → OnlyLeaders x (with_leader_of x from to)
   inherited_leaders x from to = by_leader (round_of x from).leader
     where
-      by_leader : (leader : Option (Leader K)) → OnlyLeaders x (option_map_or (λ l. led x to l.idx) leader x)
+      by_leader : (leader : Option (Leader K)) → OnlyLeaders x (option_map_or (λ l. with_leader_at x to l.idx) leader x)
       by_leader None = λ w. refl
       by_leader (Some l) = led_leaders x to l.idx
 
 module _ {K L D : Type 0} (elect : Elect L) (x : Facts K L D) (w : ℕ) where
-  pub prepared_only : OnlyRounds x (prepared elect x w)
+  pub prepared_only : OnlyRounds x (with_next_view_ready elect x w)
   prepared_only =
-      only_where x (in_window x (w + 1)) (inherited x w (w + 1)) _ (inherited_only x w (w + 1))
-      (only_where x ((round_of x w).notarize_decided && is_elected_early elect x (w + 1)) (elected elect x (w + 1) None) x (elected_only elect x (w + 1) None) refl)
+      only_where x (in_window x (w + 1)) (with_leader_of x w (w + 1)) _ (inherited_only x w (w + 1))
+      (only_where x ((round_of x w).notarize_decided && is_elected_early elect x (w + 1)) (with_elected_leader elect x (w + 1) None) x (elected_only elect x (w + 1) None) refl)
 
-  pub prepared_leaders : OnlyLeaders x (prepared elect x w)
+  pub prepared_leaders : OnlyLeaders x (with_next_view_ready elect x w)
   prepared_leaders =
-      leaders_where x (in_window x (w + 1)) (inherited x w (w + 1)) _ (inherited_leaders x w (w + 1))
-      (leaders_where x ((round_of x w).notarize_decided && is_elected_early elect x (w + 1)) (elected elect x (w + 1) None) x (led_leaders x (w + 1) (elect x.elector (round_number x (w + 1)) None)) (λ v. refl))
+      leaders_where x (in_window x (w + 1)) (with_leader_of x w (w + 1)) _ (inherited_leaders x w (w + 1))
+      (leaders_where x ((round_of x w).notarize_decided && is_elected_early elect x (w + 1)) (with_elected_leader elect x (w + 1) None) x (led_leaders x (w + 1) (elect x.elector (round_number x (w + 1)) None)) (λ v. refl))
 
   -- the view above takes the leader, or the elector's choice
 
-  pub prepared_work : (v : ℕ) → work_of (prepared elect x w) v ≡ with_leader (tracks_after elect x (round_of x w).notarize_decided w v) (leads_after elect x (round_of x w).notarize_decided w v) (work_of x v)
+  pub prepared_work : (v : ℕ) → work_of (with_next_view_ready elect x w) v ≡ with_leader (tracks_after elect x (round_of x w).notarize_decided w v) (leads_after elect x (round_of x w).notarize_decided w v) (work_of x v)
   prepared_work v = by_window (in_window x (w + 1))
     where
       own : Bool
       own = (round_of x w).notarize_decided && is_elected_early elect x (w + 1)
 
-      by_own : (b : Bool) → work_of (if b then elected elect x (w + 1) None else x) v ≡ with_leader (eqb v (w + 1) && b) (if b then chosen elect x v (w + 1) None else None) (work_of x v)
-      by_own true = elected_work elect x (w + 1) None v ∙ ap (λ tracks. with_leader tracks (chosen elect x v (w + 1) None) (work_of x v)) (sym (and-true (eqb v (w + 1))))
+      by_own : (b : Bool) → work_of (if b then with_elected_leader elect x (w + 1) None else x) v ≡ with_leader (eqb v (w + 1) && b) (if b then elected_leader elect x v (w + 1) None else None) (work_of x v)
+      by_own true = elected_work elect x (w + 1) None v ∙ ap (λ tracks. with_leader tracks (elected_leader elect x v (w + 1) None) (work_of x v)) (sym (and-true (eqb v (w + 1))))
       by_own false = ap (λ tracks. with_leader tracks None (work_of x v)) (sym (and_false (eqb v (w + 1))))
 
-      by_window : (b : Bool) → work_of (if b then inherited x w (w + 1) else (if own then elected elect x (w + 1) None else x)) v ≡ with_leader (eqb v (w + 1) && (if b then is_some (round_of x w).leader else own)) (if b then (if eqb v (w + 1) then same_member x (round_of x w).leader else None) else (if own then chosen elect x v (w + 1) None else None)) (work_of x v)
+      by_window : (b : Bool) → work_of (if b then with_leader_of x w (w + 1) else (if own then with_elected_leader elect x (w + 1) None else x)) v ≡ with_leader (eqb v (w + 1) && (if b then is_some (round_of x w).leader else own)) (if b then (if eqb v (w + 1) then same_member x (round_of x w).leader else None) else (if own then elected_leader elect x v (w + 1) None else None)) (work_of x v)
       by_window true = inherited_work x w (w + 1) v
       by_window false = by_own own
 
@@ -136,7 +136,7 @@ module _ {K L D : Type 0} (elect : Elect L) (x : Facts K L D) (w : ℕ) (r : Rou
   tracks_put v = rw (window_put x w r certified (w + 1), round_of-same x w r, led_by) refl
 
   -- so after the vote the view above is readied as it would be before
-  pub readied_work : r.notarize_decided ≡ true → (v : ℕ) → work_of (prepared elect (with_round x w r) w) v ≡ with_leader (tracks_after elect x true w v) (leads_after elect x true w v) (work_of (with_round x w r) v)
+  pub readied_work : r.notarize_decided ≡ true → (v : ℕ) → work_of (with_next_view_ready elect (with_round x w r) w) v ≡ with_leader (tracks_after elect x true w v) (leads_after elect x true w v) (work_of (with_round x w r) v)
   readied_work voted v =
       let z = with_round x w r in
       prepared_work elect z w v

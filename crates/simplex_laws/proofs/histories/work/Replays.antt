@@ -13,10 +13,10 @@ use Rattle.simplex_round.specs.declared.round.Decision.TheVariants.{Nullify, Fin
 use Rattle.simplex_round.specs.Slot.{after_own, holds_or_empty}
 use Rattle.simplex_round.specs.Round.{RoundFacts, certified_round}
 use Rattle.simplex_voter.specs.Facts.{Facts, Elect, round_of, with_round}
-use Rattle.simplex_voter.specs.Leaders.{prepared}
+use Rattle.simplex_voter.specs.Leaders.{with_next_view_ready}
 use Rattle.simplex_voter.specs.Windows.{is_notarized}
 use Rattle.simplex_voter.specs.Replay.{bound_again, restored_binding}
-use Rattle.simplex_member.specs.Recovery.{replayed}
+use Rattle.simplex_member.specs.Recovery.{after_replaying}
 use Rattle.simplex_laws.specs.Events.{Replay}
 use Rattle.simplex_laws.specs.Leading.{leads_after, tracks_after}
 use Rattle.simplex_laws.specs.Sums.{is_among}
@@ -61,9 +61,9 @@ module _ {K L D : Type 0} (same : D → D → Bool) (elect : Elect L) (x : Facts
         work = λ w _. put_work same elect x (Replay e) (unmoved e) v r added elsewhere w;
       }
 
-  replayed_notarize : (p : Proposal D) (signer : ℕ) → WorkFollows same elect (Replay (NotarizeVote p signer)) x (replayed same elect x (NotarizeVote p signer))
+  replayed_notarize : (p : Proposal D) (signer : ℕ) → WorkFollows same elect (Replay (NotarizeVote p signer)) x (after_replaying same elect x (NotarizeVote p signer))
   replayed_notarize p signer =
-      let only : OnlyRounds z (prepared elect z v) = prepared_only elect z v in
+      let only : OnlyRounds z (with_next_view_ready elect z v) = prepared_only elect z v in
       record {
         me = ap (λ (y : Facts K L D). y.me) only;
         members = ap (λ (y : Facts K L D). y.members) only;
@@ -90,7 +90,7 @@ module _ {K L D : Type 0} (same : D → D → Bool) (elect : Elect L) (x : Facts
       z : Facts K L D
       z = with_round x v bound
 
-      readied : (w : ℕ) → work_of (prepared elect z v) w ≡ with_leader (tracks_after elect x true v w) (leads_after elect x true v w) (work_of z w)
+      readied : (w : ℕ) → work_of (with_next_view_ready elect z v) w ≡ with_leader (tracks_after elect x true v w) (leads_after elect x true v w) (work_of z w)
       readied = readied_work elect x v bound (bound_notarized voted (restored_binding x p)) (bound_leader voted (restored_binding x p)) (bound_decided voted (restored_binding x p))
 
       tracked : Bool
@@ -108,7 +108,7 @@ module _ {K L D : Type 0} (same : D → D → Bool) (elect : Elect L) (x : Facts
       put w (inr apart) = ap (with_leader (tracks_after elect x true v w) (leads_after elect x true v w)) (work_elsewhere x v w bound (ne_eqb w v apart)) ∙ rw (ne_eqb w v apart) refl
 
   -- each artifact
-  pub replay_works : (e : ArtifactFacts D) → WorkFollows same elect (Replay e) x (replayed same elect x e)
+  pub replay_works : (e : ArtifactFacts D) → WorkFollows same elect (Replay e) x (after_replaying same elect x e)
   replay_works (NotarizeVote p signer) = replayed_notarize p signer
   replay_works (NullifyVote round signer) =
       let v = round.view in

@@ -10,7 +10,7 @@ use Rattle.simplex_voter.specs.declared.voter.standing.Standing.TheVariants.{Pas
 use Rattle.simplex_voter.specs.Facts.{Settings, Facts, Elect, round_of, is_tracked}
 use Rattle.simplex_voter.specs.Verifying.{round_left, standing, was_scanned, after_try_verify}
 use Rattle.simplex_laws.specs.Events.{Event, TryVerify}
-use Rattle.simplex_laws.specs.Requested.{is_given_out, is_invalid, lacked, bound_by}
+use Rattle.simplex_laws.specs.Requested.{is_given_out, is_invalid, lacked_view, bound_by}
 use Rattle.simplex_laws.proofs.histories.Scanned.{round_scanned, tracked_scanned}
 use Rattle.simplex_laws.proofs.histories.Worked.{Worked, work_in, work_of, timed, adds_work, WorkFollows, untimed}
 use Rattle.simplex_laws.proofs.histories.work.Puts.{unentered, shared_follows}
@@ -21,7 +21,7 @@ abbrev stood : {K D : Type 0} → Settings → (moment : ℕ) → (held : Option
 stood settings moment held s k = record k {
   verify_requested = is_given_out s || k.verify_requested;
   decision = timed settings None (if is_invalid s then Some (moment, InvalidProposal) else None) None k.decision;
-  last_request = option_or (lacked s) k.last_request;
+  last_request = option_or (lacked_view s) k.last_request;
   binding = unwrap_or (bound_by held s) k.binding;
 }
 

@@ -3,9 +3,9 @@
 use Rattle.std.proofs.Common.{◌≡◌, refl, ap, ◌∙◌, ℕ, ◌+◌, Bool, true, false, if◌then◌else◌, nat_lt, List, [], Option, None}
 use Rattle.std.specs.Option.{option_map_or}
 use Rattle.simplex_voter.specs.Facts.{Facts, Elect, round_at}
-use Rattle.simplex_voter.specs.Entering.{entered}
-use Rattle.simplex_voter.specs.Leaders.{elected, slid}
-use Rattle.simplex_voter.specs.Certification.{named_also, raised, waits_for, woken}
+use Rattle.simplex_voter.specs.Entering.{with_view_entered}
+use Rattle.simplex_voter.specs.Leaders.{with_elected_leader, with_window_leaders}
+use Rattle.simplex_voter.specs.Certification.{named_also, with_finalized_view, waits_for, with_waiting_candidate}
 use Rattle.simplex_laws.proofs.histories.work.Windows.{slid_only}
 use Rattle.simplex_laws.proofs.histories.work.Wakings.{SetUpAlike}
 use Rattle.simplex_laws.proofs.histories.work.Leaders.{OnlyRounds, elected_only}
@@ -29,17 +29,17 @@ module _ {K L D : Type 0} where
   only_steady : (x y : Facts K L D) → OnlyRounds x y → Steady x y
   only_steady x y only = ap set_up only
 
-  pub entered_steady : (x : Facts K L D) (v now : ℕ) → Steady x (entered x v now)
+  pub entered_steady : (x : Facts K L D) (v now : ℕ) → Steady x (with_view_entered x v now)
   entered_steady x v now = steady_where x (nat_lt x.current v) _ x refl refl
 
-  pub raised_steady : (x : Facts K L D) (v : ℕ) → Steady x (raised x v)
+  pub raised_steady : (x : Facts K L D) (v : ℕ) → Steady x (with_finalized_view x v)
   raised_steady x v = steady_where x (nat_lt x.finalized v) _ x refl refl
 
   pub named_steady : (x : Facts K L D) (v : ℕ) → Steady x (named_also x v)
   named_steady x v = steady_where x (nat_lt x.finalized v) _ x refl refl
 
-  pub slid_steady : (x : Facts K L D) (v : ℕ) → Steady x (slid x v)
-  slid_steady x v = only_steady x (slid x v) (slid_only x v)
+  pub slid_steady : (x : Facts K L D) (v : ℕ) → Steady x (with_window_leaders x v)
+  slid_steady x v = only_steady x (with_window_leaders x v) (slid_only x v)
 
   -- whether a view waits hangs on no more of the set-up
   pub wakings_steady : (x y : Facts K L D) → Steady x y → SetUpAlike x y
@@ -52,8 +52,8 @@ module _ {K L D : Type 0} where
   }
 
 module _ {K L D : Type 0} (elect : Elect L) where
-  pub elected_steady : (x : Facts K L D) (v : ℕ) (seed : Option (List ℕ)) → Steady x (elected elect x v seed)
-  elected_steady x v seed = only_steady x (elected elect x v seed) (elected_only elect x v seed)
+  pub elected_steady : (x : Facts K L D) (v : ℕ) (seed : Option (List ℕ)) → Steady x (with_elected_leader elect x v seed)
+  elected_steady x v seed = only_steady x (with_elected_leader elect x v seed) (elected_only elect x v seed)
 
-  pub woken_steady : (x : Facts K L D) (v : ℕ) → Steady x (woken elect x v)
+  pub woken_steady : (x : Facts K L D) (v : ℕ) → Steady x (with_waiting_candidate elect x v)
   woken_steady x v = steady_where x (option_map_or (waits_for elect x v) (round_at x (v + 1)) false) (named_also x (v + 1)) x (named_steady x (v + 1)) refl

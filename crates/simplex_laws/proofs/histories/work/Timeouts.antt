@@ -6,11 +6,11 @@ use Rattle.std.proofs.lemmas.Bool.{cases_eq, eq-eqb, ne_eqb, true≢false}
 use Rattle.simplex_types.specs.declared.reasons.TimeoutReason.{TimeoutReason}
 use Rattle.simplex_round.specs.declared.round.Decision.{Decision}
 use Rattle.simplex_round.specs.declared.round.Decision.TheVariants.{Pending, Nullify, Finalize}
-use Rattle.simplex_round.specs.Round.{RoundFacts, latched, with_latch, has_no_retry, awaits_retry}
+use Rattle.simplex_round.specs.Round.{RoundFacts, with_first_timeout, with_latch, has_no_retry, awaits_retry}
 use Rattle.simplex_voter.specs.Facts.{Settings, Facts, Elect, round_of, is_tracked, with_round}
 use Rattle.simplex_voter.specs.Entering.{at_moment}
 use Rattle.simplex_voter.specs.Parents.{binding_matches}
-use Rattle.simplex_voter.specs.Timeouts.{triggered, polled, after_trigger_timeout, after_next_timeout}
+use Rattle.simplex_voter.specs.Timeouts.{with_timeout, round_with_retry, after_trigger_timeout, after_next_timeout}
 use Rattle.simplex_voter.specs.Verifying.{without_binding, after_verification_failed}
 use Rattle.simplex_voter.proofs.Gaps.{and_parts}
 use Rattle.simplex_laws.specs.Events.{Event, VerificationFailed, TriggerTimeout, NextTimeout}
@@ -20,7 +20,7 @@ use Rattle.simplex_laws.proofs.histories.Worked.{work_in, work_of, timed, adds_w
 use Rattle.simplex_laws.proofs.histories.work.Puts.{unentered, shared_of, shared_follows, tracked_follows}
 
 -- an explicit timeout is latched where neither vote is decided
-pub latched_timed : (settings : Settings) (d : Decision) (timeout : ℕ × TimeoutReason) → latched d timeout ≡ timed settings None (Some timeout) None d
+pub latched_timed : (settings : Settings) (d : Decision) (timeout : ℕ × TimeoutReason) → with_first_timeout d timeout ≡ timed settings None (Some timeout) None d
 latched_timed settings (Pending leader certification None) timeout = refl
 latched_timed settings (Pending leader certification (Some first)) timeout = refl
 latched_timed settings (Nullify again) timeout = refl
@@ -34,18 +34,18 @@ repeated settings Finalize at is = absurd (true≢false (sym is))
 
 module _ {K L D : Type 0} (x : Facts K L D) (v : ℕ) (reason : TimeoutReason) (now : ℕ) where
   -- a trigger changes nothing but a round
-  pub rest_triggered : (record (triggered x v reason now) { rounds = x.rounds }) ≡ x
+  pub rest_triggered : (record (with_timeout x v reason now) { rounds = x.rounds }) ≡ x
   rest_triggered = either (triggers x v reason)
     where
       either : (b : Bool) → (record (if b then with_round x v (with_latch (round_of x v) now reason) else x) { rounds = x.rounds }) ≡ x
       either true = refl
       either false = refl
 
-  pub shared_triggered : shared_of (triggered x v reason now) ≡ shared_of x
+  pub shared_triggered : shared_of (with_timeout x v reason now) ≡ shared_of x
   shared_triggered = ap shared_of rest_triggered
 
   -- the timeout of a view is latched where it is triggered
-  pub work_triggered : (settings : Settings) (w : ℕ) → work_of (triggered x v reason now) w ≡ record (work_of x w) { decision = timed settings None (if eqb w v && triggers x v reason then Some (now, reason) else None) None (work_of x w).decision }
+  pub work_triggered : (settings : Settings) (w : ℕ) → work_of (with_timeout x v reason now) w ≡ record (work_of x w) { decision = timed settings None (if eqb w v && triggers x v reason then Some (now, reason) else None) None (work_of x w).decision }
   work_triggered settings w = by_test (triggers x v reason) refl
     where
       s : RoundFacts K D
@@ -80,8 +80,8 @@ module _ {K L D : Type 0} (same : D → D → Bool) (elect : Elect L) (x : Facts
       s : RoundFacts K D
       s = record (round_of x v) { binding = None }
 
-      by_binding : (b : Bool) → binding_matches same elect x v ≡ b → WorkFollows same elect e x (if b then triggered a v reason now else without_binding a v)
-      by_binding true holds = shared_follows same elect x e (λ w. refl) (triggered a v reason now) (shared_triggered a v reason now) (λ w _. work_triggered a v reason now x.settings w ∙ rw (unentered x e w refl, holds, and-false (is_at x w v), and-true (eqb w v)) refl)
+      by_binding : (b : Bool) → binding_matches same elect x v ≡ b → WorkFollows same elect e x (if b then with_timeout a v reason now else without_binding a v)
+      by_binding true holds = shared_follows same elect x e (λ w. refl) (with_timeout a v reason now) (shared_triggered a v reason now) (λ w _. work_triggered a v reason now x.settings w ∙ rw (unentered x e w refl, holds, and-false (is_at x w v), and-true (eqb w v)) refl)
       by_binding false fails = tracked_follows same elect x e (λ w. refl) now v s unbound idle
         where
           unbound : is_tracked x v ≡ true → work_in true s ≡ adds_work same elect x e v (work_in true (round_of x v))
@@ -101,7 +101,7 @@ module _ {K L D : Type 0} (same : D → D → Bool) (elect : Elect L) (x : Facts
       r = round_of x x.current
 
       s : RoundFacts K D
-      s = polled x now
+      s = round_with_retry x now
 
       again : ℕ
       again = now + x.settings.timeout_retry

@@ -7,9 +7,9 @@ use Rattle.simplex_types.specs.declared.reasons.TimeoutReason.TheVariants.{Faile
 use Rattle.simplex_round.specs.declared.round.Certification.TheVariants.{Judged}
 use Rattle.simplex_round.specs.Round.{RoundFacts, certified_round}
 use Rattle.simplex_voter.specs.Facts.{Facts, Elect, round_of, is_tracked, with_round}
-use Rattle.simplex_voter.specs.Entering.{entered, entered_round, at_moment}
-use Rattle.simplex_voter.specs.Timeouts.{triggered}
-use Rattle.simplex_voter.specs.Certification.{judged, woken, verdict_taken, after_certified}
+use Rattle.simplex_voter.specs.Entering.{with_view_entered, entered_round, at_moment}
+use Rattle.simplex_voter.specs.Timeouts.{with_timeout}
+use Rattle.simplex_voter.specs.Certification.{with_verdict, with_waiting_candidate, verdict_taken, after_certified}
 use Rattle.simplex_laws.specs.Events.{Event, Certified}
 use Rattle.simplex_laws.specs.Requested.{is_at, wakes, names}
 use Rattle.simplex_laws.specs.Sums.{is_among}
@@ -25,13 +25,13 @@ use Rattle.simplex_laws.proofs.histories.work.Leaders.{with_entry, entry_at, ent
 use Rattle.simplex_laws.proofs.histories.Worked.{Worked, work_of, timed, adds_work, work_put, work_elsewhere, WorkFollows, IsIdle, is_tracked-put, untimed}
 
 module _ {K L D : Type 0} (x : Facts K L D) (v : ℕ) (tracked : is_tracked x v ≡ true) where
-  judged_work : (now : ℕ) (success : Bool) (w : ℕ) → work_of (judged (at_moment x now) v success) w ≡ record (work_of x w) { certification = unwrap_or (if is_at x w v then Some (Judged success) else None) (work_of x w).certification }
+  judged_work : (now : ℕ) (success : Bool) (w : ℕ) → work_of (with_verdict (at_moment x now) v success) w ≡ record (work_of x w) { certification = unwrap_or (if is_at x w v then Some (Judged success) else None) (work_of x w).certification }
   judged_work now success w = by_view (cases_eq w v)
     where
       a : Facts K L D
       a = at_moment x now
 
-      by_view : ((w ≡ v) ⊎ (w ≡ v → ⊥)) → work_of (judged a v success) w ≡ record (work_of x w) { certification = unwrap_or (if is_at x w v then Some (Judged success) else None) (work_of x w).certification }
+      by_view : ((w ≡ v) ⊎ (w ≡ v → ⊥)) → work_of (with_verdict a v success) w ≡ record (work_of x w) { certification = unwrap_or (if is_at x w v then Some (Judged success) else None) (work_of x w).certification }
       by_view (inl here) = rw (here, tracked, eq-eqb v v refl) (work_put a v (certified_round (round_of x v) success))
       by_view (inr apart) = rw (ne_eqb w v apart) (work_elsewhere a v w (certified_round (round_of x v) success) (ne_eqb w v apart))
 
@@ -49,13 +49,13 @@ module _ {K L D : Type 0} (same : D → D → Bool) (elect : Elect L) (x : Facts
   }
     where
       j : Facts K L D
-      j = judged (at_moment x now) v true
+      j = with_verdict (at_moment x now) v true
 
       y : Facts K L D
-      y = entered j (v + 1) now
+      y = with_view_entered j (v + 1) now
 
-      steady : Steady x (woken elect y v)
-      steady = steady_joined x y (woken elect y v) (entered_steady j (v + 1) now) (woken_steady elect y v)
+      steady : Steady x (with_waiting_candidate elect y v)
+      steady = steady_joined x y (with_waiting_candidate elect y v) (entered_steady j (v + 1) now) (woken_steady elect y v)
 
       numbers : (b : Bool) (r : RoundFacts K D) → ((if b then record (with_round j (v + 1) r) { current = v + 1 } else j).finalized ≡ x.finalized) × ((if b then record (with_round j (v + 1) r) { current = v + 1 } else j).named ≡ x.named)
       numbers true r = (refl, refl)
@@ -84,13 +84,13 @@ module _ {K L D : Type 0} (same : D → D → Bool) (elect : Elect L) (x : Facts
 
   -- a false one times the view out
   false_works : is_tracked x v ≡ true → WorkFollows same elect (Certified v false now) x (verdict_taken elect (at_moment x now) v false now)
-  false_works tracked = shared_follows same elect x e (λ w. refl) (triggered j v FailedCertification now) (shared_triggered j v FailedCertification now) (λ w _. work_triggered j v FailedCertification now x.settings w ∙ ap (timed_out w) (judged_work x v tracked now false w) ∙ sym (said w))
+  false_works tracked = shared_follows same elect x e (λ w. refl) (with_timeout j v FailedCertification now) (shared_triggered j v FailedCertification now) (λ w _. work_triggered j v FailedCertification now x.settings w ∙ ap (timed_out w) (judged_work x v tracked now false w) ∙ sym (said w))
     where
       e : Event K D
       e = Certified v false now
 
       j : Facts K L D
-      j = judged (at_moment x now) v false
+      j = with_verdict (at_moment x now) v false
 
       timed_out : ℕ → Worked K D → Worked K D
       timed_out w k = record k { decision = timed x.settings None (if eqb w v && triggers j v FailedCertification then Some (now, FailedCertification) else None) None k.decision }

@@ -13,7 +13,7 @@ use Rattle.simplex_round.specs.declared.round.Leader.{Leader}
 use Rattle.simplex_round.specs.Slot.{SlotFacts, after_vote}
 use Rattle.simplex_round.specs.Round.{RoundFacts, after_nullify, is_nullify, is_finalize}
 use Rattle.simplex_voter.specs.Facts.{Facts, Elect, round_of, with_round}
-use Rattle.simplex_voter.specs.Leaders.{prepared}
+use Rattle.simplex_voter.specs.Leaders.{with_next_view_ready}
 use Rattle.simplex_voter.specs.Rules.{may_notarize, may_nullify, may_finalize}
 use Rattle.simplex_voter.specs.Verifying.{with_proposal, after_set_proposal}
 use Rattle.simplex_voter.specs.Votes.{nullify_cast, finalize_cast, after_construct_notarize, after_construct_nullify, after_construct_finalize}
@@ -116,15 +116,15 @@ module _ {K L D : Type 0} (same : D → D → Bool) (elect : Elect L) (x : Facts
       voted tracked leader w (inl here) = rw here (ap (with_leader tracked leader) (work_put x v r) ∙ rw (eq-eqb v v refl, or-true tracked) refl)
       voted tracked leader w (inr apart) = ap (with_leader tracked leader) (work_elsewhere x v w r (ne_eqb w v apart)) ∙ rw (ne_eqb w v apart) refl
 
-      readied : may_notarize same elect x v ≡ true → (w : ℕ) → work_of (prepared elect z v) w ≡ adds_unmoved same elect x (ConstructNotarize v) w (work_of x w)
+      readied : may_notarize same elect x v ≡ true → (w : ℕ) → work_of (with_next_view_ready elect z v) w ≡ adds_unmoved same elect x (ConstructNotarize v) w (work_of x w)
       readied may w =
           readied_work elect x v r refl refl refl w
           ∙ voted (tracks_after elect x true v w) (leads_after elect x true v w) w (cases_eq w v)
           ∙ rw may refl
 
-      by_rule : (b : Bool) → may_notarize same elect x v ≡ b → WorkFollows same elect (ConstructNotarize v) x (if b then prepared elect z v else x)
+      by_rule : (b : Bool) → may_notarize same elect x v ≡ b → WorkFollows same elect (ConstructNotarize v) x (if b then with_next_view_ready elect z v else x)
       by_rule true may =
-          let only : OnlyRounds z (prepared elect z v) = prepared_only elect z v in
+          let only : OnlyRounds z (with_next_view_ready elect z v) = prepared_only elect z v in
           record {
             me = ap (λ y. y.me) only;
             members = ap (λ y. y.members) only;
@@ -150,7 +150,7 @@ module _ {K L D : Type 0} (same : D → D → Bool) (elect : Elect L) (x : Facts
       }
     where
       y : Facts K L D
-      y = prepared elect x v
+      y = with_next_view_ready elect x v
 
       r : RoundFacts K D
       r = round_of x v

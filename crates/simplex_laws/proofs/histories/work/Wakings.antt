@@ -6,7 +6,7 @@ use Rattle.std.proofs.Math.Bool.{and-true}
 use Rattle.std.proofs.lemmas.Bool.{cases_eq, ne_eqb}
 use Rattle.simplex_types.specs.Terms.{term_start}
 use Rattle.simplex_round.specs.Round.{RoundFacts, new_round, signs_as}
-use Rattle.simplex_voter.specs.Certification.{named_also, waits_for, woken}
+use Rattle.simplex_voter.specs.Certification.{named_also, waits_for, with_waiting_candidate}
 use Rattle.simplex_voter.specs.Facts.{Facts, Elect, round_at, round_of, round_number}
 use Rattle.simplex_voter.specs.Payloads.{is_elected_early}
 use Rattle.simplex_voter.specs.Rules.{required_parent}
@@ -61,7 +61,7 @@ module _ {K L D : Type 0} (elect : Elect L) where
       by_round (Some r) = refl
 
   -- the view above is named where it waits
-  pub woken_among : (x : Facts K L D) (p w : ℕ) → is_among (woken elect x p).named w ≡ unwrap_or (if wakes elect x x.finalized p w then Some true else None) (is_among x.named w)
+  pub woken_among : (x : Facts K L D) (p w : ℕ) → is_among (with_waiting_candidate elect x p).named w ≡ unwrap_or (if wakes elect x x.finalized p w then Some true else None) (is_among x.named w)
   woken_among x p w = by_waiting (waits_for elect x p (round_of x (p + 1))) refl (cases_eq w (p + 1))
     where
       Named : Bool → ℕ → Type 0

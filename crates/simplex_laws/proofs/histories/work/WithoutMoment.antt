@@ -6,7 +6,7 @@ use Rattle.simplex_round.specs.declared.round.Decision.TheVariants.{Nullify, Fin
 use Rattle.simplex_round.specs.Round.{RoundFacts}
 use Rattle.simplex_voter.specs.Facts.{Facts, Elect, is_tracked, with_round}
 use Rattle.simplex_laws.specs.Events.{Event}
-use Rattle.simplex_laws.specs.Leading.{leads, tracks}
+use Rattle.simplex_laws.specs.Leading.{leader_by_event, tracks}
 use Rattle.simplex_laws.specs.OwnWork.{decides_nullify, decides_finalize}
 use Rattle.simplex_laws.specs.Requested.{certifies, verifies, asks_to_build, asks_to_verify, asks_for, binds}
 use Rattle.simplex_laws.specs.Sums.{or_new, entered_by, moment_by}
@@ -26,7 +26,7 @@ module _ {K L D : Type 0} (same : D → D → Bool) (elect : Elect L) (x : Facts
   abbrev pub adds_unmoved : ℕ → Worked K D → Worked K D
   adds_unmoved v k = record k {
     tracked = tracks same elect v x e || k.tracked;
-    leader = or_new k.leader (leads same elect v x e);
+    leader = or_new k.leader (leader_by_event same elect v x e);
     verified = unwrap_or (verifies same elect v x e) k.verified;
     build_requested = unwrap_or (asks_to_build same elect v x e) k.build_requested;
     verify_requested = asks_to_verify same elect v x e || k.verify_requested;

@@ -6,7 +6,7 @@ ghost use Rattle.std.specs.Prelude.{◌++◌, ◌≡◌, IfOk, IfErr};
 ghost use Rattle.simplex_types.specs.Certificates.{notarization_facts, nullification_facts, finalization_facts, Accepted, Notarized, Nullified, Finalized};
 ghost use Rattle.simplex_member.specs.Calls.{AddNotarization, AddNullification, AddFinalization, Added, AddedNullification};
 ghost use Rattle.simplex_member.specs.Lives.{IsCall};
-ghost use Rattle.simplex_member.specs.Made.{newly};
+ghost use Rattle.simplex_member.specs.Made.{if_new};
 ghost use Rattle.simplex_member.specs.Typed.{told_of, Keeps, IsAnswered};
 
 use super::{Call, Reply};
@@ -30,7 +30,7 @@ impl<S: Scheme<D>, L: Elector<S>, D: Digest> Member<S, L, D> {
             (AddNotarization (notarization_facts S.certificate_bytes notarization)) (Added added.0 added.1) self.new) }
         ensures kept { IfErr result (λ refusal. Keeps self.old refusal self.new) }
         ensures recorded { IfOk result (λ added. self.new.entries
-            ≡ self.old.entries ++ newly added.0 (Accepted (Notarized (notarization_facts S.certificate_bytes notarization)))) }
+            ≡ self.old.entries ++ if_new added.0 (Accepted (Notarized (notarization_facts S.certificate_bytes notarization)))) }
     {
         match self.call(Call::AddNotarization(notarization)) {
             Reply::Added(is_new, equivocator) => Ok((is_new, equivocator)),
@@ -56,7 +56,7 @@ impl<S: Scheme<D>, L: Elector<S>, D: Digest> Member<S, L, D> {
             (AddNullification (nullification_facts S.certificate_bytes nullification) now) (AddedNullification is_new) self.new) }
         ensures kept { IfErr result (λ refusal. Keeps self.old refusal self.new) }
         ensures recorded { IfOk result (λ is_new. self.new.entries
-            ≡ self.old.entries ++ newly is_new (Accepted (Nullified (nullification_facts S.certificate_bytes nullification)))) }
+            ≡ self.old.entries ++ if_new is_new (Accepted (Nullified (nullification_facts S.certificate_bytes nullification)))) }
     {
         match self.call(Call::AddNullification(nullification, now)) {
             Reply::AddedNullification(is_new) => Ok(is_new),
@@ -84,7 +84,7 @@ impl<S: Scheme<D>, L: Elector<S>, D: Digest> Member<S, L, D> {
             (AddFinalization (finalization_facts S.certificate_bytes finalization) now) (Added added.0 added.1) self.new) }
         ensures kept { IfErr result (λ refusal. Keeps self.old refusal self.new) }
         ensures recorded { IfOk result (λ added. self.new.entries
-            ≡ self.old.entries ++ newly added.0 (Accepted (Finalized (finalization_facts S.certificate_bytes finalization)))) }
+            ≡ self.old.entries ++ if_new added.0 (Accepted (Finalized (finalization_facts S.certificate_bytes finalization)))) }
     {
         match self.call(Call::AddFinalization(finalization, now)) {
             Reply::Added(is_new, equivocator) => Ok((is_new, equivocator)),

@@ -6,7 +6,7 @@ ghost use Rattle.simplex_types.specs.Certificates.{certificate_facts};
 ghost use Rattle.simplex_types.specs.Encoding.{encoding};
 ghost use Rattle.simplex_types.specs.Viewed.{certificate_view};
 ghost use Rattle.simplex_resolver.specs.Facts.{term_length};
-ghost use Rattle.simplex_resolver.specs.Steps.{update, after, effects, after_scan, scan_fetches, after_raise, raise_effects, after_nullification, nullification_effects, after_notarization, notarization_effects, with_finalization, without_finalized, after_finalization, finalization_effects};
+ghost use Rattle.simplex_resolver.specs.Steps.{update, after, effects, after_scan, scan_fetches, after_raise, raise_effects, after_nullification, nullification_effects, after_notarization, notarization_effects, with_kept_finalization, without_finalized, after_finalization, finalization_effects};
 
 use crate::resolver::effect::Effect;
 use crate::resolver::state::State;
@@ -114,7 +114,7 @@ impl State {
         certificate: &Certificate<S, D>,
     ) -> Result<(), Fault>
         requires { view < 2 ^ 63 }
-        ensures after { OnOk result (self.new ≡ with_finalization self.old view (encoding D.bytes (certificate_facts S.certificate_bytes certificate.now))) }
+        ensures after { OnOk result (self.new ≡ with_kept_finalization self.old view (encoding D.bytes (certificate_facts S.certificate_bytes certificate.now))) }
         ensures same_terms { term_length self.new ≡ term_length self.old }
     {
         held::keep_finalization(self.alloc, &mut self.finalization, view, certificate)?;

@@ -2,7 +2,7 @@ use Rattle.std.proofs.Common.{refl, ap, ◌∙◌}
 use Rattle.std.proofs.lemmas.Result.{err_from_is_err_and}
 use Rattle.simplex_types.specs.Config.{floor_facts}
 use Rattle.simplex_member.specs.Entries.{entries_of}
-use Rattle.simplex_member.specs.Recovery.{all_taken}
+use Rattle.simplex_member.specs.Recovery.{after_entries}
 use Rattle.simplex_member.specs.Start.{set_up}
 use Rattle.simplex_member.proofs.Going.{floor_goes}
 use Rattle.simplex_member.proofs.Allowing.{new_bears}
@@ -51,7 +51,7 @@ returns-in-Ok-clause-recovered g c =
     let now = c.args.start.now in
     let es = entries_of bytes_of c.args.entries.now in
     c.in-Ok.ensures.after
-    ∙ ap (λ y. all_taken same elect y now es) c.in_ok-state.ensures.begun
+    ∙ ap (λ y. after_entries same elect y now es) c.in_ok-state.ensures.begun
     ∙ recovered_is same elect x (floor_facts bytes_of c.args.start.floor) now es
 
 pub returns-in-Ok-clause-going_on : goal.returns-in-Ok-clause-going_on

@@ -1,6 +1,6 @@
 use Rattle.std.proofs.Common.{◌∙◌}
 use Rattle.simplex_types.specs.Certificates.{artifact_facts}
-use Rattle.simplex_member.specs.Recovery.{added, replayed}
+use Rattle.simplex_member.specs.Recovery.{after_adding, after_replaying}
 use Rattle.simplex_member.proofs.Going.{still_in_time}
 use Rattle.simplex_member.proofs.Recovery.{added_goes, replayed_goes}
 use Rattle.simplex_member.proofs.member.recovery.take.Goals as goal
@@ -17,7 +17,7 @@ give-requires-clause-going_on g c =
     let same = g.D.PartialEq.eq in
     let elect = g.L.Elector.elect in
     let goes = added_goes same elect c.args.state.now c.args.now e in
-    let next = replayed_goes same elect (added same elect c.args.state.now c.args.now e) e in
+    let next = replayed_goes same elect (after_adding same elect c.args.state.now c.args.now e) e in
     rw (c.in_ok-replay.ensures.after, c.in_ok-add.ensures.after) (next.failed ∙ goes.failed ∙ c.requires.going_on)
 
 pub give-requires-clause-in_time : goal.give-requires-clause-in_time
@@ -25,9 +25,9 @@ give-requires-clause-in_time g c =
     let e = artifact_facts g.S.CertificateScheme.certificate_bytes c.args.artifact.now in
     let same = g.D.PartialEq.eq in
     let elect = g.L.Elector.elect in
-    let y = added same elect c.args.state.now c.args.now e in
+    let y = after_adding same elect c.args.state.now c.args.now e in
     rw (c.in_ok-replay.ensures.after, c.in_ok-add.ensures.after)
-    (still_in_time y (replayed same elect y e) c.args.now (replayed_goes same elect y e)
+    (still_in_time y (after_replaying same elect y e) c.args.now (replayed_goes same elect y e)
     (still_in_time c.args.state.now y c.args.now (added_goes same elect c.args.state.now c.args.now e) c.requires.in_time))
 
 pub give-requires-clause-allowed : goal.give-requires-clause-allowed

@@ -1,5 +1,5 @@
 use Rattle.std.proofs.Common.{◌≡◌, ◌-◌, ◌≤◌, ◌++◌}
-use Rattle.simplex_resolver.specs.Facts.{uncovered, end_of_scan}
+use Rattle.simplex_resolver.specs.Facts.{uncovered_anchors, end_of_scan}
 use Rattle.simplex_resolver.specs.Steps.{missing_fetches}
 use Rattle.simplex_resolver.proofs.resolver.scan.scan.Given as goal
 
@@ -7,8 +7,8 @@ abbrev pub invariant-loop-term_length : goal.invariant-loop-term_length
 invariant-loop-term_length l = record {
   low : 1 ≤ l.anchor;
   end : end_of_scan l.term_length l.anchor l.current ≡ end_of_scan l.term_length l.fn.first l.current;
-  fetched : l.effects.items ++ missing_fetches l.cause (uncovered l.nullifications l.anchor l.current)
-      ≡ l.initial.effects.items ++ missing_fetches l.cause (uncovered l.nullifications l.fn.first l.current);
+  fetched : l.effects.items ++ missing_fetches l.cause (uncovered_anchors l.nullifications l.anchor l.current)
+      ≡ l.initial.effects.items ++ missing_fetches l.cause (uncovered_anchors l.nullifications l.fn.first l.current);
 }
 
 abbrev pub decreases-loop-term_length : goal.decreases-loop-term_length

@@ -1,6 +1,6 @@
 use Rattle.std.proofs.Common.{◌≡◌, ◌-◌, ◌∙◌, ap, length, arith}
 use Rattle.std.specs.VecDeque.{deque_len}
-use Rattle.simplex_types.specs.Rows.{joined}
+use Rattle.simplex_types.specs.Rows.{row_entries}
 use Rattle.simplex_types.proofs.Rows.{on_err, full_cut, joined_pushed, room_pushed}
 use Rattle.simplex_types.proofs.sorted.rows.add_row.Goals as goal
 
@@ -12,9 +12,9 @@ returns-in_err-row-clause-cut g c = on_err _ (full_cut c.reserve.new.self.items 
 
 pub returns-clause-same : goal.returns-clause-same
 returns-clause-same g c =
-    ap joined c.push_back_reserved.ensures.items
+    ap row_entries c.push_back_reserved.ensures.items
     ∙ joined_pushed c.reserve.new.self.items c.in_ok-row.row c.in_ok-row.ensures.items
-    ∙ ap joined c.reserve.ensures.items
+    ∙ ap row_entries c.reserve.ensures.items
 
 pub returns-clause-room : goal.returns-clause-room
 returns-clause-room g c =

@@ -1,7 +1,7 @@
 use Rattle.std.proofs.Common.{◌+◌, ◌*◌, ◌<◌, ◌/◌, ◌%◌, ◌∙◌, ap, length, get_or, arith}
 use Rattle.std.proofs.Math.Nat.{mod-lt}
 use Rattle.std.proofs.lemmas.Nat.{div-add-mod'}
-use Rattle.simplex_types.specs.Rows.{row_size, joined}
+use Rattle.simplex_types.specs.Rows.{row_size, row_entries}
 use Rattle.simplex_types.proofs.Rows.{row_within, spot_within, entry_at}
 use Rattle.simplex_types.proofs.sorted.rows.at.Goals as goal
 
@@ -22,7 +22,7 @@ returns g c =
     let k = c.args.place / row_size in
     let o = c.args.place % row_size in
     let apart = div-add-mod' c.args.place row_size in
-    let below : k * row_size + o < length (joined rows) = omega (arith, apart, c.requires.1) in
+    let below : k * row_size + o < length (row_entries rows) = omega (arith, apart, c.requires.1) in
     let spot = spot_within rows k o c.index.result.now c.requires.0 (mod-lt c.args.place (omega arith)) below c.index.ensures in
     entry_at rows k o c.index.result.now c.index-2.result.now c.requires.0 (row_within rows k o c.requires.0 below) c.index.ensures spot c.index-2.ensures
-    ∙ ap (λ n. get_or (joined rows) n c.index-2.result.now) apart
+    ∙ ap (λ n. get_or (row_entries rows) n c.index-2.result.now) apart

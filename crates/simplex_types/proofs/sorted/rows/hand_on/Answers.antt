@@ -1,5 +1,5 @@
 use Rattle.std.proofs.Common.{◌≡◌, ◌+◌, ◌^◌, ◌<◌, suc, set, subst, ap, ◌∙◌, arith, rules}
-use Rattle.simplex_types.specs.Rows.{joined, HasRoomAt}
+use Rattle.simplex_types.specs.Rows.{row_entries, HasRoomAt}
 use Rattle.simplex_types.proofs.Rows.{room_within, has_room, full_before, next_row, handed_same, handed_room}
 use Rattle.simplex_types.proofs.sorted.rows.hand_on.Goals as goal
 
@@ -28,7 +28,7 @@ returns-clause-same g c =
     let less = c.pop_back.new.self in
     let more = c.push_front_reserved.new.self in
     let one : c.args.row + 1 ≡ suc c.args.row = omega arith in
-    ap (λ j. joined (set (set rows c.args.row less) j more)) one
+    ap (λ j. row_entries (set (set rows c.args.row less) j more)) one
     ∙ handed_same c.index_mut.result.now less c.index_mut-2.result.now more c.in-Some.value c.in-Some.ensures.items (omega (arith, c.in-Some.ensures.cases)) (omega (arith, c.in-Some.ensures.cases, c.in-Some.ensures.capacity, c.index_mut.result.now.small.1)) c.push_front_reserved.ensures.items (omega (arith, c.push_front_reserved.ensures.len)) rows c.args.row c.requires c.index_mut.ensures.value (next_row c.args.rows.now.items c.args.row c.pop_back.new.self c.index_mut-2.result.now c.index_mut-2.ensures.value)
 
 pub returns-clause-room : goal.returns-clause-room

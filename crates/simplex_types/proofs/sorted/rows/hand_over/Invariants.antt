@@ -1,12 +1,12 @@
 use Rattle.std.proofs.Common.{◌≡◌, ◌≤◌, ◌-◌}
-use Rattle.simplex_types.specs.Rows.{joined, HasRoomAt}
+use Rattle.simplex_types.specs.Rows.{row_entries, HasRoomAt}
 use Rattle.simplex_types.proofs.sorted.rows.hand_over.Given as goal
 
 -- the room has come to a row, and the entries are the same
 abbrev pub invariant-loop-row : goal.invariant-loop-row
 invariant-loop-row g l = record {
   above : l.from ≤ l.row;
-  same : joined l.rows.items ≡ joined l.fn.rows.items;
+  same : row_entries l.rows.items ≡ row_entries l.fn.rows.items;
   room : HasRoomAt l.row l.rows.items;
 }
 

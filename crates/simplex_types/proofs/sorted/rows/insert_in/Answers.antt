@@ -2,7 +2,7 @@ use Rattle.std.proofs.Common.{◌+◌, ◌-◌, ◌*◌, ◌≤◌, ◌/◌, ◌
 use Rattle.std.specs.List.{insert}
 use Rattle.std.proofs.Math.Nat.{mod-lt}
 use Rattle.std.proofs.lemmas.Nat.{div-add-mod'}
-use Rattle.simplex_types.specs.Rows.{row_size, joined, HasRoomAt}
+use Rattle.simplex_types.specs.Rows.{row_size, row_entries, HasRoomAt}
 use Rattle.simplex_types.proofs.Rows.{ok_gives, room_within, has_room, new_row_within, new_spot_within, inserted_in, cut_filled}
 use Rattle.simplex_types.proofs.sorted.rows.insert_in.Goals as goal
 
@@ -13,7 +13,7 @@ hand_over-requires g c =
     let o = c.args.place % row_size in
     let apart = div-add-mod' c.args.place row_size in
     let room : HasRoomAt (c.len-last.result - 1) rows.items = rw c.len-last.ensures (ok_gives _ c.if-is_err.ensures.value c.make_room.ensures.room) in
-    let below : k * row_size + o ≤ length (joined rows.items) = omega (arith, apart, c.requires.1, ap length c.make_room.ensures.same) in
+    let below : k * row_size + o ≤ length (row_entries rows.items) = omega (arith, apart, c.requires.1, ap length c.make_room.ensures.same) in
     let within = new_row_within rows.items (c.len-last.result - 1) k o room below in
     (omega (arith, within, rows.ok.0, c.len-last.ensures), room)
 
@@ -47,7 +47,7 @@ returns-clause-items g c =
     let same = c.hand_over.ensures.same ∙ c.make_room.ensures.same in
     let spot = new_spot_within rows k o old c.hand_over.ensures.room (mod-lt c.args.place (omega arith)) (omega (arith, apart, c.requires.1, ap length same)) c.index_mut.ensures.value in
     inserted_in rows k o old c.put.new.row c.args.value c.hand_over.ensures.room c.index_mut.ensures.value spot c.in_ok-put.ensures.items
-    ∙ ap (λ n. insert (joined rows) n c.args.value) apart
+    ∙ ap (λ n. insert (row_entries rows) n c.args.value) apart
     ∙ ap (λ t. insert t c.args.place c.args.value) same
 
 pub returns-clause-cut : goal.returns-clause-cut

@@ -2,7 +2,7 @@ use Rattle.std.proofs.Common.{◌+◌, ◌*◌, ◌<◌, ◌/◌, ◌%◌, ◌�
 use Rattle.std.specs.List.{remove}
 use Rattle.std.proofs.Math.Nat.{mod-lt}
 use Rattle.std.proofs.lemmas.Nat.{div-add-mod'}
-use Rattle.simplex_types.specs.Rows.{row_size, joined}
+use Rattle.simplex_types.specs.Rows.{row_size, row_entries}
 use Rattle.simplex_types.proofs.Rows.{row_within, spot_within, room_made, removed_in}
 use Rattle.simplex_types.proofs.sorted.rows.remove_in.Goals as goal
 
@@ -33,9 +33,9 @@ returns-clause-removed g c =
     let k = c.args.place / row_size in
     let o = c.args.place % row_size in
     let apart = div-add-mod' c.args.place row_size in
-    let below : k * row_size + o < length (joined rows) = omega (arith, apart, c.requires.1) in
+    let below : k * row_size + o < length (row_entries rows) = omega (arith, apart, c.requires.1) in
     let old = c.index_mut.result.now in
     let spot = spot_within rows k o old c.requires.0 (mod-lt c.args.place (omega arith)) below c.index_mut.ensures.value in
     c.hand_over.ensures.same
     ∙ removed_in rows k o old c.drop_at.new.row c.requires.0 (row_within rows k o c.requires.0 below) c.index_mut.ensures.value spot c.drop_at.ensures.items
-    ∙ ap (λ n. remove (joined rows) n) apart
+    ∙ ap (λ n. remove (row_entries rows) n) apart

@@ -1,7 +1,7 @@
 -- from what `Member::resume` ensures
 use Rattle.std.proofs.Common.{Ok, false}
 use Rattle.simplex_member.specs.Entries.{entries_of}
-use Rattle.simplex_member.specs.Journal.{uncut}
+use Rattle.simplex_member.specs.Journal.{whole_restart}
 use Rattle.simplex_member.specs.Start.{start_facts}
 use Rattle.simplex_member.specs.declared.member.restart.Restart.{Restart}
 use Rattle.simplex_laws.specs.Shown.{floor_in}
@@ -22,6 +22,6 @@ returns-in-Ok-clause-goes_on g c m same_stored same_entries term_length i all ho
     let start = start_facts me participants terms early bytes_of c.args.start in
     let again : Restart _ _ _ _ _ _ = record { drop = 0; prune = false; start = c.args.start } in
     let restarted = resumed_restart same elect start c.args.stored (entries_of bytes_of c.args.entries.items) m c.in-Ok.member same_stored same_entries c.in-Ok.ensures.resumed in
-    restart_done same elect term_length i m c.in-Ok.member (uncut start) (Ok tt) all (floor_in c.args.start.floor) restarted
+    restart_done same elect term_length i m c.in-Ok.member (whole_restart start) (Ok tt) all (floor_in c.args.start.floor) restarted
     (begins_as me participants terms early bytes_of term_length i c.args.start holds)
     (restart_shown me participants terms early bytes_of again (Ok tt)) done

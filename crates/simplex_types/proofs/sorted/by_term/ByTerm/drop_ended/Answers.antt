@@ -1,5 +1,5 @@
 use Rattle.std.proofs.Common.{◌≡◌, ◌<◌, ◌-◌, ◌+◌, ap, ◌∙◌, arith}
-use Rattle.simplex_types.specs.ByTerm.{joined}
+use Rattle.simplex_types.specs.ByTerm.{entries_by_view}
 use Rattle.simplex_types.proofs.Joined.{dropped_by_term, dropped, alike}
 use Rattle.simplex_types.proofs.sorted.by_term.ByTerm.drop_ended.Goals as goal
 
@@ -12,4 +12,4 @@ returns g c =
     let first : c.new.result ≡ (c.args.view - (c.self.inside.term_length - 1)) + 1 =
     omega (arith, c.new.ensures, c.saturating_sub-last_start.ensures, c.get.ensures, c.from.ensures, c.get-2.ensures.value) in
     rw (← c.self.view_is) (alike _ (
-    ap joined c.drop_below.ensures ∙ dropped c.self.inside.term_length c.self.inside.terms c.self.invariant c.new.result c.args.view some first))
+    ap entries_by_view c.drop_below.ensures ∙ dropped c.self.inside.term_length c.self.inside.terms c.self.invariant c.new.result c.args.view some first))

@@ -3,7 +3,7 @@ use Rattle.std.proofs.lemmas.Bool.{false≢true}
 use Rattle.std.specs.Option.{is_some}
 use Rattle.std.specs.FinMap as map
 use Rattle.simplex_types.specs.Tracked.{after_insert}
-use Rattle.simplex_types.specs.ByTerm.{joined, in_term}
+use Rattle.simplex_types.specs.ByTerm.{entries_by_view, in_term}
 use Rattle.simplex_types.proofs.Joined.{opened, same_by_term, same_joined, get_joined, get_here, inserted_by_term, inserted_joined, alike, err_gives}
 use Rattle.simplex_types.proofs.sorted.by_term.ByTerm.insert.Goals as goal
 
@@ -46,6 +46,6 @@ returns-clause-after g c =
     let same = (opened _ _ _ _ _ c.new.ensures (sym c.if-is_err.ensures.value) c.insert.ensures.standing c.insert.ensures.after).1 in
     let by_term = same_by_term _ _ _ c.self.invariant same in
     rw (← c.self.view_is) (alike _ (
-    ap (λ term. joined (map.insert c.insert.new.self c.term_start-start.result term)) c.insert-2.ensures.after
+    ap (λ term. entries_by_view (map.insert c.insert.new.self c.term_start-start.result term)) c.insert-2.ensures.after
     ∙ inserted_joined _ _ by_term _ _ (sym c.term_start-start.ensures) _ c.in-Some.ensures.value c.args.value c.insert-2.result
     ∙ ap (λ m. after_insert m c.args.view c.args.value c.insert-2.result) (same_joined _ _ _ c.self.invariant same)))

@@ -1,5 +1,5 @@
 use Rattle.std.proofs.Common.{ap, ◌∙◌}
-use Rattle.simplex_types.specs.ByTerm.{joined}
+use Rattle.simplex_types.specs.ByTerm.{entries_by_view}
 use Rattle.simplex_types.proofs.Joined.{by_term_empty, joined_empty, alike}
 use Rattle.simplex_types.proofs.sorted.by_term.ByTerm.new.Goals as goal
 
@@ -7,4 +7,4 @@ pub invariant_of-result : goal.invariant_of-result
 invariant_of-result g c = rw c.new.ensures (by_term_empty _ c.args.term_length)
 
 pub returns : goal.returns
-returns g c = alike _ (ap joined c.new.ensures ∙ joined_empty _)
+returns g c = alike _ (ap entries_by_view c.new.ensures ∙ joined_empty _)

@@ -6,7 +6,7 @@ use Rattle.std.proofs.Math.Nat.{mod-lt}
 use Rattle.std.proofs.lemmas.Bool.{false≢true}
 use Rattle.std.proofs.lemmas.Nat.{div-add-mod'}
 use Rattle.std.proofs.lemmas.List.{length-set, set-append_left, set-append_right, get_or_append_left, get_or-append_right}
-use Rattle.simplex_types.specs.Rows.{row_size, joined}
+use Rattle.simplex_types.specs.Rows.{row_size, row_entries}
 use Rattle.simplex_types.proofs.Rows.{if_some_weaker, row_within, spot_within, entry_at, set_in, joined_same, in_rows-set}
 use Rattle.simplex_types.proofs.sorted.rows.Rows.get_mut.Goals as goal
 
@@ -14,7 +14,7 @@ use Rattle.simplex_types.proofs.sorted.rows.Rows.get_mut.Goals as goal
 pub returns-then-place-first : goal.returns-then-place-first
 returns-then-place-first g c =
     let first = c.self.inside.first in
-    let rest = joined c.self.inside.rest.items in
+    let rest = row_entries c.self.inside.rest.items in
     let total : c.args.place < length (first.items ++ rest) = omega (arith, c.if-self-place.false, c.self.invariant.counted) in
     let here : c.args.place < deque_len first = omega (arith, c.if-place-first.true, c.len-first.ensures) in
     let within : c.args.place < length first.items = omega (arith, here, first.ok.0) in
@@ -34,8 +34,8 @@ returns-in_err-row g c =
     let rest = c.self.inside.rest in
     let after = c.args.place - c.len-first.result in
     let apart = div-add-mod' after row_size in
-    let below : after / row_size * row_size + after % row_size < length (joined rest.items) =
-    omega (arith, apart, c.if-self-place.false, c.if-place-first.false, c.self.invariant.counted, c.len-first.ensures, first.ok.0, length-append first.items (joined rest.items)) in
+    let below : after / row_size * row_size + after % row_size < length (row_entries rest.items) =
+    omega (arith, apart, c.if-self-place.false, c.if-place-first.false, c.self.invariant.counted, c.len-first.ensures, first.ok.0, length-append first.items (row_entries rest.items)) in
     let within : after / row_size < deque_len rest = omega (arith, row_within rest.items (after / row_size) (after % row_size) c.self.invariant.cut below, rest.ok.0) in
     absurd (false≢true (c.in_err-row.ensures.variant.1 within))
 
@@ -63,21 +63,21 @@ returns g c =
     let apart = div-add-mod' after row_size in
     let long : length first.items ≡ n = sym (c.len-first.ensures ∙ first.ok.0) in
     let behind : n ≤ c.args.place = omega (arith, c.if-place-first.false) in
-    let total : c.args.place < length (first.items ++ joined rest.items) = omega (arith, c.if-self-place.false, c.self.invariant.counted) in
-    let below : k * row_size + o < length (joined rest.items) = omega (arith, apart, total, behind, long, length-append first.items (joined rest.items)) in
+    let total : c.args.place < length (first.items ++ row_entries rest.items) = omega (arith, c.if-self-place.false, c.self.invariant.counted) in
+    let below : k * row_size + o < length (row_entries rest.items) = omega (arith, apart, total, behind, long, length-append first.items (row_entries rest.items)) in
     let within = row_within rest.items k o cut below in
     let spot = spot_within rest.items k o row cut (mod-lt after (omega arith)) below read in
     rw (← c.self.view_is) (
       λ t. read_of (ghost_name_of c.get_mut-3.result)
           (λ (w : g.row.T.Denot).
-          (ap (λ xs. first.items ++ xs) (set_in rest.items k o row (deque_with_item row o w) w cut within read spot refl ∙ ap (λ i. set (joined rest.items) i w) apart)
-          ∙ sym (set-append_right first.items (joined rest.items) n c.args.place w long behind)) t)
+          (ap (λ xs. first.items ++ xs) (set_in rest.items k o row (deque_with_item row o w) w cut within read spot refl ∙ ap (λ i. set (row_entries rest.items) i w) apart)
+          ∙ sym (set-append_right first.items (row_entries rest.items) n c.args.place w long behind)) t)
           (ap (λ xs. first.items ++ xs) (joined_same rest.items k row row read refl) t),
       record {
         writes_back = tt;
         variant = (λ some. total, λ there. c.get_mut-3.ensures.variant.1 spot);
         value = if_some_weaker c.get_mut-3.result (λ e found.
-            entry_at rest.items k o row e.now cut within read spot found ∙ ap (λ i. get_or (joined rest.items) i e.now) apart
-            ∙ sym (get_or-append_right first.items (joined rest.items) n c.args.place e.now long behind)) c.get_mut-3.ensures.value;
+            entry_at rest.items k o row e.now cut within read spot found ∙ ap (λ i. get_or (row_entries rest.items) i e.now) apart
+            ∙ sym (get_or-append_right first.items (row_entries rest.items) n c.args.place e.now long behind)) c.get_mut-3.ensures.value;
       },
     )

@@ -1,21 +1,21 @@
 use Rattle.std.proofs.Common.{◌++◌, ◌∙◌, ap, sym, length, length-append, arith}
 use Rattle.std.specs.List.{insert}
 use Rattle.std.proofs.lemmas.List.Edits.{insert-append_left, insert-append_right}
-use Rattle.simplex_types.specs.Rows.{joined}
+use Rattle.simplex_types.specs.Rows.{row_entries}
 use Rattle.simplex_types.proofs.sorted.rows.Rows.insert.Goals as goal
 use Rattle.simplex_types.proofs.sorted.rows.Rows.insert.Goals.{then-place-first+in_ok-put, else-place-first+in_ok-insert_in}
 
 pub insert_in-requires : goal.insert_in-requires
 insert_in-requires g c =
     let first = c.end_full_row.new.first in
-    let rest = joined c.end_full_row.new.rest.items in
+    let rest = row_entries c.end_full_row.new.rest.items in
     let long = ap length (c.end_full_row.ensures.same ∙ c.self.view_is) in
     (c.end_full_row.ensures.cut, omega (arith, long, c.requires, c.len-first.ensures, length-append first.items rest, first.ok.0))
 
 pub returns-clause-items : goal.returns-clause-items
 returns-clause-items g c =
     let first = c.end_full_row.new.first in
-    let rest = joined c.end_full_row.new.rest.items in
+    let rest = row_entries c.end_full_row.new.rest.items in
     let same = ap (λ t. insert t c.args.place c.args.value) (c.end_full_row.ensures.same ∙ c.self.view_is) in
     elim c.if-place-first.branch [
       | then-place-first+in_ok-put w ↦

@@ -1,5 +1,5 @@
 use Rattle.std.proofs.Common.{refl}
-use Rattle.simplex_voter.specs.Verifying.{unbound}
+use Rattle.simplex_voter.specs.Verifying.{with_nothing_bound}
 use Rattle.simplex_voter.proofs.Changed.{kept_changed, changed_there, untouched}
 use Rattle.simplex_voter.proofs.voter.rounds.Rounds.unbind.Goals as goal
 
@@ -7,7 +7,7 @@ pub invariant_of-self-2 : goal.invariant_of-self-2
 invariant_of-self-2 g c = kept_changed _ _ refl c.self.invariant _ _ _ c.in-Some.ensures.value (rw c.clear_verifying.ensures (record { me = refl; members = refl; round = refl; notarization = refl; leader = refl }))
 
 pub returns-in_default-clause-unbound : goal.returns-in_default-clause-unbound
-returns-in_default-clause-unbound g c = rw (← c.self.view_is) (untouched _ _ refl _ unbound c.in_default.ensures.value)
+returns-in_default-clause-unbound g c = rw (← c.self.view_is) (untouched _ _ refl _ with_nothing_bound c.in_default.ensures.value)
 
 pub returns-clause-unbound : goal.returns-clause-unbound
-returns-clause-unbound g c = rw (← c.self.view_is) (changed_there _ _ refl _ _ _ unbound c.in-Some.ensures.value c.clear_verifying.ensures)
+returns-clause-unbound g c = rw (← c.self.view_is) (changed_there _ _ refl _ _ _ with_nothing_bound c.in-Some.ensures.value c.clear_verifying.ensures)
