@@ -3,7 +3,7 @@ use Rattle.std.specs.Prelude.{ℕ, true, false, List, [], ◌∷◌, ◌++◌, N
 use Rattle.simplex_types.specs.declared.reasons.TimeoutReason.{TimeoutReason}
 use Rattle.simplex_types.specs.declared.reasons.TimeoutReason.TheVariants.{LeaderTimeout, CertificationTimeout}
 use Rattle.simplex_types.specs.declared.types.messages.Proposal.{Proposal}
-use Rattle.simplex_voter.specs.declared.voter.verification.Verify.TheVariants.{Ready}
+use Rattle.simplex_voter.specs.declared.voter.verify.Verify.TheVariants.{Ready}
 use Rattle.simplex_member.specs.Calls.{TryVerify, Verified, ConstructNotarize, Told, Notarize, Standing, Answered, Restarted}
 use Rattle.simplex_member.specs.Runs.{StepFacts, Calls, Restarts}
 use Rattle.simplex_laws.specs.Continuations.{and_then}

@@ -3,8 +3,8 @@ use Rattle.std.specs.Prelude.{ℕ, true, List, [], ◌∷◌, ◌++◌, Some}
 use Rattle.simplex_types.specs.declared.reasons.Kind.TheVariants.{Notarization}
 use Rattle.simplex_types.specs.declared.reasons.TimeoutReason.TheVariants.{LeaderTimeout, CertificationTimeout}
 use Rattle.simplex_types.specs.declared.types.messages.Proposal.{Proposal}
-use Rattle.simplex_voter.specs.declared.voter.proposal_request.ProposalRequest.TheVariants.{Prepare}
-use Rattle.simplex_voter.specs.declared.voter.verification.Verify.TheVariants.{Resolve}
+use Rattle.simplex_voter.specs.declared.voter.propose.ProposalRequest.TheVariants.{Prepare}
+use Rattle.simplex_voter.specs.declared.voter.verify.Verify.TheVariants.{Resolve}
 use Rattle.simplex_member.specs.Calls.{TryPropose, Proposed, ConstructNotarize, TryVerify, Told, Requested, Answered, Standing}
 use Rattle.simplex_member.specs.Runs.{StepFacts, Calls}
 use Rattle.simplex_laws.specs.Continuations.{and_then}

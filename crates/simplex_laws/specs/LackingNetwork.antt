@@ -3,7 +3,7 @@ use Rattle.std.specs.Prelude.{ℕ, true, List, [], ◌∷◌, ◌++◌, None}
 use Rattle.simplex_types.specs.declared.reasons.Kind.TheVariants.{Nullification, Notarization}
 use Rattle.simplex_types.specs.declared.reasons.TimeoutReason.TheVariants.{CertificationTimeout}
 use Rattle.simplex_types.specs.declared.types.messages.Proposal.{Proposal}
-use Rattle.simplex_voter.specs.declared.voter.verification.Verify.TheVariants.{Resolve}
+use Rattle.simplex_voter.specs.declared.voter.verify.Verify.TheVariants.{Resolve}
 use Rattle.simplex_member.specs.Calls.{AddNotarization, CertifyCandidates, TryVerify, Told, Added, Candidates, Standing}
 use Rattle.simplex_member.specs.Runs.{StepFacts, Calls}
 use Rattle.simplex_laws.specs.Continuations.{and_then}

@@ -15,8 +15,8 @@ use Rattle.simplex_voter.specs.Parents.{binding_matches}
 use Rattle.simplex_voter.specs.Proposing.{request_context, proposal_of, proposed_answer, propose_answer, supersede_answer}
 use Rattle.simplex_voter.specs.Replay.{restored_binding}
 use Rattle.simplex_voter.specs.Verifying.{was_scanned, standing}
-use Rattle.simplex_voter.specs.declared.voter.standing.Standing.{Standing}
-use Rattle.simplex_voter.specs.declared.voter.standing.Standing.TheVariants.{Passed, Invalid, Lacks, Ready}
+use Rattle.simplex_voter.specs.declared.voter.verify.Standing.{Standing}
+use Rattle.simplex_voter.specs.declared.voter.verify.Standing.TheVariants.{Passed, Invalid, Lacks, Ready}
 use Rattle.simplex_laws.specs.Events.{Event, SetFloor, AddNotarization, AddFinalization, Certified, TryPropose, Proposed, Supersede, Release, TryVerify, Verified, VerificationFailed, CertifyCandidates, SetCertifyHandle, Replay}
 use Rattle.simplex_laws.specs.OwnWork.{contradicts, settles, hears, owns}
 

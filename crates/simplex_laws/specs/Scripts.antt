@@ -6,7 +6,7 @@ use Rattle.simplex_types.specs.declared.types.messages.Context.{Context}
 use Rattle.simplex_types.specs.declared.types.messages.Proposal.{Proposal}
 use Rattle.simplex_types.specs.declared.types.numbers.Round.{Round}
 use Rattle.simplex_voter.specs.Facts.{Settings, Elect}
-use Rattle.simplex_voter.specs.declared.voter.verification.Verify.TheVariants.{Ready}
+use Rattle.simplex_voter.specs.declared.voter.verify.Verify.TheVariants.{Ready}
 use Rattle.simplex_member.specs.Calls.{AddNotarization, AddNullification, AddFinalization, SetProposal, TryVerify, Verified, ConstructNotarize, Certified, ConstructNullify, ConstructFinalize, Told, Added, AddedNullification, Judged, Nullify, Finalize, Notarize, Standing, Answered, Restarted}
 use Rattle.simplex_member.specs.Runs.{Calls, Restarts}
 use Rattle.simplex_member.specs.Start.{Setup, StartFacts}

@@ -6,8 +6,8 @@ use Rattle.simplex_types.specs.declared.reasons.TimeoutReason.{TimeoutReason}
 use Rattle.simplex_types.specs.declared.types.messages.Context.{Context}
 use Rattle.simplex_types.specs.declared.types.messages.Proposal.{Proposal}
 use Rattle.simplex_voter.specs.Facts.{Elect}
-use Rattle.simplex_voter.specs.declared.voter.proposal_request.ProposalRequest.TheVariants.{Propose}
-use Rattle.simplex_voter.specs.declared.voter.verification.Verify.TheVariants.{Ready}
+use Rattle.simplex_voter.specs.declared.voter.propose.ProposalRequest.TheVariants.{Propose}
+use Rattle.simplex_voter.specs.declared.voter.verify.Verify.TheVariants.{Ready}
 use Rattle.simplex_member.specs.Calls.{AddNotarization, AddNullification, AddFinalization, SetProposal, TryPropose, Proposed, TryVerify, Verified, ConstructNotarize, CertifyCandidates, Certified, ConstructNullify, ConstructFinalize, NextTimeout, Told, Added, AddedNullification, Judged, Standing, Answered, Requested, Candidates, TimesOut}
 use Rattle.simplex_member.specs.Runs.{StepFacts, Calls}
 use Rattle.simplex_member.specs.Start.{StartFacts}

@@ -14,11 +14,11 @@ use Rattle.simplex_types.specs.declared.types.fault.Fault.TheVariants as fault
 use Rattle.simplex_types.specs.Plain.{digest_bytes}
 use Rattle.simplex_types.specs.Reasons.{kind_text, timeout_reason_text, handoff_abandoned_reason_text}
 use Rattle.simplex_types.specs.Viewed.{certificate_view}
-use Rattle.simplex_voter.specs.declared.voter.offers.CertificateFetch.{CertificateFetch}
-use Rattle.simplex_voter.specs.declared.voter.proposal_request.ProposalRequest.{ProposalRequest}
-use Rattle.simplex_voter.specs.declared.voter.proposal_request.ProposalRequest.TheVariants as request
-use Rattle.simplex_voter.specs.declared.voter.verification.Verify.{Verify}
-use Rattle.simplex_voter.specs.declared.voter.verification.Verify.TheVariants as verify
+use Rattle.simplex_voter.specs.declared.voter.candidates.CertificateFetch.{CertificateFetch}
+use Rattle.simplex_voter.specs.declared.voter.propose.ProposalRequest.{ProposalRequest}
+use Rattle.simplex_voter.specs.declared.voter.propose.ProposalRequest.TheVariants as request
+use Rattle.simplex_voter.specs.declared.voter.verify.Verify.{Verify}
+use Rattle.simplex_voter.specs.declared.voter.verify.Verify.TheVariants as verify
 use Rattle.simplex_member.specs.declared.member.calls.Reply.{Reply}
 use Rattle.simplex_member.specs.declared.member.calls.Reply.TheVariants as reply
 use Rattle.simplex_program.specs.declared.voter.VoterAnswer.{VoterAnswer}

@@ -9,8 +9,8 @@ use Rattle.simplex_types.proofs.Entries.{rises}
 use Rattle.simplex_types.specs.declared.types.messages.Context.{Context}
 use Rattle.simplex_round.specs.declared.round.Leader.{Leader}
 use Rattle.simplex_round.specs.Round.{RoundFacts, new_round, should_propose}
-use Rattle.simplex_voter.specs.declared.voter.proposal_request.ProposalRequest.{ProposalRequest}
-use Rattle.simplex_voter.specs.declared.voter.proposal_request.ProposalRequest.TheVariants.{Prepare, Propose}
+use Rattle.simplex_voter.specs.declared.voter.propose.ProposalRequest.{ProposalRequest}
+use Rattle.simplex_voter.specs.declared.voter.propose.ProposalRequest.TheVariants.{Prepare, Propose}
 use Rattle.simplex_voter.specs.Facts.{Facts, Elect, round_of, round_number}
 use Rattle.simplex_voter.specs.Windows.{is_start, is_admitted}
 use Rattle.simplex_voter.specs.Parents.{preferred_parent}

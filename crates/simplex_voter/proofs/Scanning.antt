@@ -15,10 +15,10 @@ use Rattle.simplex_types.specs.Terms.{next_term_start}
 use Rattle.simplex_types.specs.declared.types.messages.Proposal.{Proposal}
 use Rattle.simplex_round.specs.declared.round.Leader.{Leader}
 use Rattle.simplex_round.specs.Round.{RoundFacts, new_round, pending_proposal}
-use Rattle.simplex_voter.specs.declared.voter.standing.Standing.{Standing}
-use Rattle.simplex_voter.specs.declared.voter.standing.Standing.TheVariants.{Passed, Invalid, Lacks, Ready}
-use Rattle.simplex_voter.specs.declared.voter.verification.Verify.{Verify}
-use Rattle.simplex_voter.specs.declared.voter.verification.Verify.TheVariants as verify
+use Rattle.simplex_voter.specs.declared.voter.verify.Standing.{Standing}
+use Rattle.simplex_voter.specs.declared.voter.verify.Standing.TheVariants.{Passed, Invalid, Lacks, Ready}
+use Rattle.simplex_voter.specs.declared.voter.verify.Verify.{Verify}
+use Rattle.simplex_voter.specs.declared.voter.verify.Verify.TheVariants as verify
 use Rattle.simplex_voter.specs.Facts.{Facts, Elect, round_at, round_of, round_number}
 use Rattle.simplex_voter.specs.Windows.{is_admitted}
 use Rattle.simplex_voter.specs.Proposing.{views_within, views_ahead}

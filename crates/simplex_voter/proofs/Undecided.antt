@@ -9,7 +9,7 @@ use Rattle.simplex_round.specs.declared.round.Decision.TheVariants.{Pending}
 use Rattle.simplex_round.specs.declared.round.Leader.{Leader}
 use Rattle.simplex_round.specs.Round.{RoundFacts, pending_proposal}
 use Rattle.simplex_types.specs.declared.reasons.Kind.TheVariants.{Nullification}
-use Rattle.simplex_voter.specs.declared.voter.standing.Standing.TheVariants.{Passed, Invalid}
+use Rattle.simplex_voter.specs.declared.voter.verify.Standing.TheVariants.{Passed, Invalid}
 use Rattle.simplex_voter.specs.Facts.{Facts, Elect, round_at}
 use Rattle.simplex_voter.specs.Gaps.{first_gap}
 use Rattle.simplex_voter.specs.Windows.{is_open, in_window, is_admitted}

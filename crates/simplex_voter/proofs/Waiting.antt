@@ -7,7 +7,7 @@ use Rattle.std.specs.Prelude.{map as map_list}
 use Rattle.std.specs.List.{filter_map, cons_option}
 use Rattle.std.specs.BTreeSet.{insert_key}
 use Rattle.simplex_types.specs.declared.types.messages.Proposal.{Proposal}
-use Rattle.simplex_voter.specs.declared.voter.offers.CertificateFetch.{CertificateFetch}
+use Rattle.simplex_voter.specs.declared.voter.candidates.CertificateFetch.{CertificateFetch}
 use Rattle.simplex_voter.specs.Facts.{Facts, Elect}
 use Rattle.simplex_types.specs.Tracked.{at_or_above}
 use Rattle.simplex_types.proofs.Maps.{entries-retain_keys}

@@ -11,7 +11,7 @@ use Rattle.simplex_types.specs.declared.types.messages.Proposal.{Proposal}
 use Rattle.simplex_types.specs.declared.reasons.TimeoutReason.TheVariants.{FailedCertification}
 use Rattle.simplex_round.specs.declared.round.Certification.TheVariants.{Outstanding}
 use Rattle.simplex_round.specs.Round.{RoundFacts, certifiable_proposal, certified_round, token_of, after_abort, is_judged}
-use Rattle.simplex_voter.specs.declared.voter.offers.CertificateFetch.{CertificateFetch}
+use Rattle.simplex_voter.specs.declared.voter.candidates.CertificateFetch.{CertificateFetch}
 use Rattle.simplex_voter.specs.Facts.{Facts, Elect, round_at, round_of, is_tracked, with_round, with_tracked}
 use Rattle.simplex_voter.specs.Refusals.{first_fault, enters_late, is_started}
 use Rattle.simplex_voter.specs.Payloads.{explicit_payload}

@@ -12,10 +12,10 @@ use Rattle.simplex_types.specs.declared.reasons.TimeoutReason.TheVariants.{Inval
 use Rattle.simplex_round.specs.declared.round.Leader.{Leader}
 use Rattle.simplex_round.specs.Slot.{after_vote, after_mark, is_unverified}
 use Rattle.simplex_round.specs.Round.{RoundFacts, is_nullify, pending_proposal, with_latch, is_last_request}
-use Rattle.simplex_voter.specs.declared.voter.standing.Standing.{Standing}
-use Rattle.simplex_voter.specs.declared.voter.standing.Standing.TheVariants.{Passed, Invalid, Lacks, Ready}
-use Rattle.simplex_voter.specs.declared.voter.verification.Verify.{Verify}
-use Rattle.simplex_voter.specs.declared.voter.verification.Verify.TheVariants as verify
+use Rattle.simplex_voter.specs.declared.voter.verify.Standing.{Standing}
+use Rattle.simplex_voter.specs.declared.voter.verify.Standing.TheVariants.{Passed, Invalid, Lacks, Ready}
+use Rattle.simplex_voter.specs.declared.voter.verify.Verify.{Verify}
+use Rattle.simplex_voter.specs.declared.voter.verify.Verify.TheVariants as verify
 use Rattle.simplex_voter.specs.Facts.{Facts, Elect, round_at, round_of, with_round, with_tracked}
 use Rattle.simplex_voter.specs.Gaps.{first_gap}
 use Rattle.simplex_voter.specs.Windows.{in_window, is_admitted}

@@ -3,8 +3,8 @@ use Rattle.std.specs.Prelude.{◌≡◌, true, false, [], ◌∷◌, Some, None}
 use Rattle.std.proofs.Common.{refl}
 use Rattle.simplex_types.specs.declared.types.fault.Fault.TheVariants.{ViewTooLarge}
 use Rattle.simplex_types.specs.declared.reasons.TimeoutReason.TheVariants.{Retry}
-use Rattle.simplex_voter.specs.declared.voter.proposal_request.ProposalRequest.TheVariants.{Propose}
-use Rattle.simplex_voter.specs.declared.voter.verification.Verify.TheVariants.{Ready, Wait}
+use Rattle.simplex_voter.specs.declared.voter.propose.ProposalRequest.TheVariants.{Propose}
+use Rattle.simplex_voter.specs.declared.voter.verify.Verify.TheVariants.{Ready, Wait}
 use Rattle.simplex_definitions.proofs.Examples.Scripts.{replies_of, voter, proposal, context, notarized, verdict, voted_finalize}
 use Rattle.simplex_definitions.proofs.Examples.Scripts.Call.{AddNotarization, AddNullification, AddFinalization, SetProposal, TryPropose, Proposed, Release, TryVerify, Verified, Candidates, Certified, Notarize, Nullify, Finalize, BroadcastFinalization, Trigger, Prune, View, Restart}
 use Rattle.simplex_definitions.proofs.Examples.Scripts.Reply.{Done, Flag, Added, Asked, Work, Offered, Judged, Vote, NullifyVote, Certificate, Views, Now, Refused, NotAllowed}

@@ -5,8 +5,8 @@ use Rattle.simplex_types.specs.Certificates.{Notarized, Nullified, Finalized}
 use Rattle.simplex_types.specs.declared.reasons.Kind.TheVariants.{Nullification, Notarization}
 use Rattle.simplex_types.specs.declared.reasons.HandoffAbandonedReason.TheVariants.{AncestryInvalidated}
 use Rattle.simplex_types.specs.declared.reasons.TimeoutReason.TheVariants.{Inactivity, LeaderNullify, LeaderTimeout, CertificationTimeout, StallTimeout, MissingProposal, InvalidProposal}
-use Rattle.simplex_voter.specs.declared.voter.proposal_request.ProposalRequest.TheVariants.{Prepare, Propose}
-use Rattle.simplex_voter.specs.declared.voter.verification.Verify.TheVariants.{Ready, Resolve, Wait}
+use Rattle.simplex_voter.specs.declared.voter.propose.ProposalRequest.TheVariants.{Prepare, Propose}
+use Rattle.simplex_voter.specs.declared.voter.verify.Verify.TheVariants.{Ready, Resolve, Wait}
 use Rattle.simplex_definitions.proofs.Examples.Scripts.{replies_of, member, usual, proposal, context, certificate, nullification, fetch, finalized, voted_notarize, voted_nullify}
 use Rattle.simplex_definitions.proofs.Examples.Scripts.Call.{AddNotarization, AddNullification, AddFinalization, SetProposal, TryPropose, Proposed, Supersede, Abandonment, Release, TryVerify, Verified, Rejected, Candidates, SetCertifyHandle, Certified, Notarize, Nullify, Finalize, BroadcastNotarization, BroadcastNullification, BroadcastFinalization, Best, Trigger, NextTimeout, Prune, Replayed, View, Elapsed, Leader, Forwardable, ParentCertified, VotedNullify}
 use Rattle.simplex_definitions.proofs.Examples.Scripts.Reply.{Done, Flag, Added, Asked, Abandoned, Work, Offered, Judged, Vote, NullifyVote, Certificate, Timeout, Views, Now, Since, Member, NotAllowed}

@@ -3,8 +3,8 @@ use Rattle.std.specs.Prelude.{◌≡◌, true, false, [], ◌∷◌, Some, None}
 use Rattle.std.proofs.Common.{refl}
 use Rattle.simplex_types.specs.declared.reasons.Kind.TheVariants.{Nullification, Notarization}
 use Rattle.simplex_types.specs.declared.reasons.TimeoutReason.TheVariants.{CertificationTimeout, InvalidProposal}
-use Rattle.simplex_voter.specs.declared.voter.proposal_request.ProposalRequest.TheVariants.{Propose}
-use Rattle.simplex_voter.specs.declared.voter.verification.Verify.TheVariants.{Ready, Resolve, Wait}
+use Rattle.simplex_voter.specs.declared.voter.propose.ProposalRequest.TheVariants.{Propose}
+use Rattle.simplex_voter.specs.declared.voter.verify.Verify.TheVariants.{Ready, Resolve, Wait}
 use Rattle.simplex_definitions.proofs.Examples.Scripts.{replies_of, voter, proposal, context, nullified, verdict}
 use Rattle.simplex_definitions.proofs.Examples.Scripts.Call.{AddNotarization, AddNullification, AddFinalization, SetProposal, TryPropose, Proposed, Supersede, Abandonment, Release, TryVerify, Verified, Rejected, Certified, Notarize, Nullify, NextTimeout, Prune, Replayed, Elapsed}
 use Rattle.simplex_definitions.proofs.Examples.Scripts.Reply.{Done, Flag, Added, Asked, Abandoned, Work, Judged, Vote, NullifyVote, Timeout, Views, Since}

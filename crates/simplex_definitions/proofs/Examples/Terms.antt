@@ -4,7 +4,7 @@ use Rattle.std.proofs.Common.{refl}
 use Rattle.simplex_types.specs.Certificates.{Notarized, Nullified, Finalized}
 use Rattle.simplex_types.specs.declared.types.fault.Fault.TheVariants.{TimeOverflow, ViewTooLarge}
 use Rattle.simplex_types.specs.declared.reasons.Kind.TheVariants.{Nullification, Notarization}
-use Rattle.simplex_voter.specs.declared.voter.verification.Verify.TheVariants.{Ready, Resolve, Wait}
+use Rattle.simplex_voter.specs.declared.voter.verify.Verify.TheVariants.{Ready, Resolve, Wait}
 use Rattle.simplex_definitions.proofs.Examples.Scripts.{replies_of, voter, above, proposal, context, certificate, nullification, notarized, nullified, finalized, verdict, voted_nullify, voted_finalize}
 use Rattle.simplex_definitions.proofs.Examples.Scripts.Call.{AddNotarization, AddNullification, AddFinalization, SetProposal, TryVerify, Certified, Nullify, Finalize, BroadcastNotarization, BroadcastNullification, BroadcastFinalization, Best, Prune, Replayed, View, Leader, ParentCertified, VotedNullify, AdmitsVote, Restart}
 use Rattle.simplex_definitions.proofs.Examples.Scripts.Reply.{Done, Flag, Added, Work, Judged, Vote, NullifyVote, Certificate, Views, Now, Member, Refused, NotAllowed}

@@ -3,8 +3,8 @@ use Rattle.std.specs.Prelude.{◌≡◌, true, false, [], ◌∷◌, Some, None}
 use Rattle.std.proofs.Common.{refl}
 use Rattle.simplex_types.specs.declared.types.fault.Fault.TheVariants.{TimeOverflow}
 use Rattle.simplex_types.specs.declared.reasons.TimeoutReason.TheVariants.{Retry, Inactivity, LeaderNullify, LeaderTimeout, CertificationTimeout, StallTimeout, MissingProposal, InvalidProposal, FailedCertification}
-use Rattle.simplex_voter.specs.declared.voter.proposal_request.ProposalRequest.TheVariants.{Prepare}
-use Rattle.simplex_voter.specs.declared.voter.verification.Verify.TheVariants.{Ready, Wait}
+use Rattle.simplex_voter.specs.declared.voter.propose.ProposalRequest.TheVariants.{Prepare}
+use Rattle.simplex_voter.specs.declared.voter.verify.Verify.TheVariants.{Ready, Wait}
 use Rattle.simplex_definitions.proofs.Examples.Scripts.{replies_of, member, voter, keyless, usual, proposal, context, fetch, notarized, verdict, voted_notarize, voted_nullify, voted_finalize}
 use Rattle.simplex_definitions.proofs.Examples.Scripts.Call.{AddNotarization, AddNullification, AddFinalization, SetProposal, TryPropose, TryVerify, Verified, Candidates, SetCertifyHandle, Certified, Notarize, Nullify, Finalize, Trigger, NextTimeout, Prune, Replayed, View, Elapsed, Forwardable, Restart}
 use Rattle.simplex_definitions.proofs.Examples.Scripts.Reply.{Done, Flag, Added, Asked, Work, Offered, Judged, Vote, NullifyVote, Timeout, Views, Now, Since, Refused, NotAllowed}

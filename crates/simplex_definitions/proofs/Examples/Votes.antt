@@ -2,8 +2,8 @@
 use Rattle.std.specs.Prelude.{◌≡◌, true, false, [], ◌∷◌, Some, None}
 use Rattle.std.proofs.Common.{refl}
 use Rattle.simplex_types.specs.declared.types.fault.Fault.TheVariants.{Failed, TimeOverflow}
-use Rattle.simplex_voter.specs.declared.voter.proposal_request.ProposalRequest.TheVariants.{Prepare}
-use Rattle.simplex_voter.specs.declared.voter.verification.Verify.TheVariants.{Ready, Wait}
+use Rattle.simplex_voter.specs.declared.voter.propose.ProposalRequest.TheVariants.{Prepare}
+use Rattle.simplex_voter.specs.declared.voter.verify.Verify.TheVariants.{Ready, Wait}
 use Rattle.simplex_definitions.proofs.Examples.Scripts.{replies_of, voter, keyless, proposal, context, notarized, verdict, voted_notarize, voted_nullify}
 use Rattle.simplex_definitions.proofs.Examples.Scripts.Call.{AddNotarization, AddNullification, AddFinalization, SetProposal, TryPropose, TryVerify, Verified, Certified, Notarize, Nullify, Finalize, NextTimeout, Replayed, View, VotedNullify, Restart}
 use Rattle.simplex_definitions.proofs.Examples.Scripts.Reply.{Done, Flag, Added, Asked, Work, Judged, Vote, NullifyVote, Now, Refused, NotAllowed}

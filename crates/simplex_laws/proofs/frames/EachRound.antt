@@ -9,8 +9,8 @@ use Rattle.simplex_voter.specs.Facts.{Facts, Elect, round_at, round_of, round_nu
 use Rattle.simplex_voter.specs.Windows.{min_active}
 use Rattle.simplex_voter.specs.Certification.{without_token}
 use Rattle.simplex_voter.specs.Serving.{after_prune}
-use Rattle.simplex_voter.specs.declared.voter.standing.Standing.{Standing}
-use Rattle.simplex_voter.specs.declared.voter.standing.Standing.TheVariants.{Passed, Invalid, Lacks, Ready}
+use Rattle.simplex_voter.specs.declared.voter.verify.Standing.{Standing}
+use Rattle.simplex_voter.specs.declared.voter.verify.Standing.TheVariants.{Passed, Invalid, Lacks, Ready}
 use Rattle.simplex_voter.specs.Verifying.{standing, round_left, was_scanned, scan_left}
 use Rattle.simplex_types.specs.declared.reasons.TimeoutReason.TheVariants.{InvalidProposal}
 use Rattle.simplex_voter.proofs.Elsewhere.{round_of-with_round}

@@ -30,7 +30,7 @@ use Rattle.simplex_voter.specs.Acceptance.{with_notarization_at, with_nullificat
 use Rattle.simplex_voter.specs.Parents.{binding_matches}
 use Rattle.simplex_voter.specs.Rules.{may_notarize, may_nullify, may_finalize}
 use Rattle.simplex_voter.specs.Votes.{nullify_cast, finalize_cast, after_construct_notarize, after_construct_nullify, after_construct_finalize}
-use Rattle.simplex_voter.specs.declared.voter.proposal_request.ProposalRequest.{ProposalRequest}
+use Rattle.simplex_voter.specs.declared.voter.propose.ProposalRequest.{ProposalRequest}
 use Rattle.simplex_voter.specs.Proposing.{request_context, propose_answer, proposed_answer, supersede_answer, context_stands, with_build, proposed_round, proposal_of, after_proposed}
 use Rattle.simplex_voter.specs.Verifying.{with_mark, without_binding, after_set_proposal}
 use Rattle.simplex_voter.specs.Refusals.{is_started}

@@ -24,7 +24,7 @@ use Rattle.simplex_voter.specs.Parents.{binding_matches}
 use Rattle.simplex_voter.specs.Rules.{may_notarize}
 use Rattle.simplex_voter.specs.Proposing.{build_requested, proposed_round, proposed_answer}
 use Rattle.simplex_voter.specs.Verifying.{standing, verifying_round, with_request, scan_left}
-use Rattle.simplex_voter.specs.declared.voter.standing.Standing.TheVariants.{Ready}
+use Rattle.simplex_voter.specs.declared.voter.verify.Standing.TheVariants.{Ready}
 use Rattle.simplex_voter.specs.Serving.{after_prune}
 use Rattle.simplex_voter.specs.Replay.{restored_binding}
 use Rattle.simplex_laws.specs.Events.{Event, IsEvent, SetFloor, AddNotarization, AddNullification, AddFinalization, Certified, ConstructNotarize, ConstructNullify, ConstructFinalize, SetProposal, Proposed, TryVerify, Verified, VerificationFailed, SetCertifyHandle, NextTimeout, Replay}

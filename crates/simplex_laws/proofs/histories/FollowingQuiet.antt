@@ -16,9 +16,9 @@ use Rattle.simplex_voter.specs.Facts.{Facts, Elect, round_of, with_tracked}
 use Rattle.simplex_voter.specs.Entering.{at_moment}
 use Rattle.simplex_voter.specs.Timeouts.{with_timeout, round_with_retry, after_trigger_timeout, after_next_timeout}
 use Rattle.simplex_voter.specs.Certification.{takes_certify_handle, after_candidates, after_set_certify_handle}
-use Rattle.simplex_voter.specs.declared.voter.proposal_request.ProposalRequest.{ProposalRequest}
-use Rattle.simplex_voter.specs.declared.voter.standing.Standing.{Standing}
-use Rattle.simplex_voter.specs.declared.voter.standing.Standing.TheVariants.{Passed, Invalid, Lacks, Ready}
+use Rattle.simplex_voter.specs.declared.voter.propose.ProposalRequest.{ProposalRequest}
+use Rattle.simplex_voter.specs.declared.voter.verify.Standing.{Standing}
+use Rattle.simplex_voter.specs.declared.voter.verify.Standing.TheVariants.{Passed, Invalid, Lacks, Ready}
 use Rattle.simplex_voter.specs.Proposing.{request_context, build_requested, with_build, propose_answer, after_try_propose, supersede_answer, after_supersede, after_release}
 use Rattle.simplex_voter.specs.Parents.{binding_matches}
 use Rattle.simplex_voter.specs.Verifying.{round_left, standing, was_scanned, scan_left, without_binding, with_mark, after_try_verify, after_verified, after_verification_failed}

@@ -22,12 +22,12 @@ use Rattle.simplex_voter.specs.Entering.{at_moment}
 use Rattle.simplex_voter.specs.Leaders.{with_next_view_ready}
 use Rattle.simplex_voter.specs.Parents.{binding_matches, preferred_parent}
 use Rattle.simplex_voter.specs.Rules.{may_notarize}
-use Rattle.simplex_voter.specs.declared.voter.proposal_request.ProposalRequest.{ProposalRequest}
-use Rattle.simplex_voter.specs.declared.voter.proposal_request.ProposalRequest.TheVariants.{Prepare, Propose}
-use Rattle.simplex_voter.specs.declared.voter.standing.Standing.{Standing}
-use Rattle.simplex_voter.specs.declared.voter.standing.Standing.TheVariants.{Passed, Invalid, Lacks, Ready}
-use Rattle.simplex_voter.specs.declared.voter.verification.Verify.{Verify}
-use Rattle.simplex_voter.specs.declared.voter.verification.Verify.TheVariants as verify
+use Rattle.simplex_voter.specs.declared.voter.propose.ProposalRequest.{ProposalRequest}
+use Rattle.simplex_voter.specs.declared.voter.propose.ProposalRequest.TheVariants.{Prepare, Propose}
+use Rattle.simplex_voter.specs.declared.voter.verify.Standing.{Standing}
+use Rattle.simplex_voter.specs.declared.voter.verify.Standing.TheVariants.{Passed, Invalid, Lacks, Ready}
+use Rattle.simplex_voter.specs.declared.voter.verify.Verify.{Verify}
+use Rattle.simplex_voter.specs.declared.voter.verify.Verify.TheVariants as verify
 use Rattle.simplex_voter.specs.Proposing.{request_context, request_on, request_in, context_on, propose_answer, proposed_answer, supersede_answer, context_stands, with_build, build_requested, proposed_round, proposal_of, views_ahead, voted_nullify, parent_certified, after_proposed, after_supersede, after_release}
 use Rattle.simplex_voter.specs.Verifying.{standing, parent_standing, is_answered, through, answer_at, answer_in, verify_answer, verifying_round, round_left, was_scanned, scan_left, with_mark, without_binding, takes_proposal, after_set_proposal, after_try_verify, after_verified, after_verification_failed}
 use Rattle.simplex_voter.specs.Timeouts.{with_timeout, after_next_timeout}

@@ -1,19 +1,81 @@
-//! The views that wait for certification, and what each has to wait for.
+//! The views that wait for certification: what each waits for, what is offered of them and what they have to fetch, and the
+//! certifications that are under way, each known by the token of its request.
 
-ghost use Rattle.std.specs.Prelude.{◌≡◌, ◌&&◌, IfErr, OnOk, is_none};
+ghost use Rattle.std.specs.Prelude.{◌≡◌, ◌≤◌, IfErr, OnOk, ◌&&◌, is_none, ◌++◌, [], IfSome, IfOk, Err, None, true, false, not};
+ghost use Rattle.std.specs.FinMap as map;
 ghost use Rattle.simplex_types.specs.declared.types.fault.Fault.TheVariants.{OutOfMemory};
+ghost use Rattle.std.specs.List.{filter_map, cons_option};
+ghost use Rattle.std.specs.Result.{IsOk};
+ghost use Rattle.simplex_round.specs.Round.{is_judged};
 
-use super::offers::CertificateFetch;
 use super::state::State;
-use super::views::name_view;
+use simplex_round::round::{Certification, Round};
+use simplex_types::sorted::{ByTerm, Entries, Tracked};
 use simplex_types::types::{CertificateScheme, Digest, Elector, Fault, Proposal, View};
+
+/// Notes a view, which may be noted already.
+#[tactic(auto, using(crate::proofs::RoundsKept::noted))]
+pub fn note_view(views: &mut ByTerm<()>, view: View) -> Result<(), Fault>
+    requires { 1 ≤ view }
+    ensures same_terms { views.new.term_length ≡ views.old.term_length }
+    ensures noted { OnOk result (views.new ≡ record views.old { by_view = map.insert views.old.by_view view tt }) }
+    ensures refused { IfErr result (λ fault. fault ≡ OutOfMemory) }
+{
+    let _standing = views.insert(view, ())?;
+    Ok(())
+}
+
+/// Names a view, which may be named already.
+#[tactic(auto, using(crate::proofs::RoundsKept::noted))]
+pub fn name_view(views: &mut Tracked<()>, view: View) -> Result<(), Fault>
+    ensures named { OnOk result (views.new ≡ map.insert views.old view tt) }
+    ensures refused { IfErr result (λ fault. fault ≡ OutOfMemory) }
+{
+    let _standing = views.insert(view, ())?;
+    Ok(())
+}
+
+/// A notarization that the certification of a proposal waits for.
+#[derive(Clone, Copy, PartialEq, Eq, Debug)]
+pub struct CertificateFetch {
+    /// The proposal's view.
+    pub proposal: View,
+    /// The view whose notarization is to be fetched.
+    pub view: View,
+}
+
+/// Appends an item, where there is one.
+fn append<T: Drop>(items: &mut Vec<T>, item: Option<T>) -> Result<(), Fault>
+    ensures appended { OnOk result (items.new.items ≡ items.old.items ++ cons_option item []) }
+    ensures refused { IfErr result (λ fault. fault ≡ OutOfMemory) }
+{
+    let Some(item) = item else {
+        return Ok(());
+    };
+    match items.push(item) {
+        Ok(()) => Ok(()),
+        Err(_) => Err(Fault::OutOfMemory),
+    }
+}
+
+/// Whether no verdict of the round's certification stands.
+fn has_no_verdict<S: CertificateScheme, D: Digest>(round: &Round<S, D>) -> bool
+    ensures { result ≡ not (is_judged true round.now.certification) && not (is_judged false round.now.certification) }
+{
+    match round.certification() {
+        Certification::Judged(_) => false,
+        Certification::Ready | Certification::Outstanding(_) | Certification::Aborted => true,
+    }
+}
 
 impl<S: CertificateScheme, L: Elector<S>, D: Digest> State<S, L, D> {
     ghost use Rattle.simplex_voter.specs.Setup.{HasSameSetup};
     ghost use Rattle.simplex_voter.specs.Facts.{round_of};
     ghost use Rattle.simplex_voter.specs.Payloads.{explicit_payload};
     ghost use Rattle.simplex_voter.specs.Parents.{spans};
-    ghost use Rattle.simplex_voter.specs.Certification.{named_also, has_certified_parent, offered_of, fetch_for, fetched_of};
+    ghost use Rattle.simplex_voter.specs.Certification.{named_also, has_certified_parent, offered_of, fetch_for, fetched_of, candidates_answer, after_candidates, takes_certify_handle, after_set_certify_handle};
+    ghost use Rattle.simplex_voter.specs.Refusals.{HasFailed, plain_refusal, is_started};
+    ghost use Rattle.simplex_voter.specs.Serving.{certify_token_of, is_certify_aborted};
 
     /// The view waits for certification, unless it is at or below the last finalized one.
     pub(super) fn name_for_certification(&mut self, view: View) -> Result<(), Fault>
@@ -80,5 +142,119 @@ impl<S: CertificateScheme, L: Elector<S>, D: Digest> State<S, L, D> {
         ensures { result ≡ (is_none (explicit_payload self.now view) && is_none (round_of self.now view).notarization) }
     {
         self.explicit_payload(view).is_none() && self.notarization(view).is_none()
+    }
+
+    /// What is offered for certification of the views that wait for it, and which notarizations they have to fetch, each
+    /// by rising view. None waits afterwards.
+    ///
+    /// Offered is the proposal that a view holds and that is notarized, unless its certification was asked for, answered
+    /// or given up, once what it requires is certified. A notarization is fetched where what a held proposal requires is
+    /// neither certified nor notarized, and its parent may still be built on. The state has a floor.
+    pub fn certify_candidates(&mut self) -> Result<(Vec<Proposal<D>>, Vec<CertificateFetch>), Fault>
+        requires { is_started self.old ≡ true }
+        ensures refused { IfSome (plain_refusal self.old) (λ fault. (result ≡ Err fault) × (self.new ≡ self.old)) }
+        ensures answer { IfOk result (λ answer. (answer.0.items, answer.1.items) ≡ candidates_answer D.eq L.elect self.old) }
+        ensures after { OnOk result (self.new ≡ after_candidates self.old) }
+        ensures out_of_memory { plain_refusal self.old ≡ None → IfErr result (λ fault. (fault ≡ OutOfMemory) × HasFailed self.old self.new) }
+    {
+        if self.is_failed() {
+            return Err(Fault::Failed);
+        }
+        match self.candidates() {
+            Ok(candidates) => {
+                self.forget_named();
+                Ok(candidates)
+            }
+            Err(fault) => {
+                self.fail();
+                Err(fault)
+            }
+        }
+    }
+
+    /// What is offered of the views that wait, and what they have to fetch.
+    fn candidates(&self) -> Result<(Vec<Proposal<D>>, Vec<CertificateFetch>), Fault>
+        ensures answer { IfOk result (λ answer. (answer.0.items, answer.1.items) ≡ candidates_answer D.eq L.elect self.now) }
+        ensures refused { IfErr result (λ fault. fault ≡ OutOfMemory) }
+    {
+        self.candidates_of(self.candidates.at_or_above(View::zero()))
+    }
+
+    /// What is offered of these views, and what they have to fetch.
+    fn candidates_of(
+        &self,
+        mut views: Entries<'_, ()>,
+    ) -> Result<(Vec<Proposal<D>>, Vec<CertificateFetch>), Fault>
+        ensures offers { IfOk result (λ answer. answer.0.items ≡ filter_map (λ e. offered_of D.eq L.elect self.now e.0) views.entry) }
+        ensures fetches { IfOk result (λ answer. answer.1.items ≡ filter_map (λ e. fetched_of L.elect self.now e.0) views.entry) }
+        ensures refused { IfErr result (λ fault. fault ≡ OutOfMemory) }
+    {
+        let mut offers = Vec::new(self.alloc);
+        let mut fetches = Vec::new(self.alloc);
+        while let Some(entry) = views.pop_first() {
+            append(&mut offers, self.offer(entry.0))?;
+            append(&mut fetches, self.fetch(entry.0))?;
+        }
+        Ok((offers, fetches))
+    }
+
+    /// No view waits for certification.
+    fn forget_named(&mut self)
+        ensures { self.new ≡ after_candidates self.old }
+    {
+        self.candidates = Tracked::new(self.alloc);
+    }
+
+    /// Whether the token of a view's certification is taken: a floor was set, and the view has no verdict.
+    pub fn takes_certify_handle(&self, view: View) -> bool
+        ensures { result ≡ takes_certify_handle self.now view }
+    {
+        if !self.is_started() {
+            return false;
+        }
+        match self.round_at(view) {
+            Some(round) => has_no_verdict(round),
+            None => true,
+        }
+    }
+
+    /// The certification of a tracked view is under way under this token, in place of what was known of it; where the
+    /// view isn't tracked, nothing changes.
+    ///
+    /// The state has a floor, and the view has no verdict.
+    pub fn set_certify_handle(&mut self, view: View, token: u64) -> Result<(), Fault>
+        requires { takes_certify_handle self.old view ≡ true }
+        ensures refused { IfSome (plain_refusal self.old) (λ fault. (result ≡ Err fault) × (self.new ≡ self.old)) }
+        ensures after { OnOk result (self.new ≡ after_set_certify_handle self.old view token) }
+        ensures taken { plain_refusal self.old ≡ None → IsOk result }
+    {
+        if self.is_failed() {
+            return Err(Fault::Failed);
+        }
+        self.set_handle(view, token);
+        Ok(())
+    }
+
+    fn set_handle(&mut self, view: View, token: u64)
+        ensures { self.new ≡ after_set_certify_handle self.old view token }
+    {
+        self.rounds.set_certify_handle(view, token);
+    }
+
+    /// The token of a tracked view's certification, while that is under way.
+    pub fn certify_token(&self, view: View) -> Option<u64>
+        ensures { result ≡ certify_token_of self.now view }
+    {
+        self.round_at(view)?.certify_token()
+    }
+
+    /// Whether the certification of a tracked view was given up, and no verdict came after that.
+    pub fn is_certify_aborted(&self, view: View) -> bool
+        ensures { result ≡ is_certify_aborted self.now view }
+    {
+        match self.round_at(view) {
+            Some(round) => round.is_certify_aborted(),
+            None => false,
+        }
     }
 }

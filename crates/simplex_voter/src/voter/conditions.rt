@@ -1,14 +1,25 @@
-//! What a caller may test before a call that asks for it. Nothing changes and none takes memory.
+//! What a caller may test before a call that asks for it, and which views a message may name. Nothing changes and none takes
+//! memory.
 
 ghost use Rattle.std.specs.Prelude.{◌≡◌, ◌↔◌, IsTrue};
+ghost use Rattle.simplex_voter.specs.Refusals.{names_too_large};
 ghost use Rattle.simplex_types.specs.Viewed.{artifact_view};
 ghost use Rattle.simplex_round.specs.Round.{is_judged, TakesArtifact};
 ghost use Rattle.simplex_voter.specs.Replay.{artifact_round};
 
-use super::state::State;
+use super::state::{LARGEST_VIEW, State};
 use simplex_round::round::{Certification, Decision, Round};
 use simplex_types::types;
-use simplex_types::types::{Artifact, CertificateScheme, Digest, Elector, View, Viewable};
+use simplex_types::types::{
+    Artifact, CertificateScheme, Digest, Elector, Proposal, View, Viewable,
+};
+
+/// Whether a proposal's view or its parent's is above 2^63 - 1.
+pub fn names_too_large<D: Digest>(proposal: &Proposal<D>) -> bool
+    ensures { result ≡ names_too_large proposal.now }
+{
+    proposal.round.view.get() > LARGEST_VIEW || proposal.parent.get() > LARGEST_VIEW
+}
 
 /// Whether this verdict of the round's certification stands.
 fn is_judged<S: CertificateScheme, D: Digest>(round: &Round<S, D>, verdict: bool) -> bool

@@ -1,19 +1,36 @@
-//! Finalizations of proposals.
+//! Finalizations of proposals, and what each ends: the work at its view and below.
 
-ghost use Rattle.std.specs.Prelude.{◌≡◌, ◌+◌, ◌<◌, ◌^◌, IfSome, IfOk, IfErr, OnOk, Err, Some, None, true, nat_lt};
+ghost use Rattle.std.specs.Prelude.{◌≡◌, ◌<◌, ◌^◌, ◌+◌, IfSome, IfOk, IfErr, OnOk, Err, Some, None, true, nat_lt};
 ghost use Rattle.simplex_types.specs.Terms.{IsVotable};
 ghost use Rattle.simplex_types.specs.Certificates.{finalization_facts};
 ghost use Rattle.simplex_types.specs.declared.types.fault.Fault.TheVariants.{OutOfMemory};
 
-use super::refusals::names_too_large;
+use super::conditions::names_too_large;
 use super::rounds::Deadlines;
 use super::state::State;
-use simplex_types::types::{CertificateScheme, Digest, Elector, Fault, Finalization, Viewable};
+use simplex_types::types::{
+    CertificateScheme, Digest, Elector, Fault, Finalization, View, Viewable,
+};
 
 impl<S: CertificateScheme, L: Elector<S>, D: Digest> State<S, L, D> {
+    ghost use Rattle.simplex_voter.specs.Certification.{with_finalized_view};
     ghost use Rattle.simplex_voter.specs.Setup.{HasSameSetup, deadlines_at};
     ghost use Rattle.simplex_voter.specs.Refusals.{HasFailed};
     ghost use Rattle.simplex_voter.specs.Acceptance.{takes_proposal_certificate, finalization_refusal, finalization_added, after_add_finalization, with_finalization_at};
+
+    /// The last finalized view is this one, where that is above the one before: nothing at or below it waits for
+    /// certification any more, and no certification is under way there.
+    pub(super) fn raise(&mut self, view: View)
+        requires { view < 2 ^ 63 }
+        ensures { self.new ≡ with_finalized_view self.old view }
+    {
+        if view <= self.finalized {
+            return;
+        }
+        self.finalized = view;
+        self.candidates.drop_below(view.next());
+        self.rounds.end_certifications(view);
+    }
 
     /// Takes a finalization: its view is the last finalized one where that is above the one before, and then nothing at
     /// or below it waits for certification; the next view is entered where that is ahead, and led by the elector's choice

@@ -1,6 +1,6 @@
-//! Leaders that go on from view to view.
+//! Leaders that go on from view to view, within a window and at a handoff.
 
-ghost use Rattle.std.specs.Prelude.{◌≡◌, ◌≤◌, ◌-◌, ◌+◌, IfErr, OnOk};
+ghost use Rattle.std.specs.Prelude.{◌≡◌, ◌-◌, ◌≤◌, Some, ◌+◌, IfErr, OnOk, ◌<◌};
 ghost use Rattle.std.specs.List.{range_with_len};
 ghost use Rattle.simplex_types.specs.Terms.{IsVotable};
 ghost use Rattle.simplex_types.specs.declared.types.fault.Fault.TheVariants.{OutOfMemory};
@@ -8,10 +8,40 @@ ghost use Rattle.simplex_types.specs.declared.types.fault.Fault.TheVariants.{Out
 use super::state::State;
 use simplex_types::types::{CertificateScheme, Digest, Elector, Fault, View};
 
+/// The view before a view; genesis for genesis.
+pub fn before(view: View) -> View
+    ensures { result ≡ view - 1 }
+{
+    View::new(view.get().saturating_sub(1))
+}
+
 impl<S: CertificateScheme, L: Elector<S>, D: Digest> State<S, L, D> {
+    ghost use Rattle.simplex_voter.specs.Windows.{is_open, in_window};
     ghost use Rattle.simplex_voter.specs.Setup.{HasSameSetup};
     ghost use Rattle.simplex_voter.specs.Rounds.{largest_tracked};
-    ghost use Rattle.simplex_voter.specs.Leaders.{with_leader_of, opened_views, with_window_leaders};
+    ghost use Rattle.simplex_voter.specs.Leaders.{with_leader_of, opened_views, with_window_leaders, with_next_view_ready};
+
+    /// Whether the view may build on a parent that is not certified yet.
+    #[tactic(auto, unfolding(crate::specs::Windows::in_window))]
+    pub(super) fn in_window(&self, view: View) -> bool
+        ensures { result ≡ in_window self.now view }
+    {
+        match self.elector.terms().lookahead().issuance_floor(view) {
+            Some(floor) => self.is_open(view, floor),
+            None => false,
+        }
+    }
+
+    /// Whether genesis or a notarized or finalized view stands below the view, from the floor on.
+    fn is_open(&self, view: View, floor: View) -> bool
+        requires { floor ≤ view }
+        ensures { result ≡ is_open self.now view (Some floor) }
+    {
+        if floor.is_zero() {
+            return true;
+        }
+        self.rounds.has_notarized_between(floor, view)
+    }
 
     /// The leader of one view, where it is known, goes on to another that has none.
     pub(super) fn inherit(&mut self, from: View, to: View) -> Result<(), Fault>
@@ -56,5 +86,27 @@ impl<S: CertificateScheme, L: Elector<S>, D: Digest> State<S, L, D> {
             .saturating_add(terms.optimistic_views)
             .saturating_add(1);
         View::new(near.min(view.term_end(terms.term_length).get()))
+    }
+
+    /// The next view takes the leader of this one in its window; at a term's start, after a vote here, this member leads
+    /// it where it is elected early.
+    pub(super) fn prepare(&mut self, view: View) -> Result<(), Fault>
+        requires { view < largest_tracked }
+        ensures prepared { OnOk result (self.new ≡ with_next_view_ready L.elect self.old view) }
+        ensures refused { IfErr result (λ fault. fault ≡ OutOfMemory) }
+        ensures setup { HasSameSetup self.old self.new }
+    {
+        let next = view.next();
+        if self.in_window(next) {
+            return self.inherit(view, next);
+        }
+        if !self.has_voted_to_notarize(view) {
+            return Ok(());
+        }
+        if !self.is_elected_early(next) {
+            return Ok(());
+        }
+        let leader = self.early_leader(next);
+        self.set_leader(next, leader)
     }
 }

@@ -5,7 +5,7 @@ ghost use Rattle.simplex_types.specs.Terms.{IsVotable};
 ghost use Rattle.simplex_types.specs.Certificates.{notarization_facts};
 ghost use Rattle.simplex_types.specs.declared.types.fault.Fault.TheVariants.{OutOfMemory};
 
-use super::refusals::names_too_large;
+use super::conditions::names_too_large;
 use super::state::State;
 use simplex_types::types::{CertificateScheme, Digest, Elector, Fault, Notarization, Viewable};
 

@@ -5,8 +5,8 @@ ghost use Rattle.simplex_types.specs.declared.types.fault.Fault.TheVariants.{Out
 ghost use Rattle.simplex_round.specs.Round.{can_notarize};
 ghost use Rattle.simplex_voter.specs.Rounds.{largest_tracked};
 
+use super::leaders::before;
 use super::state::State;
-use super::terms::before;
 use simplex_types::types::{
     CertificateScheme, Digest, Elector, Fault, Notarize, Proposal, Scheme, Subject, View,
 };

@@ -5,9 +5,9 @@ ghost use Rattle.simplex_types.specs.Terms.{IsVotable, next_term_start};
 ghost use Rattle.simplex_types.specs.Certificates.{nullification_facts};
 ghost use Rattle.simplex_types.specs.declared.types.fault.Fault.TheVariants.{OutOfMemory};
 
+use super::candidates::note_view;
 use super::rounds::Deadlines;
 use super::state::{LARGEST_VIEW, State};
-use super::views::note_view;
 use simplex_types::types::{
     CertificateScheme, Digest, Elector, Fault, Nullification, View, Viewable,
 };

@@ -1,11 +1,12 @@
-//! On which views a view may build.
+//! On which views a view may build, and on which of their payloads; which views nullifications cover, and where they leave a
+//! gap.
 
-ghost use Rattle.std.specs.Prelude.{◌≡◌, None};
+ghost use Rattle.std.specs.Prelude.{◌≡◌, ◌+◌, None};
 ghost use Rattle.std.specs.List.{filter_map, last_or};
 ghost use Rattle.simplex_voter.specs.Parents.{is_payload, is_parent, at_view};
 
+use super::leaders::before;
 use super::state::State;
-use super::terms::before;
 use simplex_round::round::Round;
 use simplex_types::sorted::Entries;
 use simplex_types::types::{CertificateScheme, Digest, Elector, Proposal, View};
@@ -38,8 +39,52 @@ fn is_parent<D: Digest>(found: Option<(View, D)>, parent: View, payload: D) -> b
 }
 
 impl<S: CertificateScheme, L: Elector<S>, D: Digest> State<S, L, D> {
-    ghost use Rattle.simplex_voter.specs.Payloads.{explicit_payload};
-    ghost use Rattle.simplex_voter.specs.Parents.{spans, leads, parent_payload, explicit_at, highest_explicit, handoff, preferred_at_start, preferred_parent, may_stand, holds_binding, binding_matches};
+    ghost use Rattle.simplex_voter.specs.Gaps.{is_covered, first_gap, is_gapless};
+    ghost use Rattle.simplex_voter.specs.Payloads.{is_handoff_parent, explicit_payload};
+    ghost use Rattle.simplex_voter.specs.Parents.{payload_for, spans, leads, parent_payload, explicit_at, highest_explicit, handoff, preferred_at_start, preferred_parent, may_stand, holds_binding, binding_matches};
+
+    /// Whether a nullification stands in the view's term, at the view or below.
+    pub(super) fn is_covered(&self, view: View) -> bool
+        ensures { result ≡ is_covered self.now view }
+    {
+        self.nullified.covering(view).is_some()
+    }
+
+    /// The lowest view strictly between two others that no nullification covers.
+    pub(super) fn first_gap(&self, parent: View, view: View) -> Option<View>
+        ensures { result ≡ first_gap self.now parent view }
+    {
+        let _length = self.elector.terms().term_length.get();
+        self.nullified.first_uncovered(parent, view)
+    }
+
+    /// Whether nullifications cover each view strictly between two others.
+    pub(super) fn is_gapless(&self, parent: View, view: View) -> bool
+        ensures { result ≡ is_gapless self.now parent view }
+    {
+        self.first_gap(parent, view).is_none()
+    }
+
+    /// Whether the term that the view ends may be handed over to this member; with the next view.
+    #[tactic(auto, unfolding(crate::specs::Payloads::is_handoff_parent))]
+    pub(super) fn is_handoff_parent(&self, view: View, next: View) -> bool
+        requires { next ≡ view + 1 }
+        ensures { result ≡ is_handoff_parent L.elect self.now view }
+    {
+        self.is_elected_early(next) && !self.is_covered(view)
+    }
+
+    /// The kind of payload that the view may build on: inside its window what the parent offers, else what is certified.
+    #[tactic(auto, unfolding(crate::specs::Parents::payload_for))]
+    pub(super) fn payload_for(&self, view: View, parent: View) -> Option<D>
+        ensures { result ≡ payload_for D.eq L.elect self.now view parent }
+    {
+        if self.in_window(view) {
+            self.optimistic_payload(parent)
+        } else {
+            self.explicit_payload(parent).copied()
+        }
+    }
 
     /// Whether the parent is below the view, not under the last finalized one, and inside a term just below. Where not,
     /// that can't change for the better.

@@ -1,23 +1,110 @@
-//! When this member builds a proposal, and on what.
+//! When this member builds a proposal, and on what; what it is asked to build.
 
-ghost use Rattle.std.specs.Prelude.{◌≡◌, ◌≤◌, ◌<◌, ◌+◌, ◌^◌, IfSome, IfOk, OnOk, Err, None, true, slice_get, if◌then◌else◌};
+ghost use Rattle.std.specs.Prelude.{◌≡◌, IfSome, OnOk, Err, None, true, IsOk, ◌≤◌, ◌<◌, ◌+◌, ◌^◌, IfOk, slice_get, if◌then◌else◌};
+ghost use Rattle.simplex_voter.specs.Proposing.{is_handoff, request_context};
 ghost use Rattle.std.specs.List.{filter_map};
 ghost use Rattle.std.specs.Result.{IsOk};
 ghost use Rattle.simplex_round.specs.Round.{should_propose};
 
-use super::proposal_request::ProposalRequest;
 use super::state::State;
 use simplex_round::round::{Leader, Round};
 use simplex_types::sorted::Entries;
 use simplex_types::types::{CertificateScheme, Context, Digest, Elector, Fault, View, Viewable};
 
+/// A proposal that this member is asked to build.
+#[derive(Clone, Copy, PartialEq, Eq)]
+pub enum ProposalRequest<D: Digest, P: Copy> {
+    /// A handoff: the first proposal of a term, on a parent that is not certified yet. It may have to be given up.
+    Prepare(Context<D, P>),
+    /// A proposal on a certified parent, or on one that its window allows.
+    Propose(Context<D, P>),
+}
+
+impl<D: Digest, P: Copy> ProposalRequest<D, P> {
+    /// Whether the parent may still fail to be certified, at a term's start.
+    pub fn is_handoff(&self) -> bool
+        ensures { result ≡ is_handoff self.now }
+    {
+        matches!(self, ProposalRequest::Prepare(_))
+    }
+
+    /// The view, its leader and the parent to build on.
+    pub fn context(&self) -> &Context<D, P>
+        ensures { result.now ≡ request_context self.now }
+    {
+        match self {
+            ProposalRequest::Prepare(context) => context,
+            ProposalRequest::Propose(context) => context,
+        }
+    }
+
+    /// The context, taken out.
+    pub fn into_context(self) -> Context<D, P>
+        ensures { result ≡ request_context self }
+    {
+        match self {
+            ProposalRequest::Prepare(context) => context,
+            ProposalRequest::Propose(context) => context,
+        }
+    }
+}
+
+impl<D: Digest, P: Copy> Viewable for ProposalRequest<D, P> {
+    ghost view_of = { λ request. (request_context request).round.view };
+
+    fn view(&self) -> View {
+        self.context().round.view
+    }
+}
+
 impl<S: CertificateScheme, L: Elector<S>, D: Digest> State<S, L, D> {
+    ghost use Rattle.simplex_voter.specs.Refusals.{plain_refusal, is_started};
+    ghost use Rattle.simplex_voter.specs.Proposing.{after_release, parent_certified, voted_nullify, context_on, request_on, request_in, propose_answer, after_try_propose, with_build, request_context, views_within, views_ahead};
     ghost use Rattle.std.specs.Ordering.{nat_cmp};
     ghost use Rattle.std.specs.FinMap.Entries.{is_sorted};
     ghost use Rattle.simplex_types.specs.Terms.{next_term_start};
     ghost use Rattle.simplex_voter.specs.Facts.{round_of};
-    ghost use Rattle.simplex_voter.specs.Refusals.{plain_refusal, is_started};
-    ghost use Rattle.simplex_voter.specs.Proposing.{context_on, request_on, request_in, propose_answer, after_try_propose, with_build, request_context, views_within, views_ahead};
+
+    /// Clears the request to build a proposal in a view, so that it can be asked for again while none is held there.
+    /// Nothing changes where the view isn't tracked.
+    ///
+    /// The state has a floor.
+    pub fn release_proposal_request(&mut self, view: View) -> Result<(), Fault>
+        requires { is_started self.old ≡ true }
+        ensures refused { IfSome (plain_refusal self.old) (λ fault. (result ≡ Err fault) × (self.new ≡ self.old)) }
+        ensures after { OnOk result (self.new ≡ after_release self.old view) }
+        ensures answers { plain_refusal self.old ≡ None → IsOk result }
+    {
+        if self.is_failed() {
+            return Err(Fault::Failed);
+        }
+        self.release(view);
+        Ok(())
+    }
+
+    /// Clears the request to build a proposal in a tracked view.
+    pub(super) fn release(&mut self, view: View)
+        ensures { self.new ≡ after_release self.old view }
+    {
+        self.rounds.release(view);
+    }
+
+    /// Whether this member's vote to nullify the view is out.
+    pub fn voted_nullify(&self, view: View) -> bool
+        ensures { result ≡ voted_nullify self.now view }
+    {
+        self.nullify_votes.get(view).is_some()
+    }
+
+    /// Whether the view is certified or finalized with just this payload; genesis has its own.
+    pub fn parent_certified(&self, parent: (View, D)) -> bool
+        ensures { result ≡ parent_certified D.eq self.now parent }
+    {
+        match self.explicit_payload(parent.0) {
+            Some(payload) => *payload == parent.1,
+            None => false,
+        }
+    }
 
     /// What this member is to build next: in the lowest view from the current one to the next term's start that it leads
     /// and may work in, where it has not voted to nullify, neither holds a proposal nor is building one, and has a parent

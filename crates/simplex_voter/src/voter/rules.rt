@@ -3,8 +3,8 @@
 ghost use Rattle.std.specs.Prelude.{◌≡◌};
 ghost use Rattle.std.specs.Option.{option_copied};
 
+use super::leaders::before;
 use super::state::State;
-use super::terms::before;
 use simplex_types::types::{CertificateScheme, Digest, Elector, Proposal, View};
 
 impl<S: CertificateScheme, L: Elector<S>, D: Digest> State<S, L, D> {

@@ -1,16 +1,109 @@
-//! Timeouts of views.
+//! Timeouts of views: the first explicit one, how many terms may be skipped before it counts no more, when a term counts as
+//! stalled, and the next timeout of the current view.
 
-ghost use Rattle.std.specs.Prelude.{◌≡◌, ◌&&◌, IfOk, IfSome, IsOk, OnOk, Err, None, true};
+ghost use Rattle.std.specs.Prelude.{◌≡◌, ◌&&◌, IfOk, IfSome, IsOk, OnOk, Err, None, true, ◌+◌, is_some, option_and_then, filter, slice_get, ◌||◌, IfErr, Some, is_err};
+ghost use Rattle.simplex_types.specs.Terms.{term_index};
+ghost use Rattle.simplex_voter.specs.Timeouts.{is_entered_between, standing_deadline, or_stalled};
+ghost use Rattle.simplex_round.specs.Round.{awaits_retry, round_timeout};
+ghost use Rattle.simplex_types.specs.declared.types.fault.Fault.TheVariants.{TimeOverflow};
 
 use super::state::State;
+use simplex_round::round::{Decision, Round};
 use simplex_types::reasons::TimeoutReason;
-use simplex_types::types::{CertificateScheme, Digest, Elector, Fault, View};
+use simplex_types::sorted::Entries;
+use simplex_types::types::{CertificateScheme, Digest, Elector, Fault, TermLength, View};
+
+/// The number of the term of a view, from 0. Genesis counts to the first term.
+fn index_of(view: View, length: TermLength) -> u64
+    ensures { result ≡ term_index length view }
+{
+    view.get().saturating_sub(1) / u64::from(length.get().get())
+}
+
+/// The number of the term of the view after a view.
+fn index_after(view: View, length: TermLength) -> u64
+    ensures { result ≡ term_index length (view + 1) }
+{
+    view.get() / u64::from(length.get().get())
+}
+
+/// The stall deadline of the first of the rounds that was entered, above one view and not above another.
+fn first_deadline<S: CertificateScheme, D: Digest>(
+    mut entries: Entries<'_, Round<S, D>>,
+    finalized: View,
+    current: View,
+) -> Option<u64>
+    ensures { result ≡ option_and_then (λ e. standing_deadline e.1) (slice_get (filter (is_entered_between finalized current) entries.entry) 0) }
+{
+    while let Some(entry) = entries.pop_first() {
+        if is_entered_between(entry.0, entry.1, finalized, current) {
+            return entry.1.stall_deadline();
+        }
+    }
+    None
+}
+
+/// Whether a view was entered, above one view and not above another.
+fn is_entered_between<S: CertificateScheme, D: Digest>(
+    view: View,
+    round: &Round<S, D>,
+    finalized: View,
+    current: View,
+) -> bool
+    ensures { result ≡ is_entered_between finalized current (view, round.now) }
+{
+    view > finalized && view <= current && is_entered(round)
+}
+
+/// Whether the view was entered.
+fn is_entered<S: CertificateScheme, D: Digest>(round: &Round<S, D>) -> bool
+    ensures { result ≡ is_some round.now.entered_at }
+{
+    round.elapsed_since_entry(0).is_some()
+}
+
+/// Whether a round has a timeout, where a vote to nullify that waits for the moment of its repeat counts too.
+fn can_time_out<S: CertificateScheme, D: Digest>(round: &Round<S, D>, allow_latched: bool) -> bool
+    ensures { result ≡ (awaits_retry round.now || is_some (round_timeout round.now allow_latched)) }
+{
+    if round.finalization().is_some() {
+        return false;
+    }
+    match round.decision() {
+        Decision::Finalize => false,
+        Decision::Nullify { .. } => true,
+        Decision::Pending {
+            leader,
+            certification,
+            latch,
+        } => {
+            (allow_latched && latch.is_some())
+                || (leader.is_some() && round.proposal().is_none())
+                || (certification.is_some() && !round.is_certified())
+        }
+    }
+}
+
+/// A round's timeout, or a stall deadline at or below it, as long as the round's is ahead. A repeat stands always.
+fn or_stalled(stall: Option<u64>, now: u64, timeout: (u64, TimeoutReason)) -> (u64, TimeoutReason)
+    ensures { result ≡ or_stalled stall now timeout }
+{
+    if timeout.1 == TimeoutReason::Retry {
+        return timeout;
+    }
+    match stall {
+        Some(deadline) if deadline <= timeout.0 && now < timeout.0 => {
+            (deadline, TimeoutReason::StallTimeout)
+        }
+        _ => timeout,
+    }
+}
 
 impl<S: CertificateScheme, L: Elector<S>, D: Digest> State<S, L, D> {
     ghost use Rattle.simplex_voter.specs.Facts.{is_tracked, round_of, with_tracked};
     ghost use Rattle.simplex_round.specs.Round.{awaits_latch, with_latch};
-    ghost use Rattle.simplex_voter.specs.Refusals.{is_started, plain_refusal};
-    ghost use Rattle.simplex_voter.specs.Timeouts.{after_trigger_timeout, is_contradicted, trigger_answer, with_timeout};
+    ghost use Rattle.simplex_voter.specs.Refusals.{is_started, plain_refusal, is_past_u64};
+    ghost use Rattle.simplex_voter.specs.Timeouts.{after_trigger_timeout, is_contradicted, trigger_answer, with_timeout, has_skip_budget, stall_deadline, after_next_timeout, has_timeout, next_timeout_answer, next_timeout_refusal, round_with_retry};
 
     /// Times a view out at its next poll, for a reason and at a moment in milliseconds: the first such timeout of a view
     /// stays, and none comes once either vote was decided. A view that is passed or isn't tracked stays as it is, and so
@@ -70,5 +163,74 @@ impl<S: CertificateScheme, L: Elector<S>, D: Digest> State<S, L, D> {
         ensures latched { self.new ≡ with_tracked self.old view (with_latch (round_of self.old view) now reason) }
     {
         self.rounds.latch(view, now, reason)
+    }
+
+    /// Whether few enough terms lie between the first one that isn't finalized and the current one.
+    pub(super) fn has_skip_budget(&self) -> bool
+        ensures { result ≡ has_skip_budget self.now }
+    {
+        let length = self.elector.terms().term_length;
+        let current = index_of(self.current, length);
+        let first = index_after(self.finalized, length);
+        current.saturating_sub(first) < self.skip_budget
+    }
+
+    /// The stall deadline of the least entered view of the current term above the last finalized one.
+    pub(super) fn stall_deadline(&self) -> Option<u64>
+        ensures { result ≡ stall_deadline self.now }
+    {
+        let start = self.current.term_start(self.elector.terms().term_length);
+        let entries = self.rounds.at_or_above(start.max(self.finalized));
+        first_deadline(entries, self.finalized, self.current)
+    }
+
+    /// Whether the current view has a timeout. Once a floor is set, it lacks one only where it is finalized, or this
+    /// member voted to finalize it, or its held proposal is certified and no latched timeout counts.
+    pub fn has_timeout(&self) -> bool
+        ensures { result ≡ has_timeout self.now }
+    {
+        match self.round_at(self.current) {
+            Some(round) => can_time_out(round, self.has_skip_budget()),
+            None => false,
+        }
+    }
+
+    /// The moment of the current view's next timeout, in milliseconds, and its reason.
+    ///
+    /// It is the round's own: a latched timeout while few enough terms were skipped, else that for want of a proposal,
+    /// else that for want of the certification; after a vote to nullify only the vote's repeat, whose moment the first
+    /// poll sets. In place of the round's comes the stall deadline of the least entered view of the current term above
+    /// the last finalized one, where that is at or below the round's and the round's is ahead; a repeat stands always.
+    ///
+    /// The state has a floor and `has_timeout`. `TimeOverflow` where the moment of a repeat passes 2^64 - 1.
+    pub fn next_timeout(&mut self, now: u64) -> Result<(u64, TimeoutReason), Fault>
+        requires started { is_started self.old ≡ true }
+        requires timeout { has_timeout self.old ≡ true }
+        ensures refused { IfSome (next_timeout_refusal self.old now) (λ fault. (result ≡ Err fault) × (self.new ≡ self.old)) }
+        ensures answer { IfOk result (λ timeout. next_timeout_answer self.old now ≡ Some timeout) }
+        ensures after { OnOk result (self.new ≡ after_next_timeout self.old now) }
+        ensures taken { next_timeout_refusal self.old now ≡ None → IsOk result }
+    {
+        if self.is_failed() {
+            return Err(Fault::Failed);
+        }
+        let stall = self.stall_deadline();
+        let Some(timeout) = self.poll(now)? else {
+            unreachable!()
+        };
+        self.note_moment(now);
+        Ok(or_stalled(stall, now, timeout))
+    }
+
+    /// The next timeout of the current view's round, if it has one.
+    fn poll(&mut self, now: u64) -> Result<Option<(u64, TimeoutReason)>, Fault>
+        ensures late { is_err result ≡ (awaits_retry (round_of self.old self.old.current) && is_past_u64 (now + self.old.settings.timeout_retry)) }
+        ensures refused { IfErr result (λ fault. (fault ≡ TimeOverflow) × (self.new ≡ self.old)) }
+        ensures polled { OnOk result (self.new ≡ with_tracked self.old self.old.current (round_with_retry self.old now)) }
+        ensures answer { IfOk result (λ timeout. timeout ≡ round_timeout (round_with_retry self.old now) (has_skip_budget self.old)) }
+    {
+        let allow_latched = self.has_skip_budget();
+        self.rounds
+            .poll(self.current, now, self.timeout_retry, allow_latched)
     }
 }

@@ -1,24 +1,114 @@
-//! The proposals of other leaders: which one is verified next, and what is lacking.
+//! The proposals of other leaders: how each stands, which one is verified next or what is lacking, and what came of those that
+//! were given out.
 
-ghost use Rattle.std.specs.Prelude.{◌≡◌, ◌≤◌, ◌+◌, ◌<◌, ◌^◌, IfSome, IfOk, OnOk, Err, None, true, is_some, option_map, slice_get, if◌then◌else◌};
+ghost use Rattle.std.specs.Prelude.{◌≡◌, ◌≤◌, ◌+◌, ◌<◌, ◌^◌, IfSome, IfOk, OnOk, Err, None, true, is_some, option_map, slice_get, if◌then◌else◌, ◌&&◌, not, false};
+ghost use Rattle.simplex_voter.specs.Verifying.{unless_asked, with_request, verifying_round, with_mark};
 ghost use Rattle.std.specs.Result.{IsOk};
-ghost use Rattle.simplex_round.specs.Round.{pending_proposal};
-ghost use Rattle.simplex_voter.specs.Verifying.{with_request, verifying_round};
+ghost use Rattle.simplex_round.specs.Round.{pending_proposal, is_nullify};
+ghost use Rattle.std.specs.Option.{option_map_or};
+ghost use Rattle.simplex_round.specs.Slot.{is_unverified};
 
-use super::standing::Standing;
 use super::state::State;
-use super::verification::Verify;
-use simplex_types::reasons::TimeoutReason;
-use simplex_types::types::{CertificateScheme, Context, Digest, Elector, Fault, View};
+use simplex_round::round::{Leader, Round};
+use simplex_types::reasons::{Kind, TimeoutReason};
+use simplex_types::types::{CertificateScheme, Context, Digest, Elector, Fault, Proposal, View};
+
+/// What comes next in verifying the proposals of other leaders.
+#[derive(Clone, Copy, PartialEq, Eq)]
+pub enum Verify<D: Digest, P: Copy> {
+    /// The proposal is to be verified, in this context.
+    Ready(Context<D, P>, Proposal<D>),
+    /// A proposal can't be verified before a certificate is there.
+    Resolve {
+        /// The proposal's view.
+        proposal: View,
+        /// The view whose certificate is lacking, and which kind of certificate.
+        view: View,
+        kind: Kind,
+        /// The proposal's leader, who can be asked for it.
+        target: P,
+    },
+    /// No proposal can be verified now, and nothing is to be asked for.
+    Wait,
+}
+
+/// How the proposal of a view stands.
+#[derive(Clone, Copy)]
+pub enum Standing<D: Digest> {
+    /// Nothing is to be done now.
+    Passed,
+    /// Its parent is invalid for good.
+    Invalid,
+    /// A certificate of this view and kind is to be asked for first.
+    Lacks(View, Kind),
+    /// It can be verified, on a parent with this payload.
+    Ready(D),
+}
+
+/// A certificate of a view is to be asked for, unless its view was the last one asked for.
+fn unless_asked<S: CertificateScheme, D: Digest>(
+    round: &Round<S, D>,
+    view: View,
+    kind: Kind,
+) -> Standing<D>
+    ensures { result ≡ unless_asked round.now view kind }
+{
+    if round.is_last_request(view) {
+        Standing::Passed
+    } else {
+        Standing::Lacks(view, kind)
+    }
+}
 
 impl<S: CertificateScheme, L: Elector<S>, D: Digest> State<S, L, D> {
+    ghost use Rattle.simplex_voter.specs.Verifying.{payload_standing, parent_standing, standing, answer_in, left_at, verify_answer, after_try_verify, without_binding, verified_answer, after_verified, after_verification_failed};
     ghost use Rattle.std.specs.Ordering.{nat_cmp};
     ghost use Rattle.std.specs.FinMap.Entries.{is_sorted};
     ghost use Rattle.simplex_types.specs.Terms.{next_term_start};
-    ghost use Rattle.simplex_voter.specs.Facts.{round_of, with_tracked, is_tracked};
+    ghost use Rattle.simplex_voter.specs.Facts.{round_of, with_tracked, is_tracked, round_at};
     ghost use Rattle.simplex_voter.specs.Refusals.{plain_refusal, is_started};
     ghost use Rattle.simplex_voter.specs.Proposing.{views_within};
-    ghost use Rattle.simplex_voter.specs.Verifying.{answer_in, left_at, standing, verify_answer, after_try_verify};
+
+    /// How the proposal of a view stands: another leads the view, this member may work there, and it was not given out to
+    /// be verified yet.
+    #[tactic(auto, unfolding(crate::specs::Verifying::standing))]
+    pub(super) fn standing(&self, view: View, round: &Round<S, D>) -> Standing<D>
+        ensures { result ≡ standing D.eq L.elect self.now (view, round.now) }
+    {
+        if !self.is_admitted(view) {
+            return Standing::Passed;
+        }
+        match round.pending_verification() {
+            Some((_, proposal)) => self.parent_standing(view, round, proposal.parent),
+            None => Standing::Passed,
+        }
+    }
+
+    /// How a proposal stands by its parent: the first gap is to be closed first.
+    fn parent_standing(&self, view: View, round: &Round<S, D>, parent: View) -> Standing<D>
+        ensures { result ≡ parent_standing D.eq L.elect self.now view round.now parent }
+    {
+        if !self.spans(view, parent) {
+            return Standing::Invalid;
+        }
+        match self.first_gap(parent, view) {
+            Some(gap) => unless_asked(round, gap, Kind::Nullification),
+            None => self.payload_standing(view, round, parent),
+        }
+    }
+
+    /// Above no gap the parent's payload is ready, or inside the window still forming, or its notarization is lacking.
+    fn payload_standing(&self, view: View, round: &Round<S, D>, parent: View) -> Standing<D>
+        ensures { result ≡ payload_standing D.eq L.elect self.now view round.now parent }
+    {
+        if let Some(payload) = self.payload_for(view, parent) {
+            return Standing::Ready(payload);
+        }
+        if self.in_window(view) {
+            return Standing::Passed;
+        }
+        unless_asked(round, parent, Kind::Notarization)
+    }
 
     /// What comes next in verifying the proposals of other leaders.
     ///
@@ -120,5 +210,70 @@ impl<S: CertificateScheme, L: Elector<S>, D: Digest> State<S, L, D> {
         ensures { self.new ≡ with_tracked self.old view (verifying_round (round_of self.old view) payload) }
     {
         self.rounds.give_out(view, payload);
+    }
+
+    /// The application verified the proposal that was given out for a view: the held one is marked, unless nullify was
+    /// decided there, and the answer says whether it was; it is not where it was marked before or another proposal was
+    /// seen. Where the view's binding no longer holds, it is taken away and nothing is marked.
+    ///
+    /// The state has a floor.
+    pub fn verified(&mut self, view: View) -> Result<bool, Fault>
+        requires { is_started self.old ≡ true }
+        ensures refused { IfSome (plain_refusal self.old) (λ fault. (result ≡ Err fault) × (self.new ≡ self.old)) }
+        ensures answer { IfOk result (λ marked. marked ≡ verified_answer D.eq L.elect self.old view) }
+        ensures after { OnOk result (self.new ≡ after_verified D.eq L.elect self.old view) }
+        ensures taken { plain_refusal self.old ≡ None → IsOk result }
+    {
+        if self.is_failed() {
+            return Err(Fault::Failed);
+        }
+        if !self.binding_matches(view) {
+            self.unbind(view);
+            return Ok(false);
+        }
+        Ok(self.mark(view))
+    }
+
+    /// The application refused the proposal that was given out for a view, or could not verify it: the view times out at
+    /// its next poll, for this reason and at this moment in milliseconds, as `trigger_timeout` has it. Where the view's
+    /// binding no longer holds, it is taken away instead. The moment is noted always.
+    ///
+    /// The state has a floor.
+    pub fn verification_failed(
+        &mut self,
+        view: View,
+        reason: TimeoutReason,
+        now: u64,
+    ) -> Result<(), Fault>
+        requires { is_started self.old ≡ true }
+        ensures refused { IfSome (plain_refusal self.old) (λ fault. (result ≡ Err fault) × (self.new ≡ self.old)) }
+        ensures after { OnOk result (self.new ≡ after_verification_failed D.eq L.elect self.old view reason now) }
+        ensures taken { plain_refusal self.old ≡ None → IsOk result }
+    {
+        if self.is_failed() {
+            return Err(Fault::Failed);
+        }
+        let holds = self.binding_matches(view);
+        self.note_moment(now);
+        if holds {
+            self.trigger(view, reason, now);
+        } else {
+            self.unbind(view);
+        }
+        Ok(())
+    }
+
+    /// Marks the held proposal of a view as verified, and answers whether it did.
+    fn mark(&mut self, view: View) -> bool
+        ensures first { result ≡ option_map_or (λ r. not (is_nullify r.decision) && is_unverified r.slot) (round_at self.old view) false }
+        ensures marked { self.new ≡ with_tracked self.old view (with_mark (round_of self.old view)) }
+    {
+        self.rounds.mark(view)
+    }
+
+    fn unbind(&mut self, view: View)
+        ensures { self.new ≡ without_binding self.old view }
+    {
+        self.rounds.unbind(view);
     }
 }

@@ -3,8 +3,8 @@
 ghost use Rattle.std.specs.Prelude.{◌≡◌, ◌≤◌, IfSome, IfOk, IfErr, OnOk, OnSome, Err, None, Some, true, is_some, option_map, if◌then◌else◌};
 ghost use Rattle.simplex_types.specs.declared.types.fault.Fault.TheVariants.{OutOfMemory};
 
+use super::candidates::note_view;
 use super::state::State;
-use super::views::note_view;
 use simplex_round::round::Decision;
 use simplex_types::reasons::TimeoutReason;
 use simplex_types::types::{

@@ -5,8 +5,8 @@ use Rattle.std.specs.Option.{option_or}
 use Rattle.simplex_types.specs.declared.types.messages.Proposal.{Proposal}
 use Rattle.simplex_types.specs.declared.reasons.TimeoutReason.TheVariants.{InvalidProposal}
 use Rattle.simplex_round.specs.Round.{RoundFacts}
-use Rattle.simplex_voter.specs.declared.voter.standing.Standing.{Standing}
-use Rattle.simplex_voter.specs.declared.voter.standing.Standing.TheVariants.{Passed, Invalid, Lacks, Ready}
+use Rattle.simplex_voter.specs.declared.voter.verify.Standing.{Standing}
+use Rattle.simplex_voter.specs.declared.voter.verify.Standing.TheVariants.{Passed, Invalid, Lacks, Ready}
 use Rattle.simplex_voter.specs.Facts.{Settings, Facts, Elect, round_of, is_tracked}
 use Rattle.simplex_voter.specs.Verifying.{round_left, standing, was_scanned, after_try_verify}
 use Rattle.simplex_laws.specs.Events.{Event, TryVerify}

@@ -2,7 +2,7 @@ use Rattle.std.proofs.Common.{ap, sym, ◌∙◌}
 use Rattle.std.specs.Prelude.{option_and_then}
 use Rattle.simplex_voter.specs.Timeouts.{is_entered_between, standing_deadline}
 use Rattle.simplex_voter.proofs.Stalls.{first_found, first_next, first_end}
-use Rattle.simplex_voter.proofs.voter.stalls.first_deadline.Goals as goal
+use Rattle.simplex_voter.proofs.voter.timeouts.first_deadline.Goals as goal
 
 pub returns-then-is_entered_between : goal.returns-then-is_entered_between
 returns-then-is_entered_between g c =

@@ -1,6 +1,6 @@
 use Rattle.std.proofs.Common.{◌≡◌, filter, slice_get, length}
 use Rattle.simplex_voter.specs.Timeouts.{is_entered_between}
-use Rattle.simplex_voter.proofs.voter.stalls.first_deadline.Given as goal
+use Rattle.simplex_voter.proofs.voter.timeouts.first_deadline.Given as goal
 
 -- the first of the rest is the first
 abbrev pub invariant-loop-entry : goal.invariant-loop-entry

@@ -1,0 +1,237 @@
+//! Changes of the round of one view: certificates and proposals as it keeps them, certificates as it hands them out, each once,
+//! and what else is noted. Only what is kept takes memory; where a view isn't tracked, nothing else changes.
+
+ghost use Rattle.std.specs.Prelude.{◌≡◌, ◌≤◌, ◌<◌, ◌^◌, IfOk, IfErr, OnOk, ◌||◌, OnErr, true, is_some, option_map, option_and_then, ◌&&◌, ◌+◌, false, is_err, not};
+ghost use Rattle.simplex_types.specs.Certificates.{notarization_facts, nullification_facts, finalization_facts};
+ghost use Rattle.simplex_types.specs.Proposal.{same_proposal};
+ghost use Rattle.simplex_types.specs.declared.types.fault.Fault.TheVariants.{OutOfMemory, TimeOverflow};
+ghost use Rattle.simplex_round.specs.Round.{with_notarization, with_nullification, with_finalization, awaits_latch, awaits_retry, can_finalize, certified_round, is_judged, round_timeout, with_latch, with_retry};
+ghost use Rattle.std.specs.Option.{option_map_or};
+ghost use Rattle.simplex_round.specs.declared.round.Certification.TheVariants.{Outstanding};
+ghost use Rattle.simplex_round.specs.declared.round.Decision.TheVariants.{Finalize};
+
+use super::rounds::Rounds;
+use simplex_types::reasons::TimeoutReason;
+use simplex_types::types::{
+    CertificateScheme, Digest, Fault, Finalization, Notarization, Nullification, Proposal, View,
+};
+
+impl<S: CertificateScheme, D: Digest> Rounds<S, D> {
+    ghost use Rattle.simplex_voter.specs.Rounds.{round_of, with_change, largest_tracked, HasSameOrigin, round_at, with_change_in_place, is_tracked};
+    ghost use Rattle.simplex_voter.specs.Acceptance.{added_answer};
+    ghost use Rattle.simplex_voter.specs.Verifying.{is_new_proposal, with_proposal};
+    ghost use Rattle.simplex_round.specs.Round.{once};
+    ghost use Rattle.simplex_voter.specs.Refusals.{is_past_u64};
+    ghost use Rattle.simplex_voter.specs.Proposing.{build_requested};
+
+    /// Keeps the first notarization of a view. Answers whether it is that, with the key of a leader found to equivocate.
+    pub fn keep_notarization(
+        &mut self,
+        view: View,
+        notarization: Notarization<S, D>,
+    ) -> Result<(bool, Option<S::PublicKey>), Fault>
+        requires { view < 2 ^ 63 }
+        ensures added { IfOk result (λ added.
+            added ≡ added_answer D.eq (round_of self.old view).notarization (round_of self.old view) notarization.proposal) }
+        ensures kept { OnOk result (self.new ≡ with_change self.old view (λ r.
+            with_notarization (same_proposal D.eq) r (notarization_facts S.certificate_bytes notarization))) }
+        ensures refused { IfErr result (λ fault. fault ≡ OutOfMemory) }
+        ensures origin { HasSameOrigin self.old self.new }
+    {
+        self.track(view)?;
+        let Some(round) = self.by_view.get_mut(view) else {
+            unreachable!()
+        };
+        Ok(round.add_notarization(notarization))
+    }
+
+    /// Keeps the first nullification of a view.
+    pub fn keep_nullification(
+        &mut self,
+        view: View,
+        nullification: Nullification<S>,
+    ) -> Result<(), Fault>
+        requires { view ≤ largest_tracked }
+        ensures kept { OnOk result (self.new ≡ with_change self.old view (λ r. with_nullification r (nullification_facts S.certificate_bytes nullification))) }
+        ensures refused { IfErr result (λ fault. fault ≡ OutOfMemory) }
+        ensures origin { HasSameOrigin self.old self.new }
+    {
+        self.track(view)?;
+        let Some(round) = self.by_view.get_mut(view) else {
+            unreachable!()
+        };
+        let _first = round.add_nullification(nullification);
+        Ok(())
+    }
+
+    /// Keeps the first finalization of a view. Answers whether it is that, with the key of a leader found to equivocate.
+    pub fn keep_finalization(
+        &mut self,
+        view: View,
+        finalization: Finalization<S, D>,
+    ) -> Result<(bool, Option<S::PublicKey>), Fault>
+        requires { view ≤ largest_tracked }
+        ensures added { IfOk result (λ added.
+            added ≡ added_answer D.eq (round_of self.old view).finalization (round_of self.old view) finalization.proposal) }
+        ensures kept { OnOk result (self.new ≡ with_change self.old view (λ r.
+            with_finalization (same_proposal D.eq) r (finalization_facts S.certificate_bytes finalization))) }
+        ensures refused { IfErr result (λ fault. fault ≡ OutOfMemory) }
+        ensures origin { HasSameOrigin self.old self.new }
+    {
+        self.track(view)?;
+        let Some(round) = self.by_view.get_mut(view) else {
+            unreachable!()
+        };
+        Ok(round.add_finalization(finalization))
+    }
+
+    /// The round of a view takes a proposal, and answers whether it is to be verified. The view is tracked from then on.
+    pub fn take_proposal(&mut self, view: View, proposal: &Proposal<D>) -> Result<bool, Fault>
+        requires { view ≤ largest_tracked }
+        ensures first { IfOk result (λ first. first ≡ is_new_proposal (round_of self.old view)) }
+        ensures taken { OnOk result (self.new ≡ with_change self.old view (λ r. with_proposal D.eq r proposal.now)) }
+        ensures refused { IfErr result (λ fault. fault ≡ OutOfMemory) }
+        ensures origin { HasSameOrigin self.old self.new }
+    {
+        self.track(view)?;
+        let Some(round) = self.by_view.get_mut(view) else {
+            unreachable!()
+        };
+        Ok(round.set_proposal(proposal))
+    }
+
+    /// Hands out the notarization of a view, once.
+    pub fn hand_out_notarization(&mut self, view: View) -> Result<Option<Notarization<S, D>>, Fault>
+        ensures answer { IfOk result (λ c.
+            option_map (notarization_facts S.certificate_bytes) c
+            ≡ option_and_then (λ r. once r.notarization_broadcast r.notarization) (round_at self.old view)) }
+        ensures handed_out { OnOk result (self.new ≡ with_change_in_place self.old view (λ r.
+            record r { notarization_broadcast = r.notarization_broadcast || is_some r.notarization })) }
+        ensures refused { IfErr result (λ fault. fault ≡ OutOfMemory) }
+        ensures refused_only_a_copy { OnErr result (is_some
+            (option_and_then (λ r. once r.notarization_broadcast r.notarization) (round_at self.old view)) ≡ true) }
+        ensures origin { HasSameOrigin self.old self.new }
+    {
+        let Some(round) = self.by_view.get_mut(view) else {
+            return Ok(None);
+        };
+        round.broadcast_notarization(self.alloc)
+    }
+
+    /// Hands out the nullification of a view, once.
+    pub fn hand_out_nullification(&mut self, view: View) -> Result<Option<Nullification<S>>, Fault>
+        ensures answer { IfOk result (λ c.
+            option_map (nullification_facts S.certificate_bytes) c
+            ≡ option_and_then (λ r. once r.nullification_broadcast r.nullification) (round_at self.old view)) }
+        ensures handed_out { OnOk result (self.new ≡ with_change_in_place self.old view (λ r.
+            record r { nullification_broadcast = r.nullification_broadcast || is_some r.nullification })) }
+        ensures refused { IfErr result (λ fault. fault ≡ OutOfMemory) }
+        ensures refused_only_a_copy { OnErr result (is_some
+            (option_and_then (λ r. once r.nullification_broadcast r.nullification) (round_at self.old view)) ≡ true) }
+        ensures origin { HasSameOrigin self.old self.new }
+    {
+        let Some(round) = self.by_view.get_mut(view) else {
+            return Ok(None);
+        };
+        round.broadcast_nullification(self.alloc)
+    }
+
+    /// Hands out the finalization of a view, once.
+    pub fn hand_out_finalization(&mut self, view: View) -> Result<Option<Finalization<S, D>>, Fault>
+        ensures answer { IfOk result (λ c.
+            option_map (finalization_facts S.certificate_bytes) c
+            ≡ option_and_then (λ r. once r.finalization_broadcast r.finalization) (round_at self.old view)) }
+        ensures handed_out { OnOk result (self.new ≡ with_change_in_place self.old view (λ r.
+            record r { finalization_broadcast = r.finalization_broadcast || is_some r.finalization })) }
+        ensures refused { IfErr result (λ fault. fault ≡ OutOfMemory) }
+        ensures refused_only_a_copy { OnErr result (is_some
+            (option_and_then (λ r. once r.finalization_broadcast r.finalization) (round_at self.old view)) ≡ true) }
+        ensures origin { HasSameOrigin self.old self.new }
+    {
+        let Some(round) = self.by_view.get_mut(view) else {
+            return Ok(None);
+        };
+        round.broadcast_finalization(self.alloc)
+    }
+
+    /// Decides the vote to finalize a view, whose round allows that, and answers what is voted for.
+    pub fn decide_finalize(&mut self, view: View) -> Option<Proposal<D>>
+        requires { can_finalize (round_of self.old view) ≡ true }
+        ensures vote { result ≡ (round_of self.old view).slot.held }
+        ensures decided { self.new ≡ with_change self.old view (λ r. record r { decision = Finalize }) }
+        ensures origin { HasSameOrigin self.old self.new }
+    {
+        let Some(round) = self.by_view.get_mut(view) else {
+            unreachable!()
+        };
+        round.construct_finalize()
+    }
+
+    /// Keeps the verdict of a view's certification. No contradicting one stands.
+    pub fn judge(&mut self, view: View, success: bool)
+        requires { option_map_or (λ r. is_judged (not success) r.certification) (round_at self.old view) false ≡ false }
+        ensures judged { self.new ≡ with_change_in_place self.old view (λ r. certified_round r success) }
+        ensures origin { HasSameOrigin self.old self.new }
+    {
+        let Some(round) = self.by_view.get_mut(view) else {
+            return;
+        };
+        round.certified(success);
+    }
+
+    /// Latches an explicit timeout of a view, and answers whether it did: the first one stays.
+    pub fn latch(&mut self, view: View, now: u64, reason: TimeoutReason) -> bool
+        ensures answer { result ≡ (is_tracked self.old view && awaits_latch (round_of self.old view)) }
+        ensures latched { self.new ≡ with_change_in_place self.old view (λ r. with_latch r now reason) }
+        ensures origin { HasSameOrigin self.old self.new }
+    {
+        let Some(round) = self.by_view.get_mut(view) else {
+            return false;
+        };
+        round.latch_timeout(now, reason)
+    }
+
+    /// Answers the next timeout of a view, if it has one. The first poll after a vote to nullify sets the moment of its
+    /// repeat; where that is past 2^64 - 1, nothing changes and `TimeOverflow` is answered.
+    pub fn poll(
+        &mut self,
+        view: View,
+        now: u64,
+        retry: u64,
+        allow_latched: bool,
+    ) -> Result<Option<(u64, TimeoutReason)>, Fault>
+        ensures late { is_err result ≡ (awaits_retry (round_of self.old view) && is_past_u64 (now + retry)) }
+        ensures refused { IfErr result (λ fault. (fault ≡ TimeOverflow) × (self.new ≡ self.old)) }
+        ensures polled { OnOk result (self.new ≡ with_change_in_place self.old view (λ r. with_retry r now retry)) }
+        ensures answer { IfOk result (λ timeout.
+            timeout ≡ option_and_then (λ r. round_timeout (with_retry r now retry) allow_latched) (round_at self.old view)) }
+        ensures origin { HasSameOrigin self.old self.new }
+    {
+        let Some(round) = self.by_view.get_mut(view) else {
+            return Ok(None);
+        };
+        round.next_timeout(now, retry, allow_latched)
+    }
+
+    /// Keeps the token of a view's certification, in place of all before.
+    pub fn set_certify_handle(&mut self, view: View, token: u64)
+        ensures set { self.new ≡ with_change_in_place self.old view (λ r. record r { certification = Outstanding token }) }
+        ensures origin { HasSameOrigin self.old self.new }
+    {
+        let Some(round) = self.by_view.get_mut(view) else {
+            return;
+        };
+        round.set_certify_handle(token);
+    }
+
+    /// Clears the request to build a proposal in a view.
+    pub fn release(&mut self, view: View)
+        ensures released { self.new ≡ with_change_in_place self.old view (λ r. record r { slot = build_requested false r.slot }) }
+        ensures origin { HasSameOrigin self.old self.new }
+    {
+        let Some(round) = self.by_view.get_mut(view) else {
+            return;
+        };
+        round.clear_proposal_request();
+    }
+}
