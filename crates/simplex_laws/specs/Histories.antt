@@ -12,7 +12,7 @@ use Rattle.simplex_member.specs.Restarts.{RestartFacts, IsByView, IsRestart, cut
 use Rattle.simplex_member.specs.Runs.{StepFacts, Calls, Restarts, IsStep, IsRun}
 use Rattle.simplex_laws.specs.Shows.{Shows}
 use Rattle.simplex_member.specs.Start.{Setup, StartFacts, started_member, new_state}
-use Rattle.simplex_laws.specs.Sums.{finalized_in}
+use Rattle.simplex_laws.specs.Sums.{finalized_by_events}
 
 -- an entry is taken again: a certificate is added before it is replayed, and a verdict is given after that
 abbrev pub retaken_events : {K D : Type 0} → ℕ → ArtifactFacts D → List (Event K D)
@@ -36,7 +36,7 @@ module _ {K L D : Type 0} where
   -- with an entry that is taken again; one below the views that are kept is passed over
   abbrev pub with_entry_taken : History K L D → ℕ → ArtifactFacts D → History K L D
   with_entry_taken history now e =
-      if nat_lt (entry_view e) (finalized_in history.events - history.fresh.settings.view_retention)
+      if nat_lt (entry_view e) (finalized_by_events history.events - history.fresh.settings.view_retention)
       then history
       else with_events history (retaken_events now e)
 

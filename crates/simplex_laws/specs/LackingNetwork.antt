@@ -38,7 +38,7 @@ abbrev pub skips_two : Story ℕ ℕ ℕ
 skips_two = begins_with 1 1 (first_view 1 ++ hears two true ∷ verifies 1 0 two ++ second_view 1 ++ skips 2 ∷ builds 1 over_two)
 
 -- member 2 heard of no certificate but that nullification, and lacks the notarization of view 1
-abbrev pub lacks_notarization : Story ℕ ℕ ℕ
+abbrev pub member_without_notarization : Story ℕ ℕ ℕ
 lacks_notarization = begins_with 1 2 (
     hears one true
     ∷ verifies 2 3 one
@@ -49,7 +49,7 @@ lacks_notarization = begins_with 1 2 (
 
 -- four members, of which the first leader is faulty
 abbrev pub lacking : List (Place ℕ ℕ ℕ)
-lacking = Honest lacks_nullification ∷ Honest skips_two ∷ Honest lacks_notarization ∷ Faulty ∷ []
+lacking = Honest lacks_nullification ∷ Honest skips_two ∷ Honest member_without_notarization ∷ Faulty ∷ []
 
 -- a member certifies view 3 and finalizes it
 abbrev pub finishes : ℕ → List (StepFacts ℕ ℕ ℕ × Told ℕ ℕ)
@@ -68,6 +68,6 @@ abbrev pub supplied : List (Place ℕ ℕ ℕ)
 supplied =
     Honest (and_then lacks_nullification has_nullification)
     ∷ Honest (and_then skips_two (finishes 1))
-    ∷ Honest (and_then lacks_notarization has_notarization)
+    ∷ Honest (and_then member_without_notarization has_notarization)
     ∷ Faulty
     ∷ []

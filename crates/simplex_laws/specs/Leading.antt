@@ -14,7 +14,7 @@ use Rattle.simplex_voter.specs.Rules.{may_notarize, may_nullify, may_finalize}
 use Rattle.simplex_voter.specs.Windows.{in_window}
 use Rattle.simplex_member.specs.Entries.{entry_view}
 use Rattle.simplex_laws.specs.Events.{Event, SetFloor, AddNotarization, AddNullification, AddFinalization, ConstructNotarize, ConstructNullify, ConstructFinalize, SetProposal, Replay}
-use Rattle.simplex_laws.specs.Sums.{is_among}
+use Rattle.simplex_laws.specs.Sums.{has_view}
 
 module _ {K L D : Type 0} where
   -- the member of the same index
@@ -28,7 +28,7 @@ module _ {K L D : Type 0} where
 
   -- the leader behind a view whose window a certificate of u opens
   abbrev pub window_leader : Facts K L D → ℕ → ℕ → Option (Leader K)
-  window_leader x u v = if is_among (opened_views x u) v then nearest_leader x u (v - 1 - u) else None
+  window_leader x u v = if has_view (opened_views x u) v then nearest_leader x u (v - 1 - u) else None
 
 module _ {K L D : Type 0} (elect : Elect L) where
   -- the elector's choice for a view, after a certificate of these bytes

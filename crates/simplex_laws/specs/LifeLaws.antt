@@ -44,8 +44,8 @@ pub record CurrentTimesOut {K L D : Type 0} (x : Facts K L D) : Type 0 where
       ⊎ (is_finalize (round_of x x.current).decision ≡ true)
 
 -- a proposal of the view was seen that contradicts another
-abbrev pub is_conflicted : {K L D : Type 0} → Facts K L D → ℕ → Bool
-is_conflicted x v = (round_of x v).slot.conflict
+abbrev pub has_conflict : {K L D : Type 0} → Facts K L D → ℕ → Bool
+has_conflict x v = (round_of x v).slot.conflict
 
 -- a call was told that it dropped the view
 abbrev pub IsDropped : {K D : Type 0} → List (Told K D) → ℕ → Type 0
@@ -58,7 +58,7 @@ pub record IsPruned {K L D : Type 0} (replies : List (Told K D)) (last : Facts K
 
 -- a conflict of a view stays until the view is pruned
 abbrev pub ConflictsStay : {K L D : Type 0} → List (Told K D) → Facts K L D → Facts K L D → Type 0
-ConflictsStay replies first last = (v : ℕ) → is_conflicted first v ≡ true → (is_conflicted last v ≡ true) ⊎ IsPruned replies last v
+ConflictsStay replies first last = (v : ℕ) → has_conflict first v ≡ true → (has_conflict last v ≡ true) ⊎ IsPruned replies last v
 
 -- what was dropped isn't tracked again
 abbrev pub DroppedForGood : {K L D : Type 0} → List (Told K D) → Facts K L D → Facts K L D → Type 0

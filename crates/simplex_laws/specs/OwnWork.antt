@@ -53,11 +53,11 @@ module _ {K L D : Type 0} where
   casts_nullify v x _ = false
 
   -- the proposal of a certificate that is the first of its kind
-  abbrev pub settles : ℕ → Facts K L D → Event K D → Option (Proposal D)
-  settles v x (AddNotarization c) = if v == c.proposal.round.view && is_none (round_of x c.proposal.round.view).notarization then Some c.proposal else None
-  settles v x (AddFinalization c _) = if v == c.proposal.round.view && is_none (round_of x c.proposal.round.view).finalization then Some c.proposal else None
-  settles v x (SetFloor (FloorFinalized c) _) = if v == c.proposal.round.view && is_none (round_of x c.proposal.round.view).finalization then Some c.proposal else None
-  settles v x _ = None
+  abbrev pub first_certificate_by : ℕ → Facts K L D → Event K D → Option (Proposal D)
+  first_certificate_by v x (AddNotarization c) = if v == c.proposal.round.view && is_none (round_of x c.proposal.round.view).notarization then Some c.proposal else None
+  first_certificate_by v x (AddFinalization c _) = if v == c.proposal.round.view && is_none (round_of x c.proposal.round.view).finalization then Some c.proposal else None
+  first_certificate_by v x (SetFloor (FloorFinalized c) _) = if v == c.proposal.round.view && is_none (round_of x c.proposal.round.view).finalization then Some c.proposal else None
+  first_certificate_by v x _ = None
 
   -- a proposal that is heard of, unless the view is voted to nullify
   abbrev pub hears : ℕ → Facts K L D → Event K D → Option (Proposal D)
@@ -108,11 +108,11 @@ module _ {K L D : Type 0} (same : D → D → Bool) (elect : Elect L) where
   held_in v fresh [] = None
   held_in v fresh (e ∷ before) =
       let x = facts_after fresh before in
-      option_or (settles v x e) (or_new (held_in v fresh before) (option_or (hears v x e) (owns v x e)))
+      option_or (first_certificate_by v x e) (or_new (held_in v fresh before) (option_or (hears v x e) (owns v x e)))
 
   -- a certificate or a proposal that was heard of contradicted the one that was held
   abbrev pub conflict_in : ℕ → Facts K L D → List (Event K D) → Bool
   conflict_in v fresh [] = false
   conflict_in v fresh (e ∷ before) =
       let x = facts_after fresh before in
-      contradicts same (held_in v fresh before) (option_or (settles v x e) (hears v x e)) || conflict_in v fresh before
+      contradicts same (held_in v fresh before) (option_or (first_certificate_by v x e) (hears v x e)) || conflict_in v fresh before

@@ -18,7 +18,7 @@ use Rattle.simplex_voter.specs.Verifying.{was_scanned, standing}
 use Rattle.simplex_voter.specs.declared.voter.verify.Standing.{Standing}
 use Rattle.simplex_voter.specs.declared.voter.verify.Standing.TheVariants.{Passed, Invalid, Lacks, Ready}
 use Rattle.simplex_laws.specs.Events.{Event, SetFloor, AddNotarization, AddFinalization, Certified, TryPropose, Proposed, Supersede, Release, TryVerify, Verified, VerificationFailed, CertifyCandidates, SetCertifyHandle, Replay}
-use Rattle.simplex_laws.specs.OwnWork.{contradicts, settles, hears, owns}
+use Rattle.simplex_laws.specs.OwnWork.{contradicts, first_certificate_by, hears, owns}
 
 -- the event is of this view, which is tracked
 abbrev pub is_at : {K L D : Type 0} → Facts K L D → ℕ → ℕ → Bool
@@ -100,7 +100,7 @@ module _ {K L D : Type 0} (same : D → D → Bool) (elect : Elect L) where
 
   -- a certificate settles the view against what is held
   abbrev pub overrules : ℕ → Facts K L D → Event K D → Bool
-  overrules v x e = contradicts same (round_of x v).slot.held (settles v x e)
+  overrules v x e = contradicts same (round_of x v).slot.held (first_certificate_by v x e)
 
   -- the held proposal is marked as verified
   abbrev pub marks : ℕ → Facts K L D → Event K D → Option Bool
@@ -113,7 +113,7 @@ module _ {K L D : Type 0} (same : D → D → Bool) (elect : Elect L) where
   -- whether the held proposal is verified from then on: not where another one was seen; one's own is
   abbrev pub verifies : ℕ → Facts K L D → Event K D → Option Bool
   verifies v x e =
-      if contradicts same (round_of x v).slot.held (option_or (settles v x e) (hears v x e))
+      if contradicts same (round_of x v).slot.held (option_or (first_certificate_by v x e) (hears v x e))
       then Some false
       else (if takes_own v x e then Some (not (round_of x v).slot.conflict) else marks v x e)
 

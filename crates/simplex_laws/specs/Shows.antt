@@ -10,7 +10,7 @@ use Rattle.simplex_laws.specs.Leading.{tracks}
 use Rattle.simplex_laws.specs.OwnWork.{facts_after, was_done, last_said, casts_nullify}
 use Rattle.simplex_laws.specs.Requested.{names}
 use Rattle.simplex_laws.specs.ShownRounds.{round_in}
-use Rattle.simplex_laws.specs.Sums.{verdict_in, is_nullified_in, genesis_in, moment_in, finalized_in, current_in, kept_in, is_among}
+use Rattle.simplex_laws.specs.Sums.{verdict_in, is_nullified_in, genesis_in, moment_in, finalized_by_events, current_in, kept_in, has_view}
 use Rattle.simplex_laws.specs.Timing.{enters}
 
 abbrev pub verdict_of : Certification → Option Bool
@@ -42,17 +42,17 @@ pub record Shows {K L D : Type 0} (same : D → D → Bool) (elect : Elect L) (h
   -- the state
   pub genesis : x.genesis ≡ genesis_in history.events
   pub current : x.current ≡ current_in history.fresh.terms.term_length history.events
-  pub finalized : x.finalized ≡ finalized_in history.events
+  pub finalized : x.finalized ≡ finalized_by_events history.events
   pub moment : x.moment ≡ moment_in history.events
-  pub named : (v : ℕ) → is_among x.named v ≡ unwrap_or (last_said same elect (names elect v) history.fresh history.events) false
+  pub named : (v : ℕ) → has_view x.named v ≡ unwrap_or (last_said same elect (names elect v) history.fresh history.events) false
   -- its views, and those that were dropped
   pub in_order : is_sorted nat_cmp x.rounds ≡ true
   pub dropped : 0 < history.fresh.terms.term_length → (v : ℕ) → v < kept_of history → is_tracked x v ≡ false
-  pub nullified_dropped : (v : ℕ) → v < kept_of history → is_among x.nullified v ≡ false
-  pub votes_dropped : (v : ℕ) → v < kept_of history → is_among x.nullify_votes v ≡ false
+  pub nullified_dropped : (v : ℕ) → v < kept_of history → has_view x.nullified v ≡ false
+  pub votes_dropped : (v : ℕ) → v < kept_of history → has_view x.nullify_votes v ≡ false
   -- those that are kept
-  pub nullified : (v : ℕ) → kept_of history ≤ v → is_among x.nullified v ≡ is_nullified_in v history.events
-  pub nullify_votes : (v : ℕ) → kept_of history ≤ v → is_among x.nullify_votes v ≡ was_done same elect (casts_nullify v) history.fresh history.events
+  pub nullified : (v : ℕ) → kept_of history ≤ v → has_view x.nullified v ≡ is_nullified_in v history.events
+  pub nullify_votes : (v : ℕ) → kept_of history ≤ v → has_view x.nullify_votes v ≡ was_done same elect (casts_nullify v) history.fresh history.events
   pub tracked : (v : ℕ) → kept_of history ≤ v → is_tracked x v ≡ was_done same elect (comes_up same elect v) history.fresh history.events
   pub rounds : (v : ℕ) → kept_of history ≤ v → round_of x v ≡ round_in same elect history v
   -- the verdict by what was handed in alone

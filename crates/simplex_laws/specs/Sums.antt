@@ -30,8 +30,8 @@ abbrev pub at : {A : Type 0} → ℕ → ℕ → A → Option A
 at v w a = if v == w then Some a else None
 
 -- a view is among these
-abbrev pub is_among : List ℕ → ℕ → Bool
-is_among views v = list_any (λ u. v == u) views
+abbrev pub has_view : List ℕ → ℕ → Bool
+has_view views v = list_any (λ u. v == u) views
 
 -- what one event says
 
@@ -52,10 +52,10 @@ module _ {K D : Type 0} where
   finalizes v _ = None
 
   -- a verdict, unless it is given for a view without a notarization
-  abbrev pub judges : (ℕ → Bool) → ℕ → Event K D → Option Bool
-  judges is_notarized v (Certified w success _) = if v == w && is_notarized w then Some success else None
-  judges is_notarized v (Replay (Verdict round success)) = at v round.view success
-  judges is_notarized v _ = None
+  abbrev pub verdict_of_event : (ℕ → Bool) → ℕ → Event K D → Option Bool
+  verdict_of_event is_notarized v (Certified w success _) = if v == w && is_notarized w then Some success else None
+  verdict_of_event is_notarized v (Replay (Verdict round success)) = at v round.view success
+  verdict_of_event is_notarized v _ = None
 
   -- a nullification of the view is handed in or replayed
   abbrev pub covers_from : ℕ → Event K D → Bool
@@ -69,10 +69,10 @@ module _ {K D : Type 0} where
   sets_genesis (SetFloor (Genesis payload) _) = Some payload
   sets_genesis _ = None
 
-  abbrev pub finalized_by : Event K D → ℕ
-  finalized_by (AddFinalization c _) = c.proposal.round.view
-  finalized_by (SetFloor (Finalized c) _) = c.proposal.round.view
-  finalized_by _ = 0
+  abbrev pub finalized_by_event : Event K D → ℕ
+  finalized_by_event (AddFinalization c _) = c.proposal.round.view
+  finalized_by_event (SetFloor (Finalized c) _) = c.proposal.round.view
+  finalized_by_event _ = 0
 
   -- a true verdict enters the next view, unless it is given for a view without a notarization
   abbrev pub entered_by : ℕ → (ℕ → Bool) → Event K D → ℕ
@@ -115,7 +115,7 @@ module _ {K D : Type 0} where
 
   abbrev pub verdict_in : ℕ → List (Event K D) → Option Bool
   verdict_in v [] = None
-  verdict_in v (e ∷ before) = or_new (verdict_in v before) (judges (is_notarized_in before) v e)
+  verdict_in v (e ∷ before) = or_new (verdict_in v before) (verdict_of_event (is_notarized_in before) v e)
 
   abbrev pub is_nullified_in : ℕ → List (Event K D) → Bool
   is_nullified_in v history = list_any (covers_from v) history
@@ -127,8 +127,8 @@ module _ {K D : Type 0} where
   moment_in history = unwrap_or (latest moment_by history) 0
 
   -- the greatest finalized view, and the greatest view that was entered, in terms of this length
-  abbrev pub finalized_in : List (Event K D) → ℕ
-  finalized_in history = greatest finalized_by history
+  abbrev pub finalized_by_events : List (Event K D) → ℕ
+  finalized_by_events history = greatest finalized_by_event history
 
   abbrev pub current_in : ℕ → List (Event K D) → ℕ
   current_in term_length [] = 0
@@ -137,4 +137,4 @@ module _ {K D : Type 0} where
   -- the lowest view that the prunes left, where so many views below the last finalized one are kept
   abbrev pub kept_in : ℕ → List (Event K D) → ℕ
   kept_in retention [] = 0
-  kept_in retention (e ∷ before) = max (kept_in retention before) (if is_prune e then finalized_in before - retention else 0)
+  kept_in retention (e ∷ before) = max (kept_in retention before) (if is_prune e then finalized_by_events before - retention else 0)

@@ -14,7 +14,7 @@ use Rattle.simplex_voter.specs.Windows.{min_active}
 use Rattle.simplex_voter.specs.Refusals.{is_started, takes_round}
 use Rattle.simplex_voter.specs.Certification.{takes_verdict}
 use Rattle.simplex_member.specs.Entries.{entries_of, entry_round, entry_view}
-use Rattle.simplex_member.specs.Check.{stands, is_notarization, is_verdict, is_nullify as nullifies, is_finalize as finalizes, first_error, entry_rules, first_broken_after}
+use Rattle.simplex_member.specs.Check.{stands, is_notarization, is_verdict, is_nullify_vote as nullifies, is_finalize_vote as finalizes, first_error, entry_rules, first_broken_after}
 use Rattle.simplex_member.specs.Recovery.{after_adding, after_replaying, after_entry, after_kept_entry, GivesVerdict, TakesEntry, TakesNext, TakesEntries}
 use Rattle.simplex_member.proofs.Recovery.{added_goes}
 use Rattle.simplex_member.proofs.Taking.{taken_goes}

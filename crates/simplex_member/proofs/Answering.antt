@@ -10,7 +10,7 @@ use Rattle.simplex_voter.specs.Refusals.{is_started}
 use Rattle.simplex_voter.specs.Certification.{takes_certify_handle}
 use Rattle.simplex_member.specs.declared.member.calls.Call.{Call}
 use Rattle.simplex_member.specs.declared.member.calls.Call.TheVariants as call
-use Rattle.simplex_member.specs.Allowed.{is_allowed, fault_of, may_fall, may_want, is_ready}
+use Rattle.simplex_member.specs.Allowed.{is_allowed, fault_of, may_fall, may_want, is_state_ready}
 use Rattle.simplex_member.specs.Calls.{CallFacts, AddNotarization, AddNullification, AddFinalization, SetProposal, TryPropose, TryVerify, CertifyCandidates, SetCertifyHandle, Certified, NextTimeout, Told, Refused, NotAllowed, asked}
 use Rattle.simplex_member.specs.Lives.{MemberFacts, without_life, IsCall}
 use Rattle.simplex_member.specs.Made.{answer, after_call, openings_after, recorded_by}
@@ -25,7 +25,7 @@ and_right false b is = absurd (false≢true is)
 
 module _ {K L D : Type 0} (x : Facts K L D) (o : Openings K D) where
   -- what is allowed is what the state asks
-  pub allowed_ready : (call : CallFacts D) → is_allowed x o call ≡ true → is_ready x call ≡ true
+  pub allowed_ready : (call : CallFacts D) → is_allowed x o call ≡ true → is_state_ready x call ≡ true
   allowed_ready (AddNotarization c) is = is
   allowed_ready (AddNullification c now) is = is
   allowed_ready (AddFinalization c now) is = is

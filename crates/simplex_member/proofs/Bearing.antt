@@ -18,7 +18,7 @@ use Rattle.simplex_voter.specs.Certification.{with_waiting_candidate, with_verdi
 use Rattle.simplex_voter.specs.Acceptance.{with_notarization_at}
 use Rattle.simplex_voter.specs.Replay.{replayed_sets, replayed_round, restored_binding}
 use Rattle.simplex_member.specs.Entries.{entry_view}
-use Rattle.simplex_member.specs.Check.{stands, is_notarization, is_verdict, is_nullify as nullifies, is_finalize as finalizes}
+use Rattle.simplex_member.specs.Check.{stands, is_notarization, is_verdict, is_nullify_vote as nullifies, is_finalize_vote as finalizes}
 use Rattle.simplex_member.specs.Recovery.{as_artifact, after_adding, after_replaying, after_verdict_of}
 use Rattle.simplex_member.proofs.Growing.{Grows, bound_grows, round_of-put, round_of-same, notarization_stands}
 use Rattle.simplex_member.proofs.Keeping.{Keeps, kept_on, put_kept, entered_kept, woken_kept, triggered_kept, prepared_kept, notarized_kept, added_kept}

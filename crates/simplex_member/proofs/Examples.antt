@@ -6,7 +6,7 @@ use Rattle.simplex_types.specs.declared.types.messages.Proposal.{Proposal}
 use Rattle.simplex_types.specs.declared.types.numbers.Round.{Round}
 use Rattle.simplex_member.specs.declared.member.error.RecoverError.{RecoverError}
 use Rattle.simplex_member.specs.declared.member.error.RecoverError.TheVariants as error
-use Rattle.simplex_member.specs.Check.{first_broken_rule}
+use Rattle.simplex_member.specs.Check.{first_recover_error}
 use Rattle.simplex_member.specs.Cuts.{may_drop, without_last, pruned_entries}
 
 abbrev pub Entry : Type 0
@@ -43,86 +43,86 @@ abbrev pub floor_at : ℕ → ℕ → FloorFacts ℕ
 floor_at epoch v = FinalizedFloor (record { proposal = record { round = record { epoch = epoch; view = v }; parent = v - 1; payload = 0 }; bytes = [] })
 
 abbrev broken : List Entry → Option RecoverError
-broken entries = first_broken_rule nat_eq 1 (Some 0) (Genesis 0) entries
+broken entries = first_recover_error nat_eq 1 (Some 0) (Genesis 0) entries
 
 out_of_order : broken (nullification 3 ∷ nullification 2 ∷ []) ≡ Some error.OutOfOrder
-unfolding first_broken_rule
+unfolding first_recover_error
 out_of_order = refl
 
 other_epoch : broken (NotarizeVote (record { round = record { epoch = 2; view = 3 }; parent = 3; payload = 0 }) 0 ∷ []) ≡ Some error.OtherEpoch
-unfolding first_broken_rule
+unfolding first_recover_error
 other_epoch = refl
 
 zero_view : broken (nullification 0 ∷ []) ≡ Some error.ZeroView
-unfolding first_broken_rule
+unfolding first_recover_error
 zero_view = refl
 
 view_too_large : broken (nullification (2 ^ 63) ∷ []) ≡ Some error.ViewTooLarge
-unfolding first_broken_rule
+unfolding first_recover_error
 view_too_large = refl
 
 parent_too_large : broken (notarize 3 (2 ^ 63) 0 ∷ []) ≡ Some error.ViewTooLarge
-unfolding first_broken_rule
+unfolding first_recover_error
 parent_too_large = refl
 
 foreign_signer : broken (NullifyVote (round 3) 2 ∷ []) ≡ Some error.ForeignSigner
-unfolding first_broken_rule
+unfolding first_recover_error
 foreign_signer = refl
 
-vote_without_a_key : first_broken_rule nat_eq 1 None (Genesis 0) (nullify 3 ∷ []) ≡ Some error.ForeignSigner
-unfolding first_broken_rule
+vote_without_a_key : first_recover_error nat_eq 1 None (Genesis 0) (nullify 3 ∷ []) ≡ Some error.ForeignSigner
+unfolding first_recover_error
 vote_without_a_key = refl
 
 parent_not_below : broken (FinalizeVote (proposal 3 3 0) 0 ∷ []) ≡ Some error.ParentNotBelow
-unfolding first_broken_rule
+unfolding first_recover_error
 parent_not_below = refl
 
 verdict_without_notarization : broken (verdict 3 true ∷ []) ≡ Some error.VerdictWithoutNotarization
-unfolding first_broken_rule
+unfolding first_recover_error
 verdict_without_notarization = refl
 
 -- a notarization that comes after its verdict is none for it
 notarization_too_late : broken (verdict 3 true ∷ notarization 3 ∷ []) ≡ Some error.VerdictWithoutNotarization
-unfolding first_broken_rule
+unfolding first_recover_error
 notarization_too_late = refl
 
 -- also below the floor
-verdict_below_the_floor : first_broken_rule nat_eq 1 (Some 0) (floor_at 1 20) (verdict 5 true ∷ []) ≡ Some error.VerdictWithoutNotarization
-unfolding first_broken_rule
+verdict_below_the_floor : first_recover_error nat_eq 1 (Some 0) (floor_at 1 20) (verdict 5 true ∷ []) ≡ Some error.VerdictWithoutNotarization
+unfolding first_recover_error
 verdict_below_the_floor = refl
 
 contradicting_verdicts : broken (notarization 3 ∷ verdict 3 true ∷ verdict 3 false ∷ []) ≡ Some error.ContradictingVerdicts
-unfolding first_broken_rule
+unfolding first_recover_error
 contradicting_verdicts = refl
 
 nullify_beside_finalize : broken (notarization 3 ∷ verdict 3 true ∷ nullify 3 ∷ finalize 3 ∷ []) ≡ Some error.NullifyBesideFinalize
-unfolding first_broken_rule
+unfolding first_recover_error
 nullify_beside_finalize = refl
 
 finalize_beside_nullify : broken (notarization 3 ∷ verdict 3 true ∷ finalize 3 ∷ nullify 3 ∷ []) ≡ Some error.NullifyBesideFinalize
-unfolding first_broken_rule
+unfolding first_recover_error
 finalize_beside_nullify = refl
 
 contradicting_votes : broken (notarize 3 2 7 ∷ notarize 3 2 8 ∷ []) ≡ Some error.ContradictingVotes
-unfolding first_broken_rule
+unfolding first_recover_error
 contradicting_votes = refl
 
 finalize_without_verdict : broken (notarization 3 ∷ finalize 3 ∷ verdict 3 true ∷ []) ≡ Some error.FinalizeWithoutVerdict
-unfolding first_broken_rule
+unfolding first_recover_error
 finalize_without_verdict = refl
 
 finalize_after_a_false_verdict : broken (notarization 3 ∷ verdict 3 false ∷ finalize 3 ∷ []) ≡ Some error.FinalizeWithoutVerdict
-unfolding first_broken_rule
+unfolding first_recover_error
 finalize_after_a_false_verdict = refl
 
 -- the floor comes first
-floor_of_another_epoch : first_broken_rule nat_eq 1 (Some 0) (floor_at 2 20) (nullification 0 ∷ []) ≡ Some error.OtherEpoch
-unfolding first_broken_rule
+floor_of_another_epoch : first_recover_error nat_eq 1 (Some 0) (floor_at 2 20) (nullification 0 ∷ []) ≡ Some error.OtherEpoch
+unfolding first_recover_error
 floor_of_another_epoch = refl
 
 -- entries below the floor are in order, and so are equal votes, equal verdicts, and nullify beside notarize
 nothing_broken :
-    first_broken_rule nat_eq 1 (Some 0) (floor_at 1 20)
+    first_recover_error nat_eq 1 (Some 0) (floor_at 1 20)
     (nullification 3
     ∷ notarize 15 14 0
     ∷ notarization 15
@@ -136,7 +136,7 @@ nothing_broken :
     ∷ nullify 16
     ∷ [])
     ≡ None
-unfolding first_broken_rule
+unfolding first_recover_error
 nothing_broken = refl
 
 -- a drop stops at the last vote, and at what is closed

@@ -9,7 +9,7 @@ use Rattle.simplex_voter.specs.Rules.{may_nullify, may_finalize, is_gated, requi
 use Rattle.simplex_voter.specs.Serving.{notarization_of, nullification_of}
 use Rattle.simplex_voter.specs.Votes.{nullify_answer, finalize_answer}
 use Rattle.simplex_member.specs.declared.member.error.RecoverError.TheVariants as error
-use Rattle.simplex_member.specs.Check.{first_broken_rule}
+use Rattle.simplex_member.specs.Check.{first_recover_error}
 use Rattle.simplex_member.specs.Recovery.{after_kept_entry, recovered_state, recover_error, with_floor}
 use Rattle.simplex_member.proofs.Examples.{Entry, notarization, nullification, finalization, verdict, nullify, finalize, floor_at}
 
@@ -70,11 +70,11 @@ finalize_once = refl
 
 -- a deadline that passes 64 bits, behind the rules of the record
 too_late : recover_error nat_eq fresh (Genesis 0) 18446744073709551615 (nullify 1 ∷ []) ≡ Some error.TimeOverflow
-unfolding first_broken_rule
+unfolding first_recover_error
 too_late = refl
 
 broken_and_late : recover_error nat_eq fresh (Genesis 0) 18446744073709551615 (nullification 0 ∷ []) ≡ Some error.ZeroView
-unfolding first_broken_rule
+unfolding first_recover_error
 broken_and_late = refl
 
 -- the floor's finalization is recorded once

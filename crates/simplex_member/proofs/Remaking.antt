@@ -10,7 +10,7 @@ use Rattle.simplex_voter.specs.Acceptance.{after_set_floor}
 use Rattle.simplex_member.specs.declared.member.error.RecoverError.{RecoverError}
 use Rattle.simplex_member.specs.declared.member.error.RecoverError.TheVariants as error
 use Rattle.simplex_member.specs.Entries.{entries_of}
-use Rattle.simplex_member.specs.Check.{first_error, floor_rules, first_broken_after, first_broken_rule}
+use Rattle.simplex_member.specs.Check.{first_error, recovery_floor_rules, first_broken_after, first_recover_error}
 use Rattle.simplex_member.specs.Recovery.{after_entries, recovered_state, recover_error, TakesEntries}
 use Rattle.simplex_member.specs.Start.{IsDue}
 use Rattle.simplex_member.proofs.Going.{floor_goes, still_in_time}
@@ -35,25 +35,25 @@ none_broken a ok None is = refl
 none_broken a ok (Some b) is = absurd cc
 
 module _ {K L D : Type 0} (same : D → D → Bool) (x : Facts K L D) (floor : FloorFacts D) (now : ℕ) where
-  floor_unbroken : (entries : List (ArtifactFacts D)) → first_broken_rule same x.settings.epoch x.me floor entries ≡ None → first_error (floor_rules x.settings.epoch floor) ≡ None
-  unfolding first_broken_rule
-  floor_unbroken entries kept = none_first (first_error (floor_rules x.settings.epoch floor)) (first_broken_after same x.settings.epoch x.me [] entries) kept
+  floor_unbroken : (entries : List (ArtifactFacts D)) → first_recover_error same x.settings.epoch x.me floor entries ≡ None → first_error (recovery_floor_rules x.settings.epoch floor) ≡ None
+  unfolding first_recover_error
+  floor_unbroken entries kept = none_first (first_error (recovery_floor_rules x.settings.epoch floor)) (first_broken_after same x.settings.epoch x.me [] entries) kept
 
-  entries_unbroken : (entries : List (ArtifactFacts D)) → first_broken_rule same x.settings.epoch x.me floor entries ≡ None → first_broken_after same x.settings.epoch x.me [] entries ≡ None
-  unfolding first_broken_rule
-  entries_unbroken entries kept = none_left (first_error (floor_rules x.settings.epoch floor)) (first_broken_after same x.settings.epoch x.me [] entries) kept
+  entries_unbroken : (entries : List (ArtifactFacts D)) → first_recover_error same x.settings.epoch x.me floor entries ≡ None → first_broken_after same x.settings.epoch x.me [] entries ≡ None
+  unfolding first_recover_error
+  entries_unbroken entries kept = none_left (first_error (recovery_floor_rules x.settings.epoch floor)) (first_broken_after same x.settings.epoch x.me [] entries) kept
 
-  floor_alone : first_error (floor_rules x.settings.epoch floor) ≡ None → first_broken_rule same x.settings.epoch x.me floor [] ≡ None
-  unfolding first_broken_rule
+  floor_alone : first_error (recovery_floor_rules x.settings.epoch floor) ≡ None → first_recover_error same x.settings.epoch x.me floor [] ≡ None
+  unfolding first_recover_error
   floor_alone kept = rw kept refl
 
   -- where no rule is broken, the record is refused as the floor alone is
-  pub refused_alike : (entries : List (ArtifactFacts D)) → first_broken_rule same x.settings.epoch x.me floor entries ≡ None → recover_error same x floor now entries ≡ recover_error same x floor now []
+  pub refused_alike : (entries : List (ArtifactFacts D)) → first_recover_error same x.settings.epoch x.me floor entries ≡ None → recover_error same x floor now entries ≡ recover_error same x floor now []
   refused_alike entries kept = rw (kept, floor_alone (floor_unbroken entries kept)) refl
 
   -- a floor that is accepted is in time
   pub accepted_in_time : recover_error same x floor now [] ≡ None → has_late_deadline x now ≡ false
-  accepted_in_time none = lates (has_late_deadline x now) (none_left (first_broken_rule same x.settings.epoch x.me floor []) _ none)
+  accepted_in_time none = lates (has_late_deadline x now) (none_left (first_recover_error same x.settings.epoch x.me floor []) _ none)
     where
       lates : (late : Bool) → (if late then Some error.TimeOverflow else None) ≡ None → late ≡ false
       lates true is = absurd cc
@@ -75,7 +75,7 @@ module _ {K L D : Type 0} (same : D → D → Bool) (elect : Elect L) (x : Facts
   recovered_is entries = refl
 
   -- a state at its floor takes each entry of a record that breaks no rule
-  pub set_takes : {S G C : Type 0} (bytes_of : C → List ℕ) (entries : List (Artifact S D K G C)) → x.failed ≡ false → BearsAll [] x → first_broken_rule same x.settings.epoch x.me floor (entries_of bytes_of entries) ≡ None → TakesEntries bytes_of same elect (after_set_floor same elect x floor now) now entries
+  pub set_takes : {S G C : Type 0} (bytes_of : C → List ℕ) (entries : List (Artifact S D K G C)) → x.failed ≡ false → BearsAll [] x → first_recover_error same x.settings.epoch x.me floor (entries_of bytes_of entries) ≡ None → TakesEntries bytes_of same elect (after_set_floor same elect x floor now) now entries
   set_takes bytes_of entries going bears kept =
       let y = after_set_floor same elect x floor now in
       let keeps = floor_kept same elect x floor now in

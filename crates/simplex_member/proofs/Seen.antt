@@ -15,7 +15,7 @@ use Rattle.simplex_member.specs.declared.member.error.RecoverError.TheVariants a
 use Rattle.simplex_member.specs.declared.member.seen.Seen.{Seen}
 use Rattle.std.proofs.lemmas.List.{drop_more}
 use Rattle.simplex_member.specs.Entries.{entry_view, entries_of}
-use Rattle.simplex_member.specs.Check.{first_error, last_view, stands, agrees, is_notarization, is_verdict, is_nullify, is_finalize, notarizes_other, finalizes_other, beside_rules, own_rules, entry_rules, first_broken_after}
+use Rattle.simplex_member.specs.Check.{first_error, last_view, stands, agrees, is_notarization, is_verdict, is_nullify_vote, is_finalize_vote, notarizes_other, finalizes_other, beside_rules, own_rules, entry_rules, first_broken_after}
 use Rattle.simplex_member.specs.Seen.{is_given, is_other, nothing_seen, turned_to, with_entry, seen_rules, next_rules}
 
 left_false : (a b : Bool) → (a || b) ≡ false → a ≡ false
@@ -101,8 +101,8 @@ module _ {D : Type 0} (same : D → D → Bool) where
     pub at_most : AtMost s.view before
     pub notarized : stands s.view is_notarization before ≡ s.notarized
     pub verdict : (success : Bool) → stands s.view (is_verdict success) before ≡ is_given success s.verdict
-    pub nullified : stands s.view is_nullify before ≡ s.nullified
-    pub finalized : stands s.view is_finalize before ≡ is_some s.finalize
+    pub nullified : stands s.view is_nullify_vote before ≡ s.nullified
+    pub finalized : stands s.view is_finalize_vote before ≡ is_some s.finalize
     pub notarize : (p : Proposal D) → stands s.view (notarizes_other same p) before ≡ is_other same s.notarize p
     pub finalize : (p : Proposal D) → stands s.view (finalizes_other same p) before ≡ is_other same s.finalize p
 
@@ -133,8 +133,8 @@ module _ {D : Type 0} (same : D → D → Bool) (alike : (d e : D) → same d e 
         at_most = at_most_more e s.view before at shows.at_most;
         notarized = more is_notarization e s.view before at ∙ shows.notarized;
         verdict = λ success. more (is_verdict success) e s.view before at ∙ shows.verdict success;
-        nullified = more is_nullify e s.view before at ∙ shows.nullified;
-        finalized = more is_finalize e s.view before at ∙ shows.finalized;
+        nullified = more is_nullify_vote e s.view before at ∙ shows.nullified;
+        finalized = more is_finalize_vote e s.view before at ∙ shows.finalized;
         notarize = λ q.
             more (notarizes_other same q) e s.view before at
             ∙ rw (shows.notarize q) (one_more same alike s.notarize p q (unbroken (is_other same s.notarize p) error.ContradictingVotes [] allowed));
@@ -146,8 +146,8 @@ module _ {D : Type 0} (same : D → D → Bool) (alike : (d e : D) → same d e 
         at_most = at_most_more e s.view before at shows.at_most;
         notarized = more is_notarization e s.view before at ∙ shows.notarized;
         verdict = λ success. more (is_verdict success) e s.view before at ∙ shows.verdict success;
-        nullified = more is_nullify e s.view before at;
-        finalized = more is_finalize e s.view before at ∙ shows.finalized;
+        nullified = more is_nullify_vote e s.view before at;
+        finalized = more is_finalize_vote e s.view before at ∙ shows.finalized;
         notarize = λ q. more (notarizes_other same q) e s.view before at ∙ shows.notarize q;
         finalize = λ q. more (finalizes_other same q) e s.view before at ∙ shows.finalize q;
       }
@@ -157,8 +157,8 @@ module _ {D : Type 0} (same : D → D → Bool) (alike : (d e : D) → same d e 
         at_most = at_most_more e s.view before at shows.at_most;
         notarized = more is_notarization e s.view before at ∙ shows.notarized;
         verdict = λ success. more (is_verdict success) e s.view before at ∙ shows.verdict success;
-        nullified = more is_nullify e s.view before at ∙ shows.nullified;
-        finalized = more is_finalize e s.view before at;
+        nullified = more is_nullify_vote e s.view before at ∙ shows.nullified;
+        finalized = more is_finalize_vote e s.view before at;
         notarize = λ q. more (notarizes_other same q) e s.view before at ∙ shows.notarize q;
         finalize = λ q.
             more (finalizes_other same q) e s.view before at
@@ -172,8 +172,8 @@ module _ {D : Type 0} (same : D → D → Bool) (alike : (d e : D) → same d e 
         verdict = λ b.
             more (is_verdict b) e s.view before at
             ∙ rw (shows.verdict b) (one_verdict s.verdict success b (unbroken (is_given (not success) s.verdict) error.ContradictingVerdicts [] (rest_unbroken (not s.notarized) error.VerdictWithoutNotarization ((is_given (not success) s.verdict, error.ContradictingVerdicts) ∷ []) allowed)));
-        nullified = more is_nullify e s.view before at ∙ shows.nullified;
-        finalized = more is_finalize e s.view before at ∙ shows.finalized;
+        nullified = more is_nullify_vote e s.view before at ∙ shows.nullified;
+        finalized = more is_finalize_vote e s.view before at ∙ shows.finalized;
         notarize = λ q. more (notarizes_other same q) e s.view before at ∙ shows.notarize q;
         finalize = λ q. more (finalizes_other same q) e s.view before at ∙ shows.finalize q;
       }
@@ -183,8 +183,8 @@ module _ {D : Type 0} (same : D → D → Bool) (alike : (d e : D) → same d e 
         at_most = at_most_more e s.view before at shows.at_most;
         notarized = more is_notarization e s.view before at;
         verdict = λ success. more (is_verdict success) e s.view before at ∙ shows.verdict success;
-        nullified = more is_nullify e s.view before at ∙ shows.nullified;
-        finalized = more is_finalize e s.view before at ∙ shows.finalized;
+        nullified = more is_nullify_vote e s.view before at ∙ shows.nullified;
+        finalized = more is_finalize_vote e s.view before at ∙ shows.finalized;
         notarize = λ q. more (notarizes_other same q) e s.view before at ∙ shows.notarize q;
         finalize = λ q. more (finalizes_other same q) e s.view before at ∙ shows.finalize q;
       }
@@ -194,8 +194,8 @@ module _ {D : Type 0} (same : D → D → Bool) (alike : (d e : D) → same d e 
         at_most = at_most_more e s.view before at shows.at_most;
         notarized = more is_notarization e s.view before at ∙ shows.notarized;
         verdict = λ success. more (is_verdict success) e s.view before at ∙ shows.verdict success;
-        nullified = more is_nullify e s.view before at ∙ shows.nullified;
-        finalized = more is_finalize e s.view before at ∙ shows.finalized;
+        nullified = more is_nullify_vote e s.view before at ∙ shows.nullified;
+        finalized = more is_finalize_vote e s.view before at ∙ shows.finalized;
         notarize = λ q. more (notarizes_other same q) e s.view before at ∙ shows.notarize q;
         finalize = λ q. more (finalizes_other same q) e s.view before at ∙ shows.finalize q;
       }
@@ -205,8 +205,8 @@ module _ {D : Type 0} (same : D → D → Bool) (alike : (d e : D) → same d e 
         at_most = at_most_more e s.view before at shows.at_most;
         notarized = more is_notarization e s.view before at ∙ shows.notarized;
         verdict = λ success. more (is_verdict success) e s.view before at ∙ shows.verdict success;
-        nullified = more is_nullify e s.view before at ∙ shows.nullified;
-        finalized = more is_finalize e s.view before at ∙ shows.finalized;
+        nullified = more is_nullify_vote e s.view before at ∙ shows.nullified;
+        finalized = more is_finalize_vote e s.view before at ∙ shows.finalized;
         notarize = λ q. more (notarizes_other same q) e s.view before at ∙ shows.notarize q;
         finalize = λ q. more (finalizes_other same q) e s.view before at ∙ shows.finalize q;
       }
@@ -215,9 +215,9 @@ module _ {D : Type 0} (same : D → D → Bool) where
   -- what an entry breaks is told by what was seen of its view
   pub beside_seen : (before : List (ArtifactFacts D)) (s : Seen D) (e : ArtifactFacts D) → entry_view e ≡ s.view → Shows same before s → first_error (beside_rules same before e) ≡ first_error (seen_rules same s e)
   beside_seen before s (NotarizeVote p m) at shows = rw (level (notarizes_other same p) before _ _ at ∙ shows.notarize p) refl
-  beside_seen before s (NullifyVote r m) at shows = rw (level is_finalize before _ _ at ∙ shows.finalized) refl
+  beside_seen before s (NullifyVote r m) at shows = rw (level is_finalize_vote before _ _ at ∙ shows.finalized) refl
   beside_seen before s (FinalizeVote p m) at shows =
-      rw (level is_nullify before _ _ at ∙ shows.nullified, level (finalizes_other same p) before _ _ at ∙ shows.finalize p, level (is_verdict true) before _ _ at ∙ shows.verdict true) refl
+      rw (level is_nullify_vote before _ _ at ∙ shows.nullified, level (finalizes_other same p) before _ _ at ∙ shows.finalize p, level (is_verdict true) before _ _ at ∙ shows.verdict true) refl
   beside_seen before s (Verdict r success) at shows =
       rw (level is_notarization before _ _ at ∙ shows.notarized, level (is_verdict (not success)) before _ _ at ∙ shows.verdict (not success)) refl
   beside_seen before s (Accepted (Notarized c)) at shows = refl

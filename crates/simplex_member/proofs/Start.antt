@@ -11,7 +11,7 @@ use Rattle.simplex_voter.specs.Refusals.{is_too_large, has_late_deadline, HasFai
 use Rattle.simplex_voter.specs.Acceptance.{takes_floor, floor_refusal}
 use Rattle.simplex_member.specs.declared.member.error.RecoverError.{RecoverError}
 use Rattle.simplex_member.specs.declared.member.error.RecoverError.TheVariants as error
-use Rattle.simplex_member.specs.Check.{first_error, floor_rules, first_broken_rule}
+use Rattle.simplex_member.specs.Check.{first_error, recovery_floor_rules, first_recover_error}
 use Rattle.simplex_member.specs.Recovery.{recover_error}
 use Rattle.simplex_member.specs.Start.{IsDue, error_of}
 use Rattle.simplex_member.proofs.Seen.{unbroken, rest_unbroken, from_not_false, option_or_none}
@@ -23,7 +23,7 @@ late_only : (too_large late : Bool) → too_large ≡ false → (if too_large th
 late_only too_large late small = rw small refl
 
 module _ {K L D : Type 0} (x : Facts K L D) (new : x.current ≡ 0) where
-  pub good_floor : (floor : FloorFacts D) → first_error (floor_rules x.settings.epoch floor) ≡ None → takes_floor x floor ≡ true
+  pub good_floor : (floor : FloorFacts D) → first_error (recovery_floor_rules x.settings.epoch floor) ≡ None → takes_floor x floor ≡ true
   good_floor (Genesis payload) good = rw new refl
   good_floor (Finalized c) good =
       let r = c.proposal.round in
@@ -32,7 +32,7 @@ module _ {K L D : Type 0} (x : Facts K L D) (new : x.current ≡ 0) where
       let above : (r.view == 0) ≡ false = unbroken (r.view == 0) error.ZeroView ((is_too_large r.view || is_too_large c.proposal.parent, error.ViewTooLarge) ∷ []) rest in
       all_of (x.current == 0) (r.epoch == x.settings.epoch) (nat_le 1 r.view) (rw new refl) (from_not_false (r.epoch == x.settings.epoch) epoch) (grind (arith, nat_tests))
 
-  pub floor_due : (floor : FloorFacts D) (now : ℕ) → x.failed ≡ false → first_error (floor_rules x.settings.epoch floor) ≡ None → floor_refusal x floor now ≡ (if has_late_deadline x now then Some fault.TimeOverflow else None)
+  pub floor_due : (floor : FloorFacts D) (now : ℕ) → x.failed ≡ false → first_error (recovery_floor_rules x.settings.epoch floor) ≡ None → floor_refusal x floor now ≡ (if has_late_deadline x now then Some fault.TimeOverflow else None)
   floor_due (Genesis payload) now going good = rw (going, new) refl
   floor_due (Finalized c) now going good =
       let r = c.proposal.round in
@@ -42,14 +42,14 @@ module _ {K L D : Type 0} (x : Facts K L D) (new : x.current ≡ 0) where
       rw (going, new, ahead) (late_only (is_too_large r.view || is_too_large c.proposal.parent) (has_late_deadline x now) small)
 
 module _ {K L D : Type 0} (same : D → D → Bool) (x : Facts K L D) (floor : FloorFacts D) (now : ℕ) where
-  error_alone : recover_error same x floor now [] ≡ option_or (first_error (floor_rules x.settings.epoch floor)) (if has_late_deadline x now then Some error.TimeOverflow else None)
-  unfolding first_broken_rule
-  error_alone = ap (λ o. option_or o (if has_late_deadline x now then Some error.TimeOverflow else None)) (option_or_none (first_error (floor_rules x.settings.epoch floor)))
+  error_alone : recover_error same x floor now [] ≡ option_or (first_error (recovery_floor_rules x.settings.epoch floor)) (if has_late_deadline x now then Some error.TimeOverflow else None)
+  unfolding first_recover_error
+  error_alone = ap (λ o. option_or o (if has_late_deadline x now then Some error.TimeOverflow else None)) (option_or_none (first_error (recovery_floor_rules x.settings.epoch floor)))
 
-  pub bad_floor : (e : RecoverError) → first_error (floor_rules x.settings.epoch floor) ≡ Some e → IsDue (recover_error same x floor now []) e
+  pub bad_floor : (e : RecoverError) → first_error (recovery_floor_rules x.settings.epoch floor) ≡ Some e → IsDue (recover_error same x floor now []) e
   bad_floor e broken = rw (error_alone, broken) refl
 
-  pub floor_error : x.current ≡ 0 → x.failed ≡ false → first_error (floor_rules x.settings.epoch floor) ≡ None → recover_error same x floor now [] ≡ option_map error_of (floor_refusal x floor now)
+  pub floor_error : x.current ≡ 0 → x.failed ≡ false → first_error (recovery_floor_rules x.settings.epoch floor) ≡ None → recover_error same x floor now [] ≡ option_map error_of (floor_refusal x floor now)
   floor_error new going good = error_alone ∙ rw (good, floor_due x new floor now going good) (lates (has_late_deadline x now))
     where
       lates : (late : Bool) → (if late then Some error.TimeOverflow else None) ≡ option_map error_of (if late then Some fault.TimeOverflow else None)

@@ -14,15 +14,15 @@ use Rattle.simplex_member.specs.Openings.{Openings, context_at, is_verifying, is
 module _ {K L D : Type 0} where
   -- what a call asks of the state alone: a certificate or a proposal of this epoch and of a view that is kept, a token where
   -- no verdict stands, a verdict that may be given, or a timeout
-  abbrev pub is_ready : Facts K L D → CallFacts D → Bool
-  is_ready x (AddNotarization c) = takes_proposal_certificate x c
-  is_ready x (AddNullification c _) = takes_nullification x c
-  is_ready x (AddFinalization c _) = takes_proposal_certificate x c
-  is_ready x (SetProposal v p) = takes_proposal x v p
-  is_ready x (SetCertifyHandle v _) = takes_certify_handle x v
-  is_ready x (Certified v success _) = takes_verdict x v success
-  is_ready x (NextTimeout _) = has_timeout x
-  is_ready x _ = true
+  abbrev pub is_state_ready : Facts K L D → CallFacts D → Bool
+  is_state_ready x (AddNotarization c) = takes_proposal_certificate x c
+  is_state_ready x (AddNullification c _) = takes_nullification x c
+  is_state_ready x (AddFinalization c _) = takes_proposal_certificate x c
+  is_state_ready x (SetProposal v p) = takes_proposal x v p
+  is_state_ready x (SetCertifyHandle v _) = takes_certify_handle x v
+  is_state_ready x (Certified v success _) = takes_verdict x v success
+  is_state_ready x (NextTimeout _) = has_timeout x
+  is_state_ready x _ = true
 
   -- what a call asks of its caller: an open request to build, a proposal that is being verified, an offer that has no verdict;
   -- and of the state
@@ -33,7 +33,7 @@ module _ {K L D : Type 0} where
   is_allowed x o (Verified v) = is_verifying o v
   is_allowed x o (VerificationFailed v _ _) = is_verifying o v
   is_allowed x o (SetCertifyHandle v _) = is_offered o v && takes_certify_handle x v
-  is_allowed x o call = is_ready x call
+  is_allowed x o call = is_state_ready x call
 
   -- why it is refused, but for want of memory
   abbrev pub fault_of : Facts K L D → CallFacts D → Option Fault

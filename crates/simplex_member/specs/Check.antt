@@ -35,13 +35,13 @@ module _ {D : Type 0} where
   is_verdict success (Verdict _ given) = agrees success given
   is_verdict success _ = false
 
-  abbrev pub is_nullify : ArtifactFacts D → Bool
-  is_nullify (NullifyVote _ _) = true
-  is_nullify _ = false
+  abbrev pub is_nullify_vote : ArtifactFacts D → Bool
+  is_nullify_vote (NullifyVote _ _) = true
+  is_nullify_vote _ = false
 
-  abbrev pub is_finalize : ArtifactFacts D → Bool
-  is_finalize (FinalizeVote _ _) = true
-  is_finalize _ = false
+  abbrev pub is_finalize_vote : ArtifactFacts D → Bool
+  is_finalize_vote (FinalizeVote _ _) = true
+  is_finalize_vote _ = false
 
   -- the view of the newest entry
   abbrev pub last_view : List (ArtifactFacts D) → ℕ
@@ -60,8 +60,8 @@ module _ {D : Type 0} where
 
   -- a vote to nullify beside one to finalize, or the other way round
   abbrev pub meets_opposite : List (ArtifactFacts D) → ArtifactFacts D → Bool
-  meets_opposite before (NullifyVote round _) = stands round.view is_finalize before
-  meets_opposite before (FinalizeVote p _) = stands p.round.view is_nullify before
+  meets_opposite before (NullifyVote round _) = stands round.view is_finalize_vote before
+  meets_opposite before (FinalizeVote p _) = stands p.round.view is_nullify_vote before
   meets_opposite before _ = false
 
   -- a vote to finalize without a true verdict of its view
@@ -121,9 +121,9 @@ own_rules epoch me (Verdict round _) = round_rules epoch round None
 own_rules epoch me (Accepted c) = round_rules epoch (certificate_round c) (certificate_parent c)
 
 -- the rules of a floor's finalization; genesis has none
-abbrev pub floor_rules : {D : Type 0} → ℕ → FloorFacts D → List (Bool × RecoverError)
-floor_rules epoch (Genesis _) = []
-floor_rules epoch (Finalized c) = round_rules epoch c.proposal.round (Some c.proposal.parent)
+abbrev pub recovery_floor_rules : {D : Type 0} → ℕ → FloorFacts D → List (Bool × RecoverError)
+recovery_floor_rules epoch (Genesis _) = []
+recovery_floor_rules epoch (Finalized c) = round_rules epoch c.proposal.round (Some c.proposal.parent)
 
 module _ {D : Type 0} (same : D → D → Bool) (epoch : ℕ) (me : Option ℕ) where
   -- all rules of an entry, in order
@@ -137,5 +137,5 @@ module _ {D : Type 0} (same : D → D → Bool) (epoch : ℕ) (me : Option ℕ) 
   first_broken_after before (e ∷ rest) = option_or (first_error (entry_rules before e)) (first_broken_after (e ∷ before) rest)
 
   -- the first rule that the floor breaks, or else the record, oldest entry first
-  unfoldable pub first_broken_rule : FloorFacts D → List (ArtifactFacts D) → Option RecoverError
-  first_broken_rule floor record_entries = option_or (first_error (floor_rules epoch floor)) (first_broken_after [] record_entries)
+  unfoldable pub first_recover_error : FloorFacts D → List (ArtifactFacts D) → Option RecoverError
+  first_recover_error floor record_entries = option_or (first_error (recovery_floor_rules epoch floor)) (first_broken_after [] record_entries)

@@ -11,7 +11,7 @@ use Rattle.simplex_voter.specs.Timeouts.{trigger_answer, after_trigger_timeout, 
 use Rattle.simplex_voter.specs.Verifying.{set_proposal_answer, after_set_proposal, verify_answer, after_try_verify, verified_answer, after_verified, after_verification_failed}
 use Rattle.simplex_voter.specs.Votes.{notarize_answer, after_construct_notarize, nullify_answer, after_construct_nullify, finalize_answer, after_construct_finalize}
 use Rattle.simplex_member.specs.Calls.{CallFacts, AddNotarization, AddNullification, AddFinalization, SetProposal, TryPropose, Proposed, SupersedeProposalRequest, PendingHandoffAbandonment, ReleaseProposalRequest, TryVerify, Verified, VerificationFailed, ConstructNotarize, CertifyCandidates, SetCertifyHandle, Certified, ConstructNullify, ConstructFinalize, BroadcastNotarization, BroadcastNullification, BroadcastFinalization, GetBestCertificate, TriggerTimeout, NextTimeout, Prune, Told, Added, AddedNullification, Judged, Nullify, Finalize, Notarize, Handed, Dropped, Requested, Standing, Answered, Abandoned, Candidates, Released, Triggered, TimesOut, Done}
-use Rattle.simplex_member.specs.Openings.{Openings, context_at, without_context, with_request, without_verification, with_verification, without_offer, with_offers}
+use Rattle.simplex_member.specs.Openings.{Openings, context_at, without_context, with_open_request, without_verification, with_verification, without_offer, with_offers}
 
 module _ {K L D : Type 0} where
   -- the vote to nullify a view that is answered, with whether it is a repeat
@@ -113,7 +113,7 @@ module _ {K L D : Type 0} (same : D → D → Bool) (elect : Elect L) where
   -- what is open then: a request opens a view's context, which is closed once a payload was built in it, or the request was
   -- superseded or released; a proposal to verify is open until its answer, and an offer until its verdict
   abbrev pub openings_after : Facts K L D → Openings K D → CallFacts D → Openings K D
-  openings_after x o TryPropose = with_request o (propose_answer same elect x)
+  openings_after x o TryPropose = with_open_request o (propose_answer same elect x)
   openings_after x o (Proposed v _ _) = without_context o v
   openings_after x o (SupersedeProposalRequest v) =
       if option_map_or (λ context. supersede_answer same elect x context) (context_at o v) false then without_context o v else o

@@ -49,9 +49,9 @@ module _ {K D : Type 0} where
   abbrev pub with_context : Openings K D → Context D K → Openings K D
   with_context o context = record o { contexts = put nat_cmp context.round.view context o.contexts }
 
-  abbrev pub with_request : Openings K D → Option (ProposalRequest D K) → Openings K D
-  with_request o None = o
-  with_request o (Some request) = with_context o (request_context request)
+  abbrev pub with_open_request : Openings K D → Option (ProposalRequest D K) → Openings K D
+  with_open_request o None = o
+  with_open_request o (Some request) = with_context o (request_context request)
 
   -- proposals to verify
 

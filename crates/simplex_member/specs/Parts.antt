@@ -5,7 +5,7 @@ use Rattle.simplex_types.specs.declared.types.fault.Fault.TheVariants.{OutOfMemo
 use Rattle.simplex_voter.specs.Facts.{Facts}
 use Rattle.simplex_member.specs.Allowed.{fault_of, may_fall, may_want}
 use Rattle.simplex_member.specs.Calls.{CallFacts, TryPropose, TryVerify, Told, Answered, Requested, Standing, Candidates}
-use Rattle.simplex_member.specs.Openings.{Openings, without_context, with_request, without_verification, with_verification, without_offer, with_offers}
+use Rattle.simplex_member.specs.Openings.{Openings, without_context, with_open_request, without_verification, with_verification, without_offer, with_offers}
 use Rattle.simplex_member.specs.declared.member.calls.Call.{Call}
 use Rattle.simplex_member.specs.declared.member.calls.Call.TheVariants as call
 use Rattle.simplex_member.specs.declared.member.serving.Family.{Family}
@@ -111,7 +111,7 @@ module _ {K D : Type 0} where
 
   -- what an answer opens
   abbrev pub now_open : Openings K D → Told K D → Openings K D
-  now_open o (Requested request) = with_request o request
+  now_open o (Requested request) = with_open_request o request
   now_open o (Standing verify) = with_verification o verify
   now_open o (Candidates proposals fetches) = with_offers o proposals
   now_open o _ = o

@@ -16,7 +16,7 @@ use Rattle.simplex_voter.specs.Replay.{after_replayed, artifact_round, artifact_
 use Rattle.simplex_member.specs.declared.member.error.RecoverError.{RecoverError}
 use Rattle.simplex_member.specs.declared.member.error.RecoverError.TheVariants as error
 use Rattle.simplex_member.specs.Entries.{entry_view}
-use Rattle.simplex_member.specs.Check.{stands, first_broken_rule}
+use Rattle.simplex_member.specs.Check.{stands, first_recover_error}
 
 -- an entry as an artifact whose certificates are their bytes
 abbrev pub as_artifact : {K D : Type 0} → ArtifactFacts D → Artifact (Unit {0}) D K (Unit {0}) (List ℕ)
@@ -69,7 +69,7 @@ module _ {K L D : Type 0} (same : D → D → Bool) where
   abbrev pub recover_error : Facts K L D → FloorFacts D → ℕ → List (ArtifactFacts D) → Option RecoverError
   recover_error x floor now entries =
       option_or
-      (first_broken_rule same x.settings.epoch x.me floor entries)
+      (first_recover_error same x.settings.epoch x.me floor entries)
       (if has_late_deadline x now then Some error.TimeOverflow else None)
 
 module _ {D : Type 0} where

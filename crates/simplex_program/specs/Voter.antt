@@ -84,14 +84,14 @@ builds (Release _) = true
 builds _ = false
 
 -- a leader's proposal comes, is verified or certified
-abbrev pub judges : VoterLine → Bool
-judges (ProposalOf _ _ _) = true
-judges Verify = true
-judges (FoundValid _) = true
-judges (Rejected _ _) = true
-judges Candidates = true
-judges (Token _ _) = true
-judges _ = false
+abbrev pub is_about_proposals : VoterLine → Bool
+is_about_proposals (ProposalOf _ _ _) = true
+is_about_proposals Verify = true
+is_about_proposals (FoundValid _) = true
+is_about_proposals (Rejected _ _) = true
+is_about_proposals Candidates = true
+is_about_proposals (Token _ _) = true
+is_about_proposals _ = false
 
 -- a vote, a certificate, a timeout or a pruning is asked for
 abbrev pub asks : VoterLine → Bool
@@ -106,9 +106,9 @@ asks Prune = true
 asks _ = false
 
 -- what a member shows of its state
-abbrev pub views_of : Option (Facts PlainKey PlainElector PlainDigest) → VoterAnswer
-views_of None = answer.Failed
-views_of (Some x) = answer.Views x.current x.finalized (min_active x)
+abbrev pub shown_views : Option (Facts PlainKey PlainElector PlainDigest) → VoterAnswer
+shown_views None = answer.Failed
+shown_views (Some x) = answer.Views x.current x.finalized (min_active x)
 
 -- the reply to a call, and what it leaves
 abbrev pub IsReplied : PlainMember → PlainCall → VoterAnswer → PlainMember → Type 0
@@ -136,7 +136,7 @@ abbrev pub IsDone : Network → PlainMember → VoterLine → VoterAnswer → Pl
 IsDone n m (Restart drop now) a left = IsRestarted n m drop false now a left
 IsDone n m (RestartPruned drop now) a left = IsRestarted n m drop true now a left
 IsDone n m Record a left = (a ≡ answer.Entries (length m.entries)) × (left ≡ m)
-IsDone n m _ a left = (a ≡ views_of m.life) × (left ≡ m)
+IsDone n m _ a left = (a ≡ shown_views m.life) × (left ≡ m)
 
 -- the reply to a line, and what it leaves
 abbrev pub VoterAnswers : Network → PlainMember → VoterLine → VoterAnswer → PlainMember → Type 0

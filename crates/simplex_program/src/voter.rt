@@ -3,7 +3,7 @@
 ghost use Rattle.std.specs.Prelude.{◌≡◌, false, true, IfOk, length};
 ghost use Rattle.simplex_types.specs.Plain.{members_of, keys_of};
 ghost use Rattle.simplex_member.specs.Calls.{asked};
-ghost use Rattle.simplex_program.specs.Voter.{VoterAnswers, IsReplied, IsRestarted, IsDone, is_no_call, views_of};
+ghost use Rattle.simplex_program.specs.Voter.{VoterAnswers, IsReplied, IsRestarted, IsDone, is_no_call, shown_views};
 ghost use Rattle.simplex_program.specs.Plain.{plain_bytes};
 ghost use Rattle.simplex_program.specs.Setup.{IsSetUp, IsGenesisStart, StartsAtGenesis, plain_start};
 
@@ -126,7 +126,7 @@ impl Voter {
     }
 
     fn views(&self) -> VoterAnswer
-        ensures { result ≡ views_of self.now.member.life }
+        ensures { result ≡ shown_views self.now.member.life }
     {
         match self.member.state() {
             Some(state) => VoterAnswer::Views {

@@ -5,7 +5,7 @@ use Rattle.std.proofs.lemmas.Bool.{false≢true}
 use Rattle.std.proofs.lemmas.List.{map-append, reverse-append}
 use Rattle.simplex_types.specs.Certificates.{ProposalFacts, artifact_facts}
 use Rattle.simplex_types.specs.declared.types.messages.Artifact.{Artifact}
-use Rattle.simplex_replay.specs.Calls.{newest_first, notarization_at, notarization_in}
+use Rattle.simplex_replay.specs.Calls.{newest_first, notarization_at, newest_notarization}
 
 module _ {S D K G C : Type 0} (bytes_of : C → List ℕ) where
   -- an artifact behind the others is the newest entry
@@ -15,18 +15,18 @@ module _ {S D K G C : Type 0} (bytes_of : C → List ℕ) where
   -- a search from the newest entry on: past one that is none, to one that is, to the end
   pub passed_by : (v : ℕ) (xs : List (Artifact S D K G C)) (x : Artifact S D K G C) (o : Option (ProposalFacts D))
       → o ≡ notarization_at v (artifact_facts bytes_of x) → is_some o ≡ false
-      → notarization_in v (newest_first bytes_of (xs ++ x ∷ [])) ≡ notarization_in v (newest_first bytes_of xs)
+      → newest_notarization v (newest_first bytes_of (xs ++ x ∷ [])) ≡ newest_notarization v (newest_first bytes_of xs)
   passed_by v xs x None is none =
-      ap (notarization_in v) (newest_more xs x) ∙ ap (λ o. option_or o (notarization_in v (newest_first bytes_of xs))) (sym is)
+      ap (newest_notarization v) (newest_more xs x) ∙ ap (λ o. option_or o (newest_notarization v (newest_first bytes_of xs))) (sym is)
   passed_by v xs x (Some n) is none = absurd (false≢true (sym none))
 
   pub stopped_at : (v : ℕ) (xs : List (Artifact S D K G C)) (x : Artifact S D K G C) (o : Option (ProposalFacts D))
       → o ≡ notarization_at v (artifact_facts bytes_of x) → is_some o ≡ true
-      → o ≡ notarization_in v (newest_first bytes_of (xs ++ x ∷ []))
+      → o ≡ newest_notarization v (newest_first bytes_of (xs ++ x ∷ []))
   stopped_at v xs x None is some = absurd (false≢true some)
   stopped_at v xs x (Some n) is some =
-      sym (ap (notarization_in v) (newest_more xs x) ∙ ap (λ o. option_or o (notarization_in v (newest_first bytes_of xs))) (sym is))
+      sym (ap (newest_notarization v) (newest_more xs x) ∙ ap (λ o. option_or o (newest_notarization v (newest_first bytes_of xs))) (sym is))
 
-  pub none_left : (v : ℕ) (xs : List (Artifact S D K G C)) → length xs ≡ 0 → None ≡ notarization_in v (newest_first bytes_of xs)
+  pub none_left : (v : ℕ) (xs : List (Artifact S D K G C)) → length xs ≡ 0 → None ≡ newest_notarization v (newest_first bytes_of xs)
   none_left v [] is = refl
   none_left v (x ∷ xs) is = absurd (omega (arith, is))

@@ -8,7 +8,7 @@ use Rattle.simplex_resolver.specs.Received.{NamesAView, is_replayed, is_wanted}
 use Rattle.simplex_resolver.specs.Repair.{settles, is_outstanding, facts_of, effects_of}
 use Rattle.simplex_resolver.proofs.RepairLaw.{all_fetched, stands, outstanding_is_wanted}
 use Rattle.simplex_resolver.proofs.Views.{is_outstanding-append}
-use Rattle.simplex_replay.specs.Calls.{notarization_in, verdict_on, entry_calls, calls_of}
+use Rattle.simplex_replay.specs.Calls.{newest_notarization, verdict_on, entry_calls, calls_of}
 use Rattle.simplex_replay.specs.Rules.{entry_error, record_error}
 use Rattle.simplex_replay.proofs.Sound.{none_of_both, sound_views, sound_found}
 
@@ -19,7 +19,7 @@ all_of_both P [] ys h k = k
 all_of_both P (x ∷ xs) ys h k = (h.0, all_of_both P xs ys h.1 k)
 
 module _ {D : Type 0} (payload_bytes : D → List ℕ) where
-  verdict_named : (v : ℕ) (before : List (ArtifactFacts D)) (success : Bool) (o : Option (ProposalFacts D)) → record_error before ≡ None → notarization_in v before ≡ o
+  verdict_named : (v : ℕ) (before : List (ArtifactFacts D)) (success : Bool) (o : Option (ProposalFacts D)) → record_error before ≡ None → newest_notarization v before ≡ o
       → AllByRecursion NamesAView (verdict_on payload_bytes o success)
   verdict_named v before success None none is = tt
   verdict_named v before success (Some n) none is = ((sound_found v before n none is).0, tt)
@@ -28,7 +28,7 @@ module _ {D : Type 0} (payload_bytes : D → List ℕ) where
   entry_named before (Accepted (Notarized n)) none sound = ((sound_views n.proposal.round.view (highest_named n.proposal) sound).0, tt)
   entry_named before (Accepted (Nullified n)) none sound = ((sound_views n.round.view n.round.view sound).0, tt)
   entry_named before (Accepted (Finalized f)) none sound = ((sound_views f.proposal.round.view (highest_named f.proposal) sound).0, tt)
-  entry_named before (Verdict round success) none sound = verdict_named round.view before success (notarization_in round.view before) none refl
+  entry_named before (Verdict round success) none sound = verdict_named round.view before success (newest_notarization round.view before) none refl
   entry_named before (NotarizeVote p signer) none sound = tt
   entry_named before (NullifyVote round signer) none sound = tt
   entry_named before (FinalizeVote p signer) none sound = tt
@@ -49,7 +49,7 @@ module _ {D : Type 0} (payload_bytes : D → List ℕ) where
   entry_goes_on before (Accepted (Notarized n)) = refl
   entry_goes_on before (Accepted (Nullified n)) = refl
   entry_goes_on before (Accepted (Finalized f)) = refl
-  entry_goes_on before (Verdict round success) = verdict_goes_on (notarization_in round.view before) success
+  entry_goes_on before (Verdict round success) = verdict_goes_on (newest_notarization round.view before) success
   entry_goes_on before (NotarizeVote p signer) = refl
   entry_goes_on before (NullifyVote round signer) = refl
   entry_goes_on before (FinalizeVote p signer) = refl

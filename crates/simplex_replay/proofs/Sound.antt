@@ -11,7 +11,7 @@ use Rattle.simplex_resolver.specs.Facts.{Facts}
 use Rattle.simplex_resolver.specs.Steps.{Refused, highest_named}
 use Rattle.simplex_replay.specs.declared.replay.error.ReplayError.{ReplayError}
 use Rattle.simplex_replay.specs.declared.replay.error.ReplayError.TheVariants as error
-use Rattle.simplex_replay.specs.Calls.{newest_first, notarization_at, notarization_in}
+use Rattle.simplex_replay.specs.Calls.{newest_first, notarization_at, newest_notarization}
 use Rattle.simplex_replay.specs.Rules.{view_error, proposal_error, entry_error, record_error}
 use Rattle.simplex_replay.proofs.Newest.{newest_more}
 
@@ -97,13 +97,13 @@ module _ {D : Type 0} where
   either (Some m) p n P here there is = here is
 
   -- what is found among entries that have no error has none
-  found_sound : (v : ℕ) (before : List (ArtifactFacts D)) (n : ProposalFacts D) → record_error before ≡ None → notarization_in v before ≡ Some n → proposal_error n.proposal ≡ None
+  found_sound : (v : ℕ) (before : List (ArtifactFacts D)) (n : ProposalFacts D) → record_error before ≡ None → newest_notarization v before ≡ Some n → proposal_error n.proposal ≡ None
   found_sound v [] n none is = absurd (cc)
   found_sound v (e ∷ before) n none is =
       let both = none_of_both e before none in
-      either (notarization_at v e) (notarization_in v before) n (proposal_error n.proposal ≡ None) (found_at v e before n both.1) (found_sound v before n both.0) is
+      either (notarization_at v e) (newest_notarization v before) n (proposal_error n.proposal ≡ None) (found_at v e before n both.1) (found_sound v before n both.0) is
 
-  pub sound_found : (v : ℕ) (before : List (ArtifactFacts D)) (n : ProposalFacts D) → record_error before ≡ None → notarization_in v before ≡ Some n
+  pub sound_found : (v : ℕ) (before : List (ArtifactFacts D)) (n : ProposalFacts D) → record_error before ≡ None → newest_notarization v before ≡ Some n
       → (1 ≤ n.proposal.round.view) × (highest_named n.proposal < 2 ^ 63)
   sound_found v before n none is = sound_views n.proposal.round.view (highest_named n.proposal) (found_sound v before n none is)
 

@@ -17,9 +17,9 @@ module _ {D : Type 0} where
   notarization_at v _ = None
 
   -- the newest notarization of the view
-  abbrev pub notarization_in : ℕ → List (ArtifactFacts D) → Option (ProposalFacts D)
-  notarization_in v [] = None
-  notarization_in v (e ∷ before) = option_or (notarization_at v e) (notarization_in v before)
+  abbrev pub newest_notarization : ℕ → List (ArtifactFacts D) → Option (ProposalFacts D)
+  newest_notarization v [] = None
+  newest_notarization v (e ∷ before) = option_or (notarization_at v e) (newest_notarization v before)
 
 module _ {D : Type 0} (payload_bytes : D → List ℕ) where
   -- a verdict on a notarization, if there is one
@@ -31,7 +31,7 @@ module _ {D : Type 0} (payload_bytes : D → List ℕ) where
   -- notarization of its view; a vote makes none
   abbrev pub entry_calls : List (ArtifactFacts D) → ArtifactFacts D → List Call
   entry_calls before (Accepted c) = update payload_bytes c ∷ []
-  entry_calls before (Verdict round success) = verdict_on (notarization_in round.view before) success
+  entry_calls before (Verdict round success) = verdict_on (newest_notarization round.view before) success
   entry_calls before _ = []
 
   -- the calls of all entries

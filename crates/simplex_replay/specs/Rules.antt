@@ -6,7 +6,7 @@ use Rattle.simplex_types.specs.declared.types.messages.Proposal.{Proposal}
 use Rattle.simplex_resolver.specs.Steps.{highest_named}
 use Rattle.simplex_replay.specs.declared.replay.error.ReplayError.{ReplayError}
 use Rattle.simplex_replay.specs.declared.replay.error.ReplayError.TheVariants as error
-use Rattle.simplex_replay.specs.Calls.{notarization_in}
+use Rattle.simplex_replay.specs.Calls.{newest_notarization}
 
 -- why a certificate of the view is refused, by the highest view that it names: it is genesis, or names one above 2^63 - 1
 abbrev pub view_error : ℕ → ℕ → Option ReplayError
@@ -27,7 +27,7 @@ module _ {D : Type 0} where
   abbrev pub entry_error : List (ArtifactFacts D) → ArtifactFacts D → Option ReplayError
   entry_error before (Accepted c) = certificate_error c
   entry_error before (Verdict round _) =
-      if is_some (notarization_in round.view before) then None else Some error.VerdictWithoutNotarization
+      if is_some (newest_notarization round.view before) then None else Some error.VerdictWithoutNotarization
   entry_error before _ = None
 
   -- the error of the oldest entry that has one; the entries stand newest first

@@ -11,7 +11,7 @@ use Rattle.simplex_resolver.specs.declared.resolver.effect.Effect.{Effect}
 use Rattle.simplex_resolver.specs.declared.resolver.effect.Effect.TheVariants.{Settled, Raised}
 use Rattle.simplex_resolver.specs.Facts.{Facts, term_length, last_finalized, is_term_start}
 use Rattle.simplex_resolver.specs.Steps.{Call, Nullification, Notarization, Finalization, Verdict, Replayed, scan_start, scan_end, scan_fetches, missing_fetches, missing, without_finalized, with_kept_finalization, before_scan, settle_effects, after, effects}
-use Rattle.simplex_resolver.specs.Received.{NamesAView, greatest, floor_view, current_view, are_alike}
+use Rattle.simplex_resolver.specs.Received.{NamesAView, greatest, floor_raised_to, current_view, are_alike}
 use Rattle.simplex_resolver.specs.Repair.{fetches, facts_of, RecordedAgainFetchesNothing}
 use Rattle.simplex_resolver.proofs.Terms.{AreTerms, terms}
 use Rattle.simplex_resolver.proofs.Anchors.{uncovered-none}
@@ -67,7 +67,7 @@ is_certificate call = false
 record Alike (c d : Call) : Type 0 where
   certificate : is_certificate c ≡ true
   current : current_view c ≡ current_view d
-  floor : floor_view c ≡ floor_view d
+  floor : floor_raised_to c ≡ floor_raised_to d
 
 alike : (c d : Call) → are_alike c d ≡ true → Alike c d
 alike (Nullification v e) (Nullification u f) is = record { certificate = refl; current = grind (arith, nat_tests, is); floor = refl }
@@ -140,7 +140,7 @@ same_raise false x y u n is low s = s
 upto : (x : Facts) (u : ℕ) → u ≤ x.current → max x.current u ≡ x.current
 upto x u low = omega arith
 
-same_scan : (x : Facts) (c : Call) → is_certificate c ≡ true → current_view c ≤ x.current → floor_view c ≤ x.floor → SameScan x (before_scan x c)
+same_scan : (x : Facts) (c : Call) → is_certificate c ≡ true → current_view c ≤ x.current → floor_raised_to c ≤ x.floor → SameScan x (before_scan x c)
 same_scan x (Nullification u e) is low under =
     let s : SameScan x (record x { current = max x.current u }) = record { current = upto x u low; floor = refl; scanned = refl; replaying = refl } in
     same_if (nat_lt (last_finalized x) (term_end (term_length x) u)) x _ _ (record { current = upto x u low; floor = refl; scanned = refl; replaying = refl }) s
@@ -173,6 +173,6 @@ recorded_again t calls c long named made v =
     let st = stands t calls long named in
     let is = made_certificate c calls made in
     let current = made_under current_view c calls (λ d h. (alike c d h).current) made in
-    let floor = made_under floor_view c calls (λ d h. (alike c d h).floor) made in
+    let floor = made_under floor_raised_to c calls (λ d h. (alike c d h).floor) made in
     let s = same_scan x c is (omega (arith, current, st.current)) (omega (arith, floor, st.floor)) in
     again x c v is (still_done x (before_scan x c) s (reached t calls long named))

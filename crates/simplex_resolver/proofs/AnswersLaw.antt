@@ -13,7 +13,7 @@ use Rattle.simplex_types.specs.declared.reasons.Kind.TheVariants.{Nullification 
 use Rattle.simplex_resolver.specs.Facts.{Facts, empty, term_length, last_finalized, covering_encoding, certified_encoding}
 use Rattle.simplex_resolver.specs.Steps.{Call, Nullification, Notarization, Finalization, Verdict, Replayed, before_scan, after}
 use Rattle.simplex_resolver.specs.Held.{is_settled, or_else, finalized_for, floor_for}
-use Rattle.simplex_resolver.specs.Received.{NamesAView, greatest, finalized_view, floor_view, finalized_of, floor_of, is_true_verdict, is_false_verdict, is_notarizing, is_covering, WasMade}
+use Rattle.simplex_resolver.specs.Received.{NamesAView, greatest, finalized_view, floor_raised_to, finalized_of, floor_of, is_true_verdict, is_false_verdict, is_notarizing, is_covering, WasMade}
 use Rattle.simplex_resolver.specs.Repair.{facts_of}
 use Rattle.simplex_resolver.specs.Answers.{is_settled_by, is_failed_by, Source, OfFinalization, OfCertified, OfNullified, covering_view, bringing, ServesReceived, NoContradiction, AnswersAreOfTheReceived}
 use Rattle.simplex_resolver.proofs.Terms.{covers_upto}
@@ -130,7 +130,7 @@ none_any test [] named none = refl
 none_any test (c ∷ calls) named none = let here = none c named.0 in let rest = none_any test calls named.1 none in grind (arith, here, rest)
 
 -- a floor above the last finalized view is at a true verdict
-floor_by : (w : ℕ) (c : Call) → finalized_view c < w → w ≡ floor_view c → is_true_verdict w c ≡ true
+floor_by : (w : ℕ) (c : Call) → finalized_view c < w → w ≡ floor_raised_to c → is_true_verdict w c ≡ true
 floor_by w (Nullification u e) low at = absurd (omega arith)
 floor_by w (Notarization u) low at = absurd (omega arith)
 floor_by w (Finalization u e) low at = absurd (omega arith)
@@ -140,7 +140,7 @@ floor_by w Replayed low at = absurd (omega arith)
 
 floor_is_certified : (w : ℕ) (calls : List Call) → finalized_of calls < w → w ≡ floor_of calls → list_any (is_true_verdict w) calls ≡ true
 floor_is_certified w [] low at = absurd (omega arith)
-floor_is_certified w (c ∷ calls) low at = elim (cases_eq w (floor_view c)) [
+floor_is_certified w (c ∷ calls) low at = elim (cases_eq w (floor_raised_to c)) [
   | inl here ↦ let found = floor_by w c (omega arith) here in grind (arith, found)
   | inr other ↦ let found = floor_is_certified w calls (omega arith) (omega (arith, other)) in grind (arith, found)
 ]

@@ -11,7 +11,7 @@ use Rattle.simplex_resolver.specs.declared.resolver.effect.Effect.{Effect}
 use Rattle.simplex_resolver.specs.declared.resolver.effect.Effect.TheVariants.{Settled, Finalized, Raised}
 use Rattle.simplex_resolver.specs.Facts.{Facts, term_length, last_finalized, is_term_start}
 use Rattle.simplex_resolver.specs.Steps.{Call, Nullification, Notarization, Finalization, Verdict, Replayed, insert_new, with_kept_nullification, with_kept_finalization, without_finalized, after_raise, raise_effects, before_scan, settle_effects}
-use Rattle.simplex_resolver.specs.Received.{finalized_view, floor_view, current_view, is_covering, is_false_verdict, is_notarizing, is_replayed, NamesAView}
+use Rattle.simplex_resolver.specs.Received.{finalized_view, floor_raised_to, current_view, is_covering, is_false_verdict, is_notarizing, is_replayed, NamesAView}
 use Rattle.simplex_resolver.specs.Repair.{fetches, settles, is_outstanding}
 use Rattle.simplex_resolver.proofs.Terms.{covers_upto}
 use Rattle.simplex_resolver.proofs.Maps.{any_key-insert_new, contains-insert, contains-insert_new, contains-at_or_above, is_covered-not_ended}
@@ -20,7 +20,7 @@ use Rattle.simplex_resolver.proofs.Maps.{any_key-insert_new, contains-insert, co
 pub record Changed (x : Facts) (c : Call) (y : Facts) (s : List Effect) : Type 0 where
   pub length : term_length y ≡ term_length x
   pub current : y.current ≡ max (current_view c) x.current
-  pub floor : y.floor ≡ max (floor_view c) x.floor
+  pub floor : y.floor ≡ max (floor_raised_to c) x.floor
   pub final : last_finalized y ≡ max (finalized_view c) (last_finalized x)
   -- above the last finalized view
   pub covered : (v : ℕ) → last_finalized y < v → is_covered y.nullifications v ≡ (is_covering (term_length x) v c || is_covered x.nullifications v)
@@ -137,7 +137,7 @@ record Lifts (x : Facts) (y : Facts) (u : ℕ) (c : Call) (e : Effect) : Type 0 
   scanned : y.scanned ≡ x.scanned
   current : y.current ≡ max (current_view c) x.current
   replaying : y.replaying ≡ x.replaying
-  under : floor_view c ≡ u
+  under : floor_raised_to c ≡ u
   covers_none : (v : ℕ) → is_covering (term_length x) v c ≡ false
   fails_none : (v : ℕ) → is_false_verdict v c ≡ false
   live : is_replayed c ≡ false

@@ -12,7 +12,7 @@ use Rattle.simplex_resolver.specs.declared.resolver.effect.Effect.TheVariants.{F
 use Rattle.simplex_types.specs.ByTerm.{is_covered}
 use Rattle.simplex_resolver.specs.Facts.{Facts, term_length, last_finalized, empty, anchors, is_term_start}
 use Rattle.simplex_resolver.specs.Steps.{Call, Nullification, Notarization, Finalization, Verdict, Replayed, before_scan, settle_effects, after, effects, scan_start, scan_end, missing, needs_nullification, failing, failure_fetches}
-use Rattle.simplex_resolver.specs.Received.{finalized_view, current_view, floor_view, finalized_of, current_of, floor_of, is_covering, is_false_verdict, is_notarizing, is_replayed, NamesAView}
+use Rattle.simplex_resolver.specs.Received.{finalized_view, current_view, floor_raised_to, finalized_of, current_of, floor_of, is_covering, is_false_verdict, is_notarizing, is_replayed, NamesAView}
 use Rattle.simplex_resolver.specs.Repair.{has, settles, is_outstanding, facts_of, effects_of, OutstandingIsWanted}
 use Rattle.simplex_resolver.proofs.Terms.{AreTerms, terms}
 use Rattle.simplex_resolver.proofs.Scan.{QuietAt, ReadyAt, ChangesAt, EndsAt, is_found_by, is_wanted_by, ready_after_change, failed_after_change, quiet_after_scan, quiet_after_failure}
@@ -338,7 +338,7 @@ both_not true b = refl
 both_not false b = refl
 
 -- a finalized view is under the floor
-view_under : (c : Call) → finalized_view c ≤ floor_view c
+view_under : (c : Call) → finalized_view c ≤ floor_raised_to c
 view_under (Nullification u b) = omega arith
 view_under (Notarization u) = omega arith
 view_under (Finalization u b) = omega arith
@@ -362,7 +362,7 @@ next t calls x c long named st =
     record {
       length = ap (λ m. m.term_length) k.nullifications ∙ h.length ∙ st.length;
       current = k.current ∙ h.current ∙ ap (max (current_view c)) st.current;
-      floor = k.floor ∙ h.floor ∙ ap (max (floor_view c)) st.floor;
+      floor = k.floor ∙ h.floor ∙ ap (max (floor_raised_to c)) st.floor;
       final = same ∙ h.final ∙ ap (max (finalized_view c)) st.final;
       low = omega (arith, k.floor, same, low);
       covered = λ v above.

@@ -40,10 +40,10 @@ finalized_view (Finalization v encoding) = v
 finalized_view call = 0
 
 -- the view that a call puts under the floor
-abbrev pub floor_view : Call → ℕ
-floor_view (Finalization v encoding) = v
-floor_view (Verdict v encoding true) = v
-floor_view call = 0
+abbrev pub floor_raised_to : Call → ℕ
+floor_raised_to (Finalization v encoding) = v
+floor_raised_to (Verdict v encoding true) = v
+floor_raised_to call = 0
 
 abbrev pub current_view : Call → ℕ
 current_view (Nullification v encoding) = v
@@ -56,7 +56,7 @@ abbrev pub finalized_of : List Call → ℕ
 finalized_of calls = greatest (map finalized_view calls)
 
 abbrev pub floor_of : List Call → ℕ
-floor_of calls = greatest (map floor_view calls)
+floor_of calls = greatest (map floor_raised_to calls)
 
 abbrev pub current_of : List Call → ℕ
 current_of calls = greatest (map current_view calls)

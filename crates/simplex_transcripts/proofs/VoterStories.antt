@@ -8,7 +8,7 @@ use Rattle.simplex_types.specs.declared.types.plain.PlainKey.{PlainKey}
 use Rattle.simplex_types.specs.Config.{Genesis}
 use Rattle.simplex_types.specs.Plain.{digest_from_eq}
 use Rattle.simplex_member.specs.Calls.{told}
-use Rattle.simplex_member.specs.Check.{first_broken_rule}
+use Rattle.simplex_member.specs.Check.{first_recover_error}
 use Rattle.simplex_member.specs.Recovery.{recover_error}
 use Rattle.simplex_member.specs.Restarts.{RestartFacts}
 use Rattle.simplex_member.specs.Runs.{Calls, Restarts, restart_told, IsStep, IsRun, IsRunFrom}
@@ -188,7 +188,7 @@ module _ (n : Network) (some : 0 < n.term_length) (i : ℕ) (signs : (n.me ≡ S
 
 -- no rule of a record is broken at genesis, and no deadline is late
 accepted : (n : Network) (e : PlainElector) (payload : PlainDigest) → IsGenesis n e payload → recover_error same_payload (new_state (genesis_start n e payload 0).setup) (Genesis payload) 0 [] ≡ None
-unfolding first_broken_rule
+unfolding first_recover_error
 accepted n e payload is = rw is.terms refl
 
 run_from : (n : Network) (m end : PlainMember) (start : StartFacts PlainKey PlainElector PlainDigest) (steps : List PlainStep) (replies : List PlainTold) → IsGenesisStart n 0 start → m ≡ started_member same_payload plain_leader (new_state start.setup) start.floor start.now → IsRun same_payload plain_leader m steps replies end → IsRunFrom same_payload plain_leader start steps replies

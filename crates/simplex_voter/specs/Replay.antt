@@ -43,9 +43,9 @@ module _ {S K G C D : Type 0} where
   artifact_too_large a = is_too_large (artifact_view a) || option_map_or names_too_large (artifact_proposal a) false
 
   -- the finalization that it is
-  abbrev pub finalization_in : Artifact S D K G C → Option (Finalization S D K G C)
-  finalization_in (artifact.Finalization f) = Some f
-  finalization_in _ = None
+  abbrev pub artifact_finalization : Artifact S D K G C → Option (Finalization S D K G C)
+  artifact_finalization (artifact.Finalization f) = Some f
+  artifact_finalization _ = None
 
   -- the proposal of a notarize vote
   abbrev pub voted_proposal : Artifact S D K G C → Option (Proposal D)

@@ -15,7 +15,7 @@ use Rattle.simplex_voter.proofs.Gaps.{and_parts}
 use Rattle.simplex_voter.proofs.Rules.{nullify_parts}
 use Rattle.simplex_member.specs.Recovery.{as_artifact}
 use Rattle.simplex_laws.specs.Events.{Event, IsEvent, after_event, AddNullification, ConstructNullify, Prune, Replay}
-use Rattle.simplex_laws.specs.Sums.{covers_from, is_prune, is_among}
+use Rattle.simplex_laws.specs.Sums.{covers_from, is_prune, has_view}
 use Rattle.simplex_laws.specs.OwnWork.{casts_nullify}
 use Rattle.simplex_laws.proofs.histories.FollowingHanded.{and_false}
 
@@ -26,7 +26,7 @@ module _ {K L D : Type 0} (low : ℕ) (x : Facts K L D) (active : low ≤ min_ac
       ne_eqb v r.view (λ same. absurd (omega (arith, same, up, active, below)))
 
 module _ {K L D : Type 0} (x : Facts K L D) where
-  left_none : (views : List ℕ) (v : ℕ) → v < min_active x → is_among (filter (λ u. nat_le (min_active x) u) views) v ≡ false
+  left_none : (views : List ℕ) (v : ℕ) → v < min_active x → has_view (filter (λ u. nat_le (min_active x) u) views) v ≡ false
   left_none views v below = any-filter_same (λ u. eqb v u) (λ u. nat_le (min_active x) u) false (λ u here. ap (nat_le (min_active x)) (sym (eqb-true v u here)) ∙ test) views
     where
       test : nat_le (min_active x) v ≡ false
@@ -68,10 +68,10 @@ module _ {K L D : Type 0} (low : ℕ) (x : Facts K L D) (active : low ≤ min_ac
 module _ {K L D : Type 0} (same : D → D → Bool) (elect : Elect L) (x : Facts K L D) where
   -- what a prune takes out of them
 
-  pub nullified_dropped : (e : Event K D) (v : ℕ) → v < (if is_prune e then min_active x else 0) → is_among (after_event same elect x e).nullified v ≡ false
+  pub nullified_dropped : (e : Event K D) (v : ℕ) → v < (if is_prune e then min_active x else 0) → has_view (after_event same elect x e).nullified v ≡ false
   nullified_dropped Prune v below = left_none x x.nullified v below
   nullified_dropped _ v below = absurd (omega (arith, below))
 
-  pub votes_dropped : (e : Event K D) (v : ℕ) → v < (if is_prune e then min_active x else 0) → is_among (after_event same elect x e).nullify_votes v ≡ false
+  pub votes_dropped : (e : Event K D) (v : ℕ) → v < (if is_prune e then min_active x else 0) → has_view (after_event same elect x e).nullify_votes v ≡ false
   votes_dropped Prune v below = left_none x x.nullify_votes v below
   votes_dropped _ v below = absurd (omega (arith, below))

@@ -40,7 +40,7 @@ use Rattle.simplex_voter.proofs.Rules.{notarize_parts, nullify_parts, finalize_p
 use Rattle.simplex_member.specs.Entries.{entry_view}
 use Rattle.simplex_member.specs.Recovery.{after_replaying}
 use Rattle.simplex_laws.specs.Events.{Event, after_event, SetFloor, AddNotarization, AddNullification, AddFinalization, Certified, ConstructNotarize, ConstructNullify, ConstructFinalize, SetProposal, TryPropose, Proposed, Supersede, Release, TryVerify, Verified, VerificationFailed, CertifyCandidates, SetCertifyHandle, TriggerTimeout, NextTimeout, BroadcastNotarization, BroadcastNullification, BroadcastFinalization, Prune, Replay}
-use Rattle.simplex_laws.specs.Sums.{finalized_by}
+use Rattle.simplex_laws.specs.Sums.{finalized_by_event}
 use Rattle.simplex_laws.proofs.frames.Steps as step
 use Rattle.simplex_laws.proofs.frames.Rounds.{round_put}
 use Rattle.simplex_laws.proofs.frames.Steps.{is_timed, RoundStep, Step, Path, Still, Then, Puts, Moves, Founds, Names, Unnames, Covers, Notes, Reaches, Raises, Scans, Prunes, notarization_by, nullification_by, finalization_by, verdict_by, nullify_by}
@@ -142,7 +142,7 @@ module _ {K L D : Type 0} {same : D → D → Bool} {elect : Elect L} {low : ℕ
   pub to_woken : {y : Facts K L D} (p : ℕ) → Path same elect x e low from y → Path same elect x e low from (with_waiting_candidate elect y p)
   to_woken {y} p path = either (option_map_or (waits_for elect y p) (round_at y (p + 1)) false) (named_also y (p + 1)) y (λ waits. to_named (p + 1) path) (λ none. path)
 
-  to_raised : {y : Facts K L D} (v : ℕ) → finalized_by e ≡ v → Path same elect x e low from y → Path same elect x e low from (with_finalized_view y v)
+  to_raised : {y : Facts K L D} (v : ℕ) → finalized_by_event e ≡ v → Path same elect x e low from y → Path same elect x e low from (with_finalized_view y v)
   to_raised {y} v says path = either (nat_lt y.finalized v) _ y (λ is. Then path (Raises v says (grind (arith, nat_tests)))) (λ final. path)
 
   -- a verdict is given, from its own round on
@@ -187,7 +187,7 @@ module _ {K L D : Type 0} {same : D → D → Bool} {elect : Elect L} {low : ℕ
   pub from_raised : (c : ProposalFacts D) (now : ℕ) → finalization_by e ≡ Some c → low ≤ c.proposal.round.view → Path same elect x e low from (with_finalized_view (at_moment x now) c.proposal.round.view) → Path same elect x e low from (after_add_finalization same elect x c now)
   from_raised c now says over path = from_entry c now says over (to_entered (c.proposal.round.view + 1) now (λ above. omega arith) path)
 
-  to_finalization : (c : ProposalFacts D) (now : ℕ) → finalization_by e ≡ Some c → finalized_by e ≡ c.proposal.round.view → low ≤ c.proposal.round.view → Path same elect x e low from x → Path same elect x e low from (after_add_finalization same elect x c now)
+  to_finalization : (c : ProposalFacts D) (now : ℕ) → finalization_by e ≡ Some c → finalized_by_event e ≡ c.proposal.round.view → low ≤ c.proposal.round.view → Path same elect x e low from x → Path same elect x e low from (after_add_finalization same elect x c now)
   to_finalization c now says raises over path =
       from_raised c now says over (to_raised c.proposal.round.view raises (Then path (Moves now)))
 

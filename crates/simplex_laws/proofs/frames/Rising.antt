@@ -13,7 +13,7 @@ use Rattle.simplex_member.specs.Made.{after_call}
 use Rattle.simplex_member.specs.Openings.{Openings}
 use Rattle.simplex_laws.specs.Events.{Event, AddFinalization, after_event}
 use Rattle.simplex_laws.specs.LifeLaws.{NeverFalls}
-use Rattle.simplex_laws.specs.Sums.{finalized_by}
+use Rattle.simplex_laws.specs.Sums.{finalized_by_event}
 use Rattle.simplex_laws.proofs.frames.CallsMake.{call_by_any}
 use Rattle.simplex_laws.proofs.frames.Paths.{event_path, asked_of_all, from_raised}
 use Rattle.simplex_laws.proofs.frames.Steps.{Step, Path, Reaches, Raises, Still, along}
@@ -63,10 +63,10 @@ module _ {K L D : Type 0} (same : D → D → Bool) (elect : Elect L) (x : Facts
   event_goes e = goes_along same elect x e 0 x (after_event same elect x e) (event_path same elect 0 x e (omega arith) (asked_of_all x e))
 
   -- the last finalized view is the one before or the event's
-  pub event_finalizes : (e : Event K D) → (after_event same elect x e).finalized ≤ max x.finalized (finalized_by e)
-  event_finalizes e = along same elect x e 0 (λ y. y.finalized ≤ max x.finalized (finalized_by e)) keeps x (after_event same elect x e) (event_path same elect 0 x e (omega arith) (asked_of_all x e)) (omega arith)
+  pub event_finalizes : (e : Event K D) → (after_event same elect x e).finalized ≤ max x.finalized (finalized_by_event e)
+  event_finalizes e = along same elect x e 0 (λ y. y.finalized ≤ max x.finalized (finalized_by_event e)) keeps x (after_event same elect x e) (event_path same elect 0 x e (omega arith) (asked_of_all x e)) (omega arith)
     where
-      keeps : (y z : Facts K L D) → Step same elect x e 0 y z → y.finalized ≤ max x.finalized (finalized_by e) → z.finalized ≤ max x.finalized (finalized_by e)
+      keeps : (y z : Facts K L D) → Step same elect x e 0 y z → y.finalized ≤ max x.finalized (finalized_by_event e) → z.finalized ≤ max x.finalized (finalized_by_event e)
       keeps y z (Raises v says above) p = omega (arith, says)
       keeps y z _ p = p
 

@@ -15,7 +15,7 @@ use Rattle.simplex_voter.specs.Acceptance.{after_add_finalization, after_set_flo
 use Rattle.simplex_laws.specs.Events as event
 use Rattle.simplex_laws.specs.Events.{Event, after_event}
 use Rattle.simplex_laws.specs.LifeLaws.{Kind, Notarization, Nullification, Finalization}
-use Rattle.simplex_laws.specs.Sums.{finalized_by, is_prune}
+use Rattle.simplex_laws.specs.Sums.{finalized_by_event, is_prune}
 use Rattle.simplex_laws.proofs.frames.Fresh.{IsFresh, fresh_state}
 use Rattle.simplex_laws.proofs.frames.CallsMake.{is_floor}
 use Rattle.simplex_laws.proofs.frames.EachRound.{IsGone}
@@ -46,7 +46,7 @@ entered_reaches x v now = enters (nat_lt x.current v) refl
 
 module _ {K L D : Type 0} (same : D → D → Bool) (elect : Elect L) (x : Facts K L D) where
   -- a floor and a finalization enter a view above
-  pub event_passes : (e : Event K D) → ((is_floor e ≡ false) × (finalized_by e ≡ 0)) ⊎ (finalized_by e < (after_event same elect x e).current)
+  pub event_passes : (e : Event K D) → ((is_floor e ≡ false) × (finalized_by_event e ≡ 0)) ⊎ (finalized_by_event e < (after_event same elect x e).current)
   event_passes (event.AddFinalization c now) = inr (passes (event.AddFinalization c now) refl)
     where
       passes : (e : Event K D) → finalization_by e ≡ Some c → c.proposal.round.view < (after_add_finalization same elect x c now).current

@@ -28,7 +28,7 @@ use Rattle.simplex_voter.specs.declared.voter.verify.Standing.TheVariants.{Ready
 use Rattle.simplex_voter.specs.Serving.{after_prune}
 use Rattle.simplex_voter.specs.Replay.{restored_binding}
 use Rattle.simplex_laws.specs.Events.{Event, IsEvent, SetFloor, AddNotarization, AddNullification, AddFinalization, Certified, ConstructNotarize, ConstructNullify, ConstructFinalize, SetProposal, Proposed, TryVerify, Verified, VerificationFailed, SetCertifyHandle, NextTimeout, Replay}
-use Rattle.simplex_laws.specs.Sums.{covers_from, finalized_by, is_prune}
+use Rattle.simplex_laws.specs.Sums.{covers_from, finalized_by_event, is_prune}
 
 -- what an event brings
 
@@ -86,7 +86,7 @@ pub record IsSilent {K D : Type 0} (e : Event K D) : Type 0 where
   pub note : note_by e ≡ None
   pub nullify : nullify_by e ≡ None
   pub finalize : finalize_by e ≡ None
-  pub final : finalized_by e ≡ 0
+  pub final : finalized_by_event e ≡ 0
   pub prune : is_prune e ≡ false
 
 -- a view with this decision times out, unless it is certified or to be finalized: it was entered, so its deadlines are set
@@ -143,7 +143,7 @@ module _ {K L D : Type 0} (same : D → D → Bool) (elect : Elect L) (begun : F
     Notes : (u : ℕ) → nullify_by e ≡ Some u → Step low x (record x { nullify_votes = insert_key nat_cmp x.nullify_votes u })
     -- a view that was entered is the current one
     Reaches : (v : ℕ) → x.current < v → is_timed (round_of x v).decision ≡ true → Step low x (record x { current = v })
-    Raises : (v : ℕ) → finalized_by e ≡ v → x.finalized < v → Step low x (record x {
+    Raises : (v : ℕ) → finalized_by_event e ≡ v → x.finalized < v → Step low x (record x {
       finalized = v;
       named = filter (λ w. nat_lt v w) x.named;
       rounds = map (λ e. (e.0, if nat_le e.0 v then without_token e.1 else e.1)) x.rounds;

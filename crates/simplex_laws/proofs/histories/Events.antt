@@ -11,7 +11,7 @@ use Rattle.simplex_voter.specs.Facts.{Facts, Elect, round_at, round_of, is_track
 use Rattle.simplex_voter.specs.Certification.{takes_verdict}
 use Rattle.simplex_voter.proofs.Gaps.{and_parts}
 use Rattle.simplex_laws.specs.Events.{Event, History, with_event, IsEvent, after_event, SetFloor, AddFinalization, Certified, Replay}
-use Rattle.simplex_laws.specs.Sums.{or_new, judges, entered_by, finalized_by, moment_by, latest, is_prune, covers_from, sets_genesis, verdict_in, is_notarized_in, finalized_in, current_in, kept_in, is_among}
+use Rattle.simplex_laws.specs.Sums.{or_new, verdict_of_event, entered_by, finalized_by_event, moment_by, latest, is_prune, covers_from, sets_genesis, verdict_in, is_notarized_in, finalized_by_events, current_in, kept_in, has_view}
 use Rattle.simplex_laws.specs.OwnWork.{was_done, casts_nullify}
 use Rattle.simplex_laws.specs.Leading.{tracks}
 use Rattle.simplex_laws.specs.Requested.{names}
@@ -33,40 +33,40 @@ use Rattle.simplex_voter.specs.Windows.{min_active}
 
 module _ {K D : Type 0} where
   -- a finalization enters the next view
-  passes : (term_length : ℕ) (is_notarized : ℕ → Bool) (e : Event K D) → (finalized_by e ≡ 0) ⊎ (finalized_by e < entered_by term_length is_notarized e)
+  passes : (term_length : ℕ) (is_notarized : ℕ → Bool) (e : Event K D) → (finalized_by_event e ≡ 0) ⊎ (finalized_by_event e < entered_by term_length is_notarized e)
   passes t n (SetFloor (Finalized c) now) = inr (omega arith)
   passes t n (AddFinalization c now) = inr (omega arith)
   passes t n _ = inl refl
 
-  pub finalized_passed : (term_length : ℕ) (history : List (Event K D)) → (finalized_in history ≡ 0) ⊎ (finalized_in history < current_in term_length history)
+  pub finalized_passed : (term_length : ℕ) (history : List (Event K D)) → (finalized_by_events history ≡ 0) ⊎ (finalized_by_events history < current_in term_length history)
   finalized_passed t [] = inl refl
   finalized_passed t (e ∷ before) = joined (finalized_passed t before) (passes t (is_notarized_in before) e)
     where
-      joined : ((finalized_in before ≡ 0) ⊎ (finalized_in before < current_in t before)) → ((finalized_by e ≡ 0) ⊎ (finalized_by e < entered_by t (is_notarized_in before) e)) → (finalized_in (e ∷ before) ≡ 0) ⊎ (finalized_in (e ∷ before) < current_in t (e ∷ before))
+      joined : ((finalized_by_events before ≡ 0) ⊎ (finalized_by_events before < current_in t before)) → ((finalized_by_event e ≡ 0) ⊎ (finalized_by_event e < entered_by t (is_notarized_in before) e)) → (finalized_by_events (e ∷ before) ≡ 0) ⊎ (finalized_by_events (e ∷ before) < current_in t (e ∷ before))
       joined (inl a) (inl b) = inl (omega arith)
       joined (inl a) (inr b) = inr (omega arith)
       joined (inr a) (inl b) = inr (omega arith)
       joined (inr a) (inr b) = inr (omega arith)
 
-  pub kept_finalized : (retention : ℕ) (history : List (Event K D)) → kept_in retention history ≤ finalized_in history
+  pub kept_finalized : (retention : ℕ) (history : List (Event K D)) → kept_in retention history ≤ finalized_by_events history
   kept_finalized r [] = omega arith
   kept_finalized r (e ∷ before) =
-      let behind : kept_in r before ≤ finalized_in before = kept_finalized r before in
-      let now : (if is_prune e then finalized_in before - r else 0) ≤ finalized_in before = lower (is_prune e) in
+      let behind : kept_in r before ≤ finalized_by_events before = kept_finalized r before in
+      let now : (if is_prune e then finalized_by_events before - r else 0) ≤ finalized_by_events before = lower (is_prune e) in
       omega arith
     where
-      lower : (b : Bool) → (if b then finalized_in before - r else 0) ≤ finalized_in before
+      lower : (b : Bool) → (if b then finalized_by_events before - r else 0) ≤ finalized_by_events before
       lower true = omega arith
       lower false = omega arith
 
-  kept_active : (retention : ℕ) (history : List (Event K D)) → kept_in retention history ≤ finalized_in history - retention
+  kept_active : (retention : ℕ) (history : List (Event K D)) → kept_in retention history ≤ finalized_by_events history - retention
   kept_active r [] = omega arith
   kept_active r (e ∷ before) =
-      let behind : kept_in r before ≤ finalized_in before - r = kept_active r before in
-      let now : (if is_prune e then finalized_in before - r else 0) ≤ finalized_in before - r = lower (is_prune e) in
+      let behind : kept_in r before ≤ finalized_by_events before - r = kept_active r before in
+      let now : (if is_prune e then finalized_by_events before - r else 0) ≤ finalized_by_events before - r = lower (is_prune e) in
       omega (arith, behind, now)
     where
-      lower : (b : Bool) → (if b then finalized_in before - r else 0) ≤ finalized_in before - r
+      lower : (b : Bool) → (if b then finalized_by_events before - r else 0) ≤ finalized_by_events before - r
       lower true = omega arith
       lower false = omega arith
 
@@ -90,7 +90,7 @@ module _ {K L D : Type 0} (same : D → D → Bool) (elect : Elect L) (history :
           let test : (is_some r.notarization && not (is_judged (not success) r.certification)) ≡ true = sym (ap (λ o. option_map_or (λ s. is_some s.notarization && not (is_judged (not success) s.certification)) o true) found) ∙ (and_parts _ _ takes).1 in
           rw found (sym (and_parts (is_some r.notarization) _ test).0)
 
-  judged_alike : (e : Event K D) → IsEvent x e → (v : ℕ) → kept_of history ≤ v → judges (is_tracked x) v e ≡ judges (is_notarized_in history.events) v e
+  judged_alike : (e : Event K D) → IsEvent x e → (v : ℕ) → kept_of history ≤ v → verdict_of_event (is_tracked x) v e ≡ verdict_of_event (is_notarized_in history.events) v e
   judged_alike (Certified w success now) takes v kept = by_view (cases_eq v w)
     where
       by_view : ((v ≡ w) ⊎ (v ≡ w → ⊥)) → (if eqb v w && is_tracked x w then Some success else None) ≡ (if eqb v w && is_notarized_in history.events w then Some success else None)
@@ -98,7 +98,7 @@ module _ {K L D : Type 0} (same : D → D → Bool) (elect : Elect L) (history :
       by_view (inr apart) = rw (ne_eqb v w apart) refl
   judged_alike (Replay e) takes v kept = replays e
     where
-      replays : (a : ArtifactFacts D) → judges {K = K} (is_tracked x) v (Replay a) ≡ judges {K = K} (is_notarized_in history.events) v (Replay a)
+      replays : (a : ArtifactFacts D) → verdict_of_event {K = K} (is_tracked x) v (Replay a) ≡ verdict_of_event {K = K} (is_notarized_in history.events) v (Replay a)
       replays (Verdict round success) = refl
       replays _ = refl
   judged_alike _ takes v kept = refl
@@ -139,20 +139,20 @@ module _ {K L D : Type 0} (same : D → D → Bool) (elect : Elect L) (history :
         ∙ ap (λ t. max x.current (entered_by t.term_length (is_tracked x) e)) shows.terms
         ∙ entered_alike fresh.terms.term_length shows.current e allowed
         ∙ ap (λ n. max n (entered_by fresh.terms.term_length (is_notarized_in events) e)) shows.current;
-    finalized = follows.finalized ∙ ap (λ n. max n (finalized_by e)) shows.finalized;
+    finalized = follows.finalized ∙ ap (λ n. max n (finalized_by_event e)) shows.finalized;
     moment = follows.moment ∙ ap (unwrap_or (moment_by e)) shows.moment ∙ moment_follows (moment_by e) events;
     nullified = λ v kept. follows.nullified v (left v kept) ∙ ap (λ b. covers_from v e || b) (shows.nullified v (earlier v kept));
-    nullify_votes = λ v kept. follows.nullify_votes v (left v kept) ∙ done (casts_nullify v) (is_among x.nullify_votes v) (shows.nullify_votes v (earlier v kept));
+    nullify_votes = λ v kept. follows.nullify_votes v (left v kept) ∙ done (casts_nullify v) (has_view x.nullify_votes v) (shows.nullify_votes v (earlier v kept));
     verdict = λ v kept.
         ap (λ k. k.verdict) (follows.rounds v (left v kept))
-        ∙ ap (λ o. or_new o (judges (is_tracked x) v e)) (shows.verdict v (earlier v kept))
+        ∙ ap (λ o. or_new o (verdict_of_event (is_tracked x) v e)) (shows.verdict v (earlier v kept))
         ∙ ap (or_new (verdict_in v events)) (judged_alike e allowed v (earlier v kept));
     me = works.me ∙ shows.me;
     members = works.members ∙ shows.members;
     elector = works.elector ∙ shows.elector;
     elects_early = works.elects_early ∙ shows.elects_early;
     failed = works.failed ∙ shows.failed;
-    named = λ v. works.named v ∙ known_further same elect history x shows.facts e (names elect v) false (is_among x.named v) (shows.named v);
+    named = λ v. works.named v ∙ known_further same elect history x shows.facts e (names elect v) false (has_view x.named v) (shows.named v);
     tracked = λ v kept. ap (λ k. k.tracked) (works.work v (left v kept)) ∙ tracked_further (is_some (enters v x e)) (tracks same elect v x e) (is_tracked x v) ∙ done (comes_up same elect v) (is_tracked x v) (shows.tracked v (earlier v kept));
     rounds = λ v kept. round_further same elect history x shows.facts shows.settings shows.terms e (after_event same elect x e) v (shows.rounds v (earlier v kept)) (follows.rounds v (left v kept)) (works.work v (left v kept));
   }
@@ -174,14 +174,14 @@ module _ {K L D : Type 0} (same : D → D → Bool) (elect : Elect L) (history :
 
       left : (v : ℕ) → kept_in fresh.settings.view_retention (e ∷ events) ≤ v → left_from x e ≤ v
       left v kept =
-          let part : (if is_prune e then finalized_in events - fresh.settings.view_retention else 0) ≤ v = omega (arith, kept) in
+          let part : (if is_prune e then finalized_by_events events - fresh.settings.view_retention else 0) ≤ v = omega (arith, kept) in
           subst (λ s. (if is_prune e then x.finalized - s.view_retention else 0) ≤ v) (sym shows.settings) (subst (λ n. (if is_prune e then n - fresh.settings.view_retention else 0) ≤ v) (sym shows.finalized) part)
 
-      lowest : (n : ℕ) → n ≡ finalized_in events - fresh.settings.view_retention → n ≡ min_active x
+      lowest : (n : ℕ) → n ≡ finalized_by_events events - fresh.settings.view_retention → n ≡ min_active x
       lowest n is = is ∙ ap (λ m. m - fresh.settings.view_retention) (sym shows.finalized) ∙ ap (λ s. x.finalized - s.view_retention) (sym shows.settings)
 
       active : kept_in fresh.settings.view_retention events ≤ min_active x
-      active = omega (arith, kept_active fresh.settings.view_retention events, lowest (finalized_in events - fresh.settings.view_retention) refl)
+      active = omega (arith, kept_active fresh.settings.view_retention events, lowest (finalized_by_events events - fresh.settings.view_retention) refl)
 
       reached : kept_in fresh.settings.view_retention events ≤ x.current
       reached = kept_reached fresh.settings.view_retention fresh.terms.term_length events x.current shows.current
@@ -192,26 +192,26 @@ module _ {K L D : Type 0} (same : D → D → Bool) (elect : Elect L) (history :
           let terms : 0 < x.terms.term_length = subst (λ t. 0 < t.term_length) (sym shows.terms) some in
           (event_clear same elect low x active reached terms (record { views = λ w under. shows.dropped some w under }) e allowed).views v earlier_below
       gone some v below (inr from) =
-          let part : v < (if is_prune e then finalized_in events - fresh.settings.view_retention else 0) = omega (arith, below, from) in
-          event_dropped same elect x e v (subst (λ n. v < (if is_prune e then n else 0)) (lowest (finalized_in events - fresh.settings.view_retention) refl) part)
+          let part : v < (if is_prune e then finalized_by_events events - fresh.settings.view_retention else 0) = omega (arith, below, from) in
+          event_dropped same elect x e v (subst (λ n. v < (if is_prune e then n else 0)) (lowest (finalized_by_events events - fresh.settings.view_retention) refl) part)
 
       -- a view that is dropped, but not by this event
       earlier_gone : (v : ℕ) → v < kept_in fresh.settings.view_retention (e ∷ events) → left_from x e ≤ v → v < kept_in fresh.settings.view_retention events
       earlier_gone v below from =
-          let part : (if is_prune e then finalized_in events - fresh.settings.view_retention else 0) ≤ v = subst (λ n. (if is_prune e then n else 0) ≤ v) (sym (lowest (finalized_in events - fresh.settings.view_retention) refl)) from in
+          let part : (if is_prune e then finalized_by_events events - fresh.settings.view_retention else 0) ≤ v = subst (λ n. (if is_prune e then n else 0) ≤ v) (sym (lowest (finalized_by_events events - fresh.settings.view_retention) refl)) from in
           omega (arith, below, part)
 
-      unnoted : (v : ℕ) → v < kept_in fresh.settings.view_retention (e ∷ events) → ((v < left_from x e) ⊎ (left_from x e ≤ v)) → is_among (after_event same elect x e).nullified v ≡ false
+      unnoted : (v : ℕ) → v < kept_in fresh.settings.view_retention (e ∷ events) → ((v < left_from x e) ⊎ (left_from x e ≤ v)) → has_view (after_event same elect x e).nullified v ≡ false
       unnoted v below (inl dropped) = nullified_dropped same elect x e v dropped
       unnoted v below (inr from) =
           let gone_before = earlier_gone v below from in
-          follows.nullified v from ∙ ap (λ b. b || is_among x.nullified v) (covers_above (kept_in fresh.settings.view_retention events) x active reached e allowed v gone_before) ∙ shows.nullified_dropped v gone_before
+          follows.nullified v from ∙ ap (λ b. b || has_view x.nullified v) (covers_above (kept_in fresh.settings.view_retention events) x active reached e allowed v gone_before) ∙ shows.nullified_dropped v gone_before
 
-      unvoted : (v : ℕ) → v < kept_in fresh.settings.view_retention (e ∷ events) → ((v < left_from x e) ⊎ (left_from x e ≤ v)) → is_among (after_event same elect x e).nullify_votes v ≡ false
+      unvoted : (v : ℕ) → v < kept_in fresh.settings.view_retention (e ∷ events) → ((v < left_from x e) ⊎ (left_from x e ≤ v)) → has_view (after_event same elect x e).nullify_votes v ≡ false
       unvoted v below (inl dropped) = votes_dropped same elect x e v dropped
       unvoted v below (inr from) =
           let gone_before = earlier_gone v below from in
-          follows.nullify_votes v from ∙ ap (λ b. b || is_among x.nullify_votes v) (casts_above (kept_in fresh.settings.view_retention events) x active reached e allowed v gone_before) ∙ shows.votes_dropped v gone_before
+          follows.nullify_votes v from ∙ ap (λ b. b || has_view x.nullify_votes v) (casts_above (kept_in fresh.settings.view_retention events) x active reached e allowed v gone_before) ∙ shows.votes_dropped v gone_before
 
       done : (does : Facts K L D → Event K D → Bool) (b : Bool) → b ≡ was_done same elect does fresh events → (does x e || b) ≡ was_done same elect does fresh (e ∷ events)
       done does b is = done_further same elect history x shows.facts e does b is

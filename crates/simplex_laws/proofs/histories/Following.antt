@@ -11,8 +11,8 @@ use Rattle.simplex_round.specs.Round.{RoundFacts}
 use Rattle.simplex_voter.specs.Facts.{Facts, Elect, round_of, is_tracked, with_round}
 use Rattle.simplex_voter.specs.Windows.{min_active}
 use Rattle.simplex_laws.specs.Events.{Event}
-use Rattle.simplex_laws.specs.Sums.{notarizes, nullifies, finalizes, judges, covers_from, sets_genesis, finalized_by, entered_by, moment_by, is_prune, or_new, is_among}
-use Rattle.simplex_laws.specs.OwnWork.{contradicts, hands_out_notarization, hands_out_nullification, hands_out_finalization, decides_nullify, casts_nullify, settles, hears, decides_finalize, decides_notarize, owns}
+use Rattle.simplex_laws.specs.Sums.{notarizes, nullifies, finalizes, verdict_of_event, covers_from, sets_genesis, finalized_by_event, entered_by, moment_by, is_prune, or_new, has_view}
+use Rattle.simplex_laws.specs.OwnWork.{contradicts, hands_out_notarization, hands_out_nullification, hands_out_finalization, decides_nullify, casts_nullify, first_certificate_by, hears, decides_finalize, decides_notarize, owns}
 use Rattle.simplex_member.proofs.Growing.{round_of-put, round_of-same}
 use Rattle.simplex_laws.proofs.votes.NullifyVotes.{tied}
 use Rattle.simplex_laws.proofs.histories.Leaving.{Known, known_of, Alike, Leaves}
@@ -28,15 +28,15 @@ module _ {K L D : Type 0} (same : D → D → Bool) (elect : Elect L) where
     notarization = or_new k.notarization (notarizes v e);
     nullification = or_new k.nullification (nullifies v e);
     finalization = or_new k.finalization (finalizes v e);
-    verdict = or_new k.verdict (judges (is_tracked x) v e);
+    verdict = or_new k.verdict (verdict_of_event (is_tracked x) v e);
     notarization_broadcast = hands_out_notarization v x e || k.notarization_broadcast;
     nullification_broadcast = hands_out_nullification v x e || k.nullification_broadcast;
     finalization_broadcast = hands_out_finalization v x e || k.finalization_broadcast;
     notarize_decided = decides_notarize same elect v x e || k.notarize_decided;
     nullify_decided = decides_nullify v x e || k.nullify_decided;
     finalize_decided = decides_finalize same elect v x e || k.finalize_decided;
-    held = option_or (settles v x e) (or_new k.held (option_or (hears v x e) (owns same elect v x e)));
-    conflict = contradicts same k.held (option_or (settles v x e) (hears v x e)) || k.conflict;
+    held = option_or (first_certificate_by v x e) (or_new k.held (option_or (hears v x e) (owns same elect v x e)));
+    conflict = contradicts same k.held (option_or (first_certificate_by v x e) (hears v x e)) || k.conflict;
   }
 
   -- an event says nothing of a view
@@ -50,29 +50,29 @@ module _ {K L D : Type 0} (same : D → D → Bool) (elect : Elect L) where
     pub genesis : y.genesis ≡ option_or (sets_genesis e) x.genesis
     pub moment : y.moment ≡ unwrap_or (moment_by e) x.moment
     pub current : y.current ≡ max x.current (entered_by x.terms.term_length (is_tracked x) e)
-    pub finalized : y.finalized ≡ max x.finalized (finalized_by e)
-    pub nullified : (v : ℕ) → left_from x e ≤ v → is_among y.nullified v ≡ (covers_from v e || is_among x.nullified v)
-    pub nullify_votes : (v : ℕ) → left_from x e ≤ v → is_among y.nullify_votes v ≡ (casts_nullify v x e || is_among x.nullify_votes v)
+    pub finalized : y.finalized ≡ max x.finalized (finalized_by_event e)
+    pub nullified : (v : ℕ) → left_from x e ≤ v → has_view y.nullified v ≡ (covers_from v e || has_view x.nullified v)
+    pub nullify_votes : (v : ℕ) → left_from x e ≤ v → has_view y.nullify_votes v ≡ (casts_nullify v x e || has_view x.nullify_votes v)
     pub rounds : (v : ℕ) → left_from x e ≤ v → known_of (round_of y v) ≡ adds x e v (known_of (round_of x v))
 
   -- an event says nothing
   pub record IsSilent (x : Facts K L D) (e : Event K D) : Type 0 where
     pub genesis : sets_genesis e ≡ None
     pub entered : (term_length : ℕ) → entered_by term_length (is_tracked x) e ≡ 0
-    pub finalized : finalized_by e ≡ 0
+    pub finalized : finalized_by_event e ≡ 0
     pub nullified : (v : ℕ) → covers_from v e ≡ false
     pub nullify_votes : (v : ℕ) → casts_nullify v x e ≡ false
     pub rounds : (v : ℕ) → IsElsewhere x e v
 
 -- a view is among those with one more
-pub among_noted : (k v : ℕ) (ks : List ℕ) → is_among (insert_key nat_cmp ks k) v ≡ (eqb v k || is_among ks v)
+pub among_noted : (k v : ℕ) (ks : List ℕ) → has_view (insert_key nat_cmp ks k) v ≡ (eqb v k || has_view ks v)
 among_noted k v [] = refl
 among_noted k v (u ∷ ks) =
-    let behind : is_among (insert_key nat_cmp ks k) v ≡ (eqb v k || is_among ks v) = among_noted k v ks in
-    (elim (nat_cmp k u) as (λ (o : Ordering). nat_cmp k u ≡ o → is_among (match_ordering o (k ∷ u ∷ ks) (u ∷ ks) (u ∷ insert_key nat_cmp ks k)) v ≡ (eqb v k || (eqb v u || is_among ks v))) [
+    let behind : has_view (insert_key nat_cmp ks k) v ≡ (eqb v k || has_view ks v) = among_noted k v ks in
+    (elim (nat_cmp k u) as (λ (o : Ordering). nat_cmp k u ≡ o → has_view (match_ordering o (k ∷ u ∷ ks) (u ∷ ks) (u ∷ insert_key nat_cmp ks k)) v ≡ (eqb v k || (eqb v u || has_view ks v))) [
       | Less ↦ λ is. refl
-      | Equal ↦ λ is. rw (tied k u is) (twice (eqb v u) (is_among ks v))
-      | Greater ↦ λ is. rw behind (swapped (eqb v u) (eqb v k) (is_among ks v))
+      | Equal ↦ λ is. rw (tied k u is) (twice (eqb v u) (has_view ks v))
+      | Greater ↦ λ is. rw behind (swapped (eqb v u) (eqb v k) (has_view ks v))
     ]) refl
   where
     twice : (a b : Bool) → (a || b) ≡ (a || (a || b))
@@ -113,7 +113,7 @@ module _ {K L D : Type 0} (same : D → D → Bool) (elect : Elect L) (x : Facts
     moment = leaves.moment_is;
     current = leaves.current_is ∙ omega (arith, silent.entered x.terms.term_length);
     finalized = leaves.finalized_is ∙ omega (arith, silent.finalized);
-    nullified = λ v _. ap (λ views. is_among views v) leaves.nullified ∙ sym (ap (λ b. b || is_among x.nullified v) (silent.nullified v));
-    nullify_votes = λ v _. ap (λ views. is_among views v) leaves.nullify_votes ∙ sym (ap (λ b. b || is_among x.nullify_votes v) (silent.nullify_votes v));
+    nullified = λ v _. ap (λ views. has_view views v) leaves.nullified ∙ sym (ap (λ b. b || has_view x.nullified v) (silent.nullified v));
+    nullify_votes = λ v _. ap (λ views. has_view views v) leaves.nullify_votes ∙ sym (ap (λ b. b || has_view x.nullify_votes v) (silent.nullify_votes v));
     rounds = λ v _. nothing_added v (silent.rounds v) (round_of x v) (round_of y v) (leaves.rounds v);
   }

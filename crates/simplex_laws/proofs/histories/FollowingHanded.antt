@@ -24,7 +24,7 @@ use Rattle.simplex_voter.specs.Acceptance.{with_notarization_at, with_nullificat
 use Rattle.simplex_voter.proofs.Elsewhere.{round_of-with_round}
 use Rattle.simplex_voter.proofs.Gaps.{and_parts}
 use Rattle.simplex_laws.specs.Events.{SetFloor, AddNotarization, AddNullification, AddFinalization, Certified}
-use Rattle.simplex_laws.specs.Sums.{entered_by, is_among}
+use Rattle.simplex_laws.specs.Sums.{entered_by, has_view}
 use Rattle.simplex_laws.specs.OwnWork.{contradicts}
 use Rattle.simplex_laws.specs.Shows.{verdict_of}
 use Rattle.simplex_member.proofs.Growing.{round_of-same}
@@ -113,8 +113,8 @@ module _ {K L D : Type 0} (same : D → D → Bool) (decides : (d e : D) → sam
         moment = after.moment_is ∙ before.moment_is;
         current = omega (arith, after.current_is, before.current_is);
         finalized = omega (arith, after.finalized_is, before.finalized_is);
-        nullified = λ w _. ap (λ views. is_among views w) (after.nullified ∙ before.nullified);
-        nullify_votes = λ w _. ap (λ views. is_among views w) (after.nullify_votes ∙ before.nullify_votes);
+        nullified = λ w _. ap (λ views. has_view views w) (after.nullified ∙ before.nullified);
+        nullify_votes = λ w _. ap (λ views. has_view views w) (after.nullify_votes ∙ before.nullify_votes);
         rounds = λ w _. put_between same elect x (AddNotarization c) d y v (with_notarization (same_proposal same) (round_of d v) c) before.rounds (notarization_added same decides elect x c (round_of d v) (ap (λ k. k.notarization) (before.rounds v))) (λ u apart k. rw apart refl) after.rounds w;
       }
 
@@ -138,8 +138,8 @@ module _ {K L D : Type 0} (same : D → D → Bool) (decides : (d e : D) → sam
         moment = after.moment_is ∙ before.moment_is ∙ raising.moment_is;
         current = after.current_is ∙ before.current_is ∙ ap (λ n. max n (v + 1)) raising.current_is;
         finalized = after.finalized_is ∙ before.finalized_is ∙ raising.finalized_is;
-        nullified = λ w _. ap (λ views. is_among views w) (after.nullified ∙ before.nullified);
-        nullify_votes = λ w _. ap (λ views. is_among views w) (after.nullify_votes ∙ before.nullify_votes);
+        nullified = λ w _. ap (λ views. has_view views w) (after.nullified ∙ before.nullified);
+        nullify_votes = λ w _. ap (λ views. has_view views w) (after.nullify_votes ∙ before.nullify_votes);
         rounds = λ w _. put_between same elect x (AddFinalization c now) d y v (with_finalization (same_proposal same) (round_of d v) c) before.rounds (finalization_added same decides elect x c (round_of d v) now (ap (λ k. k.finalization) (before.rounds v))) (λ u apart k. rw apart refl) after.rounds w;
       }
 
@@ -200,8 +200,8 @@ module _ {K L D : Type 0} (same : D → D → Bool) (elect : Elect L) (x : Facts
         moment = before.moment_is;
         current = before.current_is;
         finalized = omega (arith, before.finalized_is);
-        nullified = λ w _. among_noted u w d.nullified ∙ ap (λ views. eqb w u || is_among views w) before.nullified;
-        nullify_votes = λ w _. ap (λ views. is_among views w) before.nullify_votes;
+        nullified = λ w _. among_noted u w d.nullified ∙ ap (λ views. eqb w u || has_view views w) before.nullified;
+        nullify_votes = λ w _. ap (λ views. has_view views w) before.nullify_votes;
         rounds = λ w _. put_between same elect x (AddNullification c now) d z u (with_nullification (round_of d u) c) before.rounds (nullification_added same elect x c now (round_of d u)) (λ s apart k. rw apart refl) (λ s. refl) w;
       }
 
@@ -218,8 +218,8 @@ module _ {K L D : Type 0} (same : D → D → Bool) (elect : Elect L) (x : Facts
         moment = q.moment_is;
         current = q.current_is;
         finalized = omega (arith, q.finalized_is);
-        nullified = λ w _. ap (λ views. is_among views w) q.nullified;
-        nullify_votes = λ w _. ap (λ views. is_among views w) q.nullify_votes;
+        nullified = λ w _. ap (λ views. has_view views w) q.nullified;
+        nullify_votes = λ w _. ap (λ views. has_view views w) q.nullify_votes;
         rounds = λ w _. q.rounds w;
       }
 
@@ -278,8 +278,8 @@ module _ {K L D : Type 0} (same : D → D → Bool) (elect : Elect L) (x : Facts
             moment = after.moment_is;
             current = after.current_is ∙ ap (λ b. max x.current (if b then v + 1 else 0)) (sym here);
             finalized = omega (arith, after.finalized_is);
-            nullified = λ w _. ap (λ views. is_among views w) after.nullified;
-            nullify_votes = λ w _. ap (λ views. is_among views w) after.nullify_votes;
+            nullified = λ w _. ap (λ views. has_view views w) after.nullified;
+            nullify_votes = λ w _. ap (λ views. has_view views w) after.nullify_votes;
             rounds = λ w _. judged_rounds same elect x v now true y taken here after.rounds w;
           })
       by_tracked true here false taken =
@@ -294,8 +294,8 @@ module _ {K L D : Type 0} (same : D → D → Bool) (elect : Elect L) (x : Facts
             moment = after.moment_is;
             current = omega (arith, after.current_is);
             finalized = omega (arith, after.finalized_is);
-            nullified = λ w _. ap (λ views. is_among views w) after.nullified;
-            nullify_votes = λ w _. ap (λ views. is_among views w) after.nullify_votes;
+            nullified = λ w _. ap (λ views. has_view views w) after.nullified;
+            nullify_votes = λ w _. ap (λ views. has_view views w) after.nullify_votes;
             rounds = λ w _. judged_rounds same elect x v now false y taken here after.rounds w;
           })
       by_tracked false gone s taken =

@@ -14,7 +14,7 @@ use Rattle.simplex_voter.specs.Leaders.{with_next_view_ready}
 use Rattle.simplex_voter.specs.Replay.{TakesReplay, bound_again, restored_binding}
 use Rattle.simplex_member.specs.Recovery.{as_artifact, after_replaying}
 use Rattle.simplex_laws.specs.Events.{Event, IsEvent, after_event, SetFloor, AddNotarization, AddNullification, AddFinalization, Certified, ConstructNotarize, ConstructNullify, ConstructFinalize, SetProposal, TryPropose, Proposed, Supersede, Release, TryVerify, Verified, VerificationFailed, CertifyCandidates, SetCertifyHandle, TriggerTimeout, NextTimeout, BroadcastNotarization, BroadcastNullification, BroadcastFinalization, Prune, Replay}
-use Rattle.simplex_laws.specs.Sums.{moment_by, is_among}
+use Rattle.simplex_laws.specs.Sums.{moment_by, has_view}
 use Rattle.simplex_laws.proofs.histories.Leaving.{known_of, Leaves, Quiet, prepared_quiet}
 use Rattle.simplex_laws.proofs.histories.Following.{adds, Follows, IsSilent, among_noted, put_between, put_alone, silent_follows}
 use Rattle.simplex_laws.proofs.histories.FollowingHanded.{verdict_first, notarization_follows, finalization_follows, floor_finalization_follows, nullification_follows, genesis_follows, verdict_follows}
@@ -31,8 +31,8 @@ module _ {K L D : Type 0} (same : D → D → Bool) (decides : (d e : D) → sam
         moment = after.moment_is;
         current = omega (arith, after.current_is);
         finalized = omega (arith, after.finalized_is);
-        nullified = λ w _. ap (λ views. is_among views w) after.nullified;
-        nullify_votes = λ w _. ap (λ views. is_among views w) after.nullify_votes;
+        nullified = λ w _. ap (λ views. has_view views w) after.nullified;
+        nullify_votes = λ w _. ap (λ views. has_view views w) after.nullify_votes;
         rounds = λ w _. put_between same elect x (Replay (NotarizeVote p signer)) x (with_next_view_ready elect z v) v t (λ u. refl) voted (λ u apart k. rw apart refl) after.rounds w;
       }
     where

@@ -27,7 +27,7 @@ use Rattle.simplex_voter.specs.Verifying.{with_proposal, after_set_proposal}
 use Rattle.simplex_voter.specs.Serving.{after_broadcast_notarization, after_broadcast_nullification, after_broadcast_finalization, after_prune}
 use Rattle.simplex_voter.proofs.Rules.{nullify_parts, finalize_parts}
 use Rattle.simplex_laws.specs.Events.{ConstructNotarize, ConstructNullify, ConstructFinalize, SetProposal, Proposed, BroadcastNotarization, BroadcastNullification, BroadcastFinalization, Prune}
-use Rattle.simplex_laws.specs.Sums.{or_new, is_among}
+use Rattle.simplex_laws.specs.Sums.{or_new, has_view}
 use Rattle.simplex_laws.specs.OwnWork.{contradicts}
 use Rattle.simplex_laws.proofs.votes.NullifyVotes.{tied}
 use Rattle.simplex_laws.proofs.histories.Leaving.{known_of, Quiet, prepared_quiet}
@@ -94,7 +94,7 @@ module _ {K L D : Type 0} (x : Facts K L D) where
       ap (λ found. unwrap_or found (new_round x.me x.members (round_number x v)))
       (find-where_key nat_cmp (λ u. nat_le (min_active x) u) v (λ u alike. ap (nat_le (min_active x)) (sym (tied v u alike))) x.rounds ∙ ap (λ b. cond b (find nat_cmp v x.rounds) None) test)
 
-  among_left : (views : List ℕ) (v : ℕ) → min_active x ≤ v → is_among (filter (λ u. nat_le (min_active x) u) views) v ≡ is_among views v
+  among_left : (views : List ℕ) (v : ℕ) → min_active x ≤ v → has_view (filter (λ u. nat_le (min_active x) u) views) v ≡ has_view views v
   among_left views v left = any-filter_same (λ u. eqb v u) (λ u. nat_le (min_active x) u) true (λ u here. ap (nat_le (min_active x)) (sym (eqb-true v u here)) ∙ test) views
     where
       test : nat_le (min_active x) v ≡ true
@@ -117,7 +117,7 @@ module _ {K L D : Type 0} (same : D → D → Bool) (elect : Elect L) (x : Facts
           let open_vote : is_finalize r.decision ≡ false = (nullify_parts x v may).no_finalize in
           rw (may, open_vote, eq-eqb v v refl) (λ i. record (known_of r) { nullify_decided = true; finalize_decided = false })
 
-      noted : (b : Bool) → is_some x.me ≡ b → may_nullify x v ≡ true → (w : ℕ) → is_among (if b then insert_key nat_cmp x.nullify_votes v else x.nullify_votes) w ≡ ((may_nullify x v && is_some x.me && eqb w v) || is_among x.nullify_votes w)
+      noted : (b : Bool) → is_some x.me ≡ b → may_nullify x v ≡ true → (w : ℕ) → has_view (if b then insert_key nat_cmp x.nullify_votes v else x.nullify_votes) w ≡ ((may_nullify x v && is_some x.me && eqb w v) || has_view x.nullify_votes w)
       noted true keyed may w = rw (may, keyed) (among_noted v w x.nullify_votes)
       noted false keyless may w = rw (may, keyless) refl
 
@@ -164,8 +164,8 @@ module _ {K L D : Type 0} (same : D → D → Bool) (elect : Elect L) (x : Facts
             moment = after.moment_is;
             current = omega (arith, after.current_is);
             finalized = omega (arith, after.finalized_is);
-            nullified = λ w _. ap (λ views. is_among views w) after.nullified;
-            nullify_votes = λ w _. ap (λ views. is_among views w) after.nullify_votes;
+            nullified = λ w _. ap (λ views. has_view views w) after.nullified;
+            nullify_votes = λ w _. ap (λ views. has_view views w) after.nullify_votes;
             rounds = λ w _. put_between same elect x (ConstructNotarize v) x (with_next_view_ready elect z v) v r (λ u. refl) (decided may) (λ u apart k. rw apart refl) after.rounds w;
           }
       by_rule false barred = record { settings = refl; terms = refl; genesis = refl; moment = refl; current = omega arith; finalized = omega arith; nullified = λ w _. refl; nullify_votes = λ w _. refl; rounds = λ w _. nothing_added same elect x (ConstructNotarize v) w (λ k. rw (barred, and_false (eqb w v)) refl) (round_of x w) (round_of x w) refl }
@@ -181,8 +181,8 @@ module _ {K L D : Type 0} (same : D → D → Bool) (elect : Elect L) (x : Facts
         moment = before.moment_is;
         current = omega (arith, before.current_is);
         finalized = omega (arith, before.finalized_is);
-        nullified = λ w _. ap (λ views. is_among views w) before.nullified;
-        nullify_votes = λ w _. ap (λ views. is_among views w) before.nullify_votes;
+        nullified = λ w _. ap (λ views. has_view views w) before.nullified;
+        nullify_votes = λ w _. ap (λ views. has_view views w) before.nullify_votes;
         rounds = λ w _. put_between same elect x (SetProposal v p) y (with_round y v (with_proposal same r p)) v (with_proposal same r p) before.rounds (heard (is_nullify r.decision) refl) (λ u apart k. rw apart refl) (λ u. refl) w;
       }
     where

@@ -14,7 +14,7 @@ use Rattle.simplex_member.specs.Calls as calls
 use Rattle.simplex_member.specs.Calls.{CallFacts, Told, Restarted, NotRestarted}
 use Rattle.simplex_member.specs.Allowed.{is_allowed, fault_of}
 use Rattle.simplex_member.specs.Made.{answer, after_call}
-use Rattle.simplex_member.specs.Check.{first_error, floor_rules, first_broken_after, first_broken_rule}
+use Rattle.simplex_member.specs.Check.{first_error, recovery_floor_rules, first_broken_after, first_recover_error}
 use Rattle.simplex_member.specs.Entries.{entry_view, entries_of}
 use Rattle.simplex_laws.specs.Events.{History, with_event, SetFloor, AddNotarization, AddNullification, AddFinalization, Certified, Replay, events_of}
 use Rattle.simplex_laws.specs.Histories.{retaken_events, with_events, with_call_events, with_entry_taken, with_entries, recovery, IsShown, LeadsTo}
@@ -24,7 +24,7 @@ use Rattle.simplex_member.specs.Restarts.{RestartFacts, IsByView, IsRestart, IsR
 use Rattle.simplex_member.specs.Runs.{StepFacts, Calls, Restarts, restart_told, IsRun}
 use Rattle.simplex_laws.specs.Shows.{Shows}
 use Rattle.simplex_member.specs.Start.{Setup, StartFacts, started_member, new_state}
-use Rattle.simplex_laws.specs.Sums.{finalized_in}
+use Rattle.simplex_laws.specs.Sums.{finalized_by_events}
 use Rattle.simplex_member.proofs.Allowing.{new_bears}
 use Rattle.simplex_member.proofs.Bearing.{BearsAll}
 use Rattle.simplex_laws.proofs.frames.CallsMake.{call_by_event}
@@ -105,10 +105,10 @@ module _ {K L D : Type 0} (same : D → D → Bool) (decides : (d e : D) → sam
   unfolding after_kept_entry
   taken_shown now e takes = by_view (nat_lt (entry_view e) (min_active x)) refl
     where
-      lowest_alike : finalized_in history.events - history.fresh.settings.view_retention ≡ min_active x
+      lowest_alike : finalized_by_events history.events - history.fresh.settings.view_retention ≡ min_active x
       lowest_alike = ap (λ n. n - history.fresh.settings.view_retention) (sym shows.finalized) ∙ ap (λ s. x.finalized - s.view_retention) (sym shows.settings)
 
-      by_view : (b : Bool) → nat_lt (entry_view e) (min_active x) ≡ b → Shows same elect (if nat_lt (entry_view e) (finalized_in history.events - history.fresh.settings.view_retention) then history else with_events history (retaken_events now e)) (if nat_lt (entry_view e) (min_active x) then x else after_entry same elect x now e)
+      by_view : (b : Bool) → nat_lt (entry_view e) (min_active x) ≡ b → Shows same elect (if nat_lt (entry_view e) (finalized_by_events history.events - history.fresh.settings.view_retention) then history else with_events history (retaken_events now e)) (if nat_lt (entry_view e) (min_active x) then x else after_entry same elect x now e)
       by_view true below = rw (lowest_alike, below) shows
       by_view false above = rw (lowest_alike, above) (retaken_shown now e (takes above))
 
@@ -132,22 +132,22 @@ module _ {K L D : Type 0} (same : D → D → Bool) (decides : (d e : D) → sam
 
 module _ {K L D : Type 0} (same : D → D → Bool) (decides : (d e : D) → same d e ≡ true → d ≡ e) (elect : Elect L) (start : StartFacts K L D) where
   -- a floor that breaks no rule
-  floor_shown : first_error (floor_rules start.setup.settings.epoch start.floor) ≡ None → Shows same elect (record { fresh = new_state start.setup; events = SetFloor start.floor start.now ∷ [] }) (after_set_floor same elect (new_state start.setup) start.floor start.now)
+  floor_shown : first_error (recovery_floor_rules start.setup.settings.epoch start.floor) ≡ None → Shows same elect (record { fresh = new_state start.setup; events = SetFloor start.floor start.now ∷ [] }) (after_set_floor same elect (new_state start.setup) start.floor start.now)
   floor_shown good = event_shown same elect (record { fresh = new_state start.setup; events = [] }) (new_state start.setup) (begun_shown same elect start.setup) decides (SetFloor start.floor start.now) (good_floor (new_state start.setup) refl start.floor good)
 
-  unbroken_shown : (entries : List (ArtifactFacts D)) → first_broken_rule same start.setup.settings.epoch start.setup.me start.floor entries ≡ None → Shows same elect (recovery start entries) (recovered_state same elect (new_state start.setup) start.floor start.now entries)
-  unfolding recovered_state first_broken_rule
+  unbroken_shown : (entries : List (ArtifactFacts D)) → first_recover_error same start.setup.settings.epoch start.setup.me start.floor entries ≡ None → Shows same elect (recovery start entries) (recovered_state same elect (new_state start.setup) start.floor start.now entries)
+  unfolding recovered_state first_recover_error
   unbroken_shown entries none =
       let x = new_state start.setup in
       let y = after_set_floor same elect x start.floor start.now in
-      let good = (first_none (first_error (floor_rules x.settings.epoch start.floor)) (first_broken_after same x.settings.epoch x.me [] entries) none).0 in
+      let good = (first_none (first_error (recovery_floor_rules x.settings.epoch start.floor)) (first_broken_after same x.settings.epoch x.me [] entries) none).0 in
       let bears : BearsAll [] x = new_bears x.settings x.me x.members x.elector x.terms x.elects_early in
       let going : x.failed ≡ false = refl in
-      let takes : TakesEntries (λ b. b) same elect y start.now (map (as_artifact {K = K}) entries) = set_takes same elect x start.floor start.now (λ b. b) (map (as_artifact {K = K}) entries) going bears (subst (λ es. first_broken_rule same x.settings.epoch x.me start.floor es ≡ None) (sym (entries_back K entries)) none) in
+      let takes : TakesEntries (λ b. b) same elect y start.now (map (as_artifact {K = K}) entries) = set_takes same elect x start.floor start.now (λ b. b) (map (as_artifact {K = K}) entries) going bears (subst (λ es. first_recover_error same x.settings.epoch x.me start.floor es ≡ None) (sym (entries_back K entries)) none) in
       entries_shown same decides elect start.now entries (record { fresh = x; events = SetFloor start.floor start.now ∷ [] }) y (floor_shown good) takes
 
   pub recovered_shown : (entries : List (ArtifactFacts D)) → recover_error same (new_state start.setup) start.floor start.now entries ≡ None → Shows same elect (recovery start entries) (recovered_state same elect (new_state start.setup) start.floor start.now entries)
-  recovered_shown entries none = unbroken_shown entries (first_none (first_broken_rule same start.setup.settings.epoch start.setup.me start.floor entries) _ none).0
+  recovered_shown entries none = unbroken_shown entries (first_none (first_recover_error same start.setup.settings.epoch start.setup.me start.floor entries) _ none).0
 
 module _ {K L D : Type 0} (same : D → D → Bool) (decides : (d e : D) → same d e ≡ true → d ≡ e) (elect : Elect L) (m : MemberFacts K L D) where
   -- a call

@@ -10,7 +10,7 @@ use Rattle.simplex_round.specs.Round.{RoundFacts, is_finalize}
 use Rattle.simplex_voter.specs.Facts.{Facts, Elect, round_of}
 use Rattle.simplex_laws.specs.Events.{Event, History, with_event}
 use Rattle.simplex_laws.specs.Leading.{leader_by_event}
-use Rattle.simplex_laws.specs.OwnWork.{facts_after, was_done, first_said, last_said, held_in, conflict_in, contradicts, settles, hears, owns, hands_out_notarization, hands_out_nullification, hands_out_finalization, decides_notarize, decides_nullify, decides_finalize}
+use Rattle.simplex_laws.specs.OwnWork.{facts_after, was_done, first_said, last_said, held_in, conflict_in, contradicts, first_certificate_by, hears, owns, hands_out_notarization, hands_out_nullification, hands_out_finalization, decides_notarize, decides_nullify, decides_finalize}
 use Rattle.simplex_laws.specs.Requested.{verifies, asks_to_build, asks_to_verify, asks_for, binds, certifies}
 use Rattle.simplex_laws.specs.ShownRounds.{round_in}
 use Rattle.simplex_laws.specs.Sums.{or_new, notarizes, nullifies, finalizes}
@@ -102,14 +102,14 @@ module _ {K L D : Type 0} (same : D → D → Bool) (elect : Elect L) (history :
       held_further : (round_of y v).slot.held ≡ held_in same elect v history.fresh later.events
       held_further =
           ap (λ k. k.held) known
-          ∙ ap (λ (r : RoundFacts K D). option_or (settles v x e) (or_new r.slot.held (option_or (hears v x e) (owns same elect v x e)))) earlier
-          ∙ ap (λ (a : Facts K L D). option_or (settles v a e) (or_new said_held (option_or (hears v a e) (owns same elect v a e)))) facts
+          ∙ ap (λ (r : RoundFacts K D). option_or (first_certificate_by v x e) (or_new r.slot.held (option_or (hears v x e) (owns same elect v x e)))) earlier
+          ∙ ap (λ (a : Facts K L D). option_or (first_certificate_by v a e) (or_new said_held (option_or (hears v a e) (owns same elect v a e)))) facts
 
       conflict_further : (round_of y v).slot.conflict ≡ conflict_in same elect v history.fresh later.events
       conflict_further =
           ap (λ k. k.conflict) known
-          ∙ ap (λ (r : RoundFacts K D). contradicts same r.slot.held (option_or (settles v x e) (hears v x e)) || r.slot.conflict) earlier
-          ∙ ap (λ (a : Facts K L D). contradicts same said_held (option_or (settles v a e) (hears v a e)) || conflict_in same elect v history.fresh history.events) facts
+          ∙ ap (λ (r : RoundFacts K D). contradicts same r.slot.held (option_or (first_certificate_by v x e) (hears v x e)) || r.slot.conflict) earlier
+          ∙ ap (λ (a : Facts K L D). contradicts same said_held (option_or (first_certificate_by v a e) (hears v a e)) || conflict_in same elect v history.fresh history.events) facts
 
       stall_further : (round_of y v).stall_deadline ≡ option_and_then (λ at. option_map (λ time. at + time) history.fresh.terms.stall_timeout) (last_said same elect (enters v) history.fresh later.events)
       stall_further =

@@ -20,7 +20,7 @@ use Rattle.simplex_laws.specs.Events.{Event}
 use Rattle.simplex_laws.specs.Leading.{leader_by_event, tracks}
 use Rattle.simplex_laws.specs.OwnWork.{decides_nullify, decides_finalize}
 use Rattle.simplex_laws.specs.Requested.{names, certifies, verifies, asks_to_build, asks_to_verify, asks_for, binds}
-use Rattle.simplex_laws.specs.Sums.{or_new, is_among}
+use Rattle.simplex_laws.specs.Sums.{or_new, has_view}
 use Rattle.simplex_laws.specs.Timing.{enters, proposes, latches, retries}
 use Rattle.simplex_laws.proofs.histories.Following.{left_from}
 use Rattle.simplex_member.proofs.Growing.{round_of-put, round_of-same}
@@ -112,7 +112,7 @@ module _ {K L D : Type 0} (same : D → D → Bool) (elect : Elect L) where
     pub elector : y.elector ≡ x.elector
     pub elects_early : y.elects_early ≡ x.elects_early
     pub failed : y.failed ≡ x.failed
-    pub named : (v : ℕ) → is_among y.named v ≡ unwrap_or (names elect v x e) (is_among x.named v)
+    pub named : (v : ℕ) → has_view y.named v ≡ unwrap_or (names elect v x e) (has_view x.named v)
     pub work : (v : ℕ) → left_from x e ≤ v → work_of y v ≡ adds_work x e v (work_of x v)
 
   -- an event says nothing of the work on a view

@@ -12,7 +12,7 @@ use Rattle.simplex_voter.specs.Serving.{prune_answer}
 use Rattle.simplex_member.specs.Allowed.{is_allowed}
 use Rattle.simplex_member.specs.Calls.{CallFacts, AddNotarization, AddNullification, AddFinalization, SetProposal, ReleaseProposalRequest, Verified, BroadcastNotarization, BroadcastFinalization, GetBestCertificate, Prune, Told}
 use Rattle.simplex_member.specs.Made.{answer, after_call}
-use Rattle.simplex_laws.specs.LifeLaws.{is_conflicted, Kind, Notarization, Finalization, handed_in}
+use Rattle.simplex_laws.specs.LifeLaws.{has_conflict, Kind, Notarization, Finalization, handed_in}
 use Rattle.simplex_member.specs.Openings.{no_openings}
 use Rattle.simplex_member.proofs.Examples.{proposal}
 use Rattle.simplex_member.proofs.RecoveryExamples.{in_turn, settings}
@@ -74,17 +74,17 @@ none_stands = refl
 abbrev contradicted : List Call
 contradicted = AddNotarization (certificate 1 0) ∷ AddFinalization (certificate 1 9) 0 ∷ []
 
-conflict : is_conflicted (after contradicted) 1 ≡ true
+conflict : has_conflict (after contradicted) 1 ≡ true
 conflict = refl
 
 -- a prune takes nothing that is kept
-still_kept : is_conflicted (after (AddNotarization (certificate 1 0) ∷ AddFinalization (certificate 1 9) 0 ∷ Prune ∷ [])) 1 ≡ true
+still_kept : has_conflict (after (AddNotarization (certificate 1 0) ∷ AddFinalization (certificate 1 9) 0 ∷ Prune ∷ [])) 1 ≡ true
 still_kept = refl
 
 abbrev far : List Call
 far = AddNotarization (certificate 1 0) ∷ AddFinalization (certificate 1 9) 0 ∷ AddFinalization (certificate 20 0) 0 ∷ []
 
-still_there : is_conflicted (after far) 1 ≡ true
+still_there : has_conflict (after far) 1 ≡ true
 still_there = refl
 
 told_dropped : prune_answer (after far) ≡ 1 ∷ 2 ∷ []
@@ -93,7 +93,7 @@ told_dropped = refl
 abbrev pruned : State
 pruned = after (AddNotarization (certificate 1 0) ∷ AddFinalization (certificate 1 9) 0 ∷ AddFinalization (certificate 20 0) 0 ∷ Prune ∷ [])
 
-conflict_gone : is_conflicted pruned 1 ≡ false
+conflict_gone : has_conflict pruned 1 ≡ false
 conflict_gone = refl
 
 untracked_now : is_tracked pruned 1 ≡ false
@@ -111,15 +111,15 @@ not_again = refl
 abbrev seen_twice : State
 seen_twice = after_all (begun_in 1) (SetProposal 1 (proposal 1 0 7) ∷ SetProposal 1 (proposal 1 0 9) ∷ [])
 
-one_seen : is_conflicted (after_all (begun_in 1) (SetProposal 1 (proposal 1 0 7) ∷ SetProposal 1 (proposal 1 0 7) ∷ [])) 1 ≡ false
+one_seen : has_conflict (after_all (begun_in 1) (SetProposal 1 (proposal 1 0 7) ∷ SetProposal 1 (proposal 1 0 7) ∷ [])) 1 ≡ false
 unfolding in_window
 one_seen = refl
 
-two_seen : is_conflicted seen_twice 1 ≡ true
+two_seen : has_conflict seen_twice 1 ≡ true
 unfolding in_window
 two_seen = refl
 
-never_settled : is_conflicted (after_all seen_twice (Verified 1 ∷ SetProposal 1 (proposal 1 0 7) ∷ ReleaseProposalRequest 1 ∷ [])) 1 ≡ true
+never_settled : has_conflict (after_all seen_twice (Verified 1 ∷ SetProposal 1 (proposal 1 0 7) ∷ ReleaseProposalRequest 1 ∷ [])) 1 ≡ true
 unfolding in_window binding_matches
 never_settled = refl
 

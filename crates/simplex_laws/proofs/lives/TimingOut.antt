@@ -18,7 +18,7 @@ use Rattle.simplex_voter.specs.Serving.{after_prune}
 use Rattle.simplex_voter.specs.Acceptance.{after_set_floor}
 use Rattle.simplex_laws.specs.Events as event
 use Rattle.simplex_laws.specs.Events.{Event, after_event}
-use Rattle.simplex_laws.specs.Sums.{finalized_by, is_prune}
+use Rattle.simplex_laws.specs.Sums.{finalized_by_event, is_prune}
 use Rattle.simplex_laws.specs.TermLengths.{HasTerms, KeepTerms}
 use Rattle.simplex_laws.proofs.frames.Fresh.{IsFresh, fresh_state}
 use Rattle.simplex_laws.specs.LifeLaws.{CurrentTimesOut}
@@ -77,7 +77,7 @@ module _ {K L D : Type 0} (same : D → D → Bool) (elect : Elect L) (x : Facts
   change_finalized y v r s _ = inl refl
 
 -- the view of the finalization that an event brings
-final_view : {K D : Type 0} (e : Event K D) (c : ProposalFacts D) → finalization_by e ≡ Some c → finalized_by e ≡ c.proposal.round.view
+final_view : {K D : Type 0} (e : Event K D) (c : ProposalFacts D) → finalization_by e ≡ Some c → finalized_by_event e ≡ c.proposal.round.view
 final_view (event.AddFinalization f now) c is = (let one : f ≡ c = cc in ap (λ g. g.proposal.round.view) one)
 final_view (event.SetFloor (FinalizedFloor f) now) c is = (let one : f ≡ c = cc in ap (λ g. g.proposal.round.view) one)
 final_view _ c is = absurd (false≢true (ap is_some is))

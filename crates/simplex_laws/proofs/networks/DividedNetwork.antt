@@ -12,7 +12,7 @@ use Rattle.simplex_voter.specs.Proposing.{propose_answer, proposed_answer}
 use Rattle.simplex_voter.specs.Rules.{may_notarize, may_nullify, may_finalize, is_gated, required_parent}
 use Rattle.simplex_voter.specs.Verifying.{standing}
 use Rattle.simplex_voter.specs.Windows.{is_admitted, in_window}
-use Rattle.simplex_member.specs.Check.{first_broken_rule}
+use Rattle.simplex_member.specs.Check.{first_recover_error}
 use Rattle.simplex_member.specs.Cuts.{may_drop, pruned_entries}
 use Rattle.simplex_member.specs.Entries.{entry_view}
 use Rattle.simplex_member.specs.Recovery.{recovered_state, after_kept_entry}
@@ -60,27 +60,27 @@ abbrev with_none : List (ArtifactFacts ℕ)
 with_none = []
 
 leading_fits : FitsIn leading
-unfolding first_broken_rule recovered_state after_kept_entry may_drop pruned_entries standing propose_answer proposed_answer preferred_parent may_stand spans payload_for first_gap explicit_payload in_window is_admitted binding_matches parent_payload may_notarize may_nullify may_finalize is_gated required_parent
+unfolding first_recover_error recovered_state after_kept_entry may_drop pruned_entries standing propose_answer proposed_answer preferred_parent may_stand spans payload_for first_gap explicit_payload in_window is_admitted binding_matches parent_payload may_notarize may_nullify may_finalize is_gated required_parent
 leading_fits = (refl, rises entry_view 0 with_vote refl, refl, tt)
 
 following_fits : FitsIn following
-unfolding first_broken_rule recovered_state after_kept_entry may_drop pruned_entries standing spans payload_for first_gap explicit_payload in_window is_admitted binding_matches parent_payload may_notarize may_nullify may_finalize is_gated required_parent
+unfolding first_recover_error recovered_state after_kept_entry may_drop pruned_entries standing spans payload_for first_gap explicit_payload in_window is_admitted binding_matches parent_payload may_notarize may_nullify may_finalize is_gated required_parent
 following_fits = (refl, rises entry_view 0 with_other_vote refl, refl, tt)
 
 forgetting_fits : FitsIn forgetting
-unfolding first_broken_rule recovered_state after_kept_entry may_drop pruned_entries standing spans payload_for first_gap explicit_payload in_window is_admitted binding_matches parent_payload may_notarize may_nullify may_finalize is_gated required_parent
+unfolding first_recover_error recovered_state after_kept_entry may_drop pruned_entries standing spans payload_for first_gap explicit_payload in_window is_admitted binding_matches parent_payload may_notarize may_nullify may_finalize is_gated required_parent
 forgetting_fits = (refl, rises entry_view 0 with_none refl, refl, tt)
 
 leading_ran : Ran nat_eq in_turn 1 0 leading
-unfolding first_broken_rule
+unfolding first_recover_error
 leading_ran = ran_as_told 1 0 leading (begins 1 0 (omega arith)) (begins 1 0 (omega arith), tt) refl leading_fits leading_told
 
 following_ran : Ran nat_eq in_turn 1 1 following
-unfolding first_broken_rule
+unfolding first_recover_error
 following_ran = ran_as_told 1 1 following (begins 1 1 (omega arith)) (begins 1 1 (omega arith), tt) refl following_fits following_told
 
 forgetting_ran : Ran nat_eq in_turn 1 2 forgetting
-unfolding first_broken_rule
+unfolding first_recover_error
 forgetting_ran = ran_as_told 1 2 forgetting (begins 1 2 (omega arith)) (begins 1 2 (omega arith), tt) refl forgetting_fits forgetting_told
 
 few : FewFaulty divided

@@ -11,7 +11,7 @@ use Rattle.simplex_voter.specs.Proposing.{propose_answer, proposed_answer}
 use Rattle.simplex_voter.specs.Rules.{may_notarize, may_nullify, may_finalize, is_gated, required_parent}
 use Rattle.simplex_voter.specs.Verifying.{standing}
 use Rattle.simplex_voter.specs.Windows.{is_admitted, in_window}
-use Rattle.simplex_member.specs.Check.{first_broken_rule}
+use Rattle.simplex_member.specs.Check.{first_recover_error}
 use Rattle.simplex_laws.specs.Continuations.{and_then, HasSignedAs, PlacesGoOn, GoesOnToFinalize}
 use Rattle.simplex_laws.specs.HandoffNetwork.{handed_over, takes_over, can_not_verify, taken_over, leads_on, follows_on, gone_on, after_handoff}
 use Rattle.simplex_laws.specs.Deeds.{Signs}
@@ -43,15 +43,15 @@ unfolding standing propose_answer proposed_answer preferred_parent may_stand spa
 left_third_told = refl
 
 left_first_ran : Ran nat_eq in_turn 2 0 left_first
-unfolding first_broken_rule
+unfolding first_recover_error
 left_first_ran = ran_as_told 2 0 left_first (begins 2 0 (omega arith)) tt refl tt left_first_told
 
 left_second_ran : Ran nat_eq in_turn 2 1 left_second
-unfolding first_broken_rule
+unfolding first_recover_error
 left_second_ran = ran_as_told 2 1 left_second (begins 2 1 (omega arith)) tt refl tt left_second_told
 
 left_third_ran : Ran nat_eq in_turn 2 2 left_third
-unfolding first_broken_rule
+unfolding first_recover_error
 left_third_ran = ran_as_told 2 2 left_third (begins 2 2 (omega arith)) tt refl tt left_third_told
 
 few : FewFaulty taken_over

@@ -9,9 +9,9 @@ use Rattle.simplex_voter.specs.Proposing.{propose_answer, proposed_answer}
 use Rattle.simplex_voter.specs.Rules.{may_notarize, may_nullify, may_finalize, is_gated, required_parent}
 use Rattle.simplex_voter.specs.Verifying.{standing}
 use Rattle.simplex_voter.specs.Windows.{is_admitted, in_window}
-use Rattle.simplex_member.specs.Check.{first_broken_rule}
+use Rattle.simplex_member.specs.Check.{first_recover_error}
 use Rattle.simplex_laws.specs.Continuations.{and_then, HasAccepted, PlacesGoOn, GoesOnToFinalize}
-use Rattle.simplex_laws.specs.LackingNetwork.{lacks_nullification, skips_two, lacks_notarization, lacking, finishes, has_nullification, has_notarization, supplied, over_two}
+use Rattle.simplex_laws.specs.LackingNetwork.{lacks_nullification, skips_two, member_without_notarization, lacking, finishes, has_nullification, has_notarization, supplied, over_two}
 use Rattle.simplex_laws.specs.Places.{FewFaulty, IsNetworkOf}
 use Rattle.simplex_laws.specs.Scripts.{round, one}
 use Rattle.simplex_laws.specs.Stories.{Story, Ran}
@@ -26,7 +26,7 @@ abbrev supplied_second : Story ℕ ℕ ℕ
 supplied_second = and_then skips_two (finishes 1)
 
 abbrev supplied_third : Story ℕ ℕ ℕ
-supplied_third = and_then lacks_notarization has_notarization
+supplied_third = and_then member_without_notarization has_notarization
 
 supplied_first_told : told_in supplied_first ≡ supplied_first.replies
 unfolding standing propose_answer proposed_answer preferred_parent may_stand spans payload_for first_gap explicit_payload optimistic_payload is_handoff_parent serves follows in_window is_admitted binding_matches parent_payload may_notarize may_nullify may_finalize is_gated required_parent
@@ -41,15 +41,15 @@ unfolding standing propose_answer proposed_answer preferred_parent may_stand spa
 supplied_third_told = refl
 
 supplied_first_ran : Ran nat_eq in_turn 1 0 supplied_first
-unfolding first_broken_rule
+unfolding first_recover_error
 supplied_first_ran = ran_as_told 1 0 supplied_first (begins 1 0 (omega arith)) tt refl tt supplied_first_told
 
 supplied_second_ran : Ran nat_eq in_turn 1 1 supplied_second
-unfolding first_broken_rule
+unfolding first_recover_error
 supplied_second_ran = ran_as_told 1 1 supplied_second (begins 1 1 (omega arith)) tt refl tt supplied_second_told
 
 supplied_third_ran : Ran nat_eq in_turn 1 2 supplied_third
-unfolding first_broken_rule
+unfolding first_recover_error
 supplied_third_ran = ran_as_told 1 2 supplied_third (begins 1 2 (omega arith)) tt refl tt supplied_third_told
 
 few : FewFaulty lacking
@@ -75,5 +75,5 @@ lacking_goes_on = goes_on_so in_turn 1 lacking supplied over_two few later_few g
 pub none_skipped : HasAccepted (Nullify (round 2)) 0 lacks_nullification → ⊥
 none_skipped h = not_accepted (Nullify (round 2)) lacks_nullification refl refl h
 
-pub none_notarized : HasAccepted (Notarize one) 2 lacks_notarization → ⊥
-none_notarized h = not_accepted (Notarize one) lacks_notarization refl refl h
+pub none_notarized : HasAccepted (Notarize one) 2 member_without_notarization → ⊥
+none_notarized h = not_accepted (Notarize one) member_without_notarization refl refl h

@@ -12,7 +12,7 @@ use Rattle.simplex_voter.specs.Parents.{spans, payload_for, parent_payload, bind
 use Rattle.simplex_voter.specs.Rules.{may_notarize, may_nullify, may_finalize, is_gated, required_parent}
 use Rattle.simplex_voter.specs.Verifying.{standing}
 use Rattle.simplex_member.specs.Calls.{Told}
-use Rattle.simplex_member.specs.Check.{first_broken_rule}
+use Rattle.simplex_member.specs.Check.{first_recover_error}
 use Rattle.simplex_member.specs.Cuts.{may_drop, pruned_entries}
 use Rattle.simplex_member.specs.Entries.{entry_view}
 use Rattle.simplex_member.specs.Recovery.{recovered_state, after_kept_entry}
@@ -46,11 +46,11 @@ module _ where
   forgetful_told = refl
 
   forgetful_fits : Fits nat_eq leader (begun nat_eq leader (forgetful).start) (forgetful).steps
-  unfolding first_broken_rule recovered_state after_kept_entry may_drop pruned_entries standing spans payload_for first_gap explicit_payload in_window is_admitted binding_matches parent_payload may_notarize may_nullify may_finalize is_gated required_parent
+  unfolding first_recover_error recovered_state after_kept_entry may_drop pruned_entries standing spans payload_for first_gap explicit_payload in_window is_admitted binding_matches parent_payload may_notarize may_nullify may_finalize is_gated required_parent
   forgetful_fits = (refl, rises entry_view 0 kept refl, refl, tt)
 
   pub forgetful_ran : Ran nat_eq leader 5 2 (forgetful)
-  unfolding first_broken_rule
+  unfolding first_recover_error
   forgetful_ran = record {
     lives = record { first = begins 5 2 (Genesis 0) (omega arith); later = each_begins 5 2 (forgetful).steps (begins 5 2 (Genesis 0) (omega arith), tt) };
     run = fits_run_from nat_eq leader (forgetful) refl forgetful_fits forgetful_told;
@@ -80,7 +80,7 @@ module _ where
   restarting_told = refl
 
   restarting_fits : Fits nat_eq leader (begun nat_eq leader restarting.start) restarting.steps
-  unfolding first_broken_rule recovered_state after_kept_entry may_drop pruned_entries standing spans payload_for first_gap explicit_payload in_window is_admitted binding_matches parent_payload may_notarize may_nullify may_finalize is_gated required_parent
+  unfolding first_recover_error recovered_state after_kept_entry may_drop pruned_entries standing spans payload_for first_gap explicit_payload in_window is_admitted binding_matches parent_payload may_notarize may_nullify may_finalize is_gated required_parent
   restarting_fits = (
     refl,
     rises entry_view 0 once refl,
@@ -99,28 +99,28 @@ module _ where
   )
 
   pub impatient_ran : Ran nat_eq leader 5 0 impatient
-  unfolding first_broken_rule
+  unfolding first_recover_error
   impatient_ran = record {
     lives = record { first = begins 5 0 (Genesis 0) (omega arith); later = each_begins 5 0 impatient.steps tt };
     run = fits_run_from nat_eq leader impatient refl tt impatient_told;
   }
 
   patient_ran : (me : ℕ) → from_start (patient me) ≡ (patient me).replies → Ran nat_eq leader 5 me (patient me)
-  unfolding first_broken_rule
+  unfolding first_recover_error
   patient_ran me told = record {
     lives = record { first = begins 5 me (Genesis 0) (omega arith); later = each_begins 5 me (patient me).steps tt };
     run = fits_run_from nat_eq leader (patient me) refl tt told;
   }
 
   skipping_ran : (me : ℕ) → from_start (skipping me) ≡ (skipping me).replies → Ran nat_eq leader 1 me (skipping me)
-  unfolding first_broken_rule
+  unfolding first_recover_error
   skipping_ran me told = record {
     lives = record { first = begins 1 me (Genesis 0) (omega arith); later = each_begins 1 me (skipping me).steps tt };
     run = fits_run_from nat_eq leader (skipping me) refl tt told;
   }
 
   pub restarting_ran : Ran nat_eq leader 5 1 restarting
-  unfolding first_broken_rule
+  unfolding first_recover_error
   restarting_ran = record {
     lives = record { first = begins 5 1 (Genesis 0) (omega arith); later = each_begins 5 1 restarting.steps (begins 5 1 (Genesis 0) (omega arith), (begins 5 1 (Genesis 0) (omega arith), (begins 5 1 (Finalized (certificate (proposal 4 3))) (omega arith), tt))) };
     run = fits_run_from nat_eq leader restarting refl restarting_fits restarting_told;

@@ -11,7 +11,7 @@ use Rattle.simplex_voter.specs.Facts.{Facts}
 use Rattle.simplex_voter.specs.Refusals.{has_late_deadline}
 use Rattle.simplex_member.specs.declared.member.error.RecoverError.{RecoverError}
 use Rattle.simplex_member.specs.declared.member.error.RecoverError.TheVariants as error
-use Rattle.simplex_member.specs.Check.{first_error, beside_rules, round_rules, vote_rules, own_rules, floor_rules, entry_rules, first_broken_after, first_broken_rule}
+use Rattle.simplex_member.specs.Check.{first_error, beside_rules, round_rules, vote_rules, own_rules, recovery_floor_rules, entry_rules, first_broken_after, first_recover_error}
 use Rattle.simplex_member.specs.Recovery.{recover_error}
 use Rattle.simplex_laws.specs.Deeds.{Deed, Accepts}
 use Rattle.simplex_laws.specs.Lawful.{IsLawful, HasSigned}
@@ -69,7 +69,7 @@ module _ {D : Type 0} (same : D → D → Bool) (epoch : ℕ) (me : Option ℕ) 
       of_rest p (m, inl h) = (m, inl (Contains-cons_rest e rest (NotarizeVote p m) h))
       of_rest p (m, inr h) = (m, inr (Contains-cons_rest e rest (FinalizeVote p m) h))
 
-  of_floor : (floor : FloorFacts D) → OfBroken IfParent (floor_rules epoch floor)
+  of_floor : (floor : FloorFacts D) → OfBroken IfParent (recovery_floor_rules epoch floor)
   of_floor (Genesis payload) = tt
   of_floor (Finalized c) = (λ _ is. absurd (cc), (λ _ is. absurd (cc), (λ _ is. absurd (cc), tt)))
 
@@ -80,11 +80,11 @@ module _ {K L D : Type 0} (same : D → D → Bool) (term_length : ℕ) (deeds :
       → ((p : Proposal D) (m : ℕ) → Contains entries (FinalizeVote p m) → HasSigned deeds (subject.Finalize p))
       → recover_error same x floor now entries ≡ Some error.ParentNotBelow
       → AcceptedParentAbove deeds
-  unfolding first_broken_rule
-  parent_accepted x floor now entries notarize_cast finalize_cast is = elim (from_either (first_broken_rule same x.settings.epoch x.me floor entries) (if has_late_deadline x now then Some error.TimeOverflow else None) error.ParentNotBelow is) [
+  unfolding first_recover_error
+  parent_accepted x floor now entries notarize_cast finalize_cast is = elim (from_either (first_recover_error same x.settings.epoch x.me floor entries) (if has_late_deadline x now then Some error.TimeOverflow else None) error.ParentNotBelow is) [
     | inr late ↦ absurd (late_elsewhere (has_late_deadline x now) late)
-    | inl broken ↦ elim (from_either (first_error (floor_rules x.settings.epoch floor)) (first_broken_after same x.settings.epoch x.me [] entries) error.ParentNotBelow broken) [
-      | inl in_floor ↦ first_broken (IfParent same x.settings.epoch x.me (AcceptedParentAbove deeds)) (floor_rules x.settings.epoch floor) error.ParentNotBelow (of_floor same x.settings.epoch x.me (AcceptedParentAbove deeds) floor) in_floor refl
+    | inl broken ↦ elim (from_either (first_error (recovery_floor_rules x.settings.epoch floor)) (first_broken_after same x.settings.epoch x.me [] entries) error.ParentNotBelow broken) [
+      | inl in_floor ↦ first_broken (IfParent same x.settings.epoch x.me (AcceptedParentAbove deeds)) (recovery_floor_rules x.settings.epoch floor) error.ParentNotBelow (of_floor same x.settings.epoch x.me (AcceptedParentAbove deeds) floor) in_floor refl
       | inr in_entries ↦ of_entries same x.settings.epoch x.me (AcceptedParentAbove deeds) [] entries error.ParentNotBelow votes in_entries refl
     ]
   ]

@@ -17,7 +17,7 @@ use Rattle.simplex_member.specs.declared.member.error.RecoverError.TheVariants a
 use Rattle.simplex_member.specs.Allowed.{is_allowed, fault_of}
 use Rattle.simplex_member.specs.Calls as calls
 use Rattle.simplex_member.specs.Calls.{CallFacts}
-use Rattle.simplex_member.specs.Check.{first_error, beside_rules, own_rules, floor_rules, entry_rules, first_broken_after, first_broken_rule}
+use Rattle.simplex_member.specs.Check.{first_error, beside_rules, own_rules, recovery_floor_rules, entry_rules, first_broken_after, first_recover_error}
 use Rattle.simplex_member.specs.Entries.{entry_view}
 use Rattle.simplex_member.specs.Made.{after_call}
 use Rattle.simplex_member.specs.Openings.{Openings, context_at}
@@ -172,17 +172,17 @@ module _ {D : Type 0} where
       (entry_fine epoch me e own, entries_small same epoch me (e ∷ before) rest parts.1)
 
 module _ {D : Type 0} where
-  floor_fine : (epoch : ℕ) (floor : FloorFacts D) → first_error (floor_rules epoch floor) ≡ None → is_floor_too_large floor ≡ false
+  floor_fine : (epoch : ℕ) (floor : FloorFacts D) → first_error (recovery_floor_rules epoch floor) ≡ None → is_floor_too_large floor ≡ false
   floor_fine epoch (Genesis payload) none = refl
-  floor_fine epoch (FinalizedFloor c) none = (none_broken (floor_rules epoch (FinalizedFloor c)) none).1.1.0
+  floor_fine epoch (FinalizedFloor c) none = (none_broken (recovery_floor_rules epoch (FinalizedFloor c)) none).1.1.0
 
 module _ {K L D : Type 0} (same : D → D → Bool) where
   -- a floor and a record that are taken name no view that is too large
   pub taken_small : (x : Facts K L D) (floor : FloorFacts D) (now : ℕ) (entries : List (ArtifactFacts D)) → recover_error same x floor now entries ≡ None → (is_floor_too_large floor ≡ false) × AllSmall entries
-  unfolding first_broken_rule
+  unfolding first_recover_error
   taken_small x floor now entries none =
-      let whole = (first_none (first_broken_rule same x.settings.epoch x.me floor entries) (if has_late_deadline x now then Some error.TimeOverflow else None) none).0 in
-      let parts = first_none (first_error (floor_rules x.settings.epoch floor)) (first_broken_after same x.settings.epoch x.me [] entries) whole in
+      let whole = (first_none (first_recover_error same x.settings.epoch x.me floor entries) (if has_late_deadline x now then Some error.TimeOverflow else None) none).0 in
+      let parts = first_none (first_error (recovery_floor_rules x.settings.epoch floor)) (first_broken_after same x.settings.epoch x.me [] entries) whole in
       (floor_fine x.settings.epoch floor parts.0, entries_small same x.settings.epoch x.me [] entries parts.1)
 
 module _ {K L D : Type 0} (same : D → D → Bool) (decides : (d e : D) → same d e ≡ true → d ≡ e) (elect : Elect L) (past : List (StepFacts K L D)) (now : ℕ) where

@@ -10,7 +10,7 @@ use Rattle.simplex_types.specs.Proposal.{same_proposal}
 use Rattle.simplex_types.specs.Certificates.{ProposalFacts, Notarized, ArtifactFacts, NotarizeVote, NullifyVote, FinalizeVote, Verdict, Accepted}
 use Rattle.simplex_types.specs.declared.types.messages.Proposal.{Proposal}
 use Rattle.simplex_types.specs.declared.types.numbers.Round.{Round}
-use Rattle.simplex_member.specs.Check.{stands, agrees, is_notarization, is_verdict, is_nullify, is_finalize, last_view, notarizes_other, finalizes_other, lacks_notarization, contradicts_verdict, meets_opposite, contradicts_vote, lacks_true_verdict}
+use Rattle.simplex_member.specs.Check.{stands, agrees, is_notarization, is_verdict, is_nullify_vote, is_finalize_vote, last_view, notarizes_other, finalizes_other, lacks_notarization, contradicts_verdict, meets_opposite, contradicts_vote, lacks_true_verdict}
 use Rattle.simplex_member.specs.Entries.{entry_view}
 use Rattle.simplex_laws.proofs.own_records.Outside.{Fits, Fit}
 use Rattle.simplex_laws.proofs.lists.Splits.{Contains-cases, Contains-cons_rest}
@@ -62,14 +62,14 @@ agreeing false = refl
 module _ {D : Type 0} where
   -- an entry that is none of these is not of their kind
 
-  no_nullify : (e : ArtifactFacts D) → ((round : Round) (m : ℕ) → e ≡ NullifyVote round m → ⊥) → is_nullify e ≡ false
+  no_nullify : (e : ArtifactFacts D) → ((round : Round) (m : ℕ) → e ≡ NullifyVote round m → ⊥) → is_nullify_vote e ≡ false
   no_nullify (NotarizeVote _ _) none = refl
   no_nullify (NullifyVote round m) none = absurd (none round m refl)
   no_nullify (FinalizeVote _ _) none = refl
   no_nullify (Verdict _ _) none = refl
   no_nullify (Accepted _) none = refl
 
-  no_finalize : (e : ArtifactFacts D) → ((p : Proposal D) (m : ℕ) → e ≡ FinalizeVote p m → ⊥) → is_finalize e ≡ false
+  no_finalize : (e : ArtifactFacts D) → ((p : Proposal D) (m : ℕ) → e ≡ FinalizeVote p m → ⊥) → is_finalize_vote e ≡ false
   no_finalize (NotarizeVote _ _) none = refl
   no_finalize (NullifyVote _ _) none = refl
   no_finalize (FinalizeVote p m) none = absurd (none p m refl)
@@ -159,8 +159,8 @@ module _ {D : Type 0} (same : D → D → Bool) (itself : (d : D) → same d d �
 
       not_both : (f : ArtifactFacts D) → Contains entries f → ((g : ArtifactFacts D) → Contains before g → Contains entries g) → meets_opposite before f ≡ false
       not_both (NotarizeVote _ _) now old = refl
-      not_both (NullifyVote round m) now old = none_stands round.view is_finalize before (λ f h at. no_finalize f (λ p n is. together.not_both round p m n now (subst (λ x. Contains entries x) is (old f h)) (sym at ∙ ap entry_view is)))
-      not_both (FinalizeVote p m) now old = none_stands p.round.view is_nullify before (λ f h at. no_nullify f (λ round n is. together.not_both round p n m (subst (λ x. Contains entries x) is (old f h)) now (sym (ap entry_view is) ∙ at)))
+      not_both (NullifyVote round m) now old = none_stands round.view is_finalize_vote before (λ f h at. no_finalize f (λ p n is. together.not_both round p m n now (subst (λ x. Contains entries x) is (old f h)) (sym at ∙ ap entry_view is)))
+      not_both (FinalizeVote p m) now old = none_stands p.round.view is_nullify_vote before (λ f h at. no_nullify f (λ round n is. together.not_both round p n m (subst (λ x. Contains entries x) is (old f h)) now (sym (ap entry_view is) ∙ at)))
       not_both (Verdict _ _) now old = refl
       not_both (Accepted _) now old = refl
 

@@ -13,7 +13,7 @@ use Rattle.simplex_voter.specs.Facts.{Facts}
 use Rattle.simplex_voter.specs.Refusals.{is_too_large, names_too_large, has_late_deadline}
 use Rattle.simplex_member.specs.declared.member.error.RecoverError.{RecoverError}
 use Rattle.simplex_member.specs.declared.member.error.RecoverError.TheVariants as error
-use Rattle.simplex_member.specs.Check.{first_error, beside_rules, own_rules, floor_rules, entry_rules, first_broken_after, first_broken_rule}
+use Rattle.simplex_member.specs.Check.{first_error, beside_rules, own_rules, recovery_floor_rules, entry_rules, first_broken_after, first_recover_error}
 use Rattle.simplex_member.specs.Recovery.{recover_error}
 use Rattle.simplex_laws.specs.Deeds.{Deed, Accepts}
 use Rattle.simplex_laws.specs.Lawful.{IsLawful, HasSigned}
@@ -71,7 +71,7 @@ module _ {D : Type 0} (same : D → D → Bool) (epoch : ℕ) (me : Option ℕ) 
     | inr later ↦ of_entries (e ∷ before) rest found (λ f h large. claims f (Contains-cons_rest e rest f h) large) later
   ]
 
-  of_floor : (floor : FloorFacts D) → (is_floor_too_large floor ≡ true → Claim) → OfBroken IfView (floor_rules epoch floor)
+  of_floor : (floor : FloorFacts D) → (is_floor_too_large floor ≡ true → Claim) → OfBroken IfView (recovery_floor_rules epoch floor)
   of_floor (Genesis payload) claim = tt
   of_floor (FinalizedFloor c) claim = (λ _ is. absurd (cc), (λ _ is. absurd (cc), (λ broken is. claim broken, tt)))
 
@@ -108,11 +108,11 @@ module _ {D : Type 0} (term_length : ℕ) (deeds : List (Deed D)) (lawful : IsLa
   too_large_voted (Accepted c) h large = fine (subject_too_large (subject_of c)) (certificate_small c h) large
 
   pub view_voted : {K L : Type 0} (same : D → D → Bool) (x : Facts K L D) (floor : FloorFacts D) (now : ℕ) → recover_error same x floor now entries ≡ Some error.ViewTooLarge → (is_floor_too_large floor ≡ true) ⊎ HasHighVote deeds
-  unfolding first_broken_rule
-  view_voted same x floor now is = elim (from_either (first_broken_rule same x.settings.epoch x.me floor entries) (if has_late_deadline x now then Some error.TimeOverflow else None) error.ViewTooLarge is) [
+  unfolding first_recover_error
+  view_voted same x floor now is = elim (from_either (first_recover_error same x.settings.epoch x.me floor entries) (if has_late_deadline x now then Some error.TimeOverflow else None) error.ViewTooLarge is) [
     | inr late ↦ absurd (late_elsewhere (has_late_deadline x now) late)
-    | inl broken ↦ elim (from_either (first_error (floor_rules x.settings.epoch floor)) (first_broken_after same x.settings.epoch x.me [] entries) error.ViewTooLarge broken) [
-      | inl in_floor ↦ first_broken (IfView same x.settings.epoch x.me ((is_floor_too_large floor ≡ true) ⊎ HasHighVote deeds)) (floor_rules x.settings.epoch floor) error.ViewTooLarge (of_floor same x.settings.epoch x.me ((is_floor_too_large floor ≡ true) ⊎ HasHighVote deeds) floor (λ large. inl large)) in_floor refl
+    | inl broken ↦ elim (from_either (first_error (recovery_floor_rules x.settings.epoch floor)) (first_broken_after same x.settings.epoch x.me [] entries) error.ViewTooLarge broken) [
+      | inl in_floor ↦ first_broken (IfView same x.settings.epoch x.me ((is_floor_too_large floor ≡ true) ⊎ HasHighVote deeds)) (recovery_floor_rules x.settings.epoch floor) error.ViewTooLarge (of_floor same x.settings.epoch x.me ((is_floor_too_large floor ≡ true) ⊎ HasHighVote deeds) floor (λ large. inl large)) in_floor refl
       | inr in_entries ↦ of_entries same x.settings.epoch x.me ((is_floor_too_large floor ≡ true) ⊎ HasHighVote deeds) [] entries error.ViewTooLarge (λ e h large. inr (too_large_voted e h large)) in_entries refl
     ]
   ]

@@ -8,7 +8,7 @@ use Rattle.simplex_voter.specs.Facts.{Facts}
 use Rattle.simplex_voter.specs.Refusals.{has_late_deadline}
 use Rattle.simplex_member.specs.declared.member.error.RecoverError.{RecoverError}
 use Rattle.simplex_member.specs.declared.member.error.RecoverError.TheVariants as error
-use Rattle.simplex_member.specs.Check.{first_error, last_view, lacks_notarization, contradicts_verdict, meets_opposite, contradicts_vote, lacks_true_verdict, beside_rules, own_rules, floor_rules, entry_rules, first_broken_after, first_broken_rule}
+use Rattle.simplex_member.specs.Check.{first_error, last_view, lacks_notarization, contradicts_verdict, meets_opposite, contradicts_vote, lacks_true_verdict, beside_rules, own_rules, recovery_floor_rules, entry_rules, first_broken_after, first_recover_error}
 use Rattle.simplex_member.specs.Entries.{entry_view}
 use Rattle.simplex_laws.specs.Outside.{IsFromOutside}
 use Rattle.simplex_laws.proofs.own_records.BrokenRules.{OfBroken, first_broken, broken_joined, from_either}
@@ -69,7 +69,7 @@ module _ {D : Type 0} (same : D → D → Bool) (epoch : ℕ) (me : Option ℕ) 
     | inr later ↦ entries_outside (e ∷ before) rest found fit.1 later
   ]
 
-floor_outside : {D : Type 0} (epoch : ℕ) (floor : FloorFacts D) → AreOutside (floor_rules epoch floor)
+floor_outside : {D : Type 0} (epoch : ℕ) (floor : FloorFacts D) → AreOutside (recovery_floor_rules epoch floor)
 floor_outside epoch (Genesis payload) = tt
 floor_outside epoch (Finalized c) = (λ _. tt, (λ _. tt, (λ _. tt, tt)))
 
@@ -80,11 +80,11 @@ late_outside false found is = absurd (cc)
 module _ {K L D : Type 0} (same : D → D → Bool) (x : Facts K L D) (floor : FloorFacts D) (now : ℕ) where
   -- no state is made only for what comes from outside
   pub error_outside : (entries : List (ArtifactFacts D)) (found : RecoverError) → Fit same [] entries → recover_error same x floor now entries ≡ Some found → IsFromOutside found
-  unfolding first_broken_rule
-  error_outside entries found fit is = elim (from_either (first_broken_rule same x.settings.epoch x.me floor entries) (if has_late_deadline x now then Some error.TimeOverflow else None) found is) [
+  unfolding first_recover_error
+  error_outside entries found fit is = elim (from_either (first_recover_error same x.settings.epoch x.me floor entries) (if has_late_deadline x now then Some error.TimeOverflow else None) found is) [
     | inr late ↦ late_outside (has_late_deadline x now) found late
-    | inl broken ↦ elim (from_either (first_error (floor_rules x.settings.epoch floor)) (first_broken_after same x.settings.epoch x.me [] entries) found broken) [
-      | inl of_floor ↦ first_broken IsFromOutside (floor_rules x.settings.epoch floor) found (floor_outside x.settings.epoch floor) of_floor
+    | inl broken ↦ elim (from_either (first_error (recovery_floor_rules x.settings.epoch floor)) (first_broken_after same x.settings.epoch x.me [] entries) found broken) [
+      | inl of_floor ↦ first_broken IsFromOutside (recovery_floor_rules x.settings.epoch floor) found (floor_outside x.settings.epoch floor) of_floor
       | inr of_entry ↦ entries_outside same x.settings.epoch x.me [] entries found fit of_entry
     ]
   ]

@@ -23,7 +23,7 @@ use Rattle.simplex_laws.proofs.lists.Splits.{Contains-cons_rest}
 use Rattle.simplex_laws.proofs.own_records.EntriesFit.{Rises, rises_from}
 use Rattle.simplex_laws.specs.Events as event
 use Rattle.simplex_laws.specs.Events.{Event, IsEvent, after_event}
-use Rattle.simplex_laws.specs.Sums.{finalized_by}
+use Rattle.simplex_laws.specs.Sums.{finalized_by_event}
 use Rattle.simplex_laws.proofs.frames.Rounds.{round_put}
 use Rattle.simplex_laws.proofs.frames.Rising.{event_goes, event_finalizes}
 use Rattle.simplex_laws.proofs.frames.Steps.{notarization_by, verdict_by}
@@ -36,7 +36,7 @@ pub record Recovers {K L D : Type 0} (base top : ℕ) (done : List (ArtifactFact
   pub reached : base ≤ min_active x
   pub within : min_active x ≤ max base top
 
-module _ {K L D : Type 0} (same : D → D → Bool) (elect : Elect L) (base top : ℕ) (done : List (ArtifactFacts D)) (x : Facts K L D) (recovers : Recovers base top done x) (e : Event K D) (v : ℕ) (over : top ≤ v) (within : finalized_by e ≤ v) (handles : (v token : ℕ) → e ≡ event.SetCertifyHandle v token → IsEvent x e) where
+module _ {K L D : Type 0} (same : D → D → Bool) (elect : Elect L) (base top : ℕ) (done : List (ArtifactFacts D)) (x : Facts K L D) (recovers : Recovers base top done x) (e : Event K D) (v : ℕ) (over : top ≤ v) (within : finalized_by_event e ≤ v) (handles : (v token : ℕ) → e ≡ event.SetCertifyHandle v token → IsEvent x e) where
   -- an event of a view that is no lower
   pub more_recovers : (more : List (ArtifactFacts D)) → Shows more (after_event same elect x e) → Recovers base v more (after_event same elect x e)
   more_recovers more shows =

@@ -15,7 +15,7 @@ use Rattle.simplex_member.specs.declared.member.error.RecoverError.TheVariants a
 use Rattle.simplex_member.specs.Allowed.{is_allowed, fault_of}
 use Rattle.simplex_member.specs.Calls as calls
 use Rattle.simplex_member.specs.Calls.{CallFacts, AddNotarization, AddNullification, AddFinalization, Told, Added, AddedNullification, Nullify, Finalize, Notarize}
-use Rattle.simplex_member.specs.Check.{first_error, floor_rules, first_broken_after, first_broken_rule}
+use Rattle.simplex_member.specs.Check.{first_error, recovery_floor_rules, first_broken_after, first_recover_error}
 use Rattle.simplex_member.specs.Lives.{MemberFacts, IsCall, AnswersAlive, reply_of, unless_refused, without_life}
 use Rattle.simplex_member.specs.Made.{answer}
 use Rattle.simplex_member.specs.Recovery.{recover_error}
@@ -67,15 +67,15 @@ third_holds false false true is = absurd (cc)
 third_holds false false false is = refl
 
 module _ {D : Type 0} (same : D → D → Bool) where
-  floor_kept : (epoch : ℕ) (floor : FloorFacts D) → first_error (floor_rules epoch floor) ≡ None → AreSmall (of_floor floor)
+  floor_kept : (epoch : ℕ) (floor : FloorFacts D) → first_error (recovery_floor_rules epoch floor) ≡ None → AreSmall (of_floor floor)
   floor_kept epoch (Genesis payload) is = small_none
   floor_kept epoch (Finalized c) is = small_one (subject.Finalize c.proposal) (third_holds _ _ (names_too_large c.proposal) is)
 
   pub floor_small : {K L : Type 0} (x : Facts K L D) (floor : FloorFacts D) (now : ℕ) (entries : List (ArtifactFacts D)) → recover_error same x floor now entries ≡ None → AreSmall (of_floor floor)
-  unfolding first_broken_rule
+  unfolding first_recover_error
   floor_small x floor now entries none =
-      let record_none = (first_none (first_broken_rule same x.settings.epoch x.me floor entries) (if has_late_deadline x now then Some error.TimeOverflow else None) none).0 in
-      floor_kept x.settings.epoch floor (first_none (first_error (floor_rules x.settings.epoch floor)) (first_broken_after same x.settings.epoch x.me [] entries) record_none).0
+      let record_none = (first_none (first_recover_error same x.settings.epoch x.me floor entries) (if has_late_deadline x now then Some error.TimeOverflow else None) none).0 in
+      floor_kept x.settings.epoch floor (first_none (first_error (recovery_floor_rules x.settings.epoch floor)) (first_broken_after same x.settings.epoch x.me [] entries) record_none).0
 
 -- a call
 

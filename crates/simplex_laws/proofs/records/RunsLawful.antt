@@ -11,7 +11,7 @@ use Rattle.simplex_voter.specs.Facts.{Facts, Elect}
 use Rattle.simplex_member.specs.declared.member.error.RecoverError.{RecoverError}
 use Rattle.simplex_member.specs.Allowed.{is_allowed, fault_of}
 use Rattle.simplex_member.specs.Calls.{CallFacts, Told}
-use Rattle.simplex_member.specs.Check.{first_broken_rule, first_broken_after, first_error, floor_rules}
+use Rattle.simplex_member.specs.Check.{first_recover_error, first_broken_after, first_error, recovery_floor_rules}
 use Rattle.simplex_member.specs.Cuts.{without_last}
 use Rattle.simplex_member.specs.Openings.{Openings, no_openings}
 use Rattle.simplex_member.specs.Lives.{MemberFacts, IsCall, AnswersAlive, reply_of, left_of, without_life}
@@ -41,9 +41,9 @@ abbrev pub MemberLives : {K L D : Type 0} → ℕ → List (Deed D) → MemberFa
 MemberLives term_length deeds m = (kept : ℕ) × LivesOn term_length deeds m.closed kept m.entries m.openings m.life
 
 -- a record that is due no error breaks no rule
-unbroken : {D : Type 0} (same : D → D → Bool) (epoch : ℕ) (me : Option ℕ) (floor : FloorFacts D) (entries : List (ArtifactFacts D)) → first_broken_rule same epoch me floor entries ≡ None → first_broken_after same epoch me [] entries ≡ None
-unfolding first_broken_rule
-unbroken same epoch me floor entries none = (first_none (first_error (floor_rules epoch floor)) (first_broken_after same epoch me [] entries) none).1
+unbroken : {D : Type 0} (same : D → D → Bool) (epoch : ℕ) (me : Option ℕ) (floor : FloorFacts D) (entries : List (ArtifactFacts D)) → first_recover_error same epoch me floor entries ≡ None → first_broken_after same epoch me [] entries ≡ None
+unfolding first_recover_error
+unbroken same epoch me floor entries none = (first_none (first_error (recovery_floor_rules epoch floor)) (first_broken_after same epoch me [] entries) none).1
 
 module _ {K L D : Type 0} where
   pub between_of : (term_length : ℕ) (deeds : List (Deed D)) (closed kept : ℕ) (entries : List (ArtifactFacts D)) (o : Openings K D) (life : Option (Facts K L D)) → LivesOn term_length deeds closed kept entries o life → Between term_length deeds closed kept entries
@@ -86,7 +86,7 @@ module _ {K L D : Type 0} (same : D → D → Bool) (decides : (d e : D) → sam
 
   -- a restart
 
-  from_copy : (n : MemberFacts K L D) (start : StartFacts K L D) (kept : ℕ) (copy : List (ArtifactFacts D)) → HasTerms term_length start.setup → Between term_length deeds n.closed kept n.entries → IsByView n.entries copy → first_broken_rule same start.setup.settings.epoch start.setup.me start.floor copy ≡ None → MemberLives term_length (deeds ++ of_floor start.floor) (new_life same elect n start copy)
+  from_copy : (n : MemberFacts K L D) (start : StartFacts K L D) (kept : ℕ) (copy : List (ArtifactFacts D)) → HasTerms term_length start.setup → Between term_length deeds n.closed kept n.entries → IsByView n.entries copy → first_recover_error same start.setup.settings.epoch start.setup.me start.floor copy ≡ None → MemberLives term_length (deeds ++ of_floor start.floor) (new_life same elect n start copy)
   from_copy n start kept copy fresh between by_view none =
       let x = new_state start.setup in
       let epochs = all_of_epoch same x.settings.epoch x.me [] copy (unbroken same x.settings.epoch x.me start.floor copy none) in
@@ -106,7 +106,7 @@ module _ {K L D : Type 0} (same : D → D → Bool) (decides : (d e : D) → sam
       by_error None none (is, leaves) =
           rw (is, leaves)
           (subst (λ more. MemberLives term_length (deeds ++ more) (new_life same elect n r.start copy)) (sym (append-nil (of_floor r.start.floor)))
-          (from_copy n r.start kept copy fresh between by_view (first_none (first_broken_rule same r.start.setup.settings.epoch r.start.setup.me r.start.floor copy) _ none).0))
+          (from_copy n r.start kept copy fresh between by_view (first_none (first_recover_error same r.start.setup.settings.epoch r.start.setup.me r.start.floor copy) _ none).0))
       by_error (Some e) due (is, leaves) = rw (is, leaves) (refused_life n kept between)
 
   pub restart_lives_on : (r : RestartFacts K L D) (result : Result (Unit {0}) RecoverError) (left : MemberFacts K L D) → HasTerms term_length r.start.setup → MemberLives term_length deeds m → IsRestart same elect m r result left → MemberLives term_length (deeds ++ deeds_at (Restarts r) (restart_told {K = K} {D = D} result)) left

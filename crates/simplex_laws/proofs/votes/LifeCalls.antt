@@ -27,7 +27,7 @@ use Rattle.simplex_laws.proofs.votes.StandingSteps.{plain_suits, stays_on}
 use Rattle.simplex_laws.proofs.frames.Steps.{notarization_by, verdict_by, nullify_by, finalize_by}
 use Rattle.simplex_laws.specs.Events as event
 use Rattle.simplex_laws.specs.Events.{Event, after_event}
-use Rattle.simplex_laws.specs.Sums.{finalized_by}
+use Rattle.simplex_laws.specs.Sums.{finalized_by_event}
 use Rattle.simplex_laws.proofs.votes.StandingVotes.{nullify_allowed, nullify_decided, nullify_voted, finalize_allowed, finalize_decided, finalize_voted}
 
 -- what each call of a life keeps: its deeds are lawful, and its facts show them
@@ -135,7 +135,7 @@ module _ {K L D : Type 0} (same : D → D → Bool) (decides : (d e : D) → sam
   shows_nothing y stays = nothing_shown elect term_length deeds y keeps.lawful stays
 
   -- an event with no certificate, no verdict and no vote
-  quiet : (e : Event K D) → notarization_by e ≡ None → finalized_by e ≡ 0 → verdict_by e ≡ None → nullify_by e ≡ None → finalize_by e ≡ None → KeepsRules term_length (deeds ++ []) (after_event same elect x e)
+  quiet : (e : Event K D) → notarization_by e ≡ None → finalized_by_event e ≡ 0 → verdict_by e ≡ None → nullify_by e ≡ None → finalize_by e ≡ None → KeepsRules term_length (deeds ++ []) (after_event same elect x e)
   quiet e notarization final verdict nullify finalize =
       shows_nothing (after_event same elect x e) (stays_on same decides elect term_length deeds x e (plain_suits deeds _ x e notarization final nullify finalize (λ v says. absurd (cc))) keeps.stays)
 

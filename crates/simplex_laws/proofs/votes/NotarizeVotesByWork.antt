@@ -34,7 +34,7 @@ use Rattle.simplex_voter.specs.Timeouts.{with_timeout, after_next_timeout}
 use Rattle.simplex_voter.specs.Certification.{after_candidates}
 use Rattle.simplex_voter.proofs.Elsewhere.{round_of-with_round}
 use Rattle.simplex_voter.proofs.Gaps.{and_parts, not_true}
-use Rattle.simplex_member.specs.Openings.{Openings, context_at, without_context, with_context, with_request, is_verifying, without_verification, with_verification}
+use Rattle.simplex_member.specs.Openings.{Openings, context_at, without_context, with_context, with_open_request, is_verifying, without_verification, with_verification}
 use Rattle.simplex_member.specs.Allowed.{is_allowed}
 use Rattle.simplex_member.specs.Calls.{CallFacts, SetProposal, TryPropose, Proposed, SupersedeProposalRequest, PendingHandoffAbandonment, ReleaseProposalRequest, TryVerify, Verified, VerificationFailed, CertifyCandidates, SetCertifyHandle, TriggerTimeout, NextTimeout}
 use Rattle.simplex_member.specs.Made.{after_call, openings_after}
@@ -225,7 +225,7 @@ module _ {K L D : Type 0} (same : D → D → Bool) (decides : (d e : D) → sam
     covered = notes.covered;
   }
 
-  requested_notes : InOrder x → (request : Option (ProposalRequest D K)) → propose_answer same elect x ≡ request → NotesStand base low deeds (with_request o request) (option_map_or (λ r. with_build x (request_context r).round.view true) request x)
+  requested_notes : InOrder x → (request : Option (ProposalRequest D K)) → propose_answer same elect x ≡ request → NotesStand base low deeds (with_open_request o request) (option_map_or (λ r. with_build x (request_context r).round.view true) request x)
   unfolding propose_answer
   requested_notes ordered None is = notes
   requested_notes ordered (Some r) is =

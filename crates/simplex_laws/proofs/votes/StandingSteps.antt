@@ -14,7 +14,7 @@ use Rattle.simplex_voter.specs.Windows.{min_active}
 use Rattle.simplex_voter.specs.Proposing.{proposal_of}
 use Rattle.simplex_laws.specs.Events as event
 use Rattle.simplex_laws.specs.Events.{Event, IsEvent, after_event}
-use Rattle.simplex_laws.specs.Sums.{is_prune, finalized_by}
+use Rattle.simplex_laws.specs.Sums.{is_prune, finalized_by_event}
 use Rattle.simplex_laws.specs.Deeds.{Deed, Accepts}
 use Rattle.simplex_laws.specs.Lawful.{HasSigned}
 use Rattle.simplex_laws.proofs.frames.EachRound.{step_round, pruned_round}
@@ -33,14 +33,14 @@ use Rattle.simplex_laws.proofs.frames.Steps.{RoundStep, Step, Puts, Notes, Raise
 -- it decides is allowed, or stands against no vote of the other kind
 pub record Suits {K L D : Type 0} (deeds : List (Deed D)) (reached : ℕ) (x : Facts K L D) (e : Event K D) : Type 0 where
   pub notarized : (c : ProposalFacts D) → notarization_by e ≡ Some c → Contains deeds (Accepts (subject.Notarize c.proposal))
-  pub finalized : HasFinal deeds (finalized_by e)
+  pub finalized : HasFinal deeds (finalized_by_event e)
   pub enters : (v : ℕ) → verdict_by e ≡ Some (v, true) → v < reached
   pub nullifies : (v : ℕ) → nullify_by e ≡ Some v → IsEvent x e ⊎ ((p : Proposal D) → HasSigned deeds (subject.Finalize p) → v ≢ p.round.view)
   pub finalizes : (v : ℕ) → finalize_by e ≡ Some v → IsEvent x e ⊎ ((round : Round) → HasSigned deeds (subject.Nullify round) → round.view ≢ v)
 
 module _ {K L D : Type 0} (deeds : List (Deed D)) (reached : ℕ) (x : Facts K L D) (e : Event K D) where
   -- an event that brings no notarization and no finalization and decides no vote
-  pub plain_suits : notarization_by e ≡ None → finalized_by e ≡ 0 → nullify_by e ≡ None → finalize_by e ≡ None → ((v : ℕ) → verdict_by e ≡ Some (v, true) → v < reached) → Suits deeds reached x e
+  pub plain_suits : notarization_by e ≡ None → finalized_by_event e ≡ 0 → nullify_by e ≡ None → finalize_by e ≡ None → ((v : ℕ) → verdict_by e ≡ Some (v, true) → v < reached) → Suits deeds reached x e
   plain_suits notarization final nullify finalize enters = record {
     notarized = λ c says. absurd (cc);
     finalized = inl final;
@@ -52,7 +52,7 @@ module _ {K L D : Type 0} (deeds : List (Deed D)) (reached : ℕ) (x : Facts K L
   pub silent_suits : IsSilent e → Suits deeds reached x e
   silent_suits silent = plain_suits silent.notarization silent.final silent.nullify silent.finalize (λ v says. absurd (let none = silent.verdict in cc))
 
-prune_finalizes_none : {K D : Type 0} (e : Event K D) → is_prune e ≡ true → finalized_by e ≡ 0
+prune_finalizes_none : {K D : Type 0} (e : Event K D) → is_prune e ≡ true → finalized_by_event e ≡ 0
 prune_finalizes_none event.Prune is = refl
 prune_finalizes_none _ is = absurd (false≢true is)
 

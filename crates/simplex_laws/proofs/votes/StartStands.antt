@@ -13,7 +13,7 @@ use Rattle.simplex_laws.specs.Deeds.{Accepts, of_floor}
 use Rattle.simplex_laws.specs.Events as event
 use Rattle.simplex_laws.specs.Events.{Event}
 use Rattle.simplex_laws.specs.Lawful.{HasSigned}
-use Rattle.simplex_laws.specs.Sums.{finalized_by}
+use Rattle.simplex_laws.specs.Sums.{finalized_by_event}
 use Rattle.simplex_laws.proofs.lists.Signed.{signed_none, only_signed}
 use Rattle.simplex_laws.proofs.votes.Standing.{RoundStands, Stands, HasFinal, Stays}
 use Rattle.simplex_laws.proofs.votes.StandingSteps.{Suits, event_stays}
@@ -42,10 +42,10 @@ module _ {K L D : Type 0} (same : D → D → Bool) (decides : (d e : D) → sam
     noted = λ round h. absurd (floor_unsigned floor (subject.Nullify round) h);
   }
 
-  floor_final : (now : ℕ) → HasFinal (of_floor floor) (finalized_by {K = K} {D = D} (event.SetFloor floor now))
+  floor_final : (now : ℕ) → HasFinal (of_floor floor) (finalized_by_event {K = K} {D = D} (event.SetFloor floor now))
   floor_final now = by_floor floor
     where
-      by_floor : (f : FloorFacts D) → HasFinal (of_floor f) (finalized_by {K = K} {D = D} (event.SetFloor f now))
+      by_floor : (f : FloorFacts D) → HasFinal (of_floor f) (finalized_by_event {K = K} {D = D} (event.SetFloor f now))
       by_floor (Genesis payload) = inl refl
       by_floor (Finalized c) = inr (c.proposal, (0, omega arith, refl), refl)
 

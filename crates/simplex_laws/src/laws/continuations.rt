@@ -6,7 +6,7 @@ ghost use Rattle.simplex_types.specs.declared.types.messages.Subject.TheVariants
 ghost use Rattle.simplex_laws.specs.Continuations.{HasAccepted, HasSignedAs, GoesOnToFinalize};
 ghost use Rattle.simplex_laws.specs.DividedNetwork.{divided, united, after_conflict};
 ghost use Rattle.simplex_laws.specs.HandoffNetwork.{handed_over, takes_over, taken_over, gone_on, after_handoff};
-ghost use Rattle.simplex_laws.specs.LackingNetwork.{lacks_nullification, lacks_notarization, lacking, supplied, over_two};
+ghost use Rattle.simplex_laws.specs.LackingNetwork.{lacks_nullification, member_without_notarization, lacking, supplied, over_two};
 ghost use Rattle.simplex_laws.specs.Places.{faults, Backed, IsNetworkOf};
 ghost use Rattle.simplex_laws.specs.Scripts.{round, one};
 ghost use Rattle.simplex_laws.specs.Turns.{in_turn};
@@ -35,7 +35,7 @@ pub fn conflicts_are_left()
 pub fn gaps_are_closed()
     ensures network { IsNetworkOf nat_eq in_turn 1 lacking }
     ensures few { (length lacking ≡ 4) × (faults lacking ≡ 1) }
-    ensures lacks { (HasAccepted (Nullify (round 2)) 0 lacks_nullification → ⊥) × (HasAccepted (Notarize one) 2 lacks_notarization → ⊥) }
+    ensures lacks { (HasAccepted (Nullify (round 2)) 0 lacks_nullification → ⊥) × (HasAccepted (Notarize one) 2 member_without_notarization → ⊥) }
     ensures goes_on { GoesOnToFinalize nat_eq in_turn 1 lacking supplied over_two }
 {}
 

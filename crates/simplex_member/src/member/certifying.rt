@@ -4,7 +4,7 @@ ghost use Rattle.std.specs.Prelude.{◌≡◌, ◌++◌, [], None, Bool, true, f
 ghost use Rattle.simplex_voter.specs.Refusals.{is_started};
 ghost use Rattle.simplex_member.specs.Entries.{entries_of};
 ghost use Rattle.simplex_member.specs.Calls.{told, asked};
-ghost use Rattle.simplex_member.specs.Allowed.{fault_of, is_ready};
+ghost use Rattle.simplex_member.specs.Allowed.{fault_of, is_state_ready};
 ghost use Rattle.simplex_member.specs.Made.{answer, after_call, recorded_by};
 ghost use Rattle.simplex_member.specs.Parts.{family_of, EndsCall};
 ghost use Rattle.simplex_member.specs.Openings.{no_openings};
@@ -25,7 +25,7 @@ pub(super) fn certify<S: CertificateScheme, L: Elector<S>, D: Digest>(
 ) -> Result<Reply<S, D>, CallError>
     requires going_on { state.old.failed ≡ false }
     requires begun { is_started state.old ≡ true }
-    requires allowed { is_ready state.old (asked S.certificate_bytes call) ≡ true }
+    requires allowed { is_state_ready state.old (asked S.certificate_bytes call) ≡ true }
     requires family { family_of call ≡ Certifications }
     ensures due { OnOk result (fault_of state.old (asked S.certificate_bytes call) ≡ None) }
     ensures answer { IfOk result (λ reply. told S.certificate_bytes reply

@@ -6,7 +6,7 @@ ghost use Rattle.simplex_types.specs.Config.{floor_facts};
 ghost use Rattle.simplex_round.specs.Round.{signs_as};
 ghost use Rattle.simplex_voter.specs.Refusals.{is_too_large};
 ghost use Rattle.simplex_member.specs.Entries.{entries_of, entry_view};
-ghost use Rattle.simplex_member.specs.Check.{first_error, round_rules, vote_rules, own_rules, floor_rules, first_broken_after, first_broken_rule};
+ghost use Rattle.simplex_member.specs.Check.{first_error, round_rules, vote_rules, own_rules, recovery_floor_rules, first_broken_after, first_recover_error};
 ghost use Rattle.simplex_member.specs.Seen.{turned_to, with_entry, next_rules};
 
 use super::error::{RecoverError, refuse_if};
@@ -22,14 +22,14 @@ use simplex_types::types::{
 ///
 /// An entry is compared with those before it alone; the floor's view plays no part. It goes through the record
 /// once and takes no memory.
-#[tactic(auto, unfolding(crate::specs::Check::first_broken_rule))]
+#[tactic(auto, unfolding(crate::specs::Check::first_recover_error))]
 pub fn check_record<S: CertificateScheme, D: Digest>(
     scheme: &S,
     epoch: Epoch,
     floor: &Floor<S, D>,
     entries: &[Artifact<S, D>],
 ) -> Result<(), RecoverError>
-    ensures { MatchOption (first_broken_rule D.eq epoch (S.me scheme.now) (floor_facts S.certificate_bytes floor.now)
+    ensures { MatchOption (first_recover_error D.eq epoch (S.me scheme.now) (floor_facts S.certificate_bytes floor.now)
         (entries_of S.certificate_bytes entries.now)) (result ≡ Ok tt) (λ broken. result ≡ Err broken) }
 {
     check_floor(epoch, floor)?;
@@ -41,8 +41,8 @@ pub(super) fn check_floor<S: CertificateScheme, D: Digest>(
     epoch: Epoch,
     floor: &Floor<S, D>,
 ) -> Result<(), RecoverError>
-    ensures broken { IfErr result (λ error. first_error (floor_rules epoch (floor_facts S.certificate_bytes floor.now)) ≡ Some error) }
-    ensures kept { OnOk result (first_error (floor_rules epoch (floor_facts S.certificate_bytes floor.now)) ≡ None) }
+    ensures broken { IfErr result (λ error. first_error (recovery_floor_rules epoch (floor_facts S.certificate_bytes floor.now)) ≡ Some error) }
+    ensures kept { OnOk result (first_error (recovery_floor_rules epoch (floor_facts S.certificate_bytes floor.now)) ≡ None) }
 {
     match floor {
         Floor::Genesis(_) => Ok(()),

@@ -34,7 +34,7 @@ impl<D: Digest, P: Copy> Model for Openings<D, P> {
 }
 
 impl<D: Digest, P: Copy> Openings<D, P> {
-    ghost use Rattle.simplex_member.specs.Openings.{no_openings, context_at, without_context, with_request, with_context};
+    ghost use Rattle.simplex_member.specs.Openings.{no_openings, context_at, without_context, with_open_request, with_context};
     ghost use Rattle.simplex_member.specs.Openings.{is_verifying, without_verification, with_verification};
     ghost use Rattle.simplex_member.specs.Openings.{is_offered, without_offer, with_offers};
 
@@ -74,7 +74,7 @@ impl<D: Digest, P: Copy> Openings<D, P> {
     /// A request to build replaces an earlier one in its view.
     pub fn open_request(&mut self, request: &Option<ProposalRequest<D, P>>)
         requires { self.old.has_room ≡ true }
-        ensures { self.new.open_now ≡ with_request self.old.open_now request.now }
+        ensures { self.new.open_now ≡ with_open_request self.old.open_now request.now }
     {
         if let Some(request) = request {
             self.open_context(*request.context());

@@ -10,7 +10,7 @@ ghost use Rattle.simplex_voter.specs.Certification.{takes_verdict, is_first_verd
 ghost use Rattle.simplex_voter.specs.Facts.{round_number};
 ghost use Rattle.simplex_voter.specs.Refusals.{is_started};
 ghost use Rattle.simplex_member.specs.Calls.{told, asked};
-ghost use Rattle.simplex_member.specs.Allowed.{fault_of, is_ready};
+ghost use Rattle.simplex_member.specs.Allowed.{fault_of, is_state_ready};
 ghost use Rattle.simplex_member.specs.Made.{if_new, answer, after_call, recorded_by};
 ghost use Rattle.simplex_member.specs.Parts.{EndsBy, family_of, EndsCall};
 ghost use Rattle.simplex_member.specs.Openings.{no_openings};
@@ -35,7 +35,7 @@ pub(super) fn take<S: CertificateScheme, L: Elector<S>, D: Digest>(
 ) -> Result<Reply<S, D>, CallError>
     requires going_on { state.old.failed ≡ false }
     requires begun { is_started state.old ≡ true }
-    requires allowed { is_ready state.old (asked S.certificate_bytes call) ≡ true }
+    requires allowed { is_state_ready state.old (asked S.certificate_bytes call) ≡ true }
     requires family { family_of call ≡ Certificates }
     ensures due { OnOk result (fault_of state.old (asked S.certificate_bytes call) ≡ None) }
     ensures answer { IfOk result (λ reply. told S.certificate_bytes reply

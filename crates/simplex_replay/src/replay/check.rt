@@ -3,7 +3,7 @@
 ghost use Rattle.std.specs.Prelude.{◌≡◌, Some, None, ◌∷◌, IfErr, OnOk, option_map};
 ghost use Rattle.std.specs.Option.{option_copied};
 ghost use Rattle.simplex_types.specs.Certificates.{artifact_facts, notarization_facts};
-ghost use Rattle.simplex_replay.specs.Calls.{newest_first, notarization_at, notarization_in};
+ghost use Rattle.simplex_replay.specs.Calls.{newest_first, notarization_at, newest_notarization};
 ghost use Rattle.simplex_replay.specs.Rules.{view_error, proposal_error, entry_error, record_error};
 
 use super::error::ReplayError;
@@ -79,7 +79,7 @@ pub(super) fn last_notarization<S: CertificateScheme, D: Digest>(
     view: View,
 ) -> Option<&Notarization<S, D>>
     ensures { option_map (notarization_facts S.certificate_bytes) (option_copied result)
-        ≡ notarization_in view (newest_first S.certificate_bytes entries.now) }
+        ≡ newest_notarization view (newest_first S.certificate_bytes entries.now) }
 {
     for artifact in entries.iter().rev() {
         let found = notarization_at(artifact, view);

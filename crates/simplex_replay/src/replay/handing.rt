@@ -4,7 +4,7 @@ ghost use Rattle.std.specs.Prelude.{◌≡◌, false, None, ◌∷◌, IfErr, On
 ghost use Rattle.simplex_types.specs.Certificates.{artifact_facts, certificate_facts};
 ghost use Rattle.simplex_types.specs.declared.types.fault.Fault.TheVariants.{OutOfMemory};
 ghost use Rattle.simplex_resolver.specs.Steps.{update, after};
-ghost use Rattle.simplex_replay.specs.Calls.{newest_first, notarization_in, verdict_on, entry_calls, record_calls, all_after};
+ghost use Rattle.simplex_replay.specs.Calls.{newest_first, newest_notarization, verdict_on, entry_calls, record_calls, all_after};
 ghost use Rattle.simplex_replay.specs.Rules.{certificate_error, record_error};
 
 use super::check::last_notarization;
@@ -86,7 +86,7 @@ fn hand_verdict<S: CertificateScheme, D: Digest>(
     requires going_on { state.old.is_failed ≡ false }
     requires sound { record_error (newest_first S.certificate_bytes before.now) ≡ None }
     ensures after { OnOk result (state.new ≡ all_after state.old
-        (verdict_on D.bytes (notarization_in view (newest_first S.certificate_bytes before.now)) success)) }
+        (verdict_on D.bytes (newest_notarization view (newest_first S.certificate_bytes before.now)) success)) }
     ensures refused { IfErr result (λ fault. fault ≡ OutOfMemory) }
 {
     if let Some(notarization) = last_notarization(before, view) {

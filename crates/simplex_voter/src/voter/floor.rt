@@ -3,7 +3,7 @@
 ghost use Rattle.std.specs.Prelude.{◌≡◌, ◌≤◌, ◌+◌, IfSome, IfOk, IfErr, OnOk, Err, Some, None, true, nat_lt, option_map};
 ghost use Rattle.simplex_types.specs.Terms.{IsVotable};
 ghost use Rattle.simplex_types.specs.Certificates.{finalization_facts};
-ghost use Rattle.simplex_voter.specs.Replay.{finalization_in};
+ghost use Rattle.simplex_voter.specs.Replay.{artifact_finalization};
 ghost use Rattle.simplex_types.specs.declared.types.fault.Fault.TheVariants.{OutOfMemory};
 
 use super::rounds::Deadlines;
@@ -141,7 +141,7 @@ impl<S: CertificateScheme, L: Elector<S>, D: Digest> State<S, L, D> {
 fn finalization_in<S: CertificateScheme, D: Digest>(
     entry: Artifact<S, D>,
 ) -> Option<Finalization<S, D>>
-    ensures { result ≡ finalization_in entry }
+    ensures { result ≡ artifact_finalization entry }
 {
     match entry {
         Artifact::Finalization(finalization) => Some(finalization),

@@ -18,7 +18,7 @@ use Rattle.simplex_voter.specs.Certification.{without_token, with_finalized_view
 use Rattle.simplex_voter.proofs.Walked.{find-changed}
 use Rattle.simplex_laws.specs.OwnWork.{contradicts}
 use Rattle.simplex_laws.specs.Requested.{ends}
-use Rattle.simplex_laws.specs.Sums.{is_among}
+use Rattle.simplex_laws.specs.Sums.{has_view}
 use Rattle.simplex_laws.proofs.histories.Worked.{Worked, work_in, work_of, work_put, work_elsewhere}
 
 -- with a certificate of the view, which overrules what was held or not
@@ -133,16 +133,16 @@ module _ {K L D : Type 0} (x : Facts K L D) (u : ℕ) where
       by_above false is = rw is refl
 
   -- nothing up to it waits
-  pub raised_among : (v : ℕ) → is_among (with_finalized_view x u).named v ≡ unwrap_or (if nat_lt x.finalized u && nat_le v u then Some false else None) (is_among x.named v)
+  pub raised_among : (v : ℕ) → has_view (with_finalized_view x u).named v ≡ unwrap_or (if nat_lt x.finalized u && nat_le v u then Some false else None) (has_view x.named v)
   raised_among v = by_above (nat_lt x.finalized u) refl
     where
       kept : nat_lt u v ≡ not (nat_le v u)
       kept = grind (arith, nat_tests)
 
-      below : (b : Bool) → (not b && is_among x.named v) ≡ unwrap_or (if b then Some false else None) (is_among x.named v)
+      below : (b : Bool) → (not b && has_view x.named v) ≡ unwrap_or (if b then Some false else None) (has_view x.named v)
       below true = refl
       below false = refl
 
-      by_above : (b : Bool) → nat_lt x.finalized u ≡ b → is_among (with_finalized_view x u).named v ≡ unwrap_or (if nat_lt x.finalized u && nat_le v u then Some false else None) (is_among x.named v)
-      by_above true is = rw is (any-filter_same (λ w. eqb v w) (λ w. nat_lt u w) (nat_lt u v) (λ w at. ap (nat_lt u) (sym (eqb-true v w at))) x.named ∙ ap (λ b. b && is_among x.named v) kept ∙ below (nat_le v u))
+      by_above : (b : Bool) → nat_lt x.finalized u ≡ b → has_view (with_finalized_view x u).named v ≡ unwrap_or (if nat_lt x.finalized u && nat_le v u then Some false else None) (has_view x.named v)
+      by_above true is = rw is (any-filter_same (λ w. eqb v w) (λ w. nat_lt u w) (nat_lt u v) (λ w at. ap (nat_lt u) (sym (eqb-true v w at))) x.named ∙ ap (λ b. b && has_view x.named v) kept ∙ below (nat_le v u))
       by_above false is = rw is refl

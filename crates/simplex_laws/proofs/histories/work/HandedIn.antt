@@ -19,7 +19,7 @@ use Rattle.simplex_laws.specs.Events.{SetFloor, AddNotarization, AddNullificatio
 use Rattle.simplex_laws.specs.Leading.{elected_leader}
 use Rattle.simplex_laws.specs.OwnWork.{contradicts}
 use Rattle.simplex_laws.specs.Requested.{names, ends, wakes}
-use Rattle.simplex_laws.specs.Sums.{is_among}
+use Rattle.simplex_laws.specs.Sums.{has_view}
 use Rattle.simplex_laws.proofs.histories.FollowingHanded.{and_false}
 use Rattle.simplex_laws.proofs.histories.Leaving.{known_of, Alike, Leaves, Quiet, leaves_joined, then_quiet, moment_leaves, entered_leaves, raised_leaves, elected_quiet}
 use Rattle.simplex_member.proofs.Seen.{option_or_none}
@@ -89,14 +89,14 @@ module _ {K L D : Type 0} (same : D → D → Bool) (elect : Elect L) (x : Facts
       only : OnlyRounds x d
       only = elected_only elect x (u + 1) (Some c.bytes)
 
-      waiting : (v : ℕ) → is_among (after_add_notarization same elect x c).named v ≡ unwrap_or (names elect v x (AddNotarization c)) (is_among x.named v)
+      waiting : (v : ℕ) → has_view (after_add_notarization same elect x c).named v ≡ unwrap_or (names elect v x (AddNotarization c)) (has_view x.named v)
       waiting v = first standing
         where
-          first : (o : Option (ProposalFacts D)) → is_among (if is_some o then z else with_window_leaders (named_also z u) u).named v ≡ unwrap_or (if eqb v u && is_none o && nat_lt x.finalized u then Some true else None) (is_among x.named v)
+          first : (o : Option (ProposalFacts D)) → has_view (if is_some o then z else with_window_leaders (named_also z u) u).named v ≡ unwrap_or (if eqb v u && is_none o && nat_lt x.finalized u then Some true else None) (has_view x.named v)
           first None =
-              ap (λ (a : Facts K L D). is_among a.named v) (slid_only (named_also z u) u) ∙ named_among z u v
-              ∙ (λ i. unwrap_or (if sym (and-true (eqb v u)) i && nat_lt (only i).finalized u then Some true else None) (is_among (only i).named v))
-          first (Some s) = rw (and_false (eqb v u)) (ap (λ (a : Facts K L D). is_among a.named v) only)
+              ap (λ (a : Facts K L D). has_view a.named v) (slid_only (named_also z u) u) ∙ named_among z u v
+              ∙ (λ i. unwrap_or (if sym (and-true (eqb v u)) i && nat_lt (only i).finalized u then Some true else None) (has_view (only i).named v))
+          first (Some s) = rw (and_false (eqb v u)) (ap (λ (a : Facts K L D). has_view a.named v) only)
 
 -- nullifications, and the floor at genesis
 
@@ -104,7 +104,7 @@ module _ {K L D : Type 0} (same : D → D → Bool) (elect : Elect L) (x : Facts
   pub nullification_works : (c : NullificationFacts) (now : ℕ) → WorkFollows same elect (AddNullification c now) x (after_add_nullification elect x c now)
   nullification_works c now =
       said_follows same elect x (AddNullification c now) (after_add_nullification elect x c now) (λ v. entry_said elect x (eqb v u) next now (Some c.bytes) v) steady
-      (λ v. ap (λ (a : Facts K L D). is_among a.named v) (elected_only elect e next (Some c.bytes)) ∙ ap (λ views. is_among views v) (entered_named (at_moment x now) next now))
+      (λ v. ap (λ (a : Facts K L D). has_view a.named v) (elected_only elect e next (Some c.bytes)) ∙ ap (λ views. has_view views v) (entered_named (at_moment x now) next now))
       says
       (λ v. nullified_work (with_elected_leader elect e next (Some c.bytes)) c v ∙ ap (with_settled (eqb v u) false) (entry_work elect x (at_moment x now) next now (Some c.bytes) v refl refl refl))
     where
@@ -141,7 +141,7 @@ module _ {K L D : Type 0} (same : D → D → Bool) (elect : Elect L) (x : Facts
   pub genesis_works : (payload : D) (now : ℕ) → WorkFollows same elect (SetFloor (Genesis payload) now) x (after_set_floor same elect x (Genesis payload) now)
   genesis_works payload now =
       said_follows same elect x (SetFloor (Genesis payload) now) (after_set_floor same elect x (Genesis payload) now) (entry_said elect x false 1 now None) steady
-      (λ v. ap (λ (y : Facts K L D). is_among y.named v) (elected_only elect e 1 None) ∙ ap (λ views. is_among views v) (entered_named a 1 now))
+      (λ v. ap (λ (y : Facts K L D). has_view y.named v) (elected_only elect e 1 None) ∙ ap (λ views. has_view views v) (entered_named a 1 now))
       says
       (λ v. entry_work elect x a 1 now None v refl refl refl)
     where
@@ -250,8 +250,8 @@ module _ {K L D : Type 0} (same : D → D → Bool) (elect : Elect L) (x : Facts
       settled v =
           finalized_work same elect d c v ∙ (λ i. with_settled (eqb v u) (contradicts same (known.rounds v i).held (settled_by c (is_none (known.rounds u i).finalization) v)) (work_of d v))
 
-      dropped : (v : ℕ) → is_among z.named v ≡ unwrap_or (if nat_lt x.finalized u && nat_le v u then Some false else None) (is_among x.named v)
-      dropped v = ap (λ (y : Facts K L D). is_among y.named v) (elected_only elect e (u + 1) (Some c.bytes)) ∙ ap (λ views. is_among views v) (entered_named b (u + 1) now) ∙ raised_among a u v
+      dropped : (v : ℕ) → has_view z.named v ≡ unwrap_or (if nat_lt x.finalized u && nat_le v u then Some false else None) (has_view x.named v)
+      dropped v = ap (λ (y : Facts K L D). has_view y.named v) (elected_only elect e (u + 1) (Some c.bytes)) ∙ ap (λ views. has_view views v) (entered_named b (u + 1) now) ∙ raised_among a u v
 
       -- the view above waits after the finalization as it did before
       above : (v : ℕ) → wakes elect z z.finalized u v ≡ wakes elect x (max x.finalized u) u v
@@ -267,17 +267,17 @@ module _ {K L D : Type 0} (same : D → D → Bool) (elect : Elect L) (x : Facts
           by_view (inl here) = rw here (λ i. eqb (u + 1) (u + 1) && nat_lt (finalized i) (u + 1) && waits_alike elect x z u (wakings_steady x z kept) untouched i)
           by_view (inr apart) = rw (ne_eqb v (u + 1) apart) refl
 
-      waiting : (v : ℕ) → is_among (after_add_finalization same elect x c now).named v ≡ unwrap_or (names elect v x (AddFinalization c now)) (is_among x.named v)
+      waiting : (v : ℕ) → has_view (after_add_finalization same elect x c now).named v ≡ unwrap_or (names elect v x (AddFinalization c now)) (has_view x.named v)
       waiting v = first standing
         where
           gone : Option Bool
           gone = if nat_lt x.finalized u && nat_le v u then Some false else None
 
-          first : (o : Option (ProposalFacts D)) → is_among (if is_some o then z else with_window_leaders (with_waiting_candidate elect z u) u).named v ≡ unwrap_or (if is_none o && wakes elect x (max x.finalized u) u v then Some true else gone) (is_among x.named v)
+          first : (o : Option (ProposalFacts D)) → has_view (if is_some o then z else with_window_leaders (with_waiting_candidate elect z u) u).named v ≡ unwrap_or (if is_none o && wakes elect x (max x.finalized u) u v then Some true else gone) (has_view x.named v)
           first None =
-              ap (λ (y : Facts K L D). is_among y.named v) (slid_only (with_waiting_candidate elect z u) u) ∙ woken_among elect z u v
+              ap (λ (y : Facts K L D). has_view y.named v) (slid_only (with_waiting_candidate elect z u) u) ∙ woken_among elect z u v
               ∙ (λ i. unwrap_or (if above v i then Some true else None) (dropped v i))
-              ∙ named_later (wakes elect x (max x.finalized u) u v) gone (is_among x.named v)
+              ∙ named_later (wakes elect x (max x.finalized u) u v) gone (has_view x.named v)
           first (Some s) = dropped v
 
   -- the floor's finalization says what a finalization says, and is handed out

@@ -9,7 +9,7 @@ use Rattle.simplex_voter.specs.Facts.{Facts, Elect, round_of, is_tracked, with_r
 use Rattle.simplex_voter.specs.Entering.{at_moment}
 use Rattle.simplex_laws.specs.Events.{Event}
 use Rattle.simplex_laws.specs.Requested.{names, is_at}
-use Rattle.simplex_laws.specs.Sums.{entered_by, is_among}
+use Rattle.simplex_laws.specs.Sums.{entered_by, has_view}
 use Rattle.simplex_laws.specs.Timing.{enters}
 use Rattle.simplex_laws.proofs.histories.Following.{left_from}
 use Rattle.simplex_laws.proofs.histories.Worked.{work_in, work_of, adds_work, WorkFollows, IsIdle, work_put, work_elsewhere}
@@ -61,7 +61,7 @@ module _ {K L D : Type 0} (same : D → D → Bool) (elect : Elect L) (x : Facts
     elector = ap (λ s. s.elector) shared;
     elects_early = ap (λ s. s.elects_early) shared;
     failed = ap (λ s. s.failed) shared;
-    named = λ v. rw (unnamed v) (ap (λ s. is_among s.named v) shared);
+    named = λ v. rw (unnamed v) (ap (λ s. has_view s.named v) shared);
     work = work;
   }
 

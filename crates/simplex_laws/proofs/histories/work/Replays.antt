@@ -19,7 +19,7 @@ use Rattle.simplex_voter.specs.Replay.{bound_again, restored_binding}
 use Rattle.simplex_member.specs.Recovery.{after_replaying}
 use Rattle.simplex_laws.specs.Events.{Replay}
 use Rattle.simplex_laws.specs.Leading.{leads_after, tracks_after}
-use Rattle.simplex_laws.specs.Sums.{is_among}
+use Rattle.simplex_laws.specs.Sums.{has_view}
 use Rattle.simplex_laws.proofs.histories.Worked.{work_in, work_of, WorkFollows, work_put, work_elsewhere}
 use Rattle.simplex_laws.proofs.histories.work.Leaders.{OnlyRounds, with_leader}
 use Rattle.simplex_laws.proofs.histories.work.NextView.{prepared_only, readied_work}
@@ -70,7 +70,7 @@ module _ {K L D : Type 0} (same : D → D → Bool) (elect : Elect L) (x : Facts
         elector = ap (λ (y : Facts K L D). y.elector) only;
         elects_early = ap (λ (y : Facts K L D). y.elects_early) only;
         failed = ap (λ (y : Facts K L D). y.failed) only;
-        named = λ w. ap (λ (y : Facts K L D). is_among y.named w) only;
+        named = λ w. ap (λ (y : Facts K L D). has_view y.named w) only;
         work = λ w _. readied w ∙ put w (cases_eq w v) ∙ sym (unmoved_adds same elect x (Replay (NotarizeVote p signer)) (unmoved (NotarizeVote p signer)) w (work_of x w));
       }
     where

@@ -12,7 +12,7 @@ use Rattle.simplex_voter.specs.Timeouts.{with_timeout}
 use Rattle.simplex_voter.specs.Certification.{with_verdict, with_waiting_candidate, verdict_taken, after_certified}
 use Rattle.simplex_laws.specs.Events.{Event, Certified}
 use Rattle.simplex_laws.specs.Requested.{is_at, wakes, names}
-use Rattle.simplex_laws.specs.Sums.{is_among}
+use Rattle.simplex_laws.specs.Sums.{has_view}
 use Rattle.simplex_laws.specs.Timing.{triggers}
 use Rattle.simplex_member.proofs.Growing.{round_of-put}
 use Rattle.simplex_laws.proofs.histories.Leaving.{known_of, Alike, entered_leaves}
@@ -73,11 +73,11 @@ module _ {K L D : Type 0} (same : D → D → Bool) (elect : Elect L) (x : Facts
           (entered_leaves j (v + 1) now).rounds (v + 1) ∙ ap known_of unchanged
 
       Named : ℕ → Type 0
-      Named w = unwrap_or (if wakes elect y y.finalized v w then Some true else None) (is_among y.named w) ≡ unwrap_or (if wakes elect x x.finalized v w then Some true else None) (is_among x.named w)
+      Named w = unwrap_or (if wakes elect y y.finalized v w then Some true else None) (has_view y.named w) ≡ unwrap_or (if wakes elect x x.finalized v w then Some true else None) (has_view x.named w)
 
       names : (w : ℕ) → ((w ≡ v + 1) ⊎ (w ≡ v + 1 → ⊥)) → Named w
-      names w (inl here) = subst Named (sym here) (λ i. unwrap_or (if eqb (v + 1) (v + 1) && nat_lt (entering.0 i) (v + 1) && waits_alike elect x y v (wakings_steady x y (entered_steady j (v + 1) now)) next i then Some true else None) (is_among (entering.1 i) (v + 1)))
-      names w (inr apart) = rw (ne_eqb w (v + 1) apart) (ap (λ views. is_among views w) entering.1)
+      names w (inl here) = subst Named (sym here) (λ i. unwrap_or (if eqb (v + 1) (v + 1) && nat_lt (entering.0 i) (v + 1) && waits_alike elect x y v (wakings_steady x y (entered_steady j (v + 1) now)) next i then Some true else None) (has_view (entering.1 i) (v + 1)))
+      names w (inr apart) = rw (ne_eqb w (v + 1) apart) (ap (λ views. has_view views w) entering.1)
 
       said : (w : ℕ) → adds_work same elect x (Certified v true now) w (work_of x w) ≡ with_entry j (entry_at j (v + 1) now w) (record (work_of x w) { certification = unwrap_or (if is_at x w v then Some (Judged true) else None) (work_of x w).certification })
       said w = rw tracked refl

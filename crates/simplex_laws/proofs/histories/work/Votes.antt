@@ -21,7 +21,7 @@ use Rattle.simplex_voter.proofs.Rules.{nullify_parts}
 use Rattle.simplex_laws.specs.Events.{ConstructNotarize, ConstructNullify, ConstructFinalize, SetProposal}
 use Rattle.simplex_laws.specs.Leading.{leads_after, tracks_after}
 use Rattle.simplex_laws.specs.OwnWork.{contradicts}
-use Rattle.simplex_laws.specs.Sums.{or_new, is_among}
+use Rattle.simplex_laws.specs.Sums.{or_new, has_view}
 use Rattle.simplex_laws.proofs.histories.FollowingHanded.{and_false}
 use Rattle.simplex_laws.proofs.histories.Worked.{Worked, work_in, work_of, adds_work, WorkFollows, work_put, work_elsewhere}
 use Rattle.simplex_laws.proofs.histories.work.Leaders.{OnlyRounds, with_leader}
@@ -131,7 +131,7 @@ module _ {K L D : Type 0} (same : D → D → Bool) (elect : Elect L) (x : Facts
             elector = ap (λ y. y.elector) only;
             elects_early = ap (λ y. y.elects_early) only;
             failed = ap (λ y. y.failed) only;
-            named = λ w. ap (λ y. is_among y.named w) only;
+            named = λ w. ap (λ y. has_view y.named w) only;
             work = λ w _. readied may w ∙ sym (unmoved_adds same elect x (ConstructNotarize v) unmoved w (work_of x w));
           }
       by_rule false barred = record { me = refl; members = refl; elector = refl; elects_early = refl; failed = refl; named = λ _. refl; work = λ w _. sym (unmoved_adds same elect x (ConstructNotarize v) unmoved w (work_of x w) ∙ rw barred refl) }
@@ -145,7 +145,7 @@ module _ {K L D : Type 0} (same : D → D → Bool) (elect : Elect L) (x : Facts
         elector = ap (λ (z : Facts K L D). z.elector) only;
         elects_early = ap (λ (z : Facts K L D). z.elects_early) only;
         failed = ap (λ (z : Facts K L D). z.failed) only;
-        named = λ w. ap (λ (z : Facts K L D). is_among z.named w) only;
+        named = λ w. ap (λ (z : Facts K L D). has_view z.named w) only;
         work = λ w _. put w (cases_eq w v) ∙ sym (unmoved_adds same elect x (SetProposal v p) unmoved w (work_of x w));
       }
     where

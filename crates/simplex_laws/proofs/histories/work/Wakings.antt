@@ -11,7 +11,7 @@ use Rattle.simplex_voter.specs.Facts.{Facts, Elect, round_at, round_of, round_nu
 use Rattle.simplex_voter.specs.Payloads.{is_elected_early}
 use Rattle.simplex_voter.specs.Rules.{required_parent}
 use Rattle.simplex_laws.specs.Requested.{wakes}
-use Rattle.simplex_laws.specs.Sums.{is_among}
+use Rattle.simplex_laws.specs.Sums.{has_view}
 use Rattle.simplex_laws.proofs.histories.Following.{among_noted}
 use Rattle.simplex_laws.proofs.histories.Leaving.{Alike}
 
@@ -25,18 +25,18 @@ pub record SetUpAlike {K L D : Type 0} (x y : Facts K L D) : Type 0 where
 
 module _ {K L D : Type 0} where
   -- one more view is named, if it lies above the finalized one
-  pub named_among : (x : Facts K L D) (v w : ℕ) → is_among (named_also x v).named w ≡ unwrap_or (if eqb w v && nat_lt x.finalized v then Some true else None) (is_among x.named w)
+  pub named_among : (x : Facts K L D) (v w : ℕ) → has_view (named_also x v).named w ≡ unwrap_or (if eqb w v && nat_lt x.finalized v then Some true else None) (has_view x.named w)
   named_among x v w = by_above (nat_lt x.finalized v) refl
     where
-      either : (b : Bool) → (b || is_among x.named w) ≡ unwrap_or (if b && true then Some true else None) (is_among x.named w)
+      either : (b : Bool) → (b || has_view x.named w) ≡ unwrap_or (if b && true then Some true else None) (has_view x.named w)
       either true = refl
       either false = refl
 
-      neither : (b : Bool) → is_among x.named w ≡ unwrap_or (if b && false then Some true else None) (is_among x.named w)
+      neither : (b : Bool) → has_view x.named w ≡ unwrap_or (if b && false then Some true else None) (has_view x.named w)
       neither true = refl
       neither false = refl
 
-      by_above : (b : Bool) → nat_lt x.finalized v ≡ b → is_among (named_also x v).named w ≡ unwrap_or (if eqb w v && nat_lt x.finalized v then Some true else None) (is_among x.named w)
+      by_above : (b : Bool) → nat_lt x.finalized v ≡ b → has_view (named_also x v).named w ≡ unwrap_or (if eqb w v && nat_lt x.finalized v then Some true else None) (has_view x.named w)
       by_above true is = rw is (among_noted v w x.named ∙ either (eqb w v))
       by_above false is = rw is (neither (eqb w v))
 
@@ -61,11 +61,11 @@ module _ {K L D : Type 0} (elect : Elect L) where
       by_round (Some r) = refl
 
   -- the view above is named where it waits
-  pub woken_among : (x : Facts K L D) (p w : ℕ) → is_among (with_waiting_candidate elect x p).named w ≡ unwrap_or (if wakes elect x x.finalized p w then Some true else None) (is_among x.named w)
+  pub woken_among : (x : Facts K L D) (p w : ℕ) → has_view (with_waiting_candidate elect x p).named w ≡ unwrap_or (if wakes elect x x.finalized p w then Some true else None) (has_view x.named w)
   woken_among x p w = by_waiting (waits_for elect x p (round_of x (p + 1))) refl (cases_eq w (p + 1))
     where
       Named : Bool → ℕ → Type 0
-      Named b u = is_among (if b then named_also x (p + 1) else x).named u ≡ unwrap_or (if wakes elect x x.finalized p u then Some true else None) (is_among x.named u)
+      Named b u = has_view (if b then named_also x (p + 1) else x).named u ≡ unwrap_or (if wakes elect x x.finalized p u then Some true else None) (has_view x.named u)
 
       elsewhere : eqb w (p + 1) ≡ false → (b : Bool) → Named b w
       elsewhere apart true = named_among x (p + 1) w ∙ (rw apart refl)
@@ -75,7 +75,7 @@ module _ {K L D : Type 0} (elect : Elect L) where
       here true is = rw (is, and-true (eqb (p + 1) (p + 1) && nat_lt x.finalized (p + 1))) (named_among x (p + 1) (p + 1))
       here false is = rw is (unnamed (eqb (p + 1) (p + 1)) (nat_lt x.finalized (p + 1)))
         where
-          unnamed : (a b : Bool) → is_among x.named (p + 1) ≡ unwrap_or (if (a && b) && false then Some true else None) (is_among x.named (p + 1))
+          unnamed : (a b : Bool) → has_view x.named (p + 1) ≡ unwrap_or (if (a && b) && false then Some true else None) (has_view x.named (p + 1))
           unnamed true true = refl
           unnamed true false = refl
           unnamed false true = refl

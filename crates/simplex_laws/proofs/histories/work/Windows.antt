@@ -9,7 +9,7 @@ use Rattle.simplex_round.specs.declared.round.Leader.{Leader}
 use Rattle.simplex_voter.specs.Facts.{Facts, round_of}
 use Rattle.simplex_voter.specs.Leaders.{with_leader_of, opened_views, with_window_leaders}
 use Rattle.simplex_laws.specs.Leading.{same_member, nearest_leader, window_leader}
-use Rattle.simplex_laws.specs.Sums.{or_new, is_among}
+use Rattle.simplex_laws.specs.Sums.{or_new, has_view}
 use Rattle.simplex_laws.proofs.histories.Worked.{Worked, work_of}
 use Rattle.simplex_laws.proofs.histories.work.Leaders.{OnlyRounds, only_joined, with_leader, inherited_only, inherited_work}
 
@@ -20,13 +20,13 @@ pub record SameLeaders {K L D : Type 0} (x y : Facts K L D) : Type 0 where
   pub leader : (v : ℕ) → (round_of y v).leader ≡ (round_of x v).leader
 
 -- a range of views has none below its first
-range_below : (first n v : ℕ) → v < first → is_among (range_with_len first n) v ≡ false
+range_below : (first n v : ℕ) → v < first → has_view (range_with_len first n) v ≡ false
 range_below first zero v below = refl
 range_below first (suc n) v below =
-    let behind : is_among (range_with_len (first + 1) n) v ≡ false = range_below (first + 1) n v (omega arith) in
+    let behind : has_view (range_with_len (first + 1) n) v ≡ false = range_below (first + 1) n v (omega arith) in
     rw (ne_eqb v first (omega arith), behind) refl
 
-range_from : (first n v : ℕ) → is_among (range_with_len first n) v ≡ true → first ≤ v
+range_from : (first n v : ℕ) → has_view (range_with_len first n) v ≡ true → first ≤ v
 range_from first n v among = elim (cases_lt v first) [
   | inl below ↦ absurd (true≢false (sym among ∙ range_below first n v below))
   | inr from ↦ from
@@ -49,7 +49,7 @@ module _ {K L D : Type 0} where
 
   -- the nearest leader, where the view is one of the n views above u
   abbrev reached : Facts K L D → ℕ → ℕ → ℕ → Option (Leader K)
-  reached x u n v = if is_among (range_with_len (u + 1) n) v then nearest_leader x u (v - 1 - u) else None
+  reached x u n v = if has_view (range_with_len (u + 1) n) v then nearest_leader x u (v - 1 - u) else None
 
   -- after the first of them took its leader
 
@@ -88,7 +88,7 @@ module _ {K L D : Type 0} where
       Next : ℕ → Type 0
       Next w = reaches y (reached y (u + 1) n w) (work_of y w) ≡ reaches x (reached x u (suc n) w) (work_of x w)
 
-      there : (w : ℕ) → (w ≡ u + 1 → ⊥) → (b : Bool) → is_among (range_with_len (u + 1 + 1) n) w ≡ b → Next w
+      there : (w : ℕ) → (w ≡ u + 1 → ⊥) → (b : Bool) → has_view (range_with_len (u + 1 + 1) n) w ≡ b → Next w
       there w apart true among =
           let above : u + 1 + 1 ≤ w = range_from (u + 1 + 1) n w among in
           let steps : w - 1 - u ≡ suc (w - 1 - (u + 1)) = omega arith in
@@ -109,7 +109,7 @@ module _ {K L D : Type 0} where
       by_view (inl here) =
           let none : u + 1 - 1 - u ≡ 0 = omega arith in
           rw (here, eq-eqb (u + 1) (u + 1) refl, range_below (u + 1 + 1) n (u + 1) (omega arith), none) taken
-      by_view (inr apart) = there v apart (is_among (range_with_len (u + 1 + 1) n) v) refl
+      by_view (inr apart) = there v apart (has_view (range_with_len (u + 1 + 1) n) v) refl
 
   over_work : (n u : ℕ) (x : Facts K L D) (v : ℕ) → work_of (over x (range_with_len (u + 1) n)) v ≡ reaches x (reached x u n v) (work_of x v)
   over_work zero u x v = refl
@@ -130,7 +130,7 @@ module _ {K L D : Type 0} where
 
   -- a view whose window opens takes the nearest leader, unless one is set there
   pub slid_work : (x : Facts K L D) (u v : ℕ) → work_of (with_window_leaders x u) v ≡ with_leader (is_some (window_leader x u v)) (same_member x (window_leader x u v)) (work_of x v)
-  slid_work x u v = elim (eqb x.terms.optimistic_views 0) as (λ b. work_of (over x (if b then [] else views)) v ≡ reaches x (if is_among (if b then [] else views) v then nearest_leader x u (v - 1 - u) else None) (work_of x v)) [
+  slid_work x u v = elim (eqb x.terms.optimistic_views 0) as (λ b. work_of (over x (if b then [] else views)) v ≡ reaches x (if has_view (if b then [] else views) v then nearest_leader x u (v - 1 - u) else None) (work_of x v)) [
     | true ↦ refl
     | false ↦ over_work (min (term_end x.terms.term_length u) (u + x.terms.optimistic_views + 1) - u) u x v
   ]

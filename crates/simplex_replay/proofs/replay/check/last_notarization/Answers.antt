@@ -1,7 +1,7 @@
 use Rattle.std.proofs.Common.{◌≡◌, Option, Some, None, is_some, refl, ap, sym, ◌∙◌}
 use Rattle.std.specs.Option.{option_map, option_copied}
 use Rattle.simplex_types.specs.Certificates.{notarization_facts}
-use Rattle.simplex_replay.specs.Calls.{newest_first, notarization_in}
+use Rattle.simplex_replay.specs.Calls.{newest_first, newest_notarization}
 use Rattle.simplex_replay.proofs.Newest.{passed_by, stopped_at, none_left}
 use Rattle.simplex_replay.proofs.replay.check.last_notarization.Goals as goal
 
@@ -22,7 +22,7 @@ returns-then-is_some g c =
     let found = option_copied c.notarization_at-found.result in
     stopped_at bytes_of c.args.view c.next.new.self.iter.rest.now c.in-Some.artifact.now _ c.notarization_at-found.ensures
     (there (notarization_facts bytes_of) found ∙ there (λ n. n.now) c.notarization_at-found.result ∙ sym c.if-is_some.ensures)
-    ∙ sym (c.loop-artifact.invariant.rest ∙ ap (λ es. notarization_in c.args.view (newest_first bytes_of es)) c.in-Some.ensures.steps)
+    ∙ sym (c.loop-artifact.invariant.rest ∙ ap (λ es. newest_notarization c.args.view (newest_first bytes_of es)) c.in-Some.ensures.steps)
 
 pub loop-artifact-preserved : goal.loop-artifact-preserved
 loop-artifact-preserved g c =
@@ -32,7 +32,7 @@ loop-artifact-preserved g c =
       can_next = tt;
       finite = tt;
       rest =
-          c.loop-artifact.invariant.rest ∙ ap (λ es. notarization_in c.args.view (newest_first bytes_of es)) c.in-Some.ensures.steps
+          c.loop-artifact.invariant.rest ∙ ap (λ es. newest_notarization c.args.view (newest_first bytes_of es)) c.in-Some.ensures.steps
           ∙ passed_by bytes_of c.args.view c.next.new.self.iter.rest.now c.in-Some.artifact.now _ c.notarization_at-found.ensures
           (there (notarization_facts bytes_of) found ∙ there (λ n. n.now) c.notarization_at-found.result ∙ sym c.if-is_some.ensures);
     }

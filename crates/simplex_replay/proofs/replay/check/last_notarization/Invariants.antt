@@ -1,5 +1,5 @@
 use Rattle.std.proofs.Common.{◌≡◌}
-use Rattle.simplex_replay.specs.Calls.{newest_first, notarization_in}
+use Rattle.simplex_replay.specs.Calls.{newest_first, newest_notarization}
 use Rattle.simplex_replay.proofs.replay.check.last_notarization.Given as goal
 
 -- the last one stands in what is left
@@ -7,5 +7,5 @@ abbrev pub invariant-loop-artifact : goal.invariant-loop-artifact
 invariant-loop-artifact g l = record {
   can_next : (goal.iterator-loop-artifact g).can_next l.artifact-iterator;
   finite : (goal.iterator-loop-artifact g).is_finite l.artifact-iterator;
-  rest : notarization_in l.view (newest_first g.S.CertificateScheme.certificate_bytes l.fn.entries) ≡ notarization_in l.view (newest_first g.S.CertificateScheme.certificate_bytes l.artifact-iterator.iter.rest.now);
+  rest : newest_notarization l.view (newest_first g.S.CertificateScheme.certificate_bytes l.fn.entries) ≡ newest_notarization l.view (newest_first g.S.CertificateScheme.certificate_bytes l.artifact-iterator.iter.rest.now);
 }
