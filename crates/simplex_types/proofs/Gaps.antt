@@ -17,11 +17,11 @@ use Rattle.simplex_types.proofs.Entries.{Rises, find_above}
 use Rattle.simplex_types.proofs.Maps.{entries-retain_keys, map_rises, get-kept}
 use Rattle.simplex_types.proofs.Joined.{covered_in, none_covers, find_at_key, find_other}
 
-cases_bool : (b : Bool) → (b ≡ true) ⊎ (b ≡ false)
+pub cases_bool : (b : Bool) → (b ≡ true) ⊎ (b ≡ false)
 cases_bool true = inl refl
 cases_bool false = inr refl
 
-or_any : (b c : Bool) → c ≡ true → (b || c) ≡ true
+pub or_any : (b c : Bool) → c ≡ true → (b || c) ≡ true
 or_any true c h = refl
 or_any false c h = h
 

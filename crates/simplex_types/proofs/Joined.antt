@@ -28,7 +28,7 @@ never_either true false o = refl
 never_either false b o = refl
 
 -- what an insert's answer says of what stood there
-stood : {V : Type 0} (b : Bool) (x y : V) → Some x ≡ cond b (Some y) None → b ≡ true
+pub stood : {V : Type 0} (b : Bool) (x y : V) → Some x ≡ cond b (Some y) None → b ≡ true
 stood true x y is = refl
 stood false x y is = cc
 
@@ -270,7 +270,7 @@ err_gives (Ok a) is says = absurd (false≢true (sym is))
 err_gives (Err e) is says = says
 
 -- terms start in the order of their views
-start_monotone : (length p q : ℕ) → p ≤ q → term_start length p ≤ term_start length q
+pub start_monotone : (length p q : ℕ) → p ≤ q → term_start length p ≤ term_start length q
 start_monotone zero p q h = omega arith
 start_monotone (suc n) p q h =
     let low : (p - 1) / suc n * suc n ≤ q - 1 = omega (arith, div-mul-le_self (p - 1) (suc n)) in

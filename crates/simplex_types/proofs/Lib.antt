@@ -5,6 +5,7 @@ pub mod Unboxed
 pub mod Digits
 pub mod Joined
 pub mod Gaps
+pub mod Runs
 pub mod Covers
 pub mod EncodingLaw
 pub mod Rows

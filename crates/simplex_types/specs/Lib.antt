@@ -7,6 +7,7 @@ pub mod Window
 pub mod Tracked
 pub mod Rows
 pub mod ByTerm
+pub mod Runs
 pub mod Reasons
 pub mod Config
 pub mod Fault

@@ -3,6 +3,8 @@
 pub mod by_term;
 pub mod entries;
 mod rows;
+mod run;
+mod term_table;
 pub mod tracked;
 
 pub use by_term::ByTerm;

@@ -1,36 +1,36 @@
-//! Values at views, kept by the terms of the views.
+//! Values at views, kept by the terms of the views, with a run of views that a search for a gap jumps over.
 
-ghost use Rattle.std.specs.Prelude.{◌≡◌, ◌≤◌, ◌<◌, ◌-◌, ◌+◌, ◌^◌, IfOk, IfErr, OnErr, Some, None, option_map, MatchOption, if◌then◌else◌};
+ghost use Rattle.std.specs.Prelude.{◌≡◌, ◌≤◌, ◌<◌, ◌+◌, ◌^◌, IfOk, IfErr, OnErr, Some, None, option_map, MatchOption, if◌then◌else◌};
 ghost use Rattle.std.specs.Option.{option_copied};
 ghost use Rattle.std.specs.FinMap as map;
 ghost use Rattle.simplex_types.specs.Tracked.{after_insert, at_or_above};
-ghost use Rattle.simplex_types.specs.Terms.{term_start};
-ghost use Rattle.simplex_types.specs.ByTerm.{covering, covering_below, not_ended, IsByTerm, map_of_terms, Gapless, IsFirstGap};
+ghost use Rattle.simplex_types.specs.ByTerm.{covering, covering_below, not_ended, Gapless, IsFirstGap};
 
-use crate::sorted::tracked::Tracked;
+use crate::sorted::run::Run;
+use crate::sorted::term_table::TermTable;
 use crate::types::{AllocFailed, TermLength, View};
 use std::alloc::Global;
 use std::marker::Model;
 
-/// A map from views to values: a sorted list of terms, each with its sorted views and values.
+/// A map from views to values that finds quickly which views its own cover, and where a gap is.
 #[derive(Drop)]
 pub struct ByTerm<V> {
-    alloc: Global,
-    term_length: TermLength,
-    // under the first view of each term
-    terms: Tracked<Tracked<V>>,
+    table: TermTable<V>,
+    // each of its views is covered
+    run: Run,
 }
 
 impl<V> Model for ByTerm<V> {
-    ghost use Rattle.simplex_types.specs.ByTerm.{TermMap, term_map_code, entries_by_view, IsByTerm};
+    ghost use Rattle.simplex_types.specs.ByTerm.{TermMap, term_map_code, is_covered};
+    ghost use Rattle.simplex_types.specs.Runs.{AreIn};
 
     ghost Value = { TermMap V };
 
     ghost coded = { term_map_code V.code };
 
-    ghost view = { λ t. record { term_length = t.term_length; by_view = entries_by_view t.terms } };
+    ghost view = { λ t. t.table };
 
-    ghost invariant = { λ t. IsByTerm t.term_length t.terms };
+    ghost invariant = { λ t. AreIn (is_covered t.table) t.run.first t.run.end };
 }
 
 impl<V> ByTerm<V> {
@@ -38,9 +38,8 @@ impl<V> ByTerm<V> {
         ensures { result ≡ record { term_length = term_length; by_view = map.empty } }
     {
         ByTerm {
-            alloc,
-            term_length,
-            terms: Tracked::new(alloc),
+            table: TermTable::new(alloc, term_length),
+            run: Run::empty(),
         }
     }
 
@@ -48,35 +47,36 @@ impl<V> ByTerm<V> {
     pub fn covering(&self, view: View) -> Option<(View, &V)>
         ensures { option_map (λ entry. (entry.0, entry.1.now)) result ≡ covering self.now view }
     {
-        let term = self.terms.get(view.term_start(self.term_length))?;
-        term.last_at(view)
+        self.table.covering(view)
     }
 
     /// The entry of the highest view below a view in its term.
     pub fn covering_below(&self, view: View) -> Option<(View, &V)>
         ensures { option_map (λ entry. (entry.0, entry.1.now)) result ≡ covering_below self.now view }
     {
-        let term = self.terms.get(view.term_start(self.term_length))?;
-        term.last_below(view)
+        self.table.covering_below(view)
     }
 
     /// The value at a view.
     pub fn get(&self, view: View) -> Option<&V>
         ensures { option_copied result ≡ map.get self.now.by_view view }
     {
-        let term = self.terms.get(view.term_start(self.term_length))?;
-        term.get(view)
+        self.table.get(view)
     }
-}
 
-impl<V> ByTerm<V> {
     /// The first view strictly between two others that no view covers.
     ///
-    /// It goes by one search for the first term, and then from each term to the next.
+    /// It looks at the terms before the run and behind it.
     pub fn first_uncovered(&self, after: View, before: View) -> Option<View>
         ensures { MatchOption result (Gapless self.now after before) (IsFirstGap self.now after before) }
     {
-        first_uncovered_in(&self.terms, self.term_length, after, before)
+        let gap = self
+            .table
+            .first_uncovered(after, before.min(self.run.first));
+        if gap.is_some() {
+            return gap;
+        }
+        self.table.first_uncovered(self.run.last_or(after), before)
     }
 }
 
@@ -90,14 +90,9 @@ impl<V: Drop> ByTerm<V> {
         ensures refused_only_new { OnErr result (map.get self.old.by_view view ≡ None) }
         ensures after { self.new ≡ record self.old { by_view = after_insert self.old.by_view view value result } }
     {
-        let start = view.term_start(self.term_length);
-        if self.terms.insert(start, Tracked::new(self.alloc)).is_err() {
-            return Err(AllocFailed { value });
-        }
-        let Some(term) = self.terms.get_mut(start) else {
-            unreachable!()
-        };
-        term.insert(view, value)
+        let back = self.table.insert(view, value)?;
+        self.run = self.run.joined(self.table.covered_by(view));
+        Ok(back)
     }
 
     /// Removes the terms that end at or below a view.
@@ -105,62 +100,15 @@ impl<V: Drop> ByTerm<V> {
         requires { view + 1 < 2 ^ 64 }
         ensures { self.new ≡ record self.old { by_view = not_ended self.old view } }
     {
-        let last_start = view
-            .get()
-            .saturating_sub(u64::from(self.term_length.get().get()) - 1);
-        self.terms.drop_below(View::new(last_start + 1));
+        self.table.drop_ended(view);
+        self.run = self.run.at_or_above(self.table.end_of_term(view));
     }
 
     /// Removes the entries below a view.
     pub fn drop_below(&mut self, view: View)
         ensures { self.new ≡ record self.old { by_view = at_or_above self.old.by_view view } }
     {
-        let start = view.term_start(self.term_length);
-        self.terms.drop_below(start);
-        let Some(term) = self.terms.get_mut(start) else {
-            return;
-        };
-        term.drop_below(view);
+        self.table.drop_below(view);
+        self.run = self.run.at_or_above(self.table.end_of_term(view));
     }
-}
-
-/// The first view strictly between two others that no view of the terms covers.
-fn first_uncovered_in<V>(
-    terms: &Tracked<Tracked<V>>,
-    length: TermLength,
-    after: View,
-    before: View,
-) -> Option<View>
-    requires { IsByTerm length terms.now }
-    ensures { MatchOption result (Gapless (map_of_terms length terms.now) after before) (IsFirstGap (map_of_terms length terms.now) after before) }
-{
-    if before <= after {
-        return None;
-    }
-    let mut cursor = after.next();
-    if cursor >= before {
-        return None;
-    }
-    let views = u64::from(length.get().get());
-    let mut rest = terms.at_or_above(cursor.term_start(length));
-    while let Some(term) = rest.pop_first() {
-        if cursor >= before {
-            return None;
-        }
-        let start = cursor.term_start(length);
-        if term.0 < start {
-            continue;
-        }
-        if term.0 > start {
-            return Some(cursor);
-        }
-        if term.1.last_below(cursor.next()).is_none() {
-            return Some(cursor);
-        }
-        if before.get() - start.get() <= views {
-            return None;
-        }
-        cursor = View::new(start.get() + views);
-    }
-    if cursor < before { Some(cursor) } else { None }
 }

@@ -1,26 +1,12 @@
-use Rattle.simplex_types.proofs.Joined.{lowered_by_term, lowered_joined, lowered_without, lowered_with, alike}
+use Rattle.std.proofs.Common.{ap, ◌∙◌}
+use Rattle.std.specs.Prelude.{max}
+use Rattle.simplex_types.proofs.Runs.{lowered_covers, behind_term}
 use Rattle.simplex_types.proofs.sorted.by_term.ByTerm.drop_below.Goals as goal
 
 pub invariant_of-self : goal.invariant_of-self
-invariant_of-self g c =
-    let none = rw (c.drop_below.ensures, c.term_start-start.ensures) at c.in_default.ensures.value in
-    rw (c.drop_below.ensures, c.term_start-start.ensures)
-    (lowered_by_term _ _ c.self.invariant c.args.view _ (lowered_without c.self.inside.term_length c.self.inside.terms c.self.invariant c.args.view none))
-
-pub returns-in_default : goal.returns-in_default
-returns-in_default g c =
-    let none = rw (c.drop_below.ensures, c.term_start-start.ensures) at c.in_default.ensures.value in
-    rw (← c.self.view_is, c.drop_below.ensures, c.term_start-start.ensures)
-    (alike _ (lowered_joined _ _ c.self.invariant c.args.view _ (lowered_without c.self.inside.term_length c.self.inside.terms c.self.invariant c.args.view none)))
-
-pub invariant_of-self-2 : goal.invariant_of-self-2
-invariant_of-self-2 g c =
-    let here = rw (c.drop_below.ensures, c.term_start-start.ensures) at c.in-Some.ensures.value in
-    rw (c.drop_below-2.ensures, c.drop_below.ensures, c.term_start-start.ensures)
-    (lowered_by_term _ _ c.self.invariant c.args.view _ (lowered_with c.self.inside.term_length c.self.inside.terms c.self.invariant c.args.view _ here))
-
-pub returns : goal.returns
-returns g c =
-    let here = rw (c.drop_below.ensures, c.term_start-start.ensures) at c.in-Some.ensures.value in
-    rw (← c.self.view_is, c.drop_below-2.ensures, c.drop_below.ensures, c.term_start-start.ensures)
-    (alike _ (lowered_joined _ _ c.self.invariant c.args.view _ (lowered_with c.self.inside.term_length c.self.inside.terms c.self.invariant c.args.view _ here)))
+invariant_of-self g c w low high =
+    let first = c.at_or_above-self-inside.ensures.first ∙ ap (max c.self.inside.run.first) c.end_of_term.ensures.end in
+    let positive = rw c.drop_below.ensures at c.end_of_term.ensures.positive in
+    let parts = behind_term c.self.inside.run.first c.self.inside.run.end _ w c.at_or_above-self-inside.ensures.in_range (rw first at low) (rw c.at_or_above-self-inside.ensures.end at high) in
+    let behind = rw c.drop_below.ensures at parts.1 in
+    rw c.drop_below.ensures (lowered_covers c.self.inside.table c.args.view positive w behind (c.self.invariant w parts.0 (rw c.at_or_above-self-inside.ensures.end at high)))

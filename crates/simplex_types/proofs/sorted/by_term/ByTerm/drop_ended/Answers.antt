@@ -1,15 +1,12 @@
-use Rattle.std.proofs.Common.{◌≡◌, ◌<◌, ◌-◌, ◌+◌, ap, ◌∙◌, arith}
-use Rattle.simplex_types.specs.ByTerm.{entries_by_view}
-use Rattle.simplex_types.proofs.Joined.{dropped_by_term, dropped, alike}
+use Rattle.std.proofs.Common.{ap, ◌∙◌}
+use Rattle.std.specs.Prelude.{max}
+use Rattle.simplex_types.proofs.Runs.{ended_covers, behind_term}
 use Rattle.simplex_types.proofs.sorted.by_term.ByTerm.drop_ended.Goals as goal
 
 pub invariant_of-self : goal.invariant_of-self
-invariant_of-self g c = rw c.drop_below.ensures (dropped_by_term c.self.inside.term_length c.self.inside.terms c.self.invariant c.new.result)
-
-pub returns : goal.returns
-returns g c =
-    let some : 0 < c.self.inside.term_length = omega (arith, c.get-2.ensures.positive, c.get-2.ensures.value) in
-    let first : c.new.result ≡ (c.args.view - (c.self.inside.term_length - 1)) + 1 =
-    omega (arith, c.new.ensures, c.saturating_sub-last_start.ensures, c.get.ensures, c.from.ensures, c.get-2.ensures.value) in
-    rw (← c.self.view_is) (alike _ (
-    ap entries_by_view c.drop_below.ensures ∙ dropped c.self.inside.term_length c.self.inside.terms c.self.invariant c.new.result c.args.view some first))
+invariant_of-self g c w low high =
+    let first = c.at_or_above-self-inside.ensures.first ∙ ap (max c.self.inside.run.first) c.end_of_term.ensures.end in
+    let positive = rw c.drop_ended.ensures at c.end_of_term.ensures.positive in
+    let parts = behind_term c.self.inside.run.first c.self.inside.run.end _ w c.at_or_above-self-inside.ensures.in_range (rw first at low) (rw c.at_or_above-self-inside.ensures.end at high) in
+    let behind = rw c.drop_ended.ensures at parts.1 in
+    rw c.drop_ended.ensures (ended_covers c.self.inside.table c.args.view positive w behind (c.self.invariant w parts.0 (rw c.at_or_above-self-inside.ensures.end at high)))

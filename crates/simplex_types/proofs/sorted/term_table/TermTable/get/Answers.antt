@@ -1,7 +1,7 @@
 use Rattle.std.proofs.Common.{ap, sym, ◌∙◌}
 use Rattle.simplex_types.specs.ByTerm.{in_term}
 use Rattle.simplex_types.proofs.Joined.{get_joined, get_here}
-use Rattle.simplex_types.proofs.sorted.by_term.ByTerm.get.Goals as goal
+use Rattle.simplex_types.proofs.sorted.term_table.TermTable.get.Goals as goal
 
 pub returns-in_err-term : goal.returns-in_err-term
 returns-in_err-term g c =

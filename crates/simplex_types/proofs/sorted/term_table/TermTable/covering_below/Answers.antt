@@ -2,7 +2,7 @@ use Rattle.std.proofs.Common.{ap, sym, ◌∙◌}
 use Rattle.simplex_types.specs.Tracked.{last_entry}
 use Rattle.simplex_types.specs.ByTerm.{covering_below}
 use Rattle.simplex_types.proofs.Joined.{covered_below_in, none_covers_below}
-use Rattle.simplex_types.proofs.sorted.by_term.ByTerm.covering_below.Goals as goal
+use Rattle.simplex_types.proofs.sorted.term_table.TermTable.covering_below.Goals as goal
 
 pub returns-in_err-term : goal.returns-in_err-term
 returns-in_err-term g c =

@@ -2,7 +2,7 @@ use Rattle.std.proofs.Common.{◌<◌, length}
 use Rattle.simplex_types.specs.Terms.{term_start}
 use Rattle.simplex_types.specs.ByTerm.{Gapless, map_of_terms}
 use Rattle.simplex_types.proofs.Gaps.{IsRest}
-use Rattle.simplex_types.proofs.sorted.by_term.first_uncovered_in.Given as goal
+use Rattle.simplex_types.proofs.sorted.term_table.first_uncovered_in.Given as goal
 
 -- the views up to the cursor are covered, and the terms that are left are those from the cursor's on
 abbrev pub invariant-loop-term : goal.invariant-loop-term

@@ -1,7 +1,7 @@
 use Rattle.std.proofs.Common.{ap, ◌∙◌}
 use Rattle.simplex_types.specs.ByTerm.{entries_by_view}
 use Rattle.simplex_types.proofs.Joined.{by_term_empty, joined_empty, alike}
-use Rattle.simplex_types.proofs.sorted.by_term.ByTerm.new.Goals as goal
+use Rattle.simplex_types.proofs.sorted.term_table.TermTable.new.Goals as goal
 
 pub invariant_of-result : goal.invariant_of-result
 invariant_of-result g c = rw c.new.ensures (by_term_empty _ c.args.term_length)

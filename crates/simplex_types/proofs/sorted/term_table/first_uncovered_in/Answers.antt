@@ -1,7 +1,7 @@
 use Rattle.std.proofs.Common.{◌≡◌, ◌<◌, ◌≤◌, sym, ◌∙◌, arith}
 use Rattle.simplex_types.specs.Terms.{term_start, next_term_start}
 use Rattle.simplex_types.proofs.Gaps.{rest_first, rest_next, rest_here, rest_none, rest_end, read_term, uncovered_in_none, gapless_first, gapless_on, gapless_down, next_above, next_start, ge_no, lt_no, gt_no, gt_yes, lt_yes, same_from}
-use Rattle.simplex_types.proofs.sorted.by_term.first_uncovered_in.Goals as goal
+use Rattle.simplex_types.proofs.sorted.term_table.first_uncovered_in.Goals as goal
 
 pub loop-term-init : goal.loop-term-init
 loop-term-init g c = record {
