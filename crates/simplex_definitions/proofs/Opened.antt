@@ -7,7 +7,7 @@ use Rattle.std.proofs.Math.Nat.{div-mul-le_self, le-div_iff_mul-le, mul-div_canc
 use Rattle.simplex_types.specs.Terms.{term_start, term_end, next_term_start}
 use Rattle.simplex_types.specs.Window.{issuance_floor}
 use Rattle.simplex_types.proofs.Gaps.{same_start, next_above}
-use Rattle.simplex_voter.specs.Facts.{Facts}
+use Rattle.simplex_voter.specs.Facts.{StateFacts}
 use Rattle.simplex_voter.specs.Leaders.{opened_views}
 use Rattle.simplex_definitions.specs.Laws.{IsOpenedBy}
 use Rattle.simplex_voter.proofs.Gaps.{cases_bool, IsIn, or_right, or_none}
@@ -67,7 +67,7 @@ module _ (length optimistic w : ℕ) where
   some_floor : w ≢ 0 → w ≢ term_start length w → optimistic ≢ 0 → issuance_floor length optimistic w ≡ Some (max (term_start length w - 1) (w - 1 - optimistic))
   some_floor a b c = rw (ne_eqb w 0 a, ne_eqb w (term_start length w) b, ne_eqb optimistic 0 c) refl
 
-module _ {K L D : Type 0} (x : Facts K L D) (v : ℕ) (one : 0 < v) (some : 0 < x.terms.term_length) where
+module _ {K L D : Type 0} (x : StateFacts K L D) (v : ℕ) (one : 0 < v) (some : 0 < x.terms.term_length) where
   abbrev length : ℕ
   length = x.terms.term_length
 

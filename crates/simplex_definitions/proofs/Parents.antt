@@ -10,7 +10,7 @@ use Rattle.simplex_types.proofs.Maps.{is_eq-nat_cmp}
 use Rattle.simplex_types.proofs.Entries.{AllAbove, Rises, rises}
 use Rattle.simplex_types.specs.Window.{issuance_floor}
 use Rattle.simplex_round.specs.Round.{RoundFacts}
-use Rattle.simplex_voter.specs.Facts.{Facts, Elect}
+use Rattle.simplex_voter.specs.Facts.{StateFacts, Elect}
 use Rattle.simplex_voter.specs.Windows.{is_start, in_window, is_open}
 use Rattle.simplex_voter.specs.Gaps.{is_gapless, first_gap}
 use Rattle.simplex_voter.specs.Payloads.{explicit_payload, optimistic_payload, is_handoff_parent}
@@ -30,7 +30,7 @@ guarded_some : {A : Type 0} (b : Bool) (o : Option A) (a : A) → cond b o None 
 guarded_some true o a e = (refl, e)
 guarded_some false o a e = absurd (false≢true (ap is_some e))
 
-module _ {K L D : Type 0} (x : Facts K L D) where
+module _ {K L D : Type 0} (x : StateFacts K L D) where
   pub spans_parts : (v p : ℕ) → spans x v p ≡ true → (p < v) × (x.finalized ≤ p) × ((p + 1 == v || is_start x v) ≡ true)
   unfolding spans
   spans_parts v p h =
@@ -55,7 +55,7 @@ module _ {K L D : Type 0} (x : Facts K L D) where
       no_floor : (v : ℕ) → is_start x v ≡ true → issuance_floor x.terms.term_length x.terms.optimistic_views v ≡ None
       no_floor v start = rw (start, or_middle (v == 0) (x.terms.optimistic_views == 0)) refl
 
-module _ {K L D : Type 0} (same : D → D → Bool) (elect : Elect L) (x : Facts K L D) where
+module _ {K L D : Type 0} (same : D → D → Bool) (elect : Elect L) (x : StateFacts K L D) where
   pub allowed_stands : (v p : ℕ) (d : D) → IsAllowedParent same elect x v p d → StandsBelow x v p × (payload_for same elect x v p ≡ Some d)
   unfolding parent_payload
   allowed_stands v p d allowed =

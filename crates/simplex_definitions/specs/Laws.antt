@@ -8,7 +8,7 @@ use Rattle.std.specs.BTreeSet.{insert_key}
 use Rattle.simplex_types.specs.Tracked.{at_or_above}
 use Rattle.simplex_types.specs.Window.{issuance_floor, AdmitsOutbound, AdmitsCertificate, AdmitsVote}
 use Rattle.simplex_types.specs.declared.types.messages.Proposal.{Proposal}
-use Rattle.simplex_voter.specs.Facts.{Facts, Elect}
+use Rattle.simplex_voter.specs.Facts.{StateFacts, Elect}
 use Rattle.simplex_voter.specs.Windows.{is_start, admits_outbound, admits_certificate, admits_vote, viewport}
 use Rattle.simplex_voter.specs.Gaps.{is_covered, IsGapless, IsFirstGap, first_gap, is_gapless}
 use Rattle.simplex_voter.specs.Payloads.{explicit_payload, optimistic_payload, payload_by, is_handoff_parent}
@@ -21,30 +21,30 @@ use Rattle.simplex_voter.specs.Acceptance.{nullified_also}
 
 -- a covered view stays covered by more nullifications
 abbrev pub CoveringStays : (K L D : Type 0) → Type 0
-CoveringStays K L D = (x : Facts K L D) (u w : ℕ) → is_covered x w ≡ true → is_covered (nullified_also x u) w ≡ true
+CoveringStays K L D = (x : StateFacts K L D) (u w : ℕ) → is_covered x w ≡ true → is_covered (nullified_also x u) w ≡ true
 
 -- the first gap is the lowest uncovered view between, and where there is none each view between is covered
 abbrev pub FindsFirstGap : (K L D : Type 0) → Type 0
 FindsFirstGap K L D =
-    (x : Facts K L D) (p v : ℕ) → 0 < x.terms.term_length → MatchOption (first_gap x p v) (IsGapless x p v) (IsFirstGap x p v)
+    (x : StateFacts K L D) (p v : ℕ) → 0 < x.terms.term_length → MatchOption (first_gap x p v) (IsGapless x p v) (IsFirstGap x p v)
 
 -- two stretches without a gap join over a covered view
 abbrev pub GaplessJoins : (K L D : Type 0) → Type 0
 GaplessJoins K L D =
-    (x : Facts K L D) (p v w : ℕ) → IsGapless x p v → is_covered x v ≡ true → IsGapless x v w → IsGapless x p w
+    (x : StateFacts K L D) (p v w : ℕ) → IsGapless x p v → is_covered x v ≡ true → IsGapless x v w → IsGapless x p w
 
 -- payloads
 
 -- what a view offers, by what the views below it offer
 abbrev pub OptimisticPayloadIs : (K L D : Type 0) → Type 0
 OptimisticPayloadIs K L D =
-    (same : D → D → Bool) (elect : Elect L) (x : Facts K L D) (v : ℕ)
+    (same : D → D → Bool) (elect : Elect L) (x : StateFacts K L D) (v : ℕ)
     → optimistic_payload same elect x v ≡ payload_by same elect x (optimistic_payload same elect x) v
 
 -- parents
 
 -- a parent may stand below a view: not under the last finalized view, without a gap, and inside a term just below
-pub record StandsBelow {K L D : Type 0} (x : Facts K L D) (v p : ℕ) : Type 0 where
+pub record StandsBelow {K L D : Type 0} (x : StateFacts K L D) (v p : ℕ) : Type 0 where
   pub at_least_finalized : x.finalized ≤ p
   pub below : p < v
   pub just_below : is_start x v ≡ false → p + 1 ≡ v
@@ -53,17 +53,17 @@ pub record StandsBelow {K L D : Type 0} (x : Facts K L D) (v p : ℕ) : Type 0 w
 -- a parent is allowed exactly where it may stand below the view and has the payload that the view may build on
 abbrev pub AllowedParentIs : (K L D : Type 0) → Type 0
 AllowedParentIs K L D =
-    (same : D → D → Bool) (elect : Elect L) (x : Facts K L D) (v p : ℕ) (d : D)
+    (same : D → D → Bool) (elect : Elect L) (x : StateFacts K L D) (v p : ℕ) (d : D)
     → IsAllowedParent same elect x v p d ↔ (StandsBelow x v p × (payload_for same elect x v p ≡ Some d))
 
 -- the view before is offered to this member for a handoff
-pub record IsHandedOff {K L D : Type 0} (same : D → D → Bool) (elect : Elect L) (x : Facts K L D) (v p : ℕ) (d : D) : Type 0 where
+pub record IsHandedOff {K L D : Type 0} (same : D → D → Bool) (elect : Elect L) (x : StateFacts K L D) (v p : ℕ) (d : D) : Type 0 where
   pub just_below : p + 1 ≡ v
   pub handoff : is_handoff_parent elect x p ≡ true
   pub offered : optimistic_payload same elect x p ≡ Some d
 
 -- views are kept in order, and the last finalized one, if there is one, is known to be final
-pub record KnowsFinalized {K L D : Type 0} (x : Facts K L D) : Type 0 where
+pub record KnowsFinalized {K L D : Type 0} (x : StateFacts K L D) : Type 0 where
   pub in_order : is_sorted nat_cmp x.rounds ≡ true
   pub known : 0 < x.finalized → is_some (find nat_cmp x.finalized x.rounds) ≡ true
   pub certified : 0 < x.finalized → is_some (explicit_payload x x.finalized) ≡ true
@@ -71,7 +71,7 @@ pub record KnowsFinalized {K L D : Type 0} (x : Facts K L D) : Type 0 where
 -- a preferred parent is allowed, or handed off
 abbrev pub PreferredParentStands : (K L D : Type 0) → Type 0
 PreferredParentStands K L D =
-    (same : D → D → Bool) (elect : Elect L) (x : Facts K L D) (v p : ℕ) (d : D)
+    (same : D → D → Bool) (elect : Elect L) (x : StateFacts K L D) (v p : ℕ) (d : D)
     → KnowsFinalized x
     → x.finalized < v
     → preferred_parent same elect x v ≡ Some (p, d)
@@ -81,37 +81,37 @@ PreferredParentStands K L D =
 
 abbrev pub MayNotarizeIs : (K L D : Type 0) → Type 0
 MayNotarizeIs K L D =
-    (same : D → D → Bool) (elect : Elect L) (x : Facts K L D) (v : ℕ)
+    (same : D → D → Bool) (elect : Elect L) (x : StateFacts K L D) (v : ℕ)
     → (may_notarize same elect x v ≡ true) ↔ NotarizeRule same elect x v
 
 abbrev pub MayNullifyIs : (K L D : Type 0) → Type 0
-MayNullifyIs K L D = (x : Facts K L D) (v : ℕ) → (may_nullify x v ≡ true) ↔ NullifyRule x v
+MayNullifyIs K L D = (x : StateFacts K L D) (v : ℕ) → (may_nullify x v ≡ true) ↔ NullifyRule x v
 
 abbrev pub MayFinalizeIs : (K L D : Type 0) → Type 0
-MayFinalizeIs K L D = (elect : Elect L) (x : Facts K L D) (v : ℕ) → (may_finalize elect x v ≡ true) ↔ FinalizeRule elect x v
+MayFinalizeIs K L D = (elect : Elect L) (x : StateFacts K L D) (v : ℕ) → (may_finalize elect x v ≡ true) ↔ FinalizeRule elect x v
 
 -- what has to be certified first is the view before
 abbrev pub RequiredParentIsBefore : (K L D : Type 0) → Type 0
 RequiredParentIsBefore K L D =
-    (elect : Elect L) (x : Facts K L D) (v q : ℕ) (p : Proposal D) → 0 < v → required_parent elect x v p ≡ Some q → q + 1 ≡ v
+    (elect : Elect L) (x : StateFacts K L D) (v q : ℕ) (p : Proposal D) → 0 < v → required_parent elect x v p ≡ Some q → q + 1 ≡ v
 
 -- windows
 
 -- the tests of the windows are those of the views
 pub record WindowsAgree (K L D : Type 0) : Type 0 where
   pub outbound : (length optimistic current view : ℕ) → (admits_outbound length optimistic current view ≡ true) ↔ AdmitsOutbound length optimistic current view
-  pub certificate : (x : Facts K L D) (v : ℕ) → (admits_certificate x v ≡ true) ↔ AdmitsCertificate (viewport x) v
-  pub vote : (x : Facts K L D) (v : ℕ) → (admits_vote x v ≡ true) ↔ AdmitsVote (viewport x) v
+  pub certificate : (x : StateFacts K L D) (v : ℕ) → (admits_certificate x v ≡ true) ↔ AdmitsCertificate (viewport x) v
+  pub vote : (x : StateFacts K L D) (v : ℕ) → (admits_vote x v ≡ true) ↔ AdmitsVote (viewport x) v
 
 -- a certificate of v lies in the window of w: not below its floor
-pub record IsOpenedBy {K L D : Type 0} (x : Facts K L D) (v w low : ℕ) : Type 0 where
+pub record IsOpenedBy {K L D : Type 0} (x : StateFacts K L D) (v w low : ℕ) : Type 0 where
   pub floor : issuance_floor x.terms.term_length x.terms.optimistic_views w ≡ Some low
   pub reached : low ≤ v
 
 -- the views that take their leader from below when v is certified: v lies in the window of each view up to them
 abbrev pub OpenedViewsAre : (K L D : Type 0) → Type 0
 OpenedViewsAre K L D =
-    (x : Facts K L D) (v w : ℕ)
+    (x : StateFacts K L D) (v w : ℕ)
     → 0 < v
     → 0 < x.terms.term_length
     → (list_any (λ u. u == w) (opened_views x v) ≡ true) ↔ ((v < w) × ((u : ℕ) → v < u → u ≤ w → (low : ℕ) × IsOpenedBy x v u low))

@@ -5,7 +5,7 @@ use Rattle.simplex_types.specs.Config.{FloorFacts}
 use Rattle.simplex_types.specs.declared.reasons.TimeoutReason.{TimeoutReason}
 use Rattle.simplex_types.specs.declared.types.messages.Context.{Context}
 use Rattle.simplex_types.specs.declared.types.messages.Proposal.{Proposal}
-use Rattle.simplex_voter.specs.Facts.{Facts, Elect}
+use Rattle.simplex_voter.specs.Facts.{StateFacts, Elect}
 use Rattle.simplex_voter.specs.Acceptance.{takes_floor, takes_proposal_certificate, takes_nullification, after_set_floor, after_add_notarization, after_add_nullification, after_add_finalization}
 use Rattle.simplex_voter.specs.Certification.{takes_verdict, takes_certify_handle, after_certified, after_candidates, after_set_certify_handle}
 use Rattle.simplex_voter.specs.Proposing.{after_try_propose, after_proposed, after_supersede, after_release}
@@ -50,7 +50,7 @@ pub data Event (K D : Type 0) : Type 0 where
 
 module _ {K L D : Type 0} where
   -- what an event asks of its caller, apart from a floor
-  abbrev pub IsEvent : Facts K L D → Event K D → Type 0
+  abbrev pub IsEvent : StateFacts K L D → Event K D → Type 0
   IsEvent x (SetFloor floor _) = takes_floor x floor ≡ true
   IsEvent x (AddNotarization c) = takes_proposal_certificate x c ≡ true
   IsEvent x (AddNullification c _) = takes_nullification x c ≡ true
@@ -63,7 +63,7 @@ module _ {K L D : Type 0} where
 
 module _ {K L D : Type 0} (same : D → D → Bool) (elect : Elect L) where
   -- the facts after an event
-  abbrev pub after_event : Facts K L D → Event K D → Facts K L D
+  abbrev pub after_event : StateFacts K L D → Event K D → StateFacts K L D
   after_event x (SetFloor floor now) = after_set_floor same elect x floor now
   after_event x (AddNotarization c) = after_add_notarization same elect x c
   after_event x (AddNullification c now) = after_add_nullification elect x c now
@@ -92,7 +92,7 @@ module _ {K L D : Type 0} (same : D → D → Bool) (elect : Elect L) where
 
 -- a history: what a new state knew, and what has happened to it since, the latest event first
 pub record History (K L D : Type 0) : Type 0 where
-  pub fresh : Facts K L D
+  pub fresh : StateFacts K L D
   pub events : List (Event K D)
 
 -- one more event

@@ -3,7 +3,7 @@ use Rattle.std.specs.Prelude.{◌≡◌, ℕ, ⊤, Bool, true, false, List, [], 
 use Rattle.simplex_types.specs.declared.types.messages.Proposal.{Proposal}
 use Rattle.simplex_types.specs.declared.types.messages.Subject.{Subject}
 use Rattle.simplex_types.specs.declared.types.messages.Subject.TheVariants as subject
-use Rattle.simplex_voter.specs.Facts.{Facts, Elect, round_of, round_number}
+use Rattle.simplex_voter.specs.Facts.{StateFacts, Elect, round_of, round_number}
 use Rattle.simplex_voter.specs.Rules.{NotarizeRule, NullifyRule, FinalizeRule}
 use Rattle.simplex_member.specs.Calls.{ConstructNotarize, ConstructNullify, ConstructFinalize, Told, Refused}
 use Rattle.simplex_member.specs.Lives.{MemberFacts}
@@ -29,12 +29,12 @@ module _ {K D : Type 0} where
     pub due : (d : Deed D) → is_refused told ≡ false → Rule → IsSignedFor me about d → signed_in told ≡ d ∷ []
 
 -- the proposal that is held of a view
-abbrev pub held_proposal : {K L D : Type 0} → Facts K L D → ℕ → Option (Proposal D)
+abbrev pub held_proposal : {K L D : Type 0} → StateFacts K L D → ℕ → Option (Proposal D)
 held_proposal x v = (round_of x v).slot.held
 
 module _ {K L D : Type 0} (same : D → D → Bool) (elect : Elect L) where
   -- of what the state knows before a step: each request for a vote is answered exactly by its rule, and nothing else by a vote
-  abbrev pub ExactAt : Option (Facts K L D) → StepFacts K L D → Told K D → Type 0
+  abbrev pub ExactAt : Option (StateFacts K L D) → StepFacts K L D → Told K D → Type 0
   ExactAt None step told = signed_in told ≡ []
   ExactAt (Some x) (Calls (ConstructNullify v)) told = IsExact (NullifyRule x v) x.me (Some (subject.Nullify (round_number x v))) told
   ExactAt (Some x) (Calls (ConstructFinalize v)) told = IsExact (FinalizeRule elect x v) x.me (option_map subject.Finalize (held_proposal x v)) told

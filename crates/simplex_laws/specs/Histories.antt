@@ -1,7 +1,7 @@
 -- How the history of a member's life grows: by its calls, and anew by each recovery.
 use Rattle.std.specs.Prelude.{◌≡◌, ℕ, Bool, ◌-◌, nat_lt, if◌then◌else◌, List, [], ◌∷◌, ◌++◌, None, MatchOption, Ok}
 use Rattle.simplex_types.specs.Certificates.{ArtifactFacts, Verdict, Accepted, Notarized, Nullified, Finalized}
-use Rattle.simplex_voter.specs.Facts.{Facts, Elect}
+use Rattle.simplex_voter.specs.Facts.{StateFacts, Elect}
 use Rattle.simplex_member.specs.Calls.{CallFacts, Told, Refused, NotAllowed, NotRestarted}
 use Rattle.simplex_member.specs.Openings.{Openings}
 use Rattle.simplex_member.specs.Entries.{entry_view}
@@ -81,7 +81,7 @@ module _ (K : Type 0) {L D : Type 0} (same : D → D → Bool) (elect : Elect L)
   -- an event that the state allows is the last of the history then
   abbrev pub EventsAreShown : Type 0
   EventsAreShown =
-      (history : History K L D) (x : Facts K L D) (e : Event K D) → Shows same elect history x → IsEvent x e
+      (history : History K L D) (x : StateFacts K L D) (e : Event K D) → Shows same elect history x → IsEvent x e
       → Shows same elect (with_event history e) (after_event same elect x e)
 
   abbrev pub CallsAreShown : Type 0

@@ -7,7 +7,7 @@ use Rattle.simplex_types.specs.Certificates.{ProposalFacts, NotarizeVote}
 use Rattle.simplex_types.specs.Config.{Genesis, Finalized}
 use Rattle.simplex_round.specs.declared.round.Leader.{Leader}
 use Rattle.simplex_round.specs.Round.{leader_at}
-use Rattle.simplex_voter.specs.Facts.{Facts, Elect, round_of, round_number}
+use Rattle.simplex_voter.specs.Facts.{StateFacts, Elect, round_of, round_number}
 use Rattle.simplex_voter.specs.Leaders.{opened_views, with_elected_leader}
 use Rattle.simplex_voter.specs.Payloads.{is_elected_early}
 use Rattle.simplex_voter.specs.Rules.{may_notarize, may_nullify, may_finalize}
@@ -18,59 +18,59 @@ use Rattle.simplex_laws.specs.Sums.{has_view}
 
 module _ {K L D : Type 0} where
   -- the member of the same index
-  abbrev pub same_member : Facts K L D → Option (Leader K) → Option (Leader K)
+  abbrev pub same_member : StateFacts K L D → Option (Leader K) → Option (Leader K)
   same_member x leader = option_and_then (λ l. leader_at x.members l.idx) leader
 
   -- the leader of the nearest view that has one, from so many views above another one back to that
-  abbrev pub nearest_leader : Facts K L D → ℕ → ℕ → Option (Leader K)
+  abbrev pub nearest_leader : StateFacts K L D → ℕ → ℕ → Option (Leader K)
   nearest_leader x u zero = (round_of x u).leader
   nearest_leader x u (suc k) = option_or (round_of x (u + suc k)).leader (same_member x (nearest_leader x u k))
 
   -- the leader behind a view whose window a certificate of u opens
-  abbrev pub window_leader : Facts K L D → ℕ → ℕ → Option (Leader K)
+  abbrev pub window_leader : StateFacts K L D → ℕ → ℕ → Option (Leader K)
   window_leader x u v = if has_view (opened_views x u) v then nearest_leader x u (v - 1 - u) else None
 
 module _ {K L D : Type 0} (elect : Elect L) where
   -- the elector's choice for a view, after a certificate of these bytes
-  abbrev pub elected_leader : Facts K L D → ℕ → ℕ → Option (List ℕ) → Option (Leader K)
+  abbrev pub elected_leader : StateFacts K L D → ℕ → ℕ → Option (List ℕ) → Option (Leader K)
   elected_leader x v w seed = if v == w then leader_at x.members (elect x.elector (round_number x w) seed) else None
 
   -- the certificate elects for the next view; the first of its kind opens windows above it, which take the nearest leader
 
-  abbrev pub opens : Facts K L D → ℕ → ProposalFacts D → Option (Leader K)
+  abbrev pub opens : StateFacts K L D → ℕ → ProposalFacts D → Option (Leader K)
   opens x v c =
       let u = c.proposal.round.view in
       window_leader (with_elected_leader elect x (u + 1) (Some c.bytes)) u v
 
-  abbrev pub leads_by : Facts K L D → Bool → ℕ → ProposalFacts D → Option (Leader K)
+  abbrev pub leads_by : StateFacts K L D → Bool → ℕ → ProposalFacts D → Option (Leader K)
   leads_by x is_first v c =
       option_or
       (elected_leader x v (c.proposal.round.view + 1) (Some c.bytes))
       (if is_first then same_member x (opens x v c) else None)
 
-  abbrev pub tracks_by : Facts K L D → Bool → ℕ → ProposalFacts D → Bool
+  abbrev pub tracks_by : StateFacts K L D → Bool → ℕ → ProposalFacts D → Bool
   tracks_by x is_first v c =
       v == c.proposal.round.view || v == c.proposal.round.view + 1 || is_first && is_some (opens x v c)
 
   -- a proposal or this member's own vote for w readies the next view: in its window it takes the leader of w, and at a
   -- term's start, after its own vote, a member that is elected early takes it over
 
-  abbrev pub takes_over : Facts K L D → Bool → ℕ → Bool
+  abbrev pub takes_over : StateFacts K L D → Bool → ℕ → Bool
   takes_over x voted v = voted && is_elected_early elect x v
 
-  abbrev pub leads_after : Facts K L D → Bool → ℕ → ℕ → Option (Leader K)
+  abbrev pub leads_after : StateFacts K L D → Bool → ℕ → ℕ → Option (Leader K)
   leads_after x voted w v =
       if in_window x (w + 1)
       then (if v == w + 1 then same_member x (round_of x w).leader else None)
       else (if takes_over x voted (w + 1) then elected_leader x v (w + 1) None else None)
 
-  abbrev pub tracks_after : Facts K L D → Bool → ℕ → ℕ → Bool
+  abbrev pub tracks_after : StateFacts K L D → Bool → ℕ → ℕ → Bool
   tracks_after x voted w v =
       v == w + 1 && (if in_window x (w + 1) then is_some (round_of x w).leader else takes_over x voted (w + 1))
 
 module _ {K L D : Type 0} (same : D → D → Bool) (elect : Elect L) where
   -- the leader that an event gives a view that has none
-  abbrev pub leader_by_event : ℕ → Facts K L D → Event K D → Option (Leader K)
+  abbrev pub leader_by_event : ℕ → StateFacts K L D → Event K D → Option (Leader K)
   leader_by_event v x (SetFloor (Genesis _) _) = elected_leader elect x v 1 None
   leader_by_event v x (SetFloor (Finalized c) _) = leads_by elect x (is_none (round_of x c.proposal.round.view).finalization) v c
   leader_by_event v x (AddNotarization c) = leads_by elect x (is_none (round_of x c.proposal.round.view).notarization) v c
@@ -82,7 +82,7 @@ module _ {K L D : Type 0} (same : D → D → Bool) (elect : Elect L) where
   leader_by_event v x _ = None
 
   -- an event speaks of a view: a certificate, a proposal, a vote, or one that stands in the record; or it readies or leads it
-  abbrev pub tracks : ℕ → Facts K L D → Event K D → Bool
+  abbrev pub tracks : ℕ → StateFacts K L D → Event K D → Bool
   tracks v x (SetFloor (Genesis _) _) = v == 1
   tracks v x (SetFloor (Finalized c) _) = tracks_by elect x (is_none (round_of x c.proposal.round.view).finalization) v c
   tracks v x (AddNotarization c) = tracks_by elect x (is_none (round_of x c.proposal.round.view).notarization) v c

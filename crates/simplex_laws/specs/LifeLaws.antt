@@ -3,7 +3,7 @@ use Rattle.std.specs.Prelude.{◌≡◌, ◌⊎◌, ℕ, ◌<◌, ◌≤◌, Boo
 use Rattle.std.specs.List.{IsDistinct}
 use Rattle.simplex_types.specs.Certificates.{CertificateFacts, Notarized, Nullified, Finalized}
 use Rattle.simplex_round.specs.Round.{is_certified, is_finalize}
-use Rattle.simplex_voter.specs.Facts.{Facts, Elect, round_of, is_tracked}
+use Rattle.simplex_voter.specs.Facts.{StateFacts, Elect, round_of, is_tracked}
 use Rattle.simplex_voter.specs.Timeouts.{has_timeout}
 use Rattle.simplex_voter.specs.Windows.{min_active}
 use Rattle.simplex_member.specs.Calls.{CallFacts, BroadcastNotarization, BroadcastNullification, BroadcastFinalization, Told, Handed, Dropped}
@@ -26,25 +26,25 @@ module _ {K L D : Type 0} (same : D → D → Bool) (elect : Elect L) where
     pub life : IsLife m calls replies end
 
 -- this holds of the first state and the last one, unless the member has failed by then; no state comes after a failure
-abbrev pub WhileAlive : {K L D : Type 0} → (Facts K L D → Facts K L D → Type 0) → Option (Facts K L D) → Option (Facts K L D) → Type 0
+abbrev pub WhileAlive : {K L D : Type 0} → (StateFacts K L D → StateFacts K L D → Type 0) → Option (StateFacts K L D) → Option (StateFacts K L D) → Type 0
 WhileAlive Holds first None = Unit {0}
 WhileAlive Holds None (Some last) = ⊥
 WhileAlive Holds (Some first) (Some last) = Holds first last
 
 -- neither the current view nor the last finalized one falls
-pub record NeverFalls {K L D : Type 0} (first last : Facts K L D) : Type 0 where
+pub record NeverFalls {K L D : Type 0} (first last : StateFacts K L D) : Type 0 where
   pub current : first.current ≤ last.current
   pub finalized : first.finalized ≤ last.finalized
 
 -- the current view lies above the last finalized one, and times out, unless it is certified or decided to be finalized
-pub record CurrentTimesOut {K L D : Type 0} (x : Facts K L D) : Type 0 where
+pub record CurrentTimesOut {K L D : Type 0} (x : StateFacts K L D) : Type 0 where
   pub ahead : x.finalized < x.current
   pub timeout : (has_timeout x ≡ true)
       ⊎ (is_certified (round_of x x.current).certification ≡ true)
       ⊎ (is_finalize (round_of x x.current).decision ≡ true)
 
 -- a proposal of the view was seen that contradicts another
-abbrev pub has_conflict : {K L D : Type 0} → Facts K L D → ℕ → Bool
+abbrev pub has_conflict : {K L D : Type 0} → StateFacts K L D → ℕ → Bool
 has_conflict x v = (round_of x v).slot.conflict
 
 -- a call was told that it dropped the view
@@ -52,16 +52,16 @@ abbrev pub IsDropped : {K D : Type 0} → List (Told K D) → ℕ → Type 0
 IsDropped replies v = (views : List ℕ) × Contains replies (Dropped views) × Contains views v
 
 -- the view was dropped, and lies below what is kept
-pub record IsPruned {K L D : Type 0} (replies : List (Told K D)) (last : Facts K L D) (v : ℕ) : Type 0 where
+pub record IsPruned {K L D : Type 0} (replies : List (Told K D)) (last : StateFacts K L D) (v : ℕ) : Type 0 where
   pub dropped : IsDropped replies v
   pub below : v < min_active last
 
 -- a conflict of a view stays until the view is pruned
-abbrev pub ConflictsStay : {K L D : Type 0} → List (Told K D) → Facts K L D → Facts K L D → Type 0
+abbrev pub ConflictsStay : {K L D : Type 0} → List (Told K D) → StateFacts K L D → StateFacts K L D → Type 0
 ConflictsStay replies first last = (v : ℕ) → has_conflict first v ≡ true → (has_conflict last v ≡ true) ⊎ IsPruned replies last v
 
 -- what was dropped isn't tracked again
-abbrev pub DroppedForGood : {K L D : Type 0} → List (Told K D) → Facts K L D → Facts K L D → Type 0
+abbrev pub DroppedForGood : {K L D : Type 0} → List (Told K D) → StateFacts K L D → StateFacts K L D → Type 0
 DroppedForGood replies first last = (v : ℕ) → IsDropped replies v → is_tracked last v ≡ false
 
 -- the kinds of certificates
@@ -127,7 +127,7 @@ module _ (K : Type 0) {L D : Type 0} (same : D → D → Bool) (elect : Elect L)
       → Holds m calls replies end
 
   -- of the state that a run leads to, while the member lives, whose lives share a length of terms
-  abbrev pub OfEachState : (Facts K L D → Type 0) → Type 0
+  abbrev pub OfEachState : (StateFacts K L D → Type 0) → Type 0
   OfEachState Holds =
       (term_length : ℕ) (start : StartFacts K L D) (steps : List (StepFacts K L D)) (replies : List (Told K D)) (end : MemberFacts K L D)
       → HasTerms term_length start.setup

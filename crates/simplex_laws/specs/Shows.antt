@@ -4,7 +4,7 @@ use Rattle.std.specs.Ordering.{nat_cmp}
 use Rattle.std.specs.FinMap.Entries.{is_sorted}
 use Rattle.simplex_round.specs.declared.round.Certification.{Certification}
 use Rattle.simplex_round.specs.declared.round.Certification.TheVariants.{Ready, Outstanding, Judged, Aborted}
-use Rattle.simplex_voter.specs.Facts.{Facts, Elect, round_of, is_tracked}
+use Rattle.simplex_voter.specs.Facts.{StateFacts, Elect, round_of, is_tracked}
 use Rattle.simplex_laws.specs.Events.{Event, History}
 use Rattle.simplex_laws.specs.Leading.{tracks}
 use Rattle.simplex_laws.specs.OwnWork.{facts_after, was_done, last_said, casts_nullify}
@@ -24,12 +24,12 @@ abbrev pub kept_of : {K L D : Type 0} → History K L D → ℕ
 kept_of history = kept_in history.fresh.settings.view_retention history.events
 
 -- the view is tracked from an event on: it enters the view, or speaks of it
-abbrev pub comes_up : {K L D : Type 0} → (D → D → Bool) → Elect L → ℕ → Facts K L D → Event K D → Bool
+abbrev pub comes_up : {K L D : Type 0} → (D → D → Bool) → Elect L → ℕ → StateFacts K L D → Event K D → Bool
 comes_up same elect v x e = is_some (enters v x e) || tracks same elect v x e
 
 -- what a state knows is what its history says: how it was set up, numbers, which views wait for certification, and of each
 -- view that no prune has dropped whether it is tracked and its whole round. A view that a prune dropped isn't known again.
-pub record Shows {K L D : Type 0} (same : D → D → Bool) (elect : Elect L) (history : History K L D) (x : Facts K L D) : Type 0 where
+pub record Shows {K L D : Type 0} (same : D → D → Bool) (elect : Elect L) (history : History K L D) (x : StateFacts K L D) : Type 0 where
   pub facts : x ≡ facts_after same elect history.fresh history.events
   -- how it was set up stays, and no event fails it
   pub settings : x.settings ≡ history.fresh.settings

@@ -6,7 +6,7 @@ use Rattle.simplex_types.specs.declared.reasons.TimeoutReason.TheVariants.{Faile
 use Rattle.simplex_round.specs.declared.round.Decision.{Decision}
 use Rattle.simplex_round.specs.declared.round.Decision.TheVariants as decision
 use Rattle.simplex_round.specs.Round.{awaits_retry}
-use Rattle.simplex_voter.specs.Facts.{Facts, Elect, round_of, is_tracked}
+use Rattle.simplex_voter.specs.Facts.{StateFacts, Elect, round_of, is_tracked}
 use Rattle.simplex_voter.specs.Parents.{binding_matches}
 use Rattle.simplex_voter.specs.Proposing.{proposed_answer}
 use Rattle.simplex_voter.specs.Timeouts.{is_contradicted}
@@ -17,30 +17,30 @@ use Rattle.simplex_laws.specs.Sums.{entered_by, moment_by}
 
 module _ {K L D : Type 0} where
   -- a timeout for this reason is triggered: the view is not passed, is tracked, and its leader isn't known to be active
-  abbrev pub triggers : Facts K L D → ℕ → TimeoutReason → Bool
+  abbrev pub triggers : StateFacts K L D → ℕ → TimeoutReason → Bool
   triggers x w reason = nat_le x.current w && is_tracked x w && not (is_contradicted reason (round_of x w))
 
 module _ {K L D : Type 0} where
   -- the moment at which an event enters the view, which lies above the current one then
-  abbrev pub enters : ℕ → Facts K L D → Event K D → Option ℕ
+  abbrev pub enters : ℕ → StateFacts K L D → Event K D → Option ℕ
   enters v x e =
       if v == entered_by x.terms.term_length (is_tracked x) e && nat_lt x.current v then moment_by e else None
 
   -- the moment at which a vote to nullify the view is to be repeated: so long after the first poll that finds it decided
-  abbrev pub retries : ℕ → Facts K L D → Event K D → Option ℕ
+  abbrev pub retries : ℕ → StateFacts K L D → Event K D → Option ℕ
   retries v x (NextTimeout now) =
       if is_at x v x.current && awaits_retry (round_of x v) then Some (now + x.settings.timeout_retry) else None
   retries v x _ = None
 
 module _ {K L D : Type 0} (same : D → D → Bool) (elect : Elect L) where
   -- the moment at which this member's proposal is recorded
-  abbrev pub proposes : ℕ → Facts K L D → Event K D → Option ℕ
+  abbrev pub proposes : ℕ → StateFacts K L D → Event K D → Option ℕ
   proposes v x (Proposed context payload now) =
       if v == context.round.view && proposed_answer same elect x context payload then Some now else None
   proposes v x _ = None
 
   -- an explicit timeout of the view
-  abbrev pub latches : ℕ → Facts K L D → Event K D → Option (ℕ × TimeoutReason)
+  abbrev pub latches : ℕ → StateFacts K L D → Event K D → Option (ℕ × TimeoutReason)
   latches v x (Certified w false now) =
       if is_at x v w && nat_le x.current w then Some (now, FailedCertification) else None
   latches v x TryVerify = if is_invalid (standing_by_event same elect v x TryVerify) then Some (x.moment, InvalidProposal) else None
@@ -50,14 +50,14 @@ module _ {K L D : Type 0} (same : D → D → Bool) (elect : Elect L) where
   latches v x _ = None
 
   -- the moment of the repeat, since the vote was decided or cast again last
-  abbrev pub retry_in : ℕ → Facts K L D → List (Event K D) → Option ℕ
+  abbrev pub retry_in : ℕ → StateFacts K L D → List (Event K D) → Option ℕ
   retry_in v fresh [] = None
   retry_in v fresh (e ∷ before) =
       let x = facts_after same elect fresh before in
       if decides_nullify v x e then None else option_or (retries v x e) (retry_in v fresh before)
 
   -- the vote that is decided; and until one is, the deadlines from the entry on and the first explicit timeout
-  abbrev pub decision_in : ℕ → Facts K L D → List (Event K D) → Decision
+  abbrev pub decision_in : ℕ → StateFacts K L D → List (Event K D) → Decision
   decision_in v fresh events =
       if was_done same elect (decides_finalize same elect v) fresh events
       then decision.Finalize

@@ -9,7 +9,7 @@ use Rattle.simplex_types.specs.declared.types.messages.Artifact.TheVariants as a
 use Rattle.simplex_types.specs.declared.types.numbers.Round.{Round}
 use Rattle.simplex_types.specs.declared.types.window.Terms.{Terms}
 use Rattle.simplex_round.specs.Round.{RoundFacts, certified_round, is_judged, is_nullify, is_finalize, TakesArtifact}
-use Rattle.simplex_voter.specs.Facts.{Settings, Facts, Elect, new_facts, round_at, round_of, with_round}
+use Rattle.simplex_voter.specs.Facts.{Settings, StateFacts, Elect, new_facts, round_at, round_of, with_round}
 use Rattle.simplex_voter.specs.Windows.{min_active}
 use Rattle.simplex_voter.specs.Refusals.{is_started, takes_round}
 use Rattle.simplex_voter.specs.Certification.{takes_verdict}
@@ -43,13 +43,13 @@ both_so a b h k = rw (h, k) refl
 
 module _ {K L D : Type 0} where
   -- a round of this epoch, of a view that is kept
-  round_taken : (x : Facts K L D) (round : Round) (parent : Option ℕ) → is_started x ≡ true → GoodRound x.settings.epoch round parent → min_active x ≤ round.view → takes_round x round ≡ true
+  round_taken : (x : StateFacts K L D) (round : Round) (parent : Option ℕ) → is_started x ≡ true → GoodRound x.settings.epoch round parent → min_active x ≤ round.view → takes_round x round ≡ true
   round_taken x round parent started good kept =
       let above = good.above in
       all_four (is_started x) (round.epoch == x.settings.epoch) (nat_le 1 round.view) (nat_le (min_active x) round.view) started good.of_epoch (grind (arith, nat_tests)) (grind (arith, nat_tests))
 
   -- a verdict of a notarized view that has no other
-  takes_it : (x : Facts K L D) (v : ℕ) (success : Bool) → is_started x ≡ true → is_some (round_of x v).notarization ≡ true → is_judged (not success) (round_of x v).certification ≡ false → takes_verdict x v success ≡ true
+  takes_it : (x : StateFacts K L D) (v : ℕ) (success : Bool) → is_started x ≡ true → is_some (round_of x v).notarization ≡ true → is_judged (not success) (round_of x v).certification ≡ false → takes_verdict x v success ≡ true
   takes_it x v success started notarized none = rw started (by_round (round_at x v) refl)
     where
       by_round : (found : Option (RoundFacts K D)) → round_at x v ≡ found → option_map_or (λ r. is_some r.notarization && not (is_judged (not success) r.certification)) (round_at x v) true ≡ true
@@ -69,7 +69,7 @@ module _ {S K D G C : Type 0} (bytes_of : C → List ℕ) (same : D → D → Bo
 
 module _ {K L D : Type 0} (same : D → D → Bool) (elect : Elect L) (now : ℕ) where
   -- a verdict may be given once it stands again
-  may_give : (before : List (ArtifactFacts D)) (x : Facts K L D) (e : ArtifactFacts D) → is_started x ≡ true → min_active x ≤ entry_view e → BearsAll before x → Allowed same x.settings.epoch x.me before e → GivesVerdict (after_replaying same elect (after_adding same elect x now e) e) e
+  may_give : (before : List (ArtifactFacts D)) (x : StateFacts K L D) (e : ArtifactFacts D) → is_started x ≡ true → min_active x ≤ entry_view e → BearsAll before x → Allowed same x.settings.epoch x.me before e → GivesVerdict (after_replaying same elect (after_adding same elect x now e) e) e
   may_give before x (Verdict r success) started kept bears ok =
       let v = r.view in
       let b = bears v in
@@ -88,7 +88,7 @@ module _ {K L D : Type 0} (same : D → D → Bool) (elect : Elect L) (now : ℕ
 
 module _ {S K L D G C : Type 0} (bytes_of : C → List ℕ) (same : D → D → Bool) (elect : Elect L) (now : ℕ) where
   -- an allowed entry of a view that is kept
-  takes_entry : (before : List (ArtifactFacts D)) (x : Facts K L D) (a : Artifact S D K G C) → is_started x ≡ true → min_active x ≤ entry_view (artifact_facts bytes_of a) → BearsAll before x → Allowed same x.settings.epoch x.me before (artifact_facts bytes_of a) → TakesEntry bytes_of same elect x now a
+  takes_entry : (before : List (ArtifactFacts D)) (x : StateFacts K L D) (a : Artifact S D K G C) → is_started x ≡ true → min_active x ≤ entry_view (artifact_facts bytes_of a) → BearsAll before x → Allowed same x.settings.epoch x.me before (artifact_facts bytes_of a) → TakesEntry bytes_of same elect x now a
   takes_entry before x a started kept bears ok =
       let e = artifact_facts bytes_of a in
       let y = after_adding same elect x now e in
@@ -105,7 +105,7 @@ module _ {S K L D G C : Type 0} (bytes_of : C → List ℕ) (same : D → D → 
         gives = may_give same elect now before x e started kept bears ok;
       }
 
-  takes_next : (before : List (ArtifactFacts D)) (x : Facts K L D) (a : Artifact S D K G C) → is_started x ≡ true → BearsAll before x → Allowed same x.settings.epoch x.me before (artifact_facts bytes_of a) → TakesNext bytes_of same elect x now a
+  takes_next : (before : List (ArtifactFacts D)) (x : StateFacts K L D) (a : Artifact S D K G C) → is_started x ≡ true → BearsAll before x → Allowed same x.settings.epoch x.me before (artifact_facts bytes_of a) → TakesNext bytes_of same elect x now a
   takes_next before x a started bears ok = record {
     small = small_entry bytes_of x.settings.epoch a ok.good;
     taken = λ above. takes_entry before x a started (not_below (entry_view (artifact_facts bytes_of a)) (min_active x) (rw (view_of_entry bytes_of a) at above)) bears ok;
@@ -113,24 +113,24 @@ module _ {S K L D G C : Type 0} (bytes_of : C → List ℕ) (same : D → D → 
 
 module _ {K L D : Type 0} (same : D → D → Bool) (elect : Elect L) where
   -- after an entry was taken, or passed over
-  taken_bears : (before : List (ArtifactFacts D)) (x : Facts K L D) (now : ℕ) (e : ArtifactFacts D) → BearsAll before x → BearsAll (e ∷ before) (after_kept_entry same elect x now e)
+  taken_bears : (before : List (ArtifactFacts D)) (x : StateFacts K L D) (now : ℕ) (e : ArtifactFacts D) → BearsAll before x → BearsAll (e ∷ before) (after_kept_entry same elect x now e)
   unfolding after_kept_entry
   taken_bears before x now e bears =
       cond_both (nat_lt (entry_view e) (min_active x)) x (after_entry same elect x now e) (BearsAll (e ∷ before))
       (λ below. bears_on before e x (λ kept _. absurd (left_out (entry_view e) (min_active x) below kept)) bears)
       (λ _. let y = after_adding same elect x now e in given_bears elect before (after_replaying same elect y e) now e (replayed_bears same elect before y e (added_bears same elect before x now e bears)))
 
-  taken_me : (x : Facts K L D) (now : ℕ) (e : ArtifactFacts D) → (after_kept_entry same elect x now e).me ≡ x.me
+  taken_me : (x : StateFacts K L D) (now : ℕ) (e : ArtifactFacts D) → (after_kept_entry same elect x now e).me ≡ x.me
   unfolding after_kept_entry
   taken_me x now e =
       let y = after_adding same elect x now e in
-      cond_both (nat_lt (entry_view e) (min_active x)) x (after_entry same elect x now e) (λ (z : Facts K L D). z.me ≡ x.me)
+      cond_both (nat_lt (entry_view e) (min_active x)) x (after_entry same elect x now e) (λ (z : StateFacts K L D). z.me ≡ x.me)
       (λ _. refl)
       (λ _. given_me elect (after_replaying same elect y e) now e ∙ replayed_me same elect y e ∙ (added_kept same elect x now e).me)
 
 module _ {S K L D G C : Type 0} (bytes_of : C → List ℕ) (same : D → D → Bool) (elect : Elect L) (now : ℕ) where
   -- entries that break no rule behind those that were taken
-  pub takes_entries : (entries : List (Artifact S D K G C)) (before : List (ArtifactFacts D)) (x : Facts K L D) → is_started x ≡ true → BearsAll before x → first_broken_after same x.settings.epoch x.me before (entries_of bytes_of entries) ≡ None → TakesEntries bytes_of same elect x now entries
+  pub takes_entries : (entries : List (Artifact S D K G C)) (before : List (ArtifactFacts D)) (x : StateFacts K L D) → is_started x ≡ true → BearsAll before x → first_broken_after same x.settings.epoch x.me before (entries_of bytes_of entries) ≡ None → TakesEntries bytes_of same elect x now entries
   takes_entries [] before x started bears unbroken = tt
   takes_entries (a ∷ rest) before x started bears unbroken =
       let e = artifact_facts bytes_of a in

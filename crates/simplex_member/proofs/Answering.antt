@@ -5,7 +5,7 @@ use Rattle.std.proofs.lemmas.Bool.{false≢true}
 use Rattle.simplex_types.specs.Certificates.{ArtifactFacts}
 use Rattle.simplex_types.specs.declared.types.fault.Fault.{Fault}
 use Rattle.simplex_types.specs.declared.types.fault.Fault.TheVariants as fault
-use Rattle.simplex_voter.specs.Facts.{Facts, Elect}
+use Rattle.simplex_voter.specs.Facts.{StateFacts, Elect}
 use Rattle.simplex_voter.specs.Refusals.{is_started}
 use Rattle.simplex_voter.specs.Certification.{takes_certify_handle}
 use Rattle.simplex_member.specs.declared.member.calls.Call.{Call}
@@ -23,7 +23,7 @@ and_right : (a b : Bool) → (a && b) ≡ true → b ≡ true
 and_right true b is = is
 and_right false b is = absurd (false≢true is)
 
-module _ {K L D : Type 0} (x : Facts K L D) (o : Openings K D) where
+module _ {K L D : Type 0} (x : StateFacts K L D) (o : Openings K D) where
   -- what is allowed is what the state asks
   pub allowed_ready : (call : CallFacts D) → is_allowed x o call ≡ true → is_state_ready x call ≡ true
   allowed_ready (AddNotarization c) is = is
@@ -35,9 +35,9 @@ module _ {K L D : Type 0} (x : Facts K L D) (o : Openings K D) where
   allowed_ready (NextTimeout now) is = is
   allowed_ready _ is = refl
 
-module _ {K L D : Type 0} (same : D → D → Bool) (elect : Elect L) (x : Facts K L D) where
+module _ {K L D : Type 0} (same : D → D → Bool) (elect : Elect L) (x : StateFacts K L D) where
   -- the state that is left goes on
-  pub call_goes_on : (o : Openings K D) (call : CallFacts D) (y : Facts K L D) → y ≡ after_call same elect x o call → x.failed ≡ false → is_started x ≡ true → (y.failed ≡ false) × (is_started y ≡ true)
+  pub call_goes_on : (o : Openings K D) (call : CallFacts D) (y : StateFacts K L D) → y ≡ after_call same elect x o call → x.failed ≡ false → is_started x ≡ true → (y.failed ≡ false) × (is_started y ≡ true)
   call_goes_on o call y is going started = let g = goes same elect x o call in rw is (g.failed ∙ going, g.started started)
 
   -- offers are answered by a call that may find no memory
@@ -63,7 +63,7 @@ module _ {K L D : Type 0} (same : D → D → Bool) (elect : Elect L) (x : Facts
   work_wants TryVerify h = refl
   work_wants _ h = absurd (false≢true h)
 
-module _ {S L D K G C : Type 0} (same : D → D → Bool) (elect : Elect L) (bytes_of : C → List ℕ) (x : Facts K L D) (o : Openings K D) where
+module _ {S L D K G C : Type 0} (same : D → D → Bool) (elect : Elect L) (bytes_of : C → List ℕ) (x : StateFacts K L D) (o : Openings K D) where
   abbrev pub Follows : Call S D K G C → Type 0
   Follows c =
       let told = answer same elect x o (asked bytes_of c) in
@@ -135,7 +135,7 @@ module _ {S L D K G C : Type 0} (same : D → D → Bool) (elect : Elect L) (byt
   open_then c told is = rw is (follows c)
 
 -- the state is lost only by a call that may find no memory
-pub losing : {K L D : Type 0} (x : Facts K L D) (call : CallFacts D) (due : Option Fault) → IsLoss (may_fall call && may_want x call) due → (due ≡ None) × (may_want x call ≡ true) × (may_fall call ≡ true)
+pub losing : {K L D : Type 0} (x : StateFacts K L D) (call : CallFacts D) (due : Option Fault) → IsLoss (may_fall call && may_want x call) due → (due ≡ None) × (may_want x call ≡ true) × (may_fall call ≡ true)
 losing x call due is = by_loss (may_fall call) (may_want x call) is
   where
     by_loss : (falls wants : Bool) → IsLoss (falls && wants) due → (due ≡ None) × (wants ≡ true) × (falls ≡ true)
@@ -158,13 +158,13 @@ module _ {K L D : Type 0} (same : D → D → Bool) (elect : Elect L) (m : Membe
   unfolding IsCall
   failed_call dead = rw dead (refl, refl)
 
-  module _ (x : Facts K L D) (alive : m.life ≡ Some x) where
+  module _ (x : StateFacts K L D) (alive : m.life ≡ Some x) where
     pub forbidden_call : is_allowed x m.openings call ≡ false → IsCall same elect m call NotAllowed m
     unfolding IsCall
     forbidden_call not_allowed = rw (alive, not_allowed) (inl (refl, refl))
 
     -- an answer, with what is left
-    pub answered_call : (told : Told K D) (y : Facts K L D) (p : Openings K D) (entries : List (ArtifactFacts D)) → is_allowed x m.openings call ≡ true → fault_of x call ≡ None
+    pub answered_call : (told : Told K D) (y : StateFacts K L D) (p : Openings K D) (entries : List (ArtifactFacts D)) → is_allowed x m.openings call ≡ true → fault_of x call ≡ None
         → told ≡ answer same elect x m.openings call → y ≡ after_call same elect x m.openings call → p ≡ openings_after same elect x m.openings call → entries ≡ m.entries ++ recorded_by same elect x call
         → IsCall same elect m call told (record m { life = Some y; openings = p; entries = entries })
     unfolding IsCall

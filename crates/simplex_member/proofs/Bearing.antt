@@ -9,7 +9,7 @@ use Rattle.simplex_types.specs.declared.types.messages.Artifact.{Artifact}
 use Rattle.simplex_types.specs.declared.reasons.TimeoutReason.TheVariants.{FailedCertification}
 use Rattle.simplex_round.specs.Round.{RoundFacts, certified_round, after_replay, is_judged, is_nullify, is_finalize}
 use Rattle.simplex_round.specs.declared.round.Decision.TheVariants.{Nullify, Finalize}
-use Rattle.simplex_voter.specs.Facts.{Facts, Elect, round_of, is_tracked, with_round}
+use Rattle.simplex_voter.specs.Facts.{StateFacts, Elect, round_of, is_tracked, with_round}
 use Rattle.simplex_voter.specs.Windows.{min_active}
 use Rattle.simplex_voter.specs.Entering.{at_moment, with_view_entered}
 use Rattle.simplex_voter.specs.Leaders.{with_elected_leader, with_next_view_ready}
@@ -62,24 +62,24 @@ module _ {K D : Type 0} where
 
 module _ {K L D : Type 0} where
   -- of every view
-  abbrev pub BearsAll : List (ArtifactFacts D) → Facts K L D → Type 0
+  abbrev pub BearsAll : List (ArtifactFacts D) → StateFacts K L D → Type 0
   BearsAll before x = (v : ℕ) → Bears x.me (min_active x) before v (round_of x v)
 
   -- what a state keeps bears the same entries
-  pub bears_kept : (u : ℕ) (before : List (ArtifactFacts D)) (x y : Facts K L D) → Keeps u x y → BearsAll before x → BearsAll before y
+  pub bears_kept : (u : ℕ) (before : List (ArtifactFacts D)) (x y : StateFacts K L D) → Keeps u x y → BearsAll before x → BearsAll before y
   bears_kept u before x y k bears v =
       let b = bears_grown x.me (min_active x) before v (round_of x v) (round_of y v) (k.rounds v) (bears v) in
       record { me = b.me ∙ sym k.me; notarized = λ low there. b.notarized (omega (arith, k.rises)) there; judged = b.judged; nullified = b.nullified; finalized = b.finalized }
 
   -- another round at a view
-  bears_put : (before : List (ArtifactFacts D)) (x : Facts K L D) (w : ℕ) (r : RoundFacts K D) → BearsAll before x → Bears x.me (min_active x) before w r → BearsAll before (with_round x w r)
+  bears_put : (before : List (ArtifactFacts D)) (x : StateFacts K L D) (w : ℕ) (r : RoundFacts K D) → BearsAll before x → Bears x.me (min_active x) before w r → BearsAll before (with_round x w r)
   bears_put before x w r bears b v = elim (cases_eq v w) [
     | inl at ↦ rw (at, round_of-same x w r) b
     | inr apart ↦ rw (round_of-put x v w r, ne_eqb v w apart) (bears v)
   ]
 
   -- an entry that is passed over, or no notarization
-  pub bears_on : (before : List (ArtifactFacts D)) (e : ArtifactFacts D) (x : Facts K L D) → (min_active x ≤ entry_view e → is_notarization e ≡ true → is_some (round_of x (entry_view e)).notarization ≡ true) → BearsAll before x → BearsAll (e ∷ before) x
+  pub bears_on : (before : List (ArtifactFacts D)) (e : ArtifactFacts D) (x : StateFacts K L D) → (min_active x ≤ entry_view e → is_notarization e ≡ true → is_some (round_of x (entry_view e)).notarization ≡ true) → BearsAll before x → BearsAll (e ∷ before) x
   bears_on before e x here bears v =
       let b = bears v in
       record {
@@ -112,7 +112,7 @@ module _ {K D : Type 0} (signs : Option ℕ) (lowest : ℕ) (before : List (Arti
 
 module _ {K L D : Type 0} (same : D → D → Bool) (elect : Elect L) where
   -- a notarization that is added stands
-  added_notarized : (x : Facts K L D) (now : ℕ) (e : ArtifactFacts D) → is_notarization e ≡ true → is_some (round_of (after_adding same elect x now e) (entry_view e)).notarization ≡ true
+  added_notarized : (x : StateFacts K L D) (now : ℕ) (e : ArtifactFacts D) → is_notarization e ≡ true → is_some (round_of (after_adding same elect x now e) (entry_view e)).notarization ≡ true
   added_notarized x now (Accepted (Notarized c)) is =
       let v = c.proposal.round.view in
       let y = with_elected_leader elect x (v + 1) (Some c.bytes) in
@@ -126,11 +126,11 @@ module _ {K L D : Type 0} (same : D → D → Bool) (elect : Elect L) where
   added_notarized x now (FinalizeVote p m) is = absurd cc
   added_notarized x now (Verdict r success) is = absurd cc
 
-  pub added_bears : (before : List (ArtifactFacts D)) (x : Facts K L D) (now : ℕ) (e : ArtifactFacts D) → BearsAll before x → BearsAll (e ∷ before) (after_adding same elect x now e)
+  pub added_bears : (before : List (ArtifactFacts D)) (x : StateFacts K L D) (now : ℕ) (e : ArtifactFacts D) → BearsAll before x → BearsAll (e ∷ before) (after_adding same elect x now e)
   added_bears before x now e bears =
       bears_on before e (after_adding same elect x now e) (λ _. added_notarized x now e) (bears_kept (entry_view e) before x (after_adding same elect x now e) (added_kept same elect x now e) bears)
 
-  pub replayed_bears : (before : List (ArtifactFacts D)) (x : Facts K L D) (e : ArtifactFacts D) → BearsAll (e ∷ before) x → BearsAll (e ∷ before) (after_replaying same elect x e)
+  pub replayed_bears : (before : List (ArtifactFacts D)) (x : StateFacts K L D) (e : ArtifactFacts D) → BearsAll (e ∷ before) x → BearsAll (e ∷ before) (after_replaying same elect x e)
   replayed_bears before x (NotarizeVote p m) bears =
       let e : ArtifactFacts D = NotarizeVote p m in
       let a : Artifact (Unit {0}) D K (Unit {0}) (List ℕ) = as_artifact e in
@@ -162,7 +162,7 @@ module _ {K L D : Type 0} (same : D → D → Bool) (elect : Elect L) where
       bears_put (Accepted (Finalized c) ∷ before) x c.proposal.round.view _ bears (record { me = b.me; notarized = b.notarized; judged = b.judged; nullified = b.nullified; finalized = b.finalized })
 
 module _ {K L D : Type 0} (elect : Elect L) where
-  given_verdict : (before : List (ArtifactFacts D)) (x : Facts K L D) (now : ℕ) (r : Round) (success : Bool) → BearsAll (Verdict r success ∷ before) (with_verdict x r.view success) → BearsAll (Verdict r success ∷ before) (verdict_taken elect x r.view success now)
+  given_verdict : (before : List (ArtifactFacts D)) (x : StateFacts K L D) (now : ℕ) (r : Round) (success : Bool) → BearsAll (Verdict r success ∷ before) (with_verdict x r.view success) → BearsAll (Verdict r success ∷ before) (verdict_taken elect x r.view success now)
   given_verdict before x now r true bears =
       let v = r.view in
       let y = with_verdict x v true in
@@ -172,7 +172,7 @@ module _ {K L D : Type 0} (elect : Elect L) where
       let y = with_verdict x r.view false in
       bears_kept r.view (Verdict r false ∷ before) y (with_timeout y r.view FailedCertification now) (triggered_kept r.view y r.view FailedCertification now) bears
 
-  pub given_bears : (before : List (ArtifactFacts D)) (x : Facts K L D) (now : ℕ) (e : ArtifactFacts D) → BearsAll (e ∷ before) x → BearsAll (e ∷ before) (after_verdict_of elect x now e)
+  pub given_bears : (before : List (ArtifactFacts D)) (x : StateFacts K L D) (now : ℕ) (e : ArtifactFacts D) → BearsAll (e ∷ before) x → BearsAll (e ∷ before) (after_verdict_of elect x now e)
   given_bears before x now (Verdict r success) bears = elim (is_tracked x r.view) as (λ t. BearsAll (Verdict r success ∷ before) (cond t (verdict_taken elect (at_moment x now) r.view success now) (at_moment x now))) [
     | true ↦ given_verdict before (at_moment x now) now r success (bears_put (Verdict r success ∷ before) (at_moment x now) r.view (certified_round (round_of x r.view) success) bears (verdict_borne x.me (min_active x) before r success (round_of x r.view) (bears r.view)))
     | false ↦ bears

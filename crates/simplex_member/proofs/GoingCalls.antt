@@ -2,7 +2,7 @@
 use Rattle.std.proofs.Common.{refl, ℕ, Bool, true, Option, Some, None}
 use Rattle.std.specs.Option.{option_map_or}
 use Rattle.simplex_types.specs.declared.types.messages.Context.{Context}
-use Rattle.simplex_voter.specs.Facts.{Facts, Elect, round_of}
+use Rattle.simplex_voter.specs.Facts.{StateFacts, Elect, round_of}
 use Rattle.simplex_voter.specs.Entering.{at_moment}
 use Rattle.simplex_voter.specs.Leaders.{with_next_view_ready}
 use Rattle.simplex_voter.specs.Proposing.{with_build, request_context, propose_answer, proposed_answer, after_proposed, supersede_answer, after_supersede}
@@ -18,7 +18,7 @@ use Rattle.simplex_member.specs.Made.{after_call}
 use Rattle.simplex_member.proofs.Going.{Goes, stays, joined, where_so, with_round_goes, tracked_goes, moment_goes, triggered_goes, notarization_goes, nullification_goes, finalization_goes, certified_goes, nullify_goes, finalize_goes}
 use Rattle.simplex_member.proofs.Recovery.{prepared_goes}
 
-module _ {K L D : Type 0} (same : D → D → Bool) (elect : Elect L) (x : Facts K L D) where
+module _ {K L D : Type 0} (same : D → D → Bool) (elect : Elect L) (x : StateFacts K L D) where
   built : (request : Option (ProposalRequest D K)) → Goes x (option_map_or (λ r. with_build x (request_context r).round.view true) request x)
   built None = stays x
   built (Some request) = tracked_goes x _ _

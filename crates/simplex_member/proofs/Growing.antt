@@ -14,7 +14,7 @@ use Rattle.simplex_round.specs.declared.round.Decision.TheVariants.{Pending, Nul
 use Rattle.simplex_round.specs.declared.round.Certification.{Certification}
 use Rattle.simplex_round.specs.declared.round.Certification.TheVariants.{Ready, Outstanding, Judged, Aborted}
 use Rattle.simplex_round.specs.Round.{RoundFacts, new_round, is_judged, is_nullify, is_finalize, with_decision_deadlines, with_first_timeout, with_latch, after_abort, token_of, with_recovered, with_notarization, with_nullification, with_finalization}
-use Rattle.simplex_voter.specs.Facts.{Facts, round_of, round_number, with_round}
+use Rattle.simplex_voter.specs.Facts.{StateFacts, round_of, round_number, with_round}
 use Rattle.simplex_voter.specs.Entering.{entered_round}
 use Rattle.simplex_voter.specs.Certification.{without_token}
 use Rattle.simplex_voter.specs.Replay.{bound_again}
@@ -119,7 +119,7 @@ module _ {K D : Type 0} where
 
 module _ {K L D : Type 0} where
   -- the round of a view after another one stands there
-  pub round_of-put : (x : Facts K L D) (v w : ℕ) (r : RoundFacts K D) → round_of (with_round x w r) v ≡ cond (eqb v w) r (round_of x v)
+  pub round_of-put : (x : StateFacts K L D) (v w : ℕ) (r : RoundFacts K D) → round_of (with_round x w r) v ≡ cond (eqb v w) r (round_of x v)
   round_of-put x v w r =
       ap (λ found. unwrap_or found (new_round x.me x.members (round_number x v))) (find-put nat_cmp nat_cmp_total v w r x.rounds ∙ ap (λ b. cond b (Some r) (find nat_cmp v x.rounds)) (is_eq-nat_cmp v w))
       ∙ chosen (eqb v w)
@@ -128,25 +128,25 @@ module _ {K L D : Type 0} where
       chosen true = refl
       chosen false = refl
 
-  pub round_of-same : (x : Facts K L D) (w : ℕ) (r : RoundFacts K D) → round_of (with_round x w r) w ≡ r
+  pub round_of-same : (x : StateFacts K L D) (w : ℕ) (r : RoundFacts K D) → round_of (with_round x w r) w ≡ r
   round_of-same x w r = rw (round_of-put x w w r, eq-eqb w w refl) refl
 
   -- another round of a view that grows
-  pub put_grows : (x : Facts K L D) (w : ℕ) (r : RoundFacts K D) → Grows (round_of x w) r → (v : ℕ) → Grows (round_of x v) (round_of (with_round x w r) v)
+  pub put_grows : (x : StateFacts K L D) (w : ℕ) (r : RoundFacts K D) → Grows (round_of x w) r → (v : ℕ) → Grows (round_of x v) (round_of (with_round x w r) v)
   put_grows x w r grows v = elim (cases_eq v w) [
     | inl at ↦ rw (at, round_of-same x w r) grows
     | inr apart ↦ rw (round_of-put x v w r, ne_eqb v w apart) (alike (round_of x v))
   ]
 
   -- each round changed by one that grows
-  raised_round : (x : Facts K L D) (u : ℕ) (found : Option (RoundFacts K D)) (v : ℕ) → Grows (unwrap_or found (new_round x.me x.members (round_number x v))) (unwrap_or (option_map (λ r. if nat_le v u then without_token r else r) found) (new_round x.me x.members (round_number x v)))
+  raised_round : (x : StateFacts K L D) (u : ℕ) (found : Option (RoundFacts K D)) (v : ℕ) → Grows (unwrap_or found (new_round x.me x.members (round_number x v))) (unwrap_or (option_map (λ r. if nat_le v u then without_token r else r) found) (new_round x.me x.members (round_number x v)))
   raised_round x u None v = alike (new_round x.me x.members (round_number x v))
   raised_round x u (Some r) v = grows_where r (nat_le v u) (without_token r) r (token_grows r) (alike r)
 
-  pub ended_grow : (x : Facts K L D) (u v : ℕ) → Grows (round_of x v) (round_of (record x { rounds = map_list (λ e. (e.0, if nat_le e.0 u then without_token e.1 else e.1)) x.rounds }) v)
+  pub ended_grow : (x : StateFacts K L D) (u v : ℕ) → Grows (round_of x v) (round_of (record x { rounds = map_list (λ e. (e.0, if nat_le e.0 u then without_token e.1 else e.1)) x.rounds }) v)
   ended_grow x u v = rw (find-changed (λ w r. if nat_le w u then without_token r else r) v x.rounds) (raised_round x u (find nat_cmp v x.rounds) v)
 
-  pub entered_grows : (x : Facts K L D) (r : RoundFacts K D) (now : ℕ) → Grows r (entered_round x r now)
+  pub entered_grows : (x : StateFacts K L D) (r : RoundFacts K D) (now : ℕ) → Grows r (entered_round x r now)
   entered_grows x r now =
       let l = now + x.settings.leader_timeout in
       let c = now + x.settings.certification_timeout in

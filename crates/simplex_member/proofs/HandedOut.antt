@@ -7,7 +7,7 @@ use Rattle.std.specs.Prelude.{is_some, option_and_then}
 use Rattle.simplex_types.specs.Certificates.{CertificateFacts}
 use Rattle.simplex_types.proofs.Maps.{is_eq-nat_cmp}
 use Rattle.simplex_round.specs.Round.{RoundFacts, once}
-use Rattle.simplex_voter.specs.Facts.{Facts, Elect, round_at, round_of, with_round, with_tracked}
+use Rattle.simplex_voter.specs.Facts.{StateFacts, Elect, round_at, round_of, with_round, with_tracked}
 use Rattle.simplex_voter.specs.Serving.{broadcast_notarization_answer, after_broadcast_notarization, broadcast_nullification_answer, after_broadcast_nullification, broadcast_finalization_answer, after_broadcast_finalization}
 use Rattle.simplex_member.specs.Calls.{BroadcastNotarization, BroadcastNullification, BroadcastFinalization, Handed}
 use Rattle.simplex_member.specs.Lives.{MemberFacts}
@@ -19,11 +19,11 @@ once_sent true certificate = refl
 once_sent false None = refl
 once_sent false (Some c) = refl
 
-round_at-same : {K L D : Type 0} (x : Facts K L D) (v : ℕ) (r : RoundFacts K D) → round_at (with_round x v r) v ≡ Some r
+round_at-same : {K L D : Type 0} (x : StateFacts K L D) (v : ℕ) (r : RoundFacts K D) → round_at (with_round x v r) v ≡ Some r
 round_at-same x v r = find-put nat_cmp nat_cmp_total v v r x.rounds ∙ ap (λ b. cond b (Some r) (find nat_cmp v x.rounds)) (is_eq-nat_cmp v v ∙ eq-eqb v v refl)
 
 -- a view after a change of its round, where it is tracked
-module _ {K L D C : Type 0} (x : Facts K L D) (v : ℕ) (answer : RoundFacts K D → Option C) (change : RoundFacts K D → RoundFacts K D) (none : (r : RoundFacts K D) → answer (change r) ≡ None) where
+module _ {K L D C : Type 0} (x : StateFacts K L D) (v : ℕ) (answer : RoundFacts K D → Option C) (change : RoundFacts K D → RoundFacts K D) (none : (r : RoundFacts K D) → answer (change r) ≡ None) where
   none_then : option_and_then answer (round_at (with_tracked x v (change (round_of x v))) v) ≡ None
   none_then = by_round (round_at x v) refl
     where
@@ -31,7 +31,7 @@ module _ {K L D C : Type 0} (x : Facts K L D) (v : ℕ) (answer : RoundFacts K D
       by_round None is = rw (is, is) refl
       by_round (Some r) is = rw (is, round_at-same x v (change r)) (none r)
 
-module _ {K L D : Type 0} (x : Facts K L D) (v : ℕ) where
+module _ {K L D : Type 0} (x : StateFacts K L D) (v : ℕ) where
   notarization_once : broadcast_notarization_answer (after_broadcast_notarization x v) v ≡ None
   notarization_once =
       none_then x v (λ r. once r.notarization_broadcast r.notarization) (λ r. record r { notarization_broadcast = r.notarization_broadcast || is_some r.notarization })
@@ -49,10 +49,10 @@ module _ {K L D : Type 0} (x : Facts K L D) (v : ℕ) where
 
 module _ {K L D : Type 0} (same : D → D → Bool) (elect : Elect L) (m left : MemberFacts K L D) (v : ℕ) (handed : Option (CertificateFacts D)) where
   pub notarization_none_left : IsAnswered same elect m (BroadcastNotarization v) (Handed handed) left → HasNoneLeft broadcast_notarization_answer left v
-  notarization_none_left is = at_life (λ (x : Facts K L D). broadcast_notarization_answer x v ≡ None) left.life (after_broadcast_notarization is.state v) (ap (λ (l : MemberFacts K L D). l.life) is.left_so) (notarization_once is.state v)
+  notarization_none_left is = at_life (λ (x : StateFacts K L D). broadcast_notarization_answer x v ≡ None) left.life (after_broadcast_notarization is.state v) (ap (λ (l : MemberFacts K L D). l.life) is.left_so) (notarization_once is.state v)
 
   pub nullification_none_left : IsAnswered same elect m (BroadcastNullification v) (Handed handed) left → HasNoneLeft broadcast_nullification_answer left v
-  nullification_none_left is = at_life (λ (x : Facts K L D). broadcast_nullification_answer x v ≡ None) left.life (after_broadcast_nullification is.state v) (ap (λ (l : MemberFacts K L D). l.life) is.left_so) (nullification_once is.state v)
+  nullification_none_left is = at_life (λ (x : StateFacts K L D). broadcast_nullification_answer x v ≡ None) left.life (after_broadcast_nullification is.state v) (ap (λ (l : MemberFacts K L D). l.life) is.left_so) (nullification_once is.state v)
 
   pub finalization_none_left : IsAnswered same elect m (BroadcastFinalization v) (Handed handed) left → HasNoneLeft broadcast_finalization_answer left v
-  finalization_none_left is = at_life (λ (x : Facts K L D). broadcast_finalization_answer x v ≡ None) left.life (after_broadcast_finalization is.state v) (ap (λ (l : MemberFacts K L D). l.life) is.left_so) (finalization_once is.state v)
+  finalization_none_left is = at_life (λ (x : StateFacts K L D). broadcast_finalization_answer x v ≡ None) left.life (after_broadcast_finalization is.state v) (ap (λ (l : MemberFacts K L D). l.life) is.left_so) (finalization_once is.state v)

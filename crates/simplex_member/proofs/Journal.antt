@@ -4,7 +4,7 @@ use Rattle.std.specs.Prelude.{nat_lt}
 use Rattle.std.proofs.lemmas.List.{drop_min, drop-map, take_rest}
 use Rattle.simplex_types.specs.Certificates.{ArtifactFacts, artifact_facts}
 use Rattle.simplex_types.specs.declared.types.messages.Artifact.{Artifact}
-use Rattle.simplex_voter.specs.Facts.{Facts, Elect}
+use Rattle.simplex_voter.specs.Facts.{StateFacts, Elect}
 use Rattle.simplex_member.specs.declared.member.error.RecoverError.{RecoverError}
 use Rattle.simplex_member.specs.declared.member.error.RecoverError.TheVariants as error
 use Rattle.simplex_member.specs.declared.member.journal.Stored.{Stored}
@@ -30,7 +30,7 @@ module _ {K L D : Type 0} (same : D → D → Bool) (elect : Elect L) (stored : 
   unfolding IsRestart
   refused grows found due = (whole, rw grows (not_gone_on same elect (stored_facts stored entries) start found due))
 
-  pub resumed : Grows false → (x : Facts K L D) (record_now : List (ArtifactFacts D)) → IsRemadeBy same elect start entries x → record_now ≡ with_floor entries start.floor
+  pub resumed : Grows false → (x : StateFacts K L D) (record_now : List (ArtifactFacts D)) → IsRemadeBy same elect start entries x → record_now ≡ with_floor entries start.floor
       → IsResumed same elect stored entries start (record (stored_facts stored entries) { life = Some x; entries = record_now; retention = start.setup.settings.view_retention; least_retention = min stored.least_retention start.setup.settings.view_retention })
   unfolding IsRestart
   resumed grows x record_now made kept = record {

@@ -14,7 +14,7 @@ use Rattle.simplex_types.specs.declared.reasons.TimeoutReason.{TimeoutReason}
 use Rattle.simplex_types.specs.declared.reasons.TimeoutReason.TheVariants.{FailedCertification}
 use Rattle.simplex_round.specs.declared.round.Leader.{Leader}
 use Rattle.simplex_round.specs.Round.{RoundFacts, leader_at, with_latch}
-use Rattle.simplex_voter.specs.Facts.{Facts, Elect, round_at, round_of, round_number, is_tracked, with_round}
+use Rattle.simplex_voter.specs.Facts.{StateFacts, Elect, round_at, round_of, round_number, is_tracked, with_round}
 use Rattle.simplex_voter.specs.Windows.{min_active, in_window}
 use Rattle.simplex_voter.specs.Payloads.{is_elected_early}
 use Rattle.simplex_voter.specs.Entering.{at_moment, with_view_entered, entered_round}
@@ -34,16 +34,16 @@ floor_view (Finalized c) = c.proposal.round.view
 
 module _ {K L D : Type 0} (u : ℕ) where
   -- a change that finalizes no view above u
-  pub record Keeps (x y : Facts K L D) : Type 0 where
+  pub record Keeps (x y : StateFacts K L D) : Type 0 where
     pub me : y.me ≡ x.me
     pub rises : min_active x ≤ min_active y
     pub kept : min_active x ≤ u → min_active y ≤ u
     pub rounds : (v : ℕ) → Grows (round_of x v) (round_of y v)
 
-  keeps_all : (x : Facts K L D) → Keeps x x
+  keeps_all : (x : StateFacts K L D) → Keeps x x
   keeps_all x = record { me = refl; rises = omega arith; kept = λ h. h; rounds = λ v. alike (round_of x v) }
 
-  pub kept_on : (x y z : Facts K L D) → Keeps x y → Keeps y z → Keeps x z
+  pub kept_on : (x y z : StateFacts K L D) → Keeps x y → Keeps y z → Keeps x z
   kept_on x y z p q = record {
     me = q.me ∙ p.me;
     rises = omega (arith, p.rises, q.rises);
@@ -51,53 +51,53 @@ module _ {K L D : Type 0} (u : ℕ) where
     rounds = λ v. grown_on (round_of x v) (round_of y v) (round_of z v) (p.rounds v) (q.rounds v);
   }
 
-  kept_where : (x : Facts K L D) (b : Bool) (y z : Facts K L D) → Keeps x y → Keeps x z → Keeps x (if b then y else z)
+  kept_where : (x : StateFacts K L D) (b : Bool) (y z : StateFacts K L D) → Keeps x y → Keeps x z → Keeps x (if b then y else z)
   kept_where x true y z p q = p
   kept_where x false y z p q = q
 
-  pub put_kept : (x : Facts K L D) (w : ℕ) (r : RoundFacts K D) → Grows (round_of x w) r → Keeps x (with_round x w r)
+  pub put_kept : (x : StateFacts K L D) (w : ℕ) (r : RoundFacts K D) → Grows (round_of x w) r → Keeps x (with_round x w r)
   put_kept x w r grows = record { me = refl; rises = omega arith; kept = λ h. h; rounds = put_grows x w r grows }
 
-  led_kept : (x : Facts K L D) (v member : ℕ) → Keeps x (with_leader_at x v member)
+  led_kept : (x : StateFacts K L D) (v member : ℕ) → Keeps x (with_leader_at x v member)
   led_kept x v member =
       kept_where x (has_leader x v) x (with_round x v (record (round_of x v) { leader = leader_at x.members member })) (keeps_all x)
       (put_kept x v _ (record { me = refl; notarized = λ h. h; judged = λ b. refl; nullified = refl; finalized = refl }))
 
-  inherited_kept : (x : Facts K L D) (from to : ℕ) → Keeps x (with_leader_of x from to)
+  inherited_kept : (x : StateFacts K L D) (from to : ℕ) → Keeps x (with_leader_of x from to)
   inherited_kept x from to = inherits (round_of x from).leader
     where
       inherits : (leader : Option (Leader K)) → Keeps x (option_map_or (λ l. with_leader_at x to l.idx) leader x)
       inherits None = keeps_all x
       inherits (Some l) = led_kept x to l.idx
 
-  slides_kept : (views : List ℕ) (x : Facts K L D) → Keeps x (fold (λ y w. with_leader_of y (w - 1) w) x views)
+  slides_kept : (views : List ℕ) (x : StateFacts K L D) → Keeps x (fold (λ y w. with_leader_of y (w - 1) w) x views)
   slides_kept [] x = keeps_all x
   slides_kept (w ∷ views) x = kept_on x (with_leader_of x (w - 1) w) (fold (λ y w. with_leader_of y (w - 1) w) (with_leader_of x (w - 1) w) views) (inherited_kept x (w - 1) w) (slides_kept views (with_leader_of x (w - 1) w))
 
-  slid_kept : (x : Facts K L D) (v : ℕ) → Keeps x (with_window_leaders x v)
+  slid_kept : (x : StateFacts K L D) (v : ℕ) → Keeps x (with_window_leaders x v)
   slid_kept x v = slides_kept (opened_views x v) x
 
-  pub entered_kept : (x : Facts K L D) (v now : ℕ) → Keeps x (with_view_entered x v now)
+  pub entered_kept : (x : StateFacts K L D) (v now : ℕ) → Keeps x (with_view_entered x v now)
   entered_kept x v now =
       let r = entered_round x (round_of x v) now in
       kept_where x (nat_lt x.current v) (record (with_round x v r) { current = v }) x
       (record { me = refl; rises = omega arith; kept = λ h. h; rounds = put_grows x v r (entered_grows x (round_of x v) now) })
       (keeps_all x)
 
-  moment_kept : (x : Facts K L D) (now : ℕ) → Keeps x (at_moment x now)
+  moment_kept : (x : StateFacts K L D) (now : ℕ) → Keeps x (at_moment x now)
   moment_kept x now = record { me = refl; rises = omega arith; kept = λ h. h; rounds = λ v. alike (round_of x v) }
 
-  named_kept : (x : Facts K L D) (v : ℕ) → Keeps x (named_also x v)
+  named_kept : (x : StateFacts K L D) (v : ℕ) → Keeps x (named_also x v)
   named_kept x v = kept_where x (nat_lt x.finalized v) _ x (record { me = refl; rises = omega arith; kept = λ h. h; rounds = λ w. alike (round_of x w) }) (keeps_all x)
 
-  pub triggered_kept : (x : Facts K L D) (v : ℕ) (reason : TimeoutReason) (now : ℕ) → Keeps x (with_timeout x v reason now)
+  pub triggered_kept : (x : StateFacts K L D) (v : ℕ) (reason : TimeoutReason) (now : ℕ) → Keeps x (with_timeout x v reason now)
   triggered_kept x v reason now =
       kept_where x (nat_le x.current v && is_tracked x v && not (is_contradicted reason (round_of x v))) (with_round x v (with_latch (round_of x v) now reason)) x
       (put_kept x v _ (latch_grows (round_of x v) now reason)) (keeps_all x)
 
 module _ {K L D : Type 0} where
   -- a finalization raises the lowest view that is kept no further than its own
-  raised_kept : (x : Facts K L D) (u : ℕ) → Keeps u x (with_finalized_view x u)
+  raised_kept : (x : StateFacts K L D) (u : ℕ) → Keeps u x (with_finalized_view x u)
   raised_kept x u = raises (nat_lt x.finalized u) refl
     where
       raises : (b : Bool) → nat_lt x.finalized u ≡ b → Keeps u x (with_finalized_view x u)
@@ -107,19 +107,19 @@ module _ {K L D : Type 0} where
       raises false is = rw is (keeps_all u x)
 
 module _ {K L D : Type 0} (u : ℕ) (elect : Elect L) where
-  pub elected_kept : (x : Facts K L D) (v : ℕ) (seed : Option (List ℕ)) → Keeps u x (with_elected_leader elect x v seed)
+  pub elected_kept : (x : StateFacts K L D) (v : ℕ) (seed : Option (List ℕ)) → Keeps u x (with_elected_leader elect x v seed)
   elected_kept x v seed = led_kept u x v (elect x.elector (round_number x v) seed)
 
-  pub woken_kept : (x : Facts K L D) (p : ℕ) → Keeps u x (with_waiting_candidate elect x p)
+  pub woken_kept : (x : StateFacts K L D) (p : ℕ) → Keeps u x (with_waiting_candidate elect x p)
   woken_kept x p = kept_where u x (option_map_or (waits_for elect x p) (round_at x (p + 1)) false) (named_also x (p + 1)) x (named_kept u x (p + 1)) (keeps_all u x)
 
-  pub prepared_kept : (x : Facts K L D) (v : ℕ) → Keeps u x (with_next_view_ready elect x v)
+  pub prepared_kept : (x : StateFacts K L D) (v : ℕ) → Keeps u x (with_next_view_ready elect x v)
   prepared_kept x v =
       let later = with_elected_leader elect x (v + 1) None in
       let own = (round_of x v).notarize_decided && is_elected_early elect x (v + 1) in
       kept_where u x (in_window x (v + 1)) (with_leader_of x v (v + 1)) _ (inherited_kept u x v (v + 1)) (kept_where u x own later x (elected_kept x (v + 1) None) (keeps_all u x))
 
-  nullification_kept : (x : Facts K L D) (c : NullificationFacts) (now : ℕ) → Keeps u x (after_add_nullification elect x c now)
+  nullification_kept : (x : StateFacts K L D) (c : NullificationFacts) (now : ℕ) → Keeps u x (after_add_nullification elect x c now)
   nullification_kept x c now =
       let next = next_term_start x.terms.term_length c.round.view in
       let y = with_view_entered (at_moment x now) next now in
@@ -131,19 +131,19 @@ module _ {K L D : Type 0} (u : ℕ) (elect : Elect L) where
 
 module _ {K L D : Type 0} (same : D → D → Bool) (elect : Elect L) where
   -- what follows a notarization that stands
-  pub notarized_kept : (u : ℕ) (x y : Facts K L D) (c : ProposalFacts D) → Keeps u y (if is_some (round_of x c.proposal.round.view).notarization then y else with_window_leaders (named_also y c.proposal.round.view) c.proposal.round.view)
+  pub notarized_kept : (u : ℕ) (x y : StateFacts K L D) (c : ProposalFacts D) → Keeps u y (if is_some (round_of x c.proposal.round.view).notarization then y else with_window_leaders (named_also y c.proposal.round.view) c.proposal.round.view)
   notarized_kept u x y c =
       let v = c.proposal.round.view in
       kept_where u y (is_some (round_of x v).notarization) y (with_window_leaders (named_also y v) v) (keeps_all u y) (kept_on u y (named_also y v) (with_window_leaders (named_also y v) v) (named_kept u y v) (slid_kept u (named_also y v) v))
 
-  notarization_kept : (u : ℕ) (x : Facts K L D) (c : ProposalFacts D) → Keeps u x (after_add_notarization same elect x c)
+  notarization_kept : (u : ℕ) (x : StateFacts K L D) (c : ProposalFacts D) → Keeps u x (after_add_notarization same elect x c)
   notarization_kept u x c =
       let v = c.proposal.round.view in
       let y = with_elected_leader elect x (v + 1) (Some c.bytes) in
       let z = with_notarization_at same elect y c in
       kept_on u x z _ (kept_on u x y z (elected_kept u elect x (v + 1) (Some c.bytes)) (put_kept u y v _ (notarization_grows (same_proposal same) (round_of y v) c))) (notarized_kept u x z c)
 
-  finalization_kept : (x : Facts K L D) (c : ProposalFacts D) (now : ℕ) → Keeps c.proposal.round.view x (after_add_finalization same elect x c now)
+  finalization_kept : (x : StateFacts K L D) (c : ProposalFacts D) (now : ℕ) → Keeps c.proposal.round.view x (after_add_finalization same elect x c now)
   finalization_kept x c now =
       let v = c.proposal.round.view in
       let noted = at_moment x now in
@@ -157,7 +157,7 @@ module _ {K L D : Type 0} (same : D → D → Bool) (elect : Elect L) where
       (kept_on v x awake (with_window_leaders awake v) (kept_on v x w awake k (woken_kept v elect w v)) (slid_kept v awake v))
 
   -- a certificate that is added, and a floor that is set
-  pub added_kept : (x : Facts K L D) (now : ℕ) (e : ArtifactFacts D) → Keeps (entry_view e) x (after_adding same elect x now e)
+  pub added_kept : (x : StateFacts K L D) (now : ℕ) (e : ArtifactFacts D) → Keeps (entry_view e) x (after_adding same elect x now e)
   added_kept x now (Accepted (Notarized c)) = notarization_kept c.proposal.round.view x c
   added_kept x now (Accepted (Nullified c)) = nullification_kept c.round.view elect x c now
   added_kept x now (Accepted (FinalizedView c)) = finalization_kept x c now
@@ -166,7 +166,7 @@ module _ {K L D : Type 0} (same : D → D → Bool) (elect : Elect L) where
   added_kept x now (FinalizeVote p _) = keeps_all p.round.view x
   added_kept x now (Verdict round _) = keeps_all round.view x
 
-  pub floor_kept : (x : Facts K L D) (floor : FloorFacts D) (now : ℕ) → Keeps (floor_view floor) x (after_set_floor same elect x floor now)
+  pub floor_kept : (x : StateFacts K L D) (floor : FloorFacts D) (now : ℕ) → Keeps (floor_view floor) x (after_set_floor same elect x floor now)
   floor_kept x (Genesis payload) now =
       let noted = record (at_moment x now) { genesis = Some payload } in
       let y = with_view_entered noted 1 now in
@@ -179,7 +179,7 @@ module _ {K L D : Type 0} (same : D → D → Bool) (elect : Elect L) where
       (put_kept v y v _ (record { me = refl; notarized = λ h. h; judged = λ b. refl; nullified = refl; finalized = refl }))
 
 module _ {K L D : Type 0} (same : D → D → Bool) (elect : Elect L) where
-  pub replayed_me : (x : Facts K L D) (e : ArtifactFacts D) → (after_replaying same elect x e).me ≡ x.me
+  pub replayed_me : (x : StateFacts K L D) (e : ArtifactFacts D) → (after_replaying same elect x e).me ≡ x.me
   replayed_me x (NotarizeVote p m) =
       let a : Artifact (Unit {0}) D K (Unit {0}) (List ℕ) = as_artifact (NotarizeVote p m) in
       (prepared_kept p.round.view elect (with_round x p.round.view (replayed_round same x a)) p.round.view).me
@@ -191,14 +191,14 @@ module _ {K L D : Type 0} (same : D → D → Bool) (elect : Elect L) where
   replayed_me x (Accepted (FinalizedView _)) = refl
 
 module _ {K L D : Type 0} (elect : Elect L) where
-  verdict_me : (x : Facts K L D) (v : ℕ) (success : Bool) (now : ℕ) → (verdict_taken elect x v success now).me ≡ x.me
+  verdict_me : (x : StateFacts K L D) (v : ℕ) (success : Bool) (now : ℕ) → (verdict_taken elect x v success now).me ≡ x.me
   verdict_me x v true now = let y = with_verdict x v true in (woken_kept v elect (with_view_entered y (v + 1) now) v).me ∙ (entered_kept v y (v + 1) now).me
   verdict_me x v false now = (triggered_kept v (with_verdict x v false) v FailedCertification now).me
 
-  pub given_me : (x : Facts K L D) (now : ℕ) (e : ArtifactFacts D) → (after_verdict_of elect x now e).me ≡ x.me
+  pub given_me : (x : StateFacts K L D) (now : ℕ) (e : ArtifactFacts D) → (after_verdict_of elect x now e).me ≡ x.me
   given_me x now (Verdict r success) =
       let y = at_moment x now in
-      cond_both (is_tracked x r.view) (verdict_taken elect y r.view success now) y (λ (z : Facts K L D). z.me ≡ x.me) (λ _. verdict_me y r.view success now) (λ _. refl)
+      cond_both (is_tracked x r.view) (verdict_taken elect y r.view success now) y (λ (z : StateFacts K L D). z.me ≡ x.me) (λ _. verdict_me y r.view success now) (λ _. refl)
   given_me x now (NotarizeVote _ _) = refl
   given_me x now (NullifyVote _ _) = refl
   given_me x now (FinalizeVote _ _) = refl

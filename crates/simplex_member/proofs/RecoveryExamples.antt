@@ -3,7 +3,7 @@
 use Rattle.std.proofs.Common.{◌≡◌, refl, ℕ, ◌%◌, true, false, List, [], ◌∷◌, Some, None, nat_eq, is_some}
 use Rattle.simplex_types.specs.Terms.{term_index}
 use Rattle.simplex_types.specs.Config.{FloorFacts, Genesis}
-use Rattle.simplex_voter.specs.Facts.{Settings, Facts, Elect, new_facts}
+use Rattle.simplex_voter.specs.Facts.{Settings, StateFacts, Elect, new_facts}
 use Rattle.simplex_voter.specs.Windows.{is_admitted}
 use Rattle.simplex_voter.specs.Rules.{may_nullify, may_finalize, is_gated, required_parent}
 use Rattle.simplex_voter.specs.Serving.{notarization_of, nullification_of}
@@ -26,10 +26,10 @@ settings = record {
   skip_budget = 4;
 }
 
-abbrev fresh : Facts ℕ ℕ ℕ
+abbrev fresh : StateFacts ℕ ℕ ℕ
 fresh = new_facts settings (Some 0) (0 ∷ 1 ∷ 2 ∷ 3 ∷ []) 1 (record { term_length = 1; optimistic_views = 0; stall_timeout = None }) true
 
-abbrev state_of : FloorFacts ℕ → List Entry → Facts ℕ ℕ ℕ
+abbrev state_of : FloorFacts ℕ → List Entry → StateFacts ℕ ℕ ℕ
 state_of floor entries = recovered_state nat_eq in_turn fresh floor 0 entries
 
 -- above a finalized floor, what stands below its retention is passed over

@@ -4,7 +4,7 @@ use Rattle.std.specs.Option.{option_or}
 use Rattle.simplex_types.specs.Certificates.{ArtifactFacts}
 use Rattle.simplex_types.specs.Config.{FloorFacts}
 use Rattle.simplex_types.specs.declared.types.messages.Artifact.{Artifact}
-use Rattle.simplex_voter.specs.Facts.{Facts, Elect}
+use Rattle.simplex_voter.specs.Facts.{StateFacts, Elect}
 use Rattle.simplex_voter.specs.Refusals.{is_started, has_late_deadline}
 use Rattle.simplex_voter.specs.Acceptance.{after_set_floor}
 use Rattle.simplex_member.specs.declared.member.error.RecoverError.{RecoverError}
@@ -34,7 +34,7 @@ pub none_broken : {T : Type 0} (a ok : T) (broken : Option RecoverError) → Mat
 none_broken a ok None is = refl
 none_broken a ok (Some b) is = absurd cc
 
-module _ {K L D : Type 0} (same : D → D → Bool) (x : Facts K L D) (floor : FloorFacts D) (now : ℕ) where
+module _ {K L D : Type 0} (same : D → D → Bool) (x : StateFacts K L D) (floor : FloorFacts D) (now : ℕ) where
   floor_unbroken : (entries : List (ArtifactFacts D)) → first_recover_error same x.settings.epoch x.me floor entries ≡ None → first_error (recovery_floor_rules x.settings.epoch floor) ≡ None
   unfolding first_recover_error
   floor_unbroken entries kept = none_first (first_error (recovery_floor_rules x.settings.epoch floor)) (first_broken_after same x.settings.epoch x.me [] entries) kept
@@ -59,7 +59,7 @@ module _ {K L D : Type 0} (same : D → D → Bool) (x : Facts K L D) (floor : F
       lates true is = absurd cc
       lates false is = refl
 
-module _ {K L D : Type 0} (same : D → D → Bool) (elect : Elect L) (x : Facts K L D) (floor : FloorFacts D) (now : ℕ) where
+module _ {K L D : Type 0} (same : D → D → Bool) (elect : Elect L) (x : StateFacts K L D) (floor : FloorFacts D) (now : ℕ) where
   pub set_in_time : has_late_deadline x now ≡ false → has_late_deadline (after_set_floor same elect x floor now) now ≡ false
   set_in_time in_time = still_in_time x (after_set_floor same elect x floor now) now (floor_set_goes same elect x floor now) in_time
 

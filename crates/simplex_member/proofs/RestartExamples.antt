@@ -1,7 +1,7 @@
 -- Restarts by the definitions, of member 0 of the recoveries' examples, whose lives keep 10 views unless said.
 use Rattle.std.proofs.Common.{◌≡◌, refl, ℕ, true, false, List, [], ◌∷◌, Some, None, nat_eq, is_some}
 use Rattle.simplex_types.specs.Config.{Genesis}
-use Rattle.simplex_voter.specs.Facts.{Facts, new_facts}
+use Rattle.simplex_voter.specs.Facts.{StateFacts, new_facts}
 use Rattle.simplex_voter.specs.Windows.{min_active}
 use Rattle.simplex_voter.specs.Serving.{notarization_of, prune_answer}
 use Rattle.simplex_member.specs.Openings.{no_openings}
@@ -43,10 +43,10 @@ unfolding may_drop pruned_entries
 kept_by_the_last_life = refl
 
 -- a life that keeps 5 views takes an entry below those again, until it prunes
-abbrev narrow : Facts ℕ ℕ ℕ
+abbrev narrow : StateFacts ℕ ℕ ℕ
 narrow = new_facts (record settings { view_retention = 5 }) (Some 0) (0 ∷ 1 ∷ 2 ∷ 3 ∷ []) 1 (record { term_length = 1; optimistic_views = 0; stall_timeout = None }) true
 
-abbrev narrow_life : Facts ℕ ℕ ℕ
+abbrev narrow_life : StateFacts ℕ ℕ ℕ
 narrow_life = recovered_state nat_eq in_turn narrow (Genesis 0) 0 (notarization 12 ∷ finalization 20 ∷ [])
 
 lowest_view : min_active narrow_life ≡ 15

@@ -14,7 +14,7 @@ use Rattle.simplex_member.specs.declared.member.error.RecoverError.{RecoverError
 use Rattle.simplex_member.specs.declared.member.error.RecoverError.TheVariants as error
 use Rattle.simplex_member.specs.Check.{stands}
 use Rattle.simplex_member.specs.Entries.{entries_of, entry_view}
-use Rattle.simplex_voter.specs.Facts.{Facts, Elect}
+use Rattle.simplex_voter.specs.Facts.{StateFacts, Elect}
 use Rattle.simplex_member.specs.Openings.{no_openings}
 use Rattle.simplex_member.specs.Lives.{MemberFacts, without_life}
 use Rattle.simplex_member.specs.Remade.{IsRefusedBy, IsRemadeBy}
@@ -79,7 +79,7 @@ module _ {K L D : Type 0} (same : D → D → Bool) (elect : Elect L) (m : Membe
   not_gone_on found (inr (copy, by_view, due)) = inr (copy, by_view, rw due (refl, refl))
 
   -- one whose new state is made
-  pub gone_on : (x : Facts K L D) (entries : List (ArtifactFacts D)) → IsRemadeBy same elect start m.entries x → entries ≡ with_floor m.entries start.floor
+  pub gone_on : (x : StateFacts K L D) (entries : List (ArtifactFacts D)) → IsRemadeBy same elect start m.entries x → entries ≡ with_floor m.entries start.floor
       → GoesOn same elect m start (Ok tt) (record m { life = Some x; openings = no_openings; entries = entries; retention = start.setup.settings.view_retention; least_retention = min m.least_retention start.setup.settings.view_retention })
   gone_on x entries (copy, by_view, accepted, is) kept = inr (copy, by_view, rw (accepted, is, kept) (refl, refl))
 

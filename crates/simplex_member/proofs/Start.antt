@@ -6,7 +6,7 @@ use Rattle.std.specs.Result.{result_err}
 use Rattle.simplex_types.specs.Config.{FloorFacts, Genesis, Finalized}
 use Rattle.simplex_types.specs.declared.types.fault.Fault.{Fault}
 use Rattle.simplex_types.specs.declared.types.fault.Fault.TheVariants as fault
-use Rattle.simplex_voter.specs.Facts.{Facts}
+use Rattle.simplex_voter.specs.Facts.{StateFacts}
 use Rattle.simplex_voter.specs.Refusals.{is_too_large, has_late_deadline, HasFailed}
 use Rattle.simplex_voter.specs.Acceptance.{takes_floor, floor_refusal}
 use Rattle.simplex_member.specs.declared.member.error.RecoverError.{RecoverError}
@@ -22,7 +22,7 @@ all_of a b c h k l = rw (h, k, l) refl
 late_only : (too_large late : Bool) → too_large ≡ false → (if too_large then Some fault.ViewTooLarge else (if late then Some fault.TimeOverflow else None)) ≡ (if late then Some fault.TimeOverflow else None)
 late_only too_large late small = rw small refl
 
-module _ {K L D : Type 0} (x : Facts K L D) (new : x.current ≡ 0) where
+module _ {K L D : Type 0} (x : StateFacts K L D) (new : x.current ≡ 0) where
   pub good_floor : (floor : FloorFacts D) → first_error (recovery_floor_rules x.settings.epoch floor) ≡ None → takes_floor x floor ≡ true
   good_floor (Genesis payload) good = rw new refl
   good_floor (Finalized c) good =
@@ -41,7 +41,7 @@ module _ {K L D : Type 0} (x : Facts K L D) (new : x.current ≡ 0) where
       let ahead : nat_lt 0 (r.view + 1) ≡ true = grind (arith, nat_tests) in
       rw (going, new, ahead) (late_only (is_too_large r.view || is_too_large c.proposal.parent) (has_late_deadline x now) small)
 
-module _ {K L D : Type 0} (same : D → D → Bool) (x : Facts K L D) (floor : FloorFacts D) (now : ℕ) where
+module _ {K L D : Type 0} (same : D → D → Bool) (x : StateFacts K L D) (floor : FloorFacts D) (now : ℕ) where
   error_alone : recover_error same x floor now [] ≡ option_or (first_error (recovery_floor_rules x.settings.epoch floor)) (if has_late_deadline x now then Some error.TimeOverflow else None)
   unfolding first_recover_error
   error_alone = ap (λ o. option_or o (if has_late_deadline x now then Some error.TimeOverflow else None)) (option_or_none (first_error (recovery_floor_rules x.settings.epoch floor)))
@@ -61,7 +61,7 @@ option_fault None other = other
 option_fault (Some f) other = f
 
 -- the fault that a state gave is due
-pub due_error : {K L D : Type 0} (T : Type 0) (due : Option Fault) (found : Fault) (x y : Facts K L D) → IfSome due (λ f. (◌≡◌ {A = Result T Fault} (Err found) (Err f)) × (y ≡ x)) → (due ≡ None → (found ≡ fault.OutOfMemory) × HasFailed x y) → IsDue (option_map error_of due) (error_of found)
+pub due_error : {K L D : Type 0} (T : Type 0) (due : Option Fault) (found : Fault) (x y : StateFacts K L D) → IfSome due (λ f. (◌≡◌ {A = Result T Fault} (Err found) (Err f)) × (y ≡ x)) → (due ≡ None → (found ≡ fault.OutOfMemory) × HasFailed x y) → IsDue (option_map error_of due) (error_of found)
 due_error T (Some f) found x y same memory = ap (λ o. error_of (option_fault o found)) (ap result_err same.0)
 due_error T None found x y same memory = ap error_of (memory refl).0
 

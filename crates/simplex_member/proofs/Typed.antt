@@ -3,7 +3,7 @@ use Rattle.std.proofs.Common.{◌≡◌, refl, ap, sym, ◌∙◌, Bool, true, f
 use Rattle.std.proofs.lemmas.List.{append-nil}
 use Rattle.simplex_types.specs.declared.types.fault.Fault.{Fault}
 use Rattle.simplex_types.specs.declared.types.fault.Fault.TheVariants as fault
-use Rattle.simplex_voter.specs.Facts.{Facts, Elect}
+use Rattle.simplex_voter.specs.Facts.{StateFacts, Elect}
 use Rattle.simplex_member.specs.Allowed.{is_allowed, fault_of}
 use Rattle.simplex_member.specs.Calls.{CallFacts, AddNotarization, AddNullification, AddFinalization, SetProposal, TryPropose, Proposed, SupersedeProposalRequest, PendingHandoffAbandonment, ReleaseProposalRequest, TryVerify, Verified, VerificationFailed, ConstructNotarize, CertifyCandidates, SetCertifyHandle, Certified, ConstructNullify, ConstructFinalize, BroadcastNotarization, BroadcastNullification, BroadcastFinalization, GetBestCertificate, TriggerTimeout, NextTimeout, Prune, Told, Refused, NotAllowed}
 use Rattle.simplex_member.specs.Lives.{MemberFacts, HasGrown, with_call, unless_refused, unless_kept, Answers, AnswersAlive, IsCall}
@@ -42,7 +42,7 @@ module _ {K L D : Type 0} where
 
 module _ {K L D : Type 0} (same : D → D → Bool) (elect : Elect L) where
   -- an answer is of its call's kind, and is no refusal
-  of_kind : (x : Facts K L D) (o : Openings K D) (call : CallFacts D) → (is_reply_to (answer same elect x o call) call ≡ true) × ((claim : Refusal → Type 0) → IfRefused (answer same elect x o call) claim)
+  of_kind : (x : StateFacts K L D) (o : Openings K D) (call : CallFacts D) → (is_reply_to (answer same elect x o call) call ≡ true) × ((claim : Refusal → Type 0) → IfRefused (answer same elect x o call) claim)
   of_kind x o (AddNotarization _) = (refl, λ claim. tt)
   of_kind x o (AddNullification _ _) = (refl, λ claim. tt)
   of_kind x o (AddFinalization _ _) = (refl, λ claim. tt)
@@ -79,7 +79,7 @@ module _ {K L D : Type 0} (same : D → D → Bool) (elect : Elect L) where
     refused_so : (due : Fault) (left : MemberFacts K L D) → Keeps m (refusal.Fault due) left → Typed (Refused due) left
     refused_so due left keeps = record { of_its_kind = refl; answered = tt; kept = keeps; grown = keeps_grown m left (refusal.Fault due) keeps }
 
-    module _ (x : Facts K L D) (alive : m.life ≡ Some x) where
+    module _ (x : StateFacts K L D) (alive : m.life ≡ Some x) where
       by_definition : (b : Bool) → is_allowed x m.openings call ≡ b → (due : Option Fault) → fault_of x call ≡ due
           → Typed (cond b (unless_refused due (answer same elect x m.openings call)) NotAllowed) (cond b (unless_kept due m (with_call same elect x m call)) m)
       by_definition true allowed None not_due =
@@ -98,7 +98,7 @@ module _ {K L D : Type 0} (same : D → D → Bool) (elect : Elect L) where
       by_answers told left (inr (wants, told_so, inl same_left)) = rw told_so (refused_so fault.OutOfMemory left (inl same_left))
       by_answers told left (inr (wants, told_so, inr (not_due, falls, lost))) = rw told_so (refused_so fault.OutOfMemory left (inr lost))
 
-    by_life : (life : Option (Facts K L D)) → m.life ≡ life → (told : Told K D) (left : MemberFacts K L D) → AnswersAlive same elect life m call told left → Typed told left
+    by_life : (life : Option (StateFacts K L D)) → m.life ≡ life → (told : Told K D) (left : MemberFacts K L D) → AnswersAlive same elect life m call told left → Typed told left
     by_life None dead told left (told_so, left_so) = rw (told_so, left_so) (refused_so fault.Failed m refl)
     by_life (Some x) alive told left made = by_answers x alive told left made
 

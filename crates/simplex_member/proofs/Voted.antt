@@ -7,7 +7,7 @@ use Rattle.simplex_types.specs.declared.types.messages.Proposal.{Proposal}
 use Rattle.simplex_round.specs.declared.round.Decision.{Decision}
 use Rattle.simplex_round.specs.declared.round.Decision.TheVariants as decision
 use Rattle.simplex_round.specs.Round.{RoundFacts, after_nullify, is_pending, is_nullify, is_finalize, can_notarize}
-use Rattle.simplex_voter.specs.Facts.{Facts, Elect, round_of, round_number, with_round}
+use Rattle.simplex_voter.specs.Facts.{StateFacts, Elect, round_of, round_number, with_round}
 use Rattle.simplex_voter.specs.Rules.{may_notarize, may_nullify, may_finalize}
 use Rattle.simplex_voter.specs.Votes.{nullify_cast, notarize_cast, after_construct_nullify, after_construct_notarize, after_construct_finalize}
 use Rattle.simplex_voter.proofs.Rules.{nullify_parts, notarize_round, finalize_parts}
@@ -50,7 +50,7 @@ from_life : {A : Type 0} (P : A → Type 0) (life : Option A) (x : A) → life �
 from_life P life x is holds = rw is at holds
 
 -- a vote that is answered had its rule, and where the rule forbids it, there is none
-module _ {K L D : Type 0} (x : Facts K L D) (v : ℕ) where
+module _ {K L D : Type 0} (x : StateFacts K L D) (v : ℕ) where
   none_to_nullify : may_nullify x v ≡ false → nullify_vote x v ≡ None
   none_to_nullify forbidden = by_key x.me (is_some x.me) (may_nullify x v) forbidden
     where
@@ -68,14 +68,14 @@ module _ {K L D : Type 0} (x : Facts K L D) (v : ℕ) where
       decided : (r : RoundFacts K D) → is_finalize r.decision ≡ false → is_nullify (after_nullify r).decision ≡ true
       decided r undecided = rw undecided refl
 
-      round_cast : (y : Facts K L D) → round_of (nullify_cast y v) v ≡ round_of y v
+      round_cast : (y : StateFacts K L D) → round_of (nullify_cast y v) v ≡ round_of y v
       round_cast y = by_key (is_some y.me)
         where
           by_key : (b : Bool) → round_of (cond b (record y { nullify_votes = (nullify_cast (record y { me = Some 0 }) v).nullify_votes }) y) v ≡ round_of y v
           by_key true = refl
           by_key false = refl
 
-module _ {K L D : Type 0} (elect : Elect L) (x : Facts K L D) (v : ℕ) where
+module _ {K L D : Type 0} (elect : Elect L) (x : StateFacts K L D) (v : ℕ) where
   none_to_finalize : may_finalize elect x v ≡ false → finalize_vote elect x v ≡ None
   none_to_finalize forbidden = by_key x.me (is_some x.me) (may_finalize elect x v) (round_of x v).slot.held forbidden
     where
@@ -87,7 +87,7 @@ module _ {K L D : Type 0} (elect : Elect L) (x : Facts K L D) (v : ℕ) where
   round_finalized : may_finalize elect x v ≡ true → is_finalize (round_of (after_construct_finalize elect x v) v).decision ≡ true
   round_finalized may = rw may (ap (λ (s : RoundFacts K D). is_finalize s.decision) (round_of-same x v _))
 
-module _ {K L D : Type 0} (same : D → D → Bool) (elect : Elect L) (x : Facts K L D) (v : ℕ) where
+module _ {K L D : Type 0} (same : D → D → Bool) (elect : Elect L) (x : StateFacts K L D) (v : ℕ) where
   none_to_notarize : may_notarize same elect x v ≡ false → notarize_vote same elect x v ≡ None
   none_to_notarize forbidden = by_key x.me (is_some x.me) (may_notarize same elect x v) (round_of x v).slot.held forbidden
     where
@@ -149,12 +149,12 @@ module _ {K L D : Type 0} (same : D → D → Bool) (elect : Elect L) (m left : 
       where
         has : may_nullify is.state v ≡ true → HasNullified left v
         has may =
-            at_life (λ (x : Facts K L D). is_nullify (round_of x v).decision ≡ true) left.life (after_construct_nullify is.state v)
+            at_life (λ (x : StateFacts K L D). is_nullify (round_of x v).decision ≡ true) left.life (after_construct_nullify is.state v)
             (ap (λ (l : MemberFacts K L D). l.life) is.left_so) (round_nullified is.state v may)
 
     pub nullify_barred : HasFinalized m v → {A : Type 0} (f : A → Bool × ArtifactFacts D) (vote : Option A) → told ≡ option_map f vote → IsNone vote
     nullify_barred was f vote so =
-        let finalized = from_life (λ (x : Facts K L D). is_finalize (round_of x v).decision ≡ true) m.life is.state is.alive was in
+        let finalized = from_life (λ (x : StateFacts K L D). is_finalize (round_of x v).decision ≡ true) m.life is.state is.alive was in
         none_told f vote (sym so ∙ nullify_is ∙ none_to_nullify is.state v
         (false_from_ne_true _ (λ may. not_both _ finalized (nullify_parts is.state v may).no_finalize)))
 
@@ -169,7 +169,7 @@ module _ {K L D : Type 0} (same : D → D → Bool) (elect : Elect L) (m left : 
       where
         has : may_finalize elect is.state v ≡ true → HasFinalized left v
         has may =
-            at_life (λ (x : Facts K L D). is_finalize (round_of x v).decision ≡ true) left.life (after_construct_finalize elect is.state v)
+            at_life (λ (x : StateFacts K L D). is_finalize (round_of x v).decision ≡ true) left.life (after_construct_finalize elect is.state v)
             (ap (λ (l : MemberFacts K L D). l.life) is.left_so) (round_finalized elect is.state v may)
 
     -- where another decision stands
@@ -180,11 +180,11 @@ module _ {K L D : Type 0} (same : D → D → Bool) (elect : Elect L) (m left : 
 
     pub finalize_once : HasFinalized m v → {A : Type 0} (f : A → ArtifactFacts D) (vote : Option A) → told ≡ option_map f vote → IsNone vote
     finalize_once was =
-        not_pending (finalized_is_decided (round_of is.state v) (from_life (λ (x : Facts K L D). is_finalize (round_of x v).decision ≡ true) m.life is.state is.alive was))
+        not_pending (finalized_is_decided (round_of is.state v) (from_life (λ (x : StateFacts K L D). is_finalize (round_of x v).decision ≡ true) m.life is.state is.alive was))
 
     pub finalize_barred : HasNullified m v → {A : Type 0} (f : A → ArtifactFacts D) (vote : Option A) → told ≡ option_map f vote → IsNone vote
     finalize_barred was =
-        not_pending (nullified_is_decided (round_of is.state v) (from_life (λ (x : Facts K L D). is_nullify (round_of x v).decision ≡ true) m.life is.state is.alive was))
+        not_pending (nullified_is_decided (round_of is.state v) (from_life (λ (x : StateFacts K L D). is_nullify (round_of x v).decision ≡ true) m.life is.state is.alive was))
 
   -- a vote to notarize
   module _ (told : Option (ArtifactFacts D)) (is : IsAnswered same elect m (ConstructNotarize v) (Notarize told) left) where
@@ -197,11 +197,11 @@ module _ {K L D : Type 0} (same : D → D → Bool) (elect : Elect L) (m left : 
       where
         has : may_notarize same elect is.state v ≡ true → HasNotarized left v
         has may =
-            at_life (λ (x : Facts K L D). (round_of x v).notarize_decided ≡ true) left.life (after_construct_notarize same elect is.state v)
+            at_life (λ (x : StateFacts K L D). (round_of x v).notarize_decided ≡ true) left.life (after_construct_notarize same elect is.state v)
             (ap (λ (l : MemberFacts K L D). l.life) is.left_so) (round_notarized same elect is.state v may)
 
     pub notarize_once : HasNotarized m v → {A : Type 0} (f : A → ArtifactFacts D) (vote : Option A) → told ≡ option_map f vote → IsNone vote
     notarize_once was f vote so =
-        let decided = from_life (λ (x : Facts K L D). (round_of x v).notarize_decided ≡ true) m.life is.state is.alive was in
+        let decided = from_life (λ (x : StateFacts K L D). (round_of x v).notarize_decided ≡ true) m.life is.state is.alive was in
         none_told f vote (sym so ∙ notarize_is ∙ none_to_notarize same elect is.state v
         (false_from_ne_true _ (λ may. not_both _ (notarize_round same elect is.state v may) (decided_once (round_of is.state v) decided))))

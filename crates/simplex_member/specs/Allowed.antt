@@ -1,7 +1,7 @@
 -- What a call asks of its caller, why it is refused, and where memory may be wanted.
 use Rattle.std.specs.Prelude.{Bool, true, false, ◌&&◌, Option, is_some}
 use Rattle.simplex_types.specs.declared.types.fault.Fault.{Fault}
-use Rattle.simplex_voter.specs.Facts.{Facts}
+use Rattle.simplex_voter.specs.Facts.{StateFacts}
 use Rattle.simplex_voter.specs.Refusals.{plain_refusal, proposal_refusal}
 use Rattle.simplex_voter.specs.Acceptance.{takes_proposal_certificate, takes_nullification, notarization_refusal, nullification_refusal, finalization_refusal}
 use Rattle.simplex_voter.specs.Certification.{takes_verdict, takes_certify_handle, certified_refusal}
@@ -14,7 +14,7 @@ use Rattle.simplex_member.specs.Openings.{Openings, context_at, is_verifying, is
 module _ {K L D : Type 0} where
   -- what a call asks of the state alone: a certificate or a proposal of this epoch and of a view that is kept, a token where
   -- no verdict stands, a verdict that may be given, or a timeout
-  abbrev pub is_state_ready : Facts K L D → CallFacts D → Bool
+  abbrev pub is_state_ready : StateFacts K L D → CallFacts D → Bool
   is_state_ready x (AddNotarization c) = takes_proposal_certificate x c
   is_state_ready x (AddNullification c _) = takes_nullification x c
   is_state_ready x (AddFinalization c _) = takes_proposal_certificate x c
@@ -26,7 +26,7 @@ module _ {K L D : Type 0} where
 
   -- what a call asks of its caller: an open request to build, a proposal that is being verified, an offer that has no verdict;
   -- and of the state
-  abbrev pub is_allowed : Facts K L D → Openings K D → CallFacts D → Bool
+  abbrev pub is_allowed : StateFacts K L D → Openings K D → CallFacts D → Bool
   is_allowed x o (Proposed v _ _) = is_some (context_at o v)
   is_allowed x o (SupersedeProposalRequest v) = is_some (context_at o v)
   is_allowed x o (PendingHandoffAbandonment v) = is_some (context_at o v)
@@ -36,7 +36,7 @@ module _ {K L D : Type 0} where
   is_allowed x o call = is_state_ready x call
 
   -- why it is refused, but for want of memory
-  abbrev pub fault_of : Facts K L D → CallFacts D → Option Fault
+  abbrev pub fault_of : StateFacts K L D → CallFacts D → Option Fault
   fault_of x (AddNotarization c) = notarization_refusal x c
   fault_of x (AddNullification c now) = nullification_refusal x c now
   fault_of x (AddFinalization c now) = finalization_refusal x c.proposal now
@@ -48,7 +48,7 @@ module _ {K L D : Type 0} where
   -- a growth or a copy may be refused, of the state's rounds and lists, of the record, or of what is open: there is none
   -- where a request to build is answered or given up, a verification is answered or a view times out, nor where a broadcast
   -- has nothing to hand out
-  abbrev pub may_want : Facts K L D → CallFacts D → Bool
+  abbrev pub may_want : StateFacts K L D → CallFacts D → Bool
   may_want x (Proposed _ _ _) = false
   may_want x (SupersedeProposalRequest _) = false
   may_want x (PendingHandoffAbandonment _) = false

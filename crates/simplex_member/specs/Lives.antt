@@ -3,7 +3,7 @@ use Rattle.std.specs.Prelude.{ℕ, Bool, true, ◌&&◌, ◌≡◌, ◌⊎◌, i
 use Rattle.simplex_types.specs.Certificates.{ArtifactFacts}
 use Rattle.simplex_types.specs.declared.types.fault.Fault.{Fault}
 use Rattle.simplex_types.specs.declared.types.fault.Fault.TheVariants as fault
-use Rattle.simplex_voter.specs.Facts.{Facts, Elect}
+use Rattle.simplex_voter.specs.Facts.{StateFacts, Elect}
 use Rattle.simplex_member.specs.Allowed.{is_allowed, fault_of, may_fall, may_want}
 use Rattle.simplex_member.specs.Calls.{CallFacts, Told, Refused, NotAllowed}
 use Rattle.simplex_member.specs.Made.{answer, after_call, openings_after, recorded_by}
@@ -11,7 +11,7 @@ use Rattle.simplex_member.specs.Openings.{Openings, no_openings}
 
 pub record MemberFacts (K L D : Type 0) : Type 0 where
   -- what its state knows; none while the member has failed
-  pub life : Option (Facts K L D)
+  pub life : Option (StateFacts K L D)
   -- what it has open of its state's answers
   pub openings : Openings K D
   -- its record, oldest entry first
@@ -25,7 +25,7 @@ pub record MemberFacts (K L D : Type 0) : Type 0 where
   pub least_retention : ℕ
 
 -- of a failed member's state nothing is known, and nothing of it is open
-abbrev pub living : {K L D : Type 0} → Bool → Facts K L D → Option (Facts K L D)
+abbrev pub living : {K L D : Type 0} → Bool → StateFacts K L D → Option (StateFacts K L D)
 living failed x = if failed then None else Some x
 
 abbrev pub open_while : {K D : Type 0} → Bool → Openings K D → Openings K D
@@ -53,11 +53,11 @@ module _ {K L D : Type 0} where
 
 module _ {K L D : Type 0} (same : D → D → Bool) (elect : Elect L) where
   -- what a living member tells
-  abbrev pub reply_of : Facts K L D → Openings K D → CallFacts D → Told K D
+  abbrev pub reply_of : StateFacts K L D → Openings K D → CallFacts D → Told K D
   reply_of x o call = if is_allowed x o call then unless_refused (fault_of x call) (answer same elect x o call) else NotAllowed
 
   -- with what a call makes of the state and of what is open, and with what the record grows by
-  abbrev pub with_call : Facts K L D → MemberFacts K L D → CallFacts D → MemberFacts K L D
+  abbrev pub with_call : StateFacts K L D → MemberFacts K L D → CallFacts D → MemberFacts K L D
   with_call x m call = record m {
     life = Some (after_call same elect x m.openings call);
     openings = openings_after same elect x m.openings call;
@@ -65,17 +65,17 @@ module _ {K L D : Type 0} (same : D → D → Bool) (elect : Elect L) where
   }
 
   -- what is left of a living member
-  abbrev pub left_of : Facts K L D → MemberFacts K L D → CallFacts D → MemberFacts K L D
+  abbrev pub left_of : StateFacts K L D → MemberFacts K L D → CallFacts D → MemberFacts K L D
   left_of x m call = if is_allowed x m.openings call then unless_kept (fault_of x call) m (with_call x m call) else m
 
   -- a living member answers by the definitions; or a growth was refused, and nothing has changed or the member has failed
-  abbrev pub Answers : Facts K L D → MemberFacts K L D → CallFacts D → Told K D → MemberFacts K L D → Type 0
+  abbrev pub Answers : StateFacts K L D → MemberFacts K L D → CallFacts D → Told K D → MemberFacts K L D → Type 0
   Answers x m call told left =
       ((told ≡ reply_of x m.openings call) × (left ≡ left_of x m call))
       ⊎ ((may_want x call && is_allowed x m.openings call ≡ true) × (told ≡ Refused fault.OutOfMemory)
       × ((left ≡ m) ⊎ ((fault_of x call ≡ None) × (may_fall call ≡ true) × (left ≡ without_life m))))
 
-  abbrev pub AnswersAlive : Option (Facts K L D) → MemberFacts K L D → CallFacts D → Told K D → MemberFacts K L D → Type 0
+  abbrev pub AnswersAlive : Option (StateFacts K L D) → MemberFacts K L D → CallFacts D → Told K D → MemberFacts K L D → Type 0
   AnswersAlive None m call told left = (told ≡ Refused fault.Failed) × (left ≡ m)
   AnswersAlive (Some x) m call told left = Answers x m call told left
 

@@ -2,7 +2,7 @@
 use Rattle.std.specs.Prelude.{ℕ, Bool, false, if◌then◌else◌, List, [], ◌∷◌, Option, Some, is_some, None, option_map, option_and_then}
 use Rattle.std.specs.Option.{option_map_or}
 use Rattle.simplex_types.specs.Certificates.{Notarized, Nullified, Finalized, ArtifactFacts, NotarizeVote, NullifyVote, FinalizeVote, Verdict, Accepted}
-use Rattle.simplex_voter.specs.Facts.{Facts, Elect, round_number}
+use Rattle.simplex_voter.specs.Facts.{StateFacts, Elect, round_number}
 use Rattle.simplex_voter.specs.Acceptance.{notarization_added, nullification_added, finalization_added, after_add_notarization, after_add_nullification, after_add_finalization}
 use Rattle.simplex_voter.specs.Certification.{candidates_answer, after_candidates, after_set_certify_handle, is_first_verdict, certified_answer, after_certified}
 use Rattle.simplex_voter.specs.Proposing.{propose_answer, after_try_propose, proposed_answer, after_proposed, supersede_answer, after_supersede, abandonment_answer, after_release}
@@ -15,7 +15,7 @@ use Rattle.simplex_member.specs.Openings.{Openings, context_at, without_context,
 
 module _ {K L D : Type 0} where
   -- the vote to nullify a view that is answered, with whether it is a repeat
-  abbrev pub nullify_vote : Facts K L D → ℕ → Option (Bool × ArtifactFacts D)
+  abbrev pub nullify_vote : StateFacts K L D → ℕ → Option (Bool × ArtifactFacts D)
   nullify_vote x v =
       option_and_then
       (λ m. option_map
@@ -25,7 +25,7 @@ module _ {K L D : Type 0} where
 
 module _ {K L D : Type 0} (elect : Elect L) where
   -- the vote to finalize a view that is answered
-  abbrev pub finalize_vote : Facts K L D → ℕ → Option (ArtifactFacts D)
+  abbrev pub finalize_vote : StateFacts K L D → ℕ → Option (ArtifactFacts D)
   finalize_vote x v =
       option_and_then
       (λ m. option_map (λ p. FinalizeVote p m) (finalize_answer elect x v))
@@ -33,7 +33,7 @@ module _ {K L D : Type 0} (elect : Elect L) where
 
 module _ {K L D : Type 0} (same : D → D → Bool) (elect : Elect L) where
   -- the vote to notarize a view that is answered
-  abbrev pub notarize_vote : Facts K L D → ℕ → Option (ArtifactFacts D)
+  abbrev pub notarize_vote : StateFacts K L D → ℕ → Option (ArtifactFacts D)
   notarize_vote x v =
       option_and_then
       (λ m. option_map (λ p. NotarizeVote p m) (notarize_answer same elect x v))
@@ -54,7 +54,7 @@ vote_entry (Some vote) = vote ∷ []
 
 module _ {K L D : Type 0} (same : D → D → Bool) (elect : Elect L) where
   -- what a call is told
-  abbrev pub answer : Facts K L D → Openings K D → CallFacts D → Told K D
+  abbrev pub answer : StateFacts K L D → Openings K D → CallFacts D → Told K D
   answer x o (AddNotarization c) = Added (notarization_added same elect x c).0 (notarization_added same elect x c).1
   answer x o (AddNullification c _) = AddedNullification (nullification_added x c)
   answer x o (AddFinalization c _) = Added (finalization_added same elect x c).0 (finalization_added same elect x c).1
@@ -83,7 +83,7 @@ module _ {K L D : Type 0} (same : D → D → Bool) (elect : Elect L) where
 
 module _ {K L D : Type 0} (same : D → D → Bool) (elect : Elect L) where
   -- what it makes of the state
-  abbrev pub after_call : Facts K L D → Openings K D → CallFacts D → Facts K L D
+  abbrev pub after_call : StateFacts K L D → Openings K D → CallFacts D → StateFacts K L D
   after_call x o (AddNotarization c) = after_add_notarization same elect x c
   after_call x o (AddNullification c now) = after_add_nullification elect x c now
   after_call x o (AddFinalization c now) = after_add_finalization same elect x c now
@@ -112,7 +112,7 @@ module _ {K L D : Type 0} (same : D → D → Bool) (elect : Elect L) where
 
   -- what is open then: a request opens a view's context, which is closed once a payload was built in it, or the request was
   -- superseded or released; a proposal to verify is open until its answer, and an offer until its verdict
-  abbrev pub openings_after : Facts K L D → Openings K D → CallFacts D → Openings K D
+  abbrev pub openings_after : StateFacts K L D → Openings K D → CallFacts D → Openings K D
   openings_after x o TryPropose = with_open_request o (propose_answer same elect x)
   openings_after x o (Proposed v _ _) = without_context o v
   openings_after x o (SupersedeProposalRequest v) =
@@ -126,7 +126,7 @@ module _ {K L D : Type 0} (same : D → D → Bool) (elect : Elect L) where
   openings_after x o _ = o
 
   -- what the record grows by: certificates that are newly added, a view's first verdict, votes that are no repeat
-  abbrev pub recorded_by : Facts K L D → CallFacts D → List (ArtifactFacts D)
+  abbrev pub recorded_by : StateFacts K L D → CallFacts D → List (ArtifactFacts D)
   recorded_by x (AddNotarization c) = if_new (notarization_added same elect x c).0 (Accepted (Notarized c))
   recorded_by x (AddNullification c _) = if_new (nullification_added x c) (Accepted (Nullified c))
   recorded_by x (AddFinalization c _) = if_new (finalization_added same elect x c).0 (Accepted (Finalized c))

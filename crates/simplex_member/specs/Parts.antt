@@ -2,7 +2,7 @@
 use Rattle.std.specs.Prelude.{◌≡◌, ◌⊎◌, Bool, true, false, ◌&&◌, if◌then◌else◌, Option, Some, None}
 use Rattle.simplex_types.specs.declared.types.fault.Fault.{Fault}
 use Rattle.simplex_types.specs.declared.types.fault.Fault.TheVariants.{OutOfMemory}
-use Rattle.simplex_voter.specs.Facts.{Facts}
+use Rattle.simplex_voter.specs.Facts.{StateFacts}
 use Rattle.simplex_member.specs.Allowed.{fault_of, may_fall, may_want}
 use Rattle.simplex_member.specs.Calls.{CallFacts, TryPropose, TryVerify, Told, Answered, Requested, Standing, Candidates}
 use Rattle.simplex_member.specs.Openings.{Openings, without_context, with_open_request, without_verification, with_verification, without_offer, with_offers}
@@ -33,14 +33,14 @@ IsLoss false due = ⊥
 module _ {K L D : Type 0} where
   -- refused for the fault that was due or, where it may want memory, for that, with all as it was; or the state is lost,
   -- where it may be and no fault was due
-  abbrev pub Ends : (wants loses : Bool) → Option Fault → Facts K L D → Facts K L D → CallError → Type 0
+  abbrev pub Ends : (wants loses : Bool) → Option Fault → StateFacts K L D → StateFacts K L D → CallError → Type 0
   Ends wants loses due x y (Refused fault) = ((due ≡ Some fault) ⊎ IsWant wants fault) × (y ≡ x)
   Ends wants loses due x y Lost = IsLoss loses due
 
-  abbrev pub EndsBy : Option Fault → Facts K L D → Facts K L D → CallError → Type 0
+  abbrev pub EndsBy : Option Fault → StateFacts K L D → StateFacts K L D → CallError → Type 0
   EndsBy due x y error = Ends true true due x y error
 
-  abbrev pub EndsCall : CallFacts D → Facts K L D → Facts K L D → CallError → Type 0
+  abbrev pub EndsCall : CallFacts D → StateFacts K L D → StateFacts K L D → CallError → Type 0
   EndsCall call x y error = Ends (may_want x call) (may_fall call && may_want x call) (fault_of x call) x y error
 
 module _ {S D K G C : Type 0} where

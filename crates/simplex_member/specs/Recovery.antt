@@ -7,7 +7,7 @@ use Rattle.simplex_types.specs.Viewed.{artifact_view}
 use Rattle.simplex_types.specs.Config.{FloorFacts}
 use Rattle.simplex_types.specs.declared.types.messages.Artifact.{Artifact}
 use Rattle.simplex_types.specs.declared.types.messages.Artifact.TheVariants as artifact
-use Rattle.simplex_voter.specs.Facts.{Facts, Elect}
+use Rattle.simplex_voter.specs.Facts.{StateFacts, Elect}
 use Rattle.simplex_voter.specs.Windows.{min_active}
 use Rattle.simplex_voter.specs.Refusals.{has_late_deadline, takes_round}
 use Rattle.simplex_voter.specs.Acceptance.{after_add_notarization, after_add_nullification, after_add_finalization, floor_answer, after_set_floor}
@@ -30,43 +30,43 @@ as_artifact (Accepted (Finalized c)) = artifact.Finalization (record { proposal 
 
 module _ {K L D : Type 0} (same : D → D → Bool) (elect : Elect L) where
   -- a certificate is added before it is replayed
-  abbrev pub after_adding : Facts K L D → ℕ → ArtifactFacts D → Facts K L D
+  abbrev pub after_adding : StateFacts K L D → ℕ → ArtifactFacts D → StateFacts K L D
   after_adding x now (Accepted (Notarized c)) = after_add_notarization same elect x c
   after_adding x now (Accepted (Nullified c)) = after_add_nullification elect x c now
   after_adding x now (Accepted (Finalized c)) = after_add_finalization same elect x c now
   after_adding x now _ = x
 
   -- an entry is replayed
-  abbrev pub after_replaying : Facts K L D → ArtifactFacts D → Facts K L D
+  abbrev pub after_replaying : StateFacts K L D → ArtifactFacts D → StateFacts K L D
   after_replaying x e = after_replayed same elect x (as_artifact e)
 
 module _ {K L D : Type 0} (elect : Elect L) where
   -- a verdict is given after it was replayed
-  abbrev pub after_verdict_of : Facts K L D → ℕ → ArtifactFacts D → Facts K L D
+  abbrev pub after_verdict_of : StateFacts K L D → ℕ → ArtifactFacts D → StateFacts K L D
   after_verdict_of x now (Verdict round success) = after_certified elect x round.view success now
   after_verdict_of x now _ = x
 
 module _ {K L D : Type 0} (same : D → D → Bool) (elect : Elect L) where
   -- an entry is taken again
-  abbrev pub after_entry : Facts K L D → ℕ → ArtifactFacts D → Facts K L D
+  abbrev pub after_entry : StateFacts K L D → ℕ → ArtifactFacts D → StateFacts K L D
   after_entry x now e = after_verdict_of elect (after_replaying same elect (after_adding same elect x now e) e) now e
 
   -- but one below the views that are kept is passed over
-  unfoldable pub after_kept_entry : Facts K L D → ℕ → ArtifactFacts D → Facts K L D
+  unfoldable pub after_kept_entry : StateFacts K L D → ℕ → ArtifactFacts D → StateFacts K L D
   after_kept_entry x now e = if nat_lt (entry_view e) (min_active x) then x else after_entry x now e
 
   -- the entries are taken in order
-  abbrev pub after_entries : Facts K L D → ℕ → List (ArtifactFacts D) → Facts K L D
+  abbrev pub after_entries : StateFacts K L D → ℕ → List (ArtifactFacts D) → StateFacts K L D
   after_entries x now [] = x
   after_entries x now (e ∷ rest) = after_entries (after_kept_entry x now e) now rest
 
   -- a state that knows nothing yet sets the floor, and takes the record
-  unfoldable pub recovered_state : Facts K L D → FloorFacts D → ℕ → List (ArtifactFacts D) → Facts K L D
+  unfoldable pub recovered_state : StateFacts K L D → FloorFacts D → ℕ → List (ArtifactFacts D) → StateFacts K L D
   recovered_state x floor now entries = after_entries (after_set_floor same elect x floor now) now entries
 
 module _ {K L D : Type 0} (same : D → D → Bool) where
   -- why no state is made, but for want of memory: the first broken rule, or else a deadline that passes 64 bits
-  abbrev pub recover_error : Facts K L D → FloorFacts D → ℕ → List (ArtifactFacts D) → Option RecoverError
+  abbrev pub recover_error : StateFacts K L D → FloorFacts D → ℕ → List (ArtifactFacts D) → Option RecoverError
   recover_error x floor now entries =
       option_or
       (first_recover_error same x.settings.epoch x.me floor entries)
@@ -89,23 +89,23 @@ module _ {D : Type 0} where
 
 module _ {K L D : Type 0} where
   -- if it is a verdict, it may be given
-  abbrev pub GivesVerdict : Facts K L D → ArtifactFacts D → Type 0
+  abbrev pub GivesVerdict : StateFacts K L D → ArtifactFacts D → Type 0
   GivesVerdict x (Verdict round success) = takes_verdict x round.view success ≡ true
   GivesVerdict x _ = Unit {0}
 
 module _ {S K L D G C : Type 0} (bytes_of : C → List ℕ) (same : D → D → Bool) (elect : Elect L) where
   -- each step of taking an artifact again is one that the state allows
-  pub record TakesEntry (x : Facts K L D) (now : ℕ) (a : Artifact S D K G C) : Type 0 where
+  pub record TakesEntry (x : StateFacts K L D) (now : ℕ) (a : Artifact S D K G C) : Type 0 where
     pub kept : takes_round x (artifact_round a) ≡ true
     pub replays : TakesReplay (after_adding same elect x now (artifact_facts bytes_of a)) a
     pub gives : GivesVerdict (after_replaying same elect (after_adding same elect x now (artifact_facts bytes_of a)) (artifact_facts bytes_of a)) (artifact_facts bytes_of a)
 
   -- its views are small, and a state that keeps its view allows it
-  pub record TakesNext (x : Facts K L D) (now : ℕ) (a : Artifact S D K G C) : Type 0 where
+  pub record TakesNext (x : StateFacts K L D) (now : ℕ) (a : Artifact S D K G C) : Type 0 where
     pub small : artifact_too_large a ≡ false
     pub taken : nat_lt (artifact_view a) (min_active x) ≡ false → TakesEntry x now a
 
   -- so does each entry in its turn
-  abbrev pub TakesEntries : Facts K L D → ℕ → List (Artifact S D K G C) → Type 0
+  abbrev pub TakesEntries : StateFacts K L D → ℕ → List (Artifact S D K G C) → Type 0
   TakesEntries x now [] = Unit {0}
   TakesEntries x now (a ∷ rest) = TakesNext x now a × TakesEntries (after_kept_entry same elect x now (artifact_facts bytes_of a)) now rest

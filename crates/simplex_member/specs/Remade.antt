@@ -1,7 +1,7 @@
 -- How the state of a restart is made from a record. No public clause names these.
 use Rattle.std.specs.Prelude.{◌≡◌, Bool, List, Some, None}
 use Rattle.simplex_types.specs.Certificates.{ArtifactFacts}
-use Rattle.simplex_voter.specs.Facts.{Facts, Elect}
+use Rattle.simplex_voter.specs.Facts.{StateFacts, Elect}
 use Rattle.simplex_member.specs.declared.member.error.RecoverError.{RecoverError}
 use Rattle.simplex_member.specs.Recovery.{recovered_state, recover_error}
 use Rattle.simplex_member.specs.Restarts.{IsByView}
@@ -17,7 +17,7 @@ module _ {K L D : Type 0} (same : D → D → Bool) where
 
 module _ {K L D : Type 0} (same : D → D → Bool) (elect : Elect L) where
   -- a state is made from a copy of the entries by view
-  abbrev pub IsRemadeBy : StartFacts K L D → List (ArtifactFacts D) → Facts K L D → Type 0
+  abbrev pub IsRemadeBy : StartFacts K L D → List (ArtifactFacts D) → StateFacts K L D → Type 0
   IsRemadeBy start entries x =
       (copy : List (ArtifactFacts D))
       × IsByView entries copy

@@ -8,13 +8,13 @@ use Rattle.simplex_types.specs.declared.types.messages.Notarize as notarize
 use Rattle.simplex_types.specs.declared.types.messages.Nullify as nullify
 use Rattle.simplex_types.specs.declared.types.messages.Subject.{Subject}
 use Rattle.simplex_types.specs.declared.types.messages.Subject.TheVariants as subject
-use Rattle.simplex_voter.specs.Facts.{Facts}
+use Rattle.simplex_voter.specs.Facts.{StateFacts}
 use Rattle.simplex_member.specs.declared.member.calls.Reply.{Reply}
 use Rattle.simplex_member.specs.declared.member.calls.Reply.TheVariants as reply
 
 module _ {S L D K G C : Type 0} (is_signature : K → Subject D → G → Type 0) where
   -- a vote that is answered is signed on just what it is on, under the key of the state's member
-  abbrev pub IsSignedReply : Reply S D K G C → Facts K L D → Type 0
+  abbrev pub IsSignedReply : Reply S D K G C → StateFacts K L D → Type 0
   IsSignedReply (reply.Notarize (Some vote)) x = IsSignedAs is_signature x.me x.members (subject.Notarize vote.proposal) vote.signature
   IsSignedReply (reply.Nullify (Some (_, vote))) x = IsSignedAs is_signature x.me x.members (subject.Nullify vote.round) vote.signature
   IsSignedReply (reply.Finalize (Some vote)) x = IsSignedAs is_signature x.me x.members (subject.Finalize vote.proposal) vote.signature

@@ -5,7 +5,7 @@ use Rattle.simplex_types.specs.declared.types.fault.Fault.{Fault}
 use Rattle.simplex_types.specs.declared.types.fault.Fault.TheVariants as fault
 use Rattle.simplex_types.specs.declared.types.window.Terms.{Terms}
 use Rattle.simplex_voter.specs.declared.voter.state.Config.{Config}
-use Rattle.simplex_voter.specs.Facts.{Facts, Settings, Elect, new_facts}
+use Rattle.simplex_voter.specs.Facts.{StateFacts, Settings, Elect, new_facts}
 use Rattle.simplex_voter.specs.StateView.{settings_of}
 use Rattle.simplex_voter.specs.Acceptance.{after_set_floor}
 use Rattle.simplex_member.specs.declared.member.error.RecoverError.{RecoverError}
@@ -35,11 +35,11 @@ setup_of me members terms elects_early c = record {
 }
 
 -- what a new state knows: nothing but how it was set up
-abbrev pub new_state : {K L D : Type 0} → Setup K L → Facts K L D
+abbrev pub new_state : {K L D : Type 0} → Setup K L → StateFacts K L D
 new_state s = new_facts s.settings s.me s.members s.elector s.terms s.elects_early
 
 -- what a new state of these settings knows
-abbrev pub set_up : {S L D K G C : Type 0} → (S → Option ℕ) → (S → List K) → (L → Terms) → (L → Bool) → Config S L K G C → Facts K L D
+abbrev pub set_up : {S L D K G C : Type 0} → (S → Option ℕ) → (S → List K) → (L → Terms) → (L → Bool) → Config S L K G C → StateFacts K L D
 set_up me members terms elects_early c = new_state (setup_of me members terms elects_early c)
 
 -- how a member starts: how its state is set up, the floor, and the moment in milliseconds
@@ -56,7 +56,7 @@ start_facts me members terms elects_early bytes_of start = record {
 }
 
 -- a member whose state sets the floor, and whose record is the floor's finalization
-abbrev pub started_member : {K L D : Type 0} → (D → D → Bool) → Elect L → Facts K L D → FloorFacts D → ℕ → MemberFacts K L D
+abbrev pub started_member : {K L D : Type 0} → (D → D → Bool) → Elect L → StateFacts K L D → FloorFacts D → ℕ → MemberFacts K L D
 started_member same elect x floor now = record {
   life = Some (after_set_floor same elect x floor now);
   openings = no_openings;

@@ -2,7 +2,7 @@
 use Rattle.std.specs.Prelude.{◌≡◌, ◌⊎◌, ℕ, Bool, true, false, Option, Some, None, IfSome, Result, Ok, Err}
 use Rattle.simplex_types.specs.declared.types.fault.Fault.TheVariants as fault
 use Rattle.simplex_round.specs.Round.{is_nullify, is_finalize}
-use Rattle.simplex_voter.specs.Facts.{Facts, Elect, round_of}
+use Rattle.simplex_voter.specs.Facts.{StateFacts, Elect, round_of}
 use Rattle.simplex_member.specs.Allowed.{is_allowed, fault_of}
 use Rattle.simplex_member.specs.Calls.{CallFacts, AddNotarization, AddNullification, AddFinalization, SetProposal, TryPropose, Proposed, SupersedeProposalRequest, PendingHandoffAbandonment, ReleaseProposalRequest, TryVerify, Verified, VerificationFailed, ConstructNotarize, CertifyCandidates, SetCertifyHandle, Certified, ConstructNullify, ConstructFinalize, BroadcastNotarization, BroadcastNullification, BroadcastFinalization, GetBestCertificate, TriggerTimeout, NextTimeout, Prune, Told, Added, AddedNullification, Judged, Nullify, Finalize, Notarize, Handed, Dropped, Requested, Standing, Answered, Abandoned, Candidates, Released, Triggered, TimesOut, Done, Refused, NotAllowed}
 use Rattle.simplex_member.specs.Lives.{MemberFacts, without_life, with_call}
@@ -69,7 +69,7 @@ module _ {K L D : Type 0} (same : D → D → Bool) (elect : Elect L) where
   -- a call that is answered: the member lives, what the call asks is so, and no fault is due; it is told by its definition, and
   -- leaves what its definition makes of the state, of what is open and of the record
   pub record IsAnswered (m : MemberFacts K L D) (call : CallFacts D) (told : Told K D) (left : MemberFacts K L D) : Type 0 where
-    pub state : Facts K L D
+    pub state : StateFacts K L D
     pub alive : m.life ≡ Some state
     pub allowed : is_allowed state m.openings call ≡ true
     pub not_due : fault_of state call ≡ None
@@ -89,5 +89,5 @@ module _ {K L D : Type 0} where
   HasFinalized m v = IfSome m.life (λ x. is_finalize (round_of x v).decision ≡ true)
 
   -- while the member lives, nothing of the view is left for such a call to hand out
-  abbrev pub HasNoneLeft : {A : Type 0} → (Facts K L D → ℕ → Option A) → MemberFacts K L D → ℕ → Type 0
+  abbrev pub HasNoneLeft : {A : Type 0} → (StateFacts K L D → ℕ → Option A) → MemberFacts K L D → ℕ → Type 0
   HasNoneLeft answer m v = IfSome m.life (λ x. answer x v ≡ None)

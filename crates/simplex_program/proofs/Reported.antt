@@ -7,7 +7,7 @@ use Rattle.simplex_types.specs.declared.types.plain.PlainDigest.{PlainDigest}
 use Rattle.simplex_types.specs.Certificates.{Nullified}
 use Rattle.simplex_types.specs.Plain.{digest_bytes}
 use Rattle.simplex_resolver.specs.declared.resolver.effect.Effect.{Effect}
-use Rattle.simplex_resolver.specs.Facts.{Facts}
+use Rattle.simplex_resolver.specs.Facts.{ResolverFacts}
 use Rattle.simplex_resolver.specs.Steps.{Call, after, effects, highest_named, update, verdict}
 use Rattle.simplex_resolver.specs.Repair.{IsApplied}
 use Rattle.simplex_program.specs.declared.resolver.Answer.{Answer}
@@ -15,7 +15,7 @@ use Rattle.simplex_program.specs.declared.resolver.Answer.TheVariants.{Effects}
 use Rattle.simplex_program.specs.Answers.{Reports, IsProposedAt, round_at, nullification_call, verdict_call}
 
 -- `made` is the call that was made, `call` the one that the line stands for
-pub reported : {E : Type 0} (r : Result Answer E) (x y : Facts) (fetching left : List ℕ) (v : ℕ) (made call : Call) (es : Vec Effect Global) → 1 ≤ v → made ≡ call → x.is_failed ≡ false → es.items ≡ effects x made → y ≡ after x made → IfOk r (λ a. a ≡ Effects es) → OnOk r (IsApplied fetching es.items left) → IfOk r (λ a. Reports x fetching v call a y left)
+pub reported : {E : Type 0} (r : Result Answer E) (x y : ResolverFacts) (fetching left : List ℕ) (v : ℕ) (made call : Call) (es : Vec Effect Global) → 1 ≤ v → made ≡ call → x.is_failed ≡ false → es.items ≡ effects x made → y ≡ after x made → IfOk r (λ a. a ≡ Effects es) → OnOk r (IsApplied fetching es.items left) → IfOk r (λ a. Reports x fetching v call a y left)
 reported (Err e) x y fetching left v made call es above same live told is answer applied = tt
 reported (Ok a) x y fetching left v made call es above same live told is answer applied =
     rw (answer, ← same) ((λ zero. absurd (lt_irrefl _ (rw zero at above))), (λ _. (live, told, is, applied)))

@@ -9,7 +9,7 @@ use Rattle.simplex_types.specs.declared.reasons.Kind.TheVariants.{Nullification 
 use Rattle.simplex_types.specs.declared.types.plain.PlainDigest.{PlainDigest}
 use Rattle.simplex_types.specs.Plain.{digest_bytes}
 use Rattle.simplex_types.specs.Certificates.{ProposalFacts, NullificationFacts, Notarized, Nullified, Finalized}
-use Rattle.simplex_resolver.specs.Facts.{Facts}
+use Rattle.simplex_resolver.specs.Facts.{ResolverFacts}
 use Rattle.simplex_resolver.specs.Steps.{Call, Replayed as EndOfReplay, update, verdict, after, effects, Refused}
 use Rattle.simplex_resolver.specs.Held.{is_settled, served_encoding}
 use Rattle.simplex_resolver.specs.Repair.{IsApplied}
@@ -58,14 +58,14 @@ abbrev pub IsKept : {F : Type 0} → F → List ℕ → F → List ℕ → Type 
 IsKept x fetching y left = (y ≡ x) × (left ≡ fetching)
 
 -- a call is answered with its effects, which are applied to the open fetches, or refused
-abbrev pub Calls : Facts → List ℕ → ℕ → Call → Answer → Facts → List ℕ → Type 0
+abbrev pub Calls : ResolverFacts → List ℕ → ℕ → Call → Answer → ResolverFacts → List ℕ → Type 0
 Calls x fetching v call (answer.Effects told) y left =
     (x.is_failed ≡ false) × (told.items ≡ effects x call) × (y ≡ after x call) × IsApplied fetching told.items left
 Calls x fetching v call (answer.Fault fault) y left = (fault ≢ OutOfMemory) × Refused x v fault y × (left ≡ fetching)
 Calls _ _ _ _ _ _ _ = ⊥
 
 -- a report of view 0 is not allowed, any other is a call
-abbrev pub Reports : Facts → List ℕ → ℕ → Call → Answer → Facts → List ℕ → Type 0
+abbrev pub Reports : ResolverFacts → List ℕ → ℕ → Call → Answer → ResolverFacts → List ℕ → Type 0
 Reports x fetching v call a y left =
     (v ≡ 0 → (a ≡ answer.NotAllowed) × IsKept x fetching y left) × (1 ≤ v → Calls x fetching v call a y left)
 
@@ -75,7 +75,7 @@ Lists fetching (answer.Outstanding views) = views.items ≡ fetching
 Lists _ _ = ⊥
 
 -- the reply to a line, and what it leaves
-abbrev pub Answers : Facts → List ℕ → ResolverLine → Answer → Facts → List ℕ → Type 0
+abbrev pub Answers : ResolverFacts → List ℕ → ResolverLine → Answer → ResolverFacts → List ℕ → Type 0
 Answers x fetching (Notarization v) a y left = Reports x fetching v (notarization_call v) a y left
 Answers x fetching (Nullification v) a y left = Reports x fetching v (nullification_call v) a y left
 Answers x fetching (Finalization v) a y left = Reports x fetching v (finalization_call v) a y left

@@ -2,7 +2,7 @@
 use Rattle.std.specs.Prelude.{◌≡◌, ◌≢◌, ℕ, ◌+◌, ◌-◌, ◌^◌, ◌<◌, ◌⊎◌, List, [], ◌∷◌, ◌++◌, length, Bool, true, false, Option, Result, Ok, Err}
 use Rattle.std.specs.Io.KnownBytes.{Keeps, Appends, IsAtEnd}
 use Rattle.std.specs.Str.{IsUtf8}
-use Rattle.simplex_resolver.specs.Facts.{Facts, empty}
+use Rattle.simplex_resolver.specs.Facts.{ResolverFacts, empty}
 use Rattle.simplex_program.specs.declared.mode.Mode.{Mode}
 use Rattle.simplex_program.specs.declared.mode.Mode.TheVariants as mode
 use Rattle.simplex_program.specs.declared.network.Network.{Network}
@@ -27,7 +27,7 @@ use Rattle.simplex_program.specs.Words.{words_in}
 -- what lines are asked of: a member of a network, or a resolver and the views whose fetch is open
 pub data Asked : Type 0 where
   Member : Network → PlainMember → Asked
-  Resolver : Facts → List ℕ → Asked
+  Resolver : ResolverFacts → List ℕ → Asked
 
 -- the network that the arguments name
 abbrev pub IsNamed : ℕ → Option ℕ → ℕ → ℕ → Network → Type 0

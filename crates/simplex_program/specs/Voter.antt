@@ -8,7 +8,7 @@ use Rattle.simplex_types.specs.declared.types.plain.PlainElector.{PlainElector}
 use Rattle.simplex_types.specs.declared.types.plain.PlainKey.{PlainKey}
 use Rattle.simplex_types.specs.declared.reasons.TimeoutReason.TheVariants.{InvalidProposal}
 use Rattle.simplex_types.specs.Plain.{digest_bytes}
-use Rattle.simplex_voter.specs.Facts.{Facts}
+use Rattle.simplex_voter.specs.Facts.{StateFacts}
 use Rattle.simplex_voter.specs.Windows.{min_active}
 use Rattle.simplex_member.specs.Calls.{AddNotarization, AddNullification, AddFinalization, SetProposal, TryPropose, Proposed, SupersedeProposalRequest, PendingHandoffAbandonment, ReleaseProposalRequest, TryVerify, Verified, VerificationFailed, ConstructNotarize, CertifyCandidates, SetCertifyHandle, Certified, ConstructNullify, ConstructFinalize, BroadcastNotarization, BroadcastNullification, BroadcastFinalization, GetBestCertificate, TriggerTimeout, NextTimeout, Prune as PruneCall, told}
 use Rattle.simplex_member.specs.Lives.{IsCall}
@@ -106,7 +106,7 @@ asks Prune = true
 asks _ = false
 
 -- what a member shows of its state
-abbrev pub shown_views : Option (Facts PlainKey PlainElector PlainDigest) → VoterAnswer
+abbrev pub shown_views : Option (StateFacts PlainKey PlainElector PlainDigest) → VoterAnswer
 shown_views None = answer.Failed
 shown_views (Some x) = answer.Views x.current x.finalized (min_active x)
 

@@ -7,7 +7,7 @@ use Rattle.simplex_types.specs.Certificates.{ProposalFacts, Notarized, Nullified
 use Rattle.simplex_types.specs.declared.types.messages.Artifact.{Artifact}
 use Rattle.simplex_types.specs.declared.types.fault.Fault.{Fault}
 use Rattle.simplex_types.specs.declared.types.fault.Fault.TheVariants.{OutOfMemory, Failed, ViewTooLarge, TimeOverflow}
-use Rattle.simplex_resolver.specs.Facts.{Facts}
+use Rattle.simplex_resolver.specs.Facts.{ResolverFacts}
 use Rattle.simplex_resolver.specs.Steps.{Refused, highest_named}
 use Rattle.simplex_replay.specs.declared.replay.error.ReplayError.{ReplayError}
 use Rattle.simplex_replay.specs.declared.replay.error.ReplayError.TheVariants as error
@@ -110,13 +110,13 @@ module _ {D : Type 0} where
 -- ---- refusals
 
 -- on a resolver that goes on, a call that names no view that is too large is refused only for want of memory
-pub only_memory : (old new : Facts) (v : ℕ) (fault : Fault) → old.is_failed ≡ false → v < 2 ^ 63 → Refused old v fault new → fault ≡ OutOfMemory
+pub only_memory : (old new : ResolverFacts) (v : ℕ) (fault : Fault) → old.is_failed ≡ false → v < 2 ^ 63 → Refused old v fault new → fault ≡ OutOfMemory
 only_memory old new v OutOfMemory live small refused = refl
 only_memory old new v Failed live small refused = let failed = refused.0 in absurd (cc)
 only_memory old new v ViewTooLarge live small refused = let large = refused.1 in absurd (omega (arith, small, large))
 only_memory old new v TimeOverflow live small refused = absurd refused
 
 -- a call that names no view at all
-pub refused_alike : {T : Type 0} (r : Result T Fault) (old new : Facts) → old.is_failed ≡ false → IfErr r (λ fault. Refused old 0 fault new) → IfErr r (λ fault. fault ≡ OutOfMemory)
+pub refused_alike : {T : Type 0} (r : Result T Fault) (old new : ResolverFacts) → old.is_failed ≡ false → IfErr r (λ fault. Refused old 0 fault new) → IfErr r (λ fault. fault ≡ OutOfMemory)
 refused_alike (Ok x) old new live refused = tt
 refused_alike (Err fault) old new live refused = only_memory old new 0 fault live (omega arith) refused

@@ -3,7 +3,7 @@ use Rattle.std.specs.Prelude.{ℕ, Bool, ◌==◌, if◌then◌else◌, List, []
 use Rattle.std.specs.Option.{option_or}
 use Rattle.simplex_types.specs.Certificates.{ProposalFacts, Notarized, ArtifactFacts, Verdict, Accepted, artifact_facts}
 use Rattle.simplex_types.specs.declared.types.messages.Artifact.{Artifact}
-use Rattle.simplex_resolver.specs.Facts.{Facts}
+use Rattle.simplex_resolver.specs.Facts.{ResolverFacts}
 use Rattle.simplex_resolver.specs.Steps.{Call, Replayed, update, verdict, after}
 
 -- the entries of a record, the newest first
@@ -48,6 +48,6 @@ abbrev pub replay_calls : {S D K G C : Type 0} → (D → List ℕ) → (C → L
 replay_calls payload_bytes bytes_of artifacts = Replayed ∷ record_calls payload_bytes bytes_of artifacts
 
 -- the facts after some calls, the last one first. No public clause names it
-abbrev pub all_after : Facts → List Call → Facts
+abbrev pub all_after : ResolverFacts → List Call → ResolverFacts
 all_after x [] = x
 all_after x (call ∷ earlier) = after (all_after x earlier) call

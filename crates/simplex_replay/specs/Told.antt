@@ -5,25 +5,25 @@ use Rattle.std.specs.List.{list_any, AllByRecursion}
 use Rattle.simplex_types.specs.declared.types.fault.Fault.{Fault}
 use Rattle.simplex_types.specs.declared.types.fault.Fault.TheVariants.{OutOfMemory}
 use Rattle.simplex_resolver.specs.declared.resolver.effect.Effect.{Effect}
-use Rattle.simplex_resolver.specs.Facts.{Facts, facts_code}
+use Rattle.simplex_resolver.specs.Facts.{ResolverFacts, facts_code}
 use Rattle.simplex_resolver.specs.Steps.{Call, after, effects, Refused}
 use Rattle.simplex_resolver.specs.Received.{NamesAView, are_alike, is_replayed, is_wanted}
 use Rattle.simplex_resolver.specs.Answers.{AnswersFit}
 use Rattle.simplex_resolver.specs.Repair.{fetches, has, facts_of, effects_of, IsApplied, IsOutstandingSet}
 
 -- a resolver, and the views whose fetch is open, rising
-pub record ResolverFacts : Type 0 where
-  pub state : Facts
+pub record LawfulResolverFacts : Type 0 where
+  pub state : ResolverFacts
   pub open_fetches : List ℕ
 
 -- they are stored as the pair of their fields
-abbrev pub resolver_facts_code : Coded ResolverFacts
+abbrev pub resolver_facts_code : Coded LawfulResolverFacts
 resolver_facts_code =
-    code_by (Facts × List ℕ) (coded× facts_code (coded_list coded_ℕ)) (λ r. (r.state, r.open_fetches))
+    code_by (ResolverFacts × List ℕ) (coded× facts_code (coded_list coded_ℕ)) (λ r. (r.state, r.open_fetches))
     (λ p. record { state = p.0; open_fetches = p.1 }) (λ _. refl)
 
 -- it was told just these calls, the last one first, and its open fetches are those that their effects leave outstanding
-pub record HasBeenTold (term_length : ℕ) (calls : List Call) (r : ResolverFacts) : Type 0 where
+pub record HasBeenTold (term_length : ℕ) (calls : List Call) (r : LawfulResolverFacts) : Type 0 where
   pub long : 0 < term_length
   pub named : AllByRecursion NamesAView calls
   pub state : r.state ≡ facts_of term_length calls
@@ -32,13 +32,13 @@ pub record HasBeenTold (term_length : ℕ) (calls : List Call) (r : ResolverFact
 -- ---- a call
 
 -- the call is made: these are its effects, and they are applied to the open fetches
-pub record IsMade (call : Call) (old : ResolverFacts) (es : List Effect) (new : ResolverFacts) : Type 0 where
+pub record IsMade (call : Call) (old : LawfulResolverFacts) (es : List Effect) (new : LawfulResolverFacts) : Type 0 where
   pub state : new.state ≡ after old.state call
   pub answered : es ≡ effects old.state call
   pub applied : IsApplied old.open_fetches es new.open_fetches
 
 -- whatever it was told before, it was told this call besides
-abbrev pub IsToldMore : ResolverFacts → Call → ResolverFacts → Type 0
+abbrev pub IsToldMore : LawfulResolverFacts → Call → LawfulResolverFacts → Type 0
 IsToldMore old call new =
     (term_length : ℕ) (calls : List Call) → HasBeenTold term_length calls old → HasBeenTold term_length (call ∷ calls) new
 
@@ -48,7 +48,7 @@ IsBegun old es new = (n : ℕ) × (n ≤ length es) × IsApplied old (take n es)
 
 -- what a refused call leaves, which names no view above v: without memory a failed resolver, with a beginning of the call's
 -- effects applied to its open fetches, and otherwise the same resolver
-abbrev pub IsLeftBy : ResolverFacts → ℕ → Call → Fault → ResolverFacts → Type 0
+abbrev pub IsLeftBy : LawfulResolverFacts → ℕ → Call → Fault → LawfulResolverFacts → Type 0
 IsLeftBy old v call OutOfMemory new =
     Refused old.state v OutOfMemory new.state × IsBegun old.open_fetches (effects old.state call) new.open_fetches
 IsLeftBy old v call fault new = Refused old.state v fault new.state × (new ≡ old)
@@ -56,23 +56,23 @@ IsLeftBy old v call fault new = Refused old.state v fault new.state × (new ≡ 
 -- ---- the laws
 
 -- whatever it was told so far
-abbrev pub OfAllTold : ResolverFacts → (ℕ → List Call → Type 0) → Type 0
+abbrev pub OfAllTold : LawfulResolverFacts → (ℕ → List Call → Type 0) → Type 0
 OfAllTold r Holds = (term_length : ℕ) (calls : List Call) → HasBeenTold term_length calls r → Holds term_length calls
 
 -- once its replay has ended its open fetches are exactly the wanted views
-abbrev pub OpensTheWanted : ResolverFacts → ℕ → List Call → Type 0
+abbrev pub OpensTheWanted : LawfulResolverFacts → ℕ → List Call → Type 0
 OpensTheWanted r term_length calls =
     list_any is_replayed calls ≡ true → (v : ℕ) → has r.open_fetches v ≡ is_wanted term_length calls v
 
 -- before that none is open
-abbrev pub OpensNone : ResolverFacts → ℕ → List Call → Type 0
+abbrev pub OpensNone : LawfulResolverFacts → ℕ → List Call → Type 0
 OpensNone r term_length calls = list_any is_replayed calls ≡ false → r.open_fetches ≡ []
 
 -- a certificate opens no fetch where it was told one of its kind and view before
-abbrev pub OpensNoneAgain : ResolverFacts → ℕ → List Call → Type 0
+abbrev pub OpensNoneAgain : LawfulResolverFacts → ℕ → List Call → Type 0
 OpensNoneAgain r term_length calls =
     (call : Call) → list_any (are_alike call) calls ≡ true → (v : ℕ) → list_any (fetches v) (effects r.state call) ≡ false
 
 -- what it answers follows from what it was told
-abbrev pub AnswersTheTold : ResolverFacts → ℕ → List Call → Type 0
+abbrev pub AnswersTheTold : LawfulResolverFacts → ℕ → List Call → Type 0
 AnswersTheTold r term_length calls = AnswersFit term_length calls r.state

@@ -9,7 +9,7 @@ use Rattle.simplex_types.specs.declared.reasons.Kind.{Kind}
 use Rattle.simplex_types.specs.declared.reasons.Kind.TheVariants.{Nullification as OfNullification, Notarization as OfNotarization}
 use Rattle.simplex_resolver.specs.declared.resolver.effect.Effect.{Effect}
 use Rattle.simplex_resolver.specs.declared.resolver.effect.Effect.TheVariants.{Settled, Raised}
-use Rattle.simplex_resolver.specs.Facts.{Facts, term_length, last_finalized, is_term_start}
+use Rattle.simplex_resolver.specs.Facts.{ResolverFacts, term_length, last_finalized, is_term_start}
 use Rattle.simplex_resolver.specs.Steps.{Call, Nullification, Notarization, Finalization, Verdict, Replayed, scan_start, scan_end, scan_fetches, missing_fetches, missing, without_finalized, with_kept_finalization, before_scan, settle_effects, after, effects}
 use Rattle.simplex_resolver.specs.Received.{NamesAView, greatest, floor_raised_to, current_view, are_alike}
 use Rattle.simplex_resolver.specs.Repair.{fetches, facts_of, RecordedAgainFetchesNothing}
@@ -20,7 +20,7 @@ use Rattle.simplex_resolver.proofs.RepairLaw.{stands, fails}
 
 -- ---- scans have reached the current view
 
-abbrev HasReached : Facts → Type 0
+abbrev HasReached : ResolverFacts → Type 0
 HasReached x = x.replaying ≡ false → x.current ≤ max x.scanned (x.floor + 1)
 
 end_reaches : (below : Bool) (first last : ℕ → ℕ) → AreTerms first last → (start current : ℕ) → 1 ≤ start → below ≡ nat_lt start current
@@ -30,14 +30,14 @@ end_reaches true first last ts start current low is =
     let own = ts.le-last (current - 1) (omega arith) in omega (arith, own, under)
 end_reaches false first last ts start current low is = grind (arith, nat_tests, is)
 
-reached_by_scan : (b : Bool) (y : Facts) → 0 < term_length y → y.replaying ≡ b → HasReached (cond b y (record y { scanned = scan_end y }))
+reached_by_scan : (b : Bool) (y : ResolverFacts) → 0 < term_length y → y.replaying ≡ b → HasReached (cond b y (record y { scanned = scan_end y }))
 reached_by_scan true y long is live = absurd (let clash = sym is ∙ live in cc)
 reached_by_scan false y long is live =
     let t = term_length y in
     let reached = end_reaches (nat_lt (scan_start y) y.current) (term_start t) (term_end t) (terms t long) (scan_start y) y.current (omega arith) refl in
     omega (arith, reached)
 
-reached_next : (x : Facts) (c : Call) → 0 < term_length (before_scan x c) → HasReached x → HasReached (after x c)
+reached_next : (x : ResolverFacts) (c : Call) → 0 < term_length (before_scan x c) → HasReached x → HasReached (after x c)
 reached_next x (Nullification u e) long before = let y = before_scan x (Nullification u e) in reached_by_scan y.replaying y long refl
 reached_next x (Notarization u) long before = let y = before_scan x (Notarization u) in reached_by_scan y.replaying y long refl
 reached_next x (Finalization u e) long before = let y = before_scan x (Finalization u e) in reached_by_scan y.replaying y long refl
@@ -112,35 +112,35 @@ raises_only : (b : Bool) (u v : ℕ) → list_any (fetches v) (cond b (Raised u 
 raises_only true u v = refl
 raises_only false u v = refl
 
-scans_nothing : (b : Bool) (y : Facts) (cause v : ℕ) → (b ≡ false → y.current ≤ scan_start y) → list_any (fetches v) (cond b [] (missing_fetches cause (missing y))) ≡ false
+scans_nothing : (b : Bool) (y : ResolverFacts) (cause v : ℕ) → (b ≡ false → y.current ≤ scan_start y) → list_any (fetches v) (cond b [] (missing_fetches cause (missing y))) ≡ false
 scans_nothing true y cause v done = refl
 scans_nothing false y cause v done = ap (λ vs. list_any (fetches v) (missing_fetches cause vs)) (uncovered-none y.nullifications (scan_start y) y.current (done refl))
 
-no_fetch : (s : List Effect) (y : Facts) (cause v : ℕ) → list_any (fetches v) s ≡ false → (y.replaying ≡ false → y.current ≤ scan_start y)
+no_fetch : (s : List Effect) (y : ResolverFacts) (cause v : ℕ) → list_any (fetches v) s ≡ false → (y.replaying ≡ false → y.current ≤ scan_start y)
     → list_any (fetches v) (s ++ scan_fetches y cause) ≡ false
 no_fetch s y cause v none done =
     let both = list_any-append (fetches v) s (scan_fetches y cause) in
     let scan = scans_nothing y.replaying y cause v done in grind (arith, both, none, scan)
 
 -- what a certificate of an earlier view leaves to scan
-record SameScan (x y : Facts) : Type 0 where
+record SameScan (x y : ResolverFacts) : Type 0 where
   current : y.current ≡ x.current
   floor : y.floor ≡ x.floor
   scanned : y.scanned ≡ x.scanned
   replaying : y.replaying ≡ x.replaying
 
-same_if : (b : Bool) (x y z : Facts) → SameScan x y → SameScan x z → SameScan x (cond b y z)
+same_if : (b : Bool) (x y z : ResolverFacts) → SameScan x y → SameScan x z → SameScan x (cond b y z)
 same_if true x y z s r = s
 same_if false x y z s r = r
 
-same_raise : (b : Bool) (x y : Facts) (u n : ℕ) → b ≡ nat_lt y.floor u → u ≤ x.floor → SameScan x y → SameScan x (cond b (record y { floor = u; scanned = n }) y)
+same_raise : (b : Bool) (x y : ResolverFacts) (u n : ℕ) → b ≡ nat_lt y.floor u → u ≤ x.floor → SameScan x y → SameScan x (cond b (record y { floor = u; scanned = n }) y)
 same_raise true x y u n is low s = absurd (let above : y.floor < u = grind (arith, nat_tests, is) in omega (arith, s.floor, above, low))
 same_raise false x y u n is low s = s
 
-upto : (x : Facts) (u : ℕ) → u ≤ x.current → max x.current u ≡ x.current
+upto : (x : ResolverFacts) (u : ℕ) → u ≤ x.current → max x.current u ≡ x.current
 upto x u low = omega arith
 
-same_scan : (x : Facts) (c : Call) → is_certificate c ≡ true → current_view c ≤ x.current → floor_raised_to c ≤ x.floor → SameScan x (before_scan x c)
+same_scan : (x : ResolverFacts) (c : Call) → is_certificate c ≡ true → current_view c ≤ x.current → floor_raised_to c ≤ x.floor → SameScan x (before_scan x c)
 same_scan x (Nullification u e) is low under =
     let s : SameScan x (record x { current = max x.current u }) = record { current = upto x u low; floor = refl; scanned = refl; replaying = refl } in
     same_if (nat_lt (last_finalized x) (term_end (term_length x) u)) x _ _ (record { current = upto x u low; floor = refl; scanned = refl; replaying = refl }) s
@@ -154,10 +154,10 @@ same_scan x (Finalization u e) is low under =
 same_scan x (Verdict u e success) is low under = absurd (cc)
 same_scan x Replayed is low under = absurd (cc)
 
-still_done : (x y : Facts) → SameScan x y → HasReached x → y.replaying ≡ false → y.current ≤ scan_start y
+still_done : (x y : ResolverFacts) → SameScan x y → HasReached x → y.replaying ≡ false → y.current ≤ scan_start y
 still_done x y s reached live = let old = reached (sym s.replaying ∙ live) in omega (arith, s.current, s.floor, s.scanned, old)
 
-again : (x : Facts) (c : Call) (v : ℕ) → is_certificate c ≡ true → ((before_scan x c).replaying ≡ false → (before_scan x c).current ≤ scan_start (before_scan x c)) → list_any (fetches v) (effects x c) ≡ false
+again : (x : ResolverFacts) (c : Call) (v : ℕ) → is_certificate c ≡ true → ((before_scan x c).replaying ≡ false → (before_scan x c).current ≤ scan_start (before_scan x c)) → list_any (fetches v) (effects x c) ≡ false
 again x (Nullification u e) v is done =
     no_fetch (settle_effects x (Nullification u e)) (before_scan x (Nullification u e)) u v (settles_only (nat_lt (last_finalized x) (term_end (term_length x) u)) OfNullification u (term_end (term_length x) u) v) done
 again x (Notarization u) v is done =

@@ -10,7 +10,7 @@ use Rattle.simplex_types.specs.Terms.{term_start, term_end, covers}
 use Rattle.simplex_types.specs.ByTerm.{TermMap, is_covered, covering}
 use Rattle.simplex_types.specs.declared.reasons.Kind.{Kind}
 use Rattle.simplex_types.specs.declared.reasons.Kind.TheVariants.{Nullification as OfNullification, Notarization as OfNotarization}
-use Rattle.simplex_resolver.specs.Facts.{Facts, empty, term_length, last_finalized, covering_encoding, certified_encoding}
+use Rattle.simplex_resolver.specs.Facts.{ResolverFacts, empty, term_length, last_finalized, covering_encoding, certified_encoding}
 use Rattle.simplex_resolver.specs.Steps.{Call, Nullification, Notarization, Finalization, Verdict, Replayed, before_scan, after}
 use Rattle.simplex_resolver.specs.Held.{is_settled, or_else, finalized_for, floor_for}
 use Rattle.simplex_resolver.specs.Received.{NamesAView, greatest, finalized_view, floor_raised_to, finalized_of, floor_of, is_true_verdict, is_false_verdict, is_notarizing, is_covering, WasMade}
@@ -25,7 +25,7 @@ use Rattle.simplex_resolver.proofs.Last.{IsLastKept, last_kept}
 
 -- ---- what is kept comes from what was received
 
-pub record Comes (t : ℕ) (calls : List Call) (x : Facts) : Type 0 where
+pub record Comes (t : ℕ) (calls : List Call) (x : ResolverFacts) : Type 0 where
   pub final : (f : ℕ) (e : List ℕ) → x.finalization ≡ Some (f, e) → WasMade (Finalization f e) calls
   pub nullified : (u : ℕ) (e : List ℕ) → finmap.get x.nullifications.by_view u ≡ Some e → WasMade (Nullification u e) calls
   pub held : (u : ℕ) → last_finalized x < term_end t u → finmap.contains_key x.nullifications.by_view u ≡ list_any (is_nullification u) calls
@@ -47,7 +47,7 @@ still_certified : (succeeds fails before failed now was : Bool) → now ≡ (suc
     → ((succeeds || before) ≡ true → (fails || failed) ≡ false) → now ≡ (succeeds || before)
 still_certified succeeds fails before failed now was is same none = grind (arith, is, same, none)
 
-comes_next : (t : ℕ) (calls : List Call) (x : Facts) (c : Call) → 0 < t → NamesAView c → Stands t calls x → Comes t calls x → Comes t (c ∷ calls) (after x c)
+comes_next : (t : ℕ) (calls : List Call) (x : ResolverFacts) (c : Call) → 0 < t → NamesAView c → Stands t calls x → Comes t calls x → Comes t (c ∷ calls) (after x c)
 comes_next t calls x c long named st k =
     let y = before_scan x c in
     let h = changed x c (subst (λ n. 0 < n) (sym st.length) long) named st.low in
@@ -187,7 +187,7 @@ last_resort false true t3 t4 s1 s2 s3 s4 is = search rules
 last_resort false false true t4 s1 s2 s3 s4 is = search rules
 last_resort false false false t4 s1 s2 s3 s4 is = rw is (search rules)
 
-module _ (t : ℕ) (calls : List Call) (x : Facts) (long : 0 < t) (named : AllByRecursion NamesAView calls) (st : Stands t calls x) (k : Comes t calls x) where
+module _ (t : ℕ) (calls : List Call) (x : ResolverFacts) (long : 0 < t) (named : AllByRecursion NamesAView calls) (st : Stands t calls x) (k : Comes t calls x) where
   settled_at : (v : ℕ) (kind : Kind) → is_settled x v kind ≡ is_settled_by t calls v kind
   settled_at v OfNullification = let final = st.final in let covered = st.covered v in by_cases (last_finalized x) (finalized_of calls) v (is_covered x.nullifications v) (list_any (is_covering t v) calls) final covered
     where

@@ -9,7 +9,7 @@ use Rattle.simplex_types.specs.ByTerm.{is_covered}
 use Rattle.simplex_types.specs.declared.reasons.Kind.TheVariants.{Nullification as OfNullification, Notarization as OfNotarization}
 use Rattle.simplex_resolver.specs.declared.resolver.effect.Effect.{Effect}
 use Rattle.simplex_resolver.specs.declared.resolver.effect.Effect.TheVariants.{Settled, Finalized, Raised}
-use Rattle.simplex_resolver.specs.Facts.{Facts, term_length, last_finalized, is_term_start}
+use Rattle.simplex_resolver.specs.Facts.{ResolverFacts, term_length, last_finalized, is_term_start}
 use Rattle.simplex_resolver.specs.Steps.{Call, Nullification, Notarization, Finalization, Verdict, Replayed, insert_new, with_kept_nullification, with_kept_finalization, without_finalized, after_raise, raise_effects, before_scan, settle_effects}
 use Rattle.simplex_resolver.specs.Received.{finalized_view, floor_raised_to, current_view, is_covering, is_false_verdict, is_notarizing, is_replayed, NamesAView}
 use Rattle.simplex_resolver.specs.Repair.{fetches, settles, is_outstanding}
@@ -17,7 +17,7 @@ use Rattle.simplex_resolver.proofs.Terms.{covers_upto}
 use Rattle.simplex_resolver.proofs.Maps.{any_key-insert_new, contains-insert, contains-insert_new, contains-at_or_above, is_covered-not_ended}
 
 -- from x to y by the call c, which settles what s says
-pub record Changed (x : Facts) (c : Call) (y : Facts) (s : List Effect) : Type 0 where
+pub record Changed (x : ResolverFacts) (c : Call) (y : ResolverFacts) (s : List Effect) : Type 0 where
   pub length : term_length y ≡ term_length x
   pub current : y.current ≡ max (current_view c) x.current
   pub floor : y.floor ≡ max (floor_raised_to c) x.floor
@@ -44,7 +44,7 @@ beyond u v end f covered is low above = grind (arith, nat_tests, is, low)
 within : (u v end : ℕ) (covered : Bool) → covered ≡ (nat_le u v && nat_le v end) → ((nat_le u v && nat_le v end) || false) ≡ covered
 within u v end covered is = grind (arith, is)
 
-by_nullification : (kept : Bool) (x : Facts) (u : ℕ) (b : List ℕ) → 0 < term_length x → 1 ≤ u → last_finalized x ≤ x.floor
+by_nullification : (kept : Bool) (x : ResolverFacts) (u : ℕ) (b : List ℕ) → 0 < term_length x → 1 ≤ u → last_finalized x ≤ x.floor
     → kept ≡ nat_lt (last_finalized x) (term_end (term_length x) u)
     → Changed x (Nullification u b)
     (cond kept (record (with_kept_nullification x u b) { current = max x.current u }) (record x { current = max x.current u }))
@@ -93,7 +93,7 @@ put_above : (above : Bool) (f u v : ℕ) (before after : Bool) → above ≡ nat
 put_above true f u v before after is h put = put
 put_above false f u v before after is h put = grind (arith, nat_tests, is)
 
-by_notarization : (above settles_it : Bool) (x : Facts) (u : ℕ) → last_finalized x ≤ x.floor → above ≡ nat_lt (last_finalized x) u
+by_notarization : (above settles_it : Bool) (x : ResolverFacts) (u : ℕ) → last_finalized x ≤ x.floor → above ≡ nat_lt (last_finalized x) u
     → Changed x (Notarization u)
     (cond above (record x { current = max x.current u; notarizations = insert_new x.notarizations u None }) (record x { current = max x.current u }))
     (cond settles_it (Settled OfNotarization u u ∷ []) [])
@@ -131,7 +131,7 @@ by_notarization false settles_it x u final is = record {
 -- ---- calls that may raise the floor
 
 -- y is x after a call that puts u under the floor and answers the effect e, but for the raise
-record Lifts (x : Facts) (y : Facts) (u : ℕ) (c : Call) (e : Effect) : Type 0 where
+record Lifts (x : ResolverFacts) (y : ResolverFacts) (u : ℕ) (c : Call) (e : Effect) : Type 0 where
   length : term_length y ≡ term_length x
   floor : y.floor ≡ x.floor
   scanned : y.scanned ≡ x.scanned
@@ -157,7 +157,7 @@ pulled-zero : (starts : Bool) (scanned u : ℕ) → scanned ≡ 0 → cond start
 pulled-zero true scanned u none = none
 pulled-zero false scanned u none = omega arith
 
-by_raise : (rises : Bool) (x y : Facts) (u : ℕ) (c : Call) (e : Effect) → rises ≡ nat_lt y.floor u → Lifts x y u c e
+by_raise : (rises : Bool) (x y : ResolverFacts) (u : ℕ) (c : Call) (e : Effect) → rises ≡ nat_lt y.floor u → Lifts x y u c e
     → Changed x c
     (cond rises (record y { floor = u; scanned = cond (is_term_start (term_length y) (u + 1)) y.scanned (min y.scanned (u + 1)) }) y)
     (e ∷ cond rises (Raised u ∷ []) [])
@@ -193,12 +193,12 @@ by_raise false x y u c e is l = record {
   unfetched = λ v. grind (arith, l.unfetched v);
 }
 
-pub last-put : (new : Bool) (x : Facts) (u : ℕ) (b : List ℕ) → new ≡ nat_lt (last_finalized x) u
+pub last-put : (new : Bool) (x : ResolverFacts) (u : ℕ) (b : List ℕ) → new ≡ nat_lt (last_finalized x) u
     → option_map_or (λ f. f.0) (cond new (Some (u, b)) x.finalization) 0 ≡ max u (last_finalized x)
 last-put true x u b is = grind (arith, nat_tests, is)
 last-put false x u b is = grind (arith, nat_tests, is)
 
-lifted_finalization : (x : Facts) (u : ℕ) (b : List ℕ) → 0 < term_length x → last_finalized x ≤ x.floor
+lifted_finalization : (x : ResolverFacts) (u : ℕ) (b : List ℕ) → 0 < term_length x → last_finalized x ≤ x.floor
     → Lifts x (without_finalized (with_kept_finalization x u b) (max (last_finalized x) u)) u (Finalization u b) (Finalized (max (last_finalized x) u))
 lifted_finalization x u b long low =
     let last = last-put (nat_lt (last_finalized x) u) x u b refl in
@@ -220,7 +220,7 @@ lifted_finalization x u b long low =
       unfetched = λ v. refl;
     }
 
-lifted_success : (above : Bool) (x : Facts) (u : ℕ) (b : List ℕ) → above ≡ nat_lt (last_finalized x) u
+lifted_success : (above : Bool) (x : ResolverFacts) (u : ℕ) (b : List ℕ) → above ≡ nat_lt (last_finalized x) u
     → Lifts x (cond above (record x { notarizations = finmap.insert x.notarizations u (Some b) }) x) u (Verdict u b true) (Settled OfNotarization u u)
 lifted_success true x u b is = record {
   length = refl;
@@ -257,7 +257,7 @@ lifted_success false x u b is = record {
   unfetched = λ v. refl;
 }
 
-by_success : (above : Bool) (x : Facts) (u : ℕ) (b : List ℕ) → above ≡ nat_lt (last_finalized x) u
+by_success : (above : Bool) (x : ResolverFacts) (u : ℕ) (b : List ℕ) → above ≡ nat_lt (last_finalized x) u
     → Changed x (Verdict u b true)
     (after_raise (cond above (record x { notarizations = finmap.insert x.notarizations u (Some b) }) x) u)
     (Settled OfNotarization u u ∷ raise_effects x u)
@@ -267,7 +267,7 @@ by_success false x u b is = by_raise (nat_lt x.floor u) x x u (Verdict u b true)
 
 -- ---- false verdicts
 
-by_failure : (above : Bool) (x : Facts) (u : ℕ) (b : List ℕ) → above ≡ nat_lt (last_finalized x) u
+by_failure : (above : Bool) (x : ResolverFacts) (u : ℕ) (b : List ℕ) → above ≡ nat_lt (last_finalized x) u
     → Changed x (Verdict u b false)
     (cond above (record x { notarizations = finmap.insert x.notarizations u None; uncertifiable = insert_new x.uncertifiable u tt }) x)
     (Settled OfNotarization u u ∷ [])
@@ -303,7 +303,7 @@ by_failure false x u b is = record {
 }
 
 -- every call
-pub changed : (x : Facts) (c : Call) → 0 < term_length x → NamesAView c → last_finalized x ≤ x.floor → Changed x c (before_scan x c) (settle_effects x c)
+pub changed : (x : ResolverFacts) (c : Call) → 0 < term_length x → NamesAView c → last_finalized x ≤ x.floor → Changed x c (before_scan x c) (settle_effects x c)
 changed x (Nullification u b) long named final = by_nullification (nat_lt (last_finalized x) (term_end (term_length x) u)) x u b long named final refl
 changed x (Notarization u) long named final =
     by_notarization (nat_lt (last_finalized x) u) (nat_lt (last_finalized x) u && not (finmap.contains_key x.uncertifiable u)) x u final refl

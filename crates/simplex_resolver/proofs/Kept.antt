@@ -9,7 +9,7 @@ use Rattle.std.proofs.lemmas.Bool.{cases_eq, eq-eqb, ne_eqb, false≢true}
 use Rattle.simplex_types.specs.Terms.{term_end}
 use Rattle.simplex_types.specs.Tracked.{at_or_above}
 use Rattle.simplex_types.proofs.Maps.{get-insert, get-kept}
-use Rattle.simplex_resolver.specs.Facts.{Facts, term_length, last_finalized, certified_encoding, is_term_start}
+use Rattle.simplex_resolver.specs.Facts.{ResolverFacts, term_length, last_finalized, certified_encoding, is_term_start}
 use Rattle.simplex_resolver.specs.Steps.{Call, Nullification, Notarization, Finalization, Verdict, Replayed, insert_new, with_kept_nullification, with_kept_finalization, without_finalized, before_scan}
 use Rattle.simplex_resolver.specs.Received.{is_true_verdict, is_false_verdict}
 use Rattle.simplex_resolver.proofs.Maps.{contains-insert, contains-insert_new, contains-kept}
@@ -93,7 +93,7 @@ certified-at_or_above m f v h =
 -- ---- calls
 
 -- from x to y by the call c
-pub record Kept (x : Facts) (c : Call) (y : Facts) : Type 0 where
+pub record Kept (x : ResolverFacts) (c : Call) (y : ResolverFacts) : Type 0 where
   pub final : (f : ℕ) (e : List ℕ) → y.finalization ≡ Some (f, e) → (x.finalization ≡ Some (f, e)) ⊎ (Finalization f e ≡ c)
   pub nullified : (u : ℕ) (e : List ℕ) → finmap.get y.nullifications.by_view u ≡ Some e → (finmap.get x.nullifications.by_view u ≡ Some e) ⊎ (Nullification u e ≡ c)
   pub held : (u : ℕ) → last_finalized y < term_end (term_length x) u → finmap.contains_key y.nullifications.by_view u ≡ (is_nullification u c || finmap.contains_key x.nullifications.by_view u)
@@ -112,7 +112,7 @@ too_low f u v end_u end_v there is high same = elim (cases_eq v u) [
   | inr other ↦ ap (λ b. b || there) (sym (ne_eqb v u other))
 ]
 
-kept_nullification : (kept : Bool) (x : Facts) (u : ℕ) (b : List ℕ) → kept ≡ nat_lt (last_finalized x) (term_end (term_length x) u)
+kept_nullification : (kept : Bool) (x : ResolverFacts) (u : ℕ) (b : List ℕ) → kept ≡ nat_lt (last_finalized x) (term_end (term_length x) u)
     → Kept x (Nullification u b) (cond kept (record (with_kept_nullification x u b) { current = max x.current u }) (record x { current = max x.current u }))
 kept_nullification true x u b is = record {
   final = λ f e at. inl at;
@@ -136,7 +136,7 @@ kept_nullification false x u b is = record {
   above_failed = λ before. before;
 }
 
-kept_notarization : (high : Bool) (x : Facts) (u : ℕ) → high ≡ nat_lt (last_finalized x) u
+kept_notarization : (high : Bool) (x : ResolverFacts) (u : ℕ) → high ≡ nat_lt (last_finalized x) u
     → Kept x (Notarization u) (cond high (record x { current = max x.current u; notarizations = insert_new x.notarizations u None }) (record x { current = max x.current u }))
 kept_notarization true x u is = record {
   final = λ f e at. inl at;
@@ -161,7 +161,7 @@ kept_notarization false x u is = record {
 }
 
 -- a raise of the floor changes none of this
-kept_raise : (rises : Bool) (x : Facts) (c : Call) (y : Facts) (u n : ℕ) → Kept x c y → Kept x c (cond rises (record y { floor = u; scanned = n }) y)
+kept_raise : (rises : Bool) (x : ResolverFacts) (c : Call) (y : ResolverFacts) (u n : ℕ) → Kept x c y → Kept x c (cond rises (record y { floor = u; scanned = n }) y)
 kept_raise true x c y u n k = record {
   final = k.final;
   nullified = k.nullified;
@@ -177,7 +177,7 @@ final-put : (new : Bool) (old : Option (ℕ × List ℕ)) (u : ℕ) (b : List �
 final-put true old u b f e is = inr (let at : (u, b) ≡ (f, e) = ap (λ o. unwrap_or o (u, b)) is in sym (ap (λ (p : ℕ × List ℕ). Finalization p.0 p.1) at))
 final-put false old u b f e is = inl is
 
-kept_finalization : (x : Facts) (u : ℕ) (b : List ℕ) → Kept x (Finalization u b) (without_finalized (with_kept_finalization x u b) (max (last_finalized x) u))
+kept_finalization : (x : ResolverFacts) (u : ℕ) (b : List ℕ) → Kept x (Finalization u b) (without_finalized (with_kept_finalization x u b) (max (last_finalized x) u))
 kept_finalization x u b =
     let last = last-put (nat_lt (last_finalized x) u) x u b refl in
     let finalized = max (last_finalized x) u in record {
@@ -194,7 +194,7 @@ kept_finalization x u b =
     ends_above : (end last u : ℕ) {new : ℕ} → new ≡ max u last → new < end → nat_lt (max last u) end ≡ true
     ends_above end last u is high = grind (arith, nat_tests, is, high)
 
-kept_success : (high : Bool) (x : Facts) (u : ℕ) (b : List ℕ) → high ≡ nat_lt (last_finalized x) u
+kept_success : (high : Bool) (x : ResolverFacts) (u : ℕ) (b : List ℕ) → high ≡ nat_lt (last_finalized x) u
     → Kept x (Verdict u b true) (cond high (record x { notarizations = finmap.insert x.notarizations u (Some b) }) x)
 kept_success true x u b is = record {
   final = λ f e at. inl at;
@@ -222,7 +222,7 @@ kept_success false x u b is = record {
   above_failed = λ before. before;
 }
 
-kept_failure : (high : Bool) (x : Facts) (u : ℕ) (b : List ℕ) → high ≡ nat_lt (last_finalized x) u
+kept_failure : (high : Bool) (x : ResolverFacts) (u : ℕ) (b : List ℕ) → high ≡ nat_lt (last_finalized x) u
     → Kept x (Verdict u b false) (cond high (record x { notarizations = finmap.insert x.notarizations u None; uncertifiable = insert_new x.uncertifiable u tt }) x)
 kept_failure true x u b is = record {
   final = λ f e at. inl at;
@@ -257,7 +257,7 @@ kept_failure false x u b is = record {
     ]
 
 -- every call
-pub kept : (x : Facts) (c : Call) → Kept x c (before_scan x c)
+pub kept : (x : ResolverFacts) (c : Call) → Kept x c (before_scan x c)
 kept x (Nullification u b) = kept_nullification (nat_lt (last_finalized x) (term_end (term_length x) u)) x u b refl
 kept x (Notarization u) = kept_notarization (nat_lt (last_finalized x) u) x u refl
 kept x (Finalization u b) =

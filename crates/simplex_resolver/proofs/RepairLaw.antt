@@ -10,7 +10,7 @@ use Rattle.simplex_types.specs.declared.reasons.FetchReason.TheVariants.{Missing
 use Rattle.simplex_resolver.specs.declared.resolver.effect.Effect.{Effect}
 use Rattle.simplex_resolver.specs.declared.resolver.effect.Effect.TheVariants.{Fetch}
 use Rattle.simplex_types.specs.ByTerm.{is_covered}
-use Rattle.simplex_resolver.specs.Facts.{Facts, term_length, last_finalized, empty, anchors, is_term_start}
+use Rattle.simplex_resolver.specs.Facts.{ResolverFacts, term_length, last_finalized, empty, anchors, is_term_start}
 use Rattle.simplex_resolver.specs.Steps.{Call, Nullification, Notarization, Finalization, Verdict, Replayed, before_scan, settle_effects, after, effects, scan_start, scan_end, missing, needs_nullification, failing, failure_fetches}
 use Rattle.simplex_resolver.specs.Received.{finalized_view, current_view, floor_raised_to, finalized_of, current_of, floor_of, is_covering, is_false_verdict, is_notarizing, is_replayed, NamesAView}
 use Rattle.simplex_resolver.specs.Repair.{has, settles, is_outstanding, facts_of, effects_of, OutstandingIsWanted}
@@ -21,28 +21,28 @@ use Rattle.simplex_resolver.proofs.Maps.{has_keys, keys-empty, contains-empty}
 use Rattle.simplex_resolver.proofs.Changes.{Changed, changed}
 
 -- what stands between two calls
-abbrev Quiet : Facts → (ℕ → Bool) → Type 0
+abbrev Quiet : ResolverFacts → (ℕ → Bool) → Type 0
 Quiet x out = (v : ℕ) → QuietAt x.floor x.current x.scanned v (is_term_start (term_length x) v) (is_covered x.nullifications v) (finmap.contains_key x.uncertifiable v) (out v)
 
 -- what stands before a scan
-abbrev Ready : Facts → (ℕ → Bool) → Type 0
+abbrev Ready : ResolverFacts → (ℕ → Bool) → Type 0
 Ready x out = (v : ℕ) → ReadyAt x.floor x.current x.scanned v (is_term_start (term_length x) v) (is_covered x.nullifications v) (finmap.contains_key x.uncertifiable v) (out v)
 
-abbrev found : Facts → ℕ → Bool
+abbrev found : ResolverFacts → ℕ → Bool
 found x v = is_found_by (scan_start x) x.current v (is_term_start (term_length x) v) (is_covered x.nullifications v)
 
 -- a false verdict stands at v and needs a nullification
-abbrev unmet : Facts → ℕ → Bool
+abbrev unmet : ResolverFacts → ℕ → Bool
 unmet x v = (finmap.contains_key x.uncertifiable v && nat_lt x.floor v) && not (is_covered x.nullifications v)
 
-has-missing : (x : Facts) (v : ℕ) → has (missing x) v ≡ found x v
+has-missing : (x : ResolverFacts) (v : ℕ) → has (missing x) v ≡ found x v
 has-missing x v =
     let first = scan_start x in
     let outer = has-filter (λ u. not (is_covered x.nullifications u)) (anchors (term_length x) first x.current) v in
     let inner = has-filter (λ u. is_term_start (term_length x) u || u == first) (range_with_len first (x.current - first)) v in
     let range = has-range first (x.current - first) v in cc
 
-has-unmet : (x : Facts) (v : ℕ) → has (filter (needs_nullification x) (finmap.keys x.uncertifiable)) v ≡ unmet x v
+has-unmet : (x : ResolverFacts) (v : ℕ) → has (filter (needs_nullification x) (finmap.keys x.uncertifiable)) v ≡ unmet x v
 has-unmet x v =
     let outer = has-filter (needs_nullification x) (finmap.keys x.uncertifiable) v in
     let keys = has_keys x.uncertifiable v in grind (arith, outer, keys)
@@ -65,7 +65,7 @@ ends_by false first last ts start current v low is = record {
 }
 
 -- a scan of y, with what it finds and the false verdicts that need it
-scanned : (y : Facts) (out out' : ℕ → Bool) → 0 < term_length y → Ready y out
+scanned : (y : ResolverFacts) (out out' : ℕ → Bool) → 0 < term_length y → Ready y out
     → ((v : ℕ) → out' v ≡ ((out v || found y v) || unmet y v))
     → Quiet (record y { scanned = scan_end y }) out'
 scanned y out out' long ready is v =
@@ -95,7 +95,7 @@ adds_failed es fs us v none =
     let has = fetches-map (λ u. u) CertificationFailed us v in grind (arith, outer, inner, any, quiet, has, none)
 
 -- a call that is no false verdict, on a live resolver
-module _ (x : Facts) (c : Call) (y : Facts) (s : List Effect) (out : ℕ → Bool) (low : last_finalized y ≤ y.floor)
+module _ (x : ResolverFacts) (c : Call) (y : ResolverFacts) (s : List Effect) (out : ℕ → Bool) (low : last_finalized y ≤ y.floor)
     (h : Changed x c y s) (fails_none : (v : ℕ) → is_false_verdict v c ≡ false) (q : Quiet x out) where
   change_at : (v : ℕ) → ChangesAt x.floor y.floor x.current y.current x.scanned y.scanned v (is_term_start (term_length x) v)
       (is_covered x.nullifications v) (is_covered y.nullifications v) (finmap.contains_key x.uncertifiable v) (finmap.contains_key y.uncertifiable v) (out v) (list_any (settles v) s)
@@ -136,7 +136,7 @@ module _ (x : Facts) (c : Call) (y : Facts) (s : List Effect) (out : ℕ → Boo
 -- ---- one call
 
 -- what is known of the facts after the calls, the last one first
-pub record Stands (t : ℕ) (calls : List Call) (x : Facts) : Type 0 where
+pub record Stands (t : ℕ) (calls : List Call) (x : ResolverFacts) : Type 0 where
   pub length : term_length x ≡ t
   pub current : x.current ≡ current_of calls
   pub floor : x.floor ≡ floor_of calls
@@ -149,7 +149,7 @@ pub record Stands (t : ℕ) (calls : List Call) (x : Facts) : Type 0 where
   pub replaying : x.replaying ≡ not (list_any is_replayed calls)
 
 -- a scan changes nothing but where the next one begins
-pub record SameHeld (z y : Facts) : Type 0 where
+pub record SameHeld (z y : ResolverFacts) : Type 0 where
   pub current : z.current ≡ y.current
   pub floor : z.floor ≡ y.floor
   pub finalization : z.finalization ≡ y.finalization
@@ -158,11 +158,11 @@ pub record SameHeld (z y : Facts) : Type 0 where
   pub uncertifiable : z.uncertifiable ≡ y.uncertifiable
   pub replaying : z.replaying ≡ y.replaying
 
-held-scan : (b : Bool) (y : Facts) (n : ℕ) → SameHeld (cond b y (record y { scanned = n })) y
+held-scan : (b : Bool) (y : ResolverFacts) (n : ℕ) → SameHeld (cond b y (record y { scanned = n })) y
 held-scan true y n = record { current = refl; floor = refl; finalization = refl; nullifications = refl; notarizations = refl; uncertifiable = refl; replaying = refl }
 held-scan false y n = record { current = refl; floor = refl; finalization = refl; nullifications = refl; notarizations = refl; uncertifiable = refl; replaying = refl }
 
-pub held : (x : Facts) (c : Call) → SameHeld (after x c) (before_scan x c)
+pub held : (x : ResolverFacts) (c : Call) → SameHeld (after x c) (before_scan x c)
 held x (Nullification u b) = let y = before_scan x (Nullification u b) in held-scan y.replaying y (scan_end y)
 held x (Notarization u) = let y = before_scan x (Notarization u) in held-scan y.replaying y (scan_end y)
 held x (Finalization u b) = let y = before_scan x (Finalization u b) in held-scan y.replaying y (scan_end y)
@@ -171,7 +171,7 @@ held x (Verdict u b false) = record { current = refl; floor = refl; finalization
 held x Replayed = record { current = refl; floor = refl; finalization = refl; nullifications = refl; notarizations = refl; uncertifiable = refl; replaying = refl }
 
 -- how the fetches stand
-pub record Fetched (x : Facts) (es : List Effect) : Type 0 where
+pub record Fetched (x : ResolverFacts) (es : List Effect) : Type 0 where
   pub at_rest : x.replaying ≡ true → (x.scanned ≡ 0) × ((v : ℕ) → is_outstanding es v ≡ false)
   pub quiet : x.replaying ≡ false → Quiet x (is_outstanding es)
 
@@ -182,7 +182,7 @@ lives : (b live : Bool) → live ≡ false → (not live && b) ≡ b
 lives b live is = grind (arith, is)
 
 -- a call that scans
-next_scanning : (b : Bool) (x : Facts) (es : List Effect) (c : Call) (y : Facts) (s : List Effect) (cause : ℕ)
+next_scanning : (b : Bool) (x : ResolverFacts) (es : List Effect) (c : Call) (y : ResolverFacts) (s : List Effect) (cause : ℕ)
     → 0 < term_length x → last_finalized y ≤ y.floor → Fetched x es → Changed x c y s → ((v : ℕ) → is_false_verdict v c ≡ false) → is_replayed c ≡ false → y.replaying ≡ b
     → Fetched (cond b y (record y { scanned = scan_end y }))
     (es ++ (s ++ cond b [] (map (λ v. Fetch v cause MissingNullification) (missing y))))
@@ -224,27 +224,27 @@ failing_at floor v u replaying covered covered_u out all fetched sum fails runs 
     ]
 
 -- what a false verdict leaves as it was
-pub record Fails (x y : Facts) : Type 0 where
+pub record Fails (x y : ResolverFacts) : Type 0 where
   pub floor : y.floor ≡ x.floor
   pub current : y.current ≡ x.current
   pub scanned : y.scanned ≡ x.scanned
   pub nullifications : y.nullifications ≡ x.nullifications
   pub replaying : y.replaying ≡ x.replaying
 
-fails-if : (above : Bool) (x y : Facts) → Fails x y → Fails x (cond above y x)
+fails-if : (above : Bool) (x y : ResolverFacts) → Fails x y → Fails x (cond above y x)
 fails-if true x y f = f
 fails-if false x y f = record { floor = refl; current = refl; scanned = refl; nullifications = refl; replaying = refl }
 
-pub fails : (x : Facts) (u : ℕ) (b : List ℕ) → Fails x (before_scan x (Verdict u b false))
+pub fails : (x : ResolverFacts) (u : ℕ) (b : List ℕ) → Fails x (before_scan x (Verdict u b false))
 fails x u b = fails-if (nat_lt (last_finalized x) u) x _ (record { floor = refl; current = refl; scanned = refl; nullifications = refl; replaying = refl })
 
-quiet_alike : (x y : Facts) (out : ℕ → Bool) → Fails x y
+quiet_alike : (x y : ResolverFacts) (out : ℕ → Bool) → Fails x y
     → ((v : ℕ) → QuietAt x.floor x.current x.scanned v (is_term_start (term_length x) v) (is_covered x.nullifications v) (finmap.contains_key y.uncertifiable v) (out v))
     → Quiet y out
 quiet_alike x y out f q v = rw (f.floor, f.current, f.scanned, f.nullifications) (q v)
 
 -- a false verdict
-next_failure : (x : Facts) (es : List Effect) (u : ℕ) (b : List ℕ) → last_finalized (before_scan x (Verdict u b false)) ≤ x.floor → Fetched x es
+next_failure : (x : ResolverFacts) (es : List Effect) (u : ℕ) (b : List ℕ) → last_finalized (before_scan x (Verdict u b false)) ≤ x.floor → Fetched x es
     → Changed x (Verdict u b false) (before_scan x (Verdict u b false)) (settle_effects x (Verdict u b false))
     → Fetched (after x (Verdict u b false)) (es ++ effects x (Verdict u b false))
 next_failure x es u b low st h =
@@ -286,7 +286,7 @@ adds_both es cause us ws v =
     let found = fetches-map (λ _. cause) MissingNullification us v in
     let found' = fetches-map (λ u. u) CertificationFailed ws v in grind (arith, outer, inner, any, quiet, quiet', found, found')
 
-ready_at_rest : (x : Facts) (out : ℕ → Bool) → x.scanned ≡ 0 → ((v : ℕ) → out v ≡ false) → Ready x out
+ready_at_rest : (x : ResolverFacts) (out : ℕ → Bool) → x.scanned ≡ 0 → ((v : ℕ) → out v ≡ false) → Ready x out
 ready_at_rest x out none quiet v = record {
   begins = λ at behind. absurd (omega arith);
   below = λ under above anchor. absurd (omega arith);
@@ -294,7 +294,7 @@ ready_at_rest x out none quiet v = record {
   only = λ left. absurd (let not_out = quiet v in cc);
 }
 
-ready_live : (x : Facts) (out : ℕ → Bool) → Quiet x out → Ready x out
+ready_live : (x : ResolverFacts) (out : ℕ → Bool) → Quiet x out → Ready x out
 ready_live x out q v = record {
   begins = λ at behind. (q v).begins at behind;
   below = λ under above anchor. (q v).below under above anchor;
@@ -303,10 +303,10 @@ ready_live x out q v = record {
 }
 
 -- the end of the replay
-next_replayed : (r : Bool) (x : Facts) (es : List Effect) → 0 < term_length x → Fetched x es → x.replaying ≡ r
+next_replayed : (r : Bool) (x : ResolverFacts) (es : List Effect) → 0 < term_length x → Fetched x es → x.replaying ≡ r
     → Fetched (after x Replayed) (es ++ effects x Replayed)
 next_replayed r x es long st is =
-    let y : Facts = record x { replaying = false } in
+    let y : ResolverFacts = record x { replaying = false } in
     let ready : Ready y (is_outstanding es) = elim r as (λ b. x.replaying ≡ b → Ready y (is_outstanding es)) [
       | true ↦ λ rests. ready_at_rest y (is_outstanding es) (st.at_rest rests).0 (st.at_rest rests).1
       | false ↦ λ runs. ready_live y (is_outstanding es) (st.quiet runs)
@@ -320,7 +320,7 @@ next_replayed r x es long st is =
     record { at_rest = λ rests. absurd (cc); quiet = λ runs. scanned y (is_outstanding es) out' long ready sum }
 
 -- every call
-next_fetched : (x : Facts) (es : List Effect) (c : Call) → 0 < term_length x → last_finalized (before_scan x c) ≤ (before_scan x c).floor → Fetched x es
+next_fetched : (x : ResolverFacts) (es : List Effect) (c : Call) → 0 < term_length x → last_finalized (before_scan x c) ≤ (before_scan x c).floor → Fetched x es
     → Changed x c (before_scan x c) (settle_effects x c) → Fetched (after x c) (es ++ effects x c)
 next_fetched x es (Nullification u b) long low st h =
     let c = Nullification u b in let y = before_scan x c in next_scanning y.replaying x es c y (settle_effects x c) u long low st h (λ v. refl) refl refl
@@ -346,10 +346,10 @@ view_under (Verdict u b true) = omega arith
 view_under (Verdict u b false) = omega arith
 view_under Replayed = omega arith
 
-under_floor : (x y : Facts) (c : Call) (s : List Effect) → Changed x c y s → last_finalized x ≤ x.floor → last_finalized y ≤ y.floor
+under_floor : (x y : ResolverFacts) (c : Call) (s : List Effect) → Changed x c y s → last_finalized x ≤ x.floor → last_finalized y ≤ y.floor
 under_floor x y c s h low = let here = view_under c in omega (arith, here, h.final, h.floor, low)
 
-next : (t : ℕ) (calls : List Call) (x : Facts) (c : Call) → 0 < t → NamesAView c → Stands t calls x → Stands t (c ∷ calls) (after x c)
+next : (t : ℕ) (calls : List Call) (x : ResolverFacts) (c : Call) → 0 < t → NamesAView c → Stands t calls x → Stands t (c ∷ calls) (after x c)
 next t calls x c long named st =
     let y = before_scan x c in
     let s = settle_effects x c in

@@ -5,7 +5,7 @@ use Rattle.std.specs.FinMap as finmap
 use Rattle.simplex_types.specs.Terms.{covers}
 use Rattle.simplex_types.specs.declared.reasons.Kind.{Kind}
 use Rattle.simplex_types.specs.declared.reasons.Kind.TheVariants.{Nullification as OfNullification, Notarization as OfNotarization}
-use Rattle.simplex_resolver.specs.Facts.{Facts}
+use Rattle.simplex_resolver.specs.Facts.{ResolverFacts}
 use Rattle.simplex_resolver.specs.Steps.{Call, Nullification, Finalization, Verdict}
 use Rattle.simplex_resolver.specs.Held.{is_settled, served_encoding}
 use Rattle.simplex_resolver.specs.Received.{NamesAView, greatest, finalized_of, floor_of, is_true_verdict, is_false_verdict, is_notarizing, is_covering, WasMade}
@@ -65,7 +65,7 @@ NoContradiction calls = (v : ℕ) → list_any (is_true_verdict v) calls ≡ tru
 
 -- ---- the law
 
-pub record AnswersFit (t : ℕ) (calls : List Call) (x : Facts) : Type 0 where
+pub record AnswersFit (t : ℕ) (calls : List Call) (x : ResolverFacts) : Type 0 where
   pub settled : (v : ℕ) (kind : Kind) → is_settled x v kind ≡ is_settled_by t calls v kind
   pub uncertifiable : (v : ℕ) → finmap.contains_key x.uncertifiable v ≡ is_failed_by calls v
   pub served : NoContradiction calls → (v : ℕ) → ServesReceived calls (source t calls v) (served_encoding x v)

@@ -11,7 +11,8 @@ use Rattle.simplex_types.specs.Terms.{term_start, next_term_start}
 use Rattle.simplex_types.specs.ByTerm.{TermMap, term_map_code, is_covered}
 use Rattle.simplex_types.specs.ByTerm as by_term
 
-pub record Facts : Type 0 where
+-- all that a resolver's later answers and effects depend on
+pub record ResolverFacts : Type 0 where
   pub current : ℕ  -- the highest view of a certificate
   pub floor : ℕ  -- the highest view of a finalization or a true verdict
   pub scanned : ℕ  -- scans have passed the anchors below this view
@@ -23,7 +24,7 @@ pub record Facts : Type 0 where
   pub is_failed : Bool
 
 -- a resolver that has been given nothing
-abbrev pub empty : ℕ → Facts
+abbrev pub empty : ℕ → ResolverFacts
 empty t = record {
   current = 0;
   floor = 0;
@@ -36,11 +37,11 @@ empty t = record {
   is_failed = false;
 }
 
-abbrev pub term_length : Facts → ℕ
+abbrev pub term_length : ResolverFacts → ℕ
 term_length x = x.nullifications.term_length
 
 -- the highest finalized view, or 0
-abbrev pub last_finalized : Facts → ℕ
+abbrev pub last_finalized : ResolverFacts → ℕ
 last_finalized x = option_map_or (λ f. f.0) x.finalization 0
 
 -- the encoding of the nullification of the highest view that covers v
@@ -74,7 +75,7 @@ end_of_scan t first end = if nat_lt first end then next_term_start t (end - 1) e
 
 -- ---- how facts are stored: as the tuple of their fields
 
-abbrev pub facts_code : Coded Facts
+abbrev pub facts_code : Coded ResolverFacts
 facts_code =
     code_by
     (((ℕ × ℕ) × (ℕ × Option (ℕ × List ℕ))) × ((TermMap (List ℕ) × FinMap nat_cmp (Option (List ℕ))) × (FinMap nat_cmp (Unit {0}) × (Bool × Bool))))

@@ -5,10 +5,10 @@ use Rattle.std.specs.FinMap as map
 use Rattle.simplex_types.specs.declared.reasons.Kind.{Kind}
 use Rattle.simplex_types.specs.declared.reasons.Kind.TheVariants.{Nullification as OfNullification, Notarization as OfNotarization}
 use Rattle.simplex_types.specs.ByTerm.{is_covered}
-use Rattle.simplex_resolver.specs.Facts.{Facts, last_finalized, covering_encoding, certified_encoding}
+use Rattle.simplex_resolver.specs.Facts.{ResolverFacts, last_finalized, covering_encoding, certified_encoding}
 
 -- nothing is left to be asked for of the kind at v
-abbrev pub is_settled : Facts → ℕ → Kind → Bool
+abbrev pub is_settled : ResolverFacts → ℕ → Kind → Bool
 is_settled x v OfNullification = nat_le v (last_finalized x) || is_covered x.nullifications v
 is_settled x v OfNotarization = nat_le v (last_finalized x) || map.contains_key x.notarizations v
 
@@ -17,15 +17,15 @@ abbrev pub or_else : {A : Type 0} → Option A → Option A → Option A
 or_else o p = if is_some o then o else p
 
 -- the highest finalization, where v is at or below it
-abbrev pub finalized_for : Facts → ℕ → Option (List ℕ)
+abbrev pub finalized_for : ResolverFacts → ℕ → Option (List ℕ)
 finalized_for x v = option_and_then (λ f. if nat_le v f.0 then Some f.1 else None) x.finalization
 
 -- the certified notarization at the floor, where v is at or below it
-abbrev pub floor_for : Facts → ℕ → Option (List ℕ)
+abbrev pub floor_for : ResolverFacts → ℕ → Option (List ℕ)
 floor_for x v = if nat_le v x.floor then certified_encoding x.notarizations x.floor else None
 
 -- the encoding that is served for v
-abbrev pub served_encoding : Facts → ℕ → Option (List ℕ)
+abbrev pub served_encoding : ResolverFacts → ℕ → Option (List ℕ)
 served_encoding x v =
     or_else (finalized_for x v)
     (or_else (certified_encoding x.notarizations v)

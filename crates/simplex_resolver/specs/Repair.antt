@@ -4,7 +4,7 @@ use Rattle.std.specs.List.{list_any, AllByRecursion}
 use Rattle.simplex_types.specs.declared.reasons.Kind.TheVariants.{Nullification as OfNullification}
 use Rattle.simplex_resolver.specs.declared.resolver.effect.Effect.{Effect}
 use Rattle.simplex_resolver.specs.declared.resolver.effect.Effect.TheVariants.{Fetch, Settled, Finalized, Raised}
-use Rattle.simplex_resolver.specs.Facts.{Facts, empty}
+use Rattle.simplex_resolver.specs.Facts.{ResolverFacts, empty}
 use Rattle.simplex_resolver.specs.Steps.{Call, after, effects}
 use Rattle.simplex_resolver.specs.Received.{is_replayed, are_alike, NamesAView, is_wanted}
 
@@ -44,7 +44,7 @@ KeepsOutstanding old es new = (earlier : List Effect) → IsOutstandingSet old e
 
 -- ---- runs, the last call first
 
-abbrev pub facts_of : ℕ → List Call → Facts
+abbrev pub facts_of : ℕ → List Call → ResolverFacts
 facts_of t [] = empty t
 facts_of t (call ∷ earlier) = after (facts_of t earlier) call
 

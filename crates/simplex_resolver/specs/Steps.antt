@@ -17,7 +17,7 @@ use Rattle.simplex_types.specs.declared.reasons.Kind.TheVariants.{Nullification 
 use Rattle.simplex_types.specs.declared.reasons.FetchReason.TheVariants.{MissingNullification, CertificationFailed}
 use Rattle.simplex_resolver.specs.declared.resolver.effect.Effect.{Effect}
 use Rattle.simplex_resolver.specs.declared.resolver.effect.Effect.TheVariants.{Fetch, Settled, Finalized, Raised}
-use Rattle.simplex_resolver.specs.Facts.{Facts, term_length, last_finalized, uncovered_anchors, is_term_start, end_of_scan}
+use Rattle.simplex_resolver.specs.Facts.{ResolverFacts, term_length, last_finalized, uncovered_anchors, is_term_start, end_of_scan}
 
 -- what a resolver is told: a certificate of a view with its encoding, a verdict on a notarization,
 -- or the end of the replay. Of a notarization the view alone matters until a verdict brings it again
@@ -41,36 +41,36 @@ verdict bytes_of n success = Verdict n.proposal.round.view (encoding bytes_of (N
 -- ---- a scan
 
 -- where the next scan begins
-abbrev pub scan_start : Facts → ℕ
+abbrev pub scan_start : ResolverFacts → ℕ
 scan_start x = max x.scanned (x.floor + 1)
 
 -- the anchors that a scan finds uncovered
-abbrev pub missing : Facts → List ℕ
+abbrev pub missing : ResolverFacts → List ℕ
 missing x = uncovered_anchors x.nullifications (scan_start x) x.current
 
 abbrev pub missing_fetches : ℕ → List ℕ → List Effect
 missing_fetches cause vs = map (λ v. Fetch v cause MissingNullification) vs
 
 -- nothing is fetched before the replay has ended
-abbrev pub scan_fetches : Facts → ℕ → List Effect
+abbrev pub scan_fetches : ResolverFacts → ℕ → List Effect
 scan_fetches x cause = if x.replaying then [] else missing_fetches cause (missing x)
 
-abbrev pub scan_end : Facts → ℕ
+abbrev pub scan_end : ResolverFacts → ℕ
 scan_end x = end_of_scan (term_length x) (scan_start x) x.current
 
-abbrev pub after_scan : Facts → Facts
+abbrev pub after_scan : ResolverFacts → ResolverFacts
 after_scan x = if x.replaying then x else record x { scanned = scan_end x }
 
 -- ---- the floor
 
 -- the floor rises to v; inside a term the next scan begins just above it
-abbrev pub after_raise : Facts → ℕ → Facts
+abbrev pub after_raise : ResolverFacts → ℕ → ResolverFacts
 after_raise x v =
     if nat_lt x.floor v
     then record x { floor = v; scanned = if is_term_start (term_length x) (v + 1) then x.scanned else min x.scanned (v + 1) }
     else x
 
-abbrev pub raise_effects : Facts → ℕ → List Effect
+abbrev pub raise_effects : ResolverFacts → ℕ → List Effect
 raise_effects x v = if nat_lt x.floor v then Raised v ∷ [] else []
 
 -- ---- a certificate
@@ -79,88 +79,88 @@ raise_effects x v = if nat_lt x.floor v then Raised v ∷ [] else []
 abbrev pub insert_new : {V : Type 0} → FinMap nat_cmp V → ℕ → V → FinMap nat_cmp V
 insert_new m v x = if map.contains_key m v then m else map.insert m v x
 
-abbrev pub with_kept_nullification : Facts → ℕ → List ℕ → Facts
+abbrev pub with_kept_nullification : ResolverFacts → ℕ → List ℕ → ResolverFacts
 with_kept_nullification x v encoding =
     record x { nullifications = record x.nullifications { by_view = insert_new x.nullifications.by_view v encoding } }
 
 -- a nullification is kept where its term ends above the last finalized view
-abbrev pub after_nullification : Facts → ℕ → List ℕ → Facts
+abbrev pub after_nullification : ResolverFacts → ℕ → List ℕ → ResolverFacts
 after_nullification x v encoding =
     if nat_lt (last_finalized x) (term_end (term_length x) v)
     then record (with_kept_nullification x v encoding) { current = max x.current v }
     else record x { current = max x.current v }
 
-abbrev pub nullification_effects : Facts → ℕ → List Effect
+abbrev pub nullification_effects : ResolverFacts → ℕ → List Effect
 nullification_effects x v =
     if nat_lt (last_finalized x) (term_end (term_length x) v)
     then Settled OfNullification v (term_end (term_length x) v) ∷ []
     else []
 
 -- a notarization is noted where it is above the last finalized view, and served once it is certified
-abbrev pub after_notarization : Facts → ℕ → Facts
+abbrev pub after_notarization : ResolverFacts → ℕ → ResolverFacts
 after_notarization x v =
     if nat_lt (last_finalized x) v
     then record x { current = max x.current v; notarizations = insert_new x.notarizations v None }
     else record x { current = max x.current v }
 
-abbrev pub notarization_effects : Facts → ℕ → List Effect
+abbrev pub notarization_effects : ResolverFacts → ℕ → List Effect
 notarization_effects x v =
     if nat_lt (last_finalized x) v && not (map.contains_key x.uncertifiable v) then Settled OfNotarization v v ∷ [] else []
 
 -- the highest finalization is kept
-abbrev pub with_kept_finalization : Facts → ℕ → List ℕ → Facts
+abbrev pub with_kept_finalization : ResolverFacts → ℕ → List ℕ → ResolverFacts
 with_kept_finalization x v encoding = record x {
   current = max x.current v;
   finalization = if nat_lt (last_finalized x) v then Some (v, encoding) else x.finalization;
 }
 
 -- what ends at or below a finalized view is dropped
-abbrev pub without_finalized : Facts → ℕ → Facts
+abbrev pub without_finalized : ResolverFacts → ℕ → ResolverFacts
 without_finalized x finalized = record x {
   nullifications = record x.nullifications { by_view = not_ended x.nullifications finalized };
   notarizations = at_or_above x.notarizations (finalized + 1);
   uncertifiable = at_or_above x.uncertifiable (finalized + 1);
 }
 
-abbrev pub after_finalization : Facts → ℕ → List ℕ → Facts
+abbrev pub after_finalization : ResolverFacts → ℕ → List ℕ → ResolverFacts
 after_finalization x v encoding =
     after_raise (without_finalized (with_kept_finalization x v encoding) (max (last_finalized x) v)) v
 
-abbrev pub finalization_effects : Facts → ℕ → List Effect
+abbrev pub finalization_effects : ResolverFacts → ℕ → List Effect
 finalization_effects x v = Finalized (max (last_finalized x) v) ∷ raise_effects x v
 
 -- ---- a verdict
 
 -- a certified notarization above the last finalized view is kept with its encoding
-abbrev pub with_certified : Facts → ℕ → List ℕ → Facts
+abbrev pub with_certified : ResolverFacts → ℕ → List ℕ → ResolverFacts
 with_certified x v encoding =
     if nat_lt (last_finalized x) v then record x { notarizations = map.insert x.notarizations v (Some encoding) } else x
 
-abbrev pub after_success : Facts → ℕ → List ℕ → Facts
+abbrev pub after_success : ResolverFacts → ℕ → List ℕ → ResolverFacts
 after_success x v encoding = after_raise (with_certified x v encoding) v
 
 -- a notarization above the last finalized view that failed is no longer served
-abbrev pub after_failure : Facts → ℕ → Facts
+abbrev pub after_failure : ResolverFacts → ℕ → ResolverFacts
 after_failure x v =
     if nat_lt (last_finalized x) v
     then record x { notarizations = map.insert x.notarizations v None; uncertifiable = insert_new x.uncertifiable v tt }
     else x
 
 -- v is above the floor and uncovered
-abbrev pub needs_nullification : Facts → ℕ → Bool
+abbrev pub needs_nullification : ResolverFacts → ℕ → Bool
 needs_nullification x v = nat_lt x.floor v && not (is_covered x.nullifications v)
 
 -- the fetches of failed views
 abbrev pub failure_fetches : List ℕ → List Effect
 failure_fetches vs = map (λ v. Fetch v v CertificationFailed) vs
 
-abbrev pub failing : Facts → ℕ → List ℕ
+abbrev pub failing : ResolverFacts → ℕ → List ℕ
 failing x v = if not x.replaying && needs_nullification x v then v ∷ [] else []
 
 -- ---- a call
 
 -- what a call makes of the facts before its scan
-abbrev pub before_scan : Facts → Call → Facts
+abbrev pub before_scan : ResolverFacts → Call → ResolverFacts
 before_scan x (Nullification v encoding) = after_nullification x v encoding
 before_scan x (Notarization v) = after_notarization x v
 before_scan x (Finalization v encoding) = after_finalization x v encoding
@@ -169,7 +169,7 @@ before_scan x (Verdict v encoding false) = after_failure x v
 before_scan x Replayed = record x { replaying = false }
 
 -- the facts after a call: all calls scan but a false verdict
-abbrev pub after : Facts → Call → Facts
+abbrev pub after : ResolverFacts → Call → ResolverFacts
 after x (Nullification v encoding) = after_scan (before_scan x (Nullification v encoding))
 after x (Notarization v) = after_scan (before_scan x (Notarization v))
 after x (Finalization v encoding) = after_scan (before_scan x (Finalization v encoding))
@@ -178,7 +178,7 @@ after x (Verdict v encoding false) = before_scan x (Verdict v encoding false)
 after x Replayed = after_scan (before_scan x Replayed)
 
 -- what a call settles
-abbrev pub settle_effects : Facts → Call → List Effect
+abbrev pub settle_effects : ResolverFacts → Call → List Effect
 settle_effects x (Nullification v encoding) = nullification_effects x v
 settle_effects x (Notarization v) = notarization_effects x v
 settle_effects x (Finalization v encoding) = finalization_effects x v
@@ -187,7 +187,7 @@ settle_effects x (Verdict v encoding false) = Settled OfNotarization v v ∷ []
 settle_effects x Replayed = []
 
 -- the effects that a call answers, in order
-abbrev pub effects : Facts → Call → List Effect
+abbrev pub effects : ResolverFacts → Call → List Effect
 effects x (Nullification v encoding) =
     settle_effects x (Nullification v encoding) ++ scan_fetches (before_scan x (Nullification v encoding)) v
 effects x (Notarization v) = settle_effects x (Notarization v) ++ scan_fetches (before_scan x (Notarization v)) v
@@ -213,7 +213,7 @@ highest_view (certificate.Nullification n) = n.round.view
 highest_view (certificate.Finalization f) = highest_named f.proposal
 
 -- why a call that names no view above v is refused, and what it leaves
-abbrev pub Refused : Facts → ℕ → Fault → Facts → Type 0
+abbrev pub Refused : ResolverFacts → ℕ → Fault → ResolverFacts → Type 0
 Refused old v OutOfMemory new =
     (old.is_failed ≡ false) × (v < 2 ^ 63) × (new.is_failed ≡ true) × (term_length new ≡ term_length old)
 Refused old v Failed new = (old.is_failed ≡ true) × (new ≡ old)

@@ -4,10 +4,10 @@ use Rattle.std.proofs.lemmas.List.{append-nil}
 use Rattle.std.specs.Io.KnownBytes.{Appends}
 use Rattle.simplex_types.specs.declared.types.fault.Fault.{Fault}
 use Rattle.simplex_types.specs.declared.types.fault.Fault.TheVariants as fault
-use Rattle.simplex_resolver.specs.Facts.{Facts, empty}
+use Rattle.simplex_resolver.specs.Facts.{ResolverFacts, empty}
 use Rattle.simplex_resolver.specs.Received.{NamesAView}
 use Rattle.simplex_resolver.specs.Steps.{Call, Replayed as EndOfReplay, Refused}
-use Rattle.simplex_replay.specs.Told.{ResolverFacts, HasBeenTold}
+use Rattle.simplex_replay.specs.Told.{LawfulResolverFacts, HasBeenTold}
 use Rattle.simplex_replay.proofs.Told.{still_told, opens_the_wanted, opens_none, opens_none_again, answers_the_told}
 use Rattle.simplex_program.specs.declared.resolver.Answer.{Answer}
 use Rattle.simplex_program.specs.declared.resolver.Answer.TheVariants as answer
@@ -22,12 +22,12 @@ use Rattle.simplex_program.specs.Words.{words_in}
 use Rattle.simplex_transcripts.specs.ResolverFetches.{Turn, answered_by, made_in, made_by, AreSpelled, replies_to, ResolverTranscriptsKeepFetches}
 use Rattle.simplex_transcripts.proofs.Growing.{nothing_appended, more_appended}
 
-abbrev of_parts : Facts → List ℕ → ResolverFacts
+abbrev of_parts : ResolverFacts → List ℕ → LawfulResolverFacts
 of_parts x fetching = record { state = x; open_fetches = fetching }
 
 -- ---- a line
 
-module _ (t : ℕ) (calls : List Call) (x y : Facts) (fetching left : List ℕ) (told : HasBeenTold t calls (of_parts x fetching)) where
+module _ (t : ℕ) (calls : List Call) (x y : ResolverFacts) (fetching left : List ℕ) (told : HasBeenTold t calls (of_parts x fetching)) where
   -- nothing is told, and nothing changes
   kept : IsKept x fetching y left → HasBeenTold t calls (of_parts y left)
   kept (same, same_left) = subst (λ z. HasBeenTold t calls (of_parts z left)) (sym same) (subst (λ views. HasBeenTold t calls (of_parts x views)) (sym same_left) told)
@@ -81,7 +81,7 @@ module _ (t : ℕ) (calls : List Call) (x y : Facts) (fetching left : List ℕ) 
 -- the lines between two points, asked of a resolver that was told these calls
 record FetchesFrom (t : ℕ) (calls : List Call) (lines : List (List ℕ)) (p q : Point) : Type 0 where
   pub turns : List Turn
-  pub end : Facts
+  pub end : ResolverFacts
   pub fetching : List ℕ
   pub left : q.asked ≡ Resolver end fetching
   pub spelled : AreSpelled lines turns
@@ -103,7 +103,7 @@ one_more t calls line lines p r q turn words appended s = record {
   told = subst (λ (all : List Call). HasBeenTold t all (of_parts s.end s.fetching)) (sym (append_assoc (made_by s.turns) (made_in turn.line turn.answer) calls)) s.told;
 }
 
-fetches_from : (t : ℕ) (calls : List Call) (lines : List (List ℕ)) (p q : Point) (x : Facts) (fetching : List ℕ) → p.asked ≡ Resolver x fetching → HasBeenTold t calls (of_parts x fetching) → AreAnswered p lines q → FetchesFrom t calls lines p q
+fetches_from : (t : ℕ) (calls : List Call) (lines : List (List ℕ)) (p q : Point) (x : ResolverFacts) (fetching : List ℕ) → p.asked ≡ Resolver x fetching → HasBeenTold t calls (of_parts x fetching) → AreAnswered p lines q → FetchesFrom t calls lines p q
 fetches_from t calls [] p q x fetching asked told same = record {
   turns = [];
   end = x;
@@ -118,13 +118,13 @@ fetches_from t calls (line ∷ lines) p q x fetching asked told (r, (reply, (nex
     given : (a : Asked) → r.asked ≡ a → Replies (Resolver x fetching) (without_feed line) reply a
     given a is = subst (λ b. Replies b (without_feed line) reply a) asked (subst (λ b. Replies p.asked (without_feed line) reply b) is replied)
 
-    by_parts : (y : Facts) (left : List ℕ) → r.asked ≡ Resolver y left → Replies (Resolver x fetching) (without_feed line) reply (Resolver y left) → ((more : List Call) (z : Facts) (views : List ℕ) → r.asked ≡ Resolver z views → HasBeenTold t more (of_parts z views) → FetchesFrom t more lines r q) → FetchesFrom t calls (line ∷ lines) p q
+    by_parts : (y : ResolverFacts) (left : List ℕ) → r.asked ≡ Resolver y left → Replies (Resolver x fetching) (without_feed line) reply (Resolver y left) → ((more : List Call) (z : ResolverFacts) (views : List ℕ) → r.asked ≡ Resolver z views → HasBeenTold t more (of_parts z views) → FetchesFrom t more lines r q) → FetchesFrom t calls (line ∷ lines) p q
     by_parts y left is (rline, a, words, answers, text) later =
         one_more t calls line lines p r q (record { line = rline; answer = a }) words
         (subst (λ bytes. Appends p.held r.held bytes) text appended)
         (later (made_in rline a ++ calls) y left is (of_line t calls x y fetching left told rline a answers))
 
-    by_asked : (a : Asked) → r.asked ≡ a → ((more : List Call) (z : Facts) (views : List ℕ) → r.asked ≡ Resolver z views → HasBeenTold t more (of_parts z views) → FetchesFrom t more lines r q) → FetchesFrom t calls (line ∷ lines) p q
+    by_asked : (a : Asked) → r.asked ≡ a → ((more : List Call) (z : ResolverFacts) (views : List ℕ) → r.asked ≡ Resolver z views → HasBeenTold t more (of_parts z views) → FetchesFrom t more lines r q) → FetchesFrom t calls (line ∷ lines) p q
     by_asked (Member n m) is later = absurd (given (Member n m) is)
     by_asked (Resolver y left) is later = by_parts y left is (given (Resolver y left) is) later
 

@@ -2,7 +2,7 @@
 use Rattle.std.specs.Prelude.{◌≡◌, ◌⊎◌, ℕ, ◌+◌, ⊤, List, [], ◌∷◌, ◌++◌, length, Option, Result, Err}
 use Rattle.std.specs.Io.KnownBytes.{Keeps, Appends}
 use Rattle.simplex_resolver.specs.Steps.{Call, Replayed as EndOfReplay}
-use Rattle.simplex_replay.specs.Told.{ResolverFacts, HasBeenTold, OpensTheWanted, OpensNone, OpensNoneAgain, AnswersTheTold}
+use Rattle.simplex_replay.specs.Told.{LawfulResolverFacts, HasBeenTold, OpensTheWanted, OpensNone, OpensNoneAgain, AnswersTheTold}
 use Rattle.simplex_program.specs.declared.mode.Mode.TheVariants.{Resolver}
 use Rattle.simplex_program.specs.declared.serve_error.ServeError.{ServeError}
 use Rattle.simplex_program.specs.declared.serve_error.ServeError.TheVariants.{OutOfMemory}
@@ -57,14 +57,14 @@ replies_to [] = []
 replies_to (turn ∷ turns) = reply_line (resolver_reply_text turn.answer) ++ replies_to turns
 
 -- the laws of all that a resolver was told
-pub record KeepsFetches (term_length : ℕ) (calls : List Call) (r : ResolverFacts) : Type 0 where
+pub record KeepsFetches (term_length : ℕ) (calls : List Call) (r : LawfulResolverFacts) : Type 0 where
   pub wanted : OpensTheWanted r term_length calls
   pub none : OpensNone r term_length calls
   pub again : OpensNoneAgain r term_length calls
   pub answers : AnswersTheTold r term_length calls
 
 -- the lines, and the replies that a writer holds besides, tell a resolver these calls, and leave it so
-pub record IsTranscribed (term_length : ℕ) (lines : List (List ℕ)) (old new : Option (List ℕ)) (r : ResolverFacts) : Type 0 where
+pub record IsTranscribed (term_length : ℕ) (lines : List (List ℕ)) (old new : Option (List ℕ)) (r : LawfulResolverFacts) : Type 0 where
   pub turns : List Turn
   pub spelled : AreSpelled lines turns
   pub written : Appends old new (replies_to turns)
@@ -72,7 +72,8 @@ pub record IsTranscribed (term_length : ℕ) (lines : List (List ℕ)) (old new 
   pub laws : KeepsFetches term_length (made_by turns) r
 
 -- a resolver answered lines from its start on, and then serving ended; this is what is left of it
-pub record IsServedBy (term_length : ℕ) (held : Option (List ℕ)) (r : Result (Unit {0}) ServeError) (after : Option (List ℕ)) (left : ResolverFacts) : Type 0 where
+pub record IsServedBy (term_length : ℕ) (held : Option (List ℕ)) (r : Result (Unit {0}) ServeError) (after : Option (List ℕ))
+    (left : LawfulResolverFacts) : Type 0 where
   pub lines : List (List ℕ)
   pub last : Point
   pub asked : last.asked ≡ Asks left.state left.open_fetches
@@ -85,4 +86,4 @@ ResolverTranscriptsKeepFetches =
     (term_length : ℕ) (left held : Option (List ℕ)) (r : Result (Unit {0}) ServeError) (after : Option (List ℕ))
     → IsServed (Resolver term_length)
     → Transcribes (Resolver term_length) left held r after
-    → ((r ≡ Err OutOfMemory) × Keeps held after) ⊎ ((resolver : ResolverFacts) × IsServedBy term_length held r after resolver)
+    → ((r ≡ Err OutOfMemory) × Keeps held after) ⊎ ((resolver : LawfulResolverFacts) × IsServedBy term_length held r after resolver)

@@ -4,7 +4,7 @@ use Rattle.std.specs.Prelude.{option_map, map as map_list}
 use Rattle.std.proofs.lemmas.Bool.{false≢true}
 use Rattle.simplex_types.specs.Certificates.{ProposalFacts}
 use Rattle.simplex_round.specs.Round.{RoundFacts, new_round, token_of, after_abort}
-use Rattle.simplex_voter.specs.Facts.{Facts, Elect, round_of, round_number}
+use Rattle.simplex_voter.specs.Facts.{StateFacts, Elect, round_of, round_number}
 use Rattle.simplex_voter.specs.Entering.{at_moment, with_view_entered}
 use Rattle.simplex_voter.specs.Leaders.{with_elected_leader, with_window_leaders}
 use Rattle.simplex_voter.specs.Certification.{named_also, with_finalized_view, without_token, with_waiting_candidate}
@@ -21,7 +21,7 @@ not_false true c is some = absurd (false≢true (sym is ∙ some))
 not_false false c is some = refl
 
 -- x is what was known, y after the election for the next view, z after the notarization is kept
-module _ {K L D : Type 0} (same : D → D → Bool) (elect : Elect L) (x y z : Facts K L D) (c : ProposalFacts D) (v next : ℕ) (at : v ≡ c.proposal.round.view) (after : next ≡ v + 1) (is : y ≡ with_elected_leader elect x next (Some c.bytes)) where
+module _ {K L D : Type 0} (same : D → D → Bool) (elect : Elect L) (x y z : StateFacts K L D) (c : ProposalFacts D) (v next : ℕ) (at : v ≡ c.proposal.round.view) (after : next ≡ v + 1) (is : y ≡ with_elected_leader elect x next (Some c.bytes)) where
   abbrev view : ℕ
   view = c.proposal.round.view
 
@@ -42,7 +42,7 @@ module _ {K L D : Type 0} (same : D → D → Bool) (elect : Elect L) (x y z : F
     pub notarized_again : added.0 ≡ false → z ≡ after_add_notarization same elect x c
     notarized_again again = rw (not_true _ _ shows again) kept_there
 
-    pub notarized_first : added.0 ≡ true → (s n : Facts K L D) → n ≡ named_also z v → s ≡ with_window_leaders n v → s ≡ after_add_notarization same elect x c
+    pub notarized_first : added.0 ≡ true → (s n : StateFacts K L D) → n ≡ named_also z v → s ≡ with_window_leaders n v → s ≡ after_add_notarization same elect x c
     notarized_first first s n named slides =
         rw (not_false _ _ shows first) (
         slides ∙ ap (λ w. with_window_leaders w v) (named ∙ ap (λ w. named_also w v) kept_there)
@@ -64,7 +64,7 @@ module _ {K D : Type 0} (same : D → D → Bool) (c : ProposalFacts D) where
   added_found b None fresh = refl
   added_found b (Some r) fresh = added_ended b r
 
-  added_raised : {L : Type 0} (x : Facts K L D) (v : ℕ) → added_by (round_of (with_finalized_view x v) v) ≡ added_by (round_of x v)
+  added_raised : {L : Type 0} (x : StateFacts K L D) (v : ℕ) → added_by (round_of (with_finalized_view x v) v) ≡ added_by (round_of x v)
   added_raised x v =
       let fresh : RoundFacts K D = new_round x.me x.members (round_number x v) in
       elim (ltb x.finalized v) as (λ b. added_by (round_of (cond b (record x {
@@ -78,11 +78,11 @@ module _ {K D : Type 0} (same : D → D → Bool) (c : ProposalFacts D) where
 
 -- x is what was known, m at the moment, a with the finalized view raised, b with the next view entered, y after the
 -- election for it, z after the finalization is kept
-module _ {K L D : Type 0} (same : D → D → Bool) (elect : Elect L) (x m a b y z : Facts K L D) (c : ProposalFacts D) (v next following now : ℕ) (at : v ≡ c.proposal.round.view) (next_is : next ≡ v + 1) (following_is : following ≡ v + 1) (noted : m ≡ at_moment x now) (raises : a ≡ with_finalized_view m v) (enters : b ≡ with_view_entered a next now) (elects : y ≡ with_elected_leader elect b following (Some c.bytes)) where
+module _ {K L D : Type 0} (same : D → D → Bool) (elect : Elect L) (x m a b y z : StateFacts K L D) (c : ProposalFacts D) (v next following now : ℕ) (at : v ≡ c.proposal.round.view) (next_is : next ≡ v + 1) (following_is : following ≡ v + 1) (noted : m ≡ at_moment x now) (raises : a ≡ with_finalized_view m v) (enters : b ≡ with_view_entered a next now) (elects : y ≡ with_elected_leader elect b following (Some c.bytes)) where
   abbrev finalized_view : ℕ
   finalized_view = c.proposal.round.view
 
-  abbrev entered_there : Facts K L D
+  abbrev entered_there : StateFacts K L D
   entered_there = with_view_entered (with_finalized_view (at_moment x now) finalized_view) (finalized_view + 1) now
 
   after_raise : a ≡ with_finalized_view (at_moment x now) finalized_view
@@ -109,7 +109,7 @@ module _ {K L D : Type 0} (same : D → D → Bool) (elect : Elect L) (x m a b y
     shows_finalized : added.0 ≡ not (is_some (round_of x finalized_view).finalization)
     shows_finalized = ap (λ a. a.0) (answer ∙ finalization_stays_added) ∙ first_added same (round_of x finalized_view).finalization (round_of x finalized_view) c
 
-    abbrev kept_finalization : Facts K L D
+    abbrev kept_finalization : StateFacts K L D
     kept_finalization = with_finalization_at same elect (with_elected_leader elect entered_there (finalized_view + 1) (Some c.bytes)) c
 
     finalization_kept : z ≡ kept_finalization
@@ -118,7 +118,7 @@ module _ {K L D : Type 0} (same : D → D → Bool) (elect : Elect L) (x m a b y
     pub finalized_again : added.0 ≡ false → z ≡ after_add_finalization same elect x c now
     finalized_again again = rw (not_true _ _ shows_finalized again) finalization_kept
 
-    pub finalized_first : added.0 ≡ true → (s n : Facts K L D) → n ≡ with_waiting_candidate elect z v → s ≡ with_window_leaders n v → s ≡ after_add_finalization same elect x c now
+    pub finalized_first : added.0 ≡ true → (s n : StateFacts K L D) → n ≡ with_waiting_candidate elect z v → s ≡ with_window_leaders n v → s ≡ after_add_finalization same elect x c now
     finalized_first first s n wakes slides =
         rw (not_false _ _ shows_finalized first) (
         slides ∙ ap (λ w. with_window_leaders w v) (wakes ∙ ap (λ w. with_waiting_candidate elect w v) finalization_kept)

@@ -11,14 +11,14 @@ use Rattle.simplex_round.specs.declared.round.Leader.{Leader}
 use Rattle.simplex_round.specs.Round.{RoundFacts, new_round, should_propose}
 use Rattle.simplex_voter.specs.declared.voter.propose.ProposalRequest.{ProposalRequest}
 use Rattle.simplex_voter.specs.declared.voter.propose.ProposalRequest.TheVariants.{Prepare, Propose}
-use Rattle.simplex_voter.specs.Facts.{Facts, Elect, round_of, round_number}
+use Rattle.simplex_voter.specs.Facts.{StateFacts, Elect, round_of, round_number}
 use Rattle.simplex_voter.specs.Windows.{is_start, is_admitted}
 use Rattle.simplex_voter.specs.Parents.{preferred_parent}
 use Rattle.simplex_voter.specs.Proposing.{request_context, context_on, parent_certified, voted_nullify, request_on, request_in, views_ahead, propose_answer}
 use Rattle.simplex_voter.proofs.Gaps.{and_parts}
 use Rattle.simplex_voter.proofs.Found.{found_each, found_filtered, first_giver}
 
-module _ {K L D : Type 0} (same : D → D → Bool) (elect : Elect L) (x : Facts K L D) where
+module _ {K L D : Type 0} (same : D → D → Bool) (elect : Elect L) (x : StateFacts K L D) where
   -- what is requested on a parent is for the view
   request_view : (v : ℕ) (r : RoundFacts K D) (parent : ℕ × D) (request : ProposalRequest D K) → request_on same x v r parent ≡ Some request → (request_context request).round.view ≡ v
   request_view v r parent request is = by_start (is_start x v && not (parent_certified same x parent)) is

@@ -6,7 +6,7 @@ use Rattle.simplex_types.specs.declared.types.messages.Proposal.{Proposal}
 use Rattle.simplex_round.specs.Round.{RoundFacts}
 use Rattle.simplex_voter.specs.declared.voter.chains.Basis.{Basis}
 use Rattle.simplex_voter.specs.declared.voter.chains.Basis.TheVariants.{Certain, Vote}
-use Rattle.simplex_voter.specs.Facts.{Facts, Elect, round_at}
+use Rattle.simplex_voter.specs.Facts.{StateFacts, Elect, round_at}
 use Rattle.simplex_voter.specs.Windows.{is_notarized}
 use Rattle.simplex_voter.specs.Payloads.{serves, follows, is_bound_to, voted_payload, served_payload, optimistic_payload}
 use Rattle.simplex_voter.specs.Chains.{payload_of, unrefused_payload, basis_of, basis_at}
@@ -21,7 +21,7 @@ abbrev pub reach : {D : Type 0} → Basis D → ℕ
 reach (Certain d) = 0
 reach (Vote p bound) = p.parent + 1
 
-module _ {K L D : Type 0} (elect : Elect L) (x : Facts K L D) (v : ℕ) (b : Basis D) where
+module _ {K L D : Type 0} (elect : Elect L) (x : StateFacts K L D) (v : ℕ) (b : Basis D) where
   -- each step leads to a lower view
   pub reach-below : Some b ≡ basis_at elect x v → reach b ≤ v
   reach-below is = by_zero (v == 0) is
@@ -56,7 +56,7 @@ module _ {K L D : Type 0} (elect : Elect L) (x : Facts K L D) (v : ℕ) (b : Bas
       by_zero true same_one = certain x.genesis same_one
       by_zero false same_one = by_round (round_at x v) same_one
 
-module _ {K L D : Type 0} (same : D → D → Bool) (elect : Elect L) (x : Facts K L D) where
+module _ {K L D : Type 0} (same : D → D → Bool) (elect : Elect L) (x : StateFacts K L D) where
   abbrev offers : ℕ → Option D
   offers = optimistic_payload same elect x
 

@@ -12,7 +12,7 @@ use Rattle.simplex_types.specs.ByTerm as by
 use Rattle.simplex_types.proofs.Gaps.{any_last}
 use Rattle.simplex_types.proofs.Maps.{entries-retain_keys}
 use Rattle.simplex_round.specs.Round.{RoundFacts, is_judged}
-use Rattle.simplex_voter.specs.Facts.{Facts}
+use Rattle.simplex_voter.specs.Facts.{StateFacts}
 use Rattle.simplex_voter.specs.Gaps.{is_covered, IsGapless, IsFirstGap, first_gap}
 use Rattle.simplex_voter.specs.Rounds.{is_refused_between}
 use Rattle.simplex_voter.proofs.Gaps.{first_gap-is}
@@ -22,7 +22,7 @@ mapped_some : {A B : Type 0} (f : A → B) (o : Option A) → is_some (option_ma
 mapped_some f None = refl
 mapped_some f (Some a) = refl
 
-module _ {K L D : Type 0} (x : Facts K L D) (m : by.TermMap (Unit {0})) (shown : x.nullified ≡ fin.keys m.by_view) (same : m.term_length ≡ x.terms.term_length) where
+module _ {K L D : Type 0} (x : StateFacts K L D) (m : by.TermMap (Unit {0})) (shown : x.nullified ≡ fin.keys m.by_view) (same : m.term_length ≡ x.terms.term_length) where
   covered_alike : (w : ℕ) → by.is_covered m w ≡ is_covered x w
   covered_alike w = rw (shown, ← same) refl
 

@@ -7,12 +7,12 @@ use Rattle.std.proofs.lemmas.Bool.{ne_eqb}
 use Rattle.simplex_types.proofs.Maps.{is_eq-nat_cmp}
 use Rattle.simplex_types.specs.Certificates.{ProposalFacts}
 use Rattle.simplex_round.specs.Round.{RoundFacts, leader_at, new_round}
-use Rattle.simplex_voter.specs.Facts.{Facts, Elect, round_of, round_number, with_round}
+use Rattle.simplex_voter.specs.Facts.{StateFacts, Elect, round_of, round_number, with_round}
 use Rattle.simplex_voter.specs.Entering.{with_view_entered, entered_round}
 use Rattle.simplex_voter.specs.Leaders.{has_leader, with_leader_at, with_elected_leader}
 use Rattle.simplex_voter.specs.Acceptance.{added_answer}
 
-module _ {K L D : Type 0} (x : Facts K L D) (v w : ℕ) (apart : v ≢ w) where
+module _ {K L D : Type 0} (x : StateFacts K L D) (v w : ℕ) (apart : v ≢ w) where
   found_alike : (r : RoundFacts K D) → find nat_cmp v (put nat_cmp w r x.rounds) ≡ find nat_cmp v x.rounds
   found_alike r = find-put nat_cmp nat_cmp_total v w r x.rounds ∙ ap (λ b. cond b (Some r) (find nat_cmp v x.rounds)) (is_eq-nat_cmp v w ∙ ne_eqb v w apart)
 

@@ -4,7 +4,7 @@ use Rattle.std.specs.List.{filter_map, cons_option, last_or}
 use Rattle.std.proofs.lemmas.Bool.{false≢true}
 use Rattle.std.proofs.lemmas.List.Elements.{filter_map-append}
 use Rattle.simplex_round.specs.Round.{RoundFacts}
-use Rattle.simplex_voter.specs.Facts.{Facts}
+use Rattle.simplex_voter.specs.Facts.{StateFacts}
 use Rattle.simplex_voter.specs.Parents.{at_view, explicit_at, explicit_below, highest_explicit}
 use Rattle.simplex_voter.proofs.Gaps.{cases_bool}
 
@@ -43,7 +43,7 @@ pub none_left : {A B : Type 0} (h : A → Option B) (xs : List A) → length xs 
 none_left h [] is = refl
 none_left h (x ∷ xs) is = absurd (omega (arith, is))
 
-module _ {K L D : Type 0} (x : Facts K L D) (v : ℕ) where
+module _ {K L D : Type 0} (x : StateFacts K L D) (v : ℕ) where
   explicit_kept : (es : List (ℕ × RoundFacts K D)) → filter_map (explicit_at x) (filter (λ e. ltb e.0 v) es) ≡ filter_map (explicit_below x v) es
   explicit_kept [] = refl
   explicit_kept (e ∷ es) = elim (cases_bool (ltb e.0 v)) [

@@ -9,7 +9,7 @@ use Rattle.std.proofs.lemmas.Bool.{cases_lt, eqb-true, false≢true}
 use Rattle.std.proofs.lemmas.Bool.Decides.{nat_tests}
 use Rattle.simplex_types.specs.Terms.{term_start, next_term_start, covers}
 use Rattle.simplex_types.proofs.Gaps.{same_start, next_above}
-use Rattle.simplex_voter.specs.Facts.{Facts}
+use Rattle.simplex_voter.specs.Facts.{StateFacts}
 use Rattle.simplex_voter.specs.Acceptance.{nullified_also}
 use Rattle.simplex_voter.specs.Gaps.{is_covered, IsGapless, IsFirstGap, lower_of, lowest, gap_starts, is_gap, first_gap}
 
@@ -105,7 +105,7 @@ module _ (test : ℕ → Bool) where
         ]
   ]
 
-module _ {K L D : Type 0} (x : Facts K L D) where
+module _ {K L D : Type 0} (x : StateFacts K L D) where
   abbrev length : ℕ
   length = x.terms.term_length
 
@@ -216,5 +216,5 @@ any-insert_key test (v ∷ us) u h = elim (nat_cmp u v) as (λ o. list_any test 
   ]
 ]
 
-pub covering_stays : {K L D : Type 0} (x : Facts K L D) (u w : ℕ) → is_covered x w ≡ true → is_covered (nullified_also x u) w ≡ true
+pub covering_stays : {K L D : Type 0} (x : StateFacts K L D) (u w : ℕ) → is_covered x w ≡ true → is_covered (nullified_also x u) w ≡ true
 covering_stays x u w h = any-insert_key (λ n. covers x.terms.term_length n w) x.nullified u h

@@ -11,7 +11,7 @@ use Rattle.simplex_types.specs.Tracked.{last_entry}
 use Rattle.simplex_types.specs.Terms.{covers}
 use Rattle.simplex_types.proofs.Entries.{Rises}
 use Rattle.simplex_types.proofs.Maps.{entries-retain_keys, map_rises}
-use Rattle.simplex_voter.specs.Facts.{Facts}
+use Rattle.simplex_voter.specs.Facts.{StateFacts}
 use Rattle.simplex_voter.specs.Rules.{is_gated}
 use Rattle.simplex_voter.proofs.Gaps.{cases_bool}
 
@@ -50,7 +50,7 @@ module _ {V : Type 0} where
       sym (ap (λ es. list_any (λ u. ltb t u) (map (λ e. e.0) es)) (entries-retain_keys m p) ∙ any_kept p (λ u. ltb t u) (fin.entries m))
       ∙ above_by_last t (fin.entries k) (map_rises k)
 
-module _ {K L D : Type 0} (x : Facts K L D) (m : TermMap (Unit {0})) (v : ℕ) (shown : x.nullify_votes ≡ fin.keys m.by_view) (same : m.term_length ≡ x.terms.term_length) where
+module _ {K L D : Type 0} (x : StateFacts K L D) (m : TermMap (Unit {0})) (v : ℕ) (shown : x.nullify_votes ≡ fin.keys m.by_view) (same : m.term_length ≡ x.terms.term_length) where
   gate_is : (found : Option (ℕ × Unit {0})) → found ≡ covering_below m v → option_map_or (λ e. ltb x.finalized e.0) found false ≡ is_gated x v
   unfolding is_gated
   gate_is found is =

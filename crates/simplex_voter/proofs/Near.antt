@@ -2,7 +2,7 @@
 use Rattle.std.proofs.Common.{◌≡◌, ℕ, ◌+◌, ◌^◌, ◌<◌, ◌≤◌, true, inl, inr, arith}
 use Rattle.simplex_types.specs.Terms.{next_term_start}
 use Rattle.simplex_types.proofs.Covers.{start_below, end_above}
-use Rattle.simplex_voter.specs.Facts.{Facts}
+use Rattle.simplex_voter.specs.Facts.{StateFacts}
 use Rattle.simplex_voter.specs.Windows.{is_admitted}
 use Rattle.simplex_voter.proofs.Windows.{outbound_agrees}
 
@@ -12,7 +12,7 @@ next_near length current some short started near =
     let end = end_above length current some started in
     (omega (arith, end), omega (arith, start, short, near))
 
-pub admitted_near : {K L D : Type 0} (x : Facts K L D) (v : ℕ) → is_admitted x v ≡ true → 0 < x.terms.term_length → x.terms.term_length < 2 ^ 32 → 1 ≤ x.current → x.current ≤ 2 ^ 63 + 2 ^ 32 → v < 2 ^ 63 + 2 ^ 33
+pub admitted_near : {K L D : Type 0} (x : StateFacts K L D) (v : ℕ) → is_admitted x v ≡ true → 0 < x.terms.term_length → x.terms.term_length < 2 ^ 32 → 1 ≤ x.current → x.current ≤ 2 ^ 63 + 2 ^ 32 → v < 2 ^ 63 + 2 ^ 33
 unfolding is_admitted
 admitted_near x v admitted some short started near =
     let next = next_near x.terms.term_length x.current some short started near in

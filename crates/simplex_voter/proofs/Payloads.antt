@@ -8,7 +8,7 @@ use Rattle.std.proofs.lemmas.Bool.Decides.{nat_tests}
 use Rattle.simplex_types.proofs.Maps.{is_eq-nat_cmp}
 use Rattle.simplex_types.specs.declared.types.messages.Proposal.{Proposal}
 use Rattle.simplex_round.specs.Round.{RoundFacts}
-use Rattle.simplex_voter.specs.Facts.{Facts, Elect, round_at}
+use Rattle.simplex_voter.specs.Facts.{StateFacts, Elect, round_at}
 use Rattle.simplex_voter.specs.Payloads.{follows, is_bound_to, voted_payload, served_payload, payload_by, payload_within, optimistic_payload}
 use Rattle.simplex_voter.proofs.Gaps.{cases_bool, and_parts}
 
@@ -74,14 +74,14 @@ each_same : {A B : Type 0} (f g : A → Option B) (o : Option A) → ((a : A) �
 each_same f g None h = refl
 each_same f g (Some a) h = h a refl
 
-pub follows-below : {K L D : Type 0} (x : Facts K L D) (v p : ℕ) → follows x v p ≡ true → p < v
+pub follows-below : {K L D : Type 0} (x : StateFacts K L D) (v p : ℕ) → follows x v p ≡ true → p < v
 unfolding follows
 follows-below x v p h =
     let parts = and_parts (leb x.finalized p && ltb p v) _ h in
     let low = and_parts (leb x.finalized p) _ parts.0 in
     grind (arith, nat_tests)
 
-module _ {K L D : Type 0} (same : D → D → Bool) (elect : Elect L) (x : Facts K L D) where
+module _ {K L D : Type 0} (same : D → D → Bool) (elect : Elect L) (x : StateFacts K L D) where
   voted_same : (f g : ℕ → Option D) (v : ℕ) (r : RoundFacts K D) (h : Proposal D) → ((p : ℕ) → p < v → f p ≡ g p) → voted_payload same elect x f v r h ≡ voted_payload same elect x g v r h
   voted_same f g v r h alike =
       guarded (follows x v h.parent) _ _ None

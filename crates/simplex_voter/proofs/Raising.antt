@@ -6,7 +6,7 @@ use Rattle.std.specs.FinMap as map
 use Rattle.std.proofs.lemmas.Bool.Decides.{nat_tests}
 use Rattle.simplex_types.specs.Tracked.{at_or_above}
 use Rattle.simplex_round.specs.Round.{RoundFacts}
-use Rattle.simplex_voter.specs.Facts.{Facts}
+use Rattle.simplex_voter.specs.Facts.{StateFacts}
 use Rattle.simplex_voter.specs.Certification.{without_token, with_finalized_view}
 use Rattle.simplex_voter.specs.Rounds.{RoundsFacts, round_at, IsKept, AreKept}
 use Rattle.simplex_voter.proofs.RoundsKept.{keys-kept}
@@ -18,7 +18,7 @@ next_below : (v w : ℕ) → leb (v + 1) w ≡ ltb v w
 next_below v w = grind (arith, nat_tests)
 
 module _ {K L D : Type 0} where
-  pub raised_shown : (x : Facts K L D) (n : map.FinMap nat_cmp (Unit {0})) (rounds : List (ℕ × RoundFacts K D)) (v : ℕ) → x.named ≡ map.keys n → ltb x.finalized v ≡ true → rounds ≡ map_list (λ e. (e.0, cond (leb e.0 v) (without_token e.1) e.1)) x.rounds → record x { finalized = v; named = map.keys (at_or_above n (v + 1)); rounds = rounds } ≡ with_finalized_view x v
+  pub raised_shown : (x : StateFacts K L D) (n : map.FinMap nat_cmp (Unit {0})) (rounds : List (ℕ × RoundFacts K D)) (v : ℕ) → x.named ≡ map.keys n → ltb x.finalized v ≡ true → rounds ≡ map_list (λ e. (e.0, cond (leb e.0 v) (without_token e.1) e.1)) x.rounds → record x { finalized = v; named = map.keys (at_or_above n (v + 1)); rounds = rounds } ≡ with_finalized_view x v
   raised_shown x n rounds v shown above is =
       let left = keys-kept n (v + 1) ∙ ap (filter (λ w. leb (v + 1) w)) (sym shown) ∙ (λ i. filter (λ w. next_below v w i) x.named) in
       rw above ((λ i. record x { finalized = v; named = left i; rounds = is i }))

@@ -5,10 +5,10 @@ use Rattle.std.specs.Ordering.{nat_cmp, eq_by_cmp}
 use Rattle.std.specs.FinMap as map
 use Rattle.simplex_types.proofs.Maps.{is_eq-nat_cmp}
 use Rattle.std.proofs.lemmas.Bool.Decides.{nat_tests}
-use Rattle.simplex_voter.specs.Facts.{Facts}
+use Rattle.simplex_voter.specs.Facts.{StateFacts}
 use Rattle.simplex_voter.specs.Proposing.{voted_nullify}
 
-module _ {K L D : Type 0} (x : Facts K L D) where
+module _ {K L D : Type 0} (x : StateFacts K L D) where
   any_same : (v : ℕ) (us : List ℕ) → list_any (eq_by_cmp nat_cmp v) us ≡ list_any (λ u. eqb u v) us
   any_same v [] = refl
   any_same v (u ∷ us) =

@@ -6,7 +6,7 @@ use Rattle.std.proofs.lemmas.Bool.Decides.{nat_tests}
 use Rattle.simplex_types.specs.declared.types.messages.Proposal.{Proposal}
 use Rattle.simplex_round.specs.Round.{is_pending, is_nullify, can_notarize, can_finalize}
 use Rattle.simplex_round.specs.Slot.{is_unequivocated}
-use Rattle.simplex_voter.specs.Facts.{Facts, Elect, round_of}
+use Rattle.simplex_voter.specs.Facts.{StateFacts, Elect, round_of}
 use Rattle.simplex_voter.specs.Windows.{is_start, is_admitted, in_window}
 use Rattle.simplex_voter.specs.Rules.{may_notarize, may_nullify, may_finalize, is_gated, has_required_parent, required_parent, has_ancestry, NotarizeRule, NullifyRule, FinalizeRule}
 use Rattle.simplex_voter.proofs.Gaps.{cases_bool, and_parts, and_both, not_true}
@@ -26,7 +26,7 @@ if_or false c h = refl
 some_same : (a b : ℕ) → Some a ≡ Some b → a ≡ b
 some_same a b e = ap (λ o. unwrap_or o a) e
 
-module _ {K L D : Type 0} (x : Facts K L D) (v : ℕ) where
+module _ {K L D : Type 0} (x : StateFacts K L D) (v : ℕ) where
   pub nullify_parts : may_nullify x v ≡ true → NullifyRule x v
   unfolding may_nullify
   nullify_parts h =
@@ -37,7 +37,7 @@ module _ {K L D : Type 0} (x : Facts K L D) (v : ℕ) where
   unfolding may_nullify
   nullify_whole rule = and_both (v == x.current) _ (eq-eqb v x.current rule.current) (not_false _ rule.no_finalize)
 
-module _ {K L D : Type 0} (elect : Elect L) (x : Facts K L D) (v : ℕ) where
+module _ {K L D : Type 0} (elect : Elect L) (x : StateFacts K L D) (v : ℕ) where
   pub finalize_parts : may_finalize elect x v ≡ true → FinalizeRule elect x v
   unfolding may_finalize
   finalize_parts h =
@@ -70,7 +70,7 @@ module _ {K L D : Type 0} (elect : Elect L) (x : Facts K L D) (v : ℕ) where
   finalize_whole rule =
       rw (lt-ltb x.finalized v rule.above_finalized, rule.admitted, rule.not_gated, rule.parent, rule.undecided, rule.unequivocated, rule.notarized, rule.certified) refl
 
-module _ {K L D : Type 0} (same : D → D → Bool) (elect : Elect L) (x : Facts K L D) (v : ℕ) where
+module _ {K L D : Type 0} (same : D → D → Bool) (elect : Elect L) (x : StateFacts K L D) (v : ℕ) where
   -- what the rule asks of the view's own round
   pub notarize_round : may_notarize same elect x v ≡ true → can_notarize (round_of x v) ≡ true
   unfolding may_notarize
@@ -113,7 +113,7 @@ just_below p v q b e =
     let before : p + 1 ≡ v = eqb-true (p + 1) v (and_parts (p + 1 == v) b parts.0).0 in
     omega arith
 
-pub required_before : {K L D : Type 0} (elect : Elect L) (x : Facts K L D) (v q : ℕ) (p : Proposal D) → 0 < v → required_parent elect x v p ≡ Some q → q + 1 ≡ v
+pub required_before : {K L D : Type 0} (elect : Elect L) (x : StateFacts K L D) (v q : ℕ) (p : Proposal D) → 0 < v → required_parent elect x v p ≡ Some q → q + 1 ≡ v
 unfolding required_parent
 required_before elect x v q p some e = elim (cases_bool (is_start x v)) [
   | inl start ↦ just_below p.parent v q _ (rw start at e)

@@ -19,7 +19,7 @@ use Rattle.simplex_voter.specs.declared.voter.verify.Standing.{Standing}
 use Rattle.simplex_voter.specs.declared.voter.verify.Standing.TheVariants.{Passed, Invalid, Lacks, Ready}
 use Rattle.simplex_voter.specs.declared.voter.verify.Verify.{Verify}
 use Rattle.simplex_voter.specs.declared.voter.verify.Verify.TheVariants as verify
-use Rattle.simplex_voter.specs.Facts.{Facts, Elect, round_at, round_of, round_number}
+use Rattle.simplex_voter.specs.Facts.{StateFacts, Elect, round_at, round_of, round_number}
 use Rattle.simplex_voter.specs.Windows.{is_admitted}
 use Rattle.simplex_voter.specs.Proposing.{views_within, views_ahead}
 use Rattle.simplex_voter.specs.Verifying.{round_left, is_answered, answer_at, left_at, parent_standing, standing, answer_in, verify_answer, was_scanned, scan_left, after_try_verify}
@@ -119,14 +119,14 @@ either false a = refl
 
 module _ {K L D : Type 0} (same : D → D → Bool) (elect : Elect L) where
   -- where nothing is to be verified, nothing is left to do
-  pub passed_by : (x : Facts K L D) (v : ℕ) (r : RoundFacts K D) → Some r ≡ round_at x v → None ≡ pending_proposal r → x ≡ left_at x (v, round_of x v) (standing same elect x (v, round_of x v))
+  pub passed_by : (x : StateFacts K L D) (v : ℕ) (r : RoundFacts K D) → Some r ≡ round_at x v → None ≡ pending_proposal r → x ≡ left_at x (v, round_of x v) (standing same elect x (v, round_of x v))
   unfolding standing
   passed_by x v r here none =
       let at : round_of x v ≡ r = ap (λ o. unwrap_or o (new_round x.me x.members (round_number x v))) (sym here) in
       let passes : standing same elect x (v, r) ≡ Passed = ap (λ o. cond (is_admitted x v) (option_map_or (λ (found : Leader K × Proposal D). parent_standing same elect x v r found.1.parent) o Passed) Passed) (sym none) ∙ either (is_admitted x v) Passed in
       sym (ap (λ s. left_at x (v, s) (standing same elect x (v, s))) at ∙ ap (left_at x (v, r)) passes)
 
-  module _ (x : Facts K L D) where
+  module _ (x : StateFacts K L D) where
     abbrev stands : ℕ → RoundFacts K D → Standing D
     stands q r = standing same elect x (q, r)
 
@@ -167,7 +167,7 @@ module _ {K L D : Type 0} (same : D → D → Bool) (elect : Elect L) where
     left_until n q r = cond (leb x.current q && ltb q n) (round_left r x.moment (stands q r)) r
 
     -- the scan has passed the views below n, and none had an answer
-    pub record IsScanned (y : Facts K L D) (n : ℕ) : Type 0 where
+    pub record IsScanned (y : StateFacts K L D) (n : ℕ) : Type 0 where
       pub others : record y { rounds = x.rounds } ≡ x
       pub each : (q : ℕ) → round_at y q ≡ option_map (left_until n q) (round_at x q)
       pub silent : (q : ℕ) (r : RoundFacts K D) → x.current ≤ q → q < n → round_at x q ≡ Some r → is_answered (stands q r) ≡ false
@@ -224,17 +224,17 @@ module _ {K L D : Type 0} (same : D → D → Bool) (elect : Elect L) where
           scanned_is q ∙ ap (λ b. is_some (cond (reach q) (round_at x q) None) && not b) some ∙ never _
 
       -- the facts that the scan leaves, by each view
-      all_left : (z : Facts K L D) (n : ℕ) → record z { rounds = x.rounds } ≡ x → is_sorted nat_cmp z.rounds ≡ true → ((q : ℕ) → round_at z q ≡ option_map (left_until n q) (round_at x q)) → ((q : ℕ) (t : RoundFacts K D) → round_at x q ≡ Some t → (leb x.current q && ltb q n) ≡ was_scanned same elect x q) → z ≡ after_try_verify same elect x
+      all_left : (z : StateFacts K L D) (n : ℕ) → record z { rounds = x.rounds } ≡ x → is_sorted nat_cmp z.rounds ≡ true → ((q : ℕ) → round_at z q ≡ option_map (left_until n q) (round_at x q)) → ((q : ℕ) (t : RoundFacts K D) → round_at x q ≡ Some t → (leb x.current q && ltb q n) ≡ was_scanned same elect x q) → z ≡ after_try_verify same elect x
       all_left z n others kept each alike =
           let rounds : z.rounds ≡ map_list (λ e. (e.0, scan_left same elect x e.0 e.1)) x.rounds = lists_alike z.rounds _ kept (sorted-changed (scan_left same elect x) x.rounds ∙ ordered) (λ q. each q ∙ by_value q (round_at x q) refl ∙ sym (find-changed (scan_left same elect x) q x.rounds)) in
-          ap (λ (w : Facts K L D). record w { rounds = z.rounds }) others ∙ ap (λ es. record x { rounds = es }) rounds
+          ap (λ (w : StateFacts K L D). record w { rounds = z.rounds }) others ∙ ap (λ es. record x { rounds = es }) rounds
         where
           by_value : (q : ℕ) (o : Option (RoundFacts K D)) → round_at x q ≡ o → option_map (left_until n q) o ≡ option_map (scan_left same elect x q) o
           by_value q None here = refl
           by_value q (Some t) here = ap (λ b. Some (cond b (round_left t x.moment (stands q t)) t)) (alike q t here)
 
     -- where the scan has come, proposals stand as they stood
-    module _ (ordered : is_sorted nat_cmp x.rounds ≡ true) (y : Facts K L D) (n : ℕ) (passed : IsScanned y n) (kept : is_sorted nat_cmp y.rounds ≡ true) where
+    module _ (ordered : is_sorted nat_cmp x.rounds ≡ true) (y : StateFacts K L D) (n : ℕ) (passed : IsScanned y n) (kept : is_sorted nat_cmp y.rounds ≡ true) where
       undecided_left : (s : Standing D) (r : RoundFacts K D) (now : ℕ) → is_answered s ≡ false → undecided (round_left r now s) ≡ undecided r
       undecided_left Passed r now silent = refl
       undecided_left Invalid r now silent = refl
@@ -265,17 +265,17 @@ module _ {K L D : Type 0} (same : D → D → Bool) (elect : Elect L) where
           (λ q. find-changed (λ u r. undecided r) q y.rounds ∙ undecided_each q ∙ sym (find-changed (λ u r. undecided r) q x.rounds))
 
       open_same : open_facts y ≡ open_facts x
-      open_same = ap (λ (z : Facts K L D). record z { rounds = undecided_rounds y.rounds }) passed.others ∙ ap (λ es. record x { rounds = es }) undecided_same
+      open_same = ap (λ (z : StateFacts K L D). record z { rounds = undecided_rounds y.rounds }) passed.others ∙ ap (λ es. record x { rounds = es }) undecided_same
 
       pub stands_same : (e : ℕ × RoundFacts K D) → standing same elect y e ≡ standing same elect x e
-      stands_same e = sym (open_standing same elect y e) ∙ ap (λ (z : Facts K L D). standing same elect z e) open_same ∙ open_standing same elect x e
+      stands_same e = sym (open_standing same elect y e) ∙ ap (λ (z : StateFacts K L D). standing same elect z e) open_same ∙ open_standing same elect x e
 
       pub answer_same : (e : ℕ × RoundFacts K D) → answer_in same elect y e ≡ answer_in same elect x e
       answer_same e = ap (λ s. option_and_then (answer_at e.0 s) (pending_proposal e.1)) (stands_same e)
 
       -- the scan comes to the next view
       module _ (v : ℕ) (r : RoundFacts K D) (here : find nat_cmp v y.rounds ≡ Some r) (up : n ≤ v) (above : x.current ≤ n) (none : (q : ℕ) → n ≤ q → q < v → find nat_cmp q y.rounds ≡ None) where
-        abbrev next : Facts K L D
+        abbrev next : StateFacts K L D
         next = left_at y (v, r) (standing same elect y (v, r))
 
         unmapped : {A B : Type 0} (f : A → B) (o : Option A) → option_map f o ≡ None → o ≡ None
@@ -302,7 +302,7 @@ module _ {K L D : Type 0} (same : D → D → Bool) (elect : Elect L) where
         ]
 
         moment_same : y.moment ≡ x.moment
-        moment_same = ap (λ (z : Facts K L D). z.moment) passed.others
+        moment_same = ap (λ (z : StateFacts K L D). z.moment) passed.others
 
         left_others : (s : Standing D) → record (left_at y (v, r) s) { rounds = x.rounds } ≡ x
         left_others Passed = passed.others
@@ -448,7 +448,7 @@ module _ {K L D : Type 0} (same : D → D → Bool) (elect : Elect L) where
             ]))))
 
     -- the same, by the views as they are looked up
-    module _ (ordered : is_sorted nat_cmp x.rounds ≡ true) (y : Facts K L D) (n : ℕ) (passed : IsScanned y n) (kept : is_sorted nat_cmp y.rounds ≡ true) (above : x.current ≤ n) (high : ℕ) (top : high ≡ next_term_start x.terms.term_length x.current) where
+    module _ (ordered : is_sorted nat_cmp x.rounds ≡ true) (y : StateFacts K L D) (n : ℕ) (passed : IsScanned y n) (kept : is_sorted nat_cmp y.rounds ≡ true) (above : x.current ≤ n) (high : ℕ) (top : high ≡ next_term_start x.terms.term_length x.current) where
       module _ (v : ℕ) (found : Some v ≡ option_map (λ e. e.0) (slice_get (views_within y n high) 0)) where
         abbrev at : (r : RoundFacts K D) × (find nat_cmp v y.rounds ≡ Some r) × (n ≤ v) × (v ≤ high) × ((q : ℕ) → n ≤ q → q < v → find nat_cmp q y.rounds ≡ None)
         at = first_there y.rounds n high v kept found
@@ -456,15 +456,15 @@ module _ {K L D : Type 0} (same : D → D → Bool) (elect : Elect L) where
         round_is : round_of y v ≡ at.0
         round_is = ap (λ o. unwrap_or o (new_round y.me y.members (round_number y v))) at.1
 
-        left_is : (z : Facts K L D) → z ≡ left_at y (v, round_of y v) (standing same elect y (v, round_of y v)) → z ≡ left_at y (v, at.0) (standing same elect y (v, at.0))
+        left_is : (z : StateFacts K L D) → z ≡ left_at y (v, round_of y v) (standing same elect y (v, round_of y v)) → z ≡ left_at y (v, at.0) (standing same elect y (v, at.0))
         left_is z left = left ∙ ap (λ r. left_at y (v, r) (standing same elect y (v, r))) round_is
 
-        pub visited_on : (z : Facts K L D) → z ≡ left_at y (v, round_of y v) (standing same elect y (v, round_of y v)) → None ≡ answer_in same elect y (v, round_of y v) → IsScanned z (v + 1)
+        pub visited_on : (z : StateFacts K L D) → z ≡ left_at y (v, round_of y v) (standing same elect y (v, round_of y v)) → None ≡ answer_in same elect y (v, round_of y v) → IsScanned z (v + 1)
         visited_on z left none =
             subst (λ w. IsScanned w (v + 1)) (sym (left_is z left))
             (goes_on ordered y n passed kept v at.0 at.1 at.2 above at.4 (none ∙ ap (λ r. answer_in same elect y (v, r)) round_is))
 
-        pub visited_after : (z : Facts K L D) (a : Verify D K) → z ≡ left_at y (v, round_of y v) (standing same elect y (v, round_of y v)) → Some a ≡ answer_in same elect y (v, round_of y v) → z ≡ after_try_verify same elect x
+        pub visited_after : (z : StateFacts K L D) (a : Verify D K) → z ≡ left_at y (v, round_of y v) (standing same elect y (v, round_of y v)) → Some a ≡ answer_in same elect y (v, round_of y v) → z ≡ after_try_verify same elect x
         visited_after z a left is =
             left_is z left
             ∙ ends_after ordered y n passed kept v at.0 at.1 at.2 above at.4 (omega (arith, at.3, top)) a (is ∙ ap (λ r. answer_in same elect y (v, r)) round_is)

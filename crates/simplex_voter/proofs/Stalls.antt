@@ -6,7 +6,7 @@ use Rattle.std.proofs.lemmas.Bool.Decides.{nat_tests}
 use Rattle.simplex_types.specs.Terms.{term_start}
 use Rattle.simplex_types.specs.declared.types.window.Terms.{Terms}
 use Rattle.simplex_round.specs.Round.{RoundFacts}
-use Rattle.simplex_voter.specs.Facts.{Facts}
+use Rattle.simplex_voter.specs.Facts.{StateFacts}
 use Rattle.simplex_voter.specs.Timeouts.{is_entered_between, is_stalling, standing_deadline, stall_deadline}
 use Rattle.simplex_voter.proofs.Gaps.{cases_bool}
 
@@ -37,7 +37,7 @@ from_higher : (start low high view : ℕ) (b : Bool) → (leb (ord_max nat_cmp s
 from_higher start low high view true = grind (arith, nat_tests)
 from_higher start low high view false = grind (arith, nat_tests)
 
-module _ {K L D : Type 0} (x : Facts K L D) where
+module _ {K L D : Type 0} (x : StateFacts K L D) where
   abbrev Entries : Type 0
   Entries = List (ℕ × RoundFacts K D)
 
@@ -51,6 +51,6 @@ module _ {K L D : Type 0} (x : Facts K L D) where
       ap (λ (es : Entries). option_and_then (λ (e : ℕ × RoundFacts K D). standing_deadline e.1) (slice_get es 0)) same
 
   -- the deadline is looked up from the term's start and the last finalized view on
-  pub stall_shown : (z : Facts K L D) → x ≡ z → (start low : ℕ) (terms : Terms) (es : Entries) (answer : Option ℕ) → terms ≡ x.terms → start ≡ term_start terms.term_length x.current → low ≡ ord_max nat_cmp start x.finalized → es ≡ filter (λ e. leb low e.0) x.rounds → answer ≡ option_and_then (λ e. standing_deadline e.1) (slice_get (filter (is_entered_between x.finalized x.current) es) 0) → answer ≡ stall_deadline x
+  pub stall_shown : (z : StateFacts K L D) → x ≡ z → (start low : ℕ) (terms : Terms) (es : Entries) (answer : Option ℕ) → terms ≡ x.terms → start ≡ term_start terms.term_length x.current → low ≡ ord_max nat_cmp start x.finalized → es ≡ filter (λ e. leb low e.0) x.rounds → answer ≡ option_and_then (λ e. standing_deadline e.1) (slice_get (filter (is_entered_between x.finalized x.current) es) 0) → answer ≡ stall_deadline x
   stall_shown z shown start low terms es answer same begins is read found =
       found ∙ rw read (from_later start low (begins ∙ rw same refl) is)

@@ -10,7 +10,7 @@ use Rattle.simplex_round.specs.declared.round.Leader.{Leader}
 use Rattle.simplex_round.specs.Round.{RoundFacts, pending_proposal}
 use Rattle.simplex_types.specs.declared.reasons.Kind.TheVariants.{Nullification}
 use Rattle.simplex_voter.specs.declared.voter.verify.Standing.TheVariants.{Passed, Invalid}
-use Rattle.simplex_voter.specs.Facts.{Facts, Elect, round_at}
+use Rattle.simplex_voter.specs.Facts.{StateFacts, Elect, round_at}
 use Rattle.simplex_voter.specs.Gaps.{first_gap}
 use Rattle.simplex_voter.specs.Windows.{is_open, in_window, is_admitted}
 use Rattle.simplex_voter.specs.Payloads.{certified_payload, has_failed, explicit_payload, is_handoff_parent, serves, follows, voted_payload, served_payload, payload_by, payload_within, optimistic_payload}
@@ -34,9 +34,9 @@ module _ {K D : Type 0} where
   length-undecided [] = refl
   length-undecided (e ∷ es) = ap suc (length-undecided es)
 
-module _ {K L D : Type 0} (x : Facts K L D) where
+module _ {K L D : Type 0} (x : StateFacts K L D) where
   -- the facts without what was decided
-  abbrev pub open_facts : Facts K L D
+  abbrev pub open_facts : StateFacts K L D
   open_facts = record x { rounds = undecided_rounds x.rounds }
 
   open_window : (v : ℕ) → in_window open_facts v ≡ in_window x v
@@ -74,7 +74,7 @@ module _ {K L D : Type 0} (x : Facts K L D) where
   unfolding follows first_gap
   open_follows v p = refl
 
-module _ {K L D : Type 0} (same : D → D → Bool) (elect : Elect L) (x : Facts K L D) where
+module _ {K L D : Type 0} (same : D → D → Bool) (elect : Elect L) (x : StateFacts K L D) where
   module _ (f g : ℕ → Option D) (alike : (p : ℕ) → f p ≡ g p) where
     open_voted : (v : ℕ) (r : RoundFacts K D) (p : Proposal D) → voted_payload same elect (open_facts x) f v (undecided r) p ≡ voted_payload same elect x g v r p
     open_voted v r p = rw (open_follows x v p.parent, alike p.parent) refl

@@ -4,7 +4,7 @@ use Rattle.std.specs.Prelude.{option_and_then}
 use Rattle.std.specs.Option.{option_map_or}
 use Rattle.std.proofs.lemmas.Bool.{false≢true}
 use Rattle.simplex_round.specs.Round.{RoundFacts, is_judged}
-use Rattle.simplex_voter.specs.Facts.{Facts, round_at, is_tracked}
+use Rattle.simplex_voter.specs.Facts.{StateFacts, round_at, is_tracked}
 use Rattle.simplex_voter.specs.Certification.{takes_verdict, certified_answer}
 use Rattle.simplex_voter.proofs.Gaps.{and_parts, not_true}
 
@@ -17,7 +17,7 @@ module _ {K D : Type 0} where
   notarized_there success None tracked h = absurd (false≢true tracked)
   notarized_there success (Some r) tracked h = (and_parts (is_some r.notarization) _ h).0
 
-module _ {K L D : Type 0} (x : Facts K L D) (v : ℕ) (success : Bool) (taken : takes_verdict x v success ≡ true) where
+module _ {K L D : Type 0} (x : StateFacts K L D) (v : ℕ) (success : Bool) (taken : takes_verdict x v success ≡ true) where
   -- no contradicting verdict stands
   pub not_contradicted : option_map_or (λ (r : RoundFacts K D). is_judged (not success) r.certification) (round_at x v) false ≡ false
   not_contradicted = judgeable success (round_at x v) (and_parts _ _ taken).1

@@ -8,7 +8,7 @@ use Rattle.std.specs.List.{filter_map, cons_option}
 use Rattle.std.specs.BTreeSet.{insert_key}
 use Rattle.simplex_types.specs.declared.types.messages.Proposal.{Proposal}
 use Rattle.simplex_voter.specs.declared.voter.candidates.CertificateFetch.{CertificateFetch}
-use Rattle.simplex_voter.specs.Facts.{Facts, Elect}
+use Rattle.simplex_voter.specs.Facts.{StateFacts, Elect}
 use Rattle.simplex_types.specs.Tracked.{at_or_above}
 use Rattle.simplex_types.proofs.Maps.{entries-retain_keys}
 use Rattle.simplex_voter.specs.Certification.{named_also, offered_of, fetched_of, candidates_answer, after_candidates}
@@ -28,15 +28,15 @@ each_view m views h shown =
     ap (filter_map (λ e. h e.0)) (entries-retain_keys m (λ u. leb 0 u)) ∙ over_views h (map.entries m) ∙ ap (filter_map h) (sym shown)
 
 module _ {K L D : Type 0} where
-  pub named_shown : (x : Facts K L D) (m new : map.FinMap nat_cmp (Unit {0})) (v : ℕ) → x.named ≡ map.keys m → ltb x.finalized v ≡ true → new ≡ map.insert m v tt → record x { named = map.keys new } ≡ named_also x v
+  pub named_shown : (x : StateFacts K L D) (m new : map.FinMap nat_cmp (Unit {0})) (v : ℕ) → x.named ≡ map.keys m → ltb x.finalized v ≡ true → new ≡ map.insert m v tt → record x { named = map.keys new } ≡ named_also x v
   named_shown x m new v shown above is =
       rw above (ap (λ ks. record x { named = ks }) (ap map.keys is ∙ keys-insert m v tt ∙ ap (λ ks. insert_key nat_cmp ks v) (sym shown)))
 
-  pub forgotten_shown : (x : Facts K L D) (m new : map.FinMap nat_cmp (Unit {0})) → x.named ≡ map.keys m → new ≡ map.empty → record x { named = map.keys new } ≡ after_candidates x
+  pub forgotten_shown : (x : StateFacts K L D) (m new : map.FinMap nat_cmp (Unit {0})) → x.named ≡ map.keys m → new ≡ map.empty → record x { named = map.keys new } ≡ after_candidates x
   forgotten_shown x m new shown is = ap (λ ks. record x { named = ks }) (keys_empty new is)
 
   module _ (same : D → D → Bool) (elect : Elect L) where
-    pub candidates_shown : (x : Facts K L D) (m : map.FinMap nat_cmp (Unit {0})) (v : ℕ) (es : List (ℕ × Unit {0})) (offers : List (Proposal D)) (fetches : List CertificateFetch) → x.named ≡ map.keys m → v ≡ 0 → es ≡ map.entries (at_or_above m v) → offers ≡ filter_map (λ e. offered_of same elect x e.0) es → fetches ≡ filter_map (λ e. fetched_of elect x e.0) es → (offers, fetches) ≡ candidates_answer same elect x
+    pub candidates_shown : (x : StateFacts K L D) (m : map.FinMap nat_cmp (Unit {0})) (v : ℕ) (es : List (ℕ × Unit {0})) (offers : List (Proposal D)) (fetches : List CertificateFetch) → x.named ≡ map.keys m → v ≡ 0 → es ≡ map.entries (at_or_above m v) → offers ≡ filter_map (λ e. offered_of same elect x e.0) es → fetches ≡ filter_map (λ e. fetched_of elect x e.0) es → (offers, fetches) ≡ candidates_answer same elect x
     candidates_shown x m v es offers fetches shown zero is offered fetched =
         let all : es ≡ map.entries (at_or_above m 0) = is ∙ ap (λ w. map.entries (at_or_above m w)) zero in
         let o = offered ∙ ap (filter_map (λ e. offered_of same elect x e.0)) all ∙ each_view m x.named (offered_of same elect x) shown in

@@ -4,7 +4,7 @@ use Rattle.std.specs.Prelude.{◌↔◌, max}
 use Rattle.std.proofs.lemmas.Bool.Decides.{nat_tests}
 use Rattle.simplex_types.specs.Terms.{term_end, next_term_start}
 use Rattle.simplex_types.specs.Window.{AdmitsOutbound, AdmitsCertificate, AdmitsVote}
-use Rattle.simplex_voter.specs.Facts.{Facts}
+use Rattle.simplex_voter.specs.Facts.{StateFacts}
 use Rattle.simplex_voter.specs.Windows.{admits_outbound, admits_certificate, admits_vote, viewport, min_active}
 
 outbound_by : (last next optimistic most current view : ℕ) → ((leb 1 view && leb view current || ltb current view && leb view last && leb (view - current) optimistic || eqb view next && leb (view - current) most) ≡ true)
@@ -33,7 +33,7 @@ vote_by low last view h = grind (arith, nat_tests)
 vote_to : (low last view : ℕ) → ((1 ≤ view) × (low ≤ view)) × (view ≤ last) → (leb 1 view && leb low view && leb view last) ≡ true
 vote_to low last view h = grind (arith, nat_tests)
 
-module _ {K L D : Type 0} (x : Facts K L D) (v : ℕ) where
+module _ {K L D : Type 0} (x : StateFacts K L D) (v : ℕ) where
   pub certificate_agrees : (admits_certificate x v ≡ true) ↔ AdmitsCertificate (viewport x) v
   certificate_agrees = (certificate_by (min_active x) v, certificate_to (min_active x) v)
 

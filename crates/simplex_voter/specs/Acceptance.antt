@@ -9,7 +9,7 @@ use Rattle.simplex_types.specs.Config.{FloorFacts, Genesis, Finalized}
 use Rattle.simplex_types.specs.declared.types.fault.Fault.{Fault}
 use Rattle.simplex_types.specs.declared.types.messages.Proposal.{Proposal}
 use Rattle.simplex_round.specs.Round.{RoundFacts, equivocator, with_notarization, with_nullification, with_finalization}
-use Rattle.simplex_voter.specs.Facts.{Facts, Elect, round_of, with_round}
+use Rattle.simplex_voter.specs.Facts.{StateFacts, Elect, round_of, with_round}
 use Rattle.simplex_voter.specs.Refusals.{first_fault, is_too_large, names_too_large, enters_late, proposal_refusal, takes_round}
 use Rattle.simplex_voter.specs.Entering.{with_view_entered, at_moment}
 use Rattle.simplex_voter.specs.Leaders.{with_elected_leader, with_window_leaders}
@@ -26,94 +26,94 @@ floor_answer (Finalized c) = Some c
 
 module _ {K L D : Type 0} where
   -- the nullification's view and those behind it in its term are nullified
-  abbrev pub nullified_also : Facts K L D → ℕ → Facts K L D
+  abbrev pub nullified_also : StateFacts K L D → ℕ → StateFacts K L D
   nullified_also x u = record x { nullified = insert_key nat_cmp x.nullified u }
 
   -- `add_nullification`
-  abbrev pub nullification_added : Facts K L D → NullificationFacts → Bool
+  abbrev pub nullification_added : StateFacts K L D → NullificationFacts → Bool
   nullification_added x c = not (is_some (round_of x c.round.view).nullification)
 
-  abbrev pub nullification_refusal : Facts K L D → NullificationFacts → ℕ → Option Fault
+  abbrev pub nullification_refusal : StateFacts K L D → NullificationFacts → ℕ → Option Fault
   nullification_refusal x c now =
       first_fault x.failed (is_too_large c.round.view) (enters_late x (next_term_start x.terms.term_length c.round.view) now)
 
-  abbrev pub with_nullification_at : Facts K L D → NullificationFacts → Facts K L D
+  abbrev pub with_nullification_at : StateFacts K L D → NullificationFacts → StateFacts K L D
   with_nullification_at x c = with_round x c.round.view (with_nullification (round_of x c.round.view) c)
 
   -- `add_finalization`
-  abbrev pub finalization_refusal : Facts K L D → Proposal D → ℕ → Option Fault
+  abbrev pub finalization_refusal : StateFacts K L D → Proposal D → ℕ → Option Fault
   finalization_refusal x p now = first_fault x.failed (names_too_large p) (enters_late x (p.round.view + 1) now)
 
   -- `set_genesis` and `set_floor`
-  abbrev pub floor_refusal : Facts K L D → FloorFacts D → ℕ → Option Fault
+  abbrev pub floor_refusal : StateFacts K L D → FloorFacts D → ℕ → Option Fault
   floor_refusal x (Genesis _) now = first_fault x.failed false (enters_late x 1 now)
   floor_refusal x (Finalized c) now = finalization_refusal x c.proposal now
 
   -- no floor was set; and a finalization is of this epoch and not of genesis
-  abbrev pub takes_floor : Facts K L D → FloorFacts D → Bool
+  abbrev pub takes_floor : StateFacts K L D → FloorFacts D → Bool
   takes_floor x (Genesis _) = x.current == 0
   takes_floor x (Finalized c) = x.current == 0 && c.proposal.round.epoch == x.settings.epoch && nat_le 1 c.proposal.round.view
 
   -- the view's finalization counts as handed out
-  abbrev pub with_finalization_broadcast : Facts K L D → ℕ → Facts K L D
+  abbrev pub with_finalization_broadcast : StateFacts K L D → ℕ → StateFacts K L D
   with_finalization_broadcast x v = with_round x v (record (round_of x v) { finalization_broadcast = true })
 
 module _ {K L D : Type 0} (elect : Elect L) where
   -- a nullification elects for the next term's start, enters it, and covers the rest of its own term
-  abbrev pub after_add_nullification : Facts K L D → NullificationFacts → ℕ → Facts K L D
+  abbrev pub after_add_nullification : StateFacts K L D → NullificationFacts → ℕ → StateFacts K L D
   after_add_nullification x c now =
       let next = next_term_start x.terms.term_length c.round.view in
       nullified_also
       (with_nullification_at (with_elected_leader elect (with_view_entered (at_moment x now) next now) next (Some c.bytes)) c)
       c.round.view
 
-  abbrev pub after_set_genesis : Facts K L D → D → ℕ → Facts K L D
+  abbrev pub after_set_genesis : StateFacts K L D → D → ℕ → StateFacts K L D
   after_set_genesis x payload now = with_elected_leader elect (with_view_entered (record (at_moment x now) { genesis = Some payload }) 1 now) 1 None
 
 module _ {K L D : Type 0} (same : D → D → Bool) (elect : Elect L) where
   -- `add_notarization`
-  abbrev pub notarization_added : Facts K L D → ProposalFacts D → Bool × Option K
+  abbrev pub notarization_added : StateFacts K L D → ProposalFacts D → Bool × Option K
   notarization_added x c =
       added_answer same (round_of x c.proposal.round.view).notarization (round_of x c.proposal.round.view) c.proposal
 
-  abbrev pub with_notarization_at : Facts K L D → ProposalFacts D → Facts K L D
+  abbrev pub with_notarization_at : StateFacts K L D → ProposalFacts D → StateFacts K L D
   with_notarization_at x c =
       with_round x c.proposal.round.view (with_notarization (same_proposal same) (round_of x c.proposal.round.view) c)
 
   -- a notarization elects for the next view; the first of its view waits for certification and opens windows above it
-  abbrev pub after_add_notarization : Facts K L D → ProposalFacts D → Facts K L D
+  abbrev pub after_add_notarization : StateFacts K L D → ProposalFacts D → StateFacts K L D
   after_add_notarization x c =
       let v = c.proposal.round.view in
       let kept = with_notarization_at (with_elected_leader elect x (v + 1) (Some c.bytes)) c in
       if is_some (round_of x v).notarization then kept else with_window_leaders (named_also kept v) v
 
-  abbrev pub finalization_added : Facts K L D → ProposalFacts D → Bool × Option K
+  abbrev pub finalization_added : StateFacts K L D → ProposalFacts D → Bool × Option K
   finalization_added x c =
       added_answer same (round_of x c.proposal.round.view).finalization (round_of x c.proposal.round.view) c.proposal
 
-  abbrev pub with_finalization_at : Facts K L D → ProposalFacts D → Facts K L D
+  abbrev pub with_finalization_at : StateFacts K L D → ProposalFacts D → StateFacts K L D
   with_finalization_at x c =
       with_round x c.proposal.round.view (with_finalization (same_proposal same) (round_of x c.proposal.round.view) c)
 
   -- a finalization raises the last finalized view, enters the next one and elects for it; the first of its view wakes the
   -- view that waited for it and opens windows above it
-  abbrev pub after_add_finalization : Facts K L D → ProposalFacts D → ℕ → Facts K L D
+  abbrev pub after_add_finalization : StateFacts K L D → ProposalFacts D → ℕ → StateFacts K L D
   after_add_finalization x c now =
       let v = c.proposal.round.view in
       let kept = with_finalization_at (with_elected_leader elect (with_view_entered (with_finalized_view (at_moment x now) v) (v + 1) now) (v + 1) (Some c.bytes)) c in
       if is_some (round_of x v).finalization then kept else with_window_leaders (with_waiting_candidate elect kept v) v
 
-  abbrev pub after_set_floor : Facts K L D → FloorFacts D → ℕ → Facts K L D
+  abbrev pub after_set_floor : StateFacts K L D → FloorFacts D → ℕ → StateFacts K L D
   after_set_floor x (Genesis payload) now = after_set_genesis elect x payload now
   after_set_floor x (Finalized c) now = with_finalization_broadcast (after_add_finalization x c now) c.proposal.round.view
 
 module _ {K L D : Type 0} where
   -- what each of the three `add_` calls asks of its certificate
-  abbrev pub takes_proposal_certificate : Facts K L D → ProposalFacts D → Bool
+  abbrev pub takes_proposal_certificate : StateFacts K L D → ProposalFacts D → Bool
   takes_proposal_certificate x c = takes_round x c.proposal.round
 
-  abbrev pub takes_nullification : Facts K L D → NullificationFacts → Bool
+  abbrev pub takes_nullification : StateFacts K L D → NullificationFacts → Bool
   takes_nullification x c = takes_round x c.round
 
-  abbrev pub notarization_refusal : Facts K L D → ProposalFacts D → Option Fault
+  abbrev pub notarization_refusal : StateFacts K L D → ProposalFacts D → Option Fault
   notarization_refusal x c = proposal_refusal x c.proposal

@@ -4,7 +4,7 @@ use Rattle.simplex_types.specs.declared.types.messages.Proposal.{Proposal}
 use Rattle.simplex_round.specs.Round.{RoundFacts, certificate_payload}
 use Rattle.simplex_voter.specs.declared.voter.chains.Basis.{Basis}
 use Rattle.simplex_voter.specs.declared.voter.chains.Basis.TheVariants.{Certain, Vote}
-use Rattle.simplex_voter.specs.Facts.{Facts, Elect, round_at}
+use Rattle.simplex_voter.specs.Facts.{StateFacts, Elect, round_at}
 use Rattle.simplex_voter.specs.Windows.{is_notarized}
 use Rattle.simplex_voter.specs.Payloads.{has_failed, serves, follows}
 
@@ -14,22 +14,22 @@ payload_of (Certain d) = d
 payload_of (Vote p bound) = p.payload
 
 -- the payload of the view's certificate, where no rejection stands in its term up to it
-abbrev pub unrefused_payload : {K L D : Type 0} → Facts K L D → ℕ → RoundFacts K D → Option D
+abbrev pub unrefused_payload : {K L D : Type 0} → StateFacts K L D → ℕ → RoundFacts K D → Option D
 unrefused_payload x v r = if has_failed x v then None else certificate_payload r
 
 module _ {K L D : Type 0} (elect : Elect L) where
   -- the proposal that was voted for, where it may serve and stands on its parent
-  abbrev pub served_proposal : Facts K L D → ℕ → RoundFacts K D → Option (Proposal D)
+  abbrev pub served_proposal : StateFacts K L D → ℕ → RoundFacts K D → Option (Proposal D)
   served_proposal x v r =
       if serves elect x v r then option_and_then (λ p. if follows x v p.parent then Some p else None) r.slot.held else None
 
-  abbrev pub basis_of : Facts K L D → ℕ → RoundFacts K D → Option (Basis D)
+  abbrev pub basis_of : StateFacts K L D → ℕ → RoundFacts K D → Option (Basis D)
   basis_of x v r =
       if is_notarized r
       then option_map (λ d. Certain d) (unrefused_payload x v r)
       else option_map (λ p. Vote p (option_map (λ bound. bound.1) r.binding)) (served_proposal x v r)
 
   -- genesis' payload or that of a certificate, or the vote that the view's payload rests on
-  abbrev pub basis_at : Facts K L D → ℕ → Option (Basis D)
+  abbrev pub basis_at : StateFacts K L D → ℕ → Option (Basis D)
   basis_at x v =
       if v == 0 then option_map (λ d. Certain d) x.genesis else option_and_then (basis_of x v) (round_at x v)

@@ -20,7 +20,7 @@ pub record Settings : Type 0 where
   pub skip_budget : ℕ
 
 -- all that later answers depend on; K are the members' keys, L the elector, D the payloads
-pub record Facts (K L D : Type 0) : Type 0 where
+pub record StateFacts (K L D : Type 0) : Type 0 where
   pub settings : Settings
   -- this member's index, where it can sign
   pub me : Option ℕ
@@ -50,7 +50,7 @@ Elect L = L → Round → Option (List ℕ) → ℕ
 
 module _ {K L D : Type 0} where
   -- what a new state knows: how it was set up
-  abbrev pub new_facts : Settings → Option ℕ → List K → L → Terms → Bool → Facts K L D
+  abbrev pub new_facts : Settings → Option ℕ → List K → L → Terms → Bool → StateFacts K L D
   new_facts settings me members elector terms elects_early = record {
     settings = settings;
     me = me;
@@ -69,23 +69,23 @@ module _ {K L D : Type 0} where
     failed = false;
   }
 
-  abbrev pub round_at : Facts K L D → ℕ → Option (RoundFacts K D)
+  abbrev pub round_at : StateFacts K L D → ℕ → Option (RoundFacts K D)
   round_at x v = find nat_cmp v x.rounds
 
-  abbrev pub is_tracked : Facts K L D → ℕ → Bool
+  abbrev pub is_tracked : StateFacts K L D → ℕ → Bool
   is_tracked x v = is_some (round_at x v)
 
-  abbrev pub round_number : Facts K L D → ℕ → Round
+  abbrev pub round_number : StateFacts K L D → ℕ → Round
   round_number x v = record { epoch = x.settings.epoch; view = v }
 
   -- what is known of a view: nothing, where it isn't tracked
-  abbrev pub round_of : Facts K L D → ℕ → RoundFacts K D
+  abbrev pub round_of : StateFacts K L D → ℕ → RoundFacts K D
   round_of x v = unwrap_or (round_at x v) (new_round x.me x.members (round_number x v))
 
   -- the facts with another round at a view, which is tracked from then on
-  abbrev pub with_round : Facts K L D → ℕ → RoundFacts K D → Facts K L D
+  abbrev pub with_round : StateFacts K L D → ℕ → RoundFacts K D → StateFacts K L D
   with_round x v r = record x { rounds = put nat_cmp v r x.rounds }
 
   -- the same, where the view is tracked already
-  abbrev pub with_tracked : Facts K L D → ℕ → RoundFacts K D → Facts K L D
+  abbrev pub with_tracked : StateFacts K L D → ℕ → RoundFacts K D → StateFacts K L D
   with_tracked x v r = if is_tracked x v then with_round x v r else x

@@ -5,7 +5,7 @@ use Rattle.std.specs.Option.{option_map_or}
 use Rattle.simplex_types.specs.Proposal.{same_proposal}
 use Rattle.simplex_types.specs.declared.types.messages.Proposal.{Proposal}
 use Rattle.simplex_round.specs.Round.{RoundFacts}
-use Rattle.simplex_voter.specs.Facts.{Facts, Elect, round_at}
+use Rattle.simplex_voter.specs.Facts.{StateFacts, Elect, round_at}
 use Rattle.simplex_voter.specs.Gaps.{is_gapless}
 use Rattle.simplex_voter.specs.Windows.{is_me, is_start, in_window}
 use Rattle.simplex_voter.specs.Payloads.{explicit_payload, optimistic_payload, is_handoff_parent}
@@ -16,22 +16,22 @@ at_view v payload = option_map (λ d. (v, d)) payload
 
 module _ {K L D : Type 0} where
   -- what can't change for the better: the parent is below, not under the last finalized view, and inside a term the view before
-  unfoldable pub spans : Facts K L D → ℕ → ℕ → Bool
+  unfoldable pub spans : StateFacts K L D → ℕ → ℕ → Bool
   spans x v p = nat_lt p v && nat_le x.finalized p && (p + 1 == v || is_start x v)
 
   -- a tracked view with its explicit payload, where it has one
-  abbrev pub explicit_at : Facts K L D → ℕ × RoundFacts K D → Option (ℕ × D)
+  abbrev pub explicit_at : StateFacts K L D → ℕ × RoundFacts K D → Option (ℕ × D)
   explicit_at x e = at_view e.0 (explicit_payload x e.0)
 
-  abbrev pub explicit_below : Facts K L D → ℕ → ℕ × RoundFacts K D → Option (ℕ × D)
+  abbrev pub explicit_below : StateFacts K L D → ℕ → ℕ × RoundFacts K D → Option (ℕ × D)
   explicit_below x v e = if nat_lt e.0 v then explicit_at x e else None
 
   -- the highest tracked view below with an explicit payload, else genesis
-  abbrev pub highest_explicit : Facts K L D → ℕ → Option (ℕ × D)
+  abbrev pub highest_explicit : StateFacts K L D → ℕ → Option (ℕ × D)
   highest_explicit x v = last_or (at_view 0 x.genesis) (filter_map (explicit_below x v) x.rounds)
 
   -- this member leads the view
-  abbrev pub leads : Facts K L D → RoundFacts K D → Bool
+  abbrev pub leads : StateFacts K L D → RoundFacts K D → Bool
   leads x r = option_map_or (λ l. is_me x l.idx) r.leader false
 
 abbrev pub is_payload : {D : Type 0} → (D → D → Bool) → Option D → D → Bool
@@ -42,36 +42,36 @@ is_parent same found p d = option_map_or (λ e. e.0 == p && same e.1 d) found fa
 
 module _ {K L D : Type 0} (same : D → D → Bool) (elect : Elect L) where
   -- the kind of payload that the view may build on
-  unfoldable pub payload_for : Facts K L D → ℕ → ℕ → Option D
+  unfoldable pub payload_for : StateFacts K L D → ℕ → ℕ → Option D
   payload_for x v p = if in_window x v then optimistic_payload same elect x p else explicit_payload x p
 
   -- the payload with which the parent is allowed
-  unfoldable pub parent_payload : Facts K L D → ℕ → ℕ → Option D
+  unfoldable pub parent_payload : StateFacts K L D → ℕ → ℕ → Option D
   parent_payload x v p = if spans x v p && is_gapless x p v then payload_for x v p else None
 
   -- the parent is allowed with this payload
-  abbrev pub IsAllowedParent : Facts K L D → ℕ → ℕ → D → Type 0
+  abbrev pub IsAllowedParent : StateFacts K L D → ℕ → ℕ → D → Type 0
   IsAllowedParent x v p d = parent_payload x v p ≡ Some d
 
   -- the view before, where its term may be handed over to this member and it offers a payload
-  abbrev pub handoff : Facts K L D → ℕ → Option (ℕ × D)
+  abbrev pub handoff : StateFacts K L D → ℕ → Option (ℕ × D)
   handoff x p = if is_handoff_parent elect x p then at_view p (optimistic_payload same elect x p) else None
 
   -- at a term's start the highest explicit view, and the view before where a gap lies above that
-  abbrev pub preferred_at_start : Facts K L D → ℕ → Option (ℕ × D)
+  abbrev pub preferred_at_start : StateFacts K L D → ℕ → Option (ℕ × D)
   preferred_at_start x v =
       option_and_then (λ found. if is_gapless x found.0 v then Some found else handoff x (v - 1)) (highest_explicit x v)
 
   -- the parent, with its payload, on which this member builds
-  unfoldable pub preferred_parent : Facts K L D → ℕ → Option (ℕ × D)
+  unfoldable pub preferred_parent : StateFacts K L D → ℕ → Option (ℕ × D)
   preferred_parent x v = if is_start x v then preferred_at_start x v else at_view (v - 1) (payload_for x v (v - 1))
 
   -- the parent is allowed, or preferred, with this payload
-  unfoldable pub may_stand : Facts K L D → ℕ → ℕ → D → Bool
+  unfoldable pub may_stand : StateFacts K L D → ℕ → ℕ → D → Bool
   may_stand x v p d = is_parent same (preferred_parent x v) p d || is_payload same (parent_payload x v p) d
 
   -- the bound proposal is held, and its parent is allowed with the bound payload, or preferred where this member leads
-  abbrev pub holds_binding : Facts K L D → ℕ → RoundFacts K D → Proposal D × D → Bool
+  abbrev pub holds_binding : StateFacts K L D → ℕ → RoundFacts K D → Proposal D × D → Bool
   holds_binding x v r bound =
       option_map_or
       (λ p. same_proposal same p bound.0
@@ -80,6 +80,6 @@ module _ {K L D : Type 0} (same : D → D → Bool) (elect : Elect L) where
       false
 
   -- nothing is bound at the view, or it still holds
-  unfoldable pub binding_matches : Facts K L D → ℕ → Bool
+  unfoldable pub binding_matches : StateFacts K L D → ℕ → Bool
   binding_matches x v =
       option_map_or (λ r. option_map_or (holds_binding x v r) r.binding true) (round_at x v) true

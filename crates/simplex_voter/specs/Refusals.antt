@@ -5,7 +5,7 @@ use Rattle.simplex_types.specs.declared.types.fault.Fault.{Fault}
 use Rattle.simplex_types.specs.declared.types.fault.Fault.TheVariants.{Failed, ViewTooLarge, TimeOverflow}
 use Rattle.simplex_types.specs.declared.types.messages.Proposal.{Proposal}
 use Rattle.simplex_types.specs.declared.types.numbers.Round.{Round}
-use Rattle.simplex_voter.specs.Facts.{Facts}
+use Rattle.simplex_voter.specs.Facts.{StateFacts}
 use Rattle.simplex_voter.specs.Windows.{admits_certificate}
 
 -- the first that stands of: the state has failed, a view is too large, a moment passes the numbers of 64 bits
@@ -26,34 +26,34 @@ is_past_u64 moment = nat_le (2 ^ 64) moment
 
 module _ {K L D : Type 0} where
   -- a deadline of a view that is entered at this moment passes the numbers of 64 bits
-  abbrev pub has_late_deadline : Facts K L D → ℕ → Bool
+  abbrev pub has_late_deadline : StateFacts K L D → ℕ → Bool
   has_late_deadline x now =
       is_past_u64 (now + x.settings.leader_timeout)
       || is_past_u64 (now + x.settings.certification_timeout)
       || option_map_or (λ time. is_past_u64 (now + time)) x.terms.stall_timeout false
 
   -- the view would be entered, and too late for its deadlines
-  abbrev pub enters_late : Facts K L D → ℕ → ℕ → Bool
+  abbrev pub enters_late : StateFacts K L D → ℕ → ℕ → Bool
   enters_late x v now = nat_lt x.current v && has_late_deadline x now
 
   -- the calls that take nothing in are refused where the state has failed, and else not
-  abbrev pub plain_refusal : Facts K L D → Option Fault
+  abbrev pub plain_refusal : StateFacts K L D → Option Fault
   plain_refusal x = first_fault x.failed false false
 
   -- the calls that take a proposal in, but enter nothing
-  abbrev pub proposal_refusal : Facts K L D → Proposal D → Option Fault
+  abbrev pub proposal_refusal : StateFacts K L D → Proposal D → Option Fault
   proposal_refusal x p = first_fault x.failed (names_too_large p) false
 
   -- a floor was set
-  abbrev pub is_started : Facts K L D → Bool
+  abbrev pub is_started : StateFacts K L D → Bool
   is_started x = nat_lt 0 x.current
 
   -- what the calls ask of a certificate, a proposal or an artifact: this epoch, and a view that is kept
-  abbrev pub takes_round : Facts K L D → Round → Bool
+  abbrev pub takes_round : StateFacts K L D → Round → Bool
   takes_round x round = is_started x && round.epoch == x.settings.epoch && admits_certificate x round.view
 
   -- a call found no memory: nothing but how the state was set up is known from then on
-  pub record HasFailed (before after : Facts K L D) : Type 0 where
+  pub record HasFailed (before after : StateFacts K L D) : Type 0 where
     pub failed : after.failed ≡ true
     pub settings : after.settings ≡ before.settings
     pub terms : after.terms ≡ before.terms

@@ -12,7 +12,7 @@ use Rattle.simplex_types.specs.declared.types.messages.Finalization.{Finalizatio
 use Rattle.simplex_types.specs.declared.types.messages.Artifact.TheVariants as artifact
 use Rattle.simplex_types.specs.declared.types.numbers.Round.{Round}
 use Rattle.simplex_round.specs.Round.{RoundFacts, after_replay, TakesArtifact}
-use Rattle.simplex_voter.specs.Facts.{Facts, Elect, round_at, round_of, with_round}
+use Rattle.simplex_voter.specs.Facts.{StateFacts, Elect, round_at, round_of, with_round}
 use Rattle.simplex_voter.specs.Refusals.{first_fault, is_too_large, names_too_large, takes_round}
 use Rattle.simplex_voter.specs.Windows.{is_notarized}
 use Rattle.simplex_voter.specs.Leaders.{with_next_view_ready}
@@ -62,25 +62,25 @@ uncertified_payload r = if is_notarized r then None else option_map (λ h. h.pay
 
 module _ {K L D : Type 0} where
   -- a replayed vote is bound to what its parent holds
-  abbrev pub restored_binding : Facts K L D → Proposal D → Option (Proposal D × D)
+  abbrev pub restored_binding : StateFacts K L D → Proposal D → Option (Proposal D × D)
   restored_binding x p = option_map (λ d. (p, d)) (option_and_then uncertified_payload (round_at x p.parent))
 
   -- the sets that the rules look up
-  abbrev pub replayed_sets : {S G C : Type 0} → Facts K L D → Artifact S D K G C → Facts K L D
+  abbrev pub replayed_sets : {S G C : Type 0} → StateFacts K L D → Artifact S D K G C → StateFacts K L D
   replayed_sets x (artifact.Nullify vote) = record x { nullify_votes = insert_key nat_cmp x.nullify_votes vote.round.view }
   replayed_sets x (artifact.Nullification n) = nullified_also x n.round.view
   replayed_sets x _ = x
 
-  abbrev pub replay_refusal : {S G C : Type 0} → Facts K L D → Artifact S D K G C → Option Fault
+  abbrev pub replay_refusal : {S G C : Type 0} → StateFacts K L D → Artifact S D K G C → Option Fault
   replay_refusal x a = first_fault x.failed (artifact_too_large a) false
 
   -- its epoch is this one, its view is kept, and its round takes it
-  pub record TakesReplay {S G C : Type 0} (x : Facts K L D) (a : Artifact S D K G C) : Type 0 where
+  pub record TakesReplay {S G C : Type 0} (x : StateFacts K L D) (a : Artifact S D K G C) : Type 0 where
     pub kept : takes_round x (artifact_round a) ≡ true
     pub taken : TakesArtifact (round_of x (artifact_view a)) a
 
 module _ {K L D : Type 0} (same : D → D → Bool) where
-  abbrev pub replayed_round : {S G C : Type 0} → Facts K L D → Artifact S D K G C → RoundFacts K D
+  abbrev pub replayed_round : {S G C : Type 0} → StateFacts K L D → Artifact S D K G C → RoundFacts K D
   replayed_round x a =
       bound_again
       (after_replay (same_proposal same) (round_of x (artifact_view a)) a)
@@ -88,7 +88,7 @@ module _ {K L D : Type 0} (same : D → D → Bool) where
 
 module _ {K L D : Type 0} (same : D → D → Bool) (elect : Elect L) where
   -- `replay`; a notarize vote readies the next view as it did when it was cast
-  abbrev pub after_replayed : {S G C : Type 0} → Facts K L D → Artifact S D K G C → Facts K L D
+  abbrev pub after_replayed : {S G C : Type 0} → StateFacts K L D → Artifact S D K G C → StateFacts K L D
   after_replayed x a =
       let restored = with_round (replayed_sets x a) (artifact_view a) (replayed_round same x a) in
       if is_some (voted_proposal a) then with_next_view_ready elect restored (artifact_view a) else restored

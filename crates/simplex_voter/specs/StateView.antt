@@ -4,9 +4,9 @@ use Rattle.std.specs.FinMap.{keys}
 use Rattle.simplex_types.specs.declared.types.window.Terms.{Terms}
 use Rattle.simplex_voter.specs.declared.voter.state.Config.{Config}
 use Rattle.simplex_voter.specs.declared.voter.state.State.TheInside.{Inside}
-use Rattle.simplex_voter.specs.Facts.{Settings, Facts}
+use Rattle.simplex_voter.specs.Facts.{Settings, StateFacts}
 
-abbrev pub state_view : {S L D K G C : Type 0} → (L → Terms) → (L → Bool) → Inside S L D K G C → Facts K L D
+abbrev pub state_view : {S L D K G C : Type 0} → (L → Terms) → (L → Bool) → Inside S L D K G C → StateFacts K L D
 state_view terms elects_early s =
     record {
       settings = record {

@@ -16,7 +16,7 @@ use Rattle.simplex_voter.specs.declared.voter.verify.Standing.{Standing}
 use Rattle.simplex_voter.specs.declared.voter.verify.Standing.TheVariants.{Passed, Invalid, Lacks, Ready}
 use Rattle.simplex_voter.specs.declared.voter.verify.Verify.{Verify}
 use Rattle.simplex_voter.specs.declared.voter.verify.Verify.TheVariants as verify
-use Rattle.simplex_voter.specs.Facts.{Facts, Elect, round_at, round_of, with_round, with_tracked}
+use Rattle.simplex_voter.specs.Facts.{StateFacts, Elect, round_at, round_of, with_round, with_tracked}
 use Rattle.simplex_voter.specs.Gaps.{first_gap}
 use Rattle.simplex_voter.specs.Windows.{in_window, is_admitted}
 use Rattle.simplex_voter.specs.Parents.{spans, payload_for, binding_matches}
@@ -77,21 +77,21 @@ is_new_proposal r = not (is_nullify r.decision) && is_none r.slot.held
 
 module _ {K L D : Type 0} where
   -- what the scan leaves where it comes to a view of this standing
-  abbrev pub left_at : Facts K L D → ℕ × RoundFacts K D → Standing D → Facts K L D
+  abbrev pub left_at : StateFacts K L D → ℕ × RoundFacts K D → Standing D → StateFacts K L D
   left_at x e Passed = x
   left_at x e Invalid = with_round x e.0 (with_latch e.1 x.moment InvalidProposal)
   left_at x e (Lacks w kind) = with_round x e.0 (with_request e.1 w)
   left_at x e (Ready d) = with_round x e.0 (verifying_round e.1 d)
 
   -- what a proposal of this view handed in asks: this epoch, and a view that is kept
-  abbrev pub takes_proposal : Facts K L D → ℕ → Proposal D → Bool
+  abbrev pub takes_proposal : StateFacts K L D → ℕ → Proposal D → Bool
   takes_proposal x v p = takes_round x p.round && p.round.view == v
 
-  abbrev pub without_binding : Facts K L D → ℕ → Facts K L D
+  abbrev pub without_binding : StateFacts K L D → ℕ → StateFacts K L D
   without_binding x v = with_tracked x v (with_nothing_bound (round_of x v))
 
   -- `set_proposal`: whether to verify it
-  abbrev pub set_proposal_answer : Facts K L D → ℕ → Bool
+  abbrev pub set_proposal_answer : StateFacts K L D → ℕ → Bool
   set_proposal_answer x v = is_new_proposal (round_of x v)
 
 abbrev pub with_proposal : {K D : Type 0} → (D → D → Bool) → RoundFacts K D → Proposal D → RoundFacts K D
@@ -102,63 +102,63 @@ abbrev pub with_mark : {K D : Type 0} → RoundFacts K D → RoundFacts K D
 with_mark r = if is_nullify r.decision then r else record r { slot = after_mark r.slot }
 
 module _ {K L D : Type 0} (same : D → D → Bool) (elect : Elect L) where
-  abbrev pub after_set_proposal : Facts K L D → ℕ → Proposal D → Facts K L D
+  abbrev pub after_set_proposal : StateFacts K L D → ℕ → Proposal D → StateFacts K L D
   after_set_proposal x v p =
       let ready = with_next_view_ready elect x v in
       with_round ready v (with_proposal same (round_of ready v) p)
 
   -- above no gap the parent's payload is ready, or inside the window still forming, or its notarization is lacking
-  abbrev pub payload_standing : Facts K L D → ℕ → RoundFacts K D → ℕ → Standing D
+  abbrev pub payload_standing : StateFacts K L D → ℕ → RoundFacts K D → ℕ → Standing D
   payload_standing x v r p =
       option_map_or Ready (payload_for same elect x v p) (if in_window x v then Passed else unless_asked r p Notarization)
 
   -- how a proposal stands by its parent: the first gap is to be closed first
-  abbrev pub parent_standing : Facts K L D → ℕ → RoundFacts K D → ℕ → Standing D
+  abbrev pub parent_standing : StateFacts K L D → ℕ → RoundFacts K D → ℕ → Standing D
   parent_standing x v r p =
       if spans x v p
       then option_map_or (λ w. unless_asked r w Nullification) (first_gap x p v) (payload_standing x v r p)
       else Invalid
 
   -- how a view stands: another leads it, this member may work there, and its proposal was not verified yet
-  unfoldable pub standing : Facts K L D → ℕ × RoundFacts K D → Standing D
+  unfoldable pub standing : StateFacts K L D → ℕ × RoundFacts K D → Standing D
   standing x e =
       if is_admitted x e.0
       then option_map_or (λ found. parent_standing x e.0 e.1 found.1.parent) (pending_proposal e.1) Passed
       else Passed
 
-  abbrev pub answer_in : Facts K L D → ℕ × RoundFacts K D → Option (Verify D K)
+  abbrev pub answer_in : StateFacts K L D → ℕ × RoundFacts K D → Option (Verify D K)
   answer_in x e = option_and_then (answer_at e.0 (standing x e)) (pending_proposal e.1)
 
   -- `try_verify`: the answer of the lowest view ahead that has one
-  abbrev pub verify_answer : Facts K L D → Verify D K
+  abbrev pub verify_answer : StateFacts K L D → Verify D K
   verify_answer x = option_map_or (λ found. found) (slice_get (filter_map (answer_in x) (views_ahead x)) 0) verify.Wait
 
   -- the views ahead up to that one
-  abbrev pub scanned_views : Facts K L D → List (ℕ × RoundFacts K D)
+  abbrev pub scanned_views : StateFacts K L D → List (ℕ × RoundFacts K D)
   scanned_views x = through (λ e. is_answered (standing x e)) (views_ahead x)
 
-  abbrev pub was_scanned : Facts K L D → ℕ → Bool
+  abbrev pub was_scanned : StateFacts K L D → ℕ → Bool
   was_scanned x v = list_any (λ e. v == e.0) (scanned_views x)
 
   -- the round of a view that was scanned is left by how it stood, and any other stays
-  abbrev pub scan_left : Facts K L D → ℕ → RoundFacts K D → RoundFacts K D
+  abbrev pub scan_left : StateFacts K L D → ℕ → RoundFacts K D → RoundFacts K D
   scan_left x v r = if was_scanned x v then round_left r x.moment (standing x (v, r)) else r
 
   -- those with an invalid parent time out, and the one that is answered is verified or asks
-  abbrev pub after_try_verify : Facts K L D → Facts K L D
+  abbrev pub after_try_verify : StateFacts K L D → StateFacts K L D
   after_try_verify x = record x { rounds = map (λ e. (e.0, scan_left x e.0 e.1)) x.rounds }
 
   -- `verified`: whether the held proposal is marked; an answer for what is no longer bound takes the binding away
-  abbrev pub verified_answer : Facts K L D → ℕ → Bool
+  abbrev pub verified_answer : StateFacts K L D → ℕ → Bool
   verified_answer x v =
       binding_matches same elect x v
       && option_map_or (λ r. not (is_nullify r.decision) && is_unverified r.slot) (round_at x v) false
 
-  abbrev pub after_verified : Facts K L D → ℕ → Facts K L D
+  abbrev pub after_verified : StateFacts K L D → ℕ → StateFacts K L D
   after_verified x v =
       if binding_matches same elect x v then with_tracked x v (with_mark (round_of x v)) else without_binding x v
 
   -- `verification_failed`
-  abbrev pub after_verification_failed : Facts K L D → ℕ → TimeoutReason → ℕ → Facts K L D
+  abbrev pub after_verification_failed : StateFacts K L D → ℕ → TimeoutReason → ℕ → StateFacts K L D
   after_verification_failed x v reason now =
       if binding_matches same elect x v then with_timeout (at_moment x now) v reason now else without_binding (at_moment x now) v

@@ -11,64 +11,65 @@ use Rattle.simplex_types.specs.declared.types.messages.Notarize.{Notarize}
 use Rattle.simplex_types.specs.declared.types.messages.Subject.{Subject}
 use Rattle.simplex_types.specs.declared.types.messages.Subject.TheVariants as subject
 use Rattle.simplex_types.specs.Signing.{IsSignedAs}
-use Rattle.simplex_voter.specs.Facts.{Facts, Elect, round_number, round_of, with_round}
+use Rattle.simplex_voter.specs.Facts.{StateFacts, Elect, round_number, round_of, with_round}
 use Rattle.simplex_voter.specs.Leaders.{with_next_view_ready}
 use Rattle.simplex_voter.specs.Rules.{may_notarize, may_nullify, may_finalize}
 
 -- the vote is this member's, for this view of its epoch, with its signature on just that
-pub record IsSignedNullify {S L D K G C : Type 0} (is_signature : K → Subject D → G → Type 0) (x : Facts K L D) (v : ℕ) (vote : Nullify S K G C) : Type 0 where
+pub record IsSignedNullify {S L D K G C : Type 0} (is_signature : K → Subject D → G → Type 0) (x : StateFacts K L D) (v : ℕ)
+    (vote : Nullify S K G C) : Type 0 where
   pub round : vote.round ≡ round_number x v
   pub signer : x.me ≡ Some vote.signer
   pub signed : IsSignedAs is_signature x.me x.members (subject.Nullify vote.round) vote.signature
 
 -- the vote is this member's, with its signature on just its proposal
-pub record IsSignedNotarize {S L D K G C : Type 0} (is_signature : K → Subject D → G → Type 0) (x : Facts K L D) (vote : Notarize S D K G C) : Type 0 where
+pub record IsSignedNotarize {S L D K G C : Type 0} (is_signature : K → Subject D → G → Type 0) (x : StateFacts K L D) (vote : Notarize S D K G C) : Type 0 where
   pub signer : x.me ≡ Some vote.signer
   pub signed : IsSignedAs is_signature x.me x.members (subject.Notarize vote.proposal) vote.signature
 
-pub record IsSignedFinalize {S L D K G C : Type 0} (is_signature : K → Subject D → G → Type 0) (x : Facts K L D) (vote : message.Finalize S D K G C) : Type 0 where
+pub record IsSignedFinalize {S L D K G C : Type 0} (is_signature : K → Subject D → G → Type 0) (x : StateFacts K L D) (vote : message.Finalize S D K G C) : Type 0 where
   pub signer : x.me ≡ Some vote.signer
   pub signed : IsSignedAs is_signature x.me x.members (subject.Finalize vote.proposal) vote.signature
 
 module _ {K L D : Type 0} where
   -- this member's nullify vote for the view is out, where it has a key
-  abbrev pub nullify_cast : Facts K L D → ℕ → Facts K L D
+  abbrev pub nullify_cast : StateFacts K L D → ℕ → StateFacts K L D
   nullify_cast x v = if is_some x.me then record x { nullify_votes = insert_key nat_cmp x.nullify_votes v } else x
 
   -- `construct_nullify`: the vote is answered with whether it is a repeat
-  abbrev pub nullify_answer : Facts K L D → ℕ → Option Bool
+  abbrev pub nullify_answer : StateFacts K L D → ℕ → Option Bool
   nullify_answer x v = if is_some x.me && may_nullify x v then Some (is_nullify (round_of x v).decision) else None
 
-  abbrev pub after_construct_nullify : Facts K L D → ℕ → Facts K L D
+  abbrev pub after_construct_nullify : StateFacts K L D → ℕ → StateFacts K L D
   after_construct_nullify x v =
       if may_nullify x v then nullify_cast (with_round x v (after_nullify (round_of x v))) v else x
 
 module _ {K L D : Type 0} where
   -- the vote to notarize the view is decided
-  abbrev pub notarize_cast : Facts K L D → ℕ → Facts K L D
+  abbrev pub notarize_cast : StateFacts K L D → ℕ → StateFacts K L D
   notarize_cast x v = with_round x v (record (round_of x v) { notarize_decided = true })
 
   -- the vote to finalize the view is decided
-  abbrev pub finalize_cast : Facts K L D → ℕ → Facts K L D
+  abbrev pub finalize_cast : StateFacts K L D → ℕ → StateFacts K L D
   finalize_cast x v = with_round x v (record (round_of x v) { decision = Finalize })
 
   -- the proposal that is held, where there is a key
-  abbrev pub signed_proposal : Facts K L D → ℕ → Option (Proposal D)
+  abbrev pub signed_proposal : StateFacts K L D → ℕ → Option (Proposal D)
   signed_proposal x v = if is_some x.me then (round_of x v).slot.held else None
 
 module _ {K L D : Type 0} (elect : Elect L) where
   -- `construct_finalize`: what is signed
-  abbrev pub finalize_answer : Facts K L D → ℕ → Option (Proposal D)
+  abbrev pub finalize_answer : StateFacts K L D → ℕ → Option (Proposal D)
   finalize_answer x v = if is_some x.me && may_finalize elect x v then (round_of x v).slot.held else None
 
-  abbrev pub after_construct_finalize : Facts K L D → ℕ → Facts K L D
+  abbrev pub after_construct_finalize : StateFacts K L D → ℕ → StateFacts K L D
   after_construct_finalize x v = if may_finalize elect x v then finalize_cast x v else x
 
 module _ {K L D : Type 0} (same : D → D → Bool) (elect : Elect L) where
   -- `construct_notarize`: what is signed
-  abbrev pub notarize_answer : Facts K L D → ℕ → Option (Proposal D)
+  abbrev pub notarize_answer : StateFacts K L D → ℕ → Option (Proposal D)
   notarize_answer x v = if is_some x.me && may_notarize same elect x v then (round_of x v).slot.held else None
 
-  abbrev pub after_construct_notarize : Facts K L D → ℕ → Facts K L D
+  abbrev pub after_construct_notarize : StateFacts K L D → ℕ → StateFacts K L D
   after_construct_notarize x v =
       if may_notarize same elect x v then with_next_view_ready elect (notarize_cast x v) v else x

@@ -5,7 +5,7 @@ use Rattle.simplex_types.specs.Terms.{term_start, term_end, next_term_start}
 use Rattle.simplex_types.specs.Window.{issuance_floor}
 use Rattle.simplex_types.specs.declared.types.window.Viewport.{Viewport}
 use Rattle.simplex_round.specs.Round.{RoundFacts, signs_as}
-use Rattle.simplex_voter.specs.Facts.{Facts}
+use Rattle.simplex_voter.specs.Facts.{StateFacts}
 
 -- not above the current view; or near it in its term; or near it at the next term's start
 abbrev pub admits_outbound : (length optimistic current view : ℕ) → Bool
@@ -20,28 +20,28 @@ is_notarized r = is_some r.notarization || is_some r.finalization
 
 module _ {K L D : Type 0} where
   -- the scheme signs as this member
-  abbrev pub is_me : Facts K L D → ℕ → Bool
+  abbrev pub is_me : StateFacts K L D → ℕ → Bool
   is_me x member = signs_as x.me member
 
   -- the view starts a term
-  abbrev pub is_start : Facts K L D → ℕ → Bool
+  abbrev pub is_start : StateFacts K L D → ℕ → Bool
   is_start x v = v == term_start x.terms.term_length v
 
   -- a vote of this member for the view may go out
-  unfoldable pub is_admitted : Facts K L D → ℕ → Bool
+  unfoldable pub is_admitted : StateFacts K L D → ℕ → Bool
   is_admitted x v = admits_outbound x.terms.term_length x.terms.optimistic_views x.current v
 
   -- from the floor on, genesis or a notarized or finalized view stands below the view
-  abbrev pub is_open : Facts K L D → ℕ → Option ℕ → Bool
+  abbrev pub is_open : StateFacts K L D → ℕ → Option ℕ → Bool
   is_open x v None = false
   is_open x v (Some floor) = floor == 0 || list_any (λ e. nat_le floor e.0 && nat_lt e.0 v && is_notarized e.1) x.rounds
 
   -- the view may build on a parent that is not certified yet, since one not far below it in its term is notarized
-  unfoldable pub in_window : Facts K L D → ℕ → Bool
+  unfoldable pub in_window : StateFacts K L D → ℕ → Bool
   in_window x v = is_open x v (issuance_floor x.terms.term_length x.terms.optimistic_views v)
 
   -- the views that are kept
-  abbrev pub viewport : Facts K L D → Viewport
+  abbrev pub viewport : StateFacts K L D → Viewport
   viewport x = record {
     finalized = x.finalized;
     current = x.current;
@@ -50,11 +50,11 @@ module _ {K L D : Type 0} where
   }
 
   -- the lowest view that is kept
-  abbrev pub min_active : Facts K L D → ℕ
+  abbrev pub min_active : StateFacts K L D → ℕ
   min_active x = x.finalized - x.settings.view_retention
 
-  abbrev pub admits_certificate : Facts K L D → ℕ → Bool
+  abbrev pub admits_certificate : StateFacts K L D → ℕ → Bool
   admits_certificate x v = nat_le 1 v && nat_le (min_active x) v
 
-  abbrev pub admits_vote : Facts K L D → ℕ → Bool
+  abbrev pub admits_vote : StateFacts K L D → ℕ → Bool
   admits_vote x v = admits_certificate x v && nat_le v (next_term_start x.terms.term_length x.current)

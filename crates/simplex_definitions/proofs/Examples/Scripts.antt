@@ -12,7 +12,7 @@ use Rattle.simplex_types.specs.declared.types.messages.Artifact.TheVariants as a
 use Rattle.simplex_types.specs.declared.reasons.TimeoutReason.{TimeoutReason}
 use Rattle.simplex_types.specs.declared.reasons.HandoffAbandonedReason.{HandoffAbandonedReason}
 use Rattle.simplex_voter.specs.declared.voter.candidates.CertificateFetch.{CertificateFetch}
-use Rattle.simplex_voter.specs.Facts.{Settings, Facts, Elect, new_facts}
+use Rattle.simplex_voter.specs.Facts.{Settings, StateFacts, Elect, new_facts}
 use Rattle.simplex_voter.specs.Gaps.{first_gap}
 use Rattle.simplex_voter.specs.Windows.{admits_vote, min_active, is_admitted, in_window}
 use Rattle.simplex_voter.specs.Payloads.{explicit_payload, is_handoff_parent, serves, follows, optimistic_payload}
@@ -33,7 +33,7 @@ use Rattle.simplex_voter.specs.Replay.{artifact_round, replay_refusal, after_rep
 
 -- keys are the members' indices, payloads numbers, and an elector is the length of its terms
 abbrev pub State : Type 0
-State = Facts ℕ ℕ ℕ
+State = StateFacts ℕ ℕ ℕ
 
 abbrev pub Entry : Type 0
 Entry = Artifact ℕ ℕ ℕ ℕ ℕ

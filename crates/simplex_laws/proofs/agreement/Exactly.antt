@@ -10,7 +10,7 @@ use Rattle.simplex_types.specs.declared.types.messages.Proposal.{Proposal}
 use Rattle.simplex_types.specs.declared.types.messages.Subject.{Subject}
 use Rattle.simplex_types.specs.declared.types.messages.Subject.TheVariants as subject
 use Rattle.simplex_types.specs.declared.types.numbers.Round.{Round}
-use Rattle.simplex_voter.specs.Facts.{Facts, Elect, round_of, round_number}
+use Rattle.simplex_voter.specs.Facts.{StateFacts, Elect, round_of, round_number}
 use Rattle.simplex_voter.specs.Refusals.{plain_refusal}
 use Rattle.simplex_round.specs.Round.{is_nullify}
 use Rattle.simplex_voter.specs.Rules.{may_notarize, may_nullify, may_finalize, NotarizeRule, NullifyRule, FinalizeRule}
@@ -97,13 +97,13 @@ module _ (K D : Type 0) where
   restart_signs_none (Err e) = refl
 
 module _ {K L D : Type 0} (same : D → D → Bool) (elect : Elect L) where
-  call_refused : (x : Facts K L D) (call : CallFacts D) (f : Fault) → ExactAt same elect (Some x) (Calls call) (Refused f)
+  call_refused : (x : StateFacts K L D) (call : CallFacts D) (f : Fault) → ExactAt same elect (Some x) (Calls call) (Refused f)
   call_refused x (ConstructNullify v) f = refused (NullifyRule x v) x.me (Some (subject.Nullify (round_number x v))) f
   call_refused x (ConstructFinalize v) f = refused (FinalizeRule elect x v) x.me (option_map subject.Finalize (held_proposal x v)) f
   call_refused x (ConstructNotarize v) f = refused (NotarizeRule same elect x v) x.me (option_map subject.Notarize (held_proposal x v)) f
   call_refused x _ f = refl
 
-  call_told : (x : Facts K L D) (o : Openings K D) (call : CallFacts D) → ExactAt same elect (Some x) (Calls call) (reply_of same elect x o call)
+  call_told : (x : StateFacts K L D) (o : Openings K D) (call : CallFacts D) → ExactAt same elect (Some x) (Calls call) (reply_of same elect x o call)
   call_told x o (ConstructNullify v) = by_fault (plain_refusal x)
     where
       by_fault : (f : Option Fault) → IsExact (NullifyRule x v) x.me (Some (subject.Nullify (round_number x v))) (unless_refused f (answer same elect x o (ConstructNullify v)))
@@ -125,12 +125,12 @@ module _ {K L D : Type 0} (same : D → D → Bool) (elect : Elect L) where
   unfolding IsCall
   call_exact m next call told is_call = by_life m.life is_call
     where
-      by_life : (o : Option (Facts K L D)) → AnswersAlive same elect o m call told next → ExactAt same elect o (Calls call) told
+      by_life : (o : Option (StateFacts K L D)) → AnswersAlive same elect o m call told next → ExactAt same elect o (Calls call) told
       by_life None (tells, leaves) = rw tells refl
       by_life (Some x) (inl (tells, leaves)) = rw tells (call_told x m.openings call)
       by_life (Some x) (inr (allowed, tells, leaves)) = rw tells (call_refused x call fault.OutOfMemory)
 
-  pub restart_exact : (life : Option (Facts K L D)) (r : RestartFacts K L D) (result : Result (Unit {0}) RecoverError) → ExactAt same elect life (Restarts r) (restart_told result)
+  pub restart_exact : (life : Option (StateFacts K L D)) (r : RestartFacts K L D) (result : Result (Unit {0}) RecoverError) → ExactAt same elect life (Restarts r) (restart_told result)
   restart_exact None r result = restart_signs_none K D result
   restart_exact (Some x) r result = restart_signs_none K D result
 

@@ -5,7 +5,7 @@ use Rattle.simplex_types.specs.Certificates.{ProposalFacts}
 use Rattle.simplex_types.specs.declared.types.messages.Context.{Context}
 use Rattle.simplex_types.specs.declared.types.messages.Proposal.{Proposal}
 use Rattle.simplex_round.specs.Round.{RoundFacts, new_round}
-use Rattle.simplex_voter.specs.Facts.{Facts, Elect, round_of, round_number}
+use Rattle.simplex_voter.specs.Facts.{StateFacts, Elect, round_of, round_number}
 use Rattle.simplex_voter.specs.Proposing.{proposal_of}
 use Rattle.simplex_laws.specs.Events.{Event, after_event, Proposed}
 use Rattle.simplex_laws.specs.Sums.{or_new}
@@ -30,21 +30,21 @@ module _ {K D : Type 0} (Q : Proposal D → Type 0) where
   HoldsOf r = (p : Proposal D) → r.slot.held ≡ Some p → Q p
 
 -- each proposal that a state holds has it
-abbrev pub AllHeld : {K L D : Type 0} → (Proposal D → Type 0) → Facts K L D → Type 0
+abbrev pub AllHeld : {K L D : Type 0} → (Proposal D → Type 0) → StateFacts K L D → Type 0
 AllHeld Q x = (v : ℕ) → HoldsOf Q (round_of x v)
 
 held_or_new : {D : Type 0} (o : Option (Proposal D)) (p q : Proposal D) → or_new o (Some p) ≡ Some q → (o ≡ Some q) ⊎ (p ≡ q)
 held_or_new None p q is = inr (let same : p ≡ q = cc in same)
 held_or_new (Some h) p q is = inl is
 
-module _ {K L D : Type 0} (same : D → D → Bool) (decides : (d e : D) → same d e ≡ true → d ≡ e) (elect : Elect L) (Q : Proposal D → Type 0) (x : Facts K L D) (e : Event K D) (brings : Brings Q e) where
+module _ {K L D : Type 0} (same : D → D → Bool) (decides : (d e : D) → same d e ≡ true → d ≡ e) (elect : Elect L) (Q : Proposal D → Type 0) (x : StateFacts K L D) (e : Event K D) (brings : Brings Q e) where
   one_of : (o : Option (Proposal D)) (p q : Proposal D) → ((r : Proposal D) → o ≡ Some r → Q r) → Q p → or_new o (Some p) ≡ Some q → Q q
   one_of o p q old new is = elim (held_or_new o p q is) [ inl before ↦ old q before | inr here ↦ subst Q here new ]
 
   the_one : (p q : Proposal D) → Q p → Some p ≡ Some q → Q q
   the_one p q new is = let here : p ≡ q = cc in subst Q here new
 
-  change_held : (y : Facts K L D) (v : ℕ) (r s : RoundFacts K D) → RoundStep same elect x e y v r s → HoldsOf Q r → HoldsOf Q s
+  change_held : (y : StateFacts K L D) (v : ℕ) (r s : RoundFacts K D) → RoundStep same elect x e y v r s → HoldsOf Q r → HoldsOf Q s
   change_held y v r s (step.Notarized c says at none) holds q is = the_one c.proposal q (brings.notarized c says) (sym (settled_held same decides r.slot c.proposal) ∙ is)
   change_held y v r s (step.Finalized c says at none) holds q is = the_one c.proposal q (brings.finalized c says) (sym (settled_held same decides r.slot c.proposal) ∙ is)
   change_held y v r s (step.VotedAgain p binding says at bound) holds q is = one_of r.slot.held p q holds (brings.noted p says) (sym (own_held same r.slot p decides) ∙ is)

@@ -7,7 +7,7 @@ use Rattle.std.proofs.lemmas.Bool.{false≢true}
 use Rattle.simplex_types.specs.Certificates.{Notarized, Nullified, Finalized, ArtifactFacts, NotarizeVote, NullifyVote, FinalizeVote, Verdict, Accepted}
 use Rattle.simplex_types.specs.Config.{FloorFacts}
 use Rattle.simplex_types.specs.declared.types.messages.Context.{Context}
-use Rattle.simplex_voter.specs.Facts.{Facts, Elect}
+use Rattle.simplex_voter.specs.Facts.{StateFacts, Elect}
 use Rattle.simplex_voter.specs.Windows.{min_active}
 use Rattle.simplex_voter.specs.Certification.{takes_certify_handle}
 use Rattle.simplex_voter.specs.Acceptance.{after_set_floor}
@@ -28,9 +28,9 @@ abbrev pub is_floor : {K D : Type 0} → Event K D → Bool
 is_floor (SetFloor _ _) = true
 is_floor _ = false
 
-module _ {K L D : Type 0} (same : D → D → Bool) (elect : Elect L) (x : Facts K L D) where
+module _ {K L D : Type 0} (same : D → D → Bool) (elect : Elect L) (x : StateFacts K L D) where
   -- a call is at most one event
-  abbrev pub after_one : List (Event K D) → Facts K L D
+  abbrev pub after_one : List (Event K D) → StateFacts K L D
   after_one [] = x
   after_one (e ∷ _) = after_event same elect x e
 
@@ -38,15 +38,15 @@ module _ {K L D : Type 0} (same : D → D → Bool) (elect : Elect L) (x : Facts
   IsOneTaken [] = Unit {0}
   IsOneTaken (e ∷ rest) = IsEvent x e × (is_floor e ≡ false) × (rest ≡ [])
 
-  by_one : (P : List (Event K D) → Facts K L D → Type 0) → P [] x → ((e : Event K D) → IsEvent x e → is_floor e ≡ false → P (e ∷ []) (after_event same elect x e)) → (es : List (Event K D)) → IsOneTaken es → P es (after_one es)
+  by_one : (P : List (Event K D) → StateFacts K L D → Type 0) → P [] x → ((e : Event K D) → IsEvent x e → is_floor e ≡ false → P (e ∷ []) (after_event same elect x e)) → (es : List (Event K D)) → IsOneTaken es → P es (after_one es)
   by_one P still each [] taken = still
   by_one P still each (e ∷ rest) taken = subst (λ es. P (e ∷ es) (after_event same elect x e)) (sym taken.2) (each e taken.0 taken.1)
 
-  by_any : (P : Facts K L D → Type 0) → P x → ((e : Event K D) → P (after_event same elect x e)) → (es : List (Event K D)) → P (after_one es)
+  by_any : (P : StateFacts K L D → Type 0) → P x → ((e : Event K D) → P (after_event same elect x e)) → (es : List (Event K D)) → P (after_one es)
   by_any P still each [] = still
   by_any P still each (e ∷ rest) = each e
 
-  in_context_is : (f : Context D K → Facts K L D) (event : Context D K → Event K D) → ((c : Context D K) → f c ≡ after_event same elect x (event c)) → (context : Option (Context D K)) → option_map_or f context x ≡ after_one (in_context event context)
+  in_context_is : (f : Context D K → StateFacts K L D) (event : Context D K → Event K D) → ((c : Context D K) → f c ≡ after_event same elect x (event c)) → (context : Option (Context D K)) → option_map_or f context x ≡ after_one (in_context event context)
   in_context_is f event is None = refl
   in_context_is f event is (Some c) = is c
 
@@ -73,11 +73,11 @@ module _ {K L D : Type 0} (same : D → D → Bool) (elect : Elect L) (x : Facts
   call_taken o _ is = (tt, refl, refl)
 
   -- what holds of no change and of each event that is taken holds of a call that is allowed
-  pub call_by_event : (o : Openings K D) (P : List (Event K D) → Facts K L D → Type 0) → P [] x → ((e : Event K D) → IsEvent x e → is_floor e ≡ false → P (e ∷ []) (after_event same elect x e)) → (call : CallFacts D) → is_allowed x o call ≡ true → P (events_of o call) (after_call same elect x o call)
+  pub call_by_event : (o : Openings K D) (P : List (Event K D) → StateFacts K L D → Type 0) → P [] x → ((e : Event K D) → IsEvent x e → is_floor e ≡ false → P (e ∷ []) (after_event same elect x e)) → (call : CallFacts D) → is_allowed x o call ≡ true → P (events_of o call) (after_call same elect x o call)
   call_by_event o P still each call allowed = subst (P (events_of o call)) (sym (call_is o call)) (by_one P still each (events_of o call) (call_taken o call allowed))
 
   -- and what holds of each event in any case, of each call
-  pub call_by_any : (o : Openings K D) (P : Facts K L D → Type 0) → P x → ((e : Event K D) → P (after_event same elect x e)) → (call : CallFacts D) → P (after_call same elect x o call)
+  pub call_by_any : (o : Openings K D) (P : StateFacts K L D → Type 0) → P x → ((e : Event K D) → P (after_event same elect x e)) → (call : CallFacts D) → P (after_call same elect x o call)
   call_by_any o P still each call = subst P (sym (call_is o call)) (by_any P still each (events_of o call))
 
 -- calls on the work of a view are silent
@@ -110,8 +110,8 @@ module _ {K D : Type 0} where
 
 -- what each event keeps, whether it is taken or not, holds of each new life
 
-module _ {K L D : Type 0} (same : D → D → Bool) (elect : Elect L) (P : Facts K L D → Type 0) (keeps : (x : Facts K L D) (e : Event K D) → P x → P (after_event same elect x e)) (now : ℕ) where
-  pub retaken_keeps : (x : Facts K L D) (e : ArtifactFacts D) → P x → P (after_entry same elect x now e)
+module _ {K L D : Type 0} (same : D → D → Bool) (elect : Elect L) (P : StateFacts K L D → Type 0) (keeps : (x : StateFacts K L D) (e : Event K D) → P x → P (after_event same elect x e)) (now : ℕ) where
+  pub retaken_keeps : (x : StateFacts K L D) (e : ArtifactFacts D) → P x → P (after_entry same elect x now e)
   retaken_keeps x (NotarizeVote p m) holds = keeps x (Replay (NotarizeVote p m)) holds
   retaken_keeps x (NullifyVote round m) holds = keeps x (Replay (NullifyVote round m)) holds
   retaken_keeps x (FinalizeVote p m) holds = keeps x (Replay (FinalizeVote p m)) holds
@@ -120,14 +120,14 @@ module _ {K L D : Type 0} (same : D → D → Bool) (elect : Elect L) (P : Facts
   retaken_keeps x (Accepted (Nullified c)) holds = keeps _ (Replay (Accepted (Nullified c))) (keeps x (AddNullification c now) holds)
   retaken_keeps x (Accepted (Finalized c)) holds = keeps _ (Replay (Accepted (Finalized c))) (keeps x (AddFinalization c now) holds)
 
-  pub all_keep : (x : Facts K L D) (entries : List (ArtifactFacts D)) → P x → P (after_entries same elect x now entries)
+  pub all_keep : (x : StateFacts K L D) (entries : List (ArtifactFacts D)) → P x → P (after_entries same elect x now entries)
   unfolding after_kept_entry
   all_keep x [] holds = holds
   all_keep x (e ∷ rest) holds = all_keep (after_kept_entry same elect x now e) rest (elim (nat_lt (entry_view e) (min_active x)) as (λ b. P (if b then x else after_entry same elect x now e)) [ true ↦ holds | false ↦ retaken_keeps x e holds ])
 
-  pub floor_then_all_keep : (x : Facts K L D) (floor : FloorFacts D) (entries : List (ArtifactFacts D)) → P (after_set_floor same elect x floor now) → P (recovered_state same elect x floor now entries)
+  pub floor_then_all_keep : (x : StateFacts K L D) (floor : FloorFacts D) (entries : List (ArtifactFacts D)) → P (after_set_floor same elect x floor now) → P (recovered_state same elect x floor now entries)
   unfolding recovered_state
   floor_then_all_keep x floor entries holds = all_keep _ entries holds
 
-  pub recovered_keeps : (x : Facts K L D) (floor : FloorFacts D) (entries : List (ArtifactFacts D)) → P x → P (recovered_state same elect x floor now entries)
+  pub recovered_keeps : (x : StateFacts K L D) (floor : FloorFacts D) (entries : List (ArtifactFacts D)) → P x → P (recovered_state same elect x floor now entries)
   recovered_keeps x floor entries holds = floor_then_all_keep x floor entries (keeps x (SetFloor floor now) holds)

@@ -6,7 +6,7 @@ use Rattle.std.proofs.lemmas.Bool.Decides.{nat_tests}
 use Rattle.std.proofs.lemmas.Map.Views.{any-filter_same}
 use Rattle.simplex_types.specs.Certificates.{ArtifactFacts, NotarizeVote, NullifyVote, FinalizeVote, Verdict, Accepted, Notarized, Nullified, Finalized}
 use Rattle.simplex_types.specs.declared.types.numbers.Round.{Round}
-use Rattle.simplex_voter.specs.Facts.{Facts, Elect}
+use Rattle.simplex_voter.specs.Facts.{StateFacts, Elect}
 use Rattle.simplex_voter.specs.Windows.{min_active}
 use Rattle.simplex_voter.specs.Refusals.{takes_round}
 use Rattle.simplex_voter.specs.Rules.{may_nullify}
@@ -19,20 +19,20 @@ use Rattle.simplex_laws.specs.Sums.{covers_from, is_prune, has_view}
 use Rattle.simplex_laws.specs.OwnWork.{casts_nullify}
 use Rattle.simplex_laws.proofs.histories.FollowingHanded.{and_false}
 
-module _ {K L D : Type 0} (low : ℕ) (x : Facts K L D) (active : low ≤ min_active x) where
+module _ {K L D : Type 0} (low : ℕ) (x : StateFacts K L D) (active : low ≤ min_active x) where
   apart_from : (r : Round) (v : ℕ) → takes_round x r ≡ true → v < low → eqb v r.view ≡ false
   apart_from r v takes below =
       let up : min_active x ≤ r.view = let h = (and_parts (nat_le 1 r.view) (nat_le (min_active x) r.view) (and_parts _ _ takes).1).1 in grind (arith, nat_tests, h) in
       ne_eqb v r.view (λ same. absurd (omega (arith, same, up, active, below)))
 
-module _ {K L D : Type 0} (x : Facts K L D) where
+module _ {K L D : Type 0} (x : StateFacts K L D) where
   left_none : (views : List ℕ) (v : ℕ) → v < min_active x → has_view (filter (λ u. nat_le (min_active x) u) views) v ≡ false
   left_none views v below = any-filter_same (λ u. eqb v u) (λ u. nat_le (min_active x) u) false (λ u here. ap (nat_le (min_active x)) (sym (eqb-true v u here)) ∙ test) views
     where
       test : nat_le (min_active x) v ≡ false
       test = grind (arith, nat_tests)
 
-module _ {K L D : Type 0} (low : ℕ) (x : Facts K L D) (active : low ≤ min_active x) (reached : low ≤ x.current) where
+module _ {K L D : Type 0} (low : ℕ) (x : StateFacts K L D) (active : low ≤ min_active x) (reached : low ≤ x.current) where
   -- no event notes a view below the bound
 
   pub covers_above : (e : Event K D) → IsEvent x e → (v : ℕ) → v < low → covers_from v e ≡ false
@@ -65,7 +65,7 @@ module _ {K L D : Type 0} (low : ℕ) (x : Facts K L D) (active : low ≤ min_ac
       replays (Accepted c) t = refl
   casts_above _ takes v below = refl
 
-module _ {K L D : Type 0} (same : D → D → Bool) (elect : Elect L) (x : Facts K L D) where
+module _ {K L D : Type 0} (same : D → D → Bool) (elect : Elect L) (x : StateFacts K L D) where
   -- what a prune takes out of them
 
   pub nullified_dropped : (e : Event K D) (v : ℕ) → v < (if is_prune e then min_active x else 0) → has_view (after_event same elect x e).nullified v ≡ false

@@ -5,7 +5,7 @@ use Rattle.std.specs.Ordering.{nat_cmp}
 use Rattle.std.specs.FinMap.Entries.{find-where_key}
 use Rattle.std.proofs.lemmas.Bool.{cases_eq, leb-false, true≢false, false≢true}
 use Rattle.simplex_round.specs.Round.{RoundFacts, new_round, token_of, after_abort}
-use Rattle.simplex_voter.specs.Facts.{Facts, Elect, round_at, round_of, round_number, with_round}
+use Rattle.simplex_voter.specs.Facts.{StateFacts, Elect, round_at, round_of, round_number, with_round}
 use Rattle.simplex_voter.specs.Windows.{min_active}
 use Rattle.simplex_voter.specs.Certification.{without_token}
 use Rattle.simplex_voter.specs.Serving.{after_prune}
@@ -22,24 +22,24 @@ use Rattle.simplex_laws.proofs.frames.Steps as step
 use Rattle.simplex_laws.proofs.frames.Steps.{RoundStep, Step, Path, Puts, Raises, Scans, Prunes, Still, Then}
 
 -- the view lay below what is kept, and isn't tracked
-pub record IsGone {K L D : Type 0} (x y : Facts K L D) (v : ℕ) : Type 0 where
+pub record IsGone {K L D : Type 0} (x y : StateFacts K L D) (v : ℕ) : Type 0 where
   pub below : v < min_active x
   pub untracked : round_at y v ≡ None
 
 module _ {K L D : Type 0} where
-  pub pruned_view : (x : Facts K L D) (v : ℕ) → round_at (after_prune x) v ≡ cond (nat_le (min_active x) v) (round_at x v) None
+  pub pruned_view : (x : StateFacts K L D) (v : ℕ) → round_at (after_prune x) v ≡ cond (nat_le (min_active x) v) (round_at x v) None
   pruned_view x v = find-where_key nat_cmp (λ u. nat_le (min_active x) u) v (λ u same. ap (nat_le (min_active x)) (sym (tied v u same))) x.rounds
 
   -- a prune keeps a round or drops it
-  pub pruned_round : (x : Facts K L D) (v : ℕ) → (round_of (after_prune x) v ≡ round_of x v) ⊎ IsGone x (after_prune x) v
+  pub pruned_round : (x : StateFacts K L D) (v : ℕ) → (round_of (after_prune x) v ≡ round_of x v) ⊎ IsGone x (after_prune x) v
   pruned_round x v = by_kept (nat_le (min_active x) v) refl
     where
       by_kept : (b : Bool) → nat_le (min_active x) v ≡ b → (round_of (after_prune x) v ≡ round_of x v) ⊎ IsGone x (after_prune x) v
       by_kept true is = inl (ap (λ o. unwrap_or o (new_round x.me x.members (round_number x v))) (pruned_view x v ∙ ap (λ b. cond b (round_at x v) None) is))
       by_kept false is = inr (record { below = omega (arith, leb-false (min_active x) v is); untracked = pruned_view x v ∙ ap (λ b. cond b (round_at x v) None) is })
 
-module _ {K L D : Type 0} (same : D → D → Bool) (elect : Elect L) (begun : Facts K L D) (e : Event K D) where
-  ended : (x : Facts K L D) (v w : ℕ) (r : RoundFacts K D) → RoundStep same elect begun e x w r (if nat_le w v then without_token r else r)
+module _ {K L D : Type 0} (same : D → D → Bool) (elect : Elect L) (begun : StateFacts K L D) (e : Event K D) where
+  ended : (x : StateFacts K L D) (v w : ℕ) (r : RoundFacts K D) → RoundStep same elect begun e x w r (if nat_le w v then without_token r else r)
   ended x v w r = ends (nat_le w v) (is_some (token_of r.certification)) refl
     where
       ends : (b c : Bool) → is_some (token_of r.certification) ≡ c → RoundStep same elect begun e x w r (if b then (if c then record r { certification = after_abort r.certification } else r) else r)
@@ -47,7 +47,7 @@ module _ {K L D : Type 0} (same : D → D → Bool) (elect : Elect L) (begun : F
       ends true true under_way = step.Ended under_way
       ends true false none = step.Kept
 
-  scanned_so : e ≡ TryVerify → (x : Facts K L D) (w : ℕ) (r : RoundFacts K D) → RoundStep same elect begun e x w r (scan_left same elect begun w r)
+  scanned_so : e ≡ TryVerify → (x : StateFacts K L D) (w : ℕ) (r : RoundFacts K D) → RoundStep same elect begun e x w r (scan_left same elect begun w r)
   scanned_so is x w r = by_standing (was_scanned same elect begun w) (standing same elect begun (w, r)) refl
     where
       by_standing : (b : Bool) (s : Standing D) → standing same elect begun (w, r) ≡ s → RoundStep same elect begun e x w r (if b then round_left r begun.moment s else r)
@@ -57,7 +57,7 @@ module _ {K L D : Type 0} (same : D → D → Bool) (elect : Elect L) (begun : F
       by_standing true (Lacks u kind) stands = step.Requested u is
       by_standing true (Ready d) stands = step.Verifying d is stands
 
-  pub step_round : (low : ℕ) (x y : Facts K L D) → Step same elect begun e low x y → (w : ℕ) → RoundStep same elect begun e x w (round_of x w) (round_of y w) ⊎ ((is_prune e ≡ true) × (y ≡ after_prune x))
+  pub step_round : (low : ℕ) (x y : StateFacts K L D) → Step same elect begun e low x y → (w : ℕ) → RoundStep same elect begun e x w (round_of x w) (round_of y w) ⊎ ((is_prune e ≡ true) × (y ≡ after_prune x))
   step_round low x y (Puts v r may change) w = elim (cases_eq w v) [
     | inl at ↦ inl (subst (λ u. RoundStep same elect begun e x u (round_of x u) (round_of (with_round x v r) u)) (sym at) (subst (λ s. RoundStep same elect begun e x v (round_of x v) s) (sym (round_put x v r)) change))
     | inr apart ↦ inl (subst (λ s. RoundStep same elect begun e x w (round_of x w) s) (sym (round_of-with_round x w v apart r)) step.Kept)
@@ -67,9 +67,9 @@ module _ {K L D : Type 0} (same : D → D → Bool) (elect : Elect L) (begun : F
   step_round low x y (Prunes is) w = inr (is, refl)
   step_round low x y _ w = inl step.Kept
 
-  module _ (low : ℕ) (Q : ℕ → RoundFacts K D → RoundFacts K D → Type 0) (on : (v : ℕ) (r s t : RoundFacts K D) → Q v r s → Q v s t → Q v r t) (changes : (x : Facts K L D) (v : ℕ) (r s : RoundFacts K D) → RoundStep same elect begun e x v r s → Q v r s) where
+  module _ (low : ℕ) (Q : ℕ → RoundFacts K D → RoundFacts K D → Type 0) (on : (v : ℕ) (r s t : RoundFacts K D) → Q v r s → Q v s t → Q v r t) (changes : (x : StateFacts K L D) (v : ℕ) (r s : RoundFacts K D) → RoundStep same elect begun e x v r s → Q v r s) where
     -- what each change of a round brings about holds between its first and its last state
-    pub rounds_along : is_prune e ≡ false → (x y : Facts K L D) → Path same elect begun e low x y → (v : ℕ) → Q v (round_of x v) (round_of y v)
+    pub rounds_along : is_prune e ≡ false → (x y : StateFacts K L D) → Path same elect begun e low x y → (v : ℕ) → Q v (round_of x v) (round_of y v)
     rounds_along no_prune x y Still v = changes x v _ _ step.Kept
     rounds_along no_prune x y (Then {y = w} path s) v = elim (step_round low w y s v) [
       | inl change ↦ on v _ _ _ (rounds_along no_prune x w path v) (changes w v _ _ change)
@@ -78,11 +78,11 @@ module _ {K L D : Type 0} (same : D → D → Bool) (elect : Elect L) (begun : F
 
 -- the same with a prune, which drops a round or leaves it
 
-pub prune_alone : {K L D : Type 0} (same : D → D → Bool) (elect : Elect L) (x : Facts K L D) (e : Event K D) → is_prune e ≡ true → after_event same elect x e ≡ after_prune x
+pub prune_alone : {K L D : Type 0} (same : D → D → Bool) (elect : Elect L) (x : StateFacts K L D) (e : Event K D) → is_prune e ≡ true → after_event same elect x e ≡ after_prune x
 prune_alone same elect x Prune is = refl
 prune_alone same elect x _ is = absurd (false≢true is)
 
-module _ {K L D : Type 0} (same : D → D → Bool) (elect : Elect L) (x : Facts K L D) (e : Event K D) (low : ℕ) (Q : ℕ → RoundFacts K D → RoundFacts K D → Type 0) (on : (v : ℕ) (r s t : RoundFacts K D) → Q v r s → Q v s t → Q v r t) (changes : (y : Facts K L D) (v : ℕ) (r s : RoundFacts K D) → RoundStep same elect x e y v r s → Q v r s) where
+module _ {K L D : Type 0} (same : D → D → Bool) (elect : Elect L) (x : StateFacts K L D) (e : Event K D) (low : ℕ) (Q : ℕ → RoundFacts K D → RoundFacts K D → Type 0) (on : (v : ℕ) (r s t : RoundFacts K D) → Q v r s → Q v s t → Q v r t) (changes : (y : StateFacts K L D) (v : ℕ) (r s : RoundFacts K D) → RoundStep same elect x e y v r s → Q v r s) where
   pub rounds_or_gone : Path same elect x e low x (after_event same elect x e) → (v : ℕ) → Q v (round_of x v) (round_of (after_event same elect x e) v) ⊎ ((is_prune e ≡ true) × IsGone x (after_event same elect x e) v)
   rounds_or_gone path v = by_prune (is_prune e) refl
     where

@@ -1,13 +1,13 @@
 -- For the laws by steps: what each event keeps, and what a run keeps by it.
 -- The state that a life begins with.
 use Rattle.std.proofs.Common.{◌≡◌, ◌<◌, ℕ, refl}
-use Rattle.simplex_voter.specs.Facts.{Facts, new_facts}
+use Rattle.simplex_voter.specs.Facts.{StateFacts, new_facts}
 use Rattle.simplex_member.specs.Start.{Setup, new_state}
 use Rattle.simplex_laws.specs.TermLengths.{HasTerms}
 
 module _ {K L D : Type 0} where
   -- a state that knows nothing but how it was set up, with terms of this length, which have views
-  pub record IsFresh (term_length : ℕ) (x : Facts K L D) : Type 0 where
+  pub record IsFresh (term_length : ℕ) (x : StateFacts K L D) : Type 0 where
     pub fresh : x ≡ new_facts x.settings x.me x.members x.elector x.terms x.elects_early
     pub terms : x.terms.term_length ≡ term_length
     pub some : 0 < term_length

@@ -19,7 +19,7 @@ use Rattle.simplex_round.specs.declared.round.Decision.TheVariants as decision
 use Rattle.simplex_round.specs.declared.round.Decision.{Decision}
 use Rattle.simplex_round.specs.Slot.{after_own, after_vote, after_mark, holds_or_empty}
 use Rattle.simplex_round.specs.Round.{RoundFacts, new_round, with_decision_deadlines, leader_at, is_nullify, is_finalize, is_pending, is_judged, is_verified_slot, with_latch, with_recovered, awaits_retry, after_nullify}
-use Rattle.simplex_voter.specs.Facts.{Facts, Elect, round_at, round_of, round_number, is_tracked, with_round, with_tracked}
+use Rattle.simplex_voter.specs.Facts.{StateFacts, Elect, round_at, round_of, round_number, is_tracked, with_round, with_tracked}
 use Rattle.simplex_voter.specs.Windows.{in_window}
 use Rattle.simplex_voter.specs.Payloads.{is_elected_early}
 use Rattle.simplex_voter.specs.Entering.{at_moment, with_view_entered, entered_round}
@@ -46,7 +46,7 @@ use Rattle.simplex_laws.proofs.frames.Rounds.{round_put}
 use Rattle.simplex_laws.proofs.frames.Steps.{is_timed, RoundStep, Step, Path, Still, Then, Puts, Moves, Founds, Names, Unnames, Covers, Notes, Reaches, Raises, Scans, Prunes, notarization_by, nullification_by, finalization_by, verdict_by, nullify_by}
 
 -- what holds of a view's round and of no new one is of a tracked view
-pub tracked_by : {K L D : Type 0} (x : Facts K L D) (v : ℕ) (test : RoundFacts K D → Bool) → test (new_round x.me x.members (round_number x v)) ≡ false → test (round_of x v) ≡ true → is_tracked x v ≡ true
+pub tracked_by : {K L D : Type 0} (x : StateFacts K L D) (v : ℕ) (test : RoundFacts K D → Bool) → test (new_round x.me x.members (round_number x v)) ≡ false → test (round_of x v) ≡ true → is_tracked x v ≡ true
 tracked_by x v test fails = by_round (round_at x v)
   where
     by_round : (o : Option _) → test (unwrap_or o (new_round x.me x.members (round_number x v))) ≡ true → is_some o ≡ true
@@ -59,61 +59,61 @@ armed_timed (decision.Nullify retry) a b = refl
 armed_timed decision.Finalize a b = refl
 
 -- the deadlines of a view are set when it is entered
-entered_timed : {K L D : Type 0} (y : Facts K L D) (v now : ℕ) → is_timed (round_of (with_round y v (entered_round y (round_of y v) now)) v).decision ≡ true
+entered_timed : {K L D : Type 0} (y : StateFacts K L D) (v now : ℕ) → is_timed (round_of (with_round y v (entered_round y (round_of y v) now)) v).decision ≡ true
 entered_timed y v now =
     ap (λ (r : RoundFacts _ _). is_timed r.decision) (round_put y v (entered_round y (round_of y v) now))
     ∙ armed_timed (round_of y v).decision (now + y.settings.leader_timeout) (now + y.settings.certification_timeout)
 
-module _ {K L D : Type 0} {same : D → D → Bool} {elect : Elect L} {low : ℕ} {x : Facts K L D} {e : Event K D} {from : Facts K L D} where
-  either : (b : Bool) (y z : Facts K L D) → (b ≡ true → Path same elect x e low from y) → (b ≡ false → Path same elect x e low from z) → Path same elect x e low from (if b then y else z)
+module _ {K L D : Type 0} {same : D → D → Bool} {elect : Elect L} {low : ℕ} {x : StateFacts K L D} {e : Event K D} {from : StateFacts K L D} where
+  either : (b : Bool) (y z : StateFacts K L D) → (b ≡ true → Path same elect x e low from y) → (b ≡ false → Path same elect x e low from z) → Path same elect x e low from (if b then y else z)
   either true y z p q = p refl
   either false y z p q = q refl
 
   -- rounds
 
-  put : {y : Facts K L D} (v : ℕ) (r : RoundFacts K D) → (low ≤ v) ⊎ (is_tracked y v ≡ true) → RoundStep same elect x e y v (round_of y v) r → Path same elect x e low from y → Path same elect x e low from (with_round y v r)
+  put : {y : StateFacts K L D} (v : ℕ) (r : RoundFacts K D) → (low ≤ v) ⊎ (is_tracked y v ≡ true) → RoundStep same elect x e y v (round_of y v) r → Path same elect x e low from y → Path same elect x e low from (with_round y v r)
   put v r may s path = Then path (Puts v r may s)
 
-  put_either : {y : Facts K L D} (v : ℕ) (b : Bool) (r s : RoundFacts K D) → (low ≤ v) ⊎ (is_tracked y v ≡ true) → (b ≡ true → RoundStep same elect x e y v (round_of y v) r) → (b ≡ false → RoundStep same elect x e y v (round_of y v) s) → Path same elect x e low from y → Path same elect x e low from (with_round y v (if b then r else s))
+  put_either : {y : StateFacts K L D} (v : ℕ) (b : Bool) (r s : RoundFacts K D) → (low ≤ v) ⊎ (is_tracked y v ≡ true) → (b ≡ true → RoundStep same elect x e y v (round_of y v) r) → (b ≡ false → RoundStep same elect x e y v (round_of y v) s) → Path same elect x e low from y → Path same elect x e low from (with_round y v (if b then r else s))
   put_either v true r s may p q path = put v r may (p refl) path
   put_either v false r s may p q path = put v s may (q refl) path
 
-  put_tracked : {y : Facts K L D} (v : ℕ) (r : RoundFacts K D) → RoundStep same elect x e y v (round_of y v) r → Path same elect x e low from y → Path same elect x e low from (with_tracked y v r)
+  put_tracked : {y : StateFacts K L D} (v : ℕ) (r : RoundFacts K D) → RoundStep same elect x e y v (round_of y v) r → Path same elect x e low from y → Path same elect x e low from (with_tracked y v r)
   put_tracked {y} v r s path = either (is_tracked y v) (with_round y v r) y (λ there. put v r (inr there) s path) (λ gone. path)
 
-  put_tracked_either : {y : Facts K L D} (v : ℕ) (b : Bool) (r s : RoundFacts K D) → (b ≡ true → RoundStep same elect x e y v (round_of y v) r) → (b ≡ false → RoundStep same elect x e y v (round_of y v) s) → Path same elect x e low from y → Path same elect x e low from (with_tracked y v (if b then r else s))
+  put_tracked_either : {y : StateFacts K L D} (v : ℕ) (b : Bool) (r s : RoundFacts K D) → (b ≡ true → RoundStep same elect x e y v (round_of y v) r) → (b ≡ false → RoundStep same elect x e y v (round_of y v) s) → Path same elect x e low from y → Path same elect x e low from (with_tracked y v (if b then r else s))
   put_tracked_either v true r s p q path = put_tracked v r (p refl) path
   put_tracked_either v false r s p q path = put_tracked v s (q refl) path
 
   -- leaders
 
-  to_led : {y : Facts K L D} (v member : ℕ) → low ≤ v → Path same elect x e low from y → Path same elect x e low from (with_leader_at y v member)
+  to_led : {y : StateFacts K L D} (v member : ℕ) → low ≤ v → Path same elect x e low from y → Path same elect x e low from (with_leader_at y v member)
   to_led {y} v member over path =
       let leader = leader_at y.members member in
       either (has_leader y v) y (with_round y v (record (round_of y v) { leader = leader })) (λ set. path) (λ none. put v _ (inl over) (step.Led leader none) path)
 
-  to_inherited : {y : Facts K L D} (source to : ℕ) → low ≤ to → Path same elect x e low from y → Path same elect x e low from (with_leader_of y source to)
+  to_inherited : {y : StateFacts K L D} (source to : ℕ) → low ≤ to → Path same elect x e low from y → Path same elect x e low from (with_leader_of y source to)
   to_inherited {y} source to over path = inherits (round_of y source).leader
     where
       inherits : (leader : Option (Leader K)) → Path same elect x e low from (option_map_or (λ l. with_leader_at y to l.idx) leader y)
       inherits None = path
       inherits (Some l) = to_led to l.idx over path
 
-  slides : (count first : ℕ) (y : Facts K L D) → low ≤ first → Path same elect x e low from y → Path same elect x e low from (fold (λ y w. with_leader_of y (w - 1) w) y (range_with_len first count))
+  slides : (count first : ℕ) (y : StateFacts K L D) → low ≤ first → Path same elect x e low from y → Path same elect x e low from (fold (λ y w. with_leader_of y (w - 1) w) y (range_with_len first count))
   slides zero first y over path = path
   slides (suc count) first y over path = slides count (first + 1) (with_leader_of y (first - 1) first) (omega arith) (to_inherited (first - 1) first over path)
 
-  to_slid : {y : Facts K L D} (v : ℕ) → low ≤ v → Path same elect x e low from y → Path same elect x e low from (with_window_leaders y v)
+  to_slid : {y : StateFacts K L D} (v : ℕ) → low ≤ v → Path same elect x e low from y → Path same elect x e low from (with_window_leaders y v)
   to_slid {y} v over path = opens (y.terms.optimistic_views == 0)
     where
       opens : (b : Bool) → Path same elect x e low from (fold (λ y w. with_leader_of y (w - 1) w) y (if b then [] else range_with_len (v + 1) (min (term_end y.terms.term_length v) (v + y.terms.optimistic_views + 1) - v)))
       opens true = path
       opens false = slides (min (term_end y.terms.term_length v) (v + y.terms.optimistic_views + 1) - v) (v + 1) y (omega arith) path
 
-  to_elected : {y : Facts K L D} (v : ℕ) (seed : Option (List ℕ)) → low ≤ v → Path same elect x e low from y → Path same elect x e low from (with_elected_leader elect y v seed)
+  to_elected : {y : StateFacts K L D} (v : ℕ) (seed : Option (List ℕ)) → low ≤ v → Path same elect x e low from y → Path same elect x e low from (with_elected_leader elect y v seed)
   to_elected {y} v seed over path = to_led v (elect y.elector (round_number y v) seed) over path
 
-  to_prepared : {y : Facts K L D} (v : ℕ) → low ≤ v → Path same elect x e low from y → Path same elect x e low from (with_next_view_ready elect y v)
+  to_prepared : {y : StateFacts K L D} (v : ℕ) → low ≤ v → Path same elect x e low from y → Path same elect x e low from (with_next_view_ready elect y v)
   to_prepared {y} v over path =
       let later = with_elected_leader elect y (v + 1) None in
       let own = (round_of y v).notarize_decided && is_elected_early elect y (v + 1) in
@@ -122,27 +122,27 @@ module _ {K L D : Type 0} {same : D → D → Bool} {elect : Elect L} {low : ℕ
 
   -- entries, timeouts and what waits for certification
 
-  to_entered : {y : Facts K L D} (v now : ℕ) → (y.current < v → low ≤ v) → Path same elect x e low from y → Path same elect x e low from (with_view_entered y v now)
+  to_entered : {y : StateFacts K L D} (v now : ℕ) → (y.current < v → low ≤ v) → Path same elect x e low from y → Path same elect x e low from (with_view_entered y v now)
   to_entered {y} v now over path =
       let r = entered_round y (round_of y v) now in
       either (nat_lt y.current v) (record (with_round y v r) { current = v }) y
       (λ is. (let above : y.current < v = grind (arith, nat_tests) in Then (put v r (inl (over above)) (step.Entered now) path) (Reaches v above (entered_timed y v now))))
       (λ passed. path)
 
-  to_triggered : {y : Facts K L D} (v : ℕ) (reason : TimeoutReason) (now : ℕ) → Path same elect x e low from y → Path same elect x e low from (with_timeout y v reason now)
+  to_triggered : {y : StateFacts K L D} (v : ℕ) (reason : TimeoutReason) (now : ℕ) → Path same elect x e low from y → Path same elect x e low from (with_timeout y v reason now)
   to_triggered {y} v reason now path =
       let r = with_latch (round_of y v) now reason in
       either (nat_le y.current v && is_tracked y v && not (is_contradicted reason (round_of y v))) (with_round y v r) y
       (λ is. put v r (inr (and_parts (nat_le y.current v) (is_tracked y v) (and_parts (nat_le y.current v && is_tracked y v) (not (is_contradicted reason (round_of y v))) is).0).1) (step.Latched now reason) path)
       (λ none. path)
 
-  to_named : {y : Facts K L D} (v : ℕ) → Path same elect x e low from y → Path same elect x e low from (named_also y v)
+  to_named : {y : StateFacts K L D} (v : ℕ) → Path same elect x e low from y → Path same elect x e low from (named_also y v)
   to_named {y} v path = either (nat_lt y.finalized v) _ y (λ is. Then path (Names v (grind (arith, nat_tests)))) (λ final. path)
 
-  pub to_woken : {y : Facts K L D} (p : ℕ) → Path same elect x e low from y → Path same elect x e low from (with_waiting_candidate elect y p)
+  pub to_woken : {y : StateFacts K L D} (p : ℕ) → Path same elect x e low from y → Path same elect x e low from (with_waiting_candidate elect y p)
   to_woken {y} p path = either (option_map_or (waits_for elect y p) (round_at y (p + 1)) false) (named_also y (p + 1)) y (λ waits. to_named (p + 1) path) (λ none. path)
 
-  to_raised : {y : Facts K L D} (v : ℕ) → finalized_by_event e ≡ v → Path same elect x e low from y → Path same elect x e low from (with_finalized_view y v)
+  to_raised : {y : StateFacts K L D} (v : ℕ) → finalized_by_event e ≡ v → Path same elect x e low from y → Path same elect x e low from (with_finalized_view y v)
   to_raised {y} v says path = either (nat_lt y.finalized v) _ y (λ is. Then path (Raises v says (grind (arith, nat_tests)))) (λ final. path)
 
   -- a verdict is given, from its own round on
@@ -154,23 +154,23 @@ module _ {K L D : Type 0} {same : D → D → Bool} {elect : Elect L} {low : ℕ
   pub from_first_entry : (payload : D) (now : ℕ) → low ≤ 1 → Path same elect x e low from (with_view_entered (record (at_moment x now) { genesis = Some payload }) 1 now) → Path same elect x e low from (after_set_genesis elect x payload now)
   from_first_entry payload now over path = to_elected 1 None over path
 
-  to_cast : {y : Facts K L D} (v : ℕ) → nullify_by e ≡ Some v → Path same elect x e low from y → Path same elect x e low from (nullify_cast y v)
+  to_cast : {y : StateFacts K L D} (v : ℕ) → nullify_by e ≡ Some v → Path same elect x e low from y → Path same elect x e low from (nullify_cast y v)
   to_cast {y} v says path = either (is_some y.me) _ y (λ signs. Then path (Notes v says)) (λ keyless. path)
 
   -- certificates
 
-  to_notarized : {y : Facts K L D} (c : ProposalFacts D) → notarization_by e ≡ Some c → low ≤ c.proposal.round.view → Path same elect x e low from y → Path same elect x e low from (with_notarization_at same elect y c)
+  to_notarized : {y : StateFacts K L D} (c : ProposalFacts D) → notarization_by e ≡ Some c → low ≤ c.proposal.round.view → Path same elect x e low from y → Path same elect x e low from (with_notarization_at same elect y c)
   to_notarized {y} c says over path =
       let v = c.proposal.round.view in
       let r = round_of y v in
       put_either v (is_some r.notarization) r (record (with_recovered (same_proposal same) r c.proposal) { notarization = Some c }) (inl over) (λ set. step.Kept) (λ none. step.Notarized c says refl none) path
 
-  to_nullified : {y : Facts K L D} (c : NullificationFacts) → nullification_by e ≡ Some c → low ≤ c.round.view → Path same elect x e low from y → Path same elect x e low from (with_nullification_at y c)
+  to_nullified : {y : StateFacts K L D} (c : NullificationFacts) → nullification_by e ≡ Some c → low ≤ c.round.view → Path same elect x e low from y → Path same elect x e low from (with_nullification_at y c)
   to_nullified {y} c says over path =
       let r = round_of y c.round.view in
       put_either c.round.view (is_some r.nullification) r (record r { nullification = Some c }) (inl over) (λ set. step.Kept) (λ none. step.Nullified c says refl none) path
 
-  to_finalized : {y : Facts K L D} (c : ProposalFacts D) → finalization_by e ≡ Some c → low ≤ c.proposal.round.view → Path same elect x e low from y → Path same elect x e low from (with_finalization_at same elect y c)
+  to_finalized : {y : StateFacts K L D} (c : ProposalFacts D) → finalization_by e ≡ Some c → low ≤ c.proposal.round.view → Path same elect x e low from y → Path same elect x e low from (with_finalization_at same elect y c)
   to_finalized {y} c says over path =
       let v = c.proposal.round.view in
       let r = round_of y v in
@@ -194,7 +194,7 @@ module _ {K L D : Type 0} {same : D → D → Bool} {elect : Elect L} {low : ℕ
 -- what an event asks of its views, so that none below `low` comes to be tracked
 
 module _ {K L D : Type 0} where
-  abbrev pub AskedFrom : ℕ → Facts K L D → Event K D → Type 0
+  abbrev pub AskedFrom : ℕ → StateFacts K L D → Event K D → Type 0
   AskedFrom low x (SetFloor (Genesis payload) _) = low ≤ 1
   AskedFrom low x (SetFloor (FinalizedFloor c) _) = low ≤ c.proposal.round.view
   AskedFrom low x (AddNotarization c) = low ≤ c.proposal.round.view
@@ -206,7 +206,7 @@ module _ {K L D : Type 0} where
   AskedFrom low x _ = Unit {0}
 
   -- nothing is asked from genesis on
-  pub asked_of_all : (x : Facts K L D) (e : Event K D) → AskedFrom 0 x e
+  pub asked_of_all : (x : StateFacts K L D) (e : Event K D) → AskedFrom 0 x e
   asked_of_all x (SetFloor (Genesis payload) _) = omega arith
   asked_of_all x (SetFloor (FinalizedFloor c) _) = omega arith
   asked_of_all x (AddNotarization c) = omega arith
@@ -217,7 +217,7 @@ module _ {K L D : Type 0} where
   asked_of_all x (Replay e) = omega arith
   asked_of_all x _ = tt
 
-module _ {K L D : Type 0} (x : Facts K L D) (v : ℕ) where
+module _ {K L D : Type 0} (x : StateFacts K L D) (v : ℕ) where
   -- no other verdict stands where one may be given, and none where a certification may be under way
 
   verdict_fits : (success : Bool) → is_tracked x v ≡ true → takes_verdict x v success ≡ true → is_judged (not success) (round_of x v).certification ≡ false
@@ -231,8 +231,8 @@ module _ {K L D : Type 0} (x : Facts K L D) (v : ℕ) where
   handle_fits takes true = (let c = (round_of x v).certification in not_true (is_judged true c) (and_parts (is_started x) (not (is_judged true c)) (and_parts (is_started x && not (is_judged true c)) (not (is_judged false c)) takes).0).1)
   handle_fits takes false = (let c = (round_of x v).certification in not_true (is_judged false c) (and_parts (is_started x && not (is_judged true c)) (not (is_judged false c)) takes).1)
 
-module _ {K L D : Type 0} (same : D → D → Bool) (elect : Elect L) (low : ℕ) (x : Facts K L D) where
-  abbrev To : Event K D → Facts K L D → Type 0
+module _ {K L D : Type 0} (same : D → D → Bool) (elect : Elect L) (low : ℕ) (x : StateFacts K L D) where
+  abbrev To : Event K D → StateFacts K L D → Type 0
   To e y = Path same elect x e low x y
 
   moved : (e : Event K D) (now : ℕ) → To e (at_moment x now)
@@ -371,6 +371,6 @@ module _ {K L D : Type 0} (same : D → D → Bool) (elect : Elect L) (low : ℕ
   event_path Prune reached over = Then Still (Prunes refl)
   event_path (Replay e) reached over = replay_path e over
 
-module _ {K L D : Type 0} {same : D → D → Bool} {elect : Elect L} {x : Facts K L D} {e : Event K D} where
+module _ {K L D : Type 0} {same : D → D → Bool} {elect : Elect L} {x : StateFacts K L D} {e : Event K D} where
   pub from_judged : (v : ℕ) (success : Bool) (now : ℕ) → Path same elect x e 0 (with_verdict (at_moment x now) v success) (verdict_taken elect (at_moment x now) v success now)
   from_judged v success now = from_verdict v success now (λ above. omega arith) Still

@@ -13,18 +13,18 @@ use Rattle.simplex_round.specs.declared.round.Decision.TheVariants as decision
 use Rattle.simplex_round.specs.declared.round.Certification.{Certification}
 use Rattle.simplex_round.specs.declared.round.Certification.TheVariants as certification
 use Rattle.simplex_round.specs.Round.{RoundFacts, new_round, with_decision_deadlines, with_first_timeout, is_nullify, is_finalize, is_certified, after_abort, has_no_retry, awaits_retry}
-use Rattle.simplex_voter.specs.Facts.{Facts, round_at, round_of, round_number, is_tracked, with_round}
+use Rattle.simplex_voter.specs.Facts.{StateFacts, round_at, round_of, round_number, is_tracked, with_round}
 use Rattle.simplex_voter.proofs.Gaps.{and_parts}
 use Rattle.simplex_voter.proofs.Walked.{find-changed}
 
 module _ {K L D : Type 0} where
   -- the round that was put at a view stands there
-  pub round_put : (x : Facts K L D) (v : ℕ) (r : RoundFacts K D) → round_of (with_round x v r) v ≡ r
+  pub round_put : (x : StateFacts K L D) (v : ℕ) (r : RoundFacts K D) → round_of (with_round x v r) v ≡ r
   round_put x v r =
       ap (λ found. unwrap_or found (new_round x.me x.members (round_number x v)))
       (find-put nat_cmp nat_cmp_total v v r x.rounds ∙ ap (λ b. cond b (Some r) (find nat_cmp v x.rounds)) (is_eq-nat_cmp v v ∙ eq-eqb v v refl))
 
-  pub tracked_put : (x : Facts K L D) (v : ℕ) (r : RoundFacts K D) → is_tracked (with_round x v r) v ≡ true
+  pub tracked_put : (x : StateFacts K L D) (v : ℕ) (r : RoundFacts K D) → is_tracked (with_round x v r) v ≡ true
   tracked_put x v r = ap is_some (find-put nat_cmp nat_cmp_total v v r x.rounds ∙ ap (λ b. cond b (Some r) (find nat_cmp v x.rounds)) (is_eq-nat_cmp v v ∙ eq-eqb v v refl))
 
 pub armed_nullify : (d : Decision) (a b : ℕ) → is_nullify (with_decision_deadlines d a b) ≡ is_nullify d
@@ -65,8 +65,8 @@ module _ {K D : Type 0} where
       by_decision decision.Finalize is = absurd (false≢true is)
 
 -- each tracked view's round is changed by its view
-module _ {K L D : Type 0} (change : ℕ → RoundFacts K D → RoundFacts K D) (x : Facts K L D) (v : ℕ) where
-  abbrev changed : Facts K L D
+module _ {K L D : Type 0} (change : ℕ → RoundFacts K D → RoundFacts K D) (x : StateFacts K L D) (v : ℕ) where
+  abbrev changed : StateFacts K L D
   changed = record x { rounds = map (λ e. (e.0, change e.0 e.1)) x.rounds }
 
   pub tracked_changed : is_tracked changed v ≡ is_tracked x v

@@ -3,7 +3,7 @@
 use Rattle.std.proofs.Common.{◌≡◌, sym, subst, ℕ, inl, inr, Bool, true, false, List, [], ◌∷◌, Option, Some, None, Result, Ok, Err}
 use Rattle.std.specs.Prelude.{MatchOption}
 use Rattle.simplex_types.specs.Config.{FloorFacts}
-use Rattle.simplex_voter.specs.Facts.{Facts, Elect}
+use Rattle.simplex_voter.specs.Facts.{StateFacts, Elect}
 use Rattle.simplex_voter.specs.Acceptance.{after_set_floor}
 use Rattle.simplex_member.specs.declared.member.error.RecoverError.{RecoverError}
 use Rattle.simplex_member.specs.Calls.{CallFacts, Told}
@@ -19,13 +19,13 @@ use Rattle.simplex_laws.proofs.frames.CallsMake.{call_by_any, floor_then_all_kee
 use Rattle.simplex_laws.proofs.lives.WithinLives.{call_outcome}
 
 -- while the member lives
-abbrev pub HoldsIn : {K L D : Type 0} → (Facts K L D → Type 0) → Option (Facts K L D) → Type 0
+abbrev pub HoldsIn : {K L D : Type 0} → (StateFacts K L D → Type 0) → Option (StateFacts K L D) → Type 0
 HoldsIn P None = Unit {0}
 HoldsIn P (Some x) = P x
 
-module _ {K L D : Type 0} (same : D → D → Bool) (elect : Elect L) (term_length : ℕ) (P : Facts K L D → Type 0)
-    (begins : (x : Facts K L D) (floor : FloorFacts D) (now : ℕ) → IsFresh term_length x → P (after_set_floor same elect x floor now))
-    (keeps : (x : Facts K L D) (e : Event K D) → P x → P (after_event same elect x e)) where
+module _ {K L D : Type 0} (same : D → D → Bool) (elect : Elect L) (term_length : ℕ) (P : StateFacts K L D → Type 0)
+    (begins : (x : StateFacts K L D) (floor : FloorFacts D) (now : ℕ) → IsFresh term_length x → P (after_set_floor same elect x floor now))
+    (keeps : (x : StateFacts K L D) (e : Event K D) → P x → P (after_event same elect x e)) where
   -- one that goes on is made again, and another one has no state
   from_copy : (n : MemberFacts K L D) (start : StartFacts K L D) (result : Result (Unit {0}) RecoverError) (left : MemberFacts K L D) → HasTerms term_length start.setup → GoesOn same elect n start result left → HoldsIn P left.life
   from_copy n start result left fresh (inl (is, leaves)) = rw leaves tt

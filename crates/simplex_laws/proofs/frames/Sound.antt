@@ -8,7 +8,7 @@ use Rattle.simplex_types.specs.Config.{FloorFacts, Genesis, Finalized as Finaliz
 use Rattle.simplex_round.specs.Round.{new_round}
 use Rattle.simplex_types.specs.declared.types.numbers.Round.{Round}
 use Rattle.simplex_types.specs.declared.types.window.Terms.{Terms}
-use Rattle.simplex_voter.specs.Facts.{Settings, Facts, Elect, new_facts, round_at, round_of, round_number}
+use Rattle.simplex_voter.specs.Facts.{Settings, StateFacts, Elect, new_facts, round_at, round_of, round_number}
 use Rattle.simplex_voter.specs.Entering.{at_moment, with_view_entered}
 use Rattle.simplex_voter.specs.Certification.{with_finalized_view}
 use Rattle.simplex_voter.specs.Acceptance.{after_add_finalization, after_set_floor}
@@ -25,26 +25,26 @@ use Rattle.simplex_laws.proofs.lives.Lasting.{RoundLasts, standing_view, certifi
 use Rattle.simplex_laws.proofs.frames.Rising.{event_goes, goes_along, event_finalizes}
 
 -- the current view lies above the last finalized one
-abbrev pub IsAhead : {K L D : Type 0} → Facts K L D → Type 0
+abbrev pub IsAhead : {K L D : Type 0} → StateFacts K L D → Type 0
 IsAhead x = x.finalized < x.current
 
 -- each certificate stands at its own view
-pub record IsPlaced {K L D : Type 0} (x : Facts K L D) : Type 0 where
+pub record IsPlaced {K L D : Type 0} (x : StateFacts K L D) : Type 0 where
   pub views : (kind : Kind) (v u : ℕ) → standing_view kind (round_of x v) ≡ Some u → u ≡ v
 
-pub record IsSound {K L D : Type 0} (term_length : ℕ) (x : Facts K L D) : Type 0 where
+pub record IsSound {K L D : Type 0} (term_length : ℕ) (x : StateFacts K L D) : Type 0 where
   pub terms : x.terms.term_length ≡ term_length
   pub ahead : IsAhead x
   pub placed : IsPlaced x
 
-pub entered_reaches : {K L D : Type 0} (x : Facts K L D) (v now : ℕ) → v ≤ (with_view_entered x v now).current
+pub entered_reaches : {K L D : Type 0} (x : StateFacts K L D) (v now : ℕ) → v ≤ (with_view_entered x v now).current
 entered_reaches x v now = enters (nat_lt x.current v) refl
   where
     enters : (b : Bool) → nat_lt x.current v ≡ b → v ≤ (with_view_entered x v now).current
     enters true is = rw is (omega arith)
     enters false is = rw is (grind (arith, nat_tests))
 
-module _ {K L D : Type 0} (same : D → D → Bool) (elect : Elect L) (x : Facts K L D) where
+module _ {K L D : Type 0} (same : D → D → Bool) (elect : Elect L) (x : StateFacts K L D) where
   -- a floor and a finalization enter a view above
   pub event_passes : (e : Event K D) → ((is_floor e ≡ false) × (finalized_by_event e ≡ 0)) ⊎ (finalized_by_event e < (after_event same elect x e).current)
   event_passes (event.AddFinalization c now) = inr (passes (event.AddFinalization c now) refl)
@@ -77,14 +77,14 @@ none_at_first D Finalization me members round = refl
 
 module _ {K L D : Type 0} where
   -- no certificate stands where the view isn't tracked
-  pub nothing_stands : (y : Facts K L D) (v : ℕ) → round_at y v ≡ None → (kind : Kind) → standing_view kind (round_of y v) ≡ None
+  pub nothing_stands : (y : StateFacts K L D) (v : ℕ) → round_at y v ≡ None → (kind : Kind) → standing_view kind (round_of y v) ≡ None
   nothing_stands y v untracked kind = ap (λ o. standing_view kind (unwrap_or o (new_round y.me y.members (round_number y v)))) untracked ∙ none_at_first D kind y.me y.members (round_number y v)
 
-module _ {K L D : Type 0} (same : D → D → Bool) (elect : Elect L) (x : Facts K L D) where
+module _ {K L D : Type 0} (same : D → D → Bool) (elect : Elect L) (x : StateFacts K L D) where
   event_placed : (e : Event K D) → IsPlaced x → IsPlaced (after_event same elect x e)
   event_placed e placed = record { views = λ kind v u is. stood kind v u is (event_lasts same elect x e 0 (brings_any e) v) }
     where
-      y : Facts K L D
+      y : StateFacts K L D
       y = after_event same elect x e
 
       stood : (kind : Kind) (v u : ℕ) → standing_view kind (round_of y v) ≡ Some u → RoundLasts 0 v (round_of x v) (round_of y v) ⊎ ((is_prune e ≡ true) × IsGone x y v) → u ≡ v
@@ -97,7 +97,7 @@ module _ {K L D : Type 0} (same : D → D → Bool) (elect : Elect L) (x : Facts
 -- soundness
 
 module _ {K L D : Type 0} (same : D → D → Bool) (elect : Elect L) (term_length : ℕ) where
-  pub event_sound : (x : Facts K L D) (e : Event K D) → IsSound term_length x → IsSound term_length (after_event same elect x e)
+  pub event_sound : (x : StateFacts K L D) (e : Event K D) → IsSound term_length x → IsSound term_length (after_event same elect x e)
   event_sound x e sound = record {
     terms = ap (λ t. t.term_length) (event_goes same elect x e).terms ∙ sound.terms;
     ahead = event_ahead same elect x e (inl sound.ahead);
@@ -107,7 +107,7 @@ module _ {K L D : Type 0} (same : D → D → Bool) (elect : Elect L) (term_leng
 module _ {K L D : Type 0} (same : D → D → Bool) (elect : Elect L) (term_length : ℕ) where
   new_sound : (settings : Settings) (me : Option ℕ) (members : List K) (elector : L) (terms : Terms) (early : Bool) (floor : FloorFacts D) (now : ℕ) → terms.term_length ≡ term_length → IsSound term_length (after_set_floor same elect (new_facts settings me members elector terms early) floor now)
   new_sound settings me members elector terms early floor now length =
-      let x : Facts K L D = new_facts settings me members elector terms early in
+      let x : StateFacts K L D = new_facts settings me members elector terms early in
       let e : Event K D = event.SetFloor floor now in
       record {
         terms = ap (λ t. t.term_length) (event_goes same elect x e).terms ∙ length;
@@ -116,5 +116,5 @@ module _ {K L D : Type 0} (same : D → D → Bool) (elect : Elect L) (term_leng
       }
 
   -- a new state sets a floor
-  pub floor_sound : (x : Facts K L D) (floor : FloorFacts D) (now : ℕ) → IsFresh term_length x → IsSound term_length (after_set_floor same elect x floor now)
+  pub floor_sound : (x : StateFacts K L D) (floor : FloorFacts D) (now : ℕ) → IsFresh term_length x → IsSound term_length (after_set_floor same elect x floor now)
   floor_sound x floor now fresh = subst (λ y. IsSound term_length (after_set_floor same elect y floor now)) (sym fresh.fresh) (new_sound x.settings x.me x.members x.elector x.terms x.elects_early floor now fresh.terms)

@@ -16,7 +16,7 @@ use Rattle.simplex_round.specs.declared.round.Decision.TheVariants as decision
 use Rattle.simplex_round.specs.declared.round.Certification.TheVariants as certification
 use Rattle.simplex_round.specs.Slot.{after_own, after_vote, after_mark}
 use Rattle.simplex_round.specs.Round.{RoundFacts, is_nullify, is_finalize, is_judged, token_of, after_abort, certified_round, with_latch, with_recovered, awaits_retry}
-use Rattle.simplex_voter.specs.Facts.{Facts, Elect, round_of, is_tracked, with_round}
+use Rattle.simplex_voter.specs.Facts.{StateFacts, Elect, round_of, is_tracked, with_round}
 use Rattle.simplex_voter.specs.Entering.{at_moment, entered_round}
 use Rattle.simplex_voter.specs.Certification.{without_token}
 use Rattle.simplex_voter.specs.Acceptance.{nullified_also}
@@ -95,9 +95,9 @@ is_timed (decision.Pending leader certified latch) = is_some certified
 is_timed (decision.Nullify retry) = true
 is_timed decision.Finalize = true
 
-module _ {K L D : Type 0} (same : D → D → Bool) (elect : Elect L) (begun : Facts K L D) (e : Event K D) where
+module _ {K L D : Type 0} (same : D → D → Bool) (elect : Elect L) (begun : StateFacts K L D) (e : Event K D) where
   -- a change of one round, by an event at the facts `begun`; x are the facts just before
-  pub data RoundStep (x : Facts K L D) (v : ℕ) (r : RoundFacts K D) : RoundFacts K D → Type 0 where
+  pub data RoundStep (x : StateFacts K L D) (v : ℕ) (r : RoundFacts K D) : RoundFacts K D → Type 0 where
     -- the view comes to be tracked
     Kept : RoundStep x v r r
     Led : (leader : Option (Leader K)) → is_some r.leader ≡ false → RoundStep x v r (record r { leader = leader })
@@ -133,7 +133,7 @@ module _ {K L D : Type 0} (same : D → D → Bool) (elect : Elect L) (begun : F
     Unbound : is_answer e ≡ true → RoundStep x v r (record r { binding = None })
 
   -- a change of the facts; a view that is not tracked comes to be only from `low` on
-  pub data Step (low : ℕ) (x : Facts K L D) : Facts K L D → Type 0 where
+  pub data Step (low : ℕ) (x : StateFacts K L D) : StateFacts K L D → Type 0 where
     Puts : (v : ℕ) (r : RoundFacts K D) → (low ≤ v) ⊎ (is_tracked x v ≡ true) → RoundStep x v (round_of x v) r → Step low x (with_round x v r)
     Moves : (now : ℕ) → Step low x (at_moment x now)
     Founds : (payload : D) → Step low x (record x { genesis = Some payload })
@@ -152,11 +152,11 @@ module _ {K L D : Type 0} (same : D → D → Bool) (elect : Elect L) (begun : F
     Prunes : is_prune e ≡ true → Step low x (after_prune x)
 
   -- one after another
-  pub data Path (low : ℕ) (x : Facts K L D) : Facts K L D → Type 0 where
+  pub data Path (low : ℕ) (x : StateFacts K L D) : StateFacts K L D → Type 0 where
     Still : Path low x x
-    Then : {y z : Facts K L D} → Path low x y → Step low y z → Path low x z
+    Then : {y z : StateFacts K L D} → Path low x y → Step low y z → Path low x z
 
   -- what each change keeps holds at the end
-  pub along : (low : ℕ) (P : Facts K L D → Type 0) → ((x y : Facts K L D) → Step low x y → P x → P y) → (x y : Facts K L D) → Path low x y → P x → P y
+  pub along : (low : ℕ) (P : StateFacts K L D → Type 0) → ((x y : StateFacts K L D) → Step low x y → P x → P y) → (x y : StateFacts K L D) → Path low x y → P x → P y
   along low P keeps x y Still p = p
   along low P keeps x y (Then {y = w} path step) p = keeps w y step (along low P keeps x w path p)

@@ -13,7 +13,7 @@ use Rattle.simplex_types.specs.Certificates.{ArtifactFacts, NotarizeVote, Accept
 use Rattle.simplex_types.specs.Config.{Genesis, Finalized as FinalizedFloor}
 use Rattle.simplex_types.specs.declared.types.numbers.Round.{Round}
 use Rattle.simplex_round.specs.Round.{RoundFacts}
-use Rattle.simplex_voter.specs.Facts.{Facts, Elect, round_at, is_tracked, with_round}
+use Rattle.simplex_voter.specs.Facts.{StateFacts, Elect, round_at, is_tracked, with_round}
 use Rattle.simplex_voter.specs.Windows.{min_active, admits_certificate}
 use Rattle.simplex_voter.specs.Certification.{without_token}
 use Rattle.simplex_voter.specs.Refusals.{takes_round, is_started}
@@ -38,15 +38,15 @@ use Rattle.simplex_laws.proofs.lists.Splits.{Contains-cases}
 use Rattle.simplex_laws.proofs.frames.Steps.{Step, Puts, Raises, Scans, Prunes, along}
 
 -- no view below this one is tracked
-pub record IsClear {K L D : Type 0} (low : ℕ) (x : Facts K L D) : Type 0 where
+pub record IsClear {K L D : Type 0} (low : ℕ) (x : StateFacts K L D) : Type 0 where
   pub views : (v : ℕ) → v < low → is_tracked x v ≡ false
 
-module _ {K L D : Type 0} (same : D → D → Bool) (elect : Elect L) (low : ℕ) (x : Facts K L D) (e : Event K D) where
-  put_out : (y : Facts K L D) (u : ℕ) (r : RoundFacts K D) (v : ℕ) → v ≢ u → is_tracked y v ≡ false → is_tracked (with_round y u r) v ≡ false
+module _ {K L D : Type 0} (same : D → D → Bool) (elect : Elect L) (low : ℕ) (x : StateFacts K L D) (e : Event K D) where
+  put_out : (y : StateFacts K L D) (u : ℕ) (r : RoundFacts K D) (v : ℕ) → v ≢ u → is_tracked y v ≡ false → is_tracked (with_round y u r) v ≡ false
   put_out y u r v apart gone = ap is_some (find-put nat_cmp nat_cmp_total v u r y.rounds ∙ ap (λ b. cond b (Some r) (find nat_cmp v y.rounds)) (is_eq-nat_cmp v u ∙ ne_eqb v u apart)) ∙ gone
 
   -- a view below `low` that isn't tracked stays so
-  step_out : (y z : Facts K L D) → Step same elect x e low y z → (v : ℕ) → v < low → is_tracked y v ≡ false → is_tracked z v ≡ false
+  step_out : (y z : StateFacts K L D) → Step same elect x e low y z → (v : ℕ) → v < low → is_tracked y v ≡ false → is_tracked z v ≡ false
   step_out y z (Puts u r may s) v below gone = elim (cases_eq v u) [
     | inl at ↦ elim may [ inl over ↦ absurd (omega arith) | inr there ↦ absurd (false≢true (sym gone ∙ ap (is_tracked y) at ∙ there)) ]
     | inr apart ↦ put_out y u r v apart gone
@@ -67,7 +67,7 @@ module _ {K L D : Type 0} (same : D → D → Bool) (elect : Elect L) (low : ℕ
 
 -- what is asked in a life is kept
 
-module _ {K L D : Type 0} (x : Facts K L D) where
+module _ {K L D : Type 0} (x : StateFacts K L D) where
   pub kept_view : (round : Round) → takes_round x round ≡ true → (1 ≤ round.view) × (min_active x ≤ round.view)
   kept_view round takes =
       let admitted = (and_parts (is_started x && round.epoch == x.settings.epoch) (admits_certificate x round.view) takes).1 in
@@ -76,7 +76,7 @@ module _ {K L D : Type 0} (x : Facts K L D) where
       let kept : nat_le (min_active x) round.view ≡ true = parts.1 in
       (grind (arith, nat_tests, one), grind (arith, nat_tests, kept))
 
-module _ {K L D : Type 0} (x : Facts K L D) where
+module _ {K L D : Type 0} (x : StateFacts K L D) where
   kept_entry : (e : ArtifactFacts D) → takes_round x (artifact_round (as_artifact {K = K} e)) ≡ true → min_active x ≤ entry_view e
   kept_entry (NotarizeVote p m) takes = (kept_view x p.round takes).1
   kept_entry (Accepted (Notarized c)) takes = (kept_view x c.proposal.round takes).1
@@ -100,7 +100,7 @@ module _ {K L D : Type 0} (x : Facts K L D) where
   asked_in_life low (event.Replay e) under reached some clear takes = (let kept = kept_entry e takes.kept in omega (arith, kept, under))
   asked_in_life low _ under reached some clear takes = tt
 
-module _ {K L D : Type 0} (same : D → D → Bool) (elect : Elect L) (low : ℕ) (x : Facts K L D) (under : low ≤ min_active x) (reached : low ≤ x.current) (some : 0 < x.terms.term_length) (clear : IsClear low x) where
+module _ {K L D : Type 0} (same : D → D → Bool) (elect : Elect L) (low : ℕ) (x : StateFacts K L D) (under : low ≤ min_active x) (reached : low ≤ x.current) (some : 0 < x.terms.term_length) (clear : IsClear low x) where
   pub event_clear : (e : Event K D) → IsEvent x e → IsClear low (after_event same elect x e)
   event_clear e takes = clear_along same elect low x e reached (asked_in_life x low e under reached some clear takes) clear
 
@@ -121,7 +121,7 @@ key_passes test v (e ∷ es) h =
       | false ↦ λ fails g. key_passes test v es g
     ]) refl h
 
-module _ {K L D : Type 0} (same : D → D → Bool) (elect : Elect L) (x : Facts K L D) where
+module _ {K L D : Type 0} (same : D → D → Bool) (elect : Elect L) (x : StateFacts K L D) where
   -- what an event drops
   pub event_dropped : (e : Event K D) (v : ℕ) → v < (if is_prune e then min_active x else 0) → is_tracked (after_event same elect x e) v ≡ false
   event_dropped event.Prune v below = (let test : nat_le (min_active x) v ≡ false = grind (arith, nat_tests) in ap is_some (pruned_view x v ∙ ap (λ b. cond b (round_at x v) None) test))

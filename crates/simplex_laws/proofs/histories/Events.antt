@@ -7,7 +7,7 @@ use Rattle.std.proofs.lemmas.Bool.{cases_eq, cases_lt, ne_eqb}
 use Rattle.simplex_types.specs.Config.{Finalized}
 use Rattle.simplex_types.specs.Certificates.{ArtifactFacts, Verdict}
 use Rattle.simplex_round.specs.Round.{RoundFacts, is_judged}
-use Rattle.simplex_voter.specs.Facts.{Facts, Elect, round_at, round_of, is_tracked}
+use Rattle.simplex_voter.specs.Facts.{StateFacts, Elect, round_at, round_of, is_tracked}
 use Rattle.simplex_voter.specs.Certification.{takes_verdict}
 use Rattle.simplex_voter.proofs.Gaps.{and_parts}
 use Rattle.simplex_laws.specs.Events.{Event, History, with_event, IsEvent, after_event, SetFloor, AddFinalization, Certified, Replay}
@@ -79,7 +79,7 @@ module _ {K D : Type 0} where
   moment_follows None history = refl
   moment_follows (Some now) history = refl
 
-module _ {K L D : Type 0} (same : D → D → Bool) (elect : Elect L) (history : History K L D) (x : Facts K L D) (shows : Shows same elect history x) where
+module _ {K L D : Type 0} (same : D → D → Bool) (elect : Elect L) (history : History K L D) (x : StateFacts K L D) (shows : Shows same elect history x) where
   -- a view for which a verdict may be given is tracked where a notarization was handed in
   tracked_notarized : (v : ℕ) (success : Bool) → takes_verdict x v success ≡ true → kept_of history ≤ v → is_tracked x v ≡ is_notarized_in history.events v
   tracked_notarized v success takes kept = notarized (round_at x v) refl ∙ ap (λ (r : RoundFacts K D). is_some r.notarization) (shows.rounds v kept)
@@ -157,7 +157,7 @@ module _ {K L D : Type 0} (same : D → D → Bool) (elect : Elect L) (history :
     rounds = λ v kept. round_further same elect history x shows.facts shows.settings shows.terms e (after_event same elect x e) v (shows.rounds v (earlier v kept)) (follows.rounds v (left v kept)) (works.work v (left v kept));
   }
     where
-      fresh : Facts K L D
+      fresh : StateFacts K L D
       fresh = history.fresh
 
       events : List (Event K D)
@@ -213,7 +213,7 @@ module _ {K L D : Type 0} (same : D → D → Bool) (elect : Elect L) (history :
           let gone_before = earlier_gone v below from in
           follows.nullify_votes v from ∙ ap (λ b. b || has_view x.nullify_votes v) (casts_above (kept_in fresh.settings.view_retention events) x active reached e allowed v gone_before) ∙ shows.votes_dropped v gone_before
 
-      done : (does : Facts K L D → Event K D → Bool) (b : Bool) → b ≡ was_done same elect does fresh events → (does x e || b) ≡ was_done same elect does fresh (e ∷ events)
+      done : (does : StateFacts K L D → Event K D → Bool) (b : Bool) → b ≡ was_done same elect does fresh events → (does x e || b) ≡ was_done same elect does fresh (e ∷ events)
       done does b is = done_further same elect history x shows.facts e does b is
 
       tracked_further : (a b c : Bool) → (a || (b || c)) ≡ ((a || b) || c)

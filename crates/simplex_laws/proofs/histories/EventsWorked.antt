@@ -2,7 +2,7 @@
 -- Each event adds to the work on a view what it says.
 use Rattle.std.proofs.Common.{Bool}
 use Rattle.simplex_types.specs.Config.{Genesis, Finalized}
-use Rattle.simplex_voter.specs.Facts.{Facts, Elect}
+use Rattle.simplex_voter.specs.Facts.{StateFacts, Elect}
 use Rattle.simplex_laws.specs.Events.{Event, after_event, SetFloor, AddNotarization, AddNullification, AddFinalization, Certified, ConstructNotarize, ConstructNullify, ConstructFinalize, SetProposal, TryPropose, Proposed, Supersede, Release, TryVerify, Verified, VerificationFailed, CertifyCandidates, SetCertifyHandle, TriggerTimeout, NextTimeout, BroadcastNotarization, BroadcastNullification, BroadcastFinalization, Prune, Replay}
 use Rattle.simplex_laws.proofs.histories.Worked.{WorkFollows}
 use Rattle.simplex_laws.proofs.histories.work.HandedIn.{notarization_works, nullification_works, finalization_works, floor_finalization_works, genesis_works}
@@ -13,7 +13,7 @@ use Rattle.simplex_laws.proofs.histories.work.Scans.{try_verify_works}
 use Rattle.simplex_laws.proofs.histories.work.Timeouts.{trigger_works, failed_works, next_timeout_works}
 use Rattle.simplex_laws.proofs.histories.work.Votes.{notarize_works, nullify_works, finalize_works, proposal_works}
 
-module _ {K L D : Type 0} (same : D → D → Bool) (elect : Elect L) (x : Facts K L D) where
+module _ {K L D : Type 0} (same : D → D → Bool) (elect : Elect L) (x : StateFacts K L D) where
   pub event_works : (e : Event K D) → WorkFollows same elect e x (after_event same elect x e)
   event_works (SetFloor (Genesis payload) now) = genesis_works same elect x payload now
   event_works (SetFloor (Finalized c) now) = floor_finalization_works same elect x c now

@@ -8,7 +8,7 @@ use Rattle.std.specs.declared.cmp.Ordering.TheVariants.{Less, Equal, Greater}
 use Rattle.std.specs.BTreeSet.{insert_key}
 use Rattle.std.proofs.lemmas.Bool.{cases_eq, ne_eqb}
 use Rattle.simplex_round.specs.Round.{RoundFacts}
-use Rattle.simplex_voter.specs.Facts.{Facts, Elect, round_of, is_tracked, with_round}
+use Rattle.simplex_voter.specs.Facts.{StateFacts, Elect, round_of, is_tracked, with_round}
 use Rattle.simplex_voter.specs.Windows.{min_active}
 use Rattle.simplex_laws.specs.Events.{Event}
 use Rattle.simplex_laws.specs.Sums.{notarizes, nullifies, finalizes, verdict_of_event, covers_from, sets_genesis, finalized_by_event, entered_by, moment_by, is_prune, or_new, has_view}
@@ -18,12 +18,12 @@ use Rattle.simplex_laws.proofs.votes.NullifyVotes.{tied}
 use Rattle.simplex_laws.proofs.histories.Leaving.{Known, known_of, Alike, Leaves}
 
 -- the lowest view that an event leaves
-abbrev pub left_from : {K L D : Type 0} → Facts K L D → Event K D → ℕ
+abbrev pub left_from : {K L D : Type 0} → StateFacts K L D → Event K D → ℕ
 left_from x e = if is_prune e then min_active x else 0
 
 module _ {K L D : Type 0} (same : D → D → Bool) (elect : Elect L) where
   -- what is known of a view, with what an event says of it
-  abbrev pub adds : Facts K L D → Event K D → ℕ → Known D → Known D
+  abbrev pub adds : StateFacts K L D → Event K D → ℕ → Known D → Known D
   adds x e v k = record {
     notarization = or_new k.notarization (notarizes v e);
     nullification = or_new k.nullification (nullifies v e);
@@ -40,11 +40,11 @@ module _ {K L D : Type 0} (same : D → D → Bool) (elect : Elect L) where
   }
 
   -- an event says nothing of a view
-  abbrev pub IsElsewhere : Facts K L D → Event K D → ℕ → Type 0
+  abbrev pub IsElsewhere : StateFacts K L D → Event K D → ℕ → Type 0
   IsElsewhere x e v = (k : Known D) → adds x e v k ≡ k
 
   -- the facts after an event are those before with what it says
-  pub record Follows (e : Event K D) (x y : Facts K L D) : Type 0 where
+  pub record Follows (e : Event K D) (x y : StateFacts K L D) : Type 0 where
     pub settings : y.settings ≡ x.settings
     pub terms : y.terms ≡ x.terms
     pub genesis : y.genesis ≡ option_or (sets_genesis e) x.genesis
@@ -56,7 +56,7 @@ module _ {K L D : Type 0} (same : D → D → Bool) (elect : Elect L) where
     pub rounds : (v : ℕ) → left_from x e ≤ v → known_of (round_of y v) ≡ adds x e v (known_of (round_of x v))
 
   -- an event says nothing
-  pub record IsSilent (x : Facts K L D) (e : Event K D) : Type 0 where
+  pub record IsSilent (x : StateFacts K L D) (e : Event K D) : Type 0 where
     pub genesis : sets_genesis e ≡ None
     pub entered : (term_length : ℕ) → entered_by term_length (is_tracked x) e ≡ 0
     pub finalized : finalized_by_event e ≡ 0
@@ -84,7 +84,7 @@ among_noted k v (u ∷ ks) =
     swapped true false c = refl
     swapped false b c = refl
 
-module _ {K L D : Type 0} (same : D → D → Bool) (elect : Elect L) (x : Facts K L D) (e : Event K D) where
+module _ {K L D : Type 0} (same : D → D → Bool) (elect : Elect L) (x : StateFacts K L D) (e : Event K D) where
   -- between changes that leave a round alike
   pub added_between : (v : ℕ) (q r s t : RoundFacts K D) → Alike q r → known_of s ≡ adds same elect x e v (known_of r) → Alike s t → known_of t ≡ adds same elect x e v (known_of q)
   added_between v q r s t before added after = after ∙ added ∙ ap (adds same elect x e v) before
@@ -93,7 +93,7 @@ module _ {K L D : Type 0} (same : D → D → Bool) (elect : Elect L) (x : Facts
   nothing_added v silent r s alike = alike ∙ sym (silent (known_of r))
 
   -- what is put at the one view that an event speaks of, between changes that leave the rounds alike
-  pub put_between : (y z : Facts K L D) (v : ℕ) (r : RoundFacts K D) → ((w : ℕ) → Alike (round_of x w) (round_of y w)) → known_of r ≡ adds same elect x e v (known_of (round_of y v)) → ((w : ℕ) → eqb w v ≡ false → IsElsewhere same elect x e w) → ((w : ℕ) → Alike (round_of (with_round y v r) w) (round_of z w)) → (w : ℕ) → known_of (round_of z w) ≡ adds same elect x e w (known_of (round_of x w))
+  pub put_between : (y z : StateFacts K L D) (v : ℕ) (r : RoundFacts K D) → ((w : ℕ) → Alike (round_of x w) (round_of y w)) → known_of r ≡ adds same elect x e v (known_of (round_of y v)) → ((w : ℕ) → eqb w v ≡ false → IsElsewhere same elect x e w) → ((w : ℕ) → Alike (round_of (with_round y v r) w) (round_of z w)) → (w : ℕ) → known_of (round_of z w) ≡ adds same elect x e w (known_of (round_of x w))
   put_between y z v r before added elsewhere after w = added_between w (round_of x w) (round_of y w) (round_of (with_round y v r) w) (round_of z w) (before w) (put (cases_eq w v)) (after w)
     where
       put : ((w ≡ v) ⊎ (w ≡ v → ⊥)) → known_of (round_of (with_round y v r) w) ≡ adds same elect x e w (known_of (round_of y w))
@@ -105,7 +105,7 @@ module _ {K L D : Type 0} (same : D → D → Bool) (elect : Elect L) (x : Facts
   put_alone v r added elsewhere w = put_between x (with_round x v r) v r (λ u. refl) added elsewhere (λ u. refl) w
 
   -- an event that says nothing
-  pub silent_follows : (y : Facts K L D) → IsSilent same elect x e → Leaves (unwrap_or (moment_by e) x.moment) x.current x.finalized x y → Follows same elect e x y
+  pub silent_follows : (y : StateFacts K L D) → IsSilent same elect x e → Leaves (unwrap_or (moment_by e) x.moment) x.current x.finalized x y → Follows same elect e x y
   silent_follows y silent leaves = record {
     settings = leaves.settings;
     terms = leaves.terms;

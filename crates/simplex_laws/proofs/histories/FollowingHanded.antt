@@ -15,7 +15,7 @@ use Rattle.simplex_round.specs.declared.round.Certification.{Certification}
 use Rattle.simplex_round.specs.declared.round.Certification.TheVariants as certification
 use Rattle.simplex_round.specs.Slot.{SlotFacts, after_certificate}
 use Rattle.simplex_round.specs.Round.{RoundFacts, with_notarization, with_nullification, with_finalization, certified_round, is_judged}
-use Rattle.simplex_voter.specs.Facts.{Facts, Elect, round_at, round_of, is_tracked, with_round}
+use Rattle.simplex_voter.specs.Facts.{StateFacts, Elect, round_at, round_of, is_tracked, with_round}
 use Rattle.simplex_voter.specs.Entering.{at_moment, with_view_entered}
 use Rattle.simplex_voter.specs.Leaders.{with_elected_leader, with_window_leaders}
 use Rattle.simplex_voter.specs.Timeouts.{with_timeout}
@@ -58,7 +58,7 @@ module _ {D : Type 0} (same : D → D → Bool) (decides : (d e : D) → same d 
 
 -- the first of its kind is kept
 
-module _ {K L D : Type 0} (same : D → D → Bool) (decides : (d e : D) → same d e ≡ true → d ≡ e) (elect : Elect L) (x : Facts K L D) (c : ProposalFacts D) (r : RoundFacts K D) where
+module _ {K L D : Type 0} (same : D → D → Bool) (decides : (d e : D) → same d e ≡ true → d ≡ e) (elect : Elect L) (x : StateFacts K L D) (c : ProposalFacts D) (r : RoundFacts K D) where
   notarization_added : r.notarization ≡ (round_of x c.proposal.round.view).notarization → known_of (with_notarization (same_proposal same) r c) ≡ adds same elect x (AddNotarization c) c.proposal.round.view (known_of r)
   notarization_added stands = first r.notarization refl
     where
@@ -87,7 +87,7 @@ module _ {K L D : Type 0} (same : D → D → Bool) (decides : (d e : D) → sam
           let some : is_none (round_of x v).finalization ≡ false = ap is_none (sym stands ∙ is) in
           rw (is, some, eq-eqb v v refl) refl
 
-module _ {K L D : Type 0} (same : D → D → Bool) (elect : Elect L) (x : Facts K L D) (c : NullificationFacts) (now : ℕ) (r : RoundFacts K D) where
+module _ {K L D : Type 0} (same : D → D → Bool) (elect : Elect L) (x : StateFacts K L D) (c : NullificationFacts) (now : ℕ) (r : RoundFacts K D) where
   nullification_added : known_of (with_nullification r c) ≡ adds same elect x (AddNullification c now) c.round.view (known_of r)
   nullification_added = first r.nullification refl
     where
@@ -97,7 +97,7 @@ module _ {K L D : Type 0} (same : D → D → Bool) (elect : Elect L) (x : Facts
 
 -- proposal certificates
 
-module _ {K L D : Type 0} (same : D → D → Bool) (decides : (d e : D) → same d e ≡ true → d ≡ e) (elect : Elect L) (x : Facts K L D) (c : ProposalFacts D) where
+module _ {K L D : Type 0} (same : D → D → Bool) (decides : (d e : D) → same d e ≡ true → d ≡ e) (elect : Elect L) (x : StateFacts K L D) (c : ProposalFacts D) where
   pub notarization_follows : Follows same elect (AddNotarization c) x (after_add_notarization same elect x c)
   notarization_follows =
       let v = c.proposal.round.view in
@@ -159,7 +159,7 @@ module _ {K L D : Type 0} (same : D → D → Bool) (decides : (d e : D) → sam
         rounds = λ w left. handed w (cases_eq w c.proposal.round.view);
       }
     where
-      z : Facts K L D
+      z : StateFacts K L D
       z = after_add_finalization same elect x c now
 
       v : ℕ
@@ -182,7 +182,7 @@ module _ {K L D : Type 0} (same : D → D → Bool) (decides : (d e : D) → sam
 
 -- nullifications, and the floor at genesis
 
-module _ {K L D : Type 0} (same : D → D → Bool) (elect : Elect L) (x : Facts K L D) where
+module _ {K L D : Type 0} (same : D → D → Bool) (elect : Elect L) (x : StateFacts K L D) where
   pub nullification_follows : (c : NullificationFacts) (now : ℕ) → Follows same elect (AddNullification c now) x (after_add_nullification elect x c now)
   nullification_follows c now =
       let u = c.round.view in
@@ -207,7 +207,7 @@ module _ {K L D : Type 0} (same : D → D → Bool) (elect : Elect L) (x : Facts
 
   pub genesis_follows : (payload : D) (now : ℕ) → Follows same elect (SetFloor (Genesis payload) now) x (after_set_floor same elect x (Genesis payload) now)
   genesis_follows payload now =
-      let a : Facts K L D = record (at_moment x now) { genesis = Some payload } in
+      let a : StateFacts K L D = record (at_moment x now) { genesis = Some payload } in
       let e = with_view_entered a 1 now in
       let y = with_elected_leader elect e 1 None in
       let q = then_quiet now (max x.current 1) x.finalized a e y (entered_leaves a 1 now) (elected_quiet elect e 1 None) in
@@ -239,7 +239,7 @@ pub and_false : (b : Bool) → (b && false) ≡ false
 and_false true = refl
 and_false false = refl
 
-module _ {K L D : Type 0} (x : Facts K L D) where
+module _ {K L D : Type 0} (x : StateFacts K L D) where
   uncontradicted : (v : ℕ) (success : Bool) → takes_verdict x v success ≡ true → is_tracked x v ≡ true → is_judged (not success) (round_of x v).certification ≡ false
   uncontradicted v success takes here = by_round (round_at x v) refl
     where
@@ -253,15 +253,15 @@ module _ {K L D : Type 0} (x : Facts K L D) where
           let test : (is_some r.notarization && not (is_judged (not success) r.certification)) ≡ true = sym (ap (λ o. option_map_or (λ s. is_some s.notarization && not (is_judged (not success) s.certification)) o true) found) ∙ (and_parts _ _ takes).1 in
           rw found (not_true _ (and_parts (is_some r.notarization) _ test).1)
 
-module _ {K L D : Type 0} (same : D → D → Bool) (elect : Elect L) (x : Facts K L D) (v now : ℕ) where
-  judged_rounds : (success : Bool) (y : Facts K L D) → takes_verdict x v success ≡ true → is_tracked x v ≡ true → ((w : ℕ) → Alike (round_of (with_verdict x v success) w) (round_of y w)) → (w : ℕ) → known_of (round_of y w) ≡ adds same elect x (Certified v success now) w (known_of (round_of x w))
+module _ {K L D : Type 0} (same : D → D → Bool) (elect : Elect L) (x : StateFacts K L D) (v now : ℕ) where
+  judged_rounds : (success : Bool) (y : StateFacts K L D) → takes_verdict x v success ≡ true → is_tracked x v ≡ true → ((w : ℕ) → Alike (round_of (with_verdict x v success) w) (round_of y w)) → (w : ℕ) → known_of (round_of y w) ≡ adds same elect x (Certified v success now) w (known_of (round_of x w))
   judged_rounds success y takes here after w = put_between same elect x (Certified v success now) x y v (certified_round (round_of x v) success) (λ s. refl) (rw (eq-eqb v v refl, here) (λ i. record (known_of (round_of x v)) { verdict = verdict_first (round_of x v).certification success (uncontradicted x v success takes here) i })) (λ u apart k. rw apart refl) after w
 
-module _ {K L D : Type 0} (same : D → D → Bool) (elect : Elect L) (x : Facts K L D) (v now : ℕ) where
+module _ {K L D : Type 0} (same : D → D → Bool) (elect : Elect L) (x : StateFacts K L D) (v now : ℕ) where
   pub verdict_follows : (success : Bool) → takes_verdict x v success ≡ true → Follows same elect (Certified v success now) x (after_certified elect x v success now)
   verdict_follows success takes = by_tracked (is_tracked x v) refl success takes
     where
-      a : Facts K L D
+      a : StateFacts K L D
       a = at_moment x now
 
       by_tracked : (b : Bool) → is_tracked x v ≡ b → (s : Bool) → takes_verdict x v s ≡ true → Follows same elect (Certified v s now) x (if is_tracked x v then verdict_taken elect a v s now else a)

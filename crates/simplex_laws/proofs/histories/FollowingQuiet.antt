@@ -12,7 +12,7 @@ use Rattle.simplex_round.specs.declared.round.Certification.{Certification}
 use Rattle.simplex_round.specs.declared.round.Certification.TheVariants as certification
 use Rattle.simplex_round.specs.Slot.{after_mark}
 use Rattle.simplex_round.specs.Round.{RoundFacts, is_nullify, is_finalize, is_judged, has_no_retry, awaits_retry}
-use Rattle.simplex_voter.specs.Facts.{Facts, Elect, round_of, with_tracked}
+use Rattle.simplex_voter.specs.Facts.{StateFacts, Elect, round_of, with_tracked}
 use Rattle.simplex_voter.specs.Entering.{at_moment}
 use Rattle.simplex_voter.specs.Timeouts.{with_timeout, round_with_retry, after_trigger_timeout, after_next_timeout}
 use Rattle.simplex_voter.specs.Certification.{takes_certify_handle, after_candidates, after_set_certify_handle}
@@ -37,7 +37,7 @@ retry_finalize (decision.Pending _ _ _) is = absurd (true≢false (sym is))
 retry_finalize (decision.Nullify _) is = refl
 retry_finalize decision.Finalize is = absurd (true≢false (sym is))
 
-module _ {K L D : Type 0} (x : Facts K L D) where
+module _ {K L D : Type 0} (x : StateFacts K L D) where
   -- requests
 
   build_quiet : (v : ℕ) (requested : Bool) → Quiet x (with_build x v requested)
@@ -123,7 +123,7 @@ module _ {K L D : Type 0} (x : Facts K L D) where
           rw is (decided_alike r (decision.Nullify (Some (now + x.settings.timeout_retry))) (retry_nullify r.decision open_retry) (retry_finalize r.decision open_retry))
       retried false is = rw is refl
 
-module _ {K L D : Type 0} (x : Facts K L D) where
+module _ {K L D : Type 0} (x : StateFacts K L D) where
   -- a failed verification times the view out, or takes a binding away
   pub failed_leaves : (same : D → D → Bool) (elect : Elect L) (v : ℕ) (reason : TimeoutReason) (now : ℕ) → Leaves now x.current x.finalized x (after_verification_failed same elect x v reason now)
   failed_leaves same elect v reason now =

@@ -9,7 +9,7 @@ use Rattle.simplex_types.specs.declared.types.messages.Proposal.{Proposal}
 use Rattle.simplex_round.specs.declared.round.Decision.TheVariants as decision
 use Rattle.simplex_round.specs.Slot.{after_own}
 use Rattle.simplex_round.specs.Round.{RoundFacts, certified_round}
-use Rattle.simplex_voter.specs.Facts.{Facts, Elect, round_of, with_round}
+use Rattle.simplex_voter.specs.Facts.{StateFacts, Elect, round_of, with_round}
 use Rattle.simplex_voter.specs.Leaders.{with_next_view_ready}
 use Rattle.simplex_voter.specs.Replay.{TakesReplay, bound_again, restored_binding}
 use Rattle.simplex_member.specs.Recovery.{as_artifact, after_replaying}
@@ -21,7 +21,7 @@ use Rattle.simplex_laws.proofs.histories.FollowingHanded.{verdict_first, notariz
 use Rattle.simplex_laws.proofs.histories.FollowingQuiet.{try_verify_quiet, release_quiet, supersede_quiet, try_propose_quiet, verified_quiet, candidates_quiet, handle_quiet, trigger_leaves, next_timeout_leaves, failed_leaves}
 use Rattle.simplex_laws.proofs.histories.FollowingVotes.{own_held, own_conflict, nullify_follows, finalize_follows, notarize_follows, proposal_follows, proposed_follows, broadcast_notarization_follows, broadcast_nullification_follows, broadcast_finalization_follows, prune_follows}
 
-module _ {K L D : Type 0} (same : D → D → Bool) (decides : (d e : D) → same d e ≡ true → d ≡ e) (elect : Elect L) (x : Facts K L D) where
+module _ {K L D : Type 0} (same : D → D → Bool) (decides : (d e : D) → same d e ≡ true → d ≡ e) (elect : Elect L) (x : StateFacts K L D) where
   replayed_notarize : (p : Proposal D) (signer : ℕ) → Follows same elect (Replay (NotarizeVote p signer)) x (after_replaying same elect x (NotarizeVote p signer))
   replayed_notarize p signer =
       record {
@@ -48,7 +48,7 @@ module _ {K L D : Type 0} (same : D → D → Bool) (decides : (d e : D) → sam
       t : RoundFacts K D
       t = bound_again s (restored_binding x p)
 
-      z : Facts K L D
+      z : StateFacts K L D
       z = with_round x v t
 
       after : Quiet z (with_next_view_ready elect z v)

@@ -16,7 +16,7 @@ use Rattle.simplex_round.specs.declared.round.Decision.{Decision}
 use Rattle.simplex_round.specs.declared.round.Decision.TheVariants as decision
 use Rattle.simplex_round.specs.Slot.{SlotFacts, after_own, after_vote, holds_or_empty}
 use Rattle.simplex_round.specs.Round.{RoundFacts, new_round, after_nullify, is_pending, is_nullify, is_finalize}
-use Rattle.simplex_voter.specs.Facts.{Facts, Elect, round_at, round_of, round_number, with_round}
+use Rattle.simplex_voter.specs.Facts.{StateFacts, Elect, round_at, round_of, round_number, with_round}
 use Rattle.simplex_voter.specs.Windows.{min_active}
 use Rattle.simplex_voter.specs.Entering.{at_moment}
 use Rattle.simplex_voter.specs.Leaders.{with_next_view_ready}
@@ -85,7 +85,7 @@ module _ {D : Type 0} (same : D → D → Bool) (s : SlotFacts D) (p : Proposal 
       by_held None = refl
       by_held (Some h) = or_swap s.conflict (not (same_proposal same h p))
 
-module _ {K L D : Type 0} (x : Facts K L D) where
+module _ {K L D : Type 0} (x : StateFacts K L D) where
   -- a view that a prune leaves has its round
 
   left_by_prune : (v : ℕ) → min_active x ≤ v → round_of (after_prune x) v ≡ round_of x v
@@ -100,7 +100,7 @@ module _ {K L D : Type 0} (x : Facts K L D) where
       test : nat_le (min_active x) v ≡ true
       test = grind (arith, nat_tests)
 
-module _ {K L D : Type 0} (same : D → D → Bool) (elect : Elect L) (x : Facts K L D) where
+module _ {K L D : Type 0} (same : D → D → Bool) (elect : Elect L) (x : StateFacts K L D) where
   -- votes
 
   pub nullify_follows : (v : ℕ) → Follows same elect (ConstructNullify v) x (after_construct_nullify x v)
@@ -109,7 +109,7 @@ module _ {K L D : Type 0} (same : D → D → Bool) (elect : Elect L) (x : Facts
       r : RoundFacts K D
       r = round_of x v
 
-      z : Facts K L D
+      z : StateFacts K L D
       z = with_round x v (after_nullify r)
 
       decided : may_nullify x v ≡ true → known_of (after_nullify r) ≡ adds same elect x (ConstructNullify v) v (known_of r)
@@ -148,7 +148,7 @@ module _ {K L D : Type 0} (same : D → D → Bool) (elect : Elect L) (x : Facts
       r : RoundFacts K D
       r = record (round_of x v) { notarize_decided = true }
 
-      z : Facts K L D
+      z : StateFacts K L D
       z = with_round x v r
 
       decided : may_notarize same elect x v ≡ true → known_of r ≡ adds same elect x (ConstructNotarize v) v (known_of (round_of x v))
@@ -186,7 +186,7 @@ module _ {K L D : Type 0} (same : D → D → Bool) (elect : Elect L) (x : Facts
         rounds = λ w _. put_between same elect x (SetProposal v p) y (with_round y v (with_proposal same r p)) v (with_proposal same r p) before.rounds (heard (is_nullify r.decision) refl) (λ u apart k. rw apart refl) (λ u. refl) w;
       }
     where
-      y : Facts K L D
+      y : StateFacts K L D
       y = with_next_view_ready elect x v
 
       before : Quiet x y
@@ -206,7 +206,7 @@ module _ {K L D : Type 0} (same : D → D → Bool) (elect : Elect L) (x : Facts
   pub proposed_follows : ((d e : D) → same d e ≡ true → d ≡ e) → (context : Context D K) (payload : D) (now : ℕ) → Follows same elect (Proposed context payload now) x (after_proposed same elect x context payload now)
   proposed_follows decides context payload now = by_answer (proposed_answer same elect x context payload) refl
     where
-      a : Facts K L D
+      a : StateFacts K L D
       a = at_moment x now
 
       v : ℕ

@@ -5,7 +5,7 @@ use Rattle.std.specs.Prelude.{map, MatchOption}
 use Rattle.simplex_types.specs.Certificates.{ArtifactFacts, NotarizeVote, NullifyVote, FinalizeVote, Verdict, Accepted, Notarized, Nullified, Finalized, artifact_facts}
 use Rattle.simplex_types.specs.Viewed.{artifact_view}
 use Rattle.simplex_types.specs.declared.types.fault.Fault.{Fault}
-use Rattle.simplex_voter.specs.Facts.{Facts, Elect}
+use Rattle.simplex_voter.specs.Facts.{StateFacts, Elect}
 use Rattle.simplex_voter.specs.Windows.{min_active}
 use Rattle.simplex_voter.specs.Acceptance.{after_set_floor, after_add_notarization, after_add_nullification, after_add_finalization}
 use Rattle.simplex_member.specs.declared.member.error.RecoverError.{RecoverError}
@@ -76,11 +76,11 @@ module _ {K L D : Type 0} (same : D → D → Bool) (elect : Elect L) where
   }
 
   -- what is answered is not refused
-  told_events : (history : History K L D) (x : Facts K L D) (o : Openings K D) (call : CallFacts D) → with_call_events history o call (answer same elect x o call) ≡ with_events history (events_of o call)
+  told_events : (history : History K L D) (x : StateFacts K L D) (o : Openings K D) (call : CallFacts D) → with_call_events history o call (answer same elect x o call) ≡ with_events history (events_of o call)
   told_events history x o calls.GetBestCertificate = refl
   told_events history x o _ = refl
 
-module _ {K L D : Type 0} (same : D → D → Bool) (decides : (d e : D) → same d e ≡ true → d ≡ e) (elect : Elect L) (history : History K L D) (x : Facts K L D) (shows : Shows same elect history x) where
+module _ {K L D : Type 0} (same : D → D → Bool) (decides : (d e : D) → same d e ≡ true → d ≡ e) (elect : Elect L) (history : History K L D) (x : StateFacts K L D) (shows : Shows same elect history x) where
   -- a call makes of the facts what its events make of them
   call_shown : (o : Openings K D) (call : CallFacts D) → is_allowed x o call ≡ true → Shows same elect (with_events history (events_of o call)) (after_call same elect x o call)
   call_shown o call allowed = call_by_event same elect x o (λ es y. Shows same elect (with_events history es) y) shows (λ e takes floor. event_shown same elect history x shows decides e takes) call allowed
@@ -123,7 +123,7 @@ view_back K (Accepted (Nullified c)) = refl
 view_back K (Accepted (Finalized c)) = refl
 
 module _ {K L D : Type 0} (same : D → D → Bool) (decides : (d e : D) → same d e ≡ true → d ≡ e) (elect : Elect L) (now : ℕ) where
-  entries_shown : (entries : List (ArtifactFacts D)) (history : History K L D) (x : Facts K L D) → Shows same elect history x → TakesEntries (λ b. b) same elect x now (map (as_artifact {K = K}) entries) → Shows same elect (with_entries history now entries) (after_entries same elect x now entries)
+  entries_shown : (entries : List (ArtifactFacts D)) (history : History K L D) (x : StateFacts K L D) → Shows same elect history x → TakesEntries (λ b. b) same elect x now (map (as_artifact {K = K}) entries) → Shows same elect (with_entries history now entries) (after_entries same elect x now entries)
   entries_shown [] history x shows takes = shows
   entries_shown (e ∷ rest) history x shows takes =
       let y = after_kept_entry same elect x now e in
@@ -152,7 +152,7 @@ module _ {K L D : Type 0} (same : D → D → Bool) (decides : (d e : D) → sam
 module _ {K L D : Type 0} (same : D → D → Bool) (decides : (d e : D) → same d e ≡ true → d ≡ e) (elect : Elect L) (m : MemberFacts K L D) where
   -- a call
 
-  answered : (history : History K L D) (call : CallFacts D) (x : Facts K L D) → IsShown same elect history m → Shows same elect history x → IsShown same elect (with_call_events history m.openings call (reply_of same elect x m.openings call)) (left_of same elect x m call)
+  answered : (history : History K L D) (call : CallFacts D) (x : StateFacts K L D) → IsShown same elect history m → Shows same elect history x → IsShown same elect (with_call_events history m.openings call (reply_of same elect x m.openings call)) (left_of same elect x m call)
   answered history call x shown shows = by_allowed (is_allowed x m.openings call) refl
     where
       by_fault : (o : Option Fault) → fault_of x call ≡ o → is_allowed x m.openings call ≡ true → IsShown same elect (with_call_events history m.openings call (reply_of same elect x m.openings call)) (left_of same elect x m call)
@@ -167,7 +167,7 @@ module _ {K L D : Type 0} (same : D → D → Bool) (decides : (d e : D) → sam
   unfolding IsCall
   called_shown history left call told shown is_call = by_life m.life refl is_call
     where
-      by_life : (o : Option (Facts K L D)) → m.life ≡ o → AnswersAlive same elect o m call told left → IsShown same elect (with_call_events history m.openings call told) left
+      by_life : (o : Option (StateFacts K L D)) → m.life ≡ o → AnswersAlive same elect o m call told left → IsShown same elect (with_call_events history m.openings call told) left
       by_life None dead (tells, leaves) = rw (tells, leaves) shown
       by_life (Some x) alive (inl (tells, leaves)) = rw (tells, leaves) (answered history call x shown (subst (λ o. MatchOption o (Unit {0}) (Shows same elect history)) alive shown))
       by_life (Some x) alive (inr (_, tells, inl leaves)) = rw (tells, leaves) shown

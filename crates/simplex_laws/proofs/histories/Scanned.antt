@@ -9,7 +9,7 @@ use Rattle.std.proofs.lemmas.Bool.{false≢true, true≢false}
 use Rattle.simplex_types.specs.Terms.{next_term_start}
 use Rattle.simplex_types.proofs.Maps.{is_eq-nat_cmp}
 use Rattle.simplex_round.specs.Round.{RoundFacts, new_round}
-use Rattle.simplex_voter.specs.Facts.{Facts, Elect, round_at, round_of, round_number, is_tracked}
+use Rattle.simplex_voter.specs.Facts.{StateFacts, Elect, round_at, round_of, round_number, is_tracked}
 use Rattle.simplex_voter.specs.Proposing.{views_ahead}
 use Rattle.simplex_voter.specs.Verifying.{through, is_answered, round_left, standing, was_scanned, scan_left, after_try_verify}
 use Rattle.simplex_voter.proofs.Walked.{find-changed}
@@ -70,7 +70,7 @@ among_found v (e ∷ es) = rw (is_eq-nat_cmp v e.0, among_found v es) (by_here (
     by_here true = refl
     by_here false = refl
 
-module _ {K L D : Type 0} (same : D → D → Bool) (elect : Elect L) (x : Facts K L D) (v : ℕ) where
+module _ {K L D : Type 0} (same : D → D → Bool) (elect : Elect L) (x : StateFacts K L D) (v : ℕ) where
   -- only tracked views are scanned
   scanned_tracked : was_scanned same elect x v ≡ true → is_tracked x v ≡ true
   scanned_tracked scanned =

@@ -7,7 +7,7 @@ use Rattle.simplex_types.specs.declared.types.messages.Proposal.{Proposal}
 use Rattle.simplex_round.specs.declared.round.Certification.TheVariants.{Ready}
 use Rattle.simplex_round.specs.declared.round.Decision.TheVariants.{Nullify, Finalize}
 use Rattle.simplex_round.specs.Round.{RoundFacts, is_finalize}
-use Rattle.simplex_voter.specs.Facts.{Facts, Elect, round_of}
+use Rattle.simplex_voter.specs.Facts.{StateFacts, Elect, round_of}
 use Rattle.simplex_laws.specs.Events.{Event, History, with_event}
 use Rattle.simplex_laws.specs.Leading.{leader_by_event}
 use Rattle.simplex_laws.specs.OwnWork.{facts_after, was_done, first_said, last_said, held_in, conflict_in, contradicts, first_certificate_by, hears, owns, hands_out_notarization, hands_out_nullification, hands_out_finalization, decides_notarize, decides_nullify, decides_finalize}
@@ -20,7 +20,7 @@ use Rattle.simplex_laws.proofs.histories.Leaving.{known_of}
 use Rattle.simplex_laws.proofs.histories.ShownWork.{told_finalize, decided_further, stalled_further, done_further, first_further, last_further, known_further}
 use Rattle.simplex_laws.proofs.histories.Worked.{work_of, timed, decides, adds_work}
 
-module _ {K L D : Type 0} (same : D → D → Bool) (elect : Elect L) (history : History K L D) (x : Facts K L D) (facts : x ≡ facts_after same elect history.fresh history.events) (settings : x.settings ≡ history.fresh.settings) (terms : x.terms ≡ history.fresh.terms) (e : Event K D) (y : Facts K L D) (v : ℕ) (earlier : round_of x v ≡ round_in same elect history v) (known : known_of (round_of y v) ≡ adds same elect x e v (known_of (round_of x v))) (work : work_of y v ≡ adds_work same elect x e v (work_of x v)) where
+module _ {K L D : Type 0} (same : D → D → Bool) (elect : Elect L) (history : History K L D) (x : StateFacts K L D) (facts : x ≡ facts_after same elect history.fresh history.events) (settings : x.settings ≡ history.fresh.settings) (terms : x.terms ≡ history.fresh.terms) (e : Event K D) (y : StateFacts K L D) (v : ℕ) (earlier : round_of x v ≡ round_in same elect history v) (known : known_of (round_of y v) ≡ adds same elect x e v (known_of (round_of x v))) (work : work_of y v ≡ adds_work same elect x e v (work_of x v)) where
   abbrev pub later : History K L D
   later = with_event history e
 
@@ -33,7 +33,7 @@ module _ {K L D : Type 0} (same : D → D → Bool) (elect : Elect L) (history :
       let said : (round_of y v).decision ≡ decides same elect z e v (decision_in same elect v fresh events) =
       ap (λ k. k.decision) work
       ∙ ap (λ (r : RoundFacts K D). decides same elect x e v r.decision) earlier
-      ∙ ap (λ (a : Facts K L D). decides same elect a e v (decision_in same elect v fresh events)) facts in
+      ∙ ap (λ (a : StateFacts K L D). decides same elect a e v (decision_in same elect v fresh events)) facts in
       let finalized : is_finalize (round_of x v).decision ≡ was_done same elect (decides_finalize same elect v) fresh events =
       ap (λ (r : RoundFacts K D). is_finalize r.decision) earlier
       ∙ told_finalize fresh.settings
@@ -42,7 +42,7 @@ module _ {K L D : Type 0} (same : D → D → Bool) (elect : Elect L) (history :
       (last_said same elect (enters v) fresh events)
       (first_said same elect (latches same elect v) fresh events)
       (retry_in same elect v fresh events) in
-      let set_up : z.settings ≡ fresh.settings = ap (λ (a : Facts K L D). a.settings) (sym facts) ∙ settings in
+      let set_up : z.settings ≡ fresh.settings = ap (λ (a : StateFacts K L D). a.settings) (sym facts) ∙ settings in
       let told : (round_of y v).decision ≡ (if decides_finalize same elect v z e then Finalize else (if decides_nullify v z e then Nullify None else timed fresh.settings (enters v z e) (latches same elect v z e) (retries v z e) (decision_in same elect v fresh events))) =
       said ∙ ap (λ s. if decides_finalize same elect v z e then Finalize else (if decides_nullify v z e then Nullify None else timed s (enters v z e) (latches same elect v z e) (retries v z e) (decision_in same elect v fresh events))) set_up in
       decided_further
@@ -93,7 +93,7 @@ module _ {K L D : Type 0} (same : D → D → Bool) (elect : Elect L) (history :
         binding = (ap (λ k. k.binding) work ∙ known_further same elect history x facts e (binds same elect v) None (round_of x v).binding (ap (λ r. r.binding) earlier)) i;
       }
     where
-      z : Facts K L D
+      z : StateFacts K L D
       z = facts_after same elect history.fresh history.events
 
       said_held : Option (Proposal D)
@@ -103,13 +103,13 @@ module _ {K L D : Type 0} (same : D → D → Bool) (elect : Elect L) (history :
       held_further =
           ap (λ k. k.held) known
           ∙ ap (λ (r : RoundFacts K D). option_or (first_certificate_by v x e) (or_new r.slot.held (option_or (hears v x e) (owns same elect v x e)))) earlier
-          ∙ ap (λ (a : Facts K L D). option_or (first_certificate_by v a e) (or_new said_held (option_or (hears v a e) (owns same elect v a e)))) facts
+          ∙ ap (λ (a : StateFacts K L D). option_or (first_certificate_by v a e) (or_new said_held (option_or (hears v a e) (owns same elect v a e)))) facts
 
       conflict_further : (round_of y v).slot.conflict ≡ conflict_in same elect v history.fresh later.events
       conflict_further =
           ap (λ k. k.conflict) known
           ∙ ap (λ (r : RoundFacts K D). contradicts same r.slot.held (option_or (first_certificate_by v x e) (hears v x e)) || r.slot.conflict) earlier
-          ∙ ap (λ (a : Facts K L D). contradicts same said_held (option_or (first_certificate_by v a e) (hears v a e)) || conflict_in same elect v history.fresh history.events) facts
+          ∙ ap (λ (a : StateFacts K L D). contradicts same said_held (option_or (first_certificate_by v a e) (hears v a e)) || conflict_in same elect v history.fresh history.events) facts
 
       stall_further : (round_of y v).stall_deadline ≡ option_and_then (λ at. option_map (λ time. at + time) history.fresh.terms.stall_timeout) (last_said same elect (enters v) history.fresh later.events)
       stall_further =
@@ -118,4 +118,4 @@ module _ {K L D : Type 0} (same : D → D → Bool) (elect : Elect L) (history :
           ∙ ap (λ (r : RoundFacts K D). unwrap_or (option_map (λ at. option_map (λ time. at + time) x.terms.stall_timeout) (enters v x e)) r.stall_deadline) earlier
           ∙ ap (λ t. unwrap_or (option_map (λ at. option_map (λ time. at + time) t.stall_timeout) (enters v x e)) (option_and_then (λ at. option_map (λ time. at + time) history.fresh.terms.stall_timeout) last)) terms
           ∙ stalled_further history.fresh.terms.stall_timeout (enters v x e) last
-          ∙ ap (λ (a : Facts K L D). option_and_then (λ at. option_map (λ time. at + time) history.fresh.terms.stall_timeout) (option_or (enters v a e) last)) facts
+          ∙ ap (λ (a : StateFacts K L D). option_and_then (λ at. option_map (λ time. at + time) history.fresh.terms.stall_timeout) (option_or (enters v a e) last)) facts

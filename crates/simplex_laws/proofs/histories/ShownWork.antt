@@ -8,7 +8,7 @@ use Rattle.simplex_types.specs.declared.reasons.TimeoutReason.{TimeoutReason}
 use Rattle.simplex_round.specs.declared.round.Decision.{Decision}
 use Rattle.simplex_round.specs.declared.round.Decision.TheVariants.{Pending, Nullify, Finalize}
 use Rattle.simplex_round.specs.Round.{is_finalize}
-use Rattle.simplex_voter.specs.Facts.{Settings, Facts, Elect}
+use Rattle.simplex_voter.specs.Facts.{Settings, StateFacts, Elect}
 use Rattle.simplex_laws.specs.Events.{Event, History}
 use Rattle.simplex_laws.specs.OwnWork.{facts_after, was_done, first_said, last_said}
 use Rattle.simplex_laws.specs.Sums.{or_new}
@@ -56,19 +56,19 @@ pub stalled_further : (stall : Option ℕ) (new old : Option ℕ) → unwrap_or 
 stalled_further stall None old = refl
 stalled_further stall (Some at) old = refl
 
-module _ {K L D : Type 0} (same : D → D → Bool) (elect : Elect L) (history : History K L D) (x : Facts K L D) (facts : x ≡ facts_after same elect history.fresh history.events) (e : Event K D) where
+module _ {K L D : Type 0} (same : D → D → Bool) (elect : Elect L) (history : History K L D) (x : StateFacts K L D) (facts : x ≡ facts_after same elect history.fresh history.events) (e : Event K D) where
   -- one sum more
 
-  pub done_further : (does : Facts K L D → Event K D → Bool) (b : Bool) → b ≡ was_done same elect does history.fresh history.events → (does x e || b) ≡ was_done same elect does history.fresh (e ∷ history.events)
+  pub done_further : (does : StateFacts K L D → Event K D → Bool) (b : Bool) → b ≡ was_done same elect does history.fresh history.events → (does x e || b) ≡ was_done same elect does history.fresh (e ∷ history.events)
   done_further does b is = ap (λ c. does x e || c) is ∙ ap (λ z. does z e || was_done same elect does history.fresh history.events) facts
 
-  pub first_further : {A : Type 0} (says : Facts K L D → Event K D → Option A) (o : Option A) → o ≡ first_said same elect says history.fresh history.events → or_new o (says x e) ≡ first_said same elect says history.fresh (e ∷ history.events)
+  pub first_further : {A : Type 0} (says : StateFacts K L D → Event K D → Option A) (o : Option A) → o ≡ first_said same elect says history.fresh history.events → or_new o (says x e) ≡ first_said same elect says history.fresh (e ∷ history.events)
   first_further says o is = ap (λ p. or_new p (says x e)) is ∙ ap (λ z. or_new (first_said same elect says history.fresh history.events) (says z e)) facts
 
-  pub last_further : {A : Type 0} (says : Facts K L D → Event K D → Option A) (o : Option A) → o ≡ last_said same elect says history.fresh history.events → option_or (says x e) o ≡ last_said same elect says history.fresh (e ∷ history.events)
+  pub last_further : {A : Type 0} (says : StateFacts K L D → Event K D → Option A) (o : Option A) → o ≡ last_said same elect says history.fresh history.events → option_or (says x e) o ≡ last_said same elect says history.fresh (e ∷ history.events)
   last_further says o is = ap (option_or (says x e)) is ∙ ap (λ z. option_or (says z e) (last_said same elect says history.fresh history.events)) facts
 
-  pub known_further : {A : Type 0} (says : Facts K L D → Event K D → Option A) (first a : A) → a ≡ unwrap_or (last_said same elect says history.fresh history.events) first → unwrap_or (says x e) a ≡ unwrap_or (last_said same elect says history.fresh (e ∷ history.events)) first
+  pub known_further : {A : Type 0} (says : StateFacts K L D → Event K D → Option A) (first a : A) → a ≡ unwrap_or (last_said same elect says history.fresh history.events) first → unwrap_or (says x e) a ≡ unwrap_or (last_said same elect says history.fresh (e ∷ history.events)) first
   known_further says first a is =
       ap (unwrap_or (says x e)) is
       ∙ last_or_before (says x e) (last_said same elect says history.fresh history.events) first

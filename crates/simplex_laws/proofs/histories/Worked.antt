@@ -15,7 +15,7 @@ use Rattle.simplex_round.specs.declared.round.Decision.{Decision}
 use Rattle.simplex_round.specs.declared.round.Decision.TheVariants.{Pending, Nullify, Finalize}
 use Rattle.simplex_round.specs.declared.round.Certification.{Certification}
 use Rattle.simplex_round.specs.Round.{RoundFacts}
-use Rattle.simplex_voter.specs.Facts.{Settings, Facts, Elect, round_of, is_tracked, with_round}
+use Rattle.simplex_voter.specs.Facts.{Settings, StateFacts, Elect, round_of, is_tracked, with_round}
 use Rattle.simplex_laws.specs.Events.{Event}
 use Rattle.simplex_laws.specs.Leading.{leader_by_event, tracks}
 use Rattle.simplex_laws.specs.OwnWork.{decides_nullify, decides_finalize}
@@ -62,7 +62,7 @@ work_in tracked r = record {
   binding = r.binding;
 }
 
-abbrev pub work_of : {K L D : Type 0} → Facts K L D → ℕ → Worked K D
+abbrev pub work_of : {K L D : Type 0} → StateFacts K L D → ℕ → Worked K D
 work_of x v = work_in (is_tracked x v) (round_of x v)
 
 -- a decision with a vote, or else with an entry, an explicit timeout and the moment of a repeat
@@ -82,14 +82,14 @@ untimed settings (Nullify again) = refl
 untimed settings Finalize = refl
 
 module _ {K L D : Type 0} (same : D → D → Bool) (elect : Elect L) where
-  abbrev pub decides : Facts K L D → Event K D → ℕ → Decision → Decision
+  abbrev pub decides : StateFacts K L D → Event K D → ℕ → Decision → Decision
   decides x e v d =
       if decides_finalize same elect v x e
       then Finalize
       else (if decides_nullify v x e then Nullify None else timed x.settings (enters v x e) (latches same elect v x e) (retries v x e) d)
 
   -- what is known of the work on a view, with what an event says of it
-  abbrev pub adds_work : Facts K L D → Event K D → ℕ → Worked K D → Worked K D
+  abbrev pub adds_work : StateFacts K L D → Event K D → ℕ → Worked K D → Worked K D
   adds_work x e v k = record k {
     tracked = is_some (enters v x e) || (tracks same elect v x e || k.tracked);
     entered_at = or_new k.entered_at (enters v x e);
@@ -106,7 +106,7 @@ module _ {K L D : Type 0} (same : D → D → Bool) (elect : Elect L) where
   }
 
   -- the facts after an event are those before with what it says
-  pub record WorkFollows (e : Event K D) (x y : Facts K L D) : Type 0 where
+  pub record WorkFollows (e : Event K D) (x y : StateFacts K L D) : Type 0 where
     pub me : y.me ≡ x.me
     pub members : y.members ≡ x.members
     pub elector : y.elector ≡ x.elector
@@ -116,11 +116,11 @@ module _ {K L D : Type 0} (same : D → D → Bool) (elect : Elect L) where
     pub work : (v : ℕ) → left_from x e ≤ v → work_of y v ≡ adds_work x e v (work_of x v)
 
   -- an event says nothing of the work on a view
-  abbrev pub IsIdle : Facts K L D → Event K D → ℕ → Type 0
+  abbrev pub IsIdle : StateFacts K L D → Event K D → ℕ → Type 0
   IsIdle x e v = (k : Worked K D) → adds_work x e v k ≡ k
 
 module _ {K L D : Type 0} where
-  pub is_tracked-put : (x : Facts K L D) (v w : ℕ) (r : RoundFacts K D) → is_tracked (with_round x w r) v ≡ (eqb v w || is_tracked x v)
+  pub is_tracked-put : (x : StateFacts K L D) (v w : ℕ) (r : RoundFacts K D) → is_tracked (with_round x w r) v ≡ (eqb v w || is_tracked x v)
   is_tracked-put x v w r =
       ap is_some (find-put nat_cmp nat_cmp_total v w r x.rounds ∙ ap (λ b. cond b (Some r) (find nat_cmp v x.rounds)) (is_eq-nat_cmp v w))
       ∙ either (eqb v w)
@@ -130,8 +130,8 @@ module _ {K L D : Type 0} where
       either false = refl
 
   -- the work on a view after another round stands there, and elsewhere
-  pub work_put : (x : Facts K L D) (v : ℕ) (r : RoundFacts K D) → work_of (with_round x v r) v ≡ work_in true r
+  pub work_put : (x : StateFacts K L D) (v : ℕ) (r : RoundFacts K D) → work_of (with_round x v r) v ≡ work_in true r
   work_put x v r = rw (is_tracked-put x v v r, eq-eqb v v refl, round_of-same x v r) refl
 
-  pub work_elsewhere : (x : Facts K L D) (v w : ℕ) (r : RoundFacts K D) → eqb w v ≡ false → work_of (with_round x v r) w ≡ work_of x w
+  pub work_elsewhere : (x : StateFacts K L D) (v w : ℕ) (r : RoundFacts K D) → eqb w v ≡ false → work_of (with_round x v r) w ≡ work_of x w
   work_elsewhere x v w r apart = rw (is_tracked-put x w v r, round_of-put x w v r, apart) refl

@@ -3,7 +3,7 @@
 use Rattle.std.proofs.Common.{◌≡◌, refl, ap, sym, ◌∙◌, subst, ℕ, inl, inr, Bool, [], ◌∷◌, Option, Some, None}
 use Rattle.std.specs.Prelude.{option_map}
 use Rattle.simplex_types.specs.Certificates.{CertificateFacts, Notarized, Nullified, Finalized}
-use Rattle.simplex_voter.specs.Facts.{Facts, Elect}
+use Rattle.simplex_voter.specs.Facts.{StateFacts, Elect}
 use Rattle.simplex_voter.specs.Serving.{broadcast_notarization_answer, broadcast_nullification_answer, broadcast_finalization_answer}
 use Rattle.simplex_member.specs.Calls.{CallFacts, BroadcastNotarization, BroadcastNullification, BroadcastFinalization, GetBestCertificate, Told, Handed}
 use Rattle.simplex_member.specs.Entries.{certificate_round}
@@ -26,7 +26,7 @@ module _ {K D : Type 0} where
   told_right : (kind : Kind) (v : ℕ) (c d : CertificateFacts D) → AskedRight kind v d → told_it K (Some d) ≡ told_it K (Some c) → AskedRight kind v c
   told_right kind v c d right tells = let same : d ≡ c = cc in subst (AskedRight kind v) same right
 
-module _ {K L D : Type 0} (x : Facts K L D) (placed : IsPlaced x) (v : ℕ) where
+module _ {K L D : Type 0} (x : StateFacts K L D) (placed : IsPlaced x) (v : ℕ) where
   notarization_right : IsAsAsked {K = K} {D = D} (BroadcastNotarization v) (told_it K (option_map Notarized (broadcast_notarization_answer x v)))
   notarization_right Notarization w c asks tells = elim (asked (λ r. r.notarization_broadcast) (λ r. r.notarization) x v) [
     | inl none ↦ absurd (let clash : told_it K {D = D} None ≡ told_it K (Some c) = ap (λ o. told_it K (option_map Notarized o)) (sym none) ∙ tells in cc)
@@ -63,7 +63,7 @@ nothing_asked K told Nullification v c asks tells = absurd (cc)
 nothing_asked K told Finalization v c asks tells = absurd (cc)
 
 module _ {K L D : Type 0} (same : D → D → Bool) (elect : Elect L) where
-  pub call_as_asked : (x : Facts K L D) (o : Openings K D) (call : CallFacts D) → IsPlaced x → IsAsAsked call (answer same elect x o call)
+  pub call_as_asked : (x : StateFacts K L D) (o : Openings K D) (call : CallFacts D) → IsPlaced x → IsAsAsked call (answer same elect x o call)
   call_as_asked x o (BroadcastNotarization v) placed = notarization_right x placed v
   call_as_asked x o (BroadcastNullification v) placed = nullification_right x placed v
   call_as_asked x o (BroadcastFinalization v) placed = finalization_right x placed v

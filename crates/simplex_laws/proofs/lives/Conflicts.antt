@@ -2,7 +2,7 @@
 -- A conflict of a view stays in a life until the view is pruned.
 use Rattle.std.proofs.Common.{◌≡◌, refl, subst, ℕ, ◌≤◌, inl, inr, Bool, true, List, [], ◌∷◌, arith}
 use Rattle.std.proofs.lemmas.List.Elements.{Contains-append_left}
-use Rattle.simplex_voter.specs.Facts.{Facts, Elect}
+use Rattle.simplex_voter.specs.Facts.{StateFacts, Elect}
 use Rattle.simplex_voter.specs.Windows.{min_active}
 use Rattle.simplex_member.specs.Allowed.{is_allowed}
 use Rattle.simplex_member.specs.Calls.{CallFacts, Told, Refused, NotAllowed}
@@ -17,7 +17,7 @@ use Rattle.simplex_laws.proofs.frames.Paths.{tracked_by}
 use Rattle.simplex_laws.proofs.lives.WithinLives.{alive_still, alive_joined, each_call}
 
 -- conflicts stay, and what is kept does not begin lower
-pub record Keeps {K L D : Type 0} (replies : List (Told K D)) (x y : Facts K L D) : Type 0 where
+pub record Keeps {K L D : Type 0} (replies : List (Told K D)) (x y : StateFacts K L D) : Type 0 where
   pub floor : min_active x ≤ min_active y
   pub conflicts : ConflictsStay replies x y
 
@@ -29,10 +29,10 @@ module _ {K D : Type 0} where
   first_dropped told replies v (views, there, among) = (views, Contains-append_left (told ∷ []) replies _ there, among)
 
 module _ {K L D : Type 0} where
-  pub keeps : (replies : List (Told K D)) (x : Facts K L D) → Keeps replies x x
+  pub keeps : (replies : List (Told K D)) (x : StateFacts K L D) → Keeps replies x x
   keeps replies x = record { floor = omega arith; conflicts = λ v is. inl is }
 
-  pub keeps_on : (told : Told K D) (replies : List (Told K D)) (x y z : Facts K L D) → Keeps (told ∷ []) x y → Keeps replies y z → Keeps (told ∷ replies) x z
+  pub keeps_on : (told : Told K D) (replies : List (Told K D)) (x y z : StateFacts K L D) → Keeps (told ∷ []) x y → Keeps replies y z → Keeps (told ∷ replies) x z
   keeps_on told replies x y z p q = record { floor = omega (arith, p.floor, q.floor); conflicts = conflicts }
     where
       conflicts : ConflictsStay (told ∷ replies) x z
@@ -45,7 +45,7 @@ module _ {K L D : Type 0} where
       ]
 
 module _ {K L D : Type 0} (same : D → D → Bool) (elect : Elect L) where
-  call_keeps : (call : CallFacts D) (x : Facts K L D) (o : Openings K D) → is_allowed x o call ≡ true → Keeps (answer same elect x o call ∷ []) x (after_call same elect x o call)
+  call_keeps : (call : CallFacts D) (x : StateFacts K L D) (o : Openings K D) → is_allowed x o call ≡ true → Keeps (answer same elect x o call ∷ []) x (after_call same elect x o call)
   call_keeps call x o allowed = record { floor = floor; conflicts = conflicts }
     where
       floor : min_active x ≤ min_active (after_call same elect x o call)

@@ -4,7 +4,7 @@ use Rattle.std.proofs.Common.{◌≡◌, refl, ℕ, true, false, List, [], ◌�
 use Rattle.std.specs.List.{fold}
 use Rattle.simplex_types.specs.Config.{Genesis}
 use Rattle.simplex_types.specs.Certificates.{ProposalFacts}
-use Rattle.simplex_voter.specs.Facts.{Facts, new_facts, is_tracked}
+use Rattle.simplex_voter.specs.Facts.{StateFacts, new_facts, is_tracked}
 use Rattle.simplex_voter.specs.Windows.{min_active, in_window}
 use Rattle.simplex_voter.specs.Parents.{binding_matches}
 use Rattle.simplex_voter.specs.Acceptance.{after_set_floor}
@@ -18,7 +18,7 @@ use Rattle.simplex_member.proofs.Examples.{proposal}
 use Rattle.simplex_member.proofs.RecoveryExamples.{in_turn, settings}
 
 abbrev State : Type 0
-State = Facts ℕ ℕ ℕ
+State = StateFacts ℕ ℕ ℕ
 
 abbrev Call : Type 0
 Call = CallFacts ℕ

@@ -7,7 +7,7 @@ use Rattle.std.proofs.lemmas.Bool.{false≢true, cases_eq, ne_eqb}
 use Rattle.simplex_types.specs.Certificates.{ProposalFacts, NullificationFacts, CertificateFacts, Notarized, Nullified, Finalized}
 use Rattle.simplex_types.specs.declared.types.fault.Fault.{Fault}
 use Rattle.simplex_round.specs.Round.{RoundFacts, new_round, once}
-use Rattle.simplex_voter.specs.Facts.{Facts, Elect, round_at, round_of, round_number, is_tracked, with_round}
+use Rattle.simplex_voter.specs.Facts.{StateFacts, Elect, round_at, round_of, round_number, is_tracked, with_round}
 use Rattle.simplex_voter.specs.Windows.{min_active}
 use Rattle.simplex_voter.specs.Serving.{broadcast_notarization_answer, after_broadcast_notarization, broadcast_nullification_answer, after_broadcast_nullification, broadcast_finalization_answer, after_broadcast_finalization, best_certificate}
 use Rattle.simplex_member.specs.Allowed.{is_allowed}
@@ -25,19 +25,19 @@ use Rattle.simplex_laws.proofs.frames.Rounds.{round_put}
 use Rattle.simplex_laws.proofs.lives.WithinLives.{call_outcome}
 
 -- the view's certificate is not to be handed out any more: it was, or none stands there and none comes
-abbrev pub IsSpent : {K L D : Type 0} → Kind → ℕ → Facts K L D → Type 0
+abbrev pub IsSpent : {K L D : Type 0} → Kind → ℕ → StateFacts K L D → Type 0
 IsSpent kind v x =
     (is_handed kind (round_of x v) ≡ true) ⊎ ((v < min_active x) × (standing_view kind (round_of x v) ≡ None))
 
 -- no view's certificate is handed out, or one that was not spent, and is then
-abbrev pub Hands : {K L D : Type 0} → Kind → List ℕ → Facts K L D → Facts K L D → Type 0
+abbrev pub Hands : {K L D : Type 0} → Kind → List ℕ → StateFacts K L D → StateFacts K L D → Type 0
 Hands kind views x y = (views ≡ []) ⊎ ((v : ℕ) × (views ≡ v ∷ []) × (IsSpent kind v x → ⊥) × IsSpent kind v y)
 
-pub record HandsOut {K L D : Type 0} (call : CallFacts D) (told : Told K D) (x y : Facts K L D) : Type 0 where
+pub record HandsOut {K L D : Type 0} (call : CallFacts D) (told : Told K D) (x y : StateFacts K L D) : Type 0 where
   pub spent : (kind : Kind) (v : ℕ) → IsSpent kind v x → IsSpent kind v y
   pub hands : (kind : Kind) → Hands kind (handed_by kind call told) x y
 
-module _ {K L D C : Type 0} (flag : RoundFacts K D → Bool) (certificate : RoundFacts K D → Option C) (x : Facts K L D) (v : ℕ) where
+module _ {K L D C : Type 0} (flag : RoundFacts K D → Bool) (certificate : RoundFacts K D → Option C) (x : StateFacts K L D) (v : ℕ) where
   -- what is answered stands there, and was not handed out
   pub record IsFirst (c : C) : Type 0 where
     pub fresh : flag (round_of x v) ≡ false
@@ -76,18 +76,18 @@ or_some false o c is = ap is_some is
 
 module _ {K L D : Type 0} where
   -- a view whose certificate stands there and was not handed out is not spent
-  unspent : (kind : Kind) (x : Facts K L D) (v : ℕ) → is_handed kind (round_of x v) ≡ false → is_some (standing_view kind (round_of x v)) ≡ true → IsSpent kind v x → ⊥
+  unspent : (kind : Kind) (x : StateFacts K L D) (v : ℕ) → is_handed kind (round_of x v) ≡ false → is_some (standing_view kind (round_of x v)) ≡ true → IsSpent kind v x → ⊥
   unspent kind x v unsent stands (inl sent) = false≢true (sym unsent ∙ sent)
   unspent kind x v unsent stands (inr (below, none)) = false≢true (sym (ap is_some none) ∙ stands)
 
   -- a round that is put at a tracked view and was handed out
-  now_spent : (kind : Kind) (x : Facts K L D) (v : ℕ) (r : RoundFacts K D) → is_tracked x v ≡ true → is_handed kind r ≡ true → IsSpent kind v (if is_tracked x v then with_round x v r else x)
+  now_spent : (kind : Kind) (x : StateFacts K L D) (v : ℕ) (r : RoundFacts K D) → is_tracked x v ≡ true → is_handed kind r ≡ true → IsSpent kind v (if is_tracked x v then with_round x v r else x)
   now_spent kind x v r tracked sent =
       subst (λ b. IsSpent kind v (if b then with_round x v r else x)) (sym tracked)
       (inl (ap (is_handed kind) (round_put x v r) ∙ sent))
 
 module _ {K L D : Type 0} where
-  hands_notarization : (x : Facts K L D) (v : ℕ) (kind : Kind) → Hands kind (handed_by {K = K} {D = D} kind (BroadcastNotarization v) (Handed (option_map Notarized (broadcast_notarization_answer x v)))) x (after_broadcast_notarization x v)
+  hands_notarization : (x : StateFacts K L D) (v : ℕ) (kind : Kind) → Hands kind (handed_by {K = K} {D = D} kind (BroadcastNotarization v) (Handed (option_map Notarized (broadcast_notarization_answer x v)))) x (after_broadcast_notarization x v)
   hands_notarization x v kind = elim (asked (λ r. r.notarization_broadcast) (λ r. r.notarization) x v) [
     | inl none ↦ inl (ap (λ o. handed_by {K = K} {D = D} kind (BroadcastNotarization v) (Handed (option_map Notarized o))) none)
     | inr (c, some, first) ↦ rw some (by_kind kind c first)
@@ -103,7 +103,7 @@ module _ {K L D : Type 0} where
       by_kind Nullification c first = inl refl
       by_kind Finalization c first = inl refl
 
-  hands_nullification : (x : Facts K L D) (v : ℕ) (kind : Kind) → Hands kind (handed_by {K = K} {D = D} kind (BroadcastNullification v) (Handed (option_map Nullified (broadcast_nullification_answer x v)))) x (after_broadcast_nullification x v)
+  hands_nullification : (x : StateFacts K L D) (v : ℕ) (kind : Kind) → Hands kind (handed_by {K = K} {D = D} kind (BroadcastNullification v) (Handed (option_map Nullified (broadcast_nullification_answer x v)))) x (after_broadcast_nullification x v)
   hands_nullification x v kind = elim (asked (λ r. r.nullification_broadcast) (λ r. r.nullification) x v) [
     | inl none ↦ inl (ap (λ o. handed_by {K = K} {D = D} kind (BroadcastNullification v) (Handed (option_map Nullified o))) none)
     | inr (c, some, first) ↦ rw some (by_kind kind c first)
@@ -119,7 +119,7 @@ module _ {K L D : Type 0} where
       )
       by_kind Finalization c first = inl refl
 
-  hands_finalization : (x : Facts K L D) (v : ℕ) (kind : Kind) → Hands kind (handed_by {K = K} {D = D} kind (BroadcastFinalization v) (Handed (option_map Finalized (broadcast_finalization_answer x v)))) x (after_broadcast_finalization x v)
+  hands_finalization : (x : StateFacts K L D) (v : ℕ) (kind : Kind) → Hands kind (handed_by {K = K} {D = D} kind (BroadcastFinalization v) (Handed (option_map Finalized (broadcast_finalization_answer x v)))) x (after_broadcast_finalization x v)
   hands_finalization x v kind = elim (asked (λ r. r.finalization_broadcast) (λ r. r.finalization) x v) [
     | inl none ↦ inl (ap (λ o. handed_by {K = K} {D = D} kind (BroadcastFinalization v) (Handed (option_map Finalized o))) none)
     | inr (c, some, first) ↦ rw some (by_kind kind c first)
@@ -144,7 +144,7 @@ best_unasked K Nullification (Some c) = refl
 best_unasked K Finalization (Some c) = refl
 
 module _ {K L D : Type 0} (same : D → D → Bool) (elect : Elect L) where
-  event_spends : (x : Facts K L D) → (e : Event K D) → IsEvent x e → is_floor e ≡ false → (kind : Kind) (v : ℕ) → IsSpent kind v x → IsSpent kind v (after_event same elect x e)
+  event_spends : (x : StateFacts K L D) → (e : Event K D) → IsEvent x e → is_floor e ≡ false → (kind : Kind) (v : ℕ) → IsSpent kind v x → IsSpent kind v (after_event same elect x e)
   event_spends x e takes none kind v spent =
       let y = after_event same elect x e in
       let floor = floor_goes x y (event_goes same elect x e) in
@@ -156,17 +156,17 @@ module _ {K L D : Type 0} (same : D → D → Bool) (elect : Elect L) where
         ]
       ]
 
-  call_spends : (x : Facts K L D) → (o : Openings K D) (call : CallFacts D) → is_allowed x o call ≡ true → (kind : Kind) (v : ℕ) → IsSpent kind v x → IsSpent kind v (after_call same elect x o call)
+  call_spends : (x : StateFacts K L D) → (o : Openings K D) (call : CallFacts D) → is_allowed x o call ≡ true → (kind : Kind) (v : ℕ) → IsSpent kind v x → IsSpent kind v (after_call same elect x o call)
   call_spends x o call allowed = call_by_event same elect x o (λ es y. (kind : Kind) (v : ℕ) → IsSpent kind v x → IsSpent kind v y) (λ kind v spent. spent) (λ e. event_spends x e) call allowed
 
-  call_hands : (x : Facts K L D) (o : Openings K D) (call : CallFacts D) (kind : Kind) → Hands kind (handed_by kind call (answer same elect x o call)) x (after_call same elect x o call)
+  call_hands : (x : StateFacts K L D) (o : Openings K D) (call : CallFacts D) (kind : Kind) → Hands kind (handed_by kind call (answer same elect x o call)) x (after_call same elect x o call)
   call_hands x o (BroadcastNotarization v) kind = hands_notarization x v kind
   call_hands x o (BroadcastNullification v) kind = hands_nullification x v kind
   call_hands x o (BroadcastFinalization v) kind = hands_finalization x v kind
   call_hands x o GetBestCertificate kind = inl (best_unasked K kind (best_certificate x))
   call_hands x o _ kind = inl refl
 
-  outcome : (m : MemberFacts K L D) (call : CallFacts D) (told : Told K D) (left : MemberFacts K L D) → IsCall same elect m call told left → ((fault : Fault) × (told ≡ Refused fault) × (left.life ≡ None)) ⊎ ((x y : Facts K L D) × (m.life ≡ Some x) × (left.life ≡ Some y) × HandsOut call told x y)
+  outcome : (m : MemberFacts K L D) (call : CallFacts D) (told : Told K D) (left : MemberFacts K L D) → IsCall same elect m call told left → ((fault : Fault) × (told ≡ Refused fault) × (left.life ≡ None)) ⊎ ((x y : StateFacts K L D) × (m.life ≡ Some x) × (left.life ≡ Some y) × HandsOut call told x y)
   outcome =
       call_outcome same elect HandsOut
       (λ call fault x. record { spent = λ kind v s. s; hands = λ kind. inl refl })
@@ -174,7 +174,7 @@ module _ {K L D : Type 0} (same : D → D → Bool) (elect : Elect L) where
       (λ call x o allowed. record { spent = call_spends x o call allowed; hands = call_hands x o call })
 
 -- a member without a state hands nothing out
-abbrev pub IsSpentIn : {K L D : Type 0} → Kind → ℕ → Option (Facts K L D) → Type 0
+abbrev pub IsSpentIn : {K L D : Type 0} → Kind → ℕ → Option (StateFacts K L D) → Type 0
 IsSpentIn kind v None = Unit {0}
 IsSpentIn kind v (Some x) = IsSpent kind v x
 

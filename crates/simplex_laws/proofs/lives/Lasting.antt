@@ -10,7 +10,7 @@ use Rattle.simplex_types.specs.declared.types.messages.Context.{Context}
 use Rattle.simplex_types.specs.declared.types.messages.Proposal.{Proposal}
 use Rattle.simplex_round.specs.Slot.{SlotFacts, holds_or_empty, after_own, after_vote, after_certificate}
 use Rattle.simplex_round.specs.Round.{RoundFacts}
-use Rattle.simplex_voter.specs.Facts.{Facts, Elect, round_of, is_tracked}
+use Rattle.simplex_voter.specs.Facts.{StateFacts, Elect, round_of, is_tracked}
 use Rattle.simplex_voter.specs.Windows.{min_active}
 use Rattle.simplex_laws.specs.Events as event
 use Rattle.simplex_laws.specs.Events.{Event, IsEvent, after_event, in_context, events_of}
@@ -129,8 +129,8 @@ pub record BringsFrom {K D : Type 0} (low : ℕ) (e : Event K D) : Type 0 where
   pub nullification : (c : NullificationFacts) → nullification_by e ≡ Some c → low ≤ c.round.view
   pub finalization : (c : ProposalFacts D) → finalization_by e ≡ Some c → low ≤ c.proposal.round.view
 
-module _ {K L D : Type 0} (same : D → D → Bool) (elect : Elect L) (x : Facts K L D) (e : Event K D) (low : ℕ) (brings : BringsFrom low e) where
-  change_lasts : (y : Facts K L D) (v : ℕ) (r s : RoundFacts K D) → RoundStep same elect x e y v r s → RoundLasts low v r s
+module _ {K L D : Type 0} (same : D → D → Bool) (elect : Elect L) (x : StateFacts K L D) (e : Event K D) (low : ℕ) (brings : BringsFrom low e) where
+  change_lasts : (y : StateFacts K L D) (v : ℕ) (r s : RoundFacts K D) → RoundStep same elect x e y v r s → RoundLasts low v r s
   change_lasts y v r s (step.Notarized c says at none) = (let kept = brings.notarization c says in record {
     conflict = λ h. certified_conflict (same_proposal same) r.slot c.proposal h;
     notarization_handed = λ h. h;
@@ -172,7 +172,7 @@ module _ {K L D : Type 0} (same : D → D → Bool) (elect : Elect L) (x : Facts
   pub event_lasts : (v : ℕ) → RoundLasts low v (round_of x v) (round_of (after_event same elect x e) v) ⊎ ((is_prune e ≡ true) × IsGone x (after_event same elect x e) v)
   event_lasts = rounds_or_gone same elect x e 0 (RoundLasts low) (round_joined low) change_lasts (event_path same elect 0 x e (omega arith) (asked_of_all x e))
 
-module _ {K L D : Type 0} (x : Facts K L D) where
+module _ {K L D : Type 0} (x : StateFacts K L D) where
   -- within a life
   pub brings_kept : (e : Event K D) → IsEvent x e → is_floor e ≡ false → BringsFrom (min_active x) e
   brings_kept (event.SetFloor floor now) takes none = absurd (true≢false none)
@@ -202,22 +202,22 @@ found_key test v (e ∷ es) there passes = elim (cases_eq v e.0) [
 ]
 
 -- a view below those that were kept isn't tracked from a call on, which is told that it was dropped
-pub record Drops {K L D : Type 0} (x y : Facts K L D) (told : Told K D) (v : ℕ) : Type 0 where
+pub record Drops {K L D : Type 0} (x y : StateFacts K L D) (told : Told K D) (v : ℕ) : Type 0 where
   pub gone : IsGone x y v
   pub dropped : is_tracked x v ≡ true → IsDropped (told ∷ []) v
 
 -- of the events of a call
-abbrev pub AllLast : {K L D : Type 0} → Facts K L D → List (Event K D) → Facts K L D → Type 0
+abbrev pub AllLast : {K L D : Type 0} → StateFacts K L D → List (Event K D) → StateFacts K L D → Type 0
 AllLast x es y = (v : ℕ) → RoundLasts (min_active x) v (round_of x v) (round_of y v) ⊎ ((list_any is_prune es ≡ true) × IsGone x y v)
 
 in_context_prunes : {K D : Type 0} (event : Context D K → Event K D) → ((c : Context D K) → is_prune (event c) ≡ false) → (context : Option (Context D K)) → list_any is_prune (in_context event context) ≡ false
 in_context_prunes event none None = refl
 in_context_prunes event none (Some c) = rw (none c) refl
 
-none_lasts : {K L D : Type 0} (x : Facts K L D) → AllLast x [] x
+none_lasts : {K L D : Type 0} (x : StateFacts K L D) → AllLast x [] x
 none_lasts x v = inl (still (min_active x) v (round_of x v))
 
-module _ {K L D : Type 0} (same : D → D → Bool) (elect : Elect L) (x : Facts K L D) where
+module _ {K L D : Type 0} (same : D → D → Bool) (elect : Elect L) (x : StateFacts K L D) where
   taken_lasts : (e : Event K D) → IsEvent x e → is_floor e ≡ false → AllLast x (e ∷ []) (after_event same elect x e)
   taken_lasts e takes none v = elim (event_lasts same elect x e (min_active x) (brings_kept x e takes none) v) [ inl lasts ↦ inl lasts | inr (prunes, gone) ↦ inr (rw prunes refl, gone) ]
 

@@ -14,7 +14,7 @@ use Rattle.simplex_types.proofs.Gaps.{next_above}
 use Rattle.simplex_round.specs.Round.{RoundFacts, is_judged, new_round}
 use Rattle.simplex_voter.specs.Acceptance.{after_set_floor}
 use Rattle.simplex_voter.specs.Certification.{takes_verdict}
-use Rattle.simplex_voter.specs.Facts.{Facts, Elect, round_at, round_of, round_number, is_tracked}
+use Rattle.simplex_voter.specs.Facts.{StateFacts, Elect, round_at, round_of, round_number, is_tracked}
 use Rattle.simplex_voter.specs.Refusals.{first_fault, is_too_large, names_too_large, has_late_deadline, takes_round}
 use Rattle.simplex_voter.specs.Windows.{min_active}
 use Rattle.simplex_member.specs.Calls.{Told, AddNullification, AddFinalization, Certified}
@@ -44,11 +44,11 @@ both : (a b : Bool) → a ≡ true → b ≡ true → (a && b) ≡ true
 both a b is so = rw (is, so) refl
 
 -- a state that goes on, above its last finalized view
-pub record Goes {K L D : Type 0} (term_length : ℕ) (x : Facts K L D) : Type 0 where
+pub record Goes {K L D : Type 0} (term_length : ℕ) (x : StateFacts K L D) : Type 0 where
   pub sound : IsSound term_length x
   pub alive : x.failed ≡ false
 
-module _ {K L D : Type 0} (same : D → D → Bool) (elect : Elect L) (term_length : ℕ) (some : 0 < term_length) (x : Facts K L D) (goes : Goes term_length x) where
+module _ {K L D : Type 0} (same : D → D → Bool) (elect : Elect L) (term_length : ℕ) (some : 0 < term_length) (x : StateFacts K L D) (goes : Goes term_length x) where
   -- a certificate of the current view is taken
   takes_current : takes_round x (round_number x x.current) ≡ true
   takes_current =
@@ -132,16 +132,16 @@ module _ {K L D : Type 0} (same : D → D → Bool) (elect : Elect L) (term_leng
 -- of each state of a run
 
 module _ {K L D : Type 0} (same : D → D → Bool) (elect : Elect L) where
-  event_goes_on : (term_length : ℕ) (x : Facts K L D) (e : Event K D) → Goes term_length x → Goes term_length (after_event same elect x e)
+  event_goes_on : (term_length : ℕ) (x : StateFacts K L D) (e : Event K D) → Goes term_length x → Goes term_length (after_event same elect x e)
   event_goes_on term_length x e goes = record {
     sound = event_sound same elect term_length x e goes.sound;
     alive = (event_goes same elect x e).failed ∙ goes.alive;
   }
 
-  floor_goes_on : (term_length : ℕ) (x : Facts K L D) (floor : FloorFacts D) (now : ℕ) → IsFresh term_length x → Goes term_length (after_set_floor same elect x floor now)
+  floor_goes_on : (term_length : ℕ) (x : StateFacts K L D) (floor : FloorFacts D) (now : ℕ) → IsFresh term_length x → Goes term_length (after_set_floor same elect x floor now)
   floor_goes_on term_length x floor now fresh = record {
     sound = floor_sound same elect term_length x floor now fresh;
-    alive = (event_goes same elect x (event.SetFloor floor now)).failed ∙ ap (λ (y : Facts K L D). y.failed) fresh.fresh;
+    alive = (event_goes same elect x (event.SetFloor floor now)).failed ∙ ap (λ (y : StateFacts K L D). y.failed) fresh.fresh;
   }
 
   pub states_are_left : (term_length : ℕ) (start : StartFacts K L D) (steps : List (StepFacts K L D)) (replies : List (Told K D)) (end : MemberFacts K L D) → HasTerms term_length start.setup → KeepTerms term_length steps
@@ -149,6 +149,6 @@ module _ {K L D : Type 0} (same : D → D → Bool) (elect : Elect L) where
   states_are_left term_length start steps replies end begins keep run =
       by_life end.life (run_induction same elect term_length (Goes term_length) (floor_goes_on term_length) (event_goes_on term_length) start steps replies end begins keep run)
     where
-      by_life : (life : Option (Facts K L D)) → HoldsIn (Goes term_length) life → MatchOption life (Unit {0}) (CanBeLeft same elect)
+      by_life : (life : Option (StateFacts K L D)) → HoldsIn (Goes term_length) life → MatchOption life (Unit {0}) (CanBeLeft same elect)
       by_life None goes = tt
       by_life (Some x) goes = goes_past same elect term_length begins.some x goes

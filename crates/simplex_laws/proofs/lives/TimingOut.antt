@@ -12,7 +12,7 @@ use Rattle.simplex_types.specs.declared.types.window.Terms.{Terms}
 use Rattle.simplex_round.specs.declared.round.Decision.{Decision}
 use Rattle.simplex_round.specs.declared.round.Decision.TheVariants as decision
 use Rattle.simplex_round.specs.Round.{RoundFacts, new_round, with_first_timeout, has_no_retry, is_certified, is_finalize, awaits_retry, round_timeout, decision_timeout}
-use Rattle.simplex_voter.specs.Facts.{Settings, Facts, Elect, new_facts, round_at, round_of, round_number}
+use Rattle.simplex_voter.specs.Facts.{Settings, StateFacts, Elect, new_facts, round_at, round_of, round_number}
 use Rattle.simplex_voter.specs.Timeouts.{has_timeout, has_skip_budget}
 use Rattle.simplex_voter.specs.Serving.{after_prune}
 use Rattle.simplex_voter.specs.Acceptance.{after_set_floor}
@@ -34,7 +34,7 @@ use Rattle.simplex_laws.proofs.frames.Sound.{IsAhead, event_ahead, event_passes}
 use Rattle.simplex_laws.proofs.frames.Steps as step
 use Rattle.simplex_laws.proofs.frames.Steps.{is_timed, RoundStep, Step, Path, Reaches, along, finalization_by}
 
-pub record TimesOut {K L D : Type 0} (x : Facts K L D) : Type 0 where
+pub record TimesOut {K L D : Type 0} (x : StateFacts K L D) : Type 0 where
   pub ahead : IsAhead x
   pub unfinalized : (v : ℕ) → x.current ≤ v → (round_of x v).finalization ≡ None
   pub timed : is_timed (round_of x x.current).decision ≡ true
@@ -45,9 +45,9 @@ latched_timed (decision.Pending leader certified (Some first)) now reason is = i
 latched_timed (decision.Nullify retry) now reason is = is
 latched_timed decision.Finalize now reason is = is
 
-module _ {K L D : Type 0} (same : D → D → Bool) (elect : Elect L) (begun : Facts K L D) (e : Event K D) where
+module _ {K L D : Type 0} (same : D → D → Bool) (elect : Elect L) (begun : StateFacts K L D) (e : Event K D) where
   -- no change of a round takes its deadlines away
-  change_timed : (x : Facts K L D) (v : ℕ) (r s : RoundFacts K D) → RoundStep same elect begun e x v r s → is_timed r.decision ≡ true → is_timed s.decision ≡ true
+  change_timed : (x : StateFacts K L D) (v : ℕ) (r s : RoundFacts K D) → RoundStep same elect begun e x v r s → is_timed r.decision ≡ true → is_timed s.decision ≡ true
   change_timed x v r s (step.Entered now) is = armed_timed r.decision (now + x.settings.leader_timeout) (now + x.settings.certification_timeout)
   change_timed x v r s (step.Latched now reason) is = latched_timed r.decision now reason is
   change_timed x v r s (step.NullifyDecided says unless_finalized) is = refl
@@ -55,7 +55,7 @@ module _ {K L D : Type 0} (same : D → D → Bool) (elect : Elect L) (begun : F
   change_timed x v r s (step.Retried now interval says awaits) is = refl
   change_timed x v r s _ is = is
 
-  step_timed : is_prune e ≡ false → (low : ℕ) (x y : Facts K L D) → Step same elect begun e low x y → is_timed (round_of x x.current).decision ≡ true → is_timed (round_of y y.current).decision ≡ true
+  step_timed : is_prune e ≡ false → (low : ℕ) (x y : StateFacts K L D) → Step same elect begun e low x y → is_timed (round_of x x.current).decision ≡ true → is_timed (round_of y y.current).decision ≡ true
   step_timed no_prune low x y (Reaches v above timed) is = timed
   step_timed no_prune low x y s is = elim (step_round same elect begun e low x y s x.current) [
     | inl change ↦ change_timed x x.current (round_of x x.current) (round_of y x.current) change is
@@ -66,13 +66,13 @@ module _ {K L D : Type 0} (same : D → D → Bool) (elect : Elect L) (begun : F
 abbrev FinalizedBy : {K D : Type 0} → Event K D → ℕ → RoundFacts K D → RoundFacts K D → Type 0
 FinalizedBy {K} {D} e v r s = (s.finalization ≡ r.finalization) ⊎ ((c : ProposalFacts D) × (finalization_by e ≡ Some c) × (c.proposal.round.view ≡ v))
 
-module _ {K L D : Type 0} (same : D → D → Bool) (elect : Elect L) (x : Facts K L D) (e : Event K D) where
+module _ {K L D : Type 0} (same : D → D → Bool) (elect : Elect L) (x : StateFacts K L D) (e : Event K D) where
   finalized_on : (v : ℕ) (r s t : RoundFacts K D) → FinalizedBy e v r s → FinalizedBy e v s t → FinalizedBy e v r t
   finalized_on v r s t (inl p) (inl q) = inl (q ∙ p)
   finalized_on v r s t (inr brings) q = inr brings
   finalized_on v r s t p (inr brings) = inr brings
 
-  change_finalized : (y : Facts K L D) (v : ℕ) (r s : RoundFacts K D) → RoundStep same elect x e y v r s → FinalizedBy e v r s
+  change_finalized : (y : StateFacts K L D) (v : ℕ) (r s : RoundFacts K D) → RoundStep same elect x e y v r s → FinalizedBy e v r s
   change_finalized y v r s (step.Finalized c says at none) = inr (c, says, at)
   change_finalized y v r s _ = inl refl
 
@@ -82,8 +82,8 @@ final_view (event.AddFinalization f now) c is = (let one : f ≡ c = cc in ap (�
 final_view (event.SetFloor (FinalizedFloor f) now) c is = (let one : f ≡ c = cc in ap (λ g. g.proposal.round.view) one)
 final_view _ c is = absurd (false≢true (ap is_some is))
 
-module _ {K L D : Type 0} (same : D → D → Bool) (elect : Elect L) (x : Facts K L D) (e : Event K D) where
-  abbrev after : Facts K L D
+module _ {K L D : Type 0} (same : D → D → Bool) (elect : Elect L) (x : StateFacts K L D) (e : Event K D) where
+  abbrev after : StateFacts K L D
   after = after_event same elect x e
 
   path : Path same elect x e 0 x after
@@ -116,8 +116,8 @@ module _ {K L D : Type 0} (same : D → D → Bool) (elect : Elect L) (x : Facts
 
   timed_by : (b : Bool) → is_prune e ≡ b → TimesOut x → is_timed (round_of after after.current).decision ≡ true
   timed_by false no_prune times_out =
-      along same elect x e 0 (λ (y : Facts K L D). is_timed (round_of y y.current).decision ≡ true) (step_timed same elect x e no_prune 0) x after path times_out.timed
-  timed_by true prunes times_out = subst (λ (y : Facts K L D). is_timed (round_of y y.current).decision ≡ true) (sym (prune_alone same elect x e prunes)) (pruned_timed times_out)
+      along same elect x e 0 (λ (y : StateFacts K L D). is_timed (round_of y y.current).decision ≡ true) (step_timed same elect x e no_prune 0) x after path times_out.timed
+  timed_by true prunes times_out = subst (λ (y : StateFacts K L D). is_timed (round_of y y.current).decision ≡ true) (sym (prune_alone same elect x e prunes)) (pruned_timed times_out)
 
   pub event_times_out : TimesOut x → TimesOut after
   event_times_out times_out = (let ahead = event_ahead same elect x e (inl times_out.ahead) in record {
@@ -127,13 +127,13 @@ module _ {K L D : Type 0} (same : D → D → Bool) (elect : Elect L) (x : Facts
   })
 
   -- a view that was not current before times out
-  abbrev AsBefore : Facts K L D → Type 0
+  abbrev AsBefore : StateFacts K L D → Type 0
   AsBefore y = (y.current ≡ x.current) ⊎ (is_timed (round_of y y.current).decision ≡ true)
 
   pub reached_timed : is_prune e ≡ false → x.current < after.current → is_timed (round_of after after.current).decision ≡ true
   reached_timed no_prune above = elim (along same elect x e 0 AsBefore keeps x after path (inl refl)) [ inl before ↦ absurd (omega (arith, above, before)) | inr timed ↦ timed ]
     where
-      keeps : (y z : Facts K L D) → Step same elect x e 0 y z → AsBefore y → AsBefore z
+      keeps : (y z : StateFacts K L D) → Step same elect x e 0 y z → AsBefore y → AsBefore z
       keeps y z (Reaches v over timed) p = inr timed
       keeps y z s (inl before) = inl before
       keeps y z s (inr timed) = inr (step_timed same elect x e no_prune 0 y z s timed)
@@ -142,7 +142,7 @@ module _ {K L D : Type 0} (same : D → D → Bool) (elect : Elect L) (x : Facts
 module _ {K L D : Type 0} (same : D → D → Bool) (elect : Elect L) where
   new_times_out : (settings : Settings) (me : Option ℕ) (members : List K) (elector : L) (terms : Terms) (early : Bool) (floor : FloorFacts D) (now : ℕ) → TimesOut (after_set_floor same elect (new_facts settings me members elector terms early) floor now)
   new_times_out settings me members elector terms early floor now =
-      let x : Facts K L D = new_facts settings me members elector terms early in
+      let x : StateFacts K L D = new_facts settings me members elector terms early in
       let e : Event K D = event.SetFloor floor now in
       let ahead = event_ahead same elect x e (inr (refl, refl)) in
       record {
@@ -151,13 +151,13 @@ module _ {K L D : Type 0} (same : D → D → Bool) (elect : Elect L) where
         timed = reached_timed same elect x e refl (omega (arith, ahead));
       }
 
-  pub floor_times_out : (term_length : ℕ) (x : Facts K L D) (floor : FloorFacts D) (now : ℕ) → IsFresh term_length x → TimesOut (after_set_floor same elect x floor now)
+  pub floor_times_out : (term_length : ℕ) (x : StateFacts K L D) (floor : FloorFacts D) (now : ℕ) → IsFresh term_length x → TimesOut (after_set_floor same elect x floor now)
   floor_times_out term_length x floor now fresh =
       subst (λ y. TimesOut (after_set_floor same elect y floor now)) (sym fresh.fresh) (new_times_out x.settings x.me x.members x.elector x.terms x.elects_early floor now)
 
 -- what is said of the timeout
 
-module _ {K L D : Type 0} (x : Facts K L D) where
+module _ {K L D : Type 0} (x : StateFacts K L D) where
   pub says_timeout : TimesOut x → (has_timeout x ≡ true) ⊎ (is_certified (round_of x x.current).certification ≡ true) ⊎ (is_finalize (round_of x x.current).decision ≡ true)
   says_timeout times_out = by_round (round_at x x.current) refl times_out.timed (times_out.unfinalized x.current (omega arith))
     where
@@ -194,6 +194,6 @@ module _ {K L D : Type 0} (same : D → D → Bool) (elect : Elect L) where
   states_time_out term_length start steps replies end begins fresh run =
       by_life end.life (run_induction same elect term_length TimesOut (floor_times_out same elect term_length) (event_times_out same elect) start steps replies end begins fresh run)
     where
-      by_life : (life : Option (Facts K L D)) → HoldsIn TimesOut life → MatchOption life (Unit {0}) CurrentTimesOut
+      by_life : (life : Option (StateFacts K L D)) → HoldsIn TimesOut life → MatchOption life (Unit {0}) CurrentTimesOut
       by_life None holds = tt
       by_life (Some x) holds = record { ahead = holds.ahead; timeout = says_timeout x holds }

@@ -2,7 +2,7 @@
 -- What holds of each call holds of each life.
 use Rattle.std.proofs.Common.{◌≡◌, refl, ap, ◌∙◌, ◌⊎◌, subst, Bool, true, false, List, [], ◌∷◌, Option, Some, None, inl, inr, sym}
 use Rattle.simplex_types.specs.declared.types.fault.Fault.{Fault}
-use Rattle.simplex_voter.specs.Facts.{Facts, Elect}
+use Rattle.simplex_voter.specs.Facts.{StateFacts, Elect}
 use Rattle.simplex_member.specs.Allowed.{is_allowed, fault_of}
 use Rattle.simplex_member.specs.Calls.{CallFacts, Told, Refused, NotAllowed}
 use Rattle.simplex_laws.specs.LifeLaws.{IsLife, WhileAlive, NeverFalls}
@@ -13,12 +13,12 @@ use Rattle.simplex_laws.proofs.frames.Rising.{never_fell, falls_never, never_fal
 
 module _ {K L D : Type 0} where
   -- of one state with itself
-  pub alive_still : (Holds : Facts K L D → Facts K L D → Type 0) (life : Option (Facts K L D)) → ((x : Facts K L D) → Holds x x) → WhileAlive Holds life life
+  pub alive_still : (Holds : StateFacts K L D → StateFacts K L D → Type 0) (life : Option (StateFacts K L D)) → ((x : StateFacts K L D) → Holds x x) → WhileAlive Holds life life
   alive_still Holds None holds = tt
   alive_still Holds (Some x) holds = holds x
 
   -- one after another
-  pub alive_joined : (P Q R : Facts K L D → Facts K L D → Type 0) (first middle last : Option (Facts K L D)) → ((x y z : Facts K L D) → P x y → Q y z → R x z) → WhileAlive P first middle → WhileAlive Q middle last → WhileAlive R first last
+  pub alive_joined : (P Q R : StateFacts K L D → StateFacts K L D → Type 0) (first middle last : Option (StateFacts K L D)) → ((x y z : StateFacts K L D) → P x y → Q y z → R x z) → WhileAlive P first middle → WhileAlive Q middle last → WhileAlive R first last
   alive_joined P Q R first middle None join p q = tt
   alive_joined P Q R first None (Some z) join p q = absurd q
   alive_joined P Q R None (Some y) (Some z) join p q = absurd p
@@ -26,24 +26,24 @@ module _ {K L D : Type 0} where
 
 module _ {K L D : Type 0} (same : D → D → Bool) (elect : Elect L) where
   -- a relation of each state to itself where a call is refused, and to what is left where it is answered
-  module _ (Holds : CallFacts D → Told K D → Facts K L D → Facts K L D → Type 0)
-      (refused : (call : CallFacts D) (fault : Fault) (x : Facts K L D) → Holds call (Refused fault) x x)
-      (not_allowed : (call : CallFacts D) (x : Facts K L D) → Holds call NotAllowed x x)
-      (answered : (call : CallFacts D) (x : Facts K L D) (o : Openings K D) → is_allowed x o call ≡ true → Holds call (answer same elect x o call) x (after_call same elect x o call)) where
+  module _ (Holds : CallFacts D → Told K D → StateFacts K L D → StateFacts K L D → Type 0)
+      (refused : (call : CallFacts D) (fault : Fault) (x : StateFacts K L D) → Holds call (Refused fault) x x)
+      (not_allowed : (call : CallFacts D) (x : StateFacts K L D) → Holds call NotAllowed x x)
+      (answered : (call : CallFacts D) (x : StateFacts K L D) (o : Openings K D) → is_allowed x o call ≡ true → Holds call (answer same elect x o call) x (after_call same elect x o call)) where
     -- the call is refused and leaves no state, or it leads from one state to another
     abbrev pub Outcome : MemberFacts K L D → CallFacts D → Told K D → MemberFacts K L D → Type 0
     Outcome m call told left =
         ((fault : Fault) × (told ≡ Refused fault) × (left.life ≡ None))
-        ⊎ ((x y : Facts K L D) × (m.life ≡ Some x) × (left.life ≡ Some y) × Holds call told x y)
+        ⊎ ((x y : StateFacts K L D) × (m.life ≡ Some x) × (left.life ≡ Some y) × Holds call told x y)
 
-    living_call : (m : MemberFacts K L D) (call : CallFacts D) (x : Facts K L D) → m.life ≡ Some x → (y : Facts K L D) × ((left_of same elect x m call).life ≡ Some y) × Holds call (reply_of same elect x m.openings call) x y
+    living_call : (m : MemberFacts K L D) (call : CallFacts D) (x : StateFacts K L D) → m.life ≡ Some x → (y : StateFacts K L D) × ((left_of same elect x m call).life ≡ Some y) × Holds call (reply_of same elect x m.openings call) x y
     living_call m call x alive = by_allowed (is_allowed x m.openings call) refl
       where
-        by_fault : (o : Option Fault) → fault_of x call ≡ o → is_allowed x m.openings call ≡ true → (y : Facts K L D) × ((left_of same elect x m call).life ≡ Some y) × Holds call (reply_of same elect x m.openings call) x y
+        by_fault : (o : Option Fault) → fault_of x call ≡ o → is_allowed x m.openings call ≡ true → (y : StateFacts K L D) × ((left_of same elect x m call).life ≡ Some y) × Holds call (reply_of same elect x m.openings call) x y
         by_fault None no_fault allowed = rw (allowed, no_fault) (after_call same elect x m.openings call, refl, answered call x m.openings allowed)
         by_fault (Some f) due allowed = rw (allowed, due) (x, alive, refused call f x)
 
-        by_allowed : (b : Bool) → is_allowed x m.openings call ≡ b → (y : Facts K L D) × ((left_of same elect x m call).life ≡ Some y) × Holds call (reply_of same elect x m.openings call) x y
+        by_allowed : (b : Bool) → is_allowed x m.openings call ≡ b → (y : StateFacts K L D) × ((left_of same elect x m call).life ≡ Some y) × Holds call (reply_of same elect x m.openings call) x y
         by_allowed true allowed = by_fault (fault_of x call) refl allowed
         by_allowed false refuses = rw refuses (x, alive, not_allowed call x)
 
@@ -51,7 +51,7 @@ module _ {K L D : Type 0} (same : D → D → Bool) (elect : Elect L) where
     unfolding IsCall
     call_outcome m call told left is_call = by_life m.life refl is_call
       where
-        by_life : (o : Option (Facts K L D)) → m.life ≡ o → AnswersAlive same elect o m call told left → Outcome m call told left
+        by_life : (o : Option (StateFacts K L D)) → m.life ≡ o → AnswersAlive same elect o m call told left → Outcome m call told left
         by_life None dead (tells, leaves) = inl (_, tells, ap (λ n. n.life) leaves ∙ dead)
         by_life (Some x) alive (inl (tells, leaves)) =
             let goes = living_call m call x alive in

@@ -3,7 +3,7 @@
 use Rattle.std.proofs.Common.{◌≡◌, refl, sym, ◌∙◌, subst, ℕ, ◌<◌, ◌≤◌, inl, inr, Bool, true, List, [], ◌∷◌, ◌++◌, length, map, Option, Some, None, arith}
 use Rattle.std.proofs.lemmas.List.{length-map}
 use Rattle.simplex_types.specs.declared.types.fault.Fault.{Fault}
-use Rattle.simplex_voter.specs.Facts.{Facts, Elect}
+use Rattle.simplex_voter.specs.Facts.{StateFacts, Elect}
 use Rattle.simplex_voter.specs.Windows.{min_active}
 use Rattle.simplex_member.specs.Allowed.{is_allowed}
 use Rattle.simplex_member.specs.Calls.{CallFacts, Told, Dropped, Refused, NotAllowed}
@@ -27,27 +27,27 @@ use Rattle.simplex_laws.proofs.frames.RunsKeep.{HoldsIn, run_induction}
 use Rattle.simplex_laws.proofs.lives.WithinLives.{alive_still, alive_joined, each_call, call_outcome}
 
 -- where no view below one that is kept is tracked none comes to be, also where views are dropped on the way
-pub record Away {K L D : Type 0} (replies : List (Told K D)) (x y : Facts K L D) : Type 0 where
+pub record Away {K L D : Type 0} (replies : List (Told K D)) (x y : StateFacts K L D) : Type 0 where
   pub floor : min_active x ≤ min_active y
   pub clear : (low : ℕ) → low ≤ min_active x → IsClear low x → IsClear low y
   pub dropped : (v : ℕ) → IsDropped replies v → (low : ℕ) × (v < low) × (low ≤ min_active y) × IsClear low y
 
 -- from a sound state on
-abbrev pub SoundlyAway : {K L D : Type 0} → ℕ → List (Told K D) → Facts K L D → Facts K L D → Type 0
+abbrev pub SoundlyAway : {K L D : Type 0} → ℕ → List (Told K D) → StateFacts K L D → StateFacts K L D → Type 0
 SoundlyAway term_length replies x y = IsSound term_length x → IsSound term_length y × Away replies x y
 
 module _ {K L D : Type 0} where
-  nothing_away : (told : Told K D) (x : Facts K L D) → ((views : List ℕ) → told ≡ Dropped views → ⊥) → Away (told ∷ []) x x
+  nothing_away : (told : Told K D) (x : StateFacts K L D) → ((views : List ℕ) → told ≡ Dropped views → ⊥) → Away (told ∷ []) x x
   nothing_away told x none = record {
     floor = omega arith;
     clear = λ low under clear. clear;
     dropped = λ v is. absurd (none is.0 (only_one told (Dropped is.0) is.1));
   }
 
-  away_still : (x : Facts K L D) → Away [] x x
+  away_still : (x : StateFacts K L D) → Away [] x x
   away_still x = record { floor = omega arith; clear = λ low under clear. clear; dropped = λ v is. absurd (omega (arith, is.1.1)) }
 
-  away_on : (told : Told K D) (replies : List (Told K D)) (x y z : Facts K L D) → Away (told ∷ []) x y → Away replies y z → Away (told ∷ replies) x z
+  away_on : (told : Told K D) (replies : List (Told K D)) (x y z : StateFacts K L D) → Away (told ∷ []) x y → Away replies y z → Away (told ∷ replies) x z
   away_on told replies x y z p q = record {
     floor = omega (arith, p.floor, q.floor);
     clear = λ low under clear. q.clear low (omega (arith, under, p.floor)) (p.clear low under clear);
@@ -61,10 +61,10 @@ module _ {K L D : Type 0} where
       ]
 
 module _ {K L D : Type 0} (same : D → D → Bool) (elect : Elect L) (term_length : ℕ) where
-  call_sound : (call : CallFacts D) (x : Facts K L D) (o : Openings K D) → IsSound term_length x → IsSound term_length (after_call same elect x o call)
+  call_sound : (call : CallFacts D) (x : StateFacts K L D) (o : Openings K D) → IsSound term_length x → IsSound term_length (after_call same elect x o call)
   call_sound call x o sound = call_by_any same elect x o (IsSound term_length) sound (λ e. event_sound same elect term_length x e sound) call
 
-  call_away : 0 < term_length → (call : CallFacts D) (x : Facts K L D) (o : Openings K D) → is_allowed x o call ≡ true → SoundlyAway term_length (answer same elect x o call ∷ []) x (after_call same elect x o call)
+  call_away : 0 < term_length → (call : CallFacts D) (x : StateFacts K L D) (o : Openings K D) → is_allowed x o call ≡ true → SoundlyAway term_length (answer same elect x o call ∷ []) x (after_call same elect x o call)
   call_away some call x o allowed sound =
       let floor = floor_goes x _ (call_goes same elect x o call) in (
         call_sound call x o sound,
@@ -96,7 +96,7 @@ module _ {K L D : Type 0} (same : D → D → Bool) (elect : Elect L) (term_leng
       (life_away some next end calls replies rest)
 
 -- while it lives
-abbrev pub IsSoundIn : {K L D : Type 0} → ℕ → Option (Facts K L D) → Type 0
+abbrev pub IsSoundIn : {K L D : Type 0} → ℕ → Option (StateFacts K L D) → Type 0
 IsSoundIn term_length life = HoldsIn (IsSound term_length) life
 
 module _ {K L D : Type 0} (same : D → D → Bool) (elect : Elect L) (term_length : ℕ) where
@@ -105,7 +105,7 @@ module _ {K L D : Type 0} (same : D → D → Bool) (elect : Elect L) (term_leng
   life_sound start steps told m end calls replies begins fresh of_run =
       run_induction same elect term_length (IsSound term_length) (λ x floor now new. floor_sound same elect term_length x floor now new) (λ x e sound. event_sound same elect term_length x e sound) start steps told m begins fresh of_run.reached
 
-  for_good : (replies : List (Told K D)) (first last : Option (Facts K L D)) → IsSoundIn term_length first → WhileAlive (SoundlyAway term_length replies) first last → WhileAlive (DroppedForGood replies) first last
+  for_good : (replies : List (Told K D)) (first last : Option (StateFacts K L D)) → IsSoundIn term_length first → WhileAlive (SoundlyAway term_length replies) first last → WhileAlive (DroppedForGood replies) first last
   for_good replies first None sound away = tt
   for_good replies None (Some y) sound away = absurd away
   for_good replies (Some x) (Some y) sound away = λ v is. (let gone = (away sound).1.dropped v is in gone.3.views v gone.1)
@@ -114,7 +114,7 @@ module _ {K L D : Type 0} (same : D → D → Bool) (elect : Elect L) (term_leng
   life_drops_for_good start steps told m end calls replies begins fresh of_run =
       for_good replies m.life end.life (life_sound start steps told m end calls replies begins fresh of_run) (life_away same elect term_length begins.some m end calls replies of_run.life)
 
-  stay_in : (replies : List (Told K D)) (first last : Option (Facts K L D)) → WhileAlive (Keeps replies) first last → WhileAlive (ConflictsStay replies) first last
+  stay_in : (replies : List (Told K D)) (first last : Option (StateFacts K L D)) → WhileAlive (Keeps replies) first last → WhileAlive (ConflictsStay replies) first last
   stay_in replies first None keeps = tt
   stay_in replies None (Some y) keeps = absurd keeps
   stay_in replies (Some x) (Some y) keeps = keeps.conflicts

@@ -6,7 +6,7 @@ use Rattle.std.specs.List.{slice_index_or}
 use Rattle.std.specs.List.Sorted.{IsNonDecreasingBy}
 use Rattle.std.proofs.lemmas.Bool.{leb-true}
 use Rattle.simplex_types.specs.declared.types.fault.Fault.TheVariants as fault
-use Rattle.simplex_voter.specs.Facts.{Facts, Elect}
+use Rattle.simplex_voter.specs.Facts.{StateFacts, Elect}
 use Rattle.simplex_voter.proofs.Gaps.{and_parts}
 use Rattle.simplex_member.specs.Calls.{CallFacts, Told, Refused, Restarted}
 use Rattle.simplex_member.specs.Entries.{entry_view}
@@ -20,13 +20,13 @@ use Rattle.simplex_laws.proofs.lists.Splits.{Contains-cases}
 
 module _ {K L D : Type 0} (same : D → D → Bool) (elect : Elect L) where
   -- what is told, where no growth is refused and each restart finds its record in order
-  abbrev pub reply_then : Option (Facts K L D) → MemberFacts K L D → StepFacts K L D → Told K D
+  abbrev pub reply_then : Option (StateFacts K L D) → MemberFacts K L D → StepFacts K L D → Told K D
   reply_then life m (Restarts r) = Restarted
   reply_then None m (Calls call) = Refused fault.Failed
   reply_then (Some x) m (Calls call) = reply_of same elect x m.openings call
 
   -- and what is left
-  abbrev pub next_then : Option (Facts K L D) → MemberFacts K L D → StepFacts K L D → MemberFacts K L D
+  abbrev pub next_then : Option (StateFacts K L D) → MemberFacts K L D → StepFacts K L D → MemberFacts K L D
   next_then life m (Restarts r) = new_life same elect (cut_member m r.drop r.prune) r.start (cut_member m r.drop r.prune).entries
   next_then None m (Calls call) = m
   next_then (Some x) m (Calls call) = left_of same elect x m call
@@ -49,7 +49,7 @@ module _ {K L D : Type 0} (same : D → D → Bool) (elect : Elect L) where
       × Fits (next_then m.life m (Restarts r)) steps
   Fits m (Calls call ∷ steps) = Fits (next_then m.life m (Calls call)) steps
 
-  call_answered : (life : Option (Facts K L D)) (m : MemberFacts K L D) (call : CallFacts D) → AnswersAlive same elect life m call (reply_then life m (Calls call)) (next_then life m (Calls call))
+  call_answered : (life : Option (StateFacts K L D)) (m : MemberFacts K L D) (call : CallFacts D) → AnswersAlive same elect life m call (reply_then life m (Calls call)) (next_then life m (Calls call))
   call_answered None m call = (refl, refl)
   call_answered (Some x) m call = inl (refl, refl)
 

@@ -7,7 +7,7 @@ use Rattle.simplex_types.specs.Config.{FloorFacts, Genesis, Finalized}
 use Rattle.simplex_types.specs.declared.types.messages.Proposal.{Proposal}
 use Rattle.simplex_types.specs.declared.types.messages.Subject.TheVariants as subject
 use Rattle.simplex_types.specs.declared.types.numbers.Round.{Round}
-use Rattle.simplex_voter.specs.Facts.{Facts}
+use Rattle.simplex_voter.specs.Facts.{StateFacts}
 use Rattle.simplex_voter.specs.Refusals.{has_late_deadline}
 use Rattle.simplex_member.specs.declared.member.error.RecoverError.{RecoverError}
 use Rattle.simplex_member.specs.declared.member.error.RecoverError.TheVariants as error
@@ -75,7 +75,7 @@ module _ {D : Type 0} (same : D → D → Bool) (epoch : ℕ) (me : Option ℕ) 
 
 module _ {K L D : Type 0} (same : D → D → Bool) (term_length : ℕ) (deeds : List (Deed D)) (lawful : IsLawful term_length deeds) where
   -- a vote to notarize names an earlier view, and behind one to finalize stands a notarization
-  pub parent_accepted : (x : Facts K L D) (floor : FloorFacts D) (now : ℕ) (entries : List (ArtifactFacts D))
+  pub parent_accepted : (x : StateFacts K L D) (floor : FloorFacts D) (now : ℕ) (entries : List (ArtifactFacts D))
       → ((p : Proposal D) (m : ℕ) → Contains entries (NotarizeVote p m) → HasSigned deeds (subject.Notarize p))
       → ((p : Proposal D) (m : ℕ) → Contains entries (FinalizeVote p m) → HasSigned deeds (subject.Finalize p))
       → recover_error same x floor now entries ≡ Some error.ParentNotBelow

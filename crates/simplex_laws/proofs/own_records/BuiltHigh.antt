@@ -8,7 +8,7 @@ use Rattle.simplex_types.specs.Certificates.{ProposalFacts, Notarized, Nullified
 use Rattle.simplex_types.specs.Config.{FloorFacts, Genesis, Finalized as FinalizedFloor}
 use Rattle.simplex_types.specs.declared.types.messages.Context.{Context}
 use Rattle.simplex_types.specs.declared.types.messages.Proposal.{Proposal}
-use Rattle.simplex_voter.specs.Facts.{Facts, Elect}
+use Rattle.simplex_voter.specs.Facts.{StateFacts, Elect}
 use Rattle.simplex_voter.specs.Refusals.{is_too_large, names_too_large, has_late_deadline}
 use Rattle.simplex_voter.specs.Windows.{min_active}
 use Rattle.simplex_voter.specs.Acceptance.{after_set_floor}
@@ -63,7 +63,7 @@ module _ {K D : Type 0} (Q : Proposal D → Type 0) where
 
 -- calls
 
-module _ {K L D : Type 0} (past : List (StepFacts K L D)) (x : Facts K L D) (o : Openings K D) (placed : ArePlaced o) where
+module _ {K L D : Type 0} (past : List (StepFacts K L D)) (x : StateFacts K L D) (o : Openings K D) (placed : ArePlaced o) where
   abbrev now_past : CallFacts D → List (StepFacts K L D)
   now_past call = past ++ Calls call ∷ []
 
@@ -127,7 +127,7 @@ module _ {K L D : Type 0} (past : List (StepFacts K L D)) (x : Facts K L D) (o :
   call_brings _ none = (brings_nothing (IsBuilt (now_past _)) refl refl refl refl (λ d other moment says. absurd (cc)), tt)
 
 module _ {K L D : Type 0} (same : D → D → Bool) (decides : (d e : D) → same d e ≡ true → d ≡ e) (elect : Elect L) where
-  pub call_held : (past : List (StepFacts K L D)) (x : Facts K L D) (o : Openings K D) (call : CallFacts D) → ArePlaced o → is_allowed x o call ≡ true → fault_of x call ≡ None → AllHeld (IsBuilt past) x → AllHeld (IsBuilt (past ++ Calls call ∷ [])) (after_call same elect x o call)
+  pub call_held : (past : List (StepFacts K L D)) (x : StateFacts K L D) (o : Openings K D) (call : CallFacts D) → ArePlaced o → is_allowed x o call ≡ true → fault_of x call ≡ None → AllHeld (IsBuilt past) x → AllHeld (IsBuilt (past ++ Calls call ∷ [])) (after_call same elect x o call)
   call_held past x o call placed allowed none all =
       let Q : Proposal D → Type 0 = IsBuilt (past ++ Calls call ∷ []) in
       let before : AllHeld Q x = λ v p is. built_still past (Calls call ∷ []) p (all v p is) in
@@ -178,7 +178,7 @@ module _ {D : Type 0} where
 
 module _ {K L D : Type 0} (same : D → D → Bool) where
   -- a floor and a record that are taken name no view that is too large
-  pub taken_small : (x : Facts K L D) (floor : FloorFacts D) (now : ℕ) (entries : List (ArtifactFacts D)) → recover_error same x floor now entries ≡ None → (is_floor_too_large floor ≡ false) × AllSmall entries
+  pub taken_small : (x : StateFacts K L D) (floor : FloorFacts D) (now : ℕ) (entries : List (ArtifactFacts D)) → recover_error same x floor now entries ≡ None → (is_floor_too_large floor ≡ false) × AllSmall entries
   unfolding first_recover_error
   taken_small x floor now entries none =
       let whole = (first_none (first_recover_error same x.settings.epoch x.me floor entries) (if has_late_deadline x now then Some error.TimeOverflow else None) none).0 in
@@ -189,10 +189,10 @@ module _ {K L D : Type 0} (same : D → D → Bool) (decides : (d e : D) → sam
   abbrev Q : Proposal D → Type 0
   Q = IsBuilt past
 
-  by_event : (x : Facts K L D) (e : Event K D) → Brings Q e → AllHeld Q x → AllHeld Q (after_event same elect x e)
+  by_event : (x : StateFacts K L D) (e : Event K D) → Brings Q e → AllHeld Q x → AllHeld Q (after_event same elect x e)
   by_event x e brings all = event_held same decides elect Q x e brings all
 
-  floor_held : (x : Facts K L D) (floor : FloorFacts D) → is_floor_too_large floor ≡ false → AllHeld Q x → AllHeld Q (after_set_floor same elect x floor now)
+  floor_held : (x : StateFacts K L D) (floor : FloorFacts D) → is_floor_too_large floor ≡ false → AllHeld Q x → AllHeld Q (after_set_floor same elect x floor now)
   floor_held x (Genesis payload) small all = by_event x (SetFloor (Genesis payload) now) (brings_nothing Q refl refl refl refl (λ d other moment says. absurd (cc))) all
   floor_held x (FinalizedFloor c) small all = by_event x (SetFloor (FinalizedFloor c) now) (record {
     notarized = λ d says. absurd (cc);
@@ -202,7 +202,7 @@ module _ {K L D : Type 0} (same : D → D → Bool) (decides : (d e : D) → sam
     built = λ d other moment says. absurd (cc);
   }) all
 
-  replayed_held : (x : Facts K L D) (e : ArtifactFacts D) → entry_too_large e ≡ false → AllHeld Q x → AllHeld Q (after_replaying same elect x e)
+  replayed_held : (x : StateFacts K L D) (e : ArtifactFacts D) → entry_too_large e ≡ false → AllHeld Q x → AllHeld Q (after_replaying same elect x e)
   replayed_held x (NotarizeVote p m) small all = by_event x (Replay (NotarizeVote p m)) (record {
     notarized = λ d says. absurd (cc);
     finalized = λ d says. absurd (cc);
@@ -215,7 +215,7 @@ module _ {K L D : Type 0} (same : D → D → Bool) (decides : (d e : D) → sam
   replayed_held x (Verdict round success) small all = by_event x (Replay (Verdict round success)) (brings_nothing Q refl refl refl refl (λ d other moment says. absurd (cc))) all
   replayed_held x (Accepted c) small all = by_event x (Replay (Accepted c)) (brings_nothing Q refl refl refl refl (λ d other moment says. absurd (cc))) all
 
-  retaken_held : (x : Facts K L D) (e : ArtifactFacts D) → entry_too_large e ≡ false → AllHeld Q x → AllHeld Q (after_entry same elect x now e)
+  retaken_held : (x : StateFacts K L D) (e : ArtifactFacts D) → entry_too_large e ≡ false → AllHeld Q x → AllHeld Q (after_entry same elect x now e)
   retaken_held x (NotarizeVote p m) small all = replayed_held x (NotarizeVote p m) small all
   retaken_held x (NullifyVote round m) small all = replayed_held x (NullifyVote round m) small all
   retaken_held x (FinalizeVote p m) small all = replayed_held x (FinalizeVote p m) small all
@@ -242,7 +242,7 @@ module _ {K L D : Type 0} (same : D → D → Bool) (decides : (d e : D) → sam
         built = λ d other moment says. absurd (cc);
       }) all)
 
-  all_taken_held : (x : Facts K L D) (entries : List (ArtifactFacts D)) → AllSmall entries → AllHeld Q x → AllHeld Q (after_entries same elect x now entries)
+  all_taken_held : (x : StateFacts K L D) (entries : List (ArtifactFacts D)) → AllSmall entries → AllHeld Q x → AllHeld Q (after_entries same elect x now entries)
   unfolding after_kept_entry
   all_taken_held x [] small all = all
   all_taken_held x (e ∷ rest) small all =

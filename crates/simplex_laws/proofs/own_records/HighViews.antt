@@ -9,7 +9,7 @@ use Rattle.simplex_types.specs.Config.{FloorFacts, Genesis, Finalized as Finaliz
 use Rattle.simplex_types.specs.declared.types.messages.Subject.TheVariants as subject
 use Rattle.simplex_types.specs.declared.types.messages.Proposal.{Proposal}
 use Rattle.simplex_types.specs.declared.types.numbers.Round.{Round}
-use Rattle.simplex_voter.specs.Facts.{Facts}
+use Rattle.simplex_voter.specs.Facts.{StateFacts}
 use Rattle.simplex_voter.specs.Refusals.{is_too_large, names_too_large, has_late_deadline}
 use Rattle.simplex_member.specs.declared.member.error.RecoverError.{RecoverError}
 use Rattle.simplex_member.specs.declared.member.error.RecoverError.TheVariants as error
@@ -107,7 +107,7 @@ module _ {D : Type 0} (term_length : ℕ) (deeds : List (Deed D)) (lawful : IsLa
       fine (is_too_large round.view) (subst (λ v. is_too_large v ≡ false) c.2 parts.0) large
   too_large_voted (Accepted c) h large = fine (subject_too_large (subject_of c)) (certificate_small c h) large
 
-  pub view_voted : {K L : Type 0} (same : D → D → Bool) (x : Facts K L D) (floor : FloorFacts D) (now : ℕ) → recover_error same x floor now entries ≡ Some error.ViewTooLarge → (is_floor_too_large floor ≡ true) ⊎ HasHighVote deeds
+  pub view_voted : {K L : Type 0} (same : D → D → Bool) (x : StateFacts K L D) (floor : FloorFacts D) (now : ℕ) → recover_error same x floor now entries ≡ Some error.ViewTooLarge → (is_floor_too_large floor ≡ true) ⊎ HasHighVote deeds
   unfolding first_recover_error
   view_voted same x floor now is = elim (from_either (first_recover_error same x.settings.epoch x.me floor entries) (if has_late_deadline x now then Some error.TimeOverflow else None) error.ViewTooLarge is) [
     | inr late ↦ absurd (late_elsewhere (has_late_deadline x now) late)

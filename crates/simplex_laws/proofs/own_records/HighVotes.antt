@@ -11,7 +11,7 @@ use Rattle.simplex_types.specs.declared.types.fault.Fault.{Fault}
 use Rattle.simplex_types.specs.declared.types.messages.Proposal.{Proposal}
 use Rattle.simplex_types.specs.declared.types.messages.Subject.{Subject}
 use Rattle.simplex_types.specs.declared.types.messages.Subject.TheVariants as subject
-use Rattle.simplex_voter.specs.Facts.{Facts, Elect, round_of}
+use Rattle.simplex_voter.specs.Facts.{StateFacts, Elect, round_of}
 use Rattle.simplex_member.specs.declared.member.error.RecoverError.{RecoverError}
 use Rattle.simplex_member.specs.declared.member.error.RecoverError.TheVariants as error
 use Rattle.simplex_member.specs.Allowed.{is_allowed, fault_of}
@@ -37,7 +37,7 @@ use Rattle.simplex_laws.proofs.lists.Signed.{signed_cases}
 use Rattle.simplex_laws.proofs.own_records.SmallViews.{small_both, floor_small, steps_small}
 
 -- while the member lives, what its state holds of such a view was built in these steps
-abbrev HoldsBuilt : {K L D : Type 0} → List (StepFacts K L D) → Option (Facts K L D) → Type 0
+abbrev HoldsBuilt : {K L D : Type 0} → List (StepFacts K L D) → Option (StateFacts K L D) → Type 0
 HoldsBuilt past None = Unit {0}
 HoldsBuilt past (Some x) = AllHeld (IsBuilt past) x
 
@@ -76,7 +76,7 @@ none_finalized (Some h) vote i j p about is = absurd (cc)
 
 module _ {K L D : Type 0} (same : D → D → Bool) (elect : Elect L) where
   -- a vote to notarize is for what is held
-  noted_held : (x : Facts K L D) (call : CallFacts D) (told : Told K D) (i : ℕ) (p : Proposal D) → ExactAt same elect (Some x) (Calls call) told → Contains (signed_in told) (Signs i (subject.Notarize p)) → (v : ℕ) × ((round_of x v).slot.held ≡ Some p)
+  noted_held : (x : StateFacts K L D) (call : CallFacts D) (told : Told K D) (i : ℕ) (p : Proposal D) → ExactAt same elect (Some x) (Calls call) told → Contains (signed_in told) (Signs i (subject.Notarize p)) → (v : ℕ) × ((round_of x v).slot.held ≡ Some p)
   noted_held x (calls.ConstructNotarize v) told i p exact h = (let so = (exact.only (Signs i (subject.Notarize p)) h).1 in (v, held_voted (held_proposal x v) so.1 i so.0 p so.3 so.4))
   noted_held x (calls.ConstructFinalize v) told i p exact h = (let so = (exact.only (Signs i (subject.Notarize p)) h).1 in absurd (none_finalized (held_proposal x v) so.1 i so.0 p so.3 so.4))
   noted_held x (calls.ConstructNullify v) told i p exact h = (let so = (exact.only (Signs i (subject.Notarize p)) h).1 in absurd (cc))
@@ -87,14 +87,14 @@ module _ {K L D : Type 0} where
   restart_signs_none r (Ok done) i vote h = elim (Contains-append_cases (of_floor r.start.floor) [] (Signs i vote) h) [ inl of_start ↦ floor_signs_none r.start.floor i vote of_start | inr none ↦ absurd (omega (arith, none.1)) ]
   restart_signs_none r (Err e) i vote h = absurd (omega (arith, h.1))
 
-  holds_still : (past more : List (StepFacts K L D)) (life : Option (Facts K L D)) → HoldsBuilt past life → HoldsBuilt (past ++ more) life
+  holds_still : (past more : List (StepFacts K L D)) (life : Option (StateFacts K L D)) → HoldsBuilt past life → HoldsBuilt (past ++ more) life
   holds_still past more None holds = tt
   holds_still past more (Some x) holds = λ v p is. built_still past more p (holds v p is)
 
 module _ {K L D : Type 0} (same : D → D → Bool) (decides : (d e : D) → same d e ≡ true → d ≡ e) (elect : Elect L) (term_length : ℕ) (past : List (StepFacts K L D)) (deeds : List (Deed D)) (m : MemberFacts K L D) (own : KeepsRecord term_length deeds m) (votes : VotesBuilt past deeds m) where
   -- a call
 
-  answered : (call : CallFacts D) (x : Facts K L D) → m.life ≡ Some x → HoldsBuilt (past ++ Calls call ∷ []) (left_of same elect x m call).life
+  answered : (call : CallFacts D) (x : StateFacts K L D) → m.life ≡ Some x → HoldsBuilt (past ++ Calls call ∷ []) (left_of same elect x m call).life
   answered call x alive = by_allowed (is_allowed x m.openings call) refl
     where
       as_before : HoldsBuilt (past ++ Calls call ∷ []) m.life
@@ -114,13 +114,13 @@ module _ {K L D : Type 0} (same : D → D → Bool) (decides : (d e : D) → sam
   unfolding IsCall
   call_holds call told next is_call = by_life m.life refl is_call
     where
-      by_life : (o : Option (Facts K L D)) → m.life ≡ o → AnswersAlive same elect o m call told next → HoldsBuilt (past ++ Calls call ∷ []) next.life
+      by_life : (o : Option (StateFacts K L D)) → m.life ≡ o → AnswersAlive same elect o m call told next → HoldsBuilt (past ++ Calls call ∷ []) next.life
       by_life None dead (tells, leaves) = rw leaves (holds_still past (Calls call ∷ []) m.life votes.holds)
       by_life (Some x) alive (inl (tells, leaves)) = rw leaves (answered call x alive)
       by_life (Some x) alive (inr (wants, tells, inl leaves)) = rw leaves (holds_still past (Calls call ∷ []) m.life votes.holds)
       by_life (Some x) alive (inr (wants, tells, inr (no_fault, falls, leaves))) = rw leaves tt
 
-  new_vote : (call : CallFacts D) (told : Told K D) (i : ℕ) (p : Proposal D) (o : Option (Facts K L D)) → HoldsBuilt past o → ExactAt same elect o (Calls call) told → Contains (signed_in told) (Signs i (subject.Notarize p)) → IsBuilt past p
+  new_vote : (call : CallFacts D) (told : Told K D) (i : ℕ) (p : Proposal D) (o : Option (StateFacts K L D)) → HoldsBuilt past o → ExactAt same elect o (Calls call) told → Contains (signed_in told) (Signs i (subject.Notarize p)) → IsBuilt past p
   new_vote call told i p None holds exact h = absurd (let none = subst (λ ds. Contains ds (Signs i (subject.Notarize p))) exact h in omega (arith, none.1))
   new_vote call told i p (Some x) holds exact h = let found = noted_held same elect x call told i p exact h in holds found.0 p found.1
 

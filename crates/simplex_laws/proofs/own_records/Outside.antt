@@ -4,7 +4,7 @@ use Rattle.std.proofs.Common.{◌≡◌, refl, sym, ◌∙◌, subst, ℕ, ◌�
 use Rattle.std.proofs.lemmas.Bool.{false≢true}
 use Rattle.simplex_types.specs.Certificates.{ArtifactFacts, NotarizeVote, NullifyVote, FinalizeVote, Verdict, Accepted}
 use Rattle.simplex_types.specs.Config.{FloorFacts, Genesis, Finalized}
-use Rattle.simplex_voter.specs.Facts.{Facts}
+use Rattle.simplex_voter.specs.Facts.{StateFacts}
 use Rattle.simplex_voter.specs.Refusals.{has_late_deadline}
 use Rattle.simplex_member.specs.declared.member.error.RecoverError.{RecoverError}
 use Rattle.simplex_member.specs.declared.member.error.RecoverError.TheVariants as error
@@ -77,7 +77,7 @@ late_outside : (b : Bool) (found : RecoverError) → (if b then Some error.TimeO
 late_outside true found is = let same : error.TimeOverflow ≡ found = cc in subst IsFromOutside same tt
 late_outside false found is = absurd (cc)
 
-module _ {K L D : Type 0} (same : D → D → Bool) (x : Facts K L D) (floor : FloorFacts D) (now : ℕ) where
+module _ {K L D : Type 0} (same : D → D → Bool) (x : StateFacts K L D) (floor : FloorFacts D) (now : ℕ) where
   -- no state is made only for what comes from outside
   pub error_outside : (entries : List (ArtifactFacts D)) (found : RecoverError) → Fit same [] entries → recover_error same x floor now entries ≡ Some found → IsFromOutside found
   unfolding first_recover_error

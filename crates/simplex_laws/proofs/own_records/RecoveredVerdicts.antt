@@ -11,7 +11,7 @@ use Rattle.simplex_types.specs.Config.{FloorFacts}
 use Rattle.simplex_types.specs.declared.types.numbers.Round.{Round}
 use Rattle.simplex_types.specs.declared.types.window.Terms.{Terms}
 use Rattle.simplex_round.specs.Round.{RoundFacts, certified_round, is_judged}
-use Rattle.simplex_voter.specs.Facts.{Settings, Facts, Elect, new_facts, round_of}
+use Rattle.simplex_voter.specs.Facts.{Settings, StateFacts, Elect, new_facts, round_of}
 use Rattle.simplex_voter.specs.Windows.{min_active}
 use Rattle.simplex_voter.specs.Acceptance.{after_add_notarization, after_add_nullification, after_add_finalization, after_set_floor}
 use Rattle.simplex_member.specs.Entries.{entry_view}
@@ -31,12 +31,12 @@ use Rattle.simplex_laws.proofs.own_records.Verdicts.{Shows, judged_so, event_sho
 
 -- in the midst of a recovery: the state shows the entries that were taken, and what is kept begins at the base, or else no
 -- higher than the last entry
-pub record Recovers {K L D : Type 0} (base top : ℕ) (done : List (ArtifactFacts D)) (x : Facts K L D) : Type 0 where
+pub record Recovers {K L D : Type 0} (base top : ℕ) (done : List (ArtifactFacts D)) (x : StateFacts K L D) : Type 0 where
   pub shows : Shows done x
   pub reached : base ≤ min_active x
   pub within : min_active x ≤ max base top
 
-module _ {K L D : Type 0} (same : D → D → Bool) (elect : Elect L) (base top : ℕ) (done : List (ArtifactFacts D)) (x : Facts K L D) (recovers : Recovers base top done x) (e : Event K D) (v : ℕ) (over : top ≤ v) (within : finalized_by_event e ≤ v) (handles : (v token : ℕ) → e ≡ event.SetCertifyHandle v token → IsEvent x e) where
+module _ {K L D : Type 0} (same : D → D → Bool) (elect : Elect L) (base top : ℕ) (done : List (ArtifactFacts D)) (x : StateFacts K L D) (recovers : Recovers base top done x) (e : Event K D) (v : ℕ) (over : top ≤ v) (within : finalized_by_event e ≤ v) (handles : (v token : ℕ) → e ≡ event.SetCertifyHandle v token → IsEvent x e) where
   -- an event of a view that is no lower
   pub more_recovers : (more : List (ArtifactFacts D)) → Shows more (after_event same elect x e) → Recovers base v more (after_event same elect x e)
   more_recovers more shows =
@@ -61,7 +61,7 @@ module _ {K L D : Type 0} (same : D → D → Bool) (elect : Elect L) (base top 
       more_recovers done
       (event_shows same elect x e handles done done (λ c is. absurd (cc)) (λ round given success h is. absurd (cc)) (λ a h. h) (λ c is none. absurd (cc)) (λ round success h. inl h) recovers.shows)
 
-module _ {K L D : Type 0} (same : D → D → Bool) (elect : Elect L) (now base top : ℕ) (done : List (ArtifactFacts D)) (x : Facts K L D) (recovers : Recovers base top done x) where
+module _ {K L D : Type 0} (same : D → D → Bool) (elect : Elect L) (now base top : ℕ) (done : List (ArtifactFacts D)) (x : StateFacts K L D) (recovers : Recovers base top done x) where
   -- an entry that is taken again; those of its verdict's view agree with it
   retaken_recovers : (e : ArtifactFacts D) → top ≤ entry_view e → min_active x ≤ entry_view e → ((round other : Round) (success given : Bool) → e ≡ Verdict round success → Contains done (Verdict other given) → other.view ≡ round.view → given ≡ success) → Recovers base (entry_view e) (done ++ e ∷ []) (after_entry same elect x now e)
   retaken_recovers (NotarizeVote p m) over kept agree =
@@ -126,21 +126,21 @@ abbrev pub above : {D : Type 0} → ℕ → List (ArtifactFacts D) → List (Art
 above base entries = filter (λ e. nat_le base (entry_view e)) entries
 
 -- where a recovery ends: the state shows the entries, and what it keeps begins no lower than the base
-pub record Recovered {K L D : Type 0} (base : ℕ) (entries : List (ArtifactFacts D)) (x : Facts K L D) : Type 0 where
+pub record Recovered {K L D : Type 0} (base : ℕ) (entries : List (ArtifactFacts D)) (x : StateFacts K L D) : Type 0 where
   pub shows : Shows entries x
   pub reached : base ≤ min_active x
 
 module _ {K L D : Type 0} (same : D → D → Bool) (elect : Elect L) (now base : ℕ) (copy : List (ArtifactFacts D)) (one_verdict : (round other : Round) (success given : Bool) → Contains copy (Verdict round success) → Contains copy (Verdict other given) → round.view ≡ other.view → success ≡ given) where
-  passed_over : (x : Facts K L D) (e : ArtifactFacts D) → nat_lt (entry_view e) (min_active x) ≡ true → after_kept_entry same elect x now e ≡ x
+  passed_over : (x : StateFacts K L D) (e : ArtifactFacts D) → nat_lt (entry_view e) (min_active x) ≡ true → after_kept_entry same elect x now e ≡ x
   unfolding after_kept_entry
   passed_over x e is = rw is refl
 
-  taken_again : (x : Facts K L D) (e : ArtifactFacts D) → nat_lt (entry_view e) (min_active x) ≡ false → after_kept_entry same elect x now e ≡ after_entry same elect x now e
+  taken_again : (x : StateFacts K L D) (e : ArtifactFacts D) → nat_lt (entry_view e) (min_active x) ≡ false → after_kept_entry same elect x now e ≡ after_entry same elect x now e
   unfolding after_kept_entry
   taken_again x e is = rw is refl
 
   -- the rest of a record by rising views
-  all_recover : (rest done : List (ArtifactFacts D)) (top : ℕ) (x : Facts K L D) → Recovers base top done x → Rises top rest → ((e : ArtifactFacts D) → Contains done e → Contains copy e) → ((e : ArtifactFacts D) → Contains rest e → Contains copy e) → Recovered base (done ++ above base rest) (after_entries same elect x now rest)
+  all_recover : (rest done : List (ArtifactFacts D)) (top : ℕ) (x : StateFacts K L D) → Recovers base top done x → Rises top rest → ((e : ArtifactFacts D) → Contains done e → Contains copy e) → ((e : ArtifactFacts D) → Contains rest e → Contains copy e) → Recovered base (done ++ above base rest) (after_entries same elect x now rest)
   all_recover [] done top x recovers rises known coming = record { shows = subst (λ es. Shows es x) (sym (append-nil done)) recovers.shows; reached = recovers.reached }
   all_recover (e ∷ rest) done top x recovers rises known coming = elim (cases_Bool (nat_lt (entry_view e) (min_active x))) [
     | inl passed ↦
@@ -158,7 +158,7 @@ module _ {K L D : Type 0} (same : D → D → Bool) (elect : Elect L) (now base 
         rw (taken_again x e kept, stays) (subst (λ es. Recovered base es (after_entries same elect (after_entry same elect x now e) now rest)) (append_assoc done (e ∷ []) (above base rest)) ends))
   ]
 
-module _ {K L D : Type 0} (base : ℕ) (copy : List (ArtifactFacts D)) (x : Facts K L D) where
+module _ {K L D : Type 0} (base : ℕ) (copy : List (ArtifactFacts D)) (x : StateFacts K L D) where
   -- what stands below the base is neither kept nor held notarized
   whole_shown : Recovered base (above base copy) x → Shows copy x
   whole_shown ends = record {
@@ -177,7 +177,7 @@ module _ {K L D : Type 0} (base : ℕ) (copy : List (ArtifactFacts D)) (x : Fact
           absurd (omega (arith, below, stays, c.2))
 
 module _ {K L D : Type 0} (same : D → D → Bool) (elect : Elect L) (settings : Settings) (me : Option ℕ) (members : List K) (elector : L) (terms : Terms) (early : Bool) where
-  abbrev pub fresh : Facts K L D
+  abbrev pub fresh : StateFacts K L D
   fresh = new_facts settings me members elector terms early
 
   pub recovered_shows : (copy : List (ArtifactFacts D)) (floor : FloorFacts D) (now : ℕ) → IsNonDecreasingBy entry_view copy → ((round other : Round) (success given : Bool) → Contains copy (Verdict round success) → Contains copy (Verdict other given) → round.view ≡ other.view → success ≡ given) → Shows copy (recovered_state same elect fresh floor now copy)

@@ -7,7 +7,7 @@ use Rattle.std.proofs.lemmas.List.{append-nil, take-append-drop}
 use Rattle.simplex_types.specs.Certificates.{Notarized, Finalized, ArtifactFacts, Verdict, Accepted}
 use Rattle.simplex_types.specs.Config.{FloorFacts, Genesis, Finalized as FinalizedFloor}
 use Rattle.simplex_types.specs.declared.types.fault.Fault.{Fault}
-use Rattle.simplex_voter.specs.Facts.{Facts, Elect}
+use Rattle.simplex_voter.specs.Facts.{StateFacts, Elect}
 use Rattle.simplex_member.specs.declared.member.error.RecoverError.{RecoverError}
 use Rattle.simplex_member.specs.declared.member.error.RecoverError.TheVariants as error
 use Rattle.simplex_member.specs.Allowed.{is_allowed, fault_of}
@@ -39,7 +39,7 @@ use Rattle.simplex_laws.proofs.own_records.Verdicts.{Shows}
 use Rattle.simplex_laws.proofs.own_records.EntriesFit.{record_fits}
 
 -- a member's record keeps its verdicts in order, and while it lives its state shows them
-abbrev pub TellsOn : {K L D : Type 0} → List (Deed D) → List (ArtifactFacts D) → Option (Facts K L D) → Type 0
+abbrev pub TellsOn : {K L D : Type 0} → List (Deed D) → List (ArtifactFacts D) → Option (StateFacts K L D) → Type 0
 TellsOn deeds entries None = OwnRecord deeds entries
 TellsOn deeds entries (Some x) = Tells deeds entries x
 
@@ -75,7 +75,7 @@ module _ {D : Type 0} where
       by_record false is = rw is (Accepted (Finalized c) ∷ [], refl, λ round success h. (let e = only_one (Accepted (Finalized c)) (Verdict round success) h in cc))
 
 module _ {K L D : Type 0} where
-  own_of : (deeds : List (Deed D)) (entries : List (ArtifactFacts D)) (life : Option (Facts K L D)) → TellsOn deeds entries life → OwnRecord deeds entries
+  own_of : (deeds : List (Deed D)) (entries : List (ArtifactFacts D)) (life : Option (StateFacts K L D)) → TellsOn deeds entries life → OwnRecord deeds entries
   own_of deeds entries None own = own
   own_of deeds entries (Some x) tells = tells.own
 
@@ -89,7 +89,7 @@ module _ {K L D : Type 0} where
       pruned_own deeds (without_last m.closed n m.entries) m.retention (own_left deeds m.entries own (without_last m.closed n m.entries) left.0 left.1)
 
   -- the same entries, and the floor's finalization besides
-  shows_whole : (entries copy : List (ArtifactFacts D)) (floor : FloorFacts D) (x : Facts K L D) → ((v : ℕ) → filter (λ e. entry_view e == v) copy ≡ filter (λ e. entry_view e == v) entries) → Shows copy x → Shows (with_floor entries floor) x
+  shows_whole : (entries copy : List (ArtifactFacts D)) (floor : FloorFacts D) (x : StateFacts K L D) → ((v : ℕ) → filter (λ e. entry_view e == v) copy ≡ filter (λ e. entry_view e == v) entries) → Shows copy x → Shows (with_floor entries floor) x
   shows_whole entries copy floor x by_view shows =
       let into = same_entries copy entries by_view in
       let back = same_entries entries copy (λ v. sym (by_view v)) in
@@ -103,7 +103,7 @@ module _ {K L D : Type 0} where
 module _ {K L D : Type 0} (same : D → D → Bool) (elect : Elect L) (term_length : ℕ) (deeds : List (Deed D)) (m : MemberFacts K L D) where
   -- a call
 
-  answered : (call : CallFacts D) (x : Facts K L D) → m.life ≡ Some x → MemberTells deeds m → MemberTells (deeds ++ deeds_of_call call (reply_of same elect x m.openings call)) (left_of same elect x m call)
+  answered : (call : CallFacts D) (x : StateFacts K L D) → m.life ≡ Some x → MemberTells deeds m → MemberTells (deeds ++ deeds_of_call call (reply_of same elect x m.openings call)) (left_of same elect x m call)
   answered call x alive tells = by_allowed (is_allowed x m.openings call) refl
     where
       by_fault : (o : Option Fault) → fault_of x call ≡ o → is_allowed x m.openings call ≡ true → MemberTells (deeds ++ deeds_of_call call (reply_of same elect x m.openings call)) (left_of same elect x m call)
@@ -118,7 +118,7 @@ module _ {K L D : Type 0} (same : D → D → Bool) (elect : Elect L) (term_leng
   unfolding IsCall
   call_tells_on call told left tells is_call = by_life m.life refl is_call
     where
-      by_life : (o : Option (Facts K L D)) → m.life ≡ o → AnswersAlive same elect o m call told left → MemberTells (deeds ++ deeds_of_call call told) left
+      by_life : (o : Option (StateFacts K L D)) → m.life ≡ o → AnswersAlive same elect o m call told left → MemberTells (deeds ++ deeds_of_call call told) left
       by_life None dead (tell, leaves) = rw (tell, leaves) (untold deeds m tells)
       by_life (Some x) alive (inl (tell, leaves)) = rw (tell, leaves) (answered call x alive tells)
       by_life (Some x) alive (inr (_, tell, inl leaves)) = rw (tell, leaves) (untold deeds m tells)

@@ -9,7 +9,7 @@ use Rattle.simplex_types.specs.Certificates.{ProposalFacts, Notarized, Nullified
 use Rattle.simplex_types.specs.declared.types.messages.Proposal.{Proposal}
 use Rattle.simplex_types.specs.declared.types.numbers.Round.{Round}
 use Rattle.simplex_round.specs.Round.{RoundFacts, new_round, is_judged}
-use Rattle.simplex_voter.specs.Facts.{Facts, Elect, round_at, round_of, round_number, is_tracked}
+use Rattle.simplex_voter.specs.Facts.{StateFacts, Elect, round_at, round_of, round_number, is_tracked}
 use Rattle.simplex_voter.specs.Refusals.{is_started}
 use Rattle.simplex_voter.specs.Entering.{at_moment}
 use Rattle.simplex_voter.specs.Certification.{after_certified, takes_verdict, is_first_verdict}
@@ -31,7 +31,7 @@ use Rattle.simplex_laws.proofs.frames.Steps.{notarization_by, verdict_by}
 use Rattle.simplex_laws.proofs.own_records.Verdicts.{Shows, given_so, event_shows, verdict_stands}
 
 module _ {K L D : Type 0} (entries : List (ArtifactFacts D)) where
-  pub shows_more : (new : List (ArtifactFacts D)) (x : Facts K L D) → HasNoVerdict new → Shows entries x → Shows (entries ++ new) x
+  pub shows_more : (new : List (ArtifactFacts D)) (x : StateFacts K L D) → HasNoVerdict new → Shows entries x → Shows (entries ++ new) x
   shows_more new x silent shows = record {
     notarized = λ v is. (let c = shows.notarized v is in (c.0, Contains-append_left entries new (Accepted (Notarized c.0)) c.1, c.2));
     judged = λ round success h known. elim (Contains-append_cases entries new (Verdict round success) h) [
@@ -42,7 +42,7 @@ module _ {K L D : Type 0} (entries : List (ArtifactFacts D)) where
 
 -- what a verdict that is taken in has to be beside
 
-module _ {K L D : Type 0} (x : Facts K L D) (v : ℕ) (success : Bool) where
+module _ {K L D : Type 0} (x : StateFacts K L D) (v : ℕ) (success : Bool) where
   taken_beside : is_tracked x v ≡ true → takes_verdict x v success ≡ true → (is_some (round_of x v).notarization ≡ true) × (is_judged (not success) (round_of x v).certification ≡ false)
   taken_beside tracked takes = by_round (round_at x v) tracked (and_parts (is_started x) _ takes).1
     where
@@ -58,11 +58,11 @@ module _ {K L D : Type 0} (x : Facts K L D) (v : ℕ) (success : Bool) where
       by_round (Some r) none = absurd (false≢true (sym none))
 
 -- the record's verdicts stay in order, and the state shows them
-pub record Tells {K L D : Type 0} (deeds : List (Deed D)) (entries : List (ArtifactFacts D)) (x : Facts K L D) : Type 0 where
+pub record Tells {K L D : Type 0} (deeds : List (Deed D)) (entries : List (ArtifactFacts D)) (x : StateFacts K L D) : Type 0 where
   pub own : OwnRecord deeds entries
   pub shows : Shows entries x
 
-module _ {K L D : Type 0} (same : D → D → Bool) (elect : Elect L) (deeds : List (Deed D)) (entries : List (ArtifactFacts D)) (x : Facts K L D) (tells : Tells deeds entries x) where
+module _ {K L D : Type 0} (same : D → D → Bool) (elect : Elect L) (deeds : List (Deed D)) (entries : List (ArtifactFacts D)) (x : StateFacts K L D) (tells : Tells deeds entries x) where
   -- an event that brings neither notarization nor verdict, where none is recorded
   pub quiet_shows : (new : List (ArtifactFacts D)) (e : Event K D) → IsEvent x e → notarization_by e ≡ None → verdict_by e ≡ None → HasNoVerdict new → Shows (entries ++ new) (after_event same elect x e)
   quiet_shows new e takes no_notarization no_judgement silent =
@@ -129,7 +129,7 @@ module _ {K L D : Type 0} (same : D → D → Bool) (elect : Elect L) (deeds : L
           let later = untracked_later x v success untracked in
           rw (later, untracked) (record { own = own_quiet deeds entries tells.own more [] quiet_none; shows = shows_more entries [] (at_moment x now) (no_verdict [] quiet_none) (record { notarized = tells.shows.notarized; judged = tells.shows.judged }) })
 
-module _ {K L D : Type 0} (same : D → D → Bool) (elect : Elect L) (deeds : List (Deed D)) (entries : List (ArtifactFacts D)) (x : Facts K L D) (tells : Tells deeds entries x) where
+module _ {K L D : Type 0} (same : D → D → Bool) (elect : Elect L) (deeds : List (Deed D)) (entries : List (ArtifactFacts D)) (x : StateFacts K L D) (tells : Tells deeds entries x) where
   quiet_nullify : (v : ℕ) → AreQuiet (first_vote (nullify_vote x v))
   quiet_nullify v = by_key x.me (nullify_answer x v)
     where

@@ -8,7 +8,7 @@ use Rattle.simplex_types.specs.Config.{FloorFacts, Genesis, Finalized}
 use Rattle.simplex_types.specs.declared.types.fault.Fault.{Fault}
 use Rattle.simplex_types.specs.declared.types.messages.Subject.{Subject}
 use Rattle.simplex_types.specs.declared.types.messages.Subject.TheVariants as subject
-use Rattle.simplex_voter.specs.Facts.{Facts, Elect}
+use Rattle.simplex_voter.specs.Facts.{StateFacts, Elect}
 use Rattle.simplex_voter.specs.Refusals.{first_fault, is_too_large, names_too_large, has_late_deadline}
 use Rattle.simplex_member.specs.declared.member.error.RecoverError.{RecoverError}
 use Rattle.simplex_member.specs.declared.member.error.RecoverError.TheVariants as error
@@ -71,7 +71,7 @@ module _ {D : Type 0} (same : D → D → Bool) where
   floor_kept epoch (Genesis payload) is = small_none
   floor_kept epoch (Finalized c) is = small_one (subject.Finalize c.proposal) (third_holds _ _ (names_too_large c.proposal) is)
 
-  pub floor_small : {K L : Type 0} (x : Facts K L D) (floor : FloorFacts D) (now : ℕ) (entries : List (ArtifactFacts D)) → recover_error same x floor now entries ≡ None → AreSmall (of_floor floor)
+  pub floor_small : {K L : Type 0} (x : StateFacts K L D) (floor : FloorFacts D) (now : ℕ) (entries : List (ArtifactFacts D)) → recover_error same x floor now entries ≡ None → AreSmall (of_floor floor)
   unfolding first_recover_error
   floor_small x floor now entries none =
       let record_none = (first_none (first_recover_error same x.settings.epoch x.me floor entries) (if has_late_deadline x now then Some error.TimeOverflow else None) none).0 in
@@ -85,7 +85,7 @@ no_fault false true late is = absurd (cc)
 no_fault false false late is = refl
 
 module _ {K L D : Type 0} where
-  handed_small : (x : Facts K L D) (call : CallFacts D) → fault_of x call ≡ None → AreSmall (handed_in call)
+  handed_small : (x : StateFacts K L D) (call : CallFacts D) → fault_of x call ≡ None → AreSmall (handed_in call)
   handed_small x (AddNotarization c) none = small_one (subject.Notarize c.proposal) (no_fault x.failed (names_too_large c.proposal) false none)
   handed_small x (AddNullification c now) none = small_one (subject.Nullify c.round) (no_fault x.failed (is_too_large c.round.view) _ none)
   handed_small x (AddFinalization c now) none = small_one (subject.Finalize c.proposal) (no_fault x.failed (names_too_large c.proposal) _ none)
@@ -104,7 +104,7 @@ module _ {K D : Type 0} where
   signed_small _ = small_none
 
 module _ {K L D : Type 0} (same : D → D → Bool) (elect : Elect L) where
-  replied_small : (x : Facts K L D) (m : MemberFacts K L D) (call : CallFacts D) → AreSmall (deeds_of_call call (reply_of same elect x m.openings call))
+  replied_small : (x : StateFacts K L D) (m : MemberFacts K L D) (call : CallFacts D) → AreSmall (deeds_of_call call (reply_of same elect x m.openings call))
   replied_small x m call = by_allowed (is_allowed x m.openings call) (fault_of x call) refl
     where
       by_allowed : (b : Bool) (f : Option Fault) → fault_of x call ≡ f → AreSmall (deeds_of_call call (if b then unless_refused f (answer same elect x m.openings call) else calls.NotAllowed))
@@ -118,7 +118,7 @@ module _ {K L D : Type 0} (same : D → D → Bool) (elect : Elect L) where
   unfolding IsCall
   call_small m next call told is_call = by_life m.life is_call
     where
-      by_life : (o : Option (Facts K L D)) → AnswersAlive same elect o m call told next → AreSmall (deeds_of_call call told)
+      by_life : (o : Option (StateFacts K L D)) → AnswersAlive same elect o m call told next → AreSmall (deeds_of_call call told)
       by_life None (tells, leaves) = rw tells small_none
       by_life (Some x) (inl (tells, leaves)) = rw tells (replied_small x m call)
       by_life (Some x) (inr (wants, tells, leaves)) = rw tells small_none

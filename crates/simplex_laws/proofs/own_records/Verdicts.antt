@@ -7,7 +7,7 @@ use Rattle.simplex_types.specs.declared.types.numbers.Round.{Round}
 use Rattle.simplex_round.specs.declared.round.Certification.{Certification}
 use Rattle.simplex_round.specs.declared.round.Certification.TheVariants as certification
 use Rattle.simplex_round.specs.Round.{RoundFacts, new_round, is_judged, after_abort}
-use Rattle.simplex_voter.specs.Facts.{Facts, Elect, round_at, round_of, round_number, is_tracked}
+use Rattle.simplex_voter.specs.Facts.{StateFacts, Elect, round_at, round_of, round_number, is_tracked}
 use Rattle.simplex_voter.specs.Windows.{min_active}
 use Rattle.simplex_voter.specs.Entering.{at_moment}
 use Rattle.simplex_voter.specs.Certification.{with_verdict, verdict_taken, after_certified}
@@ -23,7 +23,7 @@ use Rattle.simplex_laws.proofs.frames.Steps.{RoundStep, notarization_by, verdict
 
 -- a notarization that is held stands in the record, and a verdict in the record stands in each view that is kept or holds its
 -- notarization
-pub record Shows {K L D : Type 0} (entries : List (ArtifactFacts D)) (x : Facts K L D) : Type 0 where
+pub record Shows {K L D : Type 0} (entries : List (ArtifactFacts D)) (x : StateFacts K L D) : Type 0 where
   pub notarized : (v : ℕ) → is_some (round_of x v).notarization ≡ true → (c : ProposalFacts D) × Contains entries (Accepted (Notarized c)) × (c.proposal.round.view ≡ v)
   pub judged : (round : Round) (success : Bool) → Contains entries (Verdict round success) → (min_active x ≤ round.view) ⊎ (is_some (round_of x round.view).notarization ≡ true) → is_judged success (round_of x round.view).certification ≡ true
 
@@ -49,7 +49,7 @@ pub record Weighs {K D : Type 0} (e : Event K D) (v : ℕ) (r s : RoundFacts K D
   pub notarized : is_some s.notarization ≡ true → (is_some r.notarization ≡ true) ⊎ ((c : ProposalFacts D) × (notarization_by e ≡ Some c) × (c.proposal.round.view ≡ v))
   pub judged : (given : Bool) → is_judged given r.certification ≡ true → (is_judged given s.certification ≡ true) ⊎ ((success : Bool) × (verdict_by e ≡ Some (v, success)) × (is_judged success s.certification ≡ true))
 
-module _ {K L D : Type 0} (same : D → D → Bool) (elect : Elect L) (x : Facts K L D) (e : Event K D) (handles : (v token : ℕ) → e ≡ event.SetCertifyHandle v token → IsEvent x e) where
+module _ {K L D : Type 0} (same : D → D → Bool) (elect : Elect L) (x : StateFacts K L D) (e : Event K D) (handles : (v token : ℕ) → e ≡ event.SetCertifyHandle v token → IsEvent x e) where
   weighs_on : (v : ℕ) (r s t : RoundFacts K D) → Weighs e v r s → Weighs e v s t → Weighs e v r t
   weighs_on v r s t p q = record {
     notarized = λ is. elim (q.notarized is) [ inl before ↦ p.notarized before | inr new ↦ inr new ];
@@ -59,7 +59,7 @@ module _ {K L D : Type 0} (same : D → D → Bool) (elect : Elect L) (x : Facts
     ];
   }
 
-  weighs : (y : Facts K L D) (v : ℕ) (r s : RoundFacts K D) → RoundStep same elect x e y v r s → Weighs e v r s
+  weighs : (y : StateFacts K L D) (v : ℕ) (r s : RoundFacts K D) → RoundStep same elect x e y v r s → Weighs e v r s
   weighs y v r s (step.Notarized c says at none) = record { notarized = λ is. inr (c, says, at); judged = λ given is. inl is }
   weighs y v r s (step.Judged success says fits) = record { notarized = λ is. inl is; judged = λ given is. inr (success, says, judged_so success) }
   weighs y v r s (step.Certifying token says fits) = record { notarized = λ is. inl is; judged = λ given is. absurd (false≢true (sym (fits (handles v token says) given) ∙ is)) }
@@ -73,7 +73,7 @@ module _ {K L D : Type 0} (same : D → D → Bool) (elect : Elect L) (x : Facts
   pub event_shows : (entries more : List (ArtifactFacts D)) → ((c : ProposalFacts D) → notarization_by e ≡ Some c → min_active x ≤ c.proposal.round.view) → ((round : Round) (given success : Bool) → Contains entries (Verdict round given) → verdict_by e ≡ Some (round.view, success) → given ≡ success) → ((a : ArtifactFacts D) → Contains entries a → Contains more a) → ((c : ProposalFacts D) → notarization_by e ≡ Some c → is_some (round_of x c.proposal.round.view).notarization ≡ false → Contains more (Accepted (Notarized c))) → ((round : Round) (success : Bool) → Contains more (Verdict round success) → Contains entries (Verdict round success) ⊎ (is_judged success (round_of (after_event same elect x e) round.view).certification ≡ true)) → Shows entries x → Shows more (after_event same elect x e)
   event_shows entries more kept agree keeps noted given shows = record { notarized = notarized; judged = judged }
     where
-      y : Facts K L D
+      y : StateFacts K L D
       y = after_event same elect x e
 
       nothing : (v : ℕ) → round_at y v ≡ None → is_some (round_of y v).notarization ≡ false
@@ -114,7 +114,7 @@ module _ {K L D : Type 0} (same : D → D → Bool) (elect : Elect L) (x : Facts
       judged : (round : Round) (success : Bool) → Contains more (Verdict round success) → (min_active y ≤ round.view) ⊎ (is_some (round_of y round.view).notarization ≡ true) → is_judged success (round_of y round.view).certification ≡ true
       judged round success h known = elim (given round success h) [ inl before ↦ stays round success before known | inr stands ↦ stands ]
 
-module _ {K L D : Type 0} (same : D → D → Bool) (elect : Elect L) (x : Facts K L D) where
+module _ {K L D : Type 0} (same : D → D → Bool) (elect : Elect L) (x : StateFacts K L D) where
   -- a verdict that is given for a tracked view stands then
   pub verdict_stands : (v : ℕ) (success : Bool) (now : ℕ) → is_tracked x v ≡ true → is_judged success (round_of (after_certified elect x v success now) v).certification ≡ true
   verdict_stands v success now tracked =

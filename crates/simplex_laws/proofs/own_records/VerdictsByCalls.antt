@@ -4,7 +4,7 @@
 use Rattle.std.proofs.Common.{unwrap_or, ◌++◌, ◌≡◌, refl, ap, sym, subst, ℕ, List, [], ◌∷◌, Bool, true, false, Option, Some, None, is_some}
 use Rattle.std.proofs.lemmas.Bool.{false≢true}
 use Rattle.simplex_types.specs.declared.types.messages.Proposal.{Proposal}
-use Rattle.simplex_voter.specs.Facts.{Facts, Elect}
+use Rattle.simplex_voter.specs.Facts.{StateFacts, Elect}
 use Rattle.std.specs.Prelude.{option_map, option_and_then}
 use Rattle.simplex_types.specs.Certificates.{ArtifactFacts, NotarizeVote, Verdict}
 use Rattle.simplex_types.specs.declared.types.messages.Subject.TheVariants as subject
@@ -24,9 +24,9 @@ use Rattle.simplex_laws.proofs.frames.CallsMake.{AreSilent, work_silent, call_by
 use Rattle.simplex_laws.proofs.own_records.ShownVerdicts.{Tells, shows_more, quiet_shows, plain_told}
 use Rattle.simplex_laws.proofs.own_records.Verdicts.{Shows}
 
-module _ {K L D : Type 0} (same : D → D → Bool) (elect : Elect L) (deeds : List (Deed D)) (entries : List (ArtifactFacts D)) (x : Facts K L D) (o : Openings K D) (tells : Tells deeds entries x) where
+module _ {K L D : Type 0} (same : D → D → Bool) (elect : Elect L) (deeds : List (Deed D)) (entries : List (ArtifactFacts D)) (x : StateFacts K L D) (o : Openings K D) (tells : Tells deeds entries x) where
   -- what is shown after a call, whatever it records but a verdict
-  abbrev pub Left : Facts K L D → Type 0
+  abbrev pub Left : StateFacts K L D → Type 0
   Left y = (new : List (ArtifactFacts D)) → HasNoVerdict new → Shows (entries ++ new) y
 
   work_left : (call : CallFacts D) → is_work call ≡ true → is_allowed x o call ≡ true → Left (after_call same elect x o call)

@@ -7,7 +7,7 @@ use Rattle.simplex_types.specs.Certificates.{ArtifactFacts, NotarizeVote, Nullif
 use Rattle.simplex_types.specs.declared.types.messages.Proposal.{Proposal}
 use Rattle.simplex_types.specs.declared.types.messages.Subject.TheVariants as subject
 use Rattle.simplex_round.specs.Slot.{is_unequivocated}
-use Rattle.simplex_voter.specs.Facts.{Facts, Elect, round_of}
+use Rattle.simplex_voter.specs.Facts.{StateFacts, Elect, round_of}
 use Rattle.simplex_voter.specs.Rules.{may_notarize}
 use Rattle.simplex_voter.specs.Votes.{after_construct_notarize}
 use Rattle.simplex_voter.proofs.Gaps.{and_parts}
@@ -46,7 +46,7 @@ grows_notarize deeds entries p m = record {
   judged = λ before after q n split. absurd (let e = single_split before after (NotarizeVote p m) (FinalizeVote q n) split in cc);
 }
 
-module _ {K L D : Type 0} (same : D → D → Bool) (elect : Elect L) (x : Facts K L D) (o : Openings K D) where
+module _ {K L D : Type 0} (same : D → D → Bool) (elect : Elect L) (x : StateFacts K L D) (o : Openings K D) where
   -- a call on the work of a view that is no vote to notarize is no deed, and records nothing
   pub silent_deeds : (call : CallFacts D) → is_silent call ≡ true → deeds_of_call call (answer same elect x o call) ≡ []
   silent_deeds (ConstructNotarize v) silent = absurd (false≢true silent)
@@ -78,9 +78,9 @@ module _ {K L D : Type 0} (same : D → D → Bool) (elect : Elect L) (x : Facts
   silent_record Prune silent = absurd (false≢true silent)
   silent_record _ silent = refl
 
-module _ {K L D : Type 0} (same : D → D → Bool) (decides : (d e : D) → same d e ≡ true → d ≡ e) (elect : Elect L) (term_length : ℕ) (some : 0 < term_length) (deeds : List (Deed D)) (closed kept : ℕ) (entries : List (ArtifactFacts D)) (o : Openings K D) (x : Facts K L D) (living : Living term_length deeds closed kept entries o x) where
+module _ {K L D : Type 0} (same : D → D → Bool) (decides : (d e : D) → same d e ≡ true → d ≡ e) (elect : Elect L) (term_length : ℕ) (some : 0 < term_length) (deeds : List (Deed D)) (closed kept : ℕ) (entries : List (ArtifactFacts D)) (o : Openings K D) (x : StateFacts K L D) (living : Living term_length deeds closed kept entries o x) where
   -- with no deed and nothing recorded
-  nothing_done : (next : Openings K D) (y : Facts K L D) → Living term_length deeds closed kept entries next y → Living term_length (deeds ++ []) closed kept (entries ++ []) next y
+  nothing_done : (next : Openings K D) (y : StateFacts K L D) → Living term_length deeds closed kept entries next y → Living term_length (deeds ++ []) closed kept (entries ++ []) next y
   nothing_done next y lives = subst (λ a. Living term_length a closed kept (entries ++ []) next y) (sym (append-nil deeds)) (subst (λ es. Living term_length deeds closed kept es next y) (sym (append-nil entries)) lives)
 
   -- what stands of the votes and what the record shows, after a call on the work of a view

@@ -9,7 +9,7 @@ use Rattle.simplex_types.specs.declared.types.messages.Proposal.{Proposal}
 use Rattle.simplex_types.specs.declared.types.messages.Subject.TheVariants as subject
 use Rattle.simplex_types.specs.declared.types.numbers.Round.{Round}
 use Rattle.simplex_round.specs.Round.{RoundFacts, new_round, is_judged, is_certified, is_nullify}
-use Rattle.simplex_voter.specs.Facts.{Facts, Elect, round_at, round_of, round_number, is_tracked}
+use Rattle.simplex_voter.specs.Facts.{StateFacts, Elect, round_at, round_of, round_number, is_tracked}
 use Rattle.simplex_voter.specs.Refusals.{is_started}
 use Rattle.simplex_voter.specs.Rules.{may_nullify, may_finalize}
 use Rattle.simplex_voter.specs.Entering.{at_moment}
@@ -36,7 +36,7 @@ use Rattle.simplex_laws.specs.Events.{Event, after_event}
 use Rattle.simplex_laws.proofs.records.Remembering.{remembers_more, grows_nothing, grows_verdict, grows_certificate, grows_again, grows_nullify, grows_finalize}
 
 -- the record remembers the deeds, and what the state's facts show
-pub record Follows {K L D : Type 0} (deeds : List (Deed D)) (kept : ℕ) (entries : List (ArtifactFacts D)) (x : Facts K L D) : Type 0 where
+pub record Follows {K L D : Type 0} (deeds : List (Deed D)) (kept : ℕ) (entries : List (ArtifactFacts D)) (x : StateFacts K L D) : Type 0 where
   pub remembers : Remembers deeds kept entries
   pub marked : Marked entries x
 
@@ -46,7 +46,7 @@ judged_true true b no_other no_first = refl
 judged_true false true no_other no_first = absurd (false≢true no_other)
 judged_true false false no_other no_first = absurd (false≢true (sym no_first))
 
-module _ {K L D : Type 0} (x : Facts K L D) (v : ℕ) where
+module _ {K L D : Type 0} (x : StateFacts K L D) (v : ℕ) where
   standing_verdict : is_tracked x v ≡ true → takes_verdict x v true ≡ true → is_first_verdict x v ≡ false → is_certified (round_of x v).certification ≡ true
   standing_verdict tracked takes no_first = by_round (round_at x v) tracked (and_parts (is_started x) _ takes).1 no_first
     where
@@ -54,8 +54,8 @@ module _ {K L D : Type 0} (x : Facts K L D) (v : ℕ) where
       by_round None some takes no_first = absurd (false≢true some)
       by_round (Some r) some takes no_first = judged_true (is_judged true r.certification) (is_judged false r.certification) (and_parts (is_some r.notarization) (not (is_judged false r.certification)) takes).1 no_first
 
-module _ {K L D : Type 0} (same : D → D → Bool) (elect : Elect L) (term_length : ℕ) (deeds : List (Deed D)) (kept : ℕ) (entries : List (ArtifactFacts D)) (x : Facts K L D) (stays : Stays term_length deeds x) (follows : Follows deeds kept entries x) where
-  nothing_follows : (y : Facts K L D) → Marked entries y → Follows (deeds ++ []) kept (entries ++ []) y
+module _ {K L D : Type 0} (same : D → D → Bool) (elect : Elect L) (term_length : ℕ) (deeds : List (Deed D)) (kept : ℕ) (entries : List (ArtifactFacts D)) (x : StateFacts K L D) (stays : Stays term_length deeds x) (follows : Follows deeds kept entries x) where
+  nothing_follows : (y : StateFacts K L D) → Marked entries y → Follows (deeds ++ []) kept (entries ++ []) y
   nothing_follows y marked = record { remembers = remembers_more deeds entries kept [] [] (grows_nothing deeds entries) follows.remembers; marked = marked_more entries [] y marked }
 
   -- an event that gives no verdict and decides no vote to nullify shows no more

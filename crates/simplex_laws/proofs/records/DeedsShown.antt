@@ -8,7 +8,7 @@ use Rattle.simplex_types.specs.declared.types.messages.Proposal.{Proposal}
 use Rattle.simplex_types.specs.declared.types.messages.Subject.{Subject}
 use Rattle.simplex_types.specs.declared.types.messages.Subject.TheVariants as subject
 use Rattle.simplex_types.specs.declared.types.numbers.Round.{Round}
-use Rattle.simplex_voter.specs.Facts.{Facts, Elect}
+use Rattle.simplex_voter.specs.Facts.{StateFacts, Elect}
 use Rattle.simplex_member.specs.Recovery.{after_kept_entry, after_entries}
 use Rattle.simplex_laws.specs.Deeds.{Deed, Accepts, Signs}
 use Rattle.simplex_laws.specs.Lawful.{HasSigned, IsLawful}
@@ -87,7 +87,7 @@ module _ {D : Type 0} where
     | inr later ↦ Contains-append_right (entry_deeds f) (entries_deeds rest) deed (deed_of rest e deed later shows)
   ]
 
-module _ {K L D : Type 0} (term_length : ℕ) (a b : List (Deed D)) (x : Facts K L D) where
+module _ {K L D : Type 0} (term_length : ℕ) (a b : List (Deed D)) (x : StateFacts K L D) where
   -- the same facts show other deeds, with no more votes above the finalized view and no fewer certificates
   pub stays_over : ((s : Subject D) → Contains a (Accepts s) → Contains b (Accepts s)) → ((round : Round) → HasSigned b (subject.Nullify round) → (1 ≤ round.view) × (HasSigned a (subject.Nullify round) ⊎ (round.view ≤ x.finalized))) → ((p : Proposal D) → HasSigned b (subject.Finalize p) → HasSigned a (subject.Finalize p) ⊎ (p.round.view ≤ x.finalized)) → Stays term_length a x → Stays term_length b x
   stays_over accepts nullifies finalizes stays = record {
@@ -143,7 +143,7 @@ module _ {D : Type 0} (term_length : ℕ) (deeds : List (Deed D)) (lawful : IsLa
   )
 
 module _ {K L D : Type 0} (same : D → D → Bool) (decides : (d e : D) → same d e ≡ true → d ≡ e) (elect : Elect L) (term_length : ℕ) (deeds : List (Deed D)) (lawful : IsLawful term_length deeds) (kept : ℕ) (copy : List (ArtifactFacts D)) (remembers : Remembers deeds kept copy) (now : ℕ) where
-  pub all_stay : (rest before : List (ArtifactFacts D)) (a : List (Deed D)) (x : Facts K L D) → copy ≡ before ++ rest → AreRecorded deeds a → ((round : Round) → Contains before (Verdict round true) → round.view < x.current) → Stays term_length a x → Stays term_length (a ++ entries_deeds rest) (after_entries same elect x now rest)
+  pub all_stay : (rest before : List (ArtifactFacts D)) (a : List (Deed D)) (x : StateFacts K L D) → copy ≡ before ++ rest → AreRecorded deeds a → ((round : Round) → Contains before (Verdict round true) → round.view < x.current) → Stays term_length a x → Stays term_length (a ++ entries_deeds rest) (after_entries same elect x now rest)
   all_stay [] before a x split recorded passed stays = subst (λ b. Stays term_length b x) (sym (append-nil a)) stays
   all_stay (e ∷ rest) before a x split recorded passed stays =
       let y = after_kept_entry same elect x now e in

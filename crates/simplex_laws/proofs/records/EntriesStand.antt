@@ -10,7 +10,7 @@ use Rattle.simplex_types.specs.declared.types.messages.Subject.TheVariants as su
 use Rattle.simplex_types.specs.declared.types.numbers.Round.{Round}
 use Rattle.simplex_round.specs.declared.round.Decision.TheVariants as decision
 use Rattle.simplex_round.specs.Round.{RoundFacts, is_nullify, is_finalize, certified_round}
-use Rattle.simplex_voter.specs.Facts.{Facts, Elect, round_of, with_round}
+use Rattle.simplex_voter.specs.Facts.{StateFacts, Elect, round_of, with_round}
 use Rattle.simplex_voter.specs.Windows.{min_active}
 use Rattle.simplex_voter.specs.Certification.{after_certified}
 use Rattle.simplex_member.specs.Entries.{entry_view}
@@ -27,23 +27,23 @@ use Rattle.simplex_laws.proofs.votes.Standing.{Stays, stands_later}
 use Rattle.simplex_laws.proofs.votes.StandingCalls.{certified_passes, certified_suits, notarization_stays, nullification_stays, finalization_stays}
 use Rattle.simplex_laws.proofs.votes.StandingSteps.{Suits, plain_suits, event_stands, event_stays, stays_on}
 
-module _ {K L D : Type 0} (same : D → D → Bool) (elect : Elect L) (x : Facts K L D) (now : ℕ) where
+module _ {K L D : Type 0} (same : D → D → Bool) (elect : Elect L) (x : StateFacts K L D) (now : ℕ) where
   -- neither the current view nor the finalized one falls
 
-  pub taken_if : (P : Facts K L D → Type 0) (e : ArtifactFacts D) → P x → P (after_entry same elect x now e) → P (after_kept_entry same elect x now e)
+  pub taken_if : (P : StateFacts K L D → Type 0) (e : ArtifactFacts D) → P x → P (after_entry same elect x now e) → P (after_kept_entry same elect x now e)
   unfolding after_kept_entry
   taken_if P e still again = elim (nat_lt (entry_view e) (min_active x)) as (λ b. P (if b then x else after_entry same elect x now e)) [ true ↦ still | false ↦ again ]
 
-  pub taken_keeps : (P : Facts K L D → Type 0) → ((y : Facts K L D) (e : Event K D) → P y → P (after_event same elect y e)) → (e : ArtifactFacts D) → P x → P (after_kept_entry same elect x now e)
+  pub taken_keeps : (P : StateFacts K L D → Type 0) → ((y : StateFacts K L D) (e : Event K D) → P y → P (after_event same elect y e)) → (e : ArtifactFacts D) → P x → P (after_kept_entry same elect x now e)
   taken_keeps P keeps e holds = taken_if P e holds (retaken_keeps same elect P keeps now x e holds)
 
   pub taken_rises : (e : ArtifactFacts D) → x.current ≤ (after_kept_entry same elect x now e).current
   taken_rises e = taken_keeps (λ y. x.current ≤ y.current) (λ y f p. omega (arith, p, (event_goes same elect y f).current)) e (omega arith)
 
-module _ {K L D : Type 0} (same : D → D → Bool) (decides : (d e : D) → same d e ≡ true → d ≡ e) (elect : Elect L) (term_length : ℕ) (deeds : List (Deed D)) (x : Facts K L D) (now : ℕ) where
+module _ {K L D : Type 0} (same : D → D → Bool) (decides : (d e : D) → same d e ≡ true → d ≡ e) (elect : Elect L) (term_length : ℕ) (deeds : List (Deed D)) (x : StateFacts K L D) (now : ℕ) where
   -- a verdict that is taken again is given after it is replayed
 
-  abbrev again : ℕ → Bool → Facts K L D
+  abbrev again : ℕ → Bool → StateFacts K L D
   again v success = with_round x v (certified_round (round_of x v) success)
 
   verdict_again_passes : (v : ℕ) → v < (after_certified elect (again v true) v true now).current
@@ -65,7 +65,7 @@ module _ {K L D : Type 0} (same : D → D → Bool) (decides : (d e : D) → sam
 
     -- a certificate is added before it is replayed
 
-    replayed_stays : (a : List (Deed D)) (c : CertificateFacts D) (y : Facts K L D) → Stays term_length a y → Stays term_length a (after_event same elect y (event.Replay (Accepted c)))
+    replayed_stays : (a : List (Deed D)) (c : CertificateFacts D) (y : StateFacts K L D) → Stays term_length a y → Stays term_length a (after_event same elect y (event.Replay (Accepted c)))
     replayed_stays a c y keeps = stays_on same decides elect term_length a y (event.Replay (Accepted c)) (plain_suits a _ y (event.Replay (Accepted c)) refl refl refl refl (λ w says. absurd (cc))) keeps
 
     retaken_stays : (e : ArtifactFacts D) → MayRetake deeds x.current e → Stays term_length (deeds ++ entry_deeds e) (after_entry same elect x now e)
@@ -75,7 +75,7 @@ module _ {K L D : Type 0} (same : D → D → Bool) (decides : (d e : D) → sam
     retaken_stays (NullifyVote round m) may =
         let v = round.view in
         let e : Event K D = event.Replay (NullifyVote round m) in
-        let y : Facts K L D = record x { nullify_votes = insert_key nat_cmp x.nullify_votes v } in
+        let y : StateFacts K L D = record x { nullify_votes = insert_key nat_cmp x.nullify_votes v } in
         let r : RoundFacts K D = record (round_of y v) { decision = decision.Nullify None } in
         let z = with_round y v r in
         let suits : Suits deeds z.current x e = record {

@@ -9,7 +9,7 @@ use Rattle.simplex_types.specs.declared.types.messages.Subject.{Subject}
 use Rattle.simplex_types.specs.declared.types.messages.Subject.TheVariants as subject
 use Rattle.simplex_types.specs.declared.types.numbers.Round.{Round}
 use Rattle.simplex_round.specs.Round.{is_nullify, is_finalize}
-use Rattle.simplex_voter.specs.Facts.{Facts, round_of}
+use Rattle.simplex_voter.specs.Facts.{StateFacts, round_of}
 use Rattle.simplex_member.specs.Entries.{entry_view}
 use Rattle.simplex_laws.specs.Deeds.{Deed, Accepts, Signs}
 use Rattle.simplex_laws.specs.Lawful.{HasSigned}
@@ -37,7 +37,7 @@ MayRetake {D} deeds current (NullifyVote round _) = (1 ≤ round.view) × ((p : 
 MayRetake deeds current (FinalizeVote p _) = (p.round.view < current) × ((round : Round) → HasSigned deeds (subject.Nullify round) → round.view ≢ p.round.view)
 MayRetake deeds current _ = ⊤
 
-module _ {K L D : Type 0} (term_length : ℕ) (deeds : List (Deed D)) (x : Facts K L D) (stays : Stays term_length deeds x) where
+module _ {K L D : Type 0} (term_length : ℕ) (deeds : List (Deed D)) (x : StateFacts K L D) (stays : Stays term_length deeds x) where
   -- a vote to notarize is cast
   pub notarize_cast_stays : (p : Proposal D) (m : ℕ) → Stays term_length (deeds ++ Signs m (subject.Notarize p) ∷ []) x
   notarize_cast_stays p m =

@@ -10,7 +10,7 @@ use Rattle.simplex_types.specs.Certificates.{ProposalFacts, Nullified, Finalized
 use Rattle.simplex_types.specs.Config.{FloorFacts, Genesis, Finalized as FinalizedFloor}
 use Rattle.simplex_types.specs.declared.types.messages.Subject.TheVariants as subject
 use Rattle.simplex_types.specs.declared.types.window.Terms.{Terms}
-use Rattle.simplex_voter.specs.Facts.{Settings, Facts, Elect, new_facts, round_number}
+use Rattle.simplex_voter.specs.Facts.{Settings, StateFacts, Elect, new_facts, round_number}
 use Rattle.simplex_member.specs.declared.member.error.RecoverError.{RecoverError}
 use Rattle.simplex_member.specs.Allowed.{is_allowed}
 use Rattle.simplex_member.specs.Calls.{CallFacts}
@@ -38,7 +38,7 @@ use Rattle.simplex_laws.proofs.votes.NotarizeVotesByCalls.{call_notes}
 use Rattle.simplex_laws.proofs.records.Lifetimes.{IsHigh, Between, high_known}
 
 -- a living member: its state keeps the rules, and its record follows them
-pub record Living {K L D : Type 0} (term_length : ℕ) (deeds : List (Deed D)) (closed kept : ℕ) (entries : List (ArtifactFacts D)) (o : Openings K D) (x : Facts K L D) : Type 0 where
+pub record Living {K L D : Type 0} (term_length : ℕ) (deeds : List (Deed D)) (closed kept : ℕ) (entries : List (ArtifactFacts D)) (o : Openings K D) (x : StateFacts K L D) : Type 0 where
   pub keeps : KeepsRules term_length deeds x
   pub follows : Follows deeds kept entries x
   pub in_order : InOrder x
@@ -48,7 +48,7 @@ pub record Living {K L D : Type 0} (term_length : ℕ) (deeds : List (Deed D)) (
   pub within : closed ≤ length entries
 
 -- where a life ends the record is left
-pub living_between : {K L D : Type 0} (term_length : ℕ) (deeds : List (Deed D)) (closed kept : ℕ) (entries : List (ArtifactFacts D)) (o : Openings K D) (x : Facts K L D) → Living term_length deeds closed kept entries o x → Between term_length deeds closed kept entries
+pub living_between : {K L D : Type 0} (term_length : ℕ) (deeds : List (Deed D)) (closed kept : ℕ) (entries : List (ArtifactFacts D)) (o : Openings K D) (x : StateFacts K L D) → Living term_length deeds closed kept entries o x → Between term_length deeds closed kept entries
 living_between term_length deeds closed kept entries o x living = record { lawful = living.keeps.lawful; remembers = living.follows.remembers; notes = living.notes; high = living.high; within = living.within }
 
 abbrev pub second_broken : List (Bool × RecoverError) → Bool
@@ -109,7 +109,7 @@ module _ {D : Type 0} where
   within_more closed entries more within = omega (arith, length-append entries more)
 
 module _ {K L D : Type 0} where
-  marked_in : (a b : List (ArtifactFacts D)) (x : Facts K L D) → ((e : ArtifactFacts D) → Contains a e → Contains b e) → Marked a x → Marked b x
+  marked_in : (a b : List (ArtifactFacts D)) (x : StateFacts K L D) → ((e : ArtifactFacts D) → Contains a e → Contains b e) → Marked a x → Marked b x
   marked_in a b x there marked = record {
     certified = λ v is. (let e = marked.certified v is in (e.0, there (Verdict e.0 true) e.1, e.2));
     nullified = λ v is key. (let e = marked.nullified v is key in (e.0, there (NullifyVote (round_number x v) e.0) e.1));
@@ -151,7 +151,7 @@ module _ {K L D : Type 0} (same : D → D → Bool) (decides : (d e : D) → sam
         within = subst (λ es. closed ≤ length es) (sym more.1) (within_more closed entries more.0 between.within);
       }
 
-module _ {K L D : Type 0} (same : D → D → Bool) (decides : (d e : D) → same d e ≡ true → d ≡ e) (elect : Elect L) (term_length : ℕ) (deeds : List (Deed D)) (closed kept : ℕ) (entries : List (ArtifactFacts D)) (x : Facts K L D) where
+module _ {K L D : Type 0} (same : D → D → Bool) (decides : (d e : D) → same d e ≡ true → d ≡ e) (elect : Elect L) (term_length : ℕ) (deeds : List (Deed D)) (closed kept : ℕ) (entries : List (ArtifactFacts D)) (x : StateFacts K L D) where
   -- a call that is allowed and not refused, and not on the work of a view
   pub plain_lives : (o : Openings K D) (call : CallFacts D) → 0 < term_length → is_work call ≡ false → is_allowed x o call ≡ true → Living term_length deeds closed kept entries o x → Living term_length (deeds ++ deeds_of_call call (answer same elect x o call)) closed kept (entries ++ recorded_by same elect x call) (openings_after same elect x o call) (after_call same elect x o call)
   plain_lives o call some plain allowed living = record {

@@ -11,7 +11,7 @@ use Rattle.simplex_types.specs.declared.types.messages.Proposal.{Proposal}
 use Rattle.simplex_types.specs.declared.types.messages.Subject.{Subject}
 use Rattle.simplex_types.specs.declared.types.messages.Subject.TheVariants as subject
 use Rattle.simplex_types.specs.declared.types.numbers.Round.{Round}
-use Rattle.simplex_voter.specs.Facts.{Facts, Elect, round_number}
+use Rattle.simplex_voter.specs.Facts.{StateFacts, Elect, round_number}
 use Rattle.simplex_voter.specs.Votes.{nullify_answer, finalize_answer}
 use Rattle.simplex_voter.specs.Acceptance.{notarization_added, nullification_added, finalization_added}
 use Rattle.simplex_voter.specs.Certification.{is_first_verdict}
@@ -189,7 +189,7 @@ module _ {D : Type 0} where
   finalize_notes_none (Some m) None = notes_nothing
   finalize_notes_none (Some m) (Some q) = notes_accepted (FinalizeVote q m) (λ p n e. absurd (cc))
 
-module _ {K L D : Type 0} (same : D → D → Bool) (elect : Elect L) (x : Facts K L D) (o : Openings K D) where
+module _ {K L D : Type 0} (same : D → D → Bool) (elect : Elect L) (x : StateFacts K L D) (o : Openings K D) where
   -- no call but those on the work of a view casts a vote to notarize, or records one
 
   pub calls_cast_none : (call : CallFacts D) → is_work call ≡ false → CastsNone (deeds_of_call call (answer same elect x o call))

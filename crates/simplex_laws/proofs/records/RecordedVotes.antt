@@ -6,7 +6,7 @@ use Rattle.std.proofs.lemmas.List.Elements.{Contains-append_left}
 use Rattle.simplex_types.specs.Certificates.{ArtifactFacts, NullifyVote, Verdict}
 use Rattle.simplex_types.specs.declared.types.numbers.Round.{Round}
 use Rattle.simplex_round.specs.Round.{RoundFacts, new_round, is_nullify, is_certified}
-use Rattle.simplex_voter.specs.Facts.{Facts, Elect, round_at, round_of, round_number}
+use Rattle.simplex_voter.specs.Facts.{StateFacts, Elect, round_at, round_of, round_number}
 use Rattle.simplex_laws.specs.Events.{Event, after_event}
 use Rattle.simplex_laws.specs.Sums.{is_prune}
 use Rattle.simplex_laws.proofs.frames.EachRound.{IsGone, rounds_or_gone}
@@ -17,7 +17,7 @@ use Rattle.simplex_laws.proofs.frames.Steps as step
 use Rattle.simplex_laws.proofs.frames.Steps.{RoundStep, verdict_by, nullify_by}
 
 -- what is shown is recorded; a vote to nullify, where there is a key
-pub record Marked {K L D : Type 0} (entries : List (ArtifactFacts D)) (x : Facts K L D) : Type 0 where
+pub record Marked {K L D : Type 0} (entries : List (ArtifactFacts D)) (x : StateFacts K L D) : Type 0 where
   pub certified : (v : ℕ) → is_certified (round_of x v).certification ≡ true → (round : Round) × Contains entries (Verdict round true) × (round.view ≡ v)
   pub nullified : (v : ℕ) → is_nullify (round_of x v).decision ≡ true → is_some x.me ≡ true → (m : ℕ) × Contains entries (NullifyVote (round_number x v) m)
 
@@ -26,14 +26,14 @@ pub record Marks {K D : Type 0} (e : Event K D) (v : ℕ) (r s : RoundFacts K D)
   pub certified : is_certified s.certification ≡ true → (is_certified r.certification ≡ true) ⊎ (verdict_by e ≡ Some (v, true))
   pub nullified : is_nullify s.decision ≡ true → (is_nullify r.decision ≡ true) ⊎ (nullify_by e ≡ Some v)
 
-module _ {K L D : Type 0} (same : D → D → Bool) (elect : Elect L) (x : Facts K L D) (e : Event K D) where
+module _ {K L D : Type 0} (same : D → D → Bool) (elect : Elect L) (x : StateFacts K L D) (e : Event K D) where
   marks_on : (v : ℕ) (r s t : RoundFacts K D) → Marks e v r s → Marks e v s t → Marks e v r t
   marks_on v r s t p q = record {
     certified = λ is. elim (q.certified is) [ inl before ↦ p.certified before | inr new ↦ inr new ];
     nullified = λ is. elim (q.nullified is) [ inl before ↦ p.nullified before | inr new ↦ inr new ];
   }
 
-  marks : (y : Facts K L D) (v : ℕ) (r s : RoundFacts K D) → RoundStep same elect x e y v r s → Marks e v r s
+  marks : (y : StateFacts K L D) (v : ℕ) (r s : RoundFacts K D) → RoundStep same elect x e y v r s → Marks e v r s
   marks y v r s (step.Judged true says fits) = record { certified = λ is. inr says; nullified = λ is. inl is }
   marks y v r s (step.Judged false says fits) = record { certified = λ is. absurd (false≢true is); nullified = λ is. inl is }
   marks y v r s (step.Certifying token says fits) = record { certified = λ is. absurd (false≢true is); nullified = λ is. inl is }
@@ -52,7 +52,7 @@ module _ {K L D : Type 0} (same : D → D → Bool) (elect : Elect L) (x : Facts
   pub event_marked : (entries more : List (ArtifactFacts D)) → ((a : ArtifactFacts D) → Contains entries a → Contains more a) → ((v : ℕ) → verdict_by e ≡ Some (v, true) → is_certified (round_of x v).certification ≡ false → is_certified (round_of (after_event same elect x e) v).certification ≡ true → (round : Round) × Contains more (Verdict round true) × (round.view ≡ v)) → ((v : ℕ) → nullify_by e ≡ Some v → is_nullify (round_of x v).decision ≡ false → is_nullify (round_of (after_event same elect x e) v).decision ≡ true → is_some x.me ≡ true → (m : ℕ) × Contains more (NullifyVote (round_number x v) m)) → Marked entries x → Marked more (after_event same elect x e)
   event_marked entries more keeps verdict vote marked = record { certified = certified; nullified = nullified }
     where
-      y : Facts K L D
+      y : StateFacts K L D
       y = after_event same elect x e
 
       no_verdict : (v : ℕ) → round_at y v ≡ None → is_certified (round_of y v).certification ≡ false
@@ -91,7 +91,7 @@ module _ {K L D : Type 0} (same : D → D → Bool) (elect : Elect L) (x : Facts
 -- marks and the record
 
 module _ {K L D : Type 0} where
-  pub marked_more : (entries more : List (ArtifactFacts D)) (x : Facts K L D) → Marked entries x → Marked (entries ++ more) x
+  pub marked_more : (entries more : List (ArtifactFacts D)) (x : StateFacts K L D) → Marked entries x → Marked (entries ++ more) x
   marked_more entries more x marked = record {
     certified = λ v is. (let e = marked.certified v is in (e.0, Contains-append_left entries more (Verdict e.0 true) e.1, e.2));
     nullified = λ v is key. (let e = marked.nullified v is key in (e.0, Contains-append_left entries more (NullifyVote (round_number x v) e.0) e.1));

@@ -16,7 +16,7 @@ use Rattle.simplex_types.specs.declared.types.window.Terms.{Terms}
 use Rattle.simplex_round.specs.declared.round.Decision.TheVariants as decision
 use Rattle.simplex_round.specs.Slot.{SlotFacts, holds_or_empty, after_own}
 use Rattle.simplex_round.specs.Round.{RoundFacts, certified_round}
-use Rattle.simplex_voter.specs.Facts.{Settings, Facts, Elect, new_facts, round_of, with_round}
+use Rattle.simplex_voter.specs.Facts.{Settings, StateFacts, Elect, new_facts, round_of, with_round}
 use Rattle.simplex_voter.specs.Windows.{min_active}
 use Rattle.simplex_voter.specs.Entering.{at_moment, with_view_entered}
 use Rattle.simplex_voter.specs.Leaders.{with_elected_leader, with_next_view_ready}
@@ -43,12 +43,12 @@ pub record RoundRemade {K D : Type 0} (v : ℕ) (r : RoundFacts K D) : Type 0 wh
   pub worked : r.slot.verified ≡ true → r.notarize_decided ≡ true
 
 -- so at each view, and each nullified view has its nullification in the record
-pub record Remade {K L D : Type 0} (copy : List (ArtifactFacts D)) (x : Facts K L D) : Type 0 where
+pub record Remade {K L D : Type 0} (copy : List (ArtifactFacts D)) (x : StateFacts K L D) : Type 0 where
   pub rounds : (v : ℕ) → RoundRemade v (round_of x v)
   pub covered : (u : ℕ) → Contains x.nullified u → (c : NullificationFacts) × Contains copy (Accepted (Nullified c)) × (c.round.view ≡ u)
 
 -- what each entry that is taken again keeps
-pub record Remakes {K L D : Type 0} (copy : List (ArtifactFacts D)) (x y : Facts K L D) : Type 0 where
+pub record Remakes {K L D : Type 0} (copy : List (ArtifactFacts D)) (x y : StateFacts K L D) : Type 0 where
   pub finalized : x.finalized ≤ y.finalized
   pub decided : (v : ℕ) → (round_of x v).notarize_decided ≡ true → (round_of y v).notarize_decided ≡ true
   pub made : Remade copy x → Remade copy y
@@ -119,13 +119,13 @@ module _ {K D : Type 0} where
 -- changes of a state
 
 module _ {K L D : Type 0} (copy : List (ArtifactFacts D)) where
-  remakes_joined : (x y z : Facts K L D) → Remakes copy x y → Remakes copy y z → Remakes copy x z
+  remakes_joined : (x y z : StateFacts K L D) → Remakes copy x y → Remakes copy y z → Remakes copy x z
   remakes_joined x y z p q = record { finalized = omega (arith, p.finalized, q.finalized); decided = λ v is. q.decided v (p.decided v is); made = λ m. q.made (p.made m) }
 
-  remakes_same : (x : Facts K L D) → Remakes copy x x
+  remakes_same : (x : StateFacts K L D) → Remakes copy x x
   remakes_same x = record { finalized = omega arith; decided = λ v is. is; made = λ m. m }
 
-  remakes_calm : (x y : Facts K L D) → CalmOn 0 x y → Remakes copy x y
+  remakes_calm : (x y : StateFacts K L D) → CalmOn 0 x y → Remakes copy x y
   remakes_calm x y left = record {
     finalized = left.finalized;
     decided = λ v. (left.rounds v).grown.decided;
@@ -139,7 +139,7 @@ module _ {K L D : Type 0} (copy : List (ArtifactFacts D)) where
     };
   }
 
-  remakes_put : (x : Facts K L D) (v : ℕ) (r : RoundFacts K D) → r.notarize_decided ≡ true → (RoundRemade v (round_of x v) → RoundRemade v r) → Remakes copy x (with_round x v r)
+  remakes_put : (x : StateFacts K L D) (v : ℕ) (r : RoundFacts K D) → r.notarize_decided ≡ true → (RoundRemade v (round_of x v) → RoundRemade v r) → Remakes copy x (with_round x v r)
   remakes_put x v r voted remade = record {
     finalized = omega arith;
     decided = λ w is. elim (cases_eq w v) [
@@ -155,7 +155,7 @@ module _ {K L D : Type 0} (copy : List (ArtifactFacts D)) where
     };
   }
 
-  remakes_nullified : (x : Facts K L D) (c : NullificationFacts) → Contains copy (Accepted (Nullified c)) → Remakes copy x (nullified_also x c.round.view)
+  remakes_nullified : (x : StateFacts K L D) (c : NullificationFacts) → Contains copy (Accepted (Nullified c)) → Remakes copy x (nullified_also x c.round.view)
   remakes_nullified x c here = record {
     finalized = omega arith;
     decided = λ v is. is;
@@ -168,7 +168,7 @@ module _ {K L D : Type 0} (copy : List (ArtifactFacts D)) where
 -- entries that are taken again
 
 module _ {K L D : Type 0} (same : D → D → Bool) (elect : Elect L) (now : ℕ) (copy : List (ArtifactFacts D)) where
-  module _ (x : Facts K L D) where
+  module _ (x : StateFacts K L D) where
     -- the round of a vote that is taken again
     abbrev own_round_again : Proposal D → RoundFacts K D
     own_round_again p = bound_again (record (round_of x p.round.view) { slot = after_own (same_proposal same) (round_of x p.round.view).slot p; notarize_decided = true }) (option_and_then (restored_binding x) (Some p))
@@ -228,7 +228,7 @@ module _ {K L D : Type 0} (same : D → D → Bool) (elect : Elect L) (now : ℕ
     retaken_remakes (NotarizeVote p m) here = remakes_vote p m
     retaken_remakes (NullifyVote round m) here =
         let v = round.view in
-        let y : Facts K L D = record x { nullify_votes = insert_key nat_cmp x.nullify_votes v } in
+        let y : StateFacts K L D = record x { nullify_votes = insert_key nat_cmp x.nullify_votes v } in
         let r : RoundFacts K D = record (round_of y v) { decision = decision.Nullify None } in
         let same_so_far : CalmOn 0 x y = record { settings = refl; current = omega arith; finalized = omega arith; nullified = refl; above = λ above. above; rounds = λ w. calm w (round_of x w) } in
         remakes_calm copy x (with_round y v r) (on_joined 0 x y (with_round y v r) same_so_far (on_put 0 y v r (omega arith) (calm_alike v (round_of y v) r refl refl refl refl refl)))
@@ -243,14 +243,14 @@ module _ {K L D : Type 0} (same : D → D → Bool) (elect : Elect L) (now : ℕ
 
   -- an entry is taken again, or passed over
 
-  taken_remakes : (x : Facts K L D) (e : ArtifactFacts D) → Contains copy e → Remakes copy x (after_kept_entry same elect x now e)
+  taken_remakes : (x : StateFacts K L D) (e : ArtifactFacts D) → Contains copy e → Remakes copy x (after_kept_entry same elect x now e)
   unfolding after_kept_entry
   taken_remakes x e here = elim (nat_lt (entry_view e) (min_active x)) as (λ b. Remakes copy x (if b then x else after_entry same elect x now e)) [
     | true ↦ remakes_same copy x
     | false ↦ retaken_remakes x e here
   ]
 
-  taken_noted : (x : Facts K L D) (p : Proposal D) (m : ℕ) → ((round_of (after_kept_entry same elect x now (NotarizeVote p m)) p.round.view).notarize_decided ≡ true) ⊎ (p.round.view ≤ (after_kept_entry same elect x now (NotarizeVote p m)).finalized)
+  taken_noted : (x : StateFacts K L D) (p : Proposal D) (m : ℕ) → ((round_of (after_kept_entry same elect x now (NotarizeVote p m)) p.round.view).notarize_decided ≡ true) ⊎ (p.round.view ≤ (after_kept_entry same elect x now (NotarizeVote p m)).finalized)
   unfolding after_kept_entry
   taken_noted x p m = by_view (nat_lt p.round.view (min_active x)) refl
     where
@@ -258,7 +258,7 @@ module _ {K L D : Type 0} (same : D → D → Bool) (elect : Elect L) (now : ℕ
       by_view true is = inr (omega (arith, ltb-true p.round.view (min_active x) is))
       by_view false is = inl (noted_again x p m)
 
-  taken_reaches : (x : Facts K L D) (c : ProposalFacts D) → c.proposal.round.view ≤ (after_kept_entry same elect x now (Accepted (Finalized c))).finalized
+  taken_reaches : (x : StateFacts K L D) (c : ProposalFacts D) → c.proposal.round.view ≤ (after_kept_entry same elect x now (Accepted (Finalized c))).finalized
   unfolding after_kept_entry
   taken_reaches x c = by_view (nat_lt c.proposal.round.view (min_active x)) refl
     where
@@ -268,13 +268,13 @@ module _ {K L D : Type 0} (same : D → D → Bool) (elect : Elect L) (now : ℕ
 
   -- all entries
 
-  all_remake : (rest : List (ArtifactFacts D)) (x : Facts K L D) → ((e : ArtifactFacts D) → Contains rest e → Contains copy e) → Remakes copy x (after_entries same elect x now rest)
+  all_remake : (rest : List (ArtifactFacts D)) (x : StateFacts K L D) → ((e : ArtifactFacts D) → Contains rest e → Contains copy e) → Remakes copy x (after_entries same elect x now rest)
   all_remake [] x all = remakes_same copy x
   all_remake (e ∷ rest) x all =
       let y = after_kept_entry same elect x now e in
       remakes_joined copy x y (after_entries same elect y now rest) (taken_remakes x e (all e (0, omega arith, refl))) (all_remake rest y (λ f h. all f (Contains-cons_rest e rest f h)))
 
-  all_noted : (rest : List (ArtifactFacts D)) (x : Facts K L D) → ((e : ArtifactFacts D) → Contains rest e → Contains copy e) → (p : Proposal D) (m : ℕ) → Contains rest (NotarizeVote p m) → ((round_of (after_entries same elect x now rest) p.round.view).notarize_decided ≡ true) ⊎ (p.round.view ≤ (after_entries same elect x now rest).finalized)
+  all_noted : (rest : List (ArtifactFacts D)) (x : StateFacts K L D) → ((e : ArtifactFacts D) → Contains rest e → Contains copy e) → (p : Proposal D) (m : ℕ) → Contains rest (NotarizeVote p m) → ((round_of (after_entries same elect x now rest) p.round.view).notarize_decided ≡ true) ⊎ (p.round.view ≤ (after_entries same elect x now rest).finalized)
   all_noted [] x all p m h = absurd (omega (arith, h.1))
   all_noted (e ∷ rest) x all p m h =
       let y = after_kept_entry same elect x now e in
@@ -287,7 +287,7 @@ module _ {K L D : Type 0} (same : D → D → Bool) (elect : Elect L) (now : ℕ
         ]
       ]
 
-  all_reach : (rest : List (ArtifactFacts D)) (x : Facts K L D) → ((e : ArtifactFacts D) → Contains rest e → Contains copy e) → (c : ProposalFacts D) → Contains rest (Accepted (Finalized c)) → c.proposal.round.view ≤ (after_entries same elect x now rest).finalized
+  all_reach : (rest : List (ArtifactFacts D)) (x : StateFacts K L D) → ((e : ArtifactFacts D) → Contains rest e → Contains copy e) → (c : ProposalFacts D) → Contains rest (Accepted (Finalized c)) → c.proposal.round.view ≤ (after_entries same elect x now rest).finalized
   all_reach [] x all c h = absurd (omega (arith, h.1))
   all_reach (e ∷ rest) x all c h =
       let y = after_kept_entry same elect x now e in
@@ -301,9 +301,9 @@ module _ {K L D : Type 0} (same : D → D → Bool) (elect : Elect L) (now : ℕ
 
   -- the floor
 
-  floor_remakes : (x : Facts K L D) (floor : FloorFacts D) → Remakes copy x (after_set_floor same elect x floor now)
+  floor_remakes : (x : StateFacts K L D) (floor : FloorFacts D) → Remakes copy x (after_set_floor same elect x floor now)
   floor_remakes x (Genesis payload) =
-      let g : Facts K L D = record (at_moment x now) { genesis = Some payload } in
+      let g : StateFacts K L D = record (at_moment x now) { genesis = Some payload } in
       let e = with_view_entered g 1 now in
       let same_so_far : CalmOn 0 x g = record { settings = refl; current = omega arith; finalized = omega arith; nullified = refl; above = λ above. above; rounds = λ w. calm w (round_of x w) } in
       remakes_calm copy x (with_elected_leader elect e 1 None) (on_joined 0 x g (with_elected_leader elect e 1 None) same_so_far (on_joined 0 g e (with_elected_leader elect e 1 None) (on_entered 0 g 1 now (omega arith)) (on_elected 0 elect e 1 None (omega arith))))
@@ -312,7 +312,7 @@ module _ {K L D : Type 0} (same : D → D → Bool) (elect : Elect L) (now : ℕ
       remakes_calm copy x _ (on_joined 0 x y _ (on_add_finalization 0 same elect x c now (omega arith)) (on_floor 0 y c.proposal.round.view (omega arith)))
 
 module _ {K L D : Type 0} (same : D → D → Bool) (elect : Elect L) (settings : Settings) (me : Option ℕ) (members : List K) (elector : L) (terms : Terms) (early : Bool) where
-  abbrev pub made_again : FloorFacts D → ℕ → List (ArtifactFacts D) → Facts K L D
+  abbrev pub made_again : FloorFacts D → ℕ → List (ArtifactFacts D) → StateFacts K L D
   made_again floor now copy = recovered_state same elect (new_facts settings me members elector terms early) floor now copy
 
   fresh_remade : (copy : List (ArtifactFacts D)) → Remade copy (new_facts {K = K} {L = L} {D = D} settings me members elector terms early)
@@ -359,7 +359,7 @@ module _ {K L D : Type 0} (same : D → D → Bool) (elect : Elect L) (settings 
     covered = λ u h. (let c = remade.covered u h in (c.0.round, accepted c.0 c.1, c.2));
   }
     where
-      z : Facts K L D
+      z : StateFacts K L D
       z = after_set_floor same elect (new_facts settings me members elector terms early) floor now
 
       remade : Remade copy (after_entries same elect z now copy)

@@ -6,7 +6,7 @@ use Rattle.simplex_types.specs.Certificates.{Notarized, Nullified, Finalized, Ar
 use Rattle.simplex_types.specs.Config.{FloorFacts}
 use Rattle.simplex_types.specs.declared.types.numbers.Round.{Round}
 use Rattle.simplex_types.specs.declared.types.window.Terms.{Terms}
-use Rattle.simplex_voter.specs.Facts.{Settings, Facts, Elect, new_facts, round_number}
+use Rattle.simplex_voter.specs.Facts.{Settings, StateFacts, Elect, new_facts, round_number}
 use Rattle.simplex_member.specs.Entries.{entry_round}
 use Rattle.simplex_member.specs.Recovery.{after_entry, after_kept_entry, after_entries, recovered_state}
 use Rattle.simplex_laws.specs.Events as event
@@ -18,11 +18,11 @@ use Rattle.simplex_laws.proofs.lists.Splits.{Contains-cons_rest}
 use Rattle.simplex_laws.proofs.frames.Steps.{verdict_by, nullify_by}
 
 module _ {K L D : Type 0} (same : D → D → Bool) (elect : Elect L) (entries : List (ArtifactFacts D)) (now : ℕ) where
-  quiet_on : (x : Facts K L D) (e : Event K D) → verdict_by e ≡ None → nullify_by e ≡ None → Marked entries x → Marked entries (after_event same elect x e)
+  quiet_on : (x : StateFacts K L D) (e : Event K D) → verdict_by e ≡ None → nullify_by e ≡ None → Marked entries x → Marked entries (after_event same elect x e)
   quiet_on x e verdict nullify marked = quiet_marked same elect x e entries verdict nullify marked
 
   -- a verdict that stands in the record
-  verdict_on : (x : Facts K L D) (e : Event K D) (round : Round) (success : Bool) → verdict_by e ≡ Some (round.view, success) → nullify_by e ≡ None → Contains entries (Verdict round success) → Marked entries x → Marked entries (after_event same elect x e)
+  verdict_on : (x : StateFacts K L D) (e : Event K D) (round : Round) (success : Bool) → verdict_by e ≡ Some (round.view, success) → nullify_by e ≡ None → Contains entries (Verdict round success) → Marked entries x → Marked entries (after_event same elect x e)
   verdict_on x e round success gives nullify here marked =
       event_marked same elect x e entries entries (λ a h. h)
       (λ v says before after.
@@ -30,7 +30,7 @@ module _ {K L D : Type 0} (same : D → D → Bool) (elect : Elect L) (entries :
       (round, subst (λ b. Contains entries (Verdict round b)) (ap (λ (p : ℕ × Bool). p.1) pair) here, ap (λ (p : ℕ × Bool). p.0) pair)))
       (λ v says before after key. absurd (cc)) marked
 
-  retaken_marked : (x : Facts K L D) (e : ArtifactFacts D) → Contains entries e → (entry_round e).epoch ≡ x.settings.epoch → Marked entries x → Marked entries (after_entry same elect x now e)
+  retaken_marked : (x : StateFacts K L D) (e : ArtifactFacts D) → Contains entries e → (entry_round e).epoch ≡ x.settings.epoch → Marked entries x → Marked entries (after_entry same elect x now e)
   retaken_marked x (NotarizeVote p m) here epoch marked = quiet_on x (event.Replay (NotarizeVote p m)) refl refl marked
   retaken_marked x (NullifyVote round m) here epoch marked =
       event_marked same elect x (event.Replay (NullifyVote round m)) entries entries (λ a h. h) (λ v says before after. absurd (cc))
@@ -54,7 +54,7 @@ module _ {K L D : Type 0} (same : D → D → Bool) (elect : Elect L) (entries :
       quiet_on (after_event same elect x added) (event.Replay (Accepted (Finalized c))) refl refl (quiet_on x added refl refl marked)
 
   -- the rest of a record whose entries are all of this epoch
-  all_marked : (x : Facts K L D) (rest : List (ArtifactFacts D)) → ((e : ArtifactFacts D) → Contains rest e → Contains entries e × ((entry_round e).epoch ≡ x.settings.epoch)) → Marked entries x → Marked entries (after_entries same elect x now rest)
+  all_marked : (x : StateFacts K L D) (rest : List (ArtifactFacts D)) → ((e : ArtifactFacts D) → Contains rest e → Contains entries e × ((entry_round e).epoch ≡ x.settings.epoch)) → Marked entries x → Marked entries (after_entries same elect x now rest)
   all_marked x [] all marked = marked
   all_marked x (e ∷ rest) all marked =
       let here = all e (0, omega arith, refl) in
@@ -68,7 +68,7 @@ module _ {K L D : Type 0} (same : D → D → Bool) (elect : Elect L) (settings 
   pub recovered_marked : (copy : List (ArtifactFacts D)) (floor : FloorFacts D) (now : ℕ) → ((e : ArtifactFacts D) → Contains copy e → (entry_round e).epoch ≡ settings.epoch) → Marked copy (recovered_state same elect (new_facts settings me members elector terms early) floor now copy)
   unfolding recovered_state
   recovered_marked copy floor now epochs =
-      let fresh : Facts K L D = new_facts settings me members elector terms early in
+      let fresh : StateFacts K L D = new_facts settings me members elector terms early in
       let floored : Event K D = event.SetFloor floor now in
       let goes = event_goes same elect fresh floored in
       let none : Marked copy fresh = record { certified = λ v is. absurd (false≢true is); nullified = λ v is key. absurd (false≢true is) } in

@@ -8,7 +8,7 @@ use Rattle.simplex_types.specs.Config.{FloorFacts}
 use Rattle.simplex_types.specs.declared.types.messages.Subject.{Subject}
 use Rattle.simplex_types.specs.declared.types.messages.Subject.TheVariants as subject
 use Rattle.simplex_types.specs.declared.types.window.Terms.{Terms}
-use Rattle.simplex_voter.specs.Facts.{Settings, Facts, Elect, new_facts}
+use Rattle.simplex_voter.specs.Facts.{Settings, StateFacts, Elect, new_facts}
 use Rattle.simplex_voter.specs.Windows.{min_active}
 use Rattle.simplex_voter.specs.Acceptance.{after_add_finalization, after_set_floor}
 use Rattle.simplex_member.specs.Recovery.{after_entry, after_kept_entry, after_entries, recovered_state}
@@ -24,7 +24,7 @@ use Rattle.simplex_laws.specs.Events as event
 use Rattle.simplex_laws.specs.Events.{Event}
 use Rattle.simplex_laws.proofs.records.DeedsShown.{Remembers, AreRecorded, entries_deeds, entry_of, deed_of, of_accept, all_stay, stays_over}
 
-module _ {K L D : Type 0} (same : D → D → Bool) (elect : Elect L) (x : Facts K L D) (now : ℕ) where
+module _ {K L D : Type 0} (same : D → D → Bool) (elect : Elect L) (x : StateFacts K L D) (now : ℕ) where
   taken_finalizes : (e : ArtifactFacts D) (c : ProposalFacts D) → e ≡ Accepted (Finalized c) → c.proposal.round.view ≤ (after_kept_entry same elect x now e).finalized
   unfolding after_kept_entry
   taken_finalizes e c is = rw is (by_view (nat_lt c.proposal.round.view (min_active x)) refl)
@@ -34,11 +34,11 @@ module _ {K L D : Type 0} (same : D → D → Bool) (elect : Elect L) (x : Facts
       by_view false kept = rw kept (omega (arith, finalization_passes same elect x now c, (event_goes same elect (after_add_finalization same elect x c now) (event.Replay (Accepted (Finalized c)))).finalized))
 
 module _ {K L D : Type 0} (same : D → D → Bool) (elect : Elect L) (now : ℕ) where
-  all_final : (x : Facts K L D) (entries : List (ArtifactFacts D)) → x.finalized ≤ (after_entries same elect x now entries).finalized
+  all_final : (x : StateFacts K L D) (entries : List (ArtifactFacts D)) → x.finalized ≤ (after_entries same elect x now entries).finalized
   all_final x entries = all_keep same elect (λ y. x.finalized ≤ y.finalized) (λ y e p. omega (arith, p, (event_goes same elect y e).finalized)) now x entries (omega arith)
 
   -- each recorded finalization is no higher
-  pub all_finalizes : (x : Facts K L D) (entries : List (ArtifactFacts D)) (c : ProposalFacts D) → Contains entries (Accepted (Finalized c)) → c.proposal.round.view ≤ (after_entries same elect x now entries).finalized
+  pub all_finalizes : (x : StateFacts K L D) (entries : List (ArtifactFacts D)) (c : ProposalFacts D) → Contains entries (Accepted (Finalized c)) → c.proposal.round.view ≤ (after_entries same elect x now entries).finalized
   all_finalizes x [] c h = absurd (omega (arith, h.1))
   all_finalizes x (e ∷ rest) c h = elim (Contains-cases e rest (Accepted (Finalized c)) h) [
     | inl here ↦ omega (arith, taken_finalizes same elect x now e c here, all_final (after_kept_entry same elect x now e) rest)

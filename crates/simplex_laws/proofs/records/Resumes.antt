@@ -7,7 +7,7 @@ use Rattle.std.proofs.lemmas.List.{length-append, length-take-le}
 use Rattle.simplex_types.specs.Certificates.{ArtifactFacts}
 use Rattle.simplex_types.specs.Config.{FloorFacts, Genesis, Finalized as FinalizedFloor}
 use Rattle.simplex_types.specs.declared.types.fault.Fault.{Fault}
-use Rattle.simplex_voter.specs.Facts.{Facts, Elect}
+use Rattle.simplex_voter.specs.Facts.{StateFacts, Elect}
 use Rattle.simplex_member.specs.declared.member.error.RecoverError.{RecoverError}
 use Rattle.simplex_member.specs.declared.member.journal.Stored.{Stored}
 use Rattle.simplex_member.specs.declared.member.resume.ResumeError.TheVariants.{Recover}
@@ -73,15 +73,15 @@ module _ {K L D : Type 0} (same : D → D → Bool) (elect : Elect L) (m : Membe
   unfolding IsCall
   call_within call told left is_call = by_life m.life is_call
     where
-      by_fault : (x : Facts K L D) (f : Option Fault) → fault_of x call ≡ f → is_allowed x m.openings call ≡ true → Within (left_of same elect x m call)
+      by_fault : (x : StateFacts K L D) (f : Option Fault) → fault_of x call ≡ f → is_allowed x m.openings call ≡ true → Within (left_of same elect x m call)
       by_fault x None no_fault allowed = rw (allowed, no_fault) (more_within (recorded_by same elect x call))
       by_fault x (Some f) refused allowed = rw (allowed, refused) within
 
-      by_allowed : (x : Facts K L D) (b : Bool) → is_allowed x m.openings call ≡ b → Within (left_of same elect x m call)
+      by_allowed : (x : StateFacts K L D) (b : Bool) → is_allowed x m.openings call ≡ b → Within (left_of same elect x m call)
       by_allowed x true allowed = by_fault x (fault_of x call) refl allowed
       by_allowed x false not_allowed = rw not_allowed within
 
-      by_life : (o : Option (Facts K L D)) → AnswersAlive same elect o m call told left → Within left
+      by_life : (o : Option (StateFacts K L D)) → AnswersAlive same elect o m call told left → Within left
       by_life None (tell, leaves) = rw leaves within
       by_life (Some x) (inl (tell, leaves)) = rw leaves (by_allowed x (is_allowed x m.openings call) refl)
       by_life (Some x) (inr (_, tell, inl leaves)) = rw leaves within
@@ -118,7 +118,7 @@ module _ {K L D : Type 0} (same : D → D → Bool) (elect : Elect L) where
 
 module _ {K L D : Type 0} (same : D → D → Bool) (elect : Elect L) (start : StartFacts K L D) where
   -- whether it lives, and what it has open, doesn't matter to a new life
-  other_life : (m next : MemberFacts K L D) (life : Option (Facts K L D)) (openings : Openings K D) → IsRestart same elect m (whole_restart start) (Ok tt) next → IsRestart same elect (record m { life = life; openings = openings }) (whole_restart start) (Ok tt) next
+  other_life : (m next : MemberFacts K L D) (life : Option (StateFacts K L D)) (openings : Openings K D) → IsRestart same elect m (whole_restart start) (Ok tt) next → IsRestart same elect (record m { life = life; openings = openings }) (whole_restart start) (Ok tt) next
   unfolding IsRestart
   other_life m next life openings restarts = by_test (retention_grows m false start.setup.settings.view_retention) restarts
     where
@@ -134,7 +134,7 @@ module _ {K L D : Type 0} (same : D → D → Bool) (elect : Elect L) (start : S
       by_test false (inr (copy, by_view, goes)) = inr (copy, by_view, by_error copy (recover_error same (new_state start.setup) start.floor start.now copy) goes)
 
   -- nor does it to a refusal, which leaves them
-  other_refusal : (m left : MemberFacts K L D) (life : Option (Facts K L D)) (openings : Openings K D) (found : RecoverError) → IsRestart same elect m (whole_restart start) (Err found) left
+  other_refusal : (m left : MemberFacts K L D) (life : Option (StateFacts K L D)) (openings : Openings K D) (found : RecoverError) → IsRestart same elect m (whole_restart start) (Err found) left
       → IsRestartWhere same elect (retention_grows m false start.setup.settings.view_retention) (record m { life = life; openings = openings }) (whole_restart start) (Err found) (record m { life = if retention_grows m false start.setup.settings.view_retention then life else None; openings = if retention_grows m false start.setup.settings.view_retention then openings else no_openings })
   unfolding IsRestart
   other_refusal m left life openings found restarts = by_test (retention_grows m false start.setup.settings.view_retention) restarts

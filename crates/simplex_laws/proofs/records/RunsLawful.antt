@@ -7,7 +7,7 @@ use Rattle.simplex_types.specs.Certificates.{ArtifactFacts, FinalizeVote}
 use Rattle.simplex_types.specs.Config.{FloorFacts}
 use Rattle.simplex_types.specs.declared.types.fault.Fault.{Fault}
 use Rattle.simplex_types.specs.declared.types.messages.Subject.TheVariants as subject
-use Rattle.simplex_voter.specs.Facts.{Facts, Elect}
+use Rattle.simplex_voter.specs.Facts.{StateFacts, Elect}
 use Rattle.simplex_member.specs.declared.member.error.RecoverError.{RecoverError}
 use Rattle.simplex_member.specs.Allowed.{is_allowed, fault_of}
 use Rattle.simplex_member.specs.Calls.{CallFacts, Told}
@@ -33,7 +33,7 @@ use Rattle.simplex_laws.proofs.records.NotarizeVotesRemembered.{nothing_noted}
 use Rattle.simplex_laws.proofs.records.CallsKeepRules.{call_lives}
 
 -- a member's record remembers its deeds, and while it lives its state shows them
-abbrev pub LivesOn : {K L D : Type 0} → ℕ → List (Deed D) → ℕ → ℕ → List (ArtifactFacts D) → Openings K D → Option (Facts K L D) → Type 0
+abbrev pub LivesOn : {K L D : Type 0} → ℕ → List (Deed D) → ℕ → ℕ → List (ArtifactFacts D) → Openings K D → Option (StateFacts K L D) → Type 0
 LivesOn term_length deeds closed kept entries o None = Between term_length deeds closed kept entries
 LivesOn term_length deeds closed kept entries o (Some x) = Living term_length deeds closed kept entries o x
 
@@ -46,7 +46,7 @@ unfolding first_recover_error
 unbroken same epoch me floor entries none = (first_none (first_error (recovery_floor_rules epoch floor)) (first_broken_after same epoch me [] entries) none).1
 
 module _ {K L D : Type 0} where
-  pub between_of : (term_length : ℕ) (deeds : List (Deed D)) (closed kept : ℕ) (entries : List (ArtifactFacts D)) (o : Openings K D) (life : Option (Facts K L D)) → LivesOn term_length deeds closed kept entries o life → Between term_length deeds closed kept entries
+  pub between_of : (term_length : ℕ) (deeds : List (Deed D)) (closed kept : ℕ) (entries : List (ArtifactFacts D)) (o : Openings K D) (life : Option (StateFacts K L D)) → LivesOn term_length deeds closed kept entries o life → Between term_length deeds closed kept entries
   between_of term_length deeds closed kept entries o None lives = lives
   between_of term_length deeds closed kept entries o (Some x) lives = living_between term_length deeds closed kept entries o x lives
 
@@ -63,7 +63,7 @@ module _ {K L D : Type 0} where
 module _ {K L D : Type 0} (same : D → D → Bool) (decides : (d e : D) → same d e ≡ true → d ≡ e) (elect : Elect L) (term_length : ℕ) (some : 0 < term_length) (deeds : List (Deed D)) (m : MemberFacts K L D) where
   -- a call
 
-  answered : (call : CallFacts D) (x : Facts K L D) → m.life ≡ Some x → MemberLives term_length deeds m → MemberLives term_length (deeds ++ deeds_of_call call (reply_of same elect x m.openings call)) (left_of same elect x m call)
+  answered : (call : CallFacts D) (x : StateFacts K L D) → m.life ≡ Some x → MemberLives term_length deeds m → MemberLives term_length (deeds ++ deeds_of_call call (reply_of same elect x m.openings call)) (left_of same elect x m call)
   answered call x alive lives = by_allowed (is_allowed x m.openings call) refl
     where
       by_fault : (o : Option Fault) → fault_of x call ≡ o → is_allowed x m.openings call ≡ true → MemberLives term_length (deeds ++ deeds_of_call call (reply_of same elect x m.openings call)) (left_of same elect x m call)
@@ -78,7 +78,7 @@ module _ {K L D : Type 0} (same : D → D → Bool) (decides : (d e : D) → sam
   unfolding IsCall
   call_lives_on call told left lives is_call = by_life m.life refl is_call
     where
-      by_life : (o : Option (Facts K L D)) → m.life ≡ o → AnswersAlive same elect o m call told left → MemberLives term_length (deeds ++ deeds_of_call call told) left
+      by_life : (o : Option (StateFacts K L D)) → m.life ≡ o → AnswersAlive same elect o m call told left → MemberLives term_length (deeds ++ deeds_of_call call told) left
       by_life None dead (tells, leaves) = rw (tells, leaves) (quiet term_length deeds m lives)
       by_life (Some x) alive (inl (tells, leaves)) = rw (tells, leaves) (answered call x alive lives)
       by_life (Some x) alive (inr (_, tells, inl leaves)) = rw (tells, leaves) (quiet term_length deeds m lives)

@@ -9,7 +9,7 @@ use Rattle.simplex_types.specs.declared.types.messages.Proposal.{Proposal}
 use Rattle.simplex_types.specs.declared.types.messages.Subject.{Subject}
 use Rattle.simplex_types.specs.declared.types.messages.Subject.TheVariants as subject
 use Rattle.simplex_round.specs.Round.{is_nullify}
-use Rattle.simplex_voter.specs.Facts.{Facts, Elect, round_of, round_number}
+use Rattle.simplex_voter.specs.Facts.{StateFacts, Elect, round_of, round_number}
 use Rattle.simplex_voter.specs.Rules.{may_nullify, may_finalize}
 use Rattle.simplex_voter.specs.Votes.{nullify_answer, after_construct_nullify, finalize_answer, after_construct_finalize}
 use Rattle.simplex_voter.proofs.Gaps.{and_parts}
@@ -31,7 +31,7 @@ use Rattle.simplex_laws.specs.Sums.{finalized_by_event}
 use Rattle.simplex_laws.proofs.votes.StandingVotes.{nullify_allowed, nullify_decided, nullify_voted, finalize_allowed, finalize_decided, finalize_voted}
 
 -- what each call of a life keeps: its deeds are lawful, and its facts show them
-pub record KeepsRules {K L D : Type 0} (term_length : ℕ) (deeds : List (Deed D)) (x : Facts K L D) : Type 0 where
+pub record KeepsRules {K L D : Type 0} (term_length : ℕ) (deeds : List (Deed D)) (x : StateFacts K L D) : Type 0 where
   pub lawful : IsLawful term_length deeds
   pub stays : Stays term_length deeds x
 
@@ -39,7 +39,7 @@ pub none_follows : {A B : Type 0} (f : A → Option B) (o : Option A) → ((a : 
 none_follows f None no_value = refl
 none_follows f (Some a) no_value = no_value a
 
-module _ {K L D : Type 0} (elect : Elect L) (x : Facts K L D) (v : ℕ) where
+module _ {K L D : Type 0} (elect : Elect L) (x : StateFacts K L D) (v : ℕ) where
   -- what is told of a vote
 
   pub nullify_silent : (is_some x.me && may_nullify x v) ≡ false → nullify_vote x v ≡ None
@@ -70,10 +70,10 @@ no_rule b (Some m) no_vote = no_vote
 
 module _ {K L D : Type 0} (elect : Elect L) (term_length : ℕ) (deeds : List (Deed D)) where
   -- the rules are kept with one more call that shows no deed
-  nothing_shown : (y : Facts K L D) → IsLawful term_length deeds → Stays term_length deeds y → KeepsRules term_length (deeds ++ []) y
+  nothing_shown : (y : StateFacts K L D) → IsLawful term_length deeds → Stays term_length deeds y → KeepsRules term_length (deeds ++ []) y
   nothing_shown y lawful stays = subst (λ a. KeepsRules term_length a y) (sym (append-nil deeds)) (record { lawful = lawful; stays = stays })
 
-  nullify_keeps : (x : Facts K L D) (v : ℕ) → KeepsRules term_length deeds x → KeepsRules term_length (deeds ++ deeds_of_call {K = K} (ConstructNullify v) (Nullify (nullify_vote x v))) (after_construct_nullify x v)
+  nullify_keeps : (x : StateFacts K L D) (v : ℕ) → KeepsRules term_length deeds x → KeepsRules term_length (deeds ++ deeds_of_call {K = K} (ConstructNullify v) (Nullify (nullify_vote x v))) (after_construct_nullify x v)
   nullify_keeps x v keeps = by_rule (may_nullify x v) refl
     where
       by_key : (o : Option ℕ) → x.me ≡ o → may_nullify x v ≡ true → KeepsRules term_length (deeds ++ deeds_of_call {K = K} (ConstructNullify v) (Nullify (nullify_vote x v))) (after_construct_nullify x v)
@@ -98,7 +98,7 @@ module _ {K L D : Type 0} (elect : Elect L) (term_length : ℕ) (deeds : List (D
           subst (λ o. KeepsRules term_length (deeds ++ deeds_of_call {K = K} (ConstructNullify v) (Nullify o)) (after_construct_nullify x v)) (sym silent)
           (rw may (nothing_shown x keeps.lawful keeps.stays))
 
-  finalize_keeps : (x : Facts K L D) (v : ℕ) → KeepsRules term_length deeds x → KeepsRules term_length (deeds ++ deeds_of_call {K = K} (ConstructFinalize v) (Finalize (finalize_vote elect x v))) (after_construct_finalize elect x v)
+  finalize_keeps : (x : StateFacts K L D) (v : ℕ) → KeepsRules term_length deeds x → KeepsRules term_length (deeds ++ deeds_of_call {K = K} (ConstructFinalize v) (Finalize (finalize_vote elect x v))) (after_construct_finalize elect x v)
   finalize_keeps x v keeps = by_rule (may_finalize elect x v) refl
     where
       by_held : (m : ℕ) (o : Option (Proposal D)) → (round_of x v).slot.held ≡ o → x.me ≡ Some m → may_finalize elect x v ≡ true → KeepsRules term_length (deeds ++ deeds_of_call {K = K} (ConstructFinalize v) (Finalize (finalize_vote elect x v))) (after_construct_finalize elect x v)
@@ -127,11 +127,11 @@ module _ {K L D : Type 0} (elect : Elect L) (term_length : ℕ) (deeds : List (D
           subst (λ o. KeepsRules term_length (deeds ++ deeds_of_call {K = K} (ConstructFinalize v) (Finalize o)) (after_construct_finalize elect x v)) (sym silent)
           (rw may (nothing_shown x keeps.lawful keeps.stays))
 
-module _ {K L D : Type 0} (same : D → D → Bool) (decides : (d e : D) → same d e ≡ true → d ≡ e) (elect : Elect L) (term_length : ℕ) (deeds : List (Deed D)) (x : Facts K L D) (keeps : KeepsRules term_length deeds x) where
+module _ {K L D : Type 0} (same : D → D → Bool) (decides : (d e : D) → same d e ≡ true → d ≡ e) (elect : Elect L) (term_length : ℕ) (deeds : List (Deed D)) (x : StateFacts K L D) (keeps : KeepsRules term_length deeds x) where
   accepts : (certificate : Subject D) → IsLawful term_length (deeds ++ Accepts certificate ∷ [])
   accepts certificate = lawful_push term_length deeds (Accepts certificate) keeps.lawful tt
 
-  shows_nothing : (y : Facts K L D) → Stays term_length deeds y → KeepsRules term_length (deeds ++ []) y
+  shows_nothing : (y : StateFacts K L D) → Stays term_length deeds y → KeepsRules term_length (deeds ++ []) y
   shows_nothing y stays = nothing_shown elect term_length deeds y keeps.lawful stays
 
   -- an event with no certificate, no verdict and no vote

@@ -11,7 +11,7 @@ use Rattle.simplex_types.specs.declared.types.messages.Proposal.{Proposal}
 use Rattle.simplex_types.specs.declared.types.messages.Subject.TheVariants as subject
 use Rattle.simplex_round.specs.Slot.{is_unequivocated}
 use Rattle.simplex_round.specs.Round.{RoundFacts, new_round}
-use Rattle.simplex_voter.specs.Facts.{Facts, Elect, round_at, round_of, round_number, is_tracked, with_round}
+use Rattle.simplex_voter.specs.Facts.{StateFacts, Elect, round_at, round_of, round_number, is_tracked, with_round}
 use Rattle.simplex_voter.specs.Windows.{is_admitted}
 use Rattle.simplex_voter.specs.Leaders.{with_next_view_ready}
 use Rattle.simplex_voter.specs.Rules.{may_notarize, NotarizeRule}
@@ -32,7 +32,7 @@ use Rattle.simplex_laws.proofs.frames.Rounds.{round_put}
 use Rattle.simplex_laws.proofs.votes.NotarizeVotesByWork.{decided_notes}
 
 -- what is told of a vote
-module _ {K L D : Type 0} (same : D → D → Bool) (elect : Elect L) (x : Facts K L D) (v : ℕ) where
+module _ {K L D : Type 0} (same : D → D → Bool) (elect : Elect L) (x : StateFacts K L D) (v : ℕ) where
   pub notarize_silent : (is_some x.me && may_notarize same elect x v) ≡ false → notarize_vote same elect x v ≡ None
   notarize_silent no_vote = none_follows _ x.me (λ m. rw no_vote refl)
 
@@ -44,18 +44,18 @@ module _ {K L D : Type 0} (same : D → D → Bool) (elect : Elect L) (x : Facts
       ∙ ap (option_map (λ p. NotarizeVote p m)) answered
 
 -- a view that holds a proposal is tracked
-pub tracked_held : {K L D : Type 0} (x : Facts K L D) (v : ℕ) → is_some (round_of x v).slot.held ≡ true → is_tracked x v ≡ true
+pub tracked_held : {K L D : Type 0} (x : StateFacts K L D) (v : ℕ) → is_some (round_of x v).slot.held ≡ true → is_tracked x v ≡ true
 tracked_held {K} {L} {D} x v holds = by_round (round_at x v) holds
   where
     by_round : (o : Option (RoundFacts K D)) → is_some (unwrap_or o (new_round x.me x.members (round_number x v))).slot.held ≡ true → is_some o ≡ true
     by_round None holds = absurd (false≢true holds)
     by_round (Some r) holds = refl
 
-admitted_above : {K L D : Type 0} (x : Facts K L D) (v : ℕ) → is_admitted x v ≡ true → 0 < v
+admitted_above : {K L D : Type 0} (x : StateFacts K L D) (v : ℕ) → is_admitted x v ≡ true → 0 < v
 unfolding is_admitted
 admitted_above x v is = grind (arith, nat_tests)
 
-module _ {K L D : Type 0} (same : D → D → Bool) (decides : (d e : D) → same d e ≡ true → d ≡ e) (elect : Elect L) (term_length base low : ℕ) (deeds : List (Deed D)) (o : Openings K D) (x : Facts K L D) (some : 0 < x.terms.term_length) (terms : x.terms.term_length ≡ term_length) (notes : NotesStand base low deeds o x) (v : ℕ) (may : may_notarize same elect x v ≡ true) where
+module _ {K L D : Type 0} (same : D → D → Bool) (decides : (d e : D) → same d e ≡ true → d ≡ e) (elect : Elect L) (term_length base low : ℕ) (deeds : List (Deed D)) (o : Openings K D) (x : StateFacts K L D) (some : 0 < x.terms.term_length) (terms : x.terms.term_length ≡ term_length) (notes : NotesStand base low deeds o x) (v : ℕ) (may : may_notarize same elect x v ≡ true) where
   rule : NotarizeRule same elect x v
   rule = notarize_parts same elect x v may
 

@@ -16,7 +16,7 @@ use Rattle.simplex_types.specs.declared.types.messages.Proposal.{Proposal}
 use Rattle.simplex_types.specs.declared.types.messages.Subject.TheVariants as subject
 use Rattle.simplex_types.specs.declared.types.numbers.Round.{Round}
 use Rattle.simplex_round.specs.Round.{RoundFacts, new_round}
-use Rattle.simplex_voter.specs.Facts.{Facts, Elect, round_of, round_number, is_tracked}
+use Rattle.simplex_voter.specs.Facts.{StateFacts, Elect, round_of, round_number, is_tracked}
 use Rattle.simplex_voter.specs.Windows.{min_active}
 use Rattle.simplex_voter.specs.Refusals.{is_started, takes_round}
 use Rattle.simplex_voter.specs.Serving.{after_prune}
@@ -52,7 +52,7 @@ among_more k u (x ∷ xs) h = by_order (nat_cmp k x) (among_more k u xs) h
     ]
 
 -- what is offered says nothing of votes to notarize
-other_offers : {K L D : Type 0} (base low : ℕ) (deeds : List (Deed D)) (o : Openings K D) (v : ℕ) (y : Facts K L D) → NotesStand base low deeds o y → NotesStand base low deeds (without_offer o v) y
+other_offers : {K L D : Type 0} (base low : ℕ) (deeds : List (Deed D)) (o : Openings K D) (v : ℕ) (y : StateFacts K L D) → NotesStand base low deeds o y → NotesStand base low deeds (without_offer o v) y
 other_offers base low deeds o v y notes = record {
   above = notes.above;
   active = notes.active;
@@ -67,7 +67,7 @@ other_offers base low deeds o v y notes = record {
   covered = notes.covered;
 }
 
-module _ {K L D : Type 0} (same : D → D → Bool) (elect : Elect L) (base low : ℕ) (deeds : List (Deed D)) (o : Openings K D) (x : Facts K L D) (notes : NotesStand base low deeds o x) where
+module _ {K L D : Type 0} (same : D → D → Bool) (elect : Elect L) (base low : ℕ) (deeds : List (Deed D)) (o : Openings K D) (x : StateFacts K L D) (notes : NotesStand base low deeds o x) where
   -- the deeds of the call, and a change that leaves the work on each view
   acted : (call : CallFacts D) → is_work call ≡ false → CalmOn base x (after_call same elect x o call) → NotesStand base low (deeds ++ deeds_of_call {K = K} call (answer same elect x o call)) o (after_call same elect x o call)
   acted call plain left =

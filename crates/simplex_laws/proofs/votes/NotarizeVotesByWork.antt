@@ -15,7 +15,7 @@ use Rattle.simplex_types.specs.declared.reasons.TimeoutReason.{TimeoutReason}
 use Rattle.simplex_round.specs.declared.round.Leader.{Leader}
 use Rattle.simplex_round.specs.Slot.{SlotFacts, after_mark, holds_or_empty}
 use Rattle.simplex_round.specs.Round.{RoundFacts, new_round, is_nullify, signs_as, should_verify, should_propose, pending_proposal}
-use Rattle.simplex_voter.specs.Facts.{Facts, Elect, round_at, round_of, round_number, is_tracked, with_round, with_tracked}
+use Rattle.simplex_voter.specs.Facts.{StateFacts, Elect, round_at, round_of, round_number, is_tracked, with_round, with_tracked}
 use Rattle.simplex_voter.specs.Windows.{min_active, is_start, is_admitted}
 use Rattle.simplex_voter.specs.Refusals.{is_started, takes_round}
 use Rattle.simplex_voter.specs.Entering.{at_moment}
@@ -54,11 +54,11 @@ use Rattle.simplex_laws.proofs.histories.Scanned.{among_through, any_there, firs
 
 module _ {K L D : Type 0} where
   -- an entry of the tracked views is the round of its view
-  round_in_order : (x : Facts K L D) (e : ℕ × RoundFacts K D) → InOrder x → Contains x.rounds e → round_of x e.0 ≡ e.1
+  round_in_order : (x : StateFacts K L D) (e : ℕ × RoundFacts K D) → InOrder x → Contains x.rounds e → round_of x e.0 ≡ e.1
   round_in_order x e ordered h = ap (λ o. unwrap_or o (new_round x.me x.members (round_number x e.0))) (found_in_order x.rounds e ordered h)
 
 -- one round changes, and all else is left as it was
-module _ {K L D : Type 0} (base low : ℕ) (deeds : List (Deed D)) (o o' : Openings K D) (x : Facts K L D) (v : ℕ) (r : RoundFacts K D) (notes : NotesStand base low deeds o x) where
+module _ {K L D : Type 0} (base low : ℕ) (deeds : List (Deed D)) (o o' : Openings K D) (x : StateFacts K L D) (v : ℕ) (r : RoundFacts K D) (notes : NotesStand base low deeds o x) where
   notes_put : is_tracked x v ≡ true
       → Grown v (round_of x v) r
       → Tidy (is_verifying o' v) (is_some (context_at o' v)) r
@@ -148,7 +148,7 @@ module _ {K D : Type 0} (r : RoundFacts K D) where
       by_test false other is = absurd (false≢true (ap is_some is))
       by_test true so is = (let parts = other r.leader so in (parts.0, parts.1, parts.2, held_one r.leader r.slot.held is))
 
-module _ {K L D : Type 0} (x : Facts K L D) where
+module _ {K L D : Type 0} (x : StateFacts K L D) where
   ahead_now : (e : ℕ × RoundFacts K D) → Contains (views_ahead x) e → x.current ≤ e.0
   ahead_now e h = let passes = filtered_passes (λ (f : ℕ × RoundFacts K D). nat_le x.current f.0 && nat_le f.0 (next_term_start x.terms.term_length x.current)) x.rounds e h in let first = (and_parts (nat_le x.current e.0) _ passes).0 in grind (arith, nat_tests, first)
 
@@ -180,16 +180,16 @@ module _ {K L D : Type 0} (x : Facts K L D) where
       by_test true so is = ((and_parts (is_admitted x e.0) (should_propose e.1) so).1, on_parent (preferred_parent same elect x e.0) is)
       by_test false other is = absurd (false≢true (ap is_some is))
 
-module _ {K L D : Type 0} (same : D → D → Bool) (decides : (d e : D) → same d e ≡ true → d ≡ e) (elect : Elect L) (base low : ℕ) (deeds : List (Deed D)) (o : Openings K D) (x : Facts K L D) (notes : NotesStand base low deeds o x) where
+module _ {K L D : Type 0} (same : D → D → Bool) (decides : (d e : D) → same d e ≡ true → d ≡ e) (elect : Elect L) (base low : ℕ) (deeds : List (Deed D)) (o : Openings K D) (x : StateFacts K L D) (notes : NotesStand base low deeds o x) where
   -- with nothing more open
 
-  left_notes : (y : Facts K L D) → CalmOn base x y → NotesStand base low deeds o y
+  left_notes : (y : StateFacts K L D) → CalmOn base x y → NotesStand base low deeds o y
   left_notes y left = notes_calm base low deeds o o x y left (λ v is. is) (λ v c is. is) notes
 
-  closed_notes : (v : ℕ) (y : Facts K L D) → CalmOn base x y → NotesStand base low deeds (without_context o v) y
+  closed_notes : (v : ℕ) (y : StateFacts K L D) → CalmOn base x y → NotesStand base low deeds (without_context o v) y
   closed_notes v y left = notes_calm base low deeds o (without_context o v) x y left (λ w is. is) (λ w c is. got_others o.contexts v w c is) notes
 
-  answered_notes : (v : ℕ) (y : Facts K L D) → CalmOn base x y → NotesStand base low deeds (without_verification o v) y
+  answered_notes : (v : ℕ) (y : StateFacts K L D) → CalmOn base x y → NotesStand base low deeds (without_verification o v) y
   answered_notes v y left = notes_calm base low deeds o (without_verification o v) x y left (λ w is. (among_others v w o.verifying is).0) (λ w c is. is) notes
 
   kept_view : (v : ℕ) → min_active x ≤ v → base ≤ v
@@ -255,7 +255,7 @@ module _ {K L D : Type 0} (same : D → D → Bool) (decides : (d e : D) → sam
       built : Proposal D
       built = proposal_of c payload
 
-      m : Facts K L D
+      m : StateFacts K L D
       m = at_moment x now
 
       r : RoundFacts K D
@@ -300,7 +300,7 @@ module _ {K L D : Type 0} (same : D → D → Bool) (decides : (d e : D) → sam
 
   -- answers to a verification
 
-  unbound_notes : (now : ℕ) (v : ℕ) → is_verifying o v ≡ true → (m : Facts K L D) → CalmOn base x m → NotesStand base low deeds (without_verification o v) (without_binding m v)
+  unbound_notes : (now : ℕ) (v : ℕ) → is_verifying o v ≡ true → (m : StateFacts K L D) → CalmOn base x m → NotesStand base low deeds (without_verification o v) (without_binding m v)
   unbound_notes now v open_now m left = by_tracked (is_tracked m v) refl
     where
       old : NotesStand base low deeds o m
@@ -382,7 +382,7 @@ module _ {K D : Type 0} (v : ℕ) where
   left_calm r now (Lacks w kind) none = calm_alike v r _ refl refl refl refl refl
   left_calm r now (Ready d) none = absurd (false≢true (sym none))
 
-module _ {K L D : Type 0} (same : D → D → Bool) (elect : Elect L) (x : Facts K L D) where
+module _ {K L D : Type 0} (same : D → D → Bool) (elect : Elect L) (x : StateFacts K L D) where
   -- a view of which anything is to be said has a pending proposal
   standing_pending : (e : ℕ × RoundFacts K D) → (standing same elect x e ≡ Passed) ⊎ ((found : Leader K × Proposal D) × (pending_proposal e.1 ≡ Some found))
   unfolding standing
@@ -408,12 +408,12 @@ module _ {K L D : Type 0} (same : D → D → Bool) (elect : Elect L) (x : Facts
       by_standing s None (inr found) = absurd (false≢true (ap is_some found.1))
 
 -- a view whose proposal is given out by a scan
-record IsGiven {K L D : Type 0} (same : D → D → Bool) (elect : Elect L) (x : Facts K L D) (v : ℕ) : Type 0 where
+record IsGiven {K L D : Type 0} (same : D → D → Bool) (elect : Elect L) (x : StateFacts K L D) (v : ℕ) : Type 0 where
   pub ahead : x.current ≤ v
   pub scanned : was_scanned same elect x v ≡ true
   pub ready : is_given_out (standing same elect x (v, round_of x v)) ≡ true
 
-module _ {K L D : Type 0} (same : D → D → Bool) (elect : Elect L) (base low : ℕ) (deeds : List (Deed D)) (o : Openings K D) (x : Facts K L D) (ordered : InOrder x) (notes : NotesStand base low deeds o x) where
+module _ {K L D : Type 0} (same : D → D → Bool) (elect : Elect L) (base low : ℕ) (deeds : List (Deed D)) (o : Openings K D) (x : StateFacts K L D) (ordered : InOrder x) (notes : NotesStand base low deeds o x) where
   -- what is now being verified was so before, or is given out
   now_given : (answer : Option (Verify D K)) → slice_get (filter_map (answer_in same elect x) (views_ahead x)) 0 ≡ answer → (w : ℕ) → is_verifying (with_verification o (option_map_or (λ found. found) answer verify.Wait)) w ≡ true → IsGiven same elect x w ⊎ (is_verifying o w ≡ true)
   now_given (Some (verify.Ready context p)) first w is = elim (now_among p.round.view w o.verifying is) [ inr before ↦ inr before | inl at ↦ inl (subst (IsGiven same elect x) (here ∙ sym at) given) ]
@@ -513,7 +513,7 @@ module _ {K L D : Type 0} (same : D → D → Bool) (elect : Elect L) (base low 
   }
 
 -- all calls on the work of a view but a vote to notarize
-module _ {K L D : Type 0} (same : D → D → Bool) (decides : (d e : D) → same d e ≡ true → d ≡ e) (elect : Elect L) (base low : ℕ) (deeds : List (Deed D)) (o : Openings K D) (x : Facts K L D) (notes : NotesStand base low deeds o x) where
+module _ {K L D : Type 0} (same : D → D → Bool) (decides : (d e : D) → same d e ≡ true → d ≡ e) (elect : Elect L) (base low : ℕ) (deeds : List (Deed D)) (o : Openings K D) (x : StateFacts K L D) (notes : NotesStand base low deeds o x) where
   pub decided_notes : (v : ℕ) → may_notarize same elect x v ≡ true → is_tracked x v ≡ true → NotesStand base low deeds o (with_next_view_ready elect (with_round x v (record (round_of x v) { notarize_decided = true })) v)
   decided_notes v may tracked =
       let y = with_round x v (record (round_of x v) { notarize_decided = true }) in

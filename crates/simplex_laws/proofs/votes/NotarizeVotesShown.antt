@@ -6,7 +6,7 @@ use Rattle.simplex_types.specs.Certificates.{ArtifactFacts, NotarizeVote}
 use Rattle.simplex_types.specs.declared.types.messages.Proposal.{Proposal}
 use Rattle.simplex_types.specs.declared.types.messages.Subject.TheVariants as subject
 use Rattle.simplex_types.specs.declared.types.numbers.Round.{Round}
-use Rattle.simplex_voter.specs.Facts.{Settings, Facts, round_of}
+use Rattle.simplex_voter.specs.Facts.{Settings, StateFacts, round_of}
 use Rattle.simplex_voter.specs.Windows.{min_active}
 use Rattle.simplex_member.specs.Openings.{Openings, is_verifying, context_at}
 use Rattle.simplex_laws.specs.Deeds.{Deed, Accepts}
@@ -17,7 +17,7 @@ use Rattle.simplex_laws.proofs.votes.UnchangedProposals.{Above, CalmOn}
 use Rattle.simplex_laws.proofs.votes.Proposals.{Tidy, contrary, tidy_calm}
 
 -- views below `base` were pruned; work on views below `low` ended with the lives before
-pub record NotesStand {K L D : Type 0} (base low : ℕ) (deeds : List (Deed D)) (o : Openings K D) (x : Facts K L D) : Type 0 where
+pub record NotesStand {K L D : Type 0} (base low : ℕ) (deeds : List (Deed D)) (o : Openings K D) (x : StateFacts K L D) : Type 0 where
   pub above : Above base x
   pub active : base ≤ min_active x
   pub reached : low ≤ x.current
@@ -45,7 +45,7 @@ CastsNone {D} deeds = (p : Proposal D) → HasSigned deeds (subject.Notarize p) 
 
 module _ {K L D : Type 0} (base low : ℕ) (deeds : List (Deed D)) where
   -- deeds that are no votes to notarize
-  pub notes_acted : (more : List (Deed D)) (o : Openings K D) (x : Facts K L D) → CastsNone more → NotesStand base low deeds o x → NotesStand base low (deeds ++ more) o x
+  pub notes_acted : (more : List (Deed D)) (o : Openings K D) (x : StateFacts K L D) → CastsNone more → NotesStand base low deeds o x → NotesStand base low (deeds ++ more) o x
   notes_acted more o x none notes = record {
     above = notes.above;
     active = notes.active;
@@ -61,7 +61,7 @@ module _ {K L D : Type 0} (base low : ℕ) (deeds : List (Deed D)) where
   }
 
   -- a change that leaves the work on each view, with nothing more open
-  pub notes_calm : (o o' : Openings K D) (x y : Facts K L D) → CalmOn base x y → ((v : ℕ) → is_verifying o' v ≡ true → is_verifying o v ≡ true) → NoMoreContexts o o' → NotesStand base low deeds o x → NotesStand base low deeds o' y
+  pub notes_calm : (o o' : Openings K D) (x y : StateFacts K L D) → CalmOn base x y → ((v : ℕ) → is_verifying o' v ≡ true → is_verifying o v ≡ true) → NoMoreContexts o o' → NotesStand base low deeds o x → NotesStand base low deeds o' y
   notes_calm o o' x y left verifying opened notes = record {
     above = left.above notes.above;
     active = omega (arith, notes.active, left.finalized, ap (λ (s : Settings). s.view_retention) left.settings);

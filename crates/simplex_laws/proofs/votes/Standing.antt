@@ -9,7 +9,7 @@ use Rattle.simplex_types.specs.declared.types.messages.Subject.{Subject}
 use Rattle.simplex_types.specs.declared.types.messages.Subject.TheVariants as subject
 use Rattle.simplex_types.specs.declared.types.numbers.Round.{Round}
 use Rattle.simplex_round.specs.Round.{RoundFacts, is_nullify, is_finalize, is_certified}
-use Rattle.simplex_voter.specs.Facts.{Facts, round_of, with_round}
+use Rattle.simplex_voter.specs.Facts.{StateFacts, round_of, with_round}
 use Rattle.simplex_voter.proofs.Elsewhere.{round_of-with_round}
 use Rattle.simplex_laws.specs.Deeds.{Deed, Accepts}
 use Rattle.simplex_laws.specs.Lawful.{HasSigned}
@@ -28,7 +28,7 @@ pub record RoundStands {K D : Type 0} (deeds : List (Deed D)) (reached finalized
   pub nullify_decided : (round : Round) → HasSigned deeds (subject.Nullify round) → round.view ≡ v → (is_nullify r.decision ≡ true) ⊎ (v ≤ finalized)
   pub finalize_decided : (p : Proposal D) → HasSigned deeds (subject.Finalize p) → p.round.view ≡ v → (is_finalize r.decision ≡ true) ⊎ (v ≤ finalized)
 
-pub record Stands {K L D : Type 0} (term_length : ℕ) (deeds : List (Deed D)) (reached : ℕ) (x : Facts K L D) : Type 0 where
+pub record Stands {K L D : Type 0} (term_length : ℕ) (deeds : List (Deed D)) (reached : ℕ) (x : StateFacts K L D) : Type 0 where
   pub terms : x.terms.term_length ≡ term_length
   pub rounds : (v : ℕ) → RoundStands deeds reached x.finalized v (round_of x v)
   -- each view that was voted to be finalized is passed
@@ -41,7 +41,7 @@ abbrev pub HasFinal : {D : Type 0} → List (Deed D) → ℕ → Type 0
 HasFinal {D} deeds v = (v ≡ 0) ⊎ ((final : Proposal D) × Contains deeds (Accepts (subject.Finalize final)) × (final.round.view ≡ v))
 
 -- what a state's facts keep in a life, with each call
-pub record Stays {K L D : Type 0} (term_length : ℕ) (deeds : List (Deed D)) (x : Facts K L D) : Type 0 where
+pub record Stays {K L D : Type 0} (term_length : ℕ) (deeds : List (Deed D)) (x : StateFacts K L D) : Type 0 where
   pub stands : Stands term_length deeds x.current x
   pub ahead : x.finalized < x.current
   pub final : HasFinal deeds x.finalized
@@ -79,7 +79,7 @@ module _ {K D : Type 0} (deeds : List (Deed D)) where
   }
 
 module _ {K L D : Type 0} (term_length : ℕ) (deeds : List (Deed D)) where
-  pub stands_later : (reached further : ℕ) (x : Facts K L D) → reached ≤ further → Stands term_length deeds reached x → Stands term_length deeds further x
+  pub stands_later : (reached further : ℕ) (x : StateFacts K L D) → reached ≤ further → Stands term_length deeds reached x → Stands term_length deeds further x
   stands_later reached further x later stands = record {
     terms = stands.terms;
     rounds = λ v. round_later deeds reached further x.finalized x.finalized v (round_of x v) later (omega arith) (stands.rounds v);
@@ -87,7 +87,7 @@ module _ {K L D : Type 0} (term_length : ℕ) (deeds : List (Deed D)) where
     noted = stands.noted;
   }
 
-  pub stands_put : (reached : ℕ) (x : Facts K L D) (v : ℕ) (r : RoundFacts K D) → RoundStands deeds reached x.finalized v r → Stands term_length deeds reached x → Stands term_length deeds reached (with_round x v r)
+  pub stands_put : (reached : ℕ) (x : StateFacts K L D) (v : ℕ) (r : RoundFacts K D) → RoundStands deeds reached x.finalized v r → Stands term_length deeds reached x → Stands term_length deeds reached (with_round x v r)
   stands_put reached x v r here stands = record { terms = stands.terms; rounds = rounds; passed = stands.passed; noted = stands.noted }
     where
       rounds : (w : ℕ) → RoundStands deeds reached x.finalized w (round_of (with_round x v r) w)
@@ -96,7 +96,7 @@ module _ {K L D : Type 0} (term_length : ℕ) (deeds : List (Deed D)) where
         | inr apart ↦ subst (λ s. RoundStands deeds reached x.finalized w s) (sym (round_of-with_round x w v apart r)) (stands.rounds w)
       ]
 
-  pub stands_accepted : (certificate : Subject D) (reached : ℕ) (x : Facts K L D) → Stands term_length deeds reached x → Stands term_length (deeds ++ Accepts certificate ∷ []) reached x
+  pub stands_accepted : (certificate : Subject D) (reached : ℕ) (x : StateFacts K L D) → Stands term_length deeds reached x → Stands term_length (deeds ++ Accepts certificate ∷ []) reached x
   stands_accepted certificate reached x stands = record {
     terms = stands.terms;
     rounds = λ v. round_accepted deeds certificate reached x.finalized v (round_of x v) (stands.rounds v);
@@ -104,7 +104,7 @@ module _ {K L D : Type 0} (term_length : ℕ) (deeds : List (Deed D)) where
     noted = λ round h. stands.noted round (not_vote deeds certificate (subject.Nullify round) h);
   }
 
-  pub stays_accepted : (certificate : Subject D) (x : Facts K L D) → Stays term_length deeds x → Stays term_length (deeds ++ Accepts certificate ∷ []) x
+  pub stays_accepted : (certificate : Subject D) (x : StateFacts K L D) → Stays term_length deeds x → Stays term_length (deeds ++ Accepts certificate ∷ []) x
   stays_accepted certificate x keeps = record {
     stands = stands_accepted certificate x.current x keeps.stands;
     ahead = keeps.ahead;

@@ -4,7 +4,7 @@ use Rattle.std.proofs.Common.{◌≡◌, refl, ap, subst, ℕ, ◌+◌, ◌<◌,
 use Rattle.simplex_types.specs.Certificates.{ProposalFacts, NullificationFacts}
 use Rattle.simplex_types.specs.declared.types.messages.Subject.TheVariants as subject
 use Rattle.simplex_voter.specs.Acceptance.{after_add_notarization, after_add_nullification, after_add_finalization}
-use Rattle.simplex_voter.specs.Facts.{Facts, Elect, is_tracked}
+use Rattle.simplex_voter.specs.Facts.{StateFacts, Elect, is_tracked}
 use Rattle.simplex_voter.specs.Entering.{at_moment, with_view_entered}
 use Rattle.simplex_voter.specs.Certification.{with_verdict, verdict_taken, after_certified}
 use Rattle.simplex_laws.specs.Deeds.{Deed, Accepts}
@@ -17,7 +17,7 @@ use Rattle.simplex_laws.proofs.votes.Standing.{Stays, latest, stays_accepted}
 use Rattle.simplex_laws.proofs.votes.StandingSteps.{Suits, plain_suits, stays_on}
 use Rattle.simplex_laws.proofs.frames.Steps.{Still, verdict_by}
 
-module _ {K L D : Type 0} (same : D → D → Bool) (elect : Elect L) (x : Facts K L D) (v now : ℕ) where
+module _ {K L D : Type 0} (same : D → D → Bool) (elect : Elect L) (x : StateFacts K L D) (v now : ℕ) where
   -- a true verdict enters a later view
   verdict_passes : v < (verdict_taken elect (at_moment x now) v true now).current
   verdict_passes =
@@ -38,7 +38,7 @@ module _ {K L D : Type 0} (same : D → D → Bool) (elect : Elect L) (x : Facts
           let passed = certified_passes success tracked (ap (λ (p : ℕ × Bool). p.1) pair) in
           omega (arith, at, passed)
 
-module _ {K L D : Type 0} (same : D → D → Bool) (decides : (d e : D) → same d e ≡ true → d ≡ e) (elect : Elect L) (term_length : ℕ) (deeds : List (Deed D)) (x : Facts K L D) (stays : Stays term_length deeds x) where
+module _ {K L D : Type 0} (same : D → D → Bool) (decides : (d e : D) → same d e ≡ true → d ≡ e) (elect : Elect L) (term_length : ℕ) (deeds : List (Deed D)) (x : StateFacts K L D) (stays : Stays term_length deeds x) where
   moment_stays : (now : ℕ) → Stays term_length deeds (at_moment x now)
   moment_stays now = record { stands = record { terms = stays.stands.terms; rounds = stays.stands.rounds; passed = stays.stands.passed; noted = stays.stands.noted }; ahead = stays.ahead; final = stays.final }
 

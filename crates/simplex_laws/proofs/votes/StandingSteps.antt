@@ -9,7 +9,7 @@ use Rattle.simplex_types.specs.declared.types.messages.Subject.TheVariants as su
 use Rattle.simplex_types.specs.declared.types.numbers.Round.{Round}
 use Rattle.simplex_round.specs.Slot.{after_certificate}
 use Rattle.simplex_round.specs.Round.{RoundFacts, new_round, is_nullify, is_finalize}
-use Rattle.simplex_voter.specs.Facts.{Facts, Elect, round_of, round_number}
+use Rattle.simplex_voter.specs.Facts.{StateFacts, Elect, round_of, round_number}
 use Rattle.simplex_voter.specs.Windows.{min_active}
 use Rattle.simplex_voter.specs.Proposing.{proposal_of}
 use Rattle.simplex_laws.specs.Events as event
@@ -31,14 +31,14 @@ use Rattle.simplex_laws.proofs.frames.Steps.{RoundStep, Step, Puts, Notes, Raise
 
 -- what has to be known of an event: what it brings was accepted, a view that it judges to be true is passed, and a vote that
 -- it decides is allowed, or stands against no vote of the other kind
-pub record Suits {K L D : Type 0} (deeds : List (Deed D)) (reached : ℕ) (x : Facts K L D) (e : Event K D) : Type 0 where
+pub record Suits {K L D : Type 0} (deeds : List (Deed D)) (reached : ℕ) (x : StateFacts K L D) (e : Event K D) : Type 0 where
   pub notarized : (c : ProposalFacts D) → notarization_by e ≡ Some c → Contains deeds (Accepts (subject.Notarize c.proposal))
   pub finalized : HasFinal deeds (finalized_by_event e)
   pub enters : (v : ℕ) → verdict_by e ≡ Some (v, true) → v < reached
   pub nullifies : (v : ℕ) → nullify_by e ≡ Some v → IsEvent x e ⊎ ((p : Proposal D) → HasSigned deeds (subject.Finalize p) → v ≢ p.round.view)
   pub finalizes : (v : ℕ) → finalize_by e ≡ Some v → IsEvent x e ⊎ ((round : Round) → HasSigned deeds (subject.Nullify round) → round.view ≢ v)
 
-module _ {K L D : Type 0} (deeds : List (Deed D)) (reached : ℕ) (x : Facts K L D) (e : Event K D) where
+module _ {K L D : Type 0} (deeds : List (Deed D)) (reached : ℕ) (x : StateFacts K L D) (e : Event K D) where
   -- an event that brings no notarization and no finalization and decides no vote
   pub plain_suits : notarization_by e ≡ None → finalized_by_event e ≡ 0 → nullify_by e ≡ None → finalize_by e ≡ None → ((v : ℕ) → verdict_by e ≡ Some (v, true) → v < reached) → Suits deeds reached x e
   plain_suits notarization final nullify finalize enters = record {
@@ -61,8 +61,8 @@ passed_by : (a : Bool) (P : Type 0) → a ≡ false → (a ≡ true) ⊎ P → (
 passed_by a P isnt (inl is) b = absurd (false≢true (sym isnt ∙ is))
 passed_by a P isnt (inr p) b = inr p
 
-module _ {K L D : Type 0} (same : D → D → Bool) (decides : (d e : D) → same d e ≡ true → d ≡ e) (elect : Elect L) (term_length : ℕ) (deeds : List (Deed D)) (reached : ℕ) (x : Facts K L D) (e : Event K D) (suits : Suits deeds reached x e) where
-  change_stands : (finalized : ℕ) (y : Facts K L D) (v : ℕ) (r s : RoundFacts K D) → RoundStep same elect x e y v r s → RoundStands deeds reached finalized v r → RoundStands deeds reached finalized v s
+module _ {K L D : Type 0} (same : D → D → Bool) (decides : (d e : D) → same d e ≡ true → d ≡ e) (elect : Elect L) (term_length : ℕ) (deeds : List (Deed D)) (reached : ℕ) (x : StateFacts K L D) (e : Event K D) (suits : Suits deeds reached x e) where
+  change_stands : (finalized : ℕ) (y : StateFacts K L D) (v : ℕ) (r s : RoundFacts K D) → RoundStep same elect x e y v r s → RoundStands deeds reached finalized v r → RoundStands deeds reached finalized v s
   change_stands finalized y v r s (step.Notarized c says at none) p = record {
     notarized = λ d is. (let alike : c ≡ d = cc in subst (λ (f : ProposalFacts D). (f.proposal.round.view ≡ v) × Contains deeds (Accepts (subject.Notarize f.proposal))) alike (at, suits.notarized c says));
     held = λ d is. (let alike : c ≡ d = cc in subst (λ (f : ProposalFacts D). Holds (after_certificate (same_proposal same) r.slot c.proposal) f.proposal) alike (holds_new same decides r.slot c.proposal));
@@ -85,7 +85,7 @@ module _ {K L D : Type 0} (same : D → D → Bool) (decides : (d e : D) → sam
   change_stands finalized y v r s (step.VotedAgain q binding says at is) p = record { notarized = p.notarized; held = λ d is. holds_own same decides r.slot q d.proposal (p.held d is); entered = p.entered; nullify_decided = p.nullify_decided; finalize_decided = p.finalize_decided }
   change_stands finalized y v r s _ p = record { notarized = p.notarized; held = p.held; entered = p.entered; nullify_decided = p.nullify_decided; finalize_decided = p.finalize_decided }
 
-  step_stands : (y z : Facts K L D) → Step same elect x e 0 y z → Stands term_length deeds reached y → Stands term_length deeds reached z
+  step_stands : (y z : StateFacts K L D) → Step same elect x e 0 y z → Stands term_length deeds reached y → Stands term_length deeds reached z
   step_stands y z (Puts v r may change) p = stands_put term_length deeds reached y v r (change_stands y.finalized y v (round_of y v) r change (p.rounds v)) p
   step_stands y z (Raises v says above) p = record {
     terms = p.terms;
@@ -134,14 +134,14 @@ module _ {K L D : Type 0} (same : D → D → Bool) (decides : (d e : D) → sam
   pub event_stands : Stands term_length deeds reached x → Stands term_length deeds reached (after_event same elect x e)
   event_stands p = along same elect x e 0 (Stands term_length deeds reached) step_stands x (after_event same elect x e) (event_path same elect 0 x e (omega arith) (asked_of_all x e)) p
 
-  step_final : (y z : Facts K L D) → Step same elect x e 0 y z → HasFinal deeds y.finalized → HasFinal deeds z.finalized
+  step_final : (y z : StateFacts K L D) → Step same elect x e 0 y z → HasFinal deeds y.finalized → HasFinal deeds z.finalized
   step_final y z (Raises v says above) p = subst (λ n. HasFinal deeds n) says suits.finalized
   step_final y z _ p = p
 
   pub event_final : HasFinal deeds x.finalized → HasFinal deeds (after_event same elect x e).finalized
   event_final p = along same elect x e 0 (λ y. HasFinal deeds y.finalized) step_final x (after_event same elect x e) (event_path same elect 0 x e (omega arith) (asked_of_all x e)) p
 
-module _ {K L D : Type 0} (same : D → D → Bool) (decides : (d e : D) → same d e ≡ true → d ≡ e) (elect : Elect L) (term_length : ℕ) (deeds : List (Deed D)) (x : Facts K L D) (e : Event K D) (suits : Suits deeds (after_event same elect x e).current x e) where
+module _ {K L D : Type 0} (same : D → D → Bool) (decides : (d e : D) → same d e ≡ true → d ≡ e) (elect : Elect L) (term_length : ℕ) (deeds : List (Deed D)) (x : StateFacts K L D) (e : Event K D) (suits : Suits deeds (after_event same elect x e).current x e) where
   -- an event, also the floor of a new state
   pub event_stays : IsAhead x ⊎ ((x.finalized ≡ 0) × (is_floor e ≡ true)) → Stands term_length deeds (after_event same elect x e).current x → HasFinal deeds x.finalized → Stays term_length deeds (after_event same elect x e)
   event_stays ahead stands final = record {

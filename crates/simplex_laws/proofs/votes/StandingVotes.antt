@@ -13,7 +13,7 @@ use Rattle.simplex_round.specs.declared.round.Decision.{Decision}
 use Rattle.simplex_round.specs.declared.round.Decision.TheVariants as decision
 use Rattle.simplex_round.specs.Slot.{is_unequivocated}
 use Rattle.simplex_round.specs.Round.{RoundFacts, is_pending, is_nullify, is_finalize, after_nullify}
-use Rattle.simplex_voter.specs.Facts.{Facts, Elect, round_of, round_number, with_round}
+use Rattle.simplex_voter.specs.Facts.{StateFacts, Elect, round_of, round_number, with_round}
 use Rattle.simplex_voter.specs.Rules.{NullifyRule, FinalizeRule}
 use Rattle.simplex_voter.proofs.Gaps.{and_parts, not_true}
 use Rattle.simplex_laws.specs.Deeds.{Deed, Accepts, Signs}
@@ -75,7 +75,7 @@ module _ {K D : Type 0} (deeds : List (Deed D)) (reached finalized v : ℕ) (r :
 module _ {K L D : Type 0} (term_length : ℕ) (deeds : List (Deed D)) where
   -- a vote that is decided and noted is cast
 
-  pub nullify_cast_stands : (reached : ℕ) (x : Facts K L D) (round : Round) (m : ℕ) → 1 ≤ round.view → Contains x.nullify_votes round.view ⊎ (round.view ≤ x.finalized) → (is_nullify (round_of x round.view).decision ≡ true) ⊎ (round.view ≤ x.finalized) → Stands term_length deeds reached x → Stands term_length (deeds ++ Signs m (subject.Nullify round) ∷ []) reached x
+  pub nullify_cast_stands : (reached : ℕ) (x : StateFacts K L D) (round : Round) (m : ℕ) → 1 ≤ round.view → Contains x.nullify_votes round.view ⊎ (round.view ≤ x.finalized) → (is_nullify (round_of x round.view).decision ≡ true) ⊎ (round.view ≤ x.finalized) → Stands term_length deeds reached x → Stands term_length (deeds ++ Signs m (subject.Nullify round) ∷ []) reached x
   nullify_cast_stands reached x round m one noted decided stands =
       let new = Signs m (subject.Nullify round) in
       record {
@@ -101,7 +101,7 @@ module _ {K L D : Type 0} (term_length : ℕ) (deeds : List (Deed D)) where
         ];
       }
 
-  pub finalize_cast_stands : (reached : ℕ) (x : Facts K L D) (p : Proposal D) (m : ℕ) → p.round.view < reached → (is_finalize (round_of x p.round.view).decision ≡ true) ⊎ (p.round.view ≤ x.finalized) → Stands term_length deeds reached x → Stands term_length (deeds ++ Signs m (subject.Finalize p) ∷ []) reached x
+  pub finalize_cast_stands : (reached : ℕ) (x : StateFacts K L D) (p : Proposal D) (m : ℕ) → p.round.view < reached → (is_finalize (round_of x p.round.view).decision ≡ true) ⊎ (p.round.view ≤ x.finalized) → Stands term_length deeds reached x → Stands term_length (deeds ++ Signs m (subject.Finalize p) ∷ []) reached x
   finalize_cast_stands reached x p m passed decided stands =
       let new = Signs m (subject.Finalize p) in
       record {
@@ -127,7 +127,7 @@ module _ {K L D : Type 0} (term_length : ℕ) (deeds : List (Deed D)) where
         noted = λ other h. elim (signed_push deeds new (subject.Nullify other) h) [ inl before ↦ stands.noted other before | inr now ↦ absurd (cc) ];
       }
 
-  pub noted_stands : (reached : ℕ) (x : Facts K L D) (v : ℕ) → Stands term_length deeds reached x → Stands term_length deeds reached (record x { nullify_votes = insert_key nat_cmp x.nullify_votes v })
+  pub noted_stands : (reached : ℕ) (x : StateFacts K L D) (v : ℕ) → Stands term_length deeds reached x → Stands term_length deeds reached (record x { nullify_votes = insert_key nat_cmp x.nullify_votes v })
   noted_stands reached x v stands = record {
     terms = stands.terms;
     rounds = λ w. stands.rounds w;
@@ -135,7 +135,7 @@ module _ {K L D : Type 0} (term_length : ℕ) (deeds : List (Deed D)) where
     noted = λ round h. ((stands.noted round h).0, elim (stands.noted round h).1 [ inl noted ↦ inl (noted_old v round.view x.nullify_votes noted) | inr below ↦ inr below ]);
   }
 
-module _ {K L D : Type 0} (term_length : ℕ) (deeds : List (Deed D)) (x : Facts K L D) (v : ℕ) (keeps : Stays term_length deeds x) where
+module _ {K L D : Type 0} (term_length : ℕ) (deeds : List (Deed D)) (x : StateFacts K L D) (v : ℕ) (keeps : Stays term_length deeds x) where
   -- a vote to nullify the current view follows no vote to finalize one from there on
 
   pub nullify_allowed : NullifyRule x v → AllowsNullify term_length deeds (round_number x v)
@@ -154,7 +154,7 @@ module _ {K L D : Type 0} (term_length : ℕ) (deeds : List (Deed D)) (x : Facts
   pub nullify_voted : (m : ℕ) → NullifyRule x v → Stays term_length (deeds ++ Signs m (subject.Nullify (round_number x v)) ∷ []) (record (with_round x v (after_nullify (round_of x v))) { nullify_votes = insert_key nat_cmp x.nullify_votes v })
   nullify_voted m rule =
       let y = with_round x v (after_nullify (round_of x v)) in
-      let z : Facts K L D = record y { nullify_votes = insert_key nat_cmp x.nullify_votes v } in
+      let z : StateFacts K L D = record y { nullify_votes = insert_key nat_cmp x.nullify_votes v } in
       let decided : is_nullify (round_of z v).decision ≡ true = ap (λ r. is_nullify r.decision) (round_put x v (after_nullify (round_of x v))) ∙ rw (rule.no_finalize) refl in
       record {
         stands = nullify_cast_stands term_length deeds x.current z (round_number x v) m (omega (arith, rule.current, keeps.ahead)) (inl (noted_new v x.nullify_votes)) (inl decided) (noted_stands term_length deeds x.current y v (nullify_decided rule).stands);

@@ -7,7 +7,7 @@ use Rattle.simplex_types.specs.declared.types.messages.Subject.{Subject}
 use Rattle.simplex_types.specs.declared.types.messages.Subject.TheVariants as subject
 use Rattle.simplex_types.specs.declared.types.window.Terms.{Terms}
 use Rattle.simplex_round.specs.Round.{new_round}
-use Rattle.simplex_voter.specs.Facts.{Settings, Facts, Elect, new_facts}
+use Rattle.simplex_voter.specs.Facts.{Settings, StateFacts, Elect, new_facts}
 use Rattle.simplex_voter.specs.Acceptance.{after_set_floor}
 use Rattle.simplex_laws.specs.Deeds.{Accepts, of_floor}
 use Rattle.simplex_laws.specs.Events as event
@@ -51,7 +51,7 @@ module _ {K L D : Type 0} (same : D → D → Bool) (decides : (d e : D) → sam
 
   pub start_stays : (now : ℕ) → Stays terms.term_length (of_floor floor) (after_set_floor same elect (new_facts settings me members elector terms early) floor now)
   start_stays now =
-      let x : Facts K L D = new_facts settings me members elector terms early in
+      let x : StateFacts K L D = new_facts settings me members elector terms early in
       let e : Event K D = event.SetFloor floor now in
       let y = after_set_floor same elect x floor now in
       let suits : Suits (of_floor floor) y.current x e = record {

@@ -7,7 +7,7 @@ use Rattle.simplex_types.specs.Terms.{next_term_start}
 use Rattle.simplex_types.specs.Certificates.{ProposalFacts, NullificationFacts}
 use Rattle.simplex_types.specs.declared.reasons.TimeoutReason.TheVariants.{FailedCertification}
 use Rattle.simplex_round.specs.Round.{after_nullify}
-use Rattle.simplex_voter.specs.Facts.{Facts, Elect, round_of, is_tracked, with_round}
+use Rattle.simplex_voter.specs.Facts.{StateFacts, Elect, round_of, is_tracked, with_round}
 use Rattle.simplex_voter.specs.Rules.{may_nullify, may_finalize}
 use Rattle.simplex_voter.specs.Entering.{at_moment, with_view_entered}
 use Rattle.simplex_voter.specs.Leaders.{with_elected_leader, with_window_leaders}
@@ -19,7 +19,7 @@ use Rattle.simplex_voter.proofs.Rules.{nullify_parts, finalize_parts}
 use Rattle.simplex_laws.proofs.votes.UnchangedRounds.{calm_alike, calm_nullify}
 use Rattle.simplex_laws.proofs.votes.UnchangedProposals.{CalmOn, on_joined, on_same, on_if, on_put, on_there, on_moment, on_slid, on_elected, on_entered, on_triggered, on_woken, on_named_slid, on_nullification, on_notarized, on_finalized, on_raised}
 
-module _ {K L D : Type 0} (base : ℕ) (same : D → D → Bool) (elect : Elect L) (x : Facts K L D) where
+module _ {K L D : Type 0} (base : ℕ) (same : D → D → Bool) (elect : Elect L) (x : StateFacts K L D) where
   -- certificates
 
   pub on_add_notarization : (c : ProposalFacts D) → base ≤ c.proposal.round.view → CalmOn base x (after_add_notarization same elect x c)
@@ -54,7 +54,7 @@ module _ {K L D : Type 0} (base : ℕ) (same : D → D → Bool) (elect : Elect 
       let w = with_waiting_candidate elect z v in
       on_if base x (is_some (round_of x v).finalization) z (with_window_leaders w v) up (on_joined base x z (with_window_leaders w v) up (on_joined base z w (with_window_leaders w v) (on_woken base elect z v) (on_slid base w v over)))
 
-module _ {K L D : Type 0} (base : ℕ) (elect : Elect L) (x : Facts K L D) where
+module _ {K L D : Type 0} (base : ℕ) (elect : Elect L) (x : StateFacts K L D) where
   -- verdicts
 
   pub on_verdict : (v : ℕ) (success : Bool) (now : ℕ) → is_tracked x v ≡ true → base ≤ v → CalmOn base x (verdict_taken elect x v success now)
@@ -67,7 +67,7 @@ module _ {K L D : Type 0} (base : ℕ) (elect : Elect L) (x : Facts K L D) where
       let j = with_verdict x v false in
       on_joined base x j (with_timeout j v FailedCertification now) (on_there base x v _ tracked (calm_alike v (round_of x v) _ refl refl refl refl refl)) (on_triggered base j v FailedCertification now)
 
-module _ {K L D : Type 0} (base : ℕ) (elect : Elect L) (x : Facts K L D) where
+module _ {K L D : Type 0} (base : ℕ) (elect : Elect L) (x : StateFacts K L D) where
   pub on_certified : (v : ℕ) (success : Bool) (now : ℕ) → (is_tracked x v ≡ true → base ≤ v) → CalmOn base x (after_certified elect x v success now)
   on_certified v success now above = by_tracked (is_tracked x v) refl
     where

@@ -13,7 +13,7 @@ use Rattle.simplex_types.specs.Certificates.{ProposalFacts, NullificationFacts}
 use Rattle.simplex_types.specs.declared.reasons.TimeoutReason.{TimeoutReason}
 use Rattle.simplex_round.specs.declared.round.Leader.{Leader}
 use Rattle.simplex_round.specs.Round.{RoundFacts, leader_at, with_latch}
-use Rattle.simplex_voter.specs.Facts.{Facts, Elect, round_at, round_of, is_tracked, with_round, with_tracked}
+use Rattle.simplex_voter.specs.Facts.{StateFacts, Elect, round_at, round_of, is_tracked, with_round, with_tracked}
 use Rattle.simplex_voter.specs.Windows.{in_window}
 use Rattle.simplex_voter.specs.Payloads.{is_elected_early}
 use Rattle.simplex_voter.specs.Entering.{at_moment, with_view_entered, entered_round}
@@ -28,11 +28,11 @@ use Rattle.simplex_laws.proofs.frames.Rounds.{round_put, tracked_changed, round_
 use Rattle.simplex_laws.proofs.votes.UnchangedRounds.{Calm, calm, calm_joined, calm_alike, calm_led, calm_token, calm_nullification, calm_notarization, calm_finalization}
 
 -- no view below `base` is tracked
-abbrev pub Above : {K L D : Type 0} → ℕ → Facts K L D → Type 0
+abbrev pub Above : {K L D : Type 0} → ℕ → StateFacts K L D → Type 0
 Above base x = (v : ℕ) → is_tracked x v ≡ true → base ≤ v
 
 -- from `base` on each round is left so, no view below it comes to be tracked, and the current and the finalized view don't fall
-pub record CalmOn {K L D : Type 0} (base : ℕ) (x y : Facts K L D) : Type 0 where
+pub record CalmOn {K L D : Type 0} (base : ℕ) (x y : StateFacts K L D) : Type 0 where
   pub settings : y.settings ≡ x.settings
   pub current : x.current ≤ y.current
   pub finalized : x.finalized ≤ y.finalized
@@ -40,11 +40,11 @@ pub record CalmOn {K L D : Type 0} (base : ℕ) (x y : Facts K L D) : Type 0 whe
   pub above : Above base x → Above base y
   pub rounds : (v : ℕ) → Calm v (round_of x v) (round_of y v)
 
-pub found_apart : {K L D : Type 0} (x : Facts K L D) (w v : ℕ) (r : RoundFacts K D) → w ≢ v → find nat_cmp w (put nat_cmp v r x.rounds) ≡ find nat_cmp w x.rounds
+pub found_apart : {K L D : Type 0} (x : StateFacts K L D) (w v : ℕ) (r : RoundFacts K D) → w ≢ v → find nat_cmp w (put nat_cmp v r x.rounds) ≡ find nat_cmp w x.rounds
 found_apart x w v r apart = find-put nat_cmp nat_cmp_total w v r x.rounds ∙ ap (λ b. cond b (Some r) (find nat_cmp w x.rounds)) (is_eq-nat_cmp w v ∙ ne_eqb w v apart)
 
 module _ {K L D : Type 0} (base : ℕ) where
-  pub on_joined : (x y z : Facts K L D) → CalmOn base x y → CalmOn base y z → CalmOn base x z
+  pub on_joined : (x y z : StateFacts K L D) → CalmOn base x y → CalmOn base y z → CalmOn base x z
   on_joined x y z p q = record {
     settings = q.settings ∙ p.settings;
     current = omega (arith, p.current, q.current);
@@ -54,81 +54,81 @@ module _ {K L D : Type 0} (base : ℕ) where
     rounds = λ v. calm_joined v _ _ _ (p.rounds v) (q.rounds v);
   }
 
-  pub on_same : (x : Facts K L D) → CalmOn base x x
+  pub on_same : (x : StateFacts K L D) → CalmOn base x x
   on_same x = record { settings = refl; current = omega arith; finalized = omega arith; nullified = refl; above = λ above. above; rounds = λ v. calm v (round_of x v) }
 
-  pub on_if : (x : Facts K L D) (b : Bool) (y z : Facts K L D) → CalmOn base x y → CalmOn base x z → CalmOn base x (if b then y else z)
+  pub on_if : (x : StateFacts K L D) (b : Bool) (y z : StateFacts K L D) → CalmOn base x y → CalmOn base x z → CalmOn base x (if b then y else z)
   on_if x true y z p q = p
   on_if x false y z p q = q
 
-  rounds_put : (x : Facts K L D) (v : ℕ) (r : RoundFacts K D) → Calm v (round_of x v) r → (w : ℕ) → Calm w (round_of x w) (round_of (with_round x v r) w)
+  rounds_put : (x : StateFacts K L D) (v : ℕ) (r : RoundFacts K D) → Calm v (round_of x v) r → (w : ℕ) → Calm w (round_of x w) (round_of (with_round x v r) w)
   rounds_put x v r same w = elim (cases_eq w v) [
     | inl at ↦ subst (λ u. Calm u (round_of x u) (round_of (with_round x v r) u)) (sym at) (subst (λ s. Calm v (round_of x v) s) (sym (round_put x v r)) same)
     | inr apart ↦ subst (λ s. Calm w (round_of x w) s) (sym (round_of-with_round x w v apart r)) (calm w (round_of x w))
   ]
 
-  pub above_put : (x : Facts K L D) (v : ℕ) (r : RoundFacts K D) → base ≤ v → Above base x → Above base (with_round x v r)
+  pub above_put : (x : StateFacts K L D) (v : ℕ) (r : RoundFacts K D) → base ≤ v → Above base x → Above base (with_round x v r)
   above_put x v r over above w tracked = elim (cases_eq w v) [
     | inl at ↦ subst (λ u. base ≤ u) (sym at) over
     | inr apart ↦ above w (sym (ap is_some (found_apart x w v r apart)) ∙ tracked)
   ]
 
-  pub on_put : (x : Facts K L D) (v : ℕ) (r : RoundFacts K D) → base ≤ v → Calm v (round_of x v) r → CalmOn base x (with_round x v r)
+  pub on_put : (x : StateFacts K L D) (v : ℕ) (r : RoundFacts K D) → base ≤ v → Calm v (round_of x v) r → CalmOn base x (with_round x v r)
   on_put x v r over same = record { settings = refl; current = omega arith; finalized = omega arith; nullified = refl; above = above_put x v r over; rounds = rounds_put x v r same }
 
   -- a view that is tracked is none below
-  pub on_there : (x : Facts K L D) (v : ℕ) (r : RoundFacts K D) → is_tracked x v ≡ true → Calm v (round_of x v) r → CalmOn base x (with_round x v r)
+  pub on_there : (x : StateFacts K L D) (v : ℕ) (r : RoundFacts K D) → is_tracked x v ≡ true → Calm v (round_of x v) r → CalmOn base x (with_round x v r)
   on_there x v r tracked same = record { settings = refl; current = omega arith; finalized = omega arith; nullified = refl; above = λ above. above_put x v r (above v tracked) above; rounds = rounds_put x v r same }
 
-  pub on_tracked : (x : Facts K L D) (v : ℕ) (r : RoundFacts K D) → Calm v (round_of x v) r → CalmOn base x (with_tracked x v r)
+  pub on_tracked : (x : StateFacts K L D) (v : ℕ) (r : RoundFacts K D) → Calm v (round_of x v) r → CalmOn base x (with_tracked x v r)
   on_tracked x v r same = by_tracked (is_tracked x v) refl
     where
       by_tracked : (b : Bool) → is_tracked x v ≡ b → CalmOn base x (if b then with_round x v r else x)
       by_tracked true is = on_there x v r is same
       by_tracked false is = on_same x
 
-  pub on_moment : (x : Facts K L D) (now : ℕ) → CalmOn base x (at_moment x now)
+  pub on_moment : (x : StateFacts K L D) (now : ℕ) → CalmOn base x (at_moment x now)
   on_moment x now = record { settings = refl; current = omega arith; finalized = omega arith; nullified = refl; above = λ above. above; rounds = λ v. calm v (round_of x v) }
 
   -- leaders
 
-  pub on_led : (x : Facts K L D) (v member : ℕ) → base ≤ v → CalmOn base x (with_leader_at x v member)
+  pub on_led : (x : StateFacts K L D) (v member : ℕ) → base ≤ v → CalmOn base x (with_leader_at x v member)
   on_led x v member over = by_leader (has_leader x v) refl
     where
       by_leader : (b : Bool) → has_leader x v ≡ b → CalmOn base x (if b then x else with_round x v (record (round_of x v) { leader = leader_at x.members member }))
       by_leader true is = on_same x
       by_leader false is = on_put x v _ over (calm_led v (round_of x v) (leader_at x.members member) is)
 
-  on_inherited : (x : Facts K L D) (from to : ℕ) → base ≤ to → CalmOn base x (with_leader_of x from to)
+  on_inherited : (x : StateFacts K L D) (from to : ℕ) → base ≤ to → CalmOn base x (with_leader_of x from to)
   on_inherited x from to over = inherits (round_of x from).leader
     where
       inherits : (leader : Option (Leader K)) → CalmOn base x (option_map_or (λ l. with_leader_at x to l.idx) leader x)
       inherits None = on_same x
       inherits (Some l) = on_led x to l.idx over
 
-  slides : (low n : ℕ) (x : Facts K L D) → base ≤ low → CalmOn base x (fold (λ y w. with_leader_of y (w - 1) w) x (range_with_len low n))
+  slides : (low n : ℕ) (x : StateFacts K L D) → base ≤ low → CalmOn base x (fold (λ y w. with_leader_of y (w - 1) w) x (range_with_len low n))
   slides low zero x over = on_same x
   slides low (suc n) x over =
       let y = with_leader_of x (low - 1) low in
       on_joined x y (fold (λ y w. with_leader_of y (w - 1) w) y (range_with_len (low + 1) n)) (on_inherited x (low - 1) low over) (slides (low + 1) n y (omega arith))
 
-  pub on_slid : (x : Facts K L D) (v : ℕ) → base ≤ v → CalmOn base x (with_window_leaders x v)
+  pub on_slid : (x : StateFacts K L D) (v : ℕ) → base ≤ v → CalmOn base x (with_window_leaders x v)
   on_slid x v over = elim (nat_eq x.terms.optimistic_views 0) as (λ b. CalmOn base x (fold (λ y w. with_leader_of y (w - 1) w) x (if b then [] else range_with_len (v + 1) (min (term_end x.terms.term_length v) (v + x.terms.optimistic_views + 1) - v)))) [
     | true ↦ on_same x
     | false ↦ slides (v + 1) (min (term_end x.terms.term_length v) (v + x.terms.optimistic_views + 1) - v) x (omega arith)
   ]
 
-  pub on_elected : (elect : Elect L) (x : Facts K L D) (v : ℕ) (seed : Option (List ℕ)) → base ≤ v → CalmOn base x (with_elected_leader elect x v seed)
+  pub on_elected : (elect : Elect L) (x : StateFacts K L D) (v : ℕ) (seed : Option (List ℕ)) → base ≤ v → CalmOn base x (with_elected_leader elect x v seed)
   on_elected elect x v seed over = on_led x v _ over
 
-  pub on_prepared : (elect : Elect L) (x : Facts K L D) (v : ℕ) → base ≤ v → CalmOn base x (with_next_view_ready elect x v)
+  pub on_prepared : (elect : Elect L) (x : StateFacts K L D) (v : ℕ) → base ≤ v → CalmOn base x (with_next_view_ready elect x v)
   on_prepared elect x v over =
       on_if x (in_window x (v + 1)) (with_leader_of x v (v + 1)) _ (on_inherited x v (v + 1) (omega arith))
       (on_if x ((round_of x v).notarize_decided && is_elected_early elect x (v + 1)) (with_elected_leader elect x (v + 1) None) x (on_elected elect x (v + 1) None (omega arith)) (on_same x))
 
   -- entries, timeouts and candidates
 
-  pub on_entered : (x : Facts K L D) (v now : ℕ) → base ≤ v → CalmOn base x (with_view_entered x v now)
+  pub on_entered : (x : StateFacts K L D) (v now : ℕ) → base ≤ v → CalmOn base x (with_view_entered x v now)
   on_entered x v now over = enters (nat_lt x.current v) refl
     where
       enters : (b : Bool) → nat_lt x.current v ≡ b → CalmOn base x (with_view_entered x v now)
@@ -138,7 +138,7 @@ module _ {K L D : Type 0} (base : ℕ) where
           rw is (record { settings = refl; current = grind (arith, nat_tests); finalized = omega arith; nullified = refl; above = put.above; rounds = λ w. put.rounds w })
       enters false is = rw is (on_same x)
 
-  pub on_triggered : (x : Facts K L D) (v : ℕ) (reason : TimeoutReason) (now : ℕ) → CalmOn base x (with_timeout x v reason now)
+  pub on_triggered : (x : StateFacts K L D) (v : ℕ) (reason : TimeoutReason) (now : ℕ) → CalmOn base x (with_timeout x v reason now)
   on_triggered x v reason now = by_test (nat_le x.current v && is_tracked x v && not (is_contradicted reason (round_of x v))) refl
     where
       by_test : (b : Bool) → (nat_le x.current v && is_tracked x v && not (is_contradicted reason (round_of x v))) ≡ b → CalmOn base x (if b then with_round x v (with_latch (round_of x v) now reason) else x)
@@ -147,27 +147,27 @@ module _ {K L D : Type 0} (base : ℕ) where
           on_there x v _ (and_parts (nat_le x.current v) (is_tracked x v) first).1 (calm_alike v (round_of x v) _ refl refl refl refl refl)
       by_test false is = on_same x
 
-  on_named : (x : Facts K L D) (v : ℕ) → CalmOn base x (named_also x v)
+  on_named : (x : StateFacts K L D) (v : ℕ) → CalmOn base x (named_also x v)
   on_named x v = on_if x (nat_lt x.finalized v) _ x (record { settings = refl; current = omega arith; finalized = omega arith; nullified = refl; above = λ above. above; rounds = λ w. calm w (round_of x w) }) (on_same x)
 
-  pub on_woken : (elect : Elect L) (x : Facts K L D) (p : ℕ) → CalmOn base x (with_waiting_candidate elect x p)
+  pub on_woken : (elect : Elect L) (x : StateFacts K L D) (p : ℕ) → CalmOn base x (with_waiting_candidate elect x p)
   on_woken elect x p = on_if x (option_map_or (waits_for elect x p) (round_at x (p + 1)) false) (named_also x (p + 1)) x (on_named x (p + 1)) (on_same x)
 
-  pub on_named_slid : (x : Facts K L D) (v : ℕ) → base ≤ v → CalmOn base x (with_window_leaders (named_also x v) v)
+  pub on_named_slid : (x : StateFacts K L D) (v : ℕ) → base ≤ v → CalmOn base x (with_window_leaders (named_also x v) v)
   on_named_slid x v over = on_joined x (named_also x v) (with_window_leaders (named_also x v) v) (on_named x v) (on_slid (named_also x v) v over)
 
   -- certificates
 
-  pub on_nullification : (x : Facts K L D) (c : NullificationFacts) → base ≤ c.round.view → CalmOn base x (with_nullification_at x c)
+  pub on_nullification : (x : StateFacts K L D) (c : NullificationFacts) → base ≤ c.round.view → CalmOn base x (with_nullification_at x c)
   on_nullification x c over = on_put x c.round.view _ over (calm_nullification c.round.view (round_of x c.round.view) c)
 
-  pub on_floor : (x : Facts K L D) (v : ℕ) → base ≤ v → CalmOn base x (with_finalization_broadcast x v)
+  pub on_floor : (x : StateFacts K L D) (v : ℕ) → base ≤ v → CalmOn base x (with_finalization_broadcast x v)
   on_floor x v over = on_put x v _ over (calm_alike v (round_of x v) _ refl refl refl refl refl)
 
-  pub on_notarized : (same : D → D → Bool) (elect : Elect L) (x : Facts K L D) (c : ProposalFacts D) → base ≤ c.proposal.round.view → CalmOn base x (with_notarization_at same elect x c)
+  pub on_notarized : (same : D → D → Bool) (elect : Elect L) (x : StateFacts K L D) (c : ProposalFacts D) → base ≤ c.proposal.round.view → CalmOn base x (with_notarization_at same elect x c)
   on_notarized same elect x c over = on_put x c.proposal.round.view _ over (calm_notarization same c.proposal.round.view (round_of x c.proposal.round.view) c refl)
 
-  pub on_finalized : (same : D → D → Bool) (elect : Elect L) (x : Facts K L D) (c : ProposalFacts D) → base ≤ c.proposal.round.view → CalmOn base x (with_finalization_at same elect x c)
+  pub on_finalized : (same : D → D → Bool) (elect : Elect L) (x : StateFacts K L D) (c : ProposalFacts D) → base ≤ c.proposal.round.view → CalmOn base x (with_finalization_at same elect x c)
   on_finalized same elect x c over = on_put x c.proposal.round.view _ over (calm_finalization same c.proposal.round.view (round_of x c.proposal.round.view) c refl)
 
 -- the last finalized view is raised
@@ -176,7 +176,7 @@ calm_aborted : {K D : Type 0} (w : ℕ) (b : Bool) (r : RoundFacts K D) → Calm
 calm_aborted w true r = calm_token w r
 calm_aborted w false r = calm w r
 
-pub on_raised : {K L D : Type 0} (base : ℕ) (x : Facts K L D) (v : ℕ) → CalmOn base x (with_finalized_view x v)
+pub on_raised : {K L D : Type 0} (base : ℕ) (x : StateFacts K L D) (v : ℕ) → CalmOn base x (with_finalized_view x v)
 on_raised base x v = raises (nat_lt x.finalized v) refl
   where
     raises : (b : Bool) → nat_lt x.finalized v ≡ b → CalmOn base x (with_finalized_view x v)

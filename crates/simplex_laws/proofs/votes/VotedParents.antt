@@ -9,7 +9,7 @@ use Rattle.std.proofs.lemmas.Bool.Decides.{nat_tests}
 use Rattle.simplex_types.specs.Proposal.{same_proposal}
 use Rattle.simplex_types.specs.declared.types.messages.Proposal.{Proposal}
 use Rattle.simplex_round.specs.Round.{RoundFacts, new_round}
-use Rattle.simplex_voter.specs.Facts.{Facts, Elect, round_at, round_of, round_number}
+use Rattle.simplex_voter.specs.Facts.{StateFacts, Elect, round_at, round_of, round_number}
 use Rattle.simplex_voter.specs.Gaps.{IsGapless, IsFirstGap, is_gapless, first_gap}
 use Rattle.simplex_voter.specs.Windows.{is_start}
 use Rattle.simplex_voter.specs.Payloads.{explicit_payload, optimistic_payload, is_handoff_parent}
@@ -36,7 +36,7 @@ view_with {D} v (Some d) e is =
     let same_entry : ◌≡◌ {A = ℕ × D} (v, d) e = ap (λ o. unwrap_or o e) is in
     sym (ap (λ (f : ℕ × D). f.0) same_entry)
 
-module _ {K L D : Type 0} (x : Facts K L D) (v : ℕ) (some : 0 < x.terms.term_length) where
+module _ {K L D : Type 0} (x : StateFacts K L D) (v : ℕ) (some : 0 < x.terms.term_length) where
   -- p lies below v, and each view between is covered
   abbrev pub Reaches : ℕ → Type 0
   Reaches p = (p < v) × IsGapless x p v
@@ -70,7 +70,7 @@ module _ {K L D : Type 0} (x : Facts K L D) (v : ℕ) (some : 0 < x.terms.term_l
   genesis_below : 0 < v → (f : ℕ × D) → at_view 0 x.genesis ≡ Some f → f.0 < v
   genesis_below positive f is = let at = view_with 0 x.genesis f is in omega (arith, at)
 
-module _ {K L D : Type 0} (same : D → D → Bool) (decides : (d e : D) → same d e ≡ true → d ≡ e) (elect : Elect L) (x : Facts K L D) (v : ℕ) (some : 0 < x.terms.term_length) where
+module _ {K L D : Type 0} (same : D → D → Bool) (decides : (d e : D) → same d e ≡ true → d ≡ e) (elect : Elect L) (x : StateFacts K L D) (v : ℕ) (some : 0 < x.terms.term_length) where
   by_allowed : (p : ℕ) (d : D) → is_payload same (parent_payload same elect x v p) d ≡ true → Reaches x v some p
   unfolding parent_payload spans
   by_allowed p d is = by_test (spans x v p && is_gapless x p v) refl is

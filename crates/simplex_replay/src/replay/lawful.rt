@@ -32,9 +32,9 @@ pub struct LawfulResolver {
 }
 
 impl Model for LawfulResolver {
-    ghost use Rattle.simplex_replay.specs.Told.{ResolverFacts, resolver_facts_code};
+    ghost use Rattle.simplex_replay.specs.Told.{LawfulResolverFacts, resolver_facts_code};
 
-    ghost Value = { ResolverFacts };
+    ghost Value = { LawfulResolverFacts };
 
     ghost coded = { resolver_facts_code };
 

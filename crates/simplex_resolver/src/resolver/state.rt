@@ -70,9 +70,9 @@ fn highest_view<S: CertificateScheme, D: Digest>(certificate: &Certificate<S, D>
 impl Model for State {
     ghost use Rattle.std.specs.Prelude.{◌≡◌, ℕ, ◌<◌, ◌^◌};
     ghost use Rattle.std.specs.Option.{option_map_or};
-    ghost use Rattle.simplex_resolver.specs.Facts.{Facts, facts_code};
+    ghost use Rattle.simplex_resolver.specs.Facts.{ResolverFacts, facts_code};
 
-    ghost Value = { Facts };
+    ghost Value = { ResolverFacts };
 
     ghost coded = { facts_code };
 

@@ -74,9 +74,9 @@ pub struct State<S: CertificateScheme, L: Elector<S>, D: Digest> {
 }
 
 impl<S: CertificateScheme, L: Elector<S>, D: Digest> Model for State<S, L, D> {
-    ghost use Rattle.simplex_voter.specs.Facts.{Facts};
+    ghost use Rattle.simplex_voter.specs.Facts.{StateFacts};
 
-    ghost Value = { Facts S.PublicKey L D };
+    ghost Value = { StateFacts S.PublicKey L D };
 
     ghost use Rattle.simplex_voter.specs.StateView.{state_view, IsKept};
 

@@ -12,7 +12,7 @@ use Rattle.simplex_types.specs.declared.types.messages.Proposal.{Proposal}
 use Rattle.simplex_round.specs.declared.round.Certification.{Certification}
 use Rattle.simplex_round.specs.declared.round.Certification.TheVariants.{Ready, Outstanding, Judged, Aborted}
 use Rattle.simplex_round.specs.Round.{RoundFacts, new_round, token_of, after_abort, with_recovered, with_notarization, with_nullification, with_finalization}
-use Rattle.simplex_voter.specs.Facts.{Facts, Elect, round_at, round_of, round_number, is_tracked, with_round}
+use Rattle.simplex_voter.specs.Facts.{StateFacts, Elect, round_at, round_of, round_number, is_tracked, with_round}
 use Rattle.simplex_voter.specs.Acceptance.{with_notarization_at, with_nullification_at, with_finalization_at}
 use Rattle.simplex_voter.specs.Certification.{without_token, with_finalized_view}
 use Rattle.simplex_voter.proofs.Walked.{find-changed}
@@ -66,7 +66,7 @@ module _ {K D : Type 0} (same : D → D → Bool) (tracked : Bool) (r : RoundFac
       first None = recovered_work c.proposal
       first (Some d) = refl
 
-module _ {K L D : Type 0} (same : D → D → Bool) (x : Facts K L D) where
+module _ {K L D : Type 0} (same : D → D → Bool) (x : StateFacts K L D) where
   -- another round of a view that a certificate settles
   settled_put : (u : ℕ) (r : RoundFacts K D) (p : Proposal D) (first : Bool) → work_in true r ≡ with_settled true (contradicts same (round_of x u).slot.held (if first then Some p else None)) (work_of x u) → (v : ℕ) → work_of (with_round x u r) v ≡ with_settled (eqb v u) (contradicts same (round_of x v).slot.held (if eqb v u && first then Some p else None)) (work_of x v)
   settled_put u r p first settled v = by_view (cases_eq v u)
@@ -75,7 +75,7 @@ module _ {K L D : Type 0} (same : D → D → Bool) (x : Facts K L D) where
       by_view (inl here) = rw (here, eq-eqb u u refl) (work_put x u r ∙ settled)
       by_view (inr apart) = rw (ne_eqb v u apart) (work_elsewhere x u v r (ne_eqb v u apart))
 
-module _ {K L D : Type 0} (same : D → D → Bool) (elect : Elect L) (x : Facts K L D) (c : ProposalFacts D) (v : ℕ) where
+module _ {K L D : Type 0} (same : D → D → Bool) (elect : Elect L) (x : StateFacts K L D) (c : ProposalFacts D) (v : ℕ) where
   pub notarized_work : work_of (with_notarization_at same elect x c) v ≡ with_settled (eqb v c.proposal.round.view) (contradicts same (round_of x v).slot.held (settled_by c (is_none (round_of x c.proposal.round.view).notarization) v)) (work_of x v)
   notarized_work =
       let u = c.proposal.round.view in
@@ -93,7 +93,7 @@ nullification_work tracked r c = first r.nullification
     first None = refl
     first (Some d) = refl
 
-module _ {K L D : Type 0} (x : Facts K L D) where
+module _ {K L D : Type 0} (x : StateFacts K L D) where
   pub nullified_work : (c : NullificationFacts) (v : ℕ) → work_of (with_nullification_at x c) v ≡ with_settled (eqb v c.round.view) false (work_of x v)
   nullified_work c v = by_view (cases_eq v c.round.view)
     where
@@ -114,7 +114,7 @@ token_work tracked r = by_certification r.certification
     by_certification (Judged success) = refl
     by_certification Aborted = refl
 
-module _ {K L D : Type 0} (x : Facts K L D) (u : ℕ) where
+module _ {K L D : Type 0} (x : StateFacts K L D) (u : ℕ) where
   pub raised_work : (v : ℕ) → work_of (with_finalized_view x u) v ≡ with_certification (ends v x u) (work_of x v)
   raised_work v = by_above (nat_lt x.finalized u) refl
     where

@@ -9,7 +9,7 @@ use Rattle.simplex_types.specs.Proposal.{same_proposal}
 use Rattle.simplex_types.specs.Config.{Genesis, Finalized}
 use Rattle.simplex_types.specs.Certificates.{ProposalFacts, NullificationFacts}
 use Rattle.simplex_round.specs.Round.{RoundFacts, with_finalization}
-use Rattle.simplex_voter.specs.Facts.{Facts, Elect, round_of, is_tracked, with_round}
+use Rattle.simplex_voter.specs.Facts.{StateFacts, Elect, round_of, is_tracked, with_round}
 use Rattle.simplex_voter.specs.Leaders.{with_elected_leader, with_window_leaders}
 use Rattle.simplex_voter.specs.Entering.{at_moment, with_view_entered}
 use Rattle.simplex_voter.specs.Certification.{named_also, with_finalized_view, with_waiting_candidate}
@@ -37,7 +37,7 @@ no_entry : (b : Bool) → if◌then◌else◌ {A = Option ℕ} b None None ≡ N
 no_entry true = refl
 no_entry false = refl
 
-module _ {K L D : Type 0} (same : D → D → Bool) (elect : Elect L) (x : Facts K L D) (c : ProposalFacts D) where
+module _ {K L D : Type 0} (same : D → D → Bool) (elect : Elect L) (x : StateFacts K L D) (c : ProposalFacts D) where
   notarization_says : (v : ℕ) → Says same elect x (AddNotarization c) v (proposal_said same elect x c (is_none (round_of x c.proposal.round.view).notarization) None None v)
   notarization_says v =
       let settled = settled_by c (is_none (round_of x c.proposal.round.view).notarization) v in
@@ -69,10 +69,10 @@ module _ {K L D : Type 0} (same : D → D → Bool) (elect : Elect L) (x : Facts
       standing : Option (ProposalFacts D)
       standing = (round_of x u).notarization
 
-      d : Facts K L D
+      d : StateFacts K L D
       d = with_elected_leader elect x (u + 1) (Some c.bytes)
 
-      z : Facts K L D
+      z : StateFacts K L D
       z = with_notarization_at same elect d c
 
       kept : Steady x z
@@ -94,17 +94,17 @@ module _ {K L D : Type 0} (same : D → D → Bool) (elect : Elect L) (x : Facts
         where
           first : (o : Option (ProposalFacts D)) → has_view (if is_some o then z else with_window_leaders (named_also z u) u).named v ≡ unwrap_or (if eqb v u && is_none o && nat_lt x.finalized u then Some true else None) (has_view x.named v)
           first None =
-              ap (λ (a : Facts K L D). has_view a.named v) (slid_only (named_also z u) u) ∙ named_among z u v
+              ap (λ (a : StateFacts K L D). has_view a.named v) (slid_only (named_also z u) u) ∙ named_among z u v
               ∙ (λ i. unwrap_or (if sym (and-true (eqb v u)) i && nat_lt (only i).finalized u then Some true else None) (has_view (only i).named v))
-          first (Some s) = rw (and_false (eqb v u)) (ap (λ (a : Facts K L D). has_view a.named v) only)
+          first (Some s) = rw (and_false (eqb v u)) (ap (λ (a : StateFacts K L D). has_view a.named v) only)
 
 -- nullifications, and the floor at genesis
 
-module _ {K L D : Type 0} (same : D → D → Bool) (elect : Elect L) (x : Facts K L D) where
+module _ {K L D : Type 0} (same : D → D → Bool) (elect : Elect L) (x : StateFacts K L D) where
   pub nullification_works : (c : NullificationFacts) (now : ℕ) → WorkFollows same elect (AddNullification c now) x (after_add_nullification elect x c now)
   nullification_works c now =
       said_follows same elect x (AddNullification c now) (after_add_nullification elect x c now) (λ v. entry_said elect x (eqb v u) next now (Some c.bytes) v) steady
-      (λ v. ap (λ (a : Facts K L D). has_view a.named v) (elected_only elect e next (Some c.bytes)) ∙ ap (λ views. has_view views v) (entered_named (at_moment x now) next now))
+      (λ v. ap (λ (a : StateFacts K L D). has_view a.named v) (elected_only elect e next (Some c.bytes)) ∙ ap (λ views. has_view views v) (entered_named (at_moment x now) next now))
       says
       (λ v. nullified_work (with_elected_leader elect e next (Some c.bytes)) c v ∙ ap (with_settled (eqb v u) false) (entry_work elect x (at_moment x now) next now (Some c.bytes) v refl refl refl))
     where
@@ -114,7 +114,7 @@ module _ {K L D : Type 0} (same : D → D → Bool) (elect : Elect L) (x : Facts
       next : ℕ
       next = next_term_start x.terms.term_length u
 
-      e : Facts K L D
+      e : StateFacts K L D
       e = with_view_entered (at_moment x now) next now
 
       steady : Steady x (after_add_nullification elect x c now)
@@ -141,14 +141,14 @@ module _ {K L D : Type 0} (same : D → D → Bool) (elect : Elect L) (x : Facts
   pub genesis_works : (payload : D) (now : ℕ) → WorkFollows same elect (SetFloor (Genesis payload) now) x (after_set_floor same elect x (Genesis payload) now)
   genesis_works payload now =
       said_follows same elect x (SetFloor (Genesis payload) now) (after_set_floor same elect x (Genesis payload) now) (entry_said elect x false 1 now None) steady
-      (λ v. ap (λ (y : Facts K L D). has_view y.named v) (elected_only elect e 1 None) ∙ ap (λ views. has_view views v) (entered_named a 1 now))
+      (λ v. ap (λ (y : StateFacts K L D). has_view y.named v) (elected_only elect e 1 None) ∙ ap (λ views. has_view views v) (entered_named a 1 now))
       says
       (λ v. entry_work elect x a 1 now None v refl refl refl)
     where
-      a : Facts K L D
+      a : StateFacts K L D
       a = record (at_moment x now) { genesis = Some payload }
 
-      e : Facts K L D
+      e : StateFacts K L D
       e = with_view_entered a 1 now
 
       steady : Steady x (after_set_floor same elect x (Genesis payload) now)
@@ -179,7 +179,7 @@ named_later : (wakes : Bool) (dropped : Option Bool) (old : Bool) → unwrap_or 
 named_later true dropped old = refl
 named_later false dropped old = refl
 
-module _ {K L D : Type 0} (same : D → D → Bool) (elect : Elect L) (x : Facts K L D) (c : ProposalFacts D) (now : ℕ) where
+module _ {K L D : Type 0} (same : D → D → Bool) (elect : Elect L) (x : StateFacts K L D) (c : ProposalFacts D) (now : ℕ) where
   finalization_says : (v : ℕ) → Says same elect x (AddFinalization c now) v (proposal_said same elect x c (is_none (round_of x c.proposal.round.view).finalization) (entry_at x (c.proposal.round.view + 1) now v) (ends v x c.proposal.round.view) v)
   finalization_says v =
       let settled = settled_by c (is_none (round_of x c.proposal.round.view).finalization) v in
@@ -211,19 +211,19 @@ module _ {K L D : Type 0} (same : D → D → Bool) (elect : Elect L) (x : Facts
       standing : Option (ProposalFacts D)
       standing = (round_of x u).finalization
 
-      a : Facts K L D
+      a : StateFacts K L D
       a = at_moment x now
 
-      b : Facts K L D
+      b : StateFacts K L D
       b = with_finalized_view a u
 
-      e : Facts K L D
+      e : StateFacts K L D
       e = with_view_entered b (u + 1) now
 
-      d : Facts K L D
+      d : StateFacts K L D
       d = with_elected_leader elect e (u + 1) (Some c.bytes)
 
-      z : Facts K L D
+      z : StateFacts K L D
       z = with_finalization_at same elect d c
 
       entering : Steady x e
@@ -251,7 +251,7 @@ module _ {K L D : Type 0} (same : D → D → Bool) (elect : Elect L) (x : Facts
           finalized_work same elect d c v ∙ (λ i. with_settled (eqb v u) (contradicts same (known.rounds v i).held (settled_by c (is_none (known.rounds u i).finalization) v)) (work_of d v))
 
       dropped : (v : ℕ) → has_view z.named v ≡ unwrap_or (if nat_lt x.finalized u && nat_le v u then Some false else None) (has_view x.named v)
-      dropped v = ap (λ (y : Facts K L D). has_view y.named v) (elected_only elect e (u + 1) (Some c.bytes)) ∙ ap (λ views. has_view views v) (entered_named b (u + 1) now) ∙ raised_among a u v
+      dropped v = ap (λ (y : StateFacts K L D). has_view y.named v) (elected_only elect e (u + 1) (Some c.bytes)) ∙ ap (λ views. has_view views v) (entered_named b (u + 1) now) ∙ raised_among a u v
 
       -- the view above waits after the finalization as it did before
       above : (v : ℕ) → wakes elect z z.finalized u v ≡ wakes elect x (max x.finalized u) u v
@@ -275,7 +275,7 @@ module _ {K L D : Type 0} (same : D → D → Bool) (elect : Elect L) (x : Facts
 
           first : (o : Option (ProposalFacts D)) → has_view (if is_some o then z else with_window_leaders (with_waiting_candidate elect z u) u).named v ≡ unwrap_or (if is_none o && wakes elect x (max x.finalized u) u v then Some true else gone) (has_view x.named v)
           first None =
-              ap (λ (y : Facts K L D). has_view y.named v) (slid_only (with_waiting_candidate elect z u) u) ∙ woken_among elect z u v
+              ap (λ (y : StateFacts K L D). has_view y.named v) (slid_only (with_waiting_candidate elect z u) u) ∙ woken_among elect z u v
               ∙ (λ i. unwrap_or (if above v i then Some true else None) (dropped v i))
               ∙ named_later (wakes elect x (max x.finalized u) u v) gone (has_view x.named v)
           first (Some s) = dropped v
@@ -298,7 +298,7 @@ module _ {K L D : Type 0} (same : D → D → Bool) (elect : Elect L) (x : Facts
       u : ℕ
       u = c.proposal.round.view
 
-      y : Facts K L D
+      y : StateFacts K L D
       y = after_add_finalization same elect x c now
 
       r : RoundFacts K D

@@ -11,7 +11,7 @@ use Rattle.std.proofs.lemmas.Bool.{cases_eq, eq-eqb, ne_eqb}
 use Rattle.simplex_types.specs.Window.{issuance_floor}
 use Rattle.simplex_round.specs.declared.round.Leader.{Leader}
 use Rattle.simplex_round.specs.Round.{RoundFacts, leader_at, new_round}
-use Rattle.simplex_voter.specs.Facts.{Facts, Elect, round_of, round_number, with_round}
+use Rattle.simplex_voter.specs.Facts.{StateFacts, Elect, round_of, round_number, with_round}
 use Rattle.simplex_voter.specs.Leaders.{has_leader, with_leader_at, with_leader_of, with_elected_leader, with_next_view_ready}
 use Rattle.simplex_voter.specs.Payloads.{is_elected_early}
 use Rattle.simplex_voter.specs.Windows.{is_notarized, is_open, in_window}
@@ -58,7 +58,7 @@ module _ {V : Type 0} (test : ℕ × V → Bool) (w : ℕ) (empty : V) (fails : 
 module _ {K L D : Type 0} where
   -- a window stays where a view's round is put that is notarized or finalized as before
 
-  open_put : (x : Facts K L D) (w : ℕ) (r : RoundFacts K D) → is_notarized r ≡ is_notarized (round_of x w) → (v : ℕ) (floor : Option ℕ) → is_open (with_round x w r) v floor ≡ is_open x v floor
+  open_put : (x : StateFacts K L D) (w : ℕ) (r : RoundFacts K D) → is_notarized r ≡ is_notarized (round_of x w) → (v : ℕ) (floor : Option ℕ) → is_open (with_round x w r) v floor ≡ is_open x v floor
   open_put x w r alike v None = refl
   open_put x w r alike v (Some floor) =
       let empty : RoundFacts K D = new_round x.me x.members (round_number x w) in
@@ -70,20 +70,20 @@ module _ {K L D : Type 0} where
       fails true false = refl
       fails false b = refl
 
-  pub window_put : (x : Facts K L D) (w : ℕ) (r : RoundFacts K D) → is_notarized r ≡ is_notarized (round_of x w) → (v : ℕ) → in_window (with_round x w r) v ≡ in_window x v
+  pub window_put : (x : StateFacts K L D) (w : ℕ) (r : RoundFacts K D) → is_notarized r ≡ is_notarized (round_of x w) → (v : ℕ) → in_window (with_round x w r) v ≡ in_window x v
   unfolding in_window
   window_put x w r alike v = open_put x w r alike v (issuance_floor x.terms.term_length x.terms.optimistic_views v)
 
 -- of each view nothing but its leader changes
-abbrev pub OnlyLeaders : {K L D : Type 0} → Facts K L D → Facts K L D → Type 0
+abbrev pub OnlyLeaders : {K L D : Type 0} → StateFacts K L D → StateFacts K L D → Type 0
 OnlyLeaders x y = (w : ℕ) → round_of y w ≡ record (round_of x w) { leader = (round_of y w).leader }
 
-leaders_where : {K L D : Type 0} (x : Facts K L D) (b : Bool) (y z : Facts K L D) → OnlyLeaders x y → OnlyLeaders x z → OnlyLeaders x (if b then y else z)
+leaders_where : {K L D : Type 0} (x : StateFacts K L D) (b : Bool) (y z : StateFacts K L D) → OnlyLeaders x y → OnlyLeaders x z → OnlyLeaders x (if b then y else z)
 leaders_where x true y z p q = p
 leaders_where x false y z p q = q
 
 module _ {K L D : Type 0} where
-  led_leaders : (x : Facts K L D) (v member : ℕ) → OnlyLeaders x (with_leader_at x v member)
+  led_leaders : (x : StateFacts K L D) (v member : ℕ) → OnlyLeaders x (with_leader_at x v member)
   led_leaders x v member = leaders_where x (has_leader x v) x (with_round x v r) (λ w. refl) (λ w. put w (cases_eq w v))
     where
       r : RoundFacts K D
@@ -93,14 +93,14 @@ module _ {K L D : Type 0} where
       put w (inl here) = rw (round_of-put x w v r, here, eq-eqb v v refl) refl
       put w (inr apart) = rw (round_of-put x w v r, ne_eqb w v apart) refl
 
-  inherited_leaders : (x : Facts K L D) (from to : ℕ) → OnlyLeaders x (with_leader_of x from to)
+  inherited_leaders : (x : StateFacts K L D) (from to : ℕ) → OnlyLeaders x (with_leader_of x from to)
   inherited_leaders x from to = by_leader (round_of x from).leader
     where
       by_leader : (leader : Option (Leader K)) → OnlyLeaders x (option_map_or (λ l. with_leader_at x to l.idx) leader x)
       by_leader None = λ w. refl
       by_leader (Some l) = led_leaders x to l.idx
 
-module _ {K L D : Type 0} (elect : Elect L) (x : Facts K L D) (w : ℕ) where
+module _ {K L D : Type 0} (elect : Elect L) (x : StateFacts K L D) (w : ℕ) where
   pub prepared_only : OnlyRounds x (with_next_view_ready elect x w)
   prepared_only =
       only_where x (in_window x (w + 1)) (with_leader_of x w (w + 1)) _ (inherited_only x w (w + 1))
@@ -128,7 +128,7 @@ module _ {K L D : Type 0} (elect : Elect L) (x : Facts K L D) (w : ℕ) where
       by_window false = by_own own
 
 -- this member's vote leaves whether its view is certified, and who leads it
-module _ {K L D : Type 0} (elect : Elect L) (x : Facts K L D) (w : ℕ) (r : RoundFacts K D) (certified : is_notarized r ≡ is_notarized (round_of x w)) (led_by : r.leader ≡ (round_of x w).leader) where
+module _ {K L D : Type 0} (elect : Elect L) (x : StateFacts K L D) (w : ℕ) (r : RoundFacts K D) (certified : is_notarized r ≡ is_notarized (round_of x w)) (led_by : r.leader ≡ (round_of x w).leader) where
   leads_put : (v : ℕ) → leads_after elect (with_round x w r) true w v ≡ leads_after elect x true w v
   leads_put v = rw (window_put x w r certified (w + 1), round_of-same x w r, led_by) refl
 

@@ -5,7 +5,7 @@ use Rattle.std.proofs.Math.Bool.{and-false}
 use Rattle.std.proofs.lemmas.Bool.{cases_eq, eq-eqb, ne_eqb}
 use Rattle.std.proofs.lemmas.Bool.Decides.{nat_tests}
 use Rattle.simplex_round.specs.Round.{RoundFacts}
-use Rattle.simplex_voter.specs.Facts.{Facts, Elect, round_of, is_tracked, with_round, with_tracked}
+use Rattle.simplex_voter.specs.Facts.{StateFacts, Elect, round_of, is_tracked, with_round, with_tracked}
 use Rattle.simplex_voter.specs.Entering.{at_moment}
 use Rattle.simplex_laws.specs.Events.{Event}
 use Rattle.simplex_laws.specs.Requested.{names, is_at}
@@ -23,17 +23,17 @@ pub record Shared (K L : Type 0) : Type 0 where
   pub failed : Bool
   pub named : List ℕ
 
-abbrev pub shared_of : {K L D : Type 0} → Facts K L D → Shared K L
+abbrev pub shared_of : {K L D : Type 0} → StateFacts K L D → Shared K L
 shared_of x = record { me = x.me; members = x.members; elector = x.elector; elects_early = x.elects_early; failed = x.failed; named = x.named }
 
-module _ {K L D : Type 0} (x : Facts K L D) where
+module _ {K L D : Type 0} (x : StateFacts K L D) where
   -- an event that enters no view
   pub unentered : (e : Event K D) (v : ℕ) → entered_by x.terms.term_length (is_tracked x) e ≡ 0 → enters v x e ≡ None
   unentered e v none =
       let low : (eqb v 0 && nat_lt x.current v) ≡ false = grind (arith, nat_tests) in
       rw (none, low) refl
 
-module _ {K L D : Type 0} (x : Facts K L D) where
+module _ {K L D : Type 0} (x : StateFacts K L D) where
   shared_tracked : (v : ℕ) (r : RoundFacts K D) → shared_of (with_tracked x v r) ≡ shared_of x
   shared_tracked v r = either (is_tracked x v)
     where
@@ -52,9 +52,9 @@ module _ {K L D : Type 0} (x : Facts K L D) where
       ]
       by_tracked false = rw (and-false (eqb w v)) refl
 
-module _ {K L D : Type 0} (same : D → D → Bool) (elect : Elect L) (x : Facts K L D) (e : Event K D) (unnamed : (v : ℕ) → names elect v x e ≡ None) where
+module _ {K L D : Type 0} (same : D → D → Bool) (elect : Elect L) (x : StateFacts K L D) (e : Event K D) (unnamed : (v : ℕ) → names elect v x e ≡ None) where
   -- an event that changes nothing that all views share
-  pub shared_follows : (y : Facts K L D) → shared_of y ≡ shared_of x → ((v : ℕ) → left_from x e ≤ v → work_of y v ≡ adds_work same elect x e v (work_of x v)) → WorkFollows same elect e x y
+  pub shared_follows : (y : StateFacts K L D) → shared_of y ≡ shared_of x → ((v : ℕ) → left_from x e ≤ v → work_of y v ≡ adds_work same elect x e v (work_of x v)) → WorkFollows same elect e x y
   shared_follows y shared work = record {
     me = ap (λ s. s.me) shared;
     members = ap (λ s. s.members) shared;
@@ -66,14 +66,14 @@ module _ {K L D : Type 0} (same : D → D → Bool) (elect : Elect L) (x : Facts
   }
 
   -- an event that says nothing of the work
-  pub idle_follows : (y : Facts K L D) → shared_of y ≡ shared_of x → ((v : ℕ) → left_from x e ≤ v → work_of y v ≡ work_of x v) → ((v : ℕ) → IsIdle same elect x e v) → WorkFollows same elect e x y
+  pub idle_follows : (y : StateFacts K L D) → shared_of y ≡ shared_of x → ((v : ℕ) → left_from x e ≤ v → work_of y v ≡ work_of x v) → ((v : ℕ) → IsIdle same elect x e v) → WorkFollows same elect e x y
   idle_follows y shared stays idle = shared_follows y shared (λ v left. stays v left ∙ sym (idle v (work_of x v)))
 
   -- an event of one view, which puts another round there where the view is tracked
   pub tracked_follows : (now v : ℕ) (r : RoundFacts K D) → (is_tracked x v ≡ true → work_in true r ≡ adds_work same elect x e v (work_in true (round_of x v))) → ((w : ℕ) → is_at x w v ≡ false → IsIdle same elect x e w) → WorkFollows same elect e x (with_tracked (at_moment x now) v r)
   tracked_follows now v r said idle = shared_follows (with_tracked a v r) (shared_tracked a v r) (λ w _. work_tracked a v w r ∙ by_tracked w (is_tracked x v) refl)
     where
-      a : Facts K L D
+      a : StateFacts K L D
       a = at_moment x now
 
       -- of the view it says what the round holds, of others nothing

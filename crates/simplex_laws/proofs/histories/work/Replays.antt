@@ -12,7 +12,7 @@ use Rattle.simplex_round.specs.declared.round.Leader.{Leader}
 use Rattle.simplex_round.specs.declared.round.Decision.TheVariants.{Nullify, Finalize}
 use Rattle.simplex_round.specs.Slot.{after_own, holds_or_empty}
 use Rattle.simplex_round.specs.Round.{RoundFacts, certified_round}
-use Rattle.simplex_voter.specs.Facts.{Facts, Elect, round_of, with_round}
+use Rattle.simplex_voter.specs.Facts.{StateFacts, Elect, round_of, with_round}
 use Rattle.simplex_voter.specs.Leaders.{with_next_view_ready}
 use Rattle.simplex_voter.specs.Windows.{is_notarized}
 use Rattle.simplex_voter.specs.Replay.{bound_again, restored_binding}
@@ -44,7 +44,7 @@ module _ {K D : Type 0} (r : RoundFacts K D) where
   bound_decided None = refl
   bound_decided (Some bound) = refl
 
-module _ {K L D : Type 0} (same : D → D → Bool) (elect : Elect L) (x : Facts K L D) where
+module _ {K L D : Type 0} (same : D → D → Bool) (elect : Elect L) (x : StateFacts K L D) where
   unmoved : (e : ArtifactFacts D) → IsUnmoved same elect x (Replay e)
   unmoved e = record { moment = refl; proposed = λ _. refl; latched = λ _. refl; repeated = λ _. refl; asked = λ _. refl }
 
@@ -65,12 +65,12 @@ module _ {K L D : Type 0} (same : D → D → Bool) (elect : Elect L) (x : Facts
   replayed_notarize p signer =
       let only : OnlyRounds z (with_next_view_ready elect z v) = prepared_only elect z v in
       record {
-        me = ap (λ (y : Facts K L D). y.me) only;
-        members = ap (λ (y : Facts K L D). y.members) only;
-        elector = ap (λ (y : Facts K L D). y.elector) only;
-        elects_early = ap (λ (y : Facts K L D). y.elects_early) only;
-        failed = ap (λ (y : Facts K L D). y.failed) only;
-        named = λ w. ap (λ (y : Facts K L D). has_view y.named w) only;
+        me = ap (λ (y : StateFacts K L D). y.me) only;
+        members = ap (λ (y : StateFacts K L D). y.members) only;
+        elector = ap (λ (y : StateFacts K L D). y.elector) only;
+        elects_early = ap (λ (y : StateFacts K L D). y.elects_early) only;
+        failed = ap (λ (y : StateFacts K L D). y.failed) only;
+        named = λ w. ap (λ (y : StateFacts K L D). has_view y.named w) only;
         work = λ w _. readied w ∙ put w (cases_eq w v) ∙ sym (unmoved_adds same elect x (Replay (NotarizeVote p signer)) (unmoved (NotarizeVote p signer)) w (work_of x w));
       }
     where
@@ -87,7 +87,7 @@ module _ {K L D : Type 0} (same : D → D → Bool) (elect : Elect L) (x : Facts
       bound : RoundFacts K D
       bound = bound_again voted (restored_binding x p)
 
-      z : Facts K L D
+      z : StateFacts K L D
       z = with_round x v bound
 
       readied : (w : ℕ) → work_of (with_next_view_ready elect z v) w ≡ with_leader (tracks_after elect x true v w) (leads_after elect x true v w) (work_of z w)

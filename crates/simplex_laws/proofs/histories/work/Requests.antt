@@ -12,7 +12,7 @@ use Rattle.simplex_types.specs.declared.types.messages.Context.{Context}
 use Rattle.simplex_round.specs.declared.round.Certification.TheVariants as certification
 use Rattle.simplex_round.specs.Slot.{holds_or_empty, after_mark}
 use Rattle.simplex_round.specs.Round.{RoundFacts, new_round, is_nullify}
-use Rattle.simplex_voter.specs.Facts.{Facts, Elect, round_at, round_of, round_number, is_tracked, with_round, with_tracked}
+use Rattle.simplex_voter.specs.Facts.{StateFacts, Elect, round_at, round_of, round_number, is_tracked, with_round, with_tracked}
 use Rattle.simplex_voter.specs.Windows.{min_active}
 use Rattle.simplex_voter.specs.Entering.{at_moment}
 use Rattle.simplex_voter.specs.Certification.{after_candidates, after_set_certify_handle}
@@ -30,7 +30,7 @@ use Rattle.simplex_laws.proofs.histories.work.Puts.{unentered, idle_follows, tra
 
 -- requests for proposals
 
-module _ {K L D : Type 0} (same : D → D → Bool) (elect : Elect L) (x : Facts K L D) where
+module _ {K L D : Type 0} (same : D → D → Bool) (elect : Elect L) (x : StateFacts K L D) where
   -- an event says of one tracked view whether a proposal is asked for, and nothing else
   abbrev AsksAt : Event K D → ℕ → Bool → Type 0
   AsksAt e v requested =
@@ -79,7 +79,7 @@ module _ {K L D : Type 0} (same : D → D → Bool) (elect : Elect L) (x : Facts
 
 -- a proposal that is recorded: the view is tracked, and holds nothing else
 
-module _ {K L D : Type 0} (same : D → D → Bool) (elect : Elect L) (x : Facts K L D) (context : Context D K) (payload : D) where
+module _ {K L D : Type 0} (same : D → D → Bool) (elect : Elect L) (x : StateFacts K L D) (context : Context D K) (payload : D) where
   abbrev takes_built : RoundFacts K D → Bool
   takes_built r = not (is_nullify r.decision) && holds_or_empty (same_proposal same) r.slot (proposal_of context payload)
 
@@ -95,7 +95,7 @@ module _ {K L D : Type 0} (same : D → D → Bool) (elect : Elect L) (x : Facts
   proposed_held fresh (Some r) is = (and_parts _ _ is).1
   proposed_held fresh None is = absurd (true≢false (sym is))
 
-module _ {K L D : Type 0} (same : D → D → Bool) (elect : Elect L) (x : Facts K L D) where
+module _ {K L D : Type 0} (same : D → D → Bool) (elect : Elect L) (x : StateFacts K L D) where
   pub proposed_works : (context : Context D K) (payload : D) (now : ℕ) → WorkFollows same elect (Proposed context payload now) x (after_proposed same elect x context payload now)
   proposed_works context payload now = by_answer (proposed_answer same elect x context payload) refl
     where
@@ -105,7 +105,7 @@ module _ {K L D : Type 0} (same : D → D → Bool) (elect : Elect L) (x : Facts
       v : ℕ
       v = context.round.view
 
-      a : Facts K L D
+      a : StateFacts K L D
       a = at_moment x now
 
       s : RoundFacts K D
@@ -209,14 +209,14 @@ module _ {K L D : Type 0} (same : D → D → Bool) (elect : Elect L) (x : Facts
 
 -- the views that a prune leaves
 
-module _ {K L D : Type 0} (x : Facts K L D) where
+module _ {K L D : Type 0} (x : StateFacts K L D) where
   left_by_prune : (v : ℕ) → min_active x ≤ v → round_at (after_prune x) v ≡ round_at x v
   left_by_prune v left =
       let test : nat_le (min_active x) v ≡ true = grind (arith, nat_tests) in
       let found : round_at (after_prune x) v ≡ cond (nat_le (min_active x) v) (round_at x v) None = find-where_key nat_cmp (λ u. nat_le (min_active x) u) v (λ u alike. ap (nat_le (min_active x)) (sym (tied v u alike))) x.rounds in
       found ∙ ap (λ b. cond b (round_at x v) None) test
 
-module _ {K L D : Type 0} (same : D → D → Bool) (elect : Elect L) (x : Facts K L D) where
+module _ {K L D : Type 0} (same : D → D → Bool) (elect : Elect L) (x : StateFacts K L D) where
   pub prune_works : WorkFollows same elect Prune x (after_prune x)
   prune_works = idle_follows same elect x e (λ v. refl) (after_prune x) refl stays (λ v k. rw (unentered x e v refl, untimed x.settings k.decision) refl)
     where

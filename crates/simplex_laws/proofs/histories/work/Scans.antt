@@ -7,7 +7,7 @@ use Rattle.simplex_types.specs.declared.reasons.TimeoutReason.TheVariants.{Inval
 use Rattle.simplex_round.specs.Round.{RoundFacts}
 use Rattle.simplex_voter.specs.declared.voter.verify.Standing.{Standing}
 use Rattle.simplex_voter.specs.declared.voter.verify.Standing.TheVariants.{Passed, Invalid, Lacks, Ready}
-use Rattle.simplex_voter.specs.Facts.{Settings, Facts, Elect, round_of, is_tracked}
+use Rattle.simplex_voter.specs.Facts.{Settings, StateFacts, Elect, round_of, is_tracked}
 use Rattle.simplex_voter.specs.Verifying.{round_left, standing, was_scanned, after_try_verify}
 use Rattle.simplex_laws.specs.Events.{Event, TryVerify}
 use Rattle.simplex_laws.specs.Requested.{is_given_out, is_invalid, lacked_view, bound_by}
@@ -33,7 +33,7 @@ module _ {K D : Type 0} (settings : Settings) (moment : ℕ) (tracked : Bool) (r
   round_stood true (Lacks w kind) = rw (untimed settings r.decision) refl
   round_stood true (Ready d) = rw (untimed settings r.decision) refl
 
-module _ {K L D : Type 0} (same : D → D → Bool) (elect : Elect L) (x : Facts K L D) where
+module _ {K L D : Type 0} (same : D → D → Bool) (elect : Elect L) (x : StateFacts K L D) where
   pub try_verify_works : WorkFollows same elect TryVerify x (after_try_verify same elect x)
   try_verify_works = shared_follows same elect x e (λ v. refl) (after_try_verify same elect x) refl (λ v _. by_scan v)
     where

@@ -7,7 +7,7 @@ use Rattle.simplex_types.specs.declared.reasons.TimeoutReason.{TimeoutReason}
 use Rattle.simplex_round.specs.declared.round.Decision.{Decision}
 use Rattle.simplex_round.specs.declared.round.Decision.TheVariants.{Pending, Nullify, Finalize}
 use Rattle.simplex_round.specs.Round.{RoundFacts, with_first_timeout, with_latch, has_no_retry, awaits_retry}
-use Rattle.simplex_voter.specs.Facts.{Settings, Facts, Elect, round_of, is_tracked, with_round}
+use Rattle.simplex_voter.specs.Facts.{Settings, StateFacts, Elect, round_of, is_tracked, with_round}
 use Rattle.simplex_voter.specs.Entering.{at_moment}
 use Rattle.simplex_voter.specs.Parents.{binding_matches}
 use Rattle.simplex_voter.specs.Timeouts.{with_timeout, round_with_retry, after_trigger_timeout, after_next_timeout}
@@ -32,7 +32,7 @@ repeated settings (Pending leader certification first) at is = absurd (true≢fa
 repeated settings (Nullify again) at is = refl
 repeated settings Finalize at is = absurd (true≢false (sym is))
 
-module _ {K L D : Type 0} (x : Facts K L D) (v : ℕ) (reason : TimeoutReason) (now : ℕ) where
+module _ {K L D : Type 0} (x : StateFacts K L D) (v : ℕ) (reason : TimeoutReason) (now : ℕ) where
   -- a trigger changes nothing but a round
   pub rest_triggered : (record (with_timeout x v reason now) { rounds = x.rounds }) ≡ x
   rest_triggered = either (triggers x v reason)
@@ -60,7 +60,7 @@ module _ {K L D : Type 0} (x : Facts K L D) (v : ℕ) (reason : TimeoutReason) (
         | inr apart ↦ rw (ne_eqb w v apart, untimed settings (round_of x w).decision) (work_elsewhere x v w s (ne_eqb w v apart))
       ]
 
-module _ {K L D : Type 0} (same : D → D → Bool) (elect : Elect L) (x : Facts K L D) where
+module _ {K L D : Type 0} (same : D → D → Bool) (elect : Elect L) (x : StateFacts K L D) where
   pub trigger_works : (v : ℕ) (reason : TimeoutReason) (now : ℕ) → WorkFollows same elect (TriggerTimeout v reason now) x (after_trigger_timeout x v reason now)
   trigger_works v reason now = shared_follows same elect x e (λ w. refl) (after_trigger_timeout x v reason now) (shared_triggered (at_moment x now) v reason now) (λ w _. work_triggered (at_moment x now) v reason now x.settings w ∙ rw (unentered x e w refl) refl)
     where
@@ -71,7 +71,7 @@ module _ {K L D : Type 0} (same : D → D → Bool) (elect : Elect L) (x : Facts
   pub failed_works : (v : ℕ) (reason : TimeoutReason) (now : ℕ) → WorkFollows same elect (VerificationFailed v reason now) x (after_verification_failed same elect x v reason now)
   failed_works v reason now = by_binding (binding_matches same elect x v) refl
     where
-      a : Facts K L D
+      a : StateFacts K L D
       a = at_moment x now
 
       e : Event K D

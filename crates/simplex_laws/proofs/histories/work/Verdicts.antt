@@ -6,7 +6,7 @@ use Rattle.std.proofs.Math.Bool.{and-false}
 use Rattle.simplex_types.specs.declared.reasons.TimeoutReason.TheVariants.{FailedCertification}
 use Rattle.simplex_round.specs.declared.round.Certification.TheVariants.{Judged}
 use Rattle.simplex_round.specs.Round.{RoundFacts, certified_round}
-use Rattle.simplex_voter.specs.Facts.{Facts, Elect, round_of, is_tracked, with_round}
+use Rattle.simplex_voter.specs.Facts.{StateFacts, Elect, round_of, is_tracked, with_round}
 use Rattle.simplex_voter.specs.Entering.{with_view_entered, entered_round, at_moment}
 use Rattle.simplex_voter.specs.Timeouts.{with_timeout}
 use Rattle.simplex_voter.specs.Certification.{with_verdict, with_waiting_candidate, verdict_taken, after_certified}
@@ -24,34 +24,34 @@ use Rattle.simplex_laws.proofs.histories.work.Wakings.{waits_alike, woken_among}
 use Rattle.simplex_laws.proofs.histories.work.Leaders.{with_entry, entry_at, entered_work}
 use Rattle.simplex_laws.proofs.histories.Worked.{Worked, work_of, timed, adds_work, work_put, work_elsewhere, WorkFollows, IsIdle, is_tracked-put, untimed}
 
-module _ {K L D : Type 0} (x : Facts K L D) (v : ℕ) (tracked : is_tracked x v ≡ true) where
+module _ {K L D : Type 0} (x : StateFacts K L D) (v : ℕ) (tracked : is_tracked x v ≡ true) where
   judged_work : (now : ℕ) (success : Bool) (w : ℕ) → work_of (with_verdict (at_moment x now) v success) w ≡ record (work_of x w) { certification = unwrap_or (if is_at x w v then Some (Judged success) else None) (work_of x w).certification }
   judged_work now success w = by_view (cases_eq w v)
     where
-      a : Facts K L D
+      a : StateFacts K L D
       a = at_moment x now
 
       by_view : ((w ≡ v) ⊎ (w ≡ v → ⊥)) → work_of (with_verdict a v success) w ≡ record (work_of x w) { certification = unwrap_or (if is_at x w v then Some (Judged success) else None) (work_of x w).certification }
       by_view (inl here) = rw (here, tracked, eq-eqb v v refl) (work_put a v (certified_round (round_of x v) success))
       by_view (inr apart) = rw (ne_eqb w v apart) (work_elsewhere a v w (certified_round (round_of x v) success) (ne_eqb w v apart))
 
-module _ {K L D : Type 0} (same : D → D → Bool) (elect : Elect L) (x : Facts K L D) (v now : ℕ) where
+module _ {K L D : Type 0} (same : D → D → Bool) (elect : Elect L) (x : StateFacts K L D) (v now : ℕ) where
   -- a true verdict enters the next view, and wakes what waited for this one
   true_works : is_tracked x v ≡ true → WorkFollows same elect (Certified v true now) x (verdict_taken elect (at_moment x now) v true now)
   true_works tracked = record {
-    me = ap (λ (z : Facts K L D). z.me) steady;
-    members = ap (λ (z : Facts K L D). z.members) steady;
-    elector = ap (λ (z : Facts K L D). z.elector) steady;
-    elects_early = ap (λ (z : Facts K L D). z.elects_early) steady;
-    failed = ap (λ (z : Facts K L D). z.failed) steady;
+    me = ap (λ (z : StateFacts K L D). z.me) steady;
+    members = ap (λ (z : StateFacts K L D). z.members) steady;
+    elector = ap (λ (z : StateFacts K L D). z.elector) steady;
+    elects_early = ap (λ (z : StateFacts K L D). z.elects_early) steady;
+    failed = ap (λ (z : StateFacts K L D). z.failed) steady;
     named = λ w. woken_among elect y v w ∙ rw tracked (names w (cases_eq w (v + 1)));
     work = λ w _. woken_work elect y v w ∙ entered_work j (v + 1) now w ∙ ap (with_entry j (entry_at j (v + 1) now w)) (judged_work x v tracked now true w) ∙ sym (said w);
   }
     where
-      j : Facts K L D
+      j : StateFacts K L D
       j = with_verdict (at_moment x now) v true
 
-      y : Facts K L D
+      y : StateFacts K L D
       y = with_view_entered j (v + 1) now
 
       steady : Steady x (with_waiting_candidate elect y v)
@@ -89,7 +89,7 @@ module _ {K L D : Type 0} (same : D → D → Bool) (elect : Elect L) (x : Facts
       e : Event K D
       e = Certified v false now
 
-      j : Facts K L D
+      j : StateFacts K L D
       j = with_verdict (at_moment x now) v false
 
       timed_out : ℕ → Worked K D → Worked K D
@@ -113,7 +113,7 @@ module _ {K L D : Type 0} (same : D → D → Bool) (elect : Elect L) (x : Facts
   pub verdict_works : (success : Bool) → WorkFollows same elect (Certified v success now) x (after_certified elect x v success now)
   verdict_works success = by_tracked (is_tracked x v) refl success
     where
-      a : Facts K L D
+      a : StateFacts K L D
       a = at_moment x now
 
       e : Bool → Event K D

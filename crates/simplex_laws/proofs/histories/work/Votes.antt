@@ -12,7 +12,7 @@ use Rattle.simplex_round.specs.declared.round.Decision.TheVariants.{Finalize}
 use Rattle.simplex_round.specs.declared.round.Leader.{Leader}
 use Rattle.simplex_round.specs.Slot.{SlotFacts, after_vote}
 use Rattle.simplex_round.specs.Round.{RoundFacts, after_nullify, is_nullify, is_finalize}
-use Rattle.simplex_voter.specs.Facts.{Facts, Elect, round_of, with_round}
+use Rattle.simplex_voter.specs.Facts.{StateFacts, Elect, round_of, with_round}
 use Rattle.simplex_voter.specs.Leaders.{with_next_view_ready}
 use Rattle.simplex_voter.specs.Rules.{may_notarize, may_nullify, may_finalize}
 use Rattle.simplex_voter.specs.Verifying.{with_proposal, after_set_proposal}
@@ -54,14 +54,14 @@ module _ {D : Type 0} (same : D → D → Bool) (s : SlotFacts D) (p : Proposal 
   heard_verify None = refl
   heard_verify (Some h) = refl
 
-module _ {K L D : Type 0} (same : D → D → Bool) (elect : Elect L) (x : Facts K L D) (v : ℕ) where
+module _ {K L D : Type 0} (same : D → D → Bool) (elect : Elect L) (x : StateFacts K L D) (v : ℕ) where
   pub nullify_works : WorkFollows same elect (ConstructNullify v) x (after_construct_nullify x v)
   nullify_works = by_rule (may_nullify x v) refl
     where
       r : RoundFacts K D
       r = round_of x v
 
-      z : Facts K L D
+      z : StateFacts K L D
       z = with_round x v (after_nullify r)
 
       unmoved : IsUnmoved same elect x (ConstructNullify v)
@@ -105,7 +105,7 @@ module _ {K L D : Type 0} (same : D → D → Bool) (elect : Elect L) (x : Facts
       r : RoundFacts K D
       r = record (round_of x v) { notarize_decided = true }
 
-      z : Facts K L D
+      z : StateFacts K L D
       z = with_round x v r
 
       unmoved : IsUnmoved same elect x (ConstructNotarize v)
@@ -140,16 +140,16 @@ module _ {K L D : Type 0} (same : D → D → Bool) (elect : Elect L) (x : Facts
   proposal_works p =
       let only : OnlyRounds x y = prepared_only elect x v in
       record {
-        me = ap (λ (z : Facts K L D). z.me) only;
-        members = ap (λ (z : Facts K L D). z.members) only;
-        elector = ap (λ (z : Facts K L D). z.elector) only;
-        elects_early = ap (λ (z : Facts K L D). z.elects_early) only;
-        failed = ap (λ (z : Facts K L D). z.failed) only;
-        named = λ w. ap (λ (z : Facts K L D). has_view z.named w) only;
+        me = ap (λ (z : StateFacts K L D). z.me) only;
+        members = ap (λ (z : StateFacts K L D). z.members) only;
+        elector = ap (λ (z : StateFacts K L D). z.elector) only;
+        elects_early = ap (λ (z : StateFacts K L D). z.elects_early) only;
+        failed = ap (λ (z : StateFacts K L D). z.failed) only;
+        named = λ w. ap (λ (z : StateFacts K L D). has_view z.named w) only;
         work = λ w _. put w (cases_eq w v) ∙ sym (unmoved_adds same elect x (SetProposal v p) unmoved w (work_of x w));
       }
     where
-      y : Facts K L D
+      y : StateFacts K L D
       y = with_next_view_ready elect x v
 
       r : RoundFacts K D

@@ -7,7 +7,7 @@ use Rattle.std.proofs.lemmas.Bool.{cases_eq, ne_eqb}
 use Rattle.simplex_types.specs.Terms.{term_start}
 use Rattle.simplex_round.specs.Round.{RoundFacts, new_round, signs_as}
 use Rattle.simplex_voter.specs.Certification.{named_also, waits_for, with_waiting_candidate}
-use Rattle.simplex_voter.specs.Facts.{Facts, Elect, round_at, round_of, round_number}
+use Rattle.simplex_voter.specs.Facts.{StateFacts, Elect, round_at, round_of, round_number}
 use Rattle.simplex_voter.specs.Payloads.{is_elected_early}
 use Rattle.simplex_voter.specs.Rules.{required_parent}
 use Rattle.simplex_laws.specs.Requested.{wakes}
@@ -16,7 +16,7 @@ use Rattle.simplex_laws.proofs.histories.Following.{among_noted}
 use Rattle.simplex_laws.proofs.histories.Leaving.{Alike}
 
 -- these two are set up alike
-pub record SetUpAlike {K L D : Type 0} (x y : Facts K L D) : Type 0 where
+pub record SetUpAlike {K L D : Type 0} (x y : StateFacts K L D) : Type 0 where
   pub settings : y.settings ≡ x.settings
   pub me : y.me ≡ x.me
   pub elector : y.elector ≡ x.elector
@@ -25,7 +25,7 @@ pub record SetUpAlike {K L D : Type 0} (x y : Facts K L D) : Type 0 where
 
 module _ {K L D : Type 0} where
   -- one more view is named, if it lies above the finalized one
-  pub named_among : (x : Facts K L D) (v w : ℕ) → has_view (named_also x v).named w ≡ unwrap_or (if eqb w v && nat_lt x.finalized v then Some true else None) (has_view x.named w)
+  pub named_among : (x : StateFacts K L D) (v w : ℕ) → has_view (named_also x v).named w ≡ unwrap_or (if eqb w v && nat_lt x.finalized v then Some true else None) (has_view x.named w)
   named_among x v w = by_above (nat_lt x.finalized v) refl
     where
       either : (b : Bool) → (b || has_view x.named w) ≡ unwrap_or (if b && true then Some true else None) (has_view x.named w)
@@ -42,7 +42,7 @@ module _ {K L D : Type 0} where
 
 module _ {K L D : Type 0} (elect : Elect L) where
   -- whether a view waits hangs on how the state is set up, and on what is known of that view
-  pub waits_alike : (x y : Facts K L D) (p : ℕ) → SetUpAlike x y → Alike (round_of x (p + 1)) (round_of y (p + 1)) → waits_for elect y p (round_of y (p + 1)) ≡ waits_for elect x p (round_of x (p + 1))
+  pub waits_alike : (x y : StateFacts K L D) (p : ℕ) → SetUpAlike x y → Alike (round_of x (p + 1)) (round_of y (p + 1)) → waits_for elect y p (round_of y (p + 1)) ≡ waits_for elect x p (round_of x (p + 1))
   unfolding required_parent
   waits_alike x y p s alike = λ i. is_some (alike i).notarization && option_map_or (λ h. option_map_or (λ q. eqb q p) (parent i h) false) (alike i).held false
     where
@@ -53,7 +53,7 @@ module _ {K L D : Type 0} (elect : Elect L) where
       parent = λ i h. if eqb (p + 1) (term_start (s.terms i).term_length (p + 1)) then (if eqb (h.parent + 1) (p + 1) && (early i && (alike i).notarize_decided) then Some h.parent else None) else Some (p + 1 - 1)
 
   -- a view that isn't tracked waits for none
-  tracked_waits : (x : Facts K L D) (p : ℕ) → option_map_or (waits_for elect x p) (round_at x (p + 1)) false ≡ waits_for elect x p (round_of x (p + 1))
+  tracked_waits : (x : StateFacts K L D) (p : ℕ) → option_map_or (waits_for elect x p) (round_at x (p + 1)) false ≡ waits_for elect x p (round_of x (p + 1))
   tracked_waits x p = by_round (round_at x (p + 1))
     where
       by_round : (o : Option (RoundFacts K D)) → option_map_or (waits_for elect x p) o false ≡ waits_for elect x p (unwrap_or o (new_round x.me x.members (round_number x (p + 1))))
@@ -61,7 +61,7 @@ module _ {K L D : Type 0} (elect : Elect L) where
       by_round (Some r) = refl
 
   -- the view above is named where it waits
-  pub woken_among : (x : Facts K L D) (p w : ℕ) → has_view (with_waiting_candidate elect x p).named w ≡ unwrap_or (if wakes elect x x.finalized p w then Some true else None) (has_view x.named w)
+  pub woken_among : (x : StateFacts K L D) (p w : ℕ) → has_view (with_waiting_candidate elect x p).named w ≡ unwrap_or (if wakes elect x x.finalized p w then Some true else None) (has_view x.named w)
   woken_among x p w = by_waiting (waits_for elect x p (round_of x (p + 1))) refl (cases_eq w (p + 1))
     where
       Named : Bool → ℕ → Type 0

@@ -6,7 +6,7 @@ use Rattle.std.specs.Option.{option_or}
 use Rattle.std.proofs.lemmas.Bool.{cases_eq, cases_lt, eq-eqb, ne_eqb, true≢false}
 use Rattle.simplex_types.specs.Terms.{term_end}
 use Rattle.simplex_round.specs.declared.round.Leader.{Leader}
-use Rattle.simplex_voter.specs.Facts.{Facts, round_of}
+use Rattle.simplex_voter.specs.Facts.{StateFacts, round_of}
 use Rattle.simplex_voter.specs.Leaders.{with_leader_of, opened_views, with_window_leaders}
 use Rattle.simplex_laws.specs.Leading.{same_member, nearest_leader, window_leader}
 use Rattle.simplex_laws.specs.Sums.{or_new, has_view}
@@ -14,7 +14,7 @@ use Rattle.simplex_laws.proofs.histories.Worked.{Worked, work_of}
 use Rattle.simplex_laws.proofs.histories.work.Leaders.{OnlyRounds, only_joined, with_leader, inherited_only, inherited_work}
 
 -- what follows reads of the facts the leaders, the members and the terms
-pub record SameLeaders {K L D : Type 0} (x y : Facts K L D) : Type 0 where
+pub record SameLeaders {K L D : Type 0} (x y : StateFacts K L D) : Type 0 where
   pub members : y.members ≡ x.members
   pub terms : y.terms ≡ x.terms
   pub leader : (v : ℕ) → (round_of y v).leader ≡ (round_of x v).leader
@@ -38,33 +38,33 @@ or_new_or (Some b) None = refl
 or_new_or o (Some a) = refl
 
 module _ {K L D : Type 0} where
-  nearest_alike : (x y : Facts K L D) → SameLeaders x y → (u k : ℕ) → nearest_leader y u k ≡ nearest_leader x u k
+  nearest_alike : (x y : StateFacts K L D) → SameLeaders x y → (u k : ℕ) → nearest_leader y u k ≡ nearest_leader x u k
   nearest_alike x y s u zero = s.leader u
   nearest_alike x y s u (suc k) =
       let behind : nearest_leader y u k ≡ nearest_leader x u k = nearest_alike x y s u k in
       rw (s.leader (u + suc k), s.members, behind) refl
 
-  pub window_alike : (x y : Facts K L D) → SameLeaders x y → (u v : ℕ) → window_leader y u v ≡ window_leader x u v
+  pub window_alike : (x y : StateFacts K L D) → SameLeaders x y → (u v : ℕ) → window_leader y u v ≡ window_leader x u v
   window_alike x y s u v = rw (s.terms, nearest_alike x y s u (v - 1 - u)) refl
 
   -- the nearest leader, where the view is one of the n views above u
-  abbrev reached : Facts K L D → ℕ → ℕ → ℕ → Option (Leader K)
+  abbrev reached : StateFacts K L D → ℕ → ℕ → ℕ → Option (Leader K)
   reached x u n v = if has_view (range_with_len (u + 1) n) v then nearest_leader x u (v - 1 - u) else None
 
   -- after the first of them took its leader
 
-  leader_next : (x : Facts K L D) (u v : ℕ) → (v ≡ u + 1 → ⊥) → work_of (with_leader_of x u (u + 1)) v ≡ work_of x v
+  leader_next : (x : StateFacts K L D) (u v : ℕ) → (v ≡ u + 1 → ⊥) → work_of (with_leader_of x u (u + 1)) v ≡ work_of x v
   leader_next x u v apart = inherited_work x u (u + 1) v ∙ rw (ne_eqb v (u + 1) apart) refl
 
-  members_next : (x : Facts K L D) (u : ℕ) → (with_leader_of x u (u + 1)).members ≡ x.members
-  members_next x u = ap (λ (y : Facts K L D). y.members) (inherited_only x u (u + 1))
+  members_next : (x : StateFacts K L D) (u : ℕ) → (with_leader_of x u (u + 1)).members ≡ x.members
+  members_next x u = ap (λ (y : StateFacts K L D). y.members) (inherited_only x u (u + 1))
 
-  nearest_next : (x : Facts K L D) (u k : ℕ) → nearest_leader (with_leader_of x u (u + 1)) (u + 1) k ≡ nearest_leader x u (suc k)
+  nearest_next : (x : StateFacts K L D) (u k : ℕ) → nearest_leader (with_leader_of x u (u + 1)) (u + 1) k ≡ nearest_leader x u (suc k)
   nearest_next x u zero =
       ap (λ (k : Worked K D). k.leader) (inherited_work x u (u + 1) (u + 1))
       ∙ rw (eq-eqb (u + 1) (u + 1) refl) (or_new_or (round_of x (u + 1)).leader (same_member x (round_of x u).leader))
   nearest_next x u (suc k) =
-      let y : Facts K L D = with_leader_of x u (u + 1) in
+      let y : StateFacts K L D = with_leader_of x u (u + 1) in
       let behind : nearest_leader y (u + 1) k ≡ nearest_leader x u (suc k) = nearest_next x u k in
       let further : u + 1 + suc k ≡ u + suc (suc k) = omega arith in
       let own : (round_of y (u + 1 + suc k)).leader ≡ (round_of x (u + suc (suc k))).leader =
@@ -72,17 +72,17 @@ module _ {K L D : Type 0} where
       rw (own, members_next x u, behind) refl
 
   -- each of the views in turn takes the leader of the one before
-  abbrev over : Facts K L D → List ℕ → Facts K L D
+  abbrev over : StateFacts K L D → List ℕ → StateFacts K L D
   over x views = fold (λ y w. with_leader_of y (w - 1) w) x views
 
   -- the nearest leader goes on to a view, unless one is set there
-  abbrev reaches : Facts K L D → Option (Leader K) → Worked K D → Worked K D
+  abbrev reaches : StateFacts K L D → Option (Leader K) → Worked K D → Worked K D
   reaches x leader k = with_leader (is_some leader) (same_member x leader) k
 
-  reached_next : (x : Facts K L D) (u n v : ℕ) → reaches (with_leader_of x u (u + 1)) (reached (with_leader_of x u (u + 1)) (u + 1) n v) (work_of (with_leader_of x u (u + 1)) v) ≡ reaches x (reached x u (suc n) v) (work_of x v)
+  reached_next : (x : StateFacts K L D) (u n v : ℕ) → reaches (with_leader_of x u (u + 1)) (reached (with_leader_of x u (u + 1)) (u + 1) n v) (work_of (with_leader_of x u (u + 1)) v) ≡ reaches x (reached x u (suc n) v) (work_of x v)
   reached_next x u n v = by_view (cases_eq v (u + 1))
     where
-      y : Facts K L D
+      y : StateFacts K L D
       y = with_leader_of x u (u + 1)
 
       Next : ℕ → Type 0
@@ -111,25 +111,25 @@ module _ {K L D : Type 0} where
           rw (here, eq-eqb (u + 1) (u + 1) refl, range_below (u + 1 + 1) n (u + 1) (omega arith), none) taken
       by_view (inr apart) = there v apart (has_view (range_with_len (u + 1 + 1) n) v) refl
 
-  over_work : (n u : ℕ) (x : Facts K L D) (v : ℕ) → work_of (over x (range_with_len (u + 1) n)) v ≡ reaches x (reached x u n v) (work_of x v)
+  over_work : (n u : ℕ) (x : StateFacts K L D) (v : ℕ) → work_of (over x (range_with_len (u + 1) n)) v ≡ reaches x (reached x u n v) (work_of x v)
   over_work zero u x v = refl
   over_work (suc n) u x v =
-      let y : Facts K L D = with_leader_of x u (u + 1) in
+      let y : StateFacts K L D = with_leader_of x u (u + 1) in
       let back : u + 1 - 1 ≡ u = omega arith in
       let behind : work_of (over y (range_with_len (u + 1 + 1) n)) v ≡ reaches y (reached y (u + 1) n v) (work_of y v) = over_work n (u + 1) y v in
       subst (λ w. work_of (over (with_leader_of x w (u + 1)) (range_with_len (u + 1 + 1) n)) v ≡ reaches x (reached x u (suc n) v) (work_of x v)) (sym back) (behind ∙ reached_next x u n v)
 
-  over_only : (views : List ℕ) (x : Facts K L D) → OnlyRounds x (over x views)
+  over_only : (views : List ℕ) (x : StateFacts K L D) → OnlyRounds x (over x views)
   over_only [] x = refl
   over_only (w ∷ views) x =
-      let y : Facts K L D = with_leader_of x (w - 1) w in
+      let y : StateFacts K L D = with_leader_of x (w - 1) w in
       only_joined x y (over y views) (inherited_only x (w - 1) w) (over_only views y)
 
-  pub slid_only : (x : Facts K L D) (u : ℕ) → OnlyRounds x (with_window_leaders x u)
+  pub slid_only : (x : StateFacts K L D) (u : ℕ) → OnlyRounds x (with_window_leaders x u)
   slid_only x u = over_only (opened_views x u) x
 
   -- a view whose window opens takes the nearest leader, unless one is set there
-  pub slid_work : (x : Facts K L D) (u v : ℕ) → work_of (with_window_leaders x u) v ≡ with_leader (is_some (window_leader x u v)) (same_member x (window_leader x u v)) (work_of x v)
+  pub slid_work : (x : StateFacts K L D) (u v : ℕ) → work_of (with_window_leaders x u) v ≡ with_leader (is_some (window_leader x u v)) (same_member x (window_leader x u v)) (work_of x v)
   slid_work x u v = elim (eqb x.terms.optimistic_views 0) as (λ b. work_of (over x (if b then [] else views)) v ≡ reaches x (if has_view (if b then [] else views) v then nearest_leader x u (v - 1 - u) else None) (work_of x v)) [
     | true ↦ refl
     | false ↦ over_work (min (term_end x.terms.term_length u) (u + x.terms.optimistic_views + 1) - u) u x v

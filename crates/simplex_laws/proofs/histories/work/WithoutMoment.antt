@@ -4,7 +4,7 @@ use Rattle.std.proofs.Common.{◌≡◌, ◌⊎◌, refl, ap, sym, ◌∙◌, �
 use Rattle.std.proofs.lemmas.Bool.{cases_eq, ne_eqb}
 use Rattle.simplex_round.specs.declared.round.Decision.TheVariants.{Nullify, Finalize}
 use Rattle.simplex_round.specs.Round.{RoundFacts}
-use Rattle.simplex_voter.specs.Facts.{Facts, Elect, is_tracked, with_round}
+use Rattle.simplex_voter.specs.Facts.{StateFacts, Elect, is_tracked, with_round}
 use Rattle.simplex_laws.specs.Events.{Event}
 use Rattle.simplex_laws.specs.Leading.{leader_by_event, tracks}
 use Rattle.simplex_laws.specs.OwnWork.{decides_nullify, decides_finalize}
@@ -13,7 +13,7 @@ use Rattle.simplex_laws.specs.Sums.{or_new, entered_by, moment_by}
 use Rattle.simplex_laws.specs.Timing.{enters, proposes, latches, retries}
 use Rattle.simplex_laws.proofs.histories.Worked.{Worked, work_in, work_of, adds_work, work_put, work_elsewhere, untimed}
 
-module _ {K L D : Type 0} (same : D → D → Bool) (elect : Elect L) (x : Facts K L D) (e : Event K D) where
+module _ {K L D : Type 0} (same : D → D → Bool) (elect : Elect L) (x : StateFacts K L D) (e : Event K D) where
   -- an event carries no moment, triggers no timeout and asks for no certificate
   pub record IsUnmoved : Type 0 where
     pub moment : moment_by e ≡ None
