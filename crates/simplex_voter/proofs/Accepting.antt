@@ -76,25 +76,16 @@ module _ {K D : Type 0} (same : D → D → Bool) (c : ProposalFacts D) where
         | false ↦ refl
       ]
 
--- x is what was known, m at the moment, a with the finalized view raised, b with the next view entered, y after the
--- election for it, z after the finalization is kept
-module _ {K L D : Type 0} (same : D → D → Bool) (elect : Elect L) (x m a b y z : StateFacts K L D) (c : ProposalFacts D) (v next following now : ℕ) (at : v ≡ c.proposal.round.view) (next_is : next ≡ v + 1) (following_is : following ≡ v + 1) (noted : m ≡ at_moment x now) (raises : a ≡ with_finalized_view m v) (enters : b ≡ with_view_entered a next now) (elects : y ≡ with_elected_leader elect b following (Some c.bytes)) where
+-- x is what was known, y after the next view is entered and led, z after the finalization is kept
+module _ {K L D : Type 0} (same : D → D → Bool) (elect : Elect L) (x y z : StateFacts K L D) (c : ProposalFacts D) (v now : ℕ) (at : v ≡ c.proposal.round.view) (passes : y ≡ with_elected_leader elect (with_view_entered (with_finalized_view (at_moment x now) v) (v + 1) now) (v + 1) (Some c.bytes)) where
   abbrev finalized_view : ℕ
   finalized_view = c.proposal.round.view
 
   abbrev entered_there : StateFacts K L D
   entered_there = with_view_entered (with_finalized_view (at_moment x now) finalized_view) (finalized_view + 1) now
 
-  after_raise : a ≡ with_finalized_view (at_moment x now) finalized_view
-  after_raise = raises ∙ ap (λ u. with_finalized_view m u) at ∙ ap (λ w. with_finalized_view w finalized_view) noted
-
-  after_entry : b ≡ entered_there
-  after_entry = enters ∙ ap (λ n. with_view_entered a n now) (next_is ∙ ap (λ u. u + 1) at) ∙ ap (λ w. with_view_entered w (finalized_view + 1) now) after_raise
-
   after_choice : y ≡ with_elected_leader elect entered_there (finalized_view + 1) (Some c.bytes)
-  after_choice =
-      elects ∙ ap (λ n. with_elected_leader elect b n (Some c.bytes)) (following_is ∙ ap (λ u. u + 1) at)
-      ∙ ap (λ w. with_elected_leader elect w (finalized_view + 1) (Some c.bytes)) after_entry
+  after_choice = passes ∙ ap (λ u. with_elected_leader elect (with_view_entered (with_finalized_view (at_moment x now) u) (u + 1) now) (u + 1) (Some c.bytes)) at
 
   pub finalization_stays_added : finalization_added same elect y c ≡ finalization_added same elect x c
   finalization_stays_added =
@@ -118,8 +109,8 @@ module _ {K L D : Type 0} (same : D → D → Bool) (elect : Elect L) (x m a b y
     pub finalized_again : added.0 ≡ false → z ≡ after_add_finalization same elect x c now
     finalized_again again = rw (not_true _ _ shows_finalized again) finalization_kept
 
-    pub finalized_first : added.0 ≡ true → (s n : StateFacts K L D) → n ≡ with_waiting_candidate elect z v → s ≡ with_window_leaders n v → s ≡ after_add_finalization same elect x c now
-    finalized_first first s n wakes slides =
+    pub finalized_first : added.0 ≡ true → (s : StateFacts K L D) → s ≡ with_window_leaders (with_waiting_candidate elect z v) v → s ≡ after_add_finalization same elect x c now
+    finalized_first first s opens =
         rw (not_false _ _ shows_finalized first) (
-        slides ∙ ap (λ w. with_window_leaders w v) (wakes ∙ ap (λ w. with_waiting_candidate elect w v) finalization_kept)
+        opens ∙ ap (λ w. with_window_leaders (with_waiting_candidate elect w v) v) finalization_kept
         ∙ ap (λ u. with_window_leaders (with_waiting_candidate elect kept_finalization u) u) at)

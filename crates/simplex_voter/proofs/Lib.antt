@@ -19,6 +19,7 @@ pub mod Walked
 pub mod Elsewhere
 pub mod Raising
 pub mod Accepting
+pub mod Entering
 pub mod Recalled
 pub mod Proposals
 pub mod Requests

@@ -85,8 +85,7 @@ impl<S: CertificateScheme, L: Elector<S>, D: Digest> State<S, L, D> {
     {
         let view = nullification.view();
         self.note_moment(now);
-        self.enter(next, now, deadlines)?;
-        self.elect(next, Some(&nullification.certificate))?;
+        self.enter_led(next, now, deadlines, &nullification.certificate)?;
         self.keep_nullification(nullification)?;
         self.nullify_view(view)
     }

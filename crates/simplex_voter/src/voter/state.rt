@@ -168,22 +168,6 @@ impl<S: CertificateScheme, L: Elector<S>, D: Digest> State<S, L, D> {
         self.deadlines(now)
     }
 
-    /// Enters a view that is above the current one.
-    pub(super) fn enter(&mut self, view: View, now: u64, deadlines: &Deadlines) -> Result<(), Fault>
-        requires in_range { view ≤ largest_current }
-        requires deadlines { nat_lt self.old.current view ≡ true → deadlines.now ≡ deadlines_at self.old now }
-        ensures entered { OnOk result (self.new ≡ with_view_entered self.old view now) }
-        ensures refused { IfErr result (λ fault. fault ≡ OutOfMemory) }
-        ensures setup { HasSameSetup self.old self.new }
-    {
-        if view <= self.current {
-            return Ok(());
-        }
-        self.rounds.enter(view, now, deadlines)?;
-        self.current = view;
-        Ok(())
-    }
-
     /// The elector's choice, after this certificate where there is one, leads a view that has no leader.
     pub(super) fn elect(
         &mut self,

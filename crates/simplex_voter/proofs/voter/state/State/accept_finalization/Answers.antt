@@ -6,25 +6,21 @@ use Rattle.simplex_voter.proofs.voter.state.State.accept_finalization.Goals as g
 pub returns-then-not-added-clause-added : goal.returns-then-not-added-clause-added
 returns-then-not-added-clause-added g c =
     let facts = finalization_facts g.S.CertificateScheme.certificate_bytes c.args.finalization in
-    c.in_ok-added.ensures.added ∙ finalization_stays_added g.D.PartialEq.eq g.L.Elector.elect c.args.self.now c.note_moment.new.self c.raise.new.self c.enter.new.self c.elect.new.self c.elect.new.self facts c.view-view.result c.next.result c.next-2.result c.args.now
-    c.view-view.ensures c.next.ensures c.next-2.ensures c.note_moment.ensures c.raise.ensures c.in_ok-enter.ensures.entered c.in_ok-elect.ensures.elected
+    c.in_ok-added.ensures.added ∙ finalization_stays_added g.D.PartialEq.eq g.L.Elector.elect c.args.self.now c.pass.new.self c.pass.new.self facts c.view-view.result c.args.now c.view-view.ensures c.in_ok-pass.ensures.passed
 
 pub returns-clause-added : goal.returns-clause-added
 returns-clause-added g c =
     let facts = finalization_facts g.S.CertificateScheme.certificate_bytes c.args.finalization in
-    c.in_ok-added.ensures.added ∙ finalization_stays_added g.D.PartialEq.eq g.L.Elector.elect c.args.self.now c.note_moment.new.self c.raise.new.self c.enter.new.self c.elect.new.self c.elect.new.self facts c.view-view.result c.next.result c.next-2.result c.args.now
-    c.view-view.ensures c.next.ensures c.next-2.ensures c.note_moment.ensures c.raise.ensures c.in_ok-enter.ensures.entered c.in_ok-elect.ensures.elected
+    c.in_ok-added.ensures.added ∙ finalization_stays_added g.D.PartialEq.eq g.L.Elector.elect c.args.self.now c.pass.new.self c.pass.new.self facts c.view-view.result c.args.now c.view-view.ensures c.in_ok-pass.ensures.passed
 
 pub returns-then-not-added-clause-accepted : goal.returns-then-not-added-clause-accepted
 returns-then-not-added-clause-accepted g c =
     let facts = finalization_facts g.S.CertificateScheme.certificate_bytes c.args.finalization in
-    finalized_again g.D.PartialEq.eq g.L.Elector.elect c.args.self.now c.note_moment.new.self c.raise.new.self c.enter.new.self c.elect.new.self c.keep_finalization.new.self facts c.view-view.result c.next.result c.next-2.result c.args.now
-    c.view-view.ensures c.next.ensures c.next-2.ensures c.note_moment.ensures c.raise.ensures c.in_ok-enter.ensures.entered c.in_ok-elect.ensures.elected
-    c.in_ok-added.added c.in_ok-added.ensures.added c.in_ok-added.ensures.kept c.if-not-added.true
+    finalized_again g.D.PartialEq.eq g.L.Elector.elect c.args.self.now c.pass.new.self c.keep_finalization.new.self facts c.view-view.result c.args.now
+    c.view-view.ensures c.in_ok-pass.ensures.passed c.in_ok-added.added c.in_ok-added.ensures.added c.in_ok-added.ensures.kept c.if-not-added.true
 
 pub returns-clause-accepted : goal.returns-clause-accepted
 returns-clause-accepted g c =
     let facts = finalization_facts g.S.CertificateScheme.certificate_bytes c.args.finalization in
-    finalized_first g.D.PartialEq.eq g.L.Elector.elect c.args.self.now c.note_moment.new.self c.raise.new.self c.enter.new.self c.elect.new.self c.keep_finalization.new.self facts c.view-view.result c.next.result c.next-2.result c.args.now
-    c.view-view.ensures c.next.ensures c.next-2.ensures c.note_moment.ensures c.raise.ensures c.in_ok-enter.ensures.entered c.in_ok-elect.ensures.elected
-    c.in_ok-added.added c.in_ok-added.ensures.added c.in_ok-added.ensures.kept c.if-not-added.false _ _ c.in_ok-wake.ensures.woken c.in_ok-slide.ensures.slid
+    finalized_first g.D.PartialEq.eq g.L.Elector.elect c.args.self.now c.pass.new.self c.keep_finalization.new.self facts c.view-view.result c.args.now
+    c.view-view.ensures c.in_ok-pass.ensures.passed c.in_ok-added.added c.in_ok-added.ensures.added c.in_ok-added.ensures.kept c.if-not-added.false _ c.in_ok-open_above.ensures.opened
