@@ -54,9 +54,12 @@ module _ {K L D : Type 0} where
 
   -- the proposal of a certificate that is the first of its kind
   abbrev pub first_certificate_by : ℕ → StateFacts K L D → Event K D → Option (Proposal D)
-  first_certificate_by v x (AddNotarization c) = if v == c.proposal.round.view && is_none (round_of x c.proposal.round.view).notarization then Some c.proposal else None
-  first_certificate_by v x (AddFinalization c _) = if v == c.proposal.round.view && is_none (round_of x c.proposal.round.view).finalization then Some c.proposal else None
-  first_certificate_by v x (SetFloor (FloorFinalized c) _) = if v == c.proposal.round.view && is_none (round_of x c.proposal.round.view).finalization then Some c.proposal else None
+  first_certificate_by v x (AddNotarization c) =
+      if v == c.proposal.round.view && is_none (round_of x c.proposal.round.view).notarization then Some c.proposal else None
+  first_certificate_by v x (AddFinalization c _) =
+      if v == c.proposal.round.view && is_none (round_of x c.proposal.round.view).finalization then Some c.proposal else None
+  first_certificate_by v x (SetFloor (FloorFinalized c) _) =
+      if v == c.proposal.round.view && is_none (round_of x c.proposal.round.view).finalization then Some c.proposal else None
   first_certificate_by v x _ = None
 
   -- a proposal that is heard of, unless the view is voted to nullify

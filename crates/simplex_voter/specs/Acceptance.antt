@@ -100,7 +100,8 @@ module _ {K L D : Type 0} (same : D → D → Bool) (elect : Elect L) where
   abbrev pub after_add_finalization : StateFacts K L D → ProposalFacts D → ℕ → StateFacts K L D
   after_add_finalization x c now =
       let v = c.proposal.round.view in
-      let kept = with_finalization_at (with_elected_leader elect (with_view_entered (with_finalized_view (at_moment x now) v) (v + 1) now) (v + 1) (Some c.bytes)) c in
+      let passed = with_view_entered (with_finalized_view (at_moment x now) v) (v + 1) now in
+      let kept = with_finalization_at (with_elected_leader elect passed (v + 1) (Some c.bytes)) c in
       if is_some (round_of x v).finalization then kept else with_window_leaders (with_waiting_candidate elect kept v) v
 
   abbrev pub after_set_floor : StateFacts K L D → FloorFacts D → ℕ → StateFacts K L D

@@ -27,7 +27,8 @@ pub record IsSignedNotarize {S L D K G C : Type 0} (is_signature : K → Subject
   pub signer : x.me ≡ Some vote.signer
   pub signed : IsSignedAs is_signature x.me x.members (subject.Notarize vote.proposal) vote.signature
 
-pub record IsSignedFinalize {S L D K G C : Type 0} (is_signature : K → Subject D → G → Type 0) (x : StateFacts K L D) (vote : message.Finalize S D K G C) : Type 0 where
+pub record IsSignedFinalize {S L D K G C : Type 0} (is_signature : K → Subject D → G → Type 0) (x : StateFacts K L D)
+    (vote : message.Finalize S D K G C) : Type 0 where
   pub signer : x.me ≡ Some vote.signer
   pub signed : IsSignedAs is_signature x.me x.members (subject.Finalize vote.proposal) vote.signature
 

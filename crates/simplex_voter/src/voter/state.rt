@@ -175,7 +175,8 @@ impl<S: CertificateScheme, L: Elector<S>, D: Digest> State<S, L, D> {
         certificate: Option<&S::Certificate>,
     ) -> Result<(), Fault>
         requires { view ≤ largest_tracked }
-        ensures elected { OnOk result (self.new ≡ with_elected_leader L.elect self.old view (option_map S.certificate_bytes (option_copied certificate.entry))) }
+        ensures elected { OnOk result (self.new
+            ≡ with_elected_leader L.elect self.old view (option_map S.certificate_bytes (option_copied certificate.entry))) }
         ensures refused { IfErr result (λ fault. fault ≡ OutOfMemory) }
         ensures setup { HasSameSetup self.old self.new }
     {

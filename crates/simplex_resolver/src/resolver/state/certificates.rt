@@ -114,7 +114,8 @@ impl State {
         certificate: &Certificate<S, D>,
     ) -> Result<(), Fault>
         requires { view < 2 ^ 63 }
-        ensures after { OnOk result (self.new ≡ with_kept_finalization self.old view (encoding D.bytes (certificate_facts S.certificate_bytes certificate.now))) }
+        ensures after { OnOk result (self.new
+            ≡ with_kept_finalization self.old view (encoding D.bytes (certificate_facts S.certificate_bytes certificate.now))) }
         ensures same_terms { term_length self.new ≡ term_length self.old }
     {
         held::keep_finalization(self.alloc, &mut self.finalization, view, certificate)?;
