@@ -109,7 +109,7 @@ fn take<S: CertificateScheme, L: Elector<S>, D: Digest>(
 }
 
 /// Takes an entry, or passes it over where its view is below those that are kept.
-#[tactic(auto, unfolding(crate::specs::Recovery::taken))]
+#[tactic(auto, unfolding(crate::specs::Recovery::after_kept_entry))]
 fn take_kept<S: CertificateScheme, L: Elector<S>, D: Digest>(
     alloc: Global,
     state: &mut State<S, L, D>,
