@@ -39,7 +39,7 @@ skips_two = begins_with 1 1 (first_view 1 ++ hears two true ∷ verifies 1 0 two
 
 -- member 2 heard of no certificate but that nullification, and lacks the notarization of view 1
 abbrev pub member_without_notarization : Story ℕ ℕ ℕ
-lacks_notarization = begins_with 1 2 (
+member_without_notarization = begins_with 1 2 (
     hears one true
     ∷ verifies 2 3 one
     ++ skips 2
