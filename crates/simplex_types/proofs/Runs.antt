@@ -101,3 +101,10 @@ module _ {V : Type 0} (m : TermMap V) (v : ℕ) (some : 0 < m.term_length) where
 -- a view of a run's part behind a term stands behind the term
 pub behind_term : (first end next w : ℕ) → end < 2 ^ 64 → max first (min next (2 ^ 64 - 1)) ≤ w → w < end → (first ≤ w) × (next ≤ w)
 behind_term first end next w fits low high = (grind arith, grind arith)
+
+-- a run goes on behind another
+pub followed : {set : ℕ → Bool} {first end behind : ℕ} → AreIn set first end → AreIn set end behind → AreIn set first behind
+followed {set} {first} {end} {behind} here on w low high = elim (cases_lt w end) [
+  | inl within ↦ here w low within
+  | inr past ↦ on w past high
+]

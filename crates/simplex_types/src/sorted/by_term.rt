@@ -91,7 +91,8 @@ impl<V: Drop> ByTerm<V> {
         ensures after { self.new ≡ record self.old { by_view = after_insert self.old.by_view view value result } }
     {
         let back = self.table.insert(view, value)?;
-        self.run = self.run.joined(self.table.covered_by(view));
+        let run = self.run.joined(self.table.covered_by(view));
+        self.run = self.table.grown(run);
         Ok(back)
     }
 

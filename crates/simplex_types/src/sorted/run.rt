@@ -1,6 +1,6 @@
 //! A run of views, one behind the other.
 
-ghost use Rattle.std.specs.Prelude.{◌≡◌, ℕ, Bool, ◌<◌, ◌-◌, ◌^◌, max};
+ghost use Rattle.std.specs.Prelude.{◌≡◌, ℕ, Bool, ◌<◌, ◌-◌, ◌^◌, max, nat_lt, nat_le};
 ghost use Rattle.simplex_types.specs.Runs.{AreIn};
 
 use crate::types::View;
@@ -10,6 +10,16 @@ use crate::types::View;
 pub(super) struct Run {
     pub(super) first: View,
     pub(super) end: View,
+}
+
+/// How many views behind its end a run looks for what to join: so far views may come out of order.
+pub(super) const REACH: u64 = 64;
+
+/// Whether a view is above another by more than the reach.
+fn is_far_above(view: View, other: View) -> bool
+    ensures { result ≡ nat_lt 64 (view - other) }
+{
+    view.get().saturating_sub(other.get()) > REACH
 }
 
 impl Run {
@@ -23,14 +33,22 @@ impl Run {
         }
     }
 
-    /// The run over both, where they touch. Else the higher one, since it is the newest views that are searched.
+    /// Whether no view is in it.
+    fn is_empty(self) -> bool
+        ensures { result ≡ nat_le self.end self.first }
+    {
+        self.end <= self.first
+    }
+
+    /// The run over both, where they touch. Else the first one, unless it is empty or the other lies far above: views
+    /// may come a little out of order, while it is the newest ones that are searched.
     pub(super) fn joined(self, other: Run) -> Run
         ensures { (set : ℕ → Bool) → AreIn set self.first self.end → AreIn set other.first other.end → AreIn set result.first result.end }
     {
-        if self.end < other.first {
+        if self.is_empty() || is_far_above(other.first, self.end) {
             return other;
         }
-        if other.end < self.first {
+        if self.end < other.first || other.end < self.first {
             return self;
         }
         Run {

@@ -5,9 +5,10 @@ ghost use Rattle.std.specs.Option.{option_copied};
 ghost use Rattle.std.specs.FinMap as map;
 ghost use Rattle.simplex_types.specs.Tracked.{after_insert, at_or_above};
 ghost use Rattle.simplex_types.specs.Terms.{term_start, next_term_start};
-ghost use Rattle.simplex_types.specs.ByTerm.{covering, covering_below, not_ended, IsByTerm, map_of_terms, Gapless, IsFirstGap};
+ghost use Rattle.simplex_types.specs.ByTerm.{covering, covering_below, not_ended, IsByTerm, map_of_terms, is_covered, Gapless, IsFirstGap};
+ghost use Rattle.simplex_types.specs.Runs.{AreIn};
 
-use crate::sorted::run::Run;
+use crate::sorted::run::{REACH, Run};
 use crate::sorted::tracked::Tracked;
 use crate::types::{AllocFailed, TermLength, View};
 use std::alloc::Global;
@@ -80,6 +81,25 @@ impl<V> TermTable<V> {
         let start = view.term_start(self.term_length);
         let views = u64::from(self.term_length.get().get());
         View::new(start.get().saturating_add(views))
+    }
+
+    /// A run with the views behind it, as far as its reach, that are covered too.
+    pub(super) fn grown(&self, run: Run) -> Run
+        ensures first { result.first ≡ run.first }
+        ensures behind { AreIn (is_covered self.now) run.end result.end }
+    {
+        let Some(last) = run.end.previous() else {
+            return run;
+        };
+        let limit = View::new(run.end.get().saturating_add(REACH));
+        let end = match self.first_uncovered(last, limit) {
+            Some(gap) => gap,
+            None => limit,
+        };
+        Run {
+            first: run.first,
+            end,
+        }
     }
 
     /// The value at a view.
