@@ -1,8 +1,10 @@
 -- Where no refusal stands.
-use Rattle.std.proofs.Common.{◌≡◌, Bool, true, false, ◌&&◌, Option, Some, None, Result, Ok, Err, IsTrue, IfSome, refl, ap, sym}
+use Rattle.std.proofs.Common.{◌≡◌, Bool, true, false, ◌&&◌, Option, Some, None, Result, Ok, Err, IsTrue, IfSome, refl, ap, sym, ◌∙◌}
 use Rattle.std.proofs.lemmas.Bool.{false≢true}
 use Rattle.simplex_types.specs.declared.types.fault.Fault.{Fault}
-use Rattle.simplex_voter.specs.Refusals.{first_fault}
+use Rattle.simplex_voter.specs.Refusals.{first_fault, HasFailed}
+use Rattle.simplex_voter.specs.Facts.{StateFacts}
+use Rattle.simplex_voter.specs.Setup.{HasSameSetup}
 
 not_late : (b late : Bool) → (IsTrue late → true ≡ false) → (b && late) ≡ false
 not_late true true never = absurd (false≢true (sym (never refl)))
@@ -22,3 +24,22 @@ fault_in (Err fault) other = fault
 pub passed_on : (A B Q : Type 0) (refusal : Option Fault) (fault : Fault) → IfSome refusal (λ f. ◌≡◌ {A = Result A Fault} (Err fault) (Err f) × Q) → IfSome refusal (λ f. ◌≡◌ {A = Result B Fault} (Err fault) (Err f) × Q)
 passed_on A B Q None fault refused = tt
 passed_on A B Q (Some f) fault refused = (ap Err (ap (λ (r : Result A Fault). fault_in r fault) refused.0), refused.1)
+
+-- a call found no memory, and left how the state was set up
+pub failed_now : {K L D : Type 0} (x y z : StateFacts K L D) → HasSameSetup x y → z ≡ record y { failed = true } → HasFailed x z
+failed_now x y z setup fails = record {
+  failed = ap (λ w. w.failed) fails;
+  settings = ap (λ w. w.settings) fails ∙ setup.settings;
+  terms = ap (λ w. w.terms) fails ∙ setup.terms;
+}
+
+late_of_both : (success tracked late : Bool) → (IsTrue (success && late) → true ≡ false) → (success && tracked && late) ≡ false
+late_of_both true true true never = absurd (false≢true (sym (never refl)))
+late_of_both true true false never = refl
+late_of_both true false late never = refl
+late_of_both false tracked late never = refl
+
+-- a verdict whose deadlines are not late is not refused
+pub no_late_verdict : (failed success tracked late : Bool) (P : Fault → Type 0) → false ≡ failed → (IsTrue (success && late) → true ≡ false) → IfSome (first_fault failed false (success && tracked && late)) P
+no_late_verdict true success tracked late P sound never = absurd (false≢true sound)
+no_late_verdict false success tracked late P sound never = rw (late_of_both success tracked late never) tt

@@ -20,6 +20,7 @@ pub mod Elsewhere
 pub mod Raising
 pub mod Accepting
 pub mod Entering
+pub mod Judging
 pub mod Recalled
 pub mod Proposals
 pub mod Requests
