@@ -33,6 +33,9 @@ failed_now x y z setup fails = record {
   terms = ap (λ w. w.terms) fails ∙ setup.terms;
 }
 
+pub failed_here : {K L D : Type 0} (x z : StateFacts K L D) → z ≡ record x { failed = true } → HasFailed x z
+failed_here x z fails = record { failed = ap (λ w. w.failed) fails; settings = ap (λ w. w.settings) fails; terms = ap (λ w. w.terms) fails }
+
 late_of_both : (success tracked late : Bool) → (IsTrue (success && late) → true ≡ false) → (success && tracked && late) ≡ false
 late_of_both true true true never = absurd (false≢true (sym (never refl)))
 late_of_both true true false never = refl

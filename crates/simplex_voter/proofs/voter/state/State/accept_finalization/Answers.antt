@@ -1,6 +1,7 @@
 use Rattle.std.proofs.Common.{◌∙◌}
 use Rattle.simplex_types.specs.Certificates.{finalization_facts}
 use Rattle.simplex_voter.proofs.Accepting.{finalization_stays_added, finalized_again, finalized_first}
+use Rattle.simplex_voter.proofs.Sliding.{same_setup_joins}
 use Rattle.simplex_voter.proofs.voter.state.State.accept_finalization.Goals as goal
 
 pub returns-then-not-added-clause-added : goal.returns-then-not-added-clause-added
@@ -24,3 +25,15 @@ returns-clause-accepted g c =
     let facts = finalization_facts g.S.CertificateScheme.certificate_bytes c.args.finalization in
     finalized_first g.D.PartialEq.eq g.L.Elector.elect c.args.self.now c.pass.new.self c.keep_finalization.new.self facts c.view-view.result c.args.now
     c.view-view.ensures c.in_ok-pass.ensures.passed c.in_ok-added.added c.in_ok-added.ensures.added c.in_ok-added.ensures.kept c.if-not-added.false _ c.in_ok-open_above.ensures.opened
+
+pub returns-in_err-added-clause-setup : goal.returns-in_err-added-clause-setup
+returns-in_err-added-clause-setup g c = same_setup_joins _ _ _ c.pass.ensures.setup c.keep_finalization.ensures.setup
+
+pub returns-then-not-added-clause-setup : goal.returns-then-not-added-clause-setup
+returns-then-not-added-clause-setup g c = same_setup_joins _ _ _ c.pass.ensures.setup c.keep_finalization.ensures.setup
+
+pub returns-in_err-open_above-clause-setup : goal.returns-in_err-open_above-clause-setup
+returns-in_err-open_above-clause-setup g c = same_setup_joins _ _ _ (same_setup_joins _ _ _ c.pass.ensures.setup c.keep_finalization.ensures.setup) c.open_above.ensures.setup
+
+pub returns-clause-setup : goal.returns-clause-setup
+returns-clause-setup g c = same_setup_joins _ _ _ (same_setup_joins _ _ _ c.pass.ensures.setup c.keep_finalization.ensures.setup) c.open_above.ensures.setup

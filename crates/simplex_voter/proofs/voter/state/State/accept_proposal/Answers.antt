@@ -3,6 +3,7 @@ use Rattle.simplex_voter.specs.Facts.{round_of}
 use Rattle.simplex_voter.specs.Verifying.{is_new_proposal}
 use Rattle.simplex_voter.proofs.Kept.{if_ok}
 use Rattle.simplex_voter.proofs.Proposals.{round_of-prepared}
+use Rattle.simplex_voter.proofs.Sliding.{same_setup_joins}
 use Rattle.simplex_voter.proofs.voter.state.State.accept_proposal.Goals as goal
 
 pub returns-clause-answer : goal.returns-clause-answer
@@ -10,3 +11,6 @@ returns-clause-answer g c =
     if_ok c.take_proposal.result
     (λ first is. is ∙ ap (λ y. is_new_proposal (round_of y c.args.view)) c.in_ok-prepare.ensures.prepared ∙ ap is_new_proposal (round_of-prepared g.L.Elector.elect c.args.self.now c.args.view))
     c.take_proposal.ensures.answer
+
+pub returns-clause-setup : goal.returns-clause-setup
+returns-clause-setup g c = same_setup_joins _ _ _ c.prepare.ensures.setup c.take_proposal.ensures.setup

@@ -1,5 +1,6 @@
 use Rattle.std.proofs.Common.{sym}
 use Rattle.simplex_voter.proofs.Rules.{notarize_round}
+use Rattle.simplex_voter.proofs.Faults.{failed_now}
 use Rattle.simplex_voter.proofs.voter.state.State.construct_notarize.Goals as goal
 
 pub cast_notarize-requires-clause-may : goal.cast_notarize-requires-clause-may
@@ -7,3 +8,6 @@ cast_notarize-requires-clause-may g c = notarize_round _ _ _ _ (sym c.if-not-may
 
 pub cast_notarize-requires-clause-view : goal.cast_notarize-requires-clause-view
 cast_notarize-requires-clause-view g c = c.may_notarize.ensures.room c.if-not-may_notarize.false
+
+pub returns-in-Err-clause-out_of_memory : goal.returns-in-Err-clause-out_of_memory
+returns-in-Err-clause-out_of_memory g c none = (c.in-Err.ensures.refused, failed_now _ _ _ c.in-Err.ensures.setup c.fail.ensures)
