@@ -8,7 +8,7 @@ use simplex_types::types::Fault;
 use std::alloc::AllocError;
 
 /// Why a part of a call gives no answer.
-#[derive(Clone, Copy, PartialEq, Eq, Debug)]
+#[derive(Clone, Copy)]
 pub(super) enum CallError {
     /// The fault was due, or there was no room in the record; the state is as it was.
     Refused(Fault),

@@ -10,7 +10,7 @@ use super::openings::Openings;
 use simplex_types::types::{CertificateScheme, Digest, Fault, View};
 
 /// What a call closes, once it is answered.
-#[derive(Clone, Copy, PartialEq, Eq, Debug)]
+#[derive(Clone, Copy)]
 pub(super) enum Closing {
     Nothing,
     /// The request to build in the view: it was answered, or given up.

@@ -1,6 +1,7 @@
 //! Why a record or a restart is refused.
 
 ghost use Rattle.std.specs.Prelude.{◌≡◌, if◌then◌else◌, Ok, Err};
+ghost use Rattle.simplex_member.specs.Errors.{recover_error_name};
 
 use std::alloc::AllocError;
 use std::error::Error;
@@ -39,6 +40,29 @@ pub enum RecoverError {
     RetentionGrown,
 }
 
+impl RecoverError {
+    fn name(self) -> &'static str
+        ensures { result.now ≡ recover_error_name self }
+    {
+        match self {
+            RecoverError::OutOfOrder => "OutOfOrder",
+            RecoverError::OtherEpoch => "OtherEpoch",
+            RecoverError::ZeroView => "ZeroView",
+            RecoverError::ViewTooLarge => "ViewTooLarge",
+            RecoverError::ForeignSigner => "ForeignSigner",
+            RecoverError::ParentNotBelow => "ParentNotBelow",
+            RecoverError::VerdictWithoutNotarization => "VerdictWithoutNotarization",
+            RecoverError::ContradictingVerdicts => "ContradictingVerdicts",
+            RecoverError::NullifyBesideFinalize => "NullifyBesideFinalize",
+            RecoverError::ContradictingVotes => "ContradictingVotes",
+            RecoverError::FinalizeWithoutVerdict => "FinalizeWithoutVerdict",
+            RecoverError::TimeOverflow => "TimeOverflow",
+            RecoverError::OutOfMemory => "OutOfMemory",
+            RecoverError::RetentionGrown => "RetentionGrown",
+        }
+    }
+}
+
 impl fmt::Display for RecoverError {
     ghost use Rattle.std.specs.Prelude.{Some};
     ghost use Rattle.simplex_member.specs.Errors.{recover_error_name};
@@ -46,22 +70,7 @@ impl fmt::Display for RecoverError {
     ghost output = { λ error. Some (recover_error_name error) };
 
     fn fmt<W: fmt::Write>(&self, f: &mut fmt::Formatter<W>) -> fmt::Result {
-        match self {
-            RecoverError::OutOfOrder => write!(f, "OutOfOrder"),
-            RecoverError::OtherEpoch => write!(f, "OtherEpoch"),
-            RecoverError::ZeroView => write!(f, "ZeroView"),
-            RecoverError::ViewTooLarge => write!(f, "ViewTooLarge"),
-            RecoverError::ForeignSigner => write!(f, "ForeignSigner"),
-            RecoverError::ParentNotBelow => write!(f, "ParentNotBelow"),
-            RecoverError::VerdictWithoutNotarization => write!(f, "VerdictWithoutNotarization"),
-            RecoverError::ContradictingVerdicts => write!(f, "ContradictingVerdicts"),
-            RecoverError::NullifyBesideFinalize => write!(f, "NullifyBesideFinalize"),
-            RecoverError::ContradictingVotes => write!(f, "ContradictingVotes"),
-            RecoverError::FinalizeWithoutVerdict => write!(f, "FinalizeWithoutVerdict"),
-            RecoverError::TimeOverflow => write!(f, "TimeOverflow"),
-            RecoverError::OutOfMemory => write!(f, "OutOfMemory"),
-            RecoverError::RetentionGrown => write!(f, "RetentionGrown"),
-        }
+        f.write_str(self.name())
     }
 }
 

@@ -20,7 +20,7 @@ use simplex_voter::voter::State;
 use std::alloc::Global;
 
 /// The families of calls.
-#[derive(Clone, Copy, PartialEq, Eq, Debug)]
+#[derive(Clone, Copy)]
 pub(super) enum Family {
     /// Certificates that are handed in.
     Certificates,
