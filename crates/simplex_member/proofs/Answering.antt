@@ -14,9 +14,8 @@ use Rattle.simplex_member.specs.Allowed.{is_allowed, fault_of, may_fall, may_wan
 use Rattle.simplex_member.specs.Calls.{CallFacts, AddNotarization, AddNullification, AddFinalization, SetProposal, TryPropose, TryVerify, CertifyCandidates, SetCertifyHandle, Certified, NextTimeout, Told, Refused, NotAllowed, asked}
 use Rattle.simplex_member.specs.Lives.{MemberFacts, without_life, IsCall}
 use Rattle.simplex_member.specs.Made.{answer, after_call, openings_after, recorded_by}
-use Rattle.simplex_member.specs.Openings.{Openings, no_openings, is_offered}
-use Rattle.simplex_member.specs.Parts.{is_offer, fills_room, asks_for_work, family_of, IsWant, IsLoss, closing_of, left_open, now_open}
-use Rattle.simplex_member.specs.declared.member.serving.Family.TheVariants as family
+use Rattle.simplex_member.specs.Openings.{Openings, is_offered}
+use Rattle.simplex_member.specs.Parts.{is_offer, fills_room, asks_for_work, IsWant, IsLoss, closing_of, left_open, now_open}
 use Rattle.simplex_member.proofs.GoingCalls.{goes}
 
 and_right : (a b : Bool) → (a && b) ≡ true → b ≡ true
@@ -95,40 +94,6 @@ module _ {S L D K G C : Type 0} (same : D → D → Bool) (elect : Elect L) (byt
   follows (call.TriggerTimeout v reason now) = refl
   follows (call.NextTimeout now) = refl
   follows call.Prune = refl
-
-  -- a vote is the same whatever is open
-  pub vote_alike : (c : Call S D K G C) → family_of c ≡ family.Votes → after_call same elect x o (asked bytes_of c) ≡ after_call same elect x no_openings (asked bytes_of c)
-  vote_alike (call.ConstructNotarize v) is = refl
-  vote_alike (call.ConstructNullify v reason) is = refl
-  vote_alike (call.ConstructFinalize v) is = refl
-  vote_alike (call.Proposed v payload now) is = absurd (other is)
-    where
-      other : family.Proposals ≡ family.Votes → ⊥
-      other e = cc
-  vote_alike (call.SupersedeProposalRequest v) is = absurd (other is)
-    where
-      other : family.Proposals ≡ family.Votes → ⊥
-      other e = cc
-  vote_alike (call.AddNotarization c) is = refl
-  vote_alike (call.AddNullification c now) is = refl
-  vote_alike (call.AddFinalization c now) is = refl
-  vote_alike (call.SetProposal v p) is = refl
-  vote_alike call.TryPropose is = refl
-  vote_alike (call.PendingHandoffAbandonment v) is = refl
-  vote_alike (call.ReleaseProposalRequest v) is = refl
-  vote_alike call.TryVerify is = refl
-  vote_alike (call.Verified v) is = refl
-  vote_alike (call.VerificationFailed v reason now) is = refl
-  vote_alike call.CertifyCandidates is = refl
-  vote_alike (call.SetCertifyHandle v token) is = refl
-  vote_alike (call.Certified v success now) is = refl
-  vote_alike (call.BroadcastNotarization v) is = refl
-  vote_alike (call.BroadcastNullification v) is = refl
-  vote_alike (call.BroadcastFinalization v) is = refl
-  vote_alike call.GetBestCertificate is = refl
-  vote_alike (call.TriggerTimeout v reason now) is = refl
-  vote_alike (call.NextTimeout now) is = refl
-  vote_alike call.Prune is = refl
 
   -- what is open once a call is answered
   pub open_then : (c : Call S D K G C) (told : Told K D) → told ≡ answer same elect x o (asked bytes_of c) → now_open (left_open o (closing_of c) told) told ≡ openings_after same elect x o (asked bytes_of c)

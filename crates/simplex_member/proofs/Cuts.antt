@@ -8,7 +8,7 @@ use Rattle.std.proofs.lemmas.List.{take-map, length-map}
 use Rattle.simplex_types.specs.Certificates.{ArtifactFacts, artifact_facts}
 use Rattle.simplex_types.specs.declared.types.messages.Artifact.{Artifact}
 use Rattle.simplex_member.specs.Entries.{entries_of, entry_view}
-use Rattle.simplex_member.specs.Cuts.{is_vote, may_drop, without_last, finalized_by, finalized_in}
+use Rattle.simplex_member.specs.Cuts.{is_vote, may_drop, without_last, finalized_by, finalized_in, pruned_entries}
 use Rattle.simplex_member.proofs.Seen.{entries_from, view_of_entry}
 
 shut : (closed n : ℕ) (b : Bool) → n ≤ closed → false ≡ (nat_lt closed n && b)
@@ -77,3 +77,8 @@ module _ {S D K G C : Type 0} (bytes_of : C → List ℕ) where
       kept rest false is = rw (is, ← view_of_entry bytes_of a, is, rest) refl
 
 pub ruleset dropped = (one_item_dropped, none_dropped)
+
+-- what is kept from a lowest view on is what a pruning leaves
+pub pruned_from : {D : Type 0} (retention : ℕ) (entries : List (ArtifactFacts D)) (lowest : ℕ) → lowest ≡ finalized_in entries - retention → filter (λ e. nat_le lowest (entry_view e)) entries ≡ pruned_entries retention entries
+unfolding pruned_entries
+pruned_from retention entries lowest is = rw is refl

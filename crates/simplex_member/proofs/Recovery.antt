@@ -1,14 +1,15 @@
 -- An artifact is replayed as its entry is, and taking an entry leaves a state that goes on.
-use Rattle.std.proofs.Common.{◌≡◌, refl, ℕ, ◌+◌, Bool, ◌&&◌, List, None}
+use Rattle.std.proofs.Common.{◌≡◌, refl, ℕ, ◌+◌, nat_lt, Bool, true, false, ◌&&◌, List, None}
 use Rattle.simplex_types.specs.Certificates.{ArtifactFacts, NotarizeVote, NullifyVote, FinalizeVote, Verdict, Accepted, Notarized, Nullified, Finalized, artifact_facts}
 use Rattle.simplex_types.specs.declared.types.messages.Artifact.{Artifact}
 use Rattle.simplex_types.specs.declared.types.messages.Artifact.TheVariants as artifact
 use Rattle.simplex_voter.specs.Facts.{StateFacts, Elect, round_of, with_round}
-use Rattle.simplex_voter.specs.Windows.{in_window}
+use Rattle.simplex_voter.specs.Windows.{in_window, min_active}
 use Rattle.simplex_voter.specs.Payloads.{is_elected_early}
 use Rattle.simplex_voter.specs.Leaders.{with_leader_of, with_elected_leader, with_next_view_ready}
 use Rattle.simplex_voter.specs.Replay.{after_replayed, replayed_round}
-use Rattle.simplex_member.specs.Recovery.{as_artifact, after_adding, after_replaying}
+use Rattle.simplex_member.specs.Entries.{entry_view}
+use Rattle.simplex_member.specs.Recovery.{as_artifact, after_adding, after_replaying, after_entry, after_kept_entry}
 use Rattle.simplex_member.proofs.Going.{Goes, stays, joined, where_so, with_round_goes, inherited_goes, elected_goes, notarization_goes, nullification_goes, finalization_goes}
 
 pub replayed_entry : {S K L D G C : Type 0} (bytes_of : C → List ℕ) (same : D → D → Bool) (elect : Elect L) (x : StateFacts K L D) (a : Artifact S D K G C) → after_replayed same elect x a ≡ after_replaying same elect x (artifact_facts bytes_of a)
@@ -45,3 +46,12 @@ module _ {K L D : Type 0} (same : D → D → Bool) (elect : Elect L) where
   replayed_goes x (Accepted (Notarized _)) = record { failed = refl; settings = refl; terms = refl; started = λ h. h }
   replayed_goes x (Accepted (Nullified _)) = record { failed = refl; settings = refl; terms = refl; started = λ h. h }
   replayed_goes x (Accepted (Finalized _)) = record { failed = refl; settings = refl; terms = refl; started = λ h. h }
+
+  -- an entry of a view that is kept is taken, and another is passed over
+  pub kept_taken : (x : StateFacts K L D) (now : ℕ) (e : ArtifactFacts D) → nat_lt (entry_view e) (min_active x) ≡ false → after_kept_entry same elect x now e ≡ after_entry same elect x now e
+  unfolding after_kept_entry
+  kept_taken x now e kept = rw kept refl
+
+  pub low_taken : (x : StateFacts K L D) (now : ℕ) (e : ArtifactFacts D) → nat_lt (entry_view e) (min_active x) ≡ true → after_kept_entry same elect x now e ≡ x
+  unfolding after_kept_entry
+  low_taken x now e low = rw low refl

@@ -1,5 +1,5 @@
 -- A record by view, and the finalization that is recorded.
-use Rattle.std.proofs.Common.{◌≡◌, refl, sym, ap, ◌∙◌, ℕ, Bool, true, false, ◌&&◌, not, List, [], ◌∷◌, ◌++◌, filter, length, Option, Some, None, option_map, arith, get_or, ◌⊎◌, inl, inr}
+use Rattle.std.proofs.Common.{◌≡◌, refl, sym, ap, ◌∙◌, ℕ, ◌+◌, ◌<◌, drop, Bool, true, false, ◌&&◌, not, List, [], ◌∷◌, ◌++◌, filter, length, Option, Some, None, option_map, arith, get_or, ◌⊎◌, inl, inr}
 use Rattle.std.specs.Prelude.{◌==◌, min, Result, Ok, Err, IfOk, IfErr, OnOk}
 use Rattle.std.specs.List.Sorted.{IsNonDecreasingBy, IsStableByKey, ties}
 use Rattle.std.specs.Ordering.{is_lt, nat_cmp}
@@ -21,7 +21,7 @@ use Rattle.simplex_member.specs.Remade.{IsRefusedBy, IsRemadeBy}
 use Rattle.simplex_member.specs.Recovery.{recover_error, is_finalization, with_finalization_entry, with_floor}
 use Rattle.simplex_member.specs.Restarts.{IsByView, GoesOn}
 use Rattle.simplex_member.specs.Start.{StartFacts, IsDue, new_state}
-use Rattle.simplex_member.proofs.Seen.{view_of_entry}
+use Rattle.simplex_member.proofs.Seen.{entries_from, view_of_entry}
 
 view_ties : (v w : ℕ) → (not (is_lt (nat_cmp v w)) && not (is_lt (nat_cmp w v))) ≡ (w == v)
 view_ties v w = grind (arith, nat_tests)
@@ -56,6 +56,15 @@ module _ {S D K G C : Type 0} (bytes_of : C → List ℕ) where
     rising = rising_entries sorted rising;
     of_each_view = λ v. at_view v sorted ∙ ap (entries_of bytes_of) (stable (of_view v)) ∙ sym (at_view v copy) ∙ ap (filter (λ e. entry_view e == v)) copied;
   }
+
+  -- whether a finalization of a view stands from a place on: it is the next artifact, or else one behind it
+  pub stands_here : (v : ℕ) (items : List (Artifact S D K G C)) (i : ℕ) (a : Artifact S D K G C) → a ≡ get_or items i a → i < length items → (entry_view (artifact_facts bytes_of a) == v && is_finalization (artifact_facts bytes_of a)) ≡ true
+      → stands v is_finalization (entries_of bytes_of (drop i items)) ≡ true
+  stands_here v items i a is within here = rw (entries_from bytes_of items i a is within, here) refl
+
+  pub stands_behind : (v : ℕ) (items : List (Artifact S D K G C)) (i : ℕ) (a : Artifact S D K G C) → a ≡ get_or items i a → i < length items → (entry_view (artifact_facts bytes_of a) == v && is_finalization (artifact_facts bytes_of a)) ≡ false
+      → stands v is_finalization (entries_of bytes_of (drop i items)) ≡ stands v is_finalization (entries_of bytes_of (drop (i + 1) items))
+  stands_behind v items i a is within other = rw (entries_from bytes_of items i a is within, other) refl
 
   -- a finalization whose view is finalized in the record
   pub recorded_before : (entries : List (ArtifactFacts D)) (o : Option (Finalization S D K G C)) (f : Finalization S D K G C) → o ≡ Some f → stands f.proposal.round.view is_finalization entries ≡ true → entries ≡ with_finalization_entry entries (option_map (finalization_facts bytes_of) o)

@@ -81,6 +81,21 @@ pub(super) fn keep<S: CertificateScheme, D: Digest>(
     }
 }
 
+/// Records an artifact for which there is room, where it is new.
+fn keep_new<S: CertificateScheme, D: Digest>(
+    artifacts: &mut Vec<Artifact<S, D>>,
+    is_new: bool,
+    artifact: Artifact<S, D>,
+)
+    requires { vec_len artifacts.old < vec_capacity artifacts.old }
+    ensures { entries_of S.certificate_bytes artifacts.new.items
+        ≡ entries_of S.certificate_bytes artifacts.old.items ++ if_new is_new (artifact_facts S.certificate_bytes artifact) }
+{
+    if is_new {
+        keep(artifacts, artifact);
+    }
+}
+
 /// Adds a notarization, and records it where it is the first of its view.
 fn add_notarization<S: CertificateScheme, L: Elector<S>, D: Digest>(
     alloc: Global,
@@ -103,9 +118,7 @@ fn add_notarization<S: CertificateScheme, L: Elector<S>, D: Digest>(
     artifacts.reserve(1)?;
     let copy = notarization.clone(alloc).map_err(CallError::Refused)?;
     let added = state.add_notarization(notarization).map_err(CallError::of)?;
-    if added.0 {
-        keep(artifacts, Artifact::Notarization(copy));
-    }
+    keep_new(artifacts, added.0, Artifact::Notarization(copy));
     Ok(added)
 }
 
@@ -134,9 +147,7 @@ fn add_nullification<S: CertificateScheme, L: Elector<S>, D: Digest>(
     let added = state
         .add_nullification(nullification, now)
         .map_err(CallError::of)?;
-    if added {
-        keep(artifacts, Artifact::Nullification(copy));
-    }
+    keep_new(artifacts, added, Artifact::Nullification(copy));
     Ok(added)
 }
 
@@ -165,9 +176,7 @@ fn add_finalization<S: CertificateScheme, L: Elector<S>, D: Digest>(
     let added = state
         .add_finalization(finalization, now)
         .map_err(CallError::of)?;
-    if added.0 {
-        keep(artifacts, Artifact::Finalization(copy));
-    }
+    keep_new(artifacts, added.0, Artifact::Finalization(copy));
     Ok(added)
 }
 
@@ -196,8 +205,6 @@ pub(super) fn certified<S: CertificateScheme, L: Elector<S>, D: Digest>(
         view,
     };
     let answer = state.certified(view, success, now).map_err(CallError::of)?;
-    if is_first {
-        keep(artifacts, Artifact::Certification(round, success));
-    }
+    keep_new(artifacts, is_first, Artifact::Certification(round, success));
     Ok(answer)
 }
