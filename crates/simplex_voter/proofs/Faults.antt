@@ -1,8 +1,9 @@
 -- Where no refusal stands.
-use Rattle.std.proofs.Common.{◌≡◌, Bool, true, false, ◌&&◌, Option, Some, None, Result, Ok, Err, IsTrue, IfSome, refl, ap, sym, ◌∙◌}
+use Rattle.std.proofs.Common.{◌≡◌, ℕ, ◌<◌, ◌^◌, leb, Bool, true, false, ◌&&◌, ◌||◌, Option, Some, None, Result, Ok, Err, IsTrue, IfSome, refl, ap, sym, ◌∙◌, arith}
 use Rattle.std.proofs.lemmas.Bool.{false≢true}
+use Rattle.std.proofs.lemmas.Bool.Decides.{nat_tests}
 use Rattle.simplex_types.specs.declared.types.fault.Fault.{Fault}
-use Rattle.simplex_voter.specs.Refusals.{first_fault, HasFailed}
+use Rattle.simplex_voter.specs.Refusals.{first_fault, is_too_large, HasFailed}
 use Rattle.simplex_voter.specs.Facts.{StateFacts}
 use Rattle.simplex_voter.specs.Setup.{HasSameSetup}
 
@@ -46,3 +47,21 @@ late_of_both false tracked late never = refl
 pub no_late_verdict : (failed success tracked late : Bool) (P : Fault → Type 0) → false ≡ failed → (IsTrue (success && late) → true ≡ false) → IfSome (first_fault failed false (success && tracked && late)) P
 no_late_verdict true success tracked late P sound never = absurd (false≢true sound)
 no_late_verdict false success tracked late P sound never = rw (late_of_both success tracked late never) tt
+
+-- a finalization that is not refused: the next view isn't entered too late
+pub none_due : (failed large late later : Bool) → false ≡ failed → false ≡ large → later ≡ late → (IsTrue late → true ≡ false) → first_fault failed large later ≡ None
+none_due true large late later sound small same never = absurd (false≢true sound)
+none_due false true late later sound small same never = absurd (false≢true small)
+none_due false false true later sound small same never = absurd (false≢true (sym (never refl)))
+none_due false false false later sound small same never = rw same refl
+
+left_false : (a b : Bool) → false ≡ (a || b) → false ≡ a
+left_false true b never = absurd (false≢true never)
+left_false false b never = refl
+
+below_of : (n v : ℕ) → false ≡ leb n v → v < n
+below_of n v above = grind (arith, nat_tests)
+
+-- a proposal that names no view too large is of one that may be voted for
+pub small_view : (v parent : ℕ) → false ≡ (is_too_large v || is_too_large parent) → v < 2 ^ 63
+small_view v parent small = below_of (2 ^ 63) v (left_false (is_too_large v) (is_too_large parent) small)

@@ -9,6 +9,7 @@ use Rattle.simplex_round.specs.Round.{RoundFacts}
 use Rattle.simplex_voter.specs.Facts.{StateFacts}
 use Rattle.simplex_voter.specs.Certification.{without_token, with_finalized_view}
 use Rattle.simplex_voter.specs.Rounds.{RoundsFacts, round_at, IsKept, AreKept}
+use Rattle.simplex_voter.proofs.Shown.{with_rounds}
 use Rattle.simplex_voter.proofs.RoundsKept.{keys-kept}
 use Rattle.simplex_voter.proofs.Alike.{token_alike}
 use Rattle.simplex_voter.proofs.Changed.{some_is, alike_kept}
@@ -22,6 +23,14 @@ module _ {K L D : Type 0} where
   raised_shown x n rounds v shown above is =
       let left = keys-kept n (v + 1) ∙ ap (filter (λ w. leb (v + 1) w)) (sym shown) ∙ (λ i. filter (λ w. next_below v w i) x.named) in
       rw above ((λ i. record x { finalized = v; named = left i; rounds = is i }))
+
+  -- the same, where the fields show it
+  pub raised_by : (y x : StateFacts K L D) → y ≡ x → (n new : map.FinMap nat_cmp (Unit {0})) (r t : RoundsFacts K D) (v next : ℕ) → y.named ≡ map.keys n → new ≡ at_or_above n next → next ≡ v + 1 → r ≡ record t { by_view = map_list (λ e. (e.0, cond (leb e.0 v) (without_token e.1) e.1)) t.by_view } → with_rounds y t ≡ y → ltb y.finalized v ≡ true → record (with_rounds y r) { finalized = v; named = map.keys new } ≡ with_finalized_view y v
+  raised_by y x is n new r t v next shown drops after ends stays above =
+      ap (λ (s : RoundsFacts K D). record (with_rounds y s) { finalized = v; named = map.keys new }) ends
+      ∙ ap (λ (z : StateFacts K L D). record z { finalized = v; named = map.keys new; rounds = map_list (λ e. (e.0, cond (leb e.0 v) (without_token e.1) e.1)) z.rounds }) stays
+      ∙ ap (λ (m : map.FinMap nat_cmp (Unit {0})). record y { finalized = v; named = map.keys m; rounds = map_list (λ e. (e.0, cond (leb e.0 v) (without_token e.1) e.1)) y.rounds }) (drops ∙ ap (at_or_above n) after)
+      ∙ raised_shown y n _ v shown above refl
 
 -- certifications that end change nothing that is kept of rounds
 pub ended_kept : {K D : Type 0} (x : RoundsFacts K D) (v : ℕ) (es : List (ℕ × RoundFacts K D)) → es ≡ map_list (λ e. (e.0, cond (leb e.0 v) (without_token e.1) e.1)) x.by_view → AreKept x → AreKept (record x { by_view = es })

@@ -11,8 +11,5 @@ invariant_of-self g c = record {
   elector = c.self.invariant.elector ∙ ap length (sym c.ask_to_build.ensures.origin.members);
 }
 
-pub ask_to_build-requires : goal.ask_to_build-requires
-ask_to_build-requires g c = rw (← c.self.view_is) at c.requires
-
 pub returns : goal.returns
 returns g c = rw (← c.self.view_is) (where_true _ _ c.self.view_is (is_tracked c.self.inside.rounds c.args.view) _ _ c.self.inside.rounds c.ask_to_build.ensures.asked refl)

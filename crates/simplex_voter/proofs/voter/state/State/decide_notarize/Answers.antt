@@ -13,8 +13,5 @@ invariant_of-self g c = record {
 pub returns-clause-decided : goal.returns-clause-decided
 returns-clause-decided g c = rw (← c.self.view_is) (by_rounds _ _ c.self.view_is _ _ c.decide_notarize.ensures.decided)
 
-pub decide_notarize-requires : goal.decide_notarize-requires
-decide_notarize-requires g c = rw (← c.self.view_is) at c.requires
-
 pub returns-clause-vote : goal.returns-clause-vote
 returns-clause-vote g c = rw (← c.self.view_is) c.decide_notarize.ensures.vote

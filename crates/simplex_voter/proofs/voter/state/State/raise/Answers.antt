@@ -1,6 +1,6 @@
 use Rattle.std.proofs.Common.{refl, ap, sym, length, ◌∙◌}
 use Rattle.simplex_voter.proofs.Shown.{not_le}
-use Rattle.simplex_voter.proofs.Raising.{raised_shown}
+use Rattle.simplex_voter.proofs.Raising.{raised_by}
 use Rattle.simplex_voter.proofs.voter.state.State.raise.Goals as goal
 
 pub invariant_of-self : goal.invariant_of-self
@@ -13,5 +13,5 @@ invariant_of-self g c = record {
 
 pub returns : goal.returns
 returns g c =
-    rw (← c.self.view_is, c.drop_below.ensures, c.next.ensures, c.end_certifications.ensures)
-    (raised_shown _ _ _ _ refl (not_le _ _ c.if-le.ensures) refl)
+    rw (← c.self.view_is)
+    (raised_by _ _ c.self.view_is _ _ _ _ c.args.view c.next.result refl c.drop_below.ensures c.next.ensures c.end_certifications.ensures refl (not_le _ _ c.if-le.ensures))

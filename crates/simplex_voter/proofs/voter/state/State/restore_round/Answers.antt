@@ -1,8 +1,6 @@
-use Rattle.std.proofs.Common.{◌∙◌}
-use Rattle.simplex_voter.proofs.Shown.{on_ok}
-use Rattle.simplex_voter.proofs.Recalled.{restored_shown}
+use Rattle.simplex_voter.proofs.Recalled.{restored_on_ok}
 use Rattle.simplex_voter.proofs.voter.state.State.restore_round.Goals as goal
 
 pub returns-clause-restored : goal.returns-clause-restored
 returns-clause-restored g c =
-    on_ok c.recall.result (λ left. left ∙ restored_shown g.D.PartialEq.eq c.args.self.now c.args.artifact.now _ _ c.view.ensures c.binding_of-binding.ensures) c.recall.ensures.recalled
+    restored_on_ok c.recall.result g.D.PartialEq.eq c.args.self.now c.recall.new.self c.args.artifact.now c.view.result c.binding_of-binding.result c.view.ensures c.binding_of-binding.ensures c.recall.ensures.recalled
