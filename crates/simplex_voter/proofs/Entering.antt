@@ -56,6 +56,11 @@ module _ {K L D : Type 0} where
         ∙ ap (λ n. with_elected_leader elect (with_view_entered (with_finalized_view (at_moment x now) v) n now) n seed) is
     passed (Err e) elect seed y next is led = with_leader_at
 
+-- the deadlines stay at the moment
+pub deadlines_noted : {K L D : Type 0} (x m : StateFacts K L D) (v now : ℕ) (d : Deadlines) → m ≡ at_moment x now → (ltb x.current v ≡ true → d ≡ deadlines_at x now) → ltb m.current v ≡ true → d ≡ deadlines_at m now
+deadlines_noted x m v now d noted before ahead =
+    before (sym (ap (λ w. ltb w.current v) noted) ∙ ahead) ∙ sym (ap (λ w. deadlines_at w now) noted)
+
 -- x is what was known, m at the moment, b with the next term's start entered and led, k with the nullification kept
 module _ {K L D : Type 0} (elect : Elect L) (x m b k y : StateFacts K L D) (c : NullificationFacts) (v next now : ℕ) where
   pub nullification_accepted : {A E : Type 0} (r : Result A E) → v ≡ c.round.view → next ≡ next_term_start x.terms.term_length c.round.view → m ≡ at_moment x now → b ≡ with_elected_leader elect (with_view_entered m next now) next (Some c.bytes) → k ≡ with_nullification_at b c → OnOk r (y ≡ nullified_also k v) → OnOk r (y ≡ after_add_nullification elect x c now)

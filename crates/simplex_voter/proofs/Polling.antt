@@ -1,5 +1,5 @@
 -- The first poll after a vote to nullify sets the moment of its repeat.
-use Rattle.std.proofs.Common.{◌≡◌, ◌≤◌, ℕ, ◌+◌, ◌^◌, Bool, true, false, ◌&&◌, Option, Some, None, Result, Ok, Err, OnErr, unwrap_or, refl, ap, sym, ◌∙◌, inl, inr, arith}
+use Rattle.std.proofs.Common.{◌≡◌, ◌≤◌, ℕ, ◌+◌, ◌^◌, Bool, true, false, cond, ◌&&◌, Option, Some, None, Result, Ok, Err, OnErr, unwrap_or, refl, ap, sym, ◌∙◌, inl, inr, arith}
 use Rattle.std.specs.Prelude.{◌↔◌, IfOk, IfErr, IsOkUnless, is_err, option_and_then}
 use Rattle.std.specs.FinMap as map
 use Rattle.std.specs.Ordering.{nat_cmp}
@@ -8,6 +8,9 @@ use Rattle.std.proofs.lemmas.Bool.Decides.{nat_tests}
 use Rattle.simplex_types.specs.declared.types.fault.Fault.{Fault}
 use Rattle.simplex_types.specs.declared.types.fault.Fault.TheVariants.{TimeOverflow}
 use Rattle.simplex_round.specs.Round.{RoundFacts, new_round, awaits_retry, with_retry, round_timeout, RetryOverflows}
+use Rattle.simplex_voter.specs.Facts as facts
+use Rattle.simplex_voter.specs.Facts.{StateFacts, with_tracked}
+use Rattle.simplex_voter.specs.Entering.{at_moment}
 use Rattle.simplex_voter.specs.Refusals.{is_past_u64}
 use Rattle.simplex_voter.specs.Rounds.{RoundsFacts, round_at, round_of, round_number}
 use Rattle.simplex_voter.proofs.RoundsKept.{insert-same}
@@ -48,3 +51,11 @@ pub answer_shown : {K D : Type 0} (found : Option (RoundFacts K D)) (fresh : Rou
 answer_shown None fresh is now retry true = rw is refl
 answer_shown None fresh is now retry false = rw is refl
 answer_shown (Some r) fresh is now retry allow = refl
+
+-- a moment that is noted after the poll of a tracked view
+pub noted_after : {K L D : Type 0} (x y m : StateFacts K L D) (v now : ℕ) (r : RoundFacts K D) → y ≡ with_tracked x v r → m ≡ at_moment y now → m ≡ with_tracked (at_moment x now) v r
+noted_after x y m v now r polls notes = notes ∙ ap (λ w. at_moment w now) polls ∙ by_test (facts.is_tracked x v)
+  where
+    by_test : (b : Bool) → at_moment (cond b (facts.with_round x v r) x) now ≡ cond b (facts.with_round (at_moment x now) v r) (at_moment x now)
+    by_test true = refl
+    by_test false = refl

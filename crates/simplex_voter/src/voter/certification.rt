@@ -135,6 +135,7 @@ impl<S: CertificateScheme, L: Elector<S>, D: Digest> State<S, L, D> {
     }
 
     /// Keeps the verdict of a tracked view.
+    #[tactic(auto, using(crate::proofs::Verdicts::not_contradicted))]
     fn judge(&mut self, view: View, success: bool)
         requires taken { takes_verdict self.old view success ≡ true }
         requires tracked { is_tracked self.old view ≡ true }

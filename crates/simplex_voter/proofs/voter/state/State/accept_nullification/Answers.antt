@@ -1,6 +1,10 @@
 use Rattle.simplex_types.specs.Certificates.{nullification_facts}
-use Rattle.simplex_voter.proofs.Entering.{nullification_accepted}
+use Rattle.simplex_voter.proofs.Entering.{deadlines_noted, nullification_accepted}
 use Rattle.simplex_voter.proofs.voter.state.State.accept_nullification.Goals as goal
+
+pub enter_led-requires-clause-deadlines : goal.enter_led-requires-clause-deadlines
+enter_led-requires-clause-deadlines g c =
+    deadlines_noted c.args.self.now c.note_moment.new.self c.args.next c.args.now c.args.deadlines.now c.note_moment.ensures c.requires.deadlines
 
 pub returns-clause-accepted : goal.returns-clause-accepted
 returns-clause-accepted g c =

@@ -1,10 +1,6 @@
 use Rattle.std.proofs.Common.{refl, ap, sym, length, ◌∙◌}
 use Rattle.simplex_voter.proofs.Shown.{by_rounds}
-use Rattle.simplex_voter.proofs.Verdicts.{not_contradicted}
 use Rattle.simplex_voter.proofs.voter.state.State.judge.Goals as goal
-
-pub judge-requires : goal.judge-requires
-judge-requires g c = rw (← c.self.view_is) at (not_contradicted c.args.self.now c.args.view c.args.success c.requires.taken)
 
 pub invariant_of-self : goal.invariant_of-self
 invariant_of-self g c = record {

@@ -15,6 +15,3 @@ returns-clause-setup g c = same_setup _ _ c.self.view_is _ c.recall.ensures.orig
 
 pub returns-clause-recalled : goal.returns-clause-recalled
 returns-clause-recalled g c = rw (← c.self.view_is) (on_ok c.recall.result (by_rounds _ _ c.self.view_is _ _) c.recall.ensures.recalled)
-
-pub recall-requires-clause-taken : goal.recall-requires-clause-taken
-recall-requires-clause-taken g c = rw (← c.self.view_is) at c.requires.taken

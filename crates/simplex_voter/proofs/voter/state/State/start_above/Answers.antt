@@ -8,9 +8,6 @@ use Rattle.simplex_voter.proofs.voter.state.State.start_above.Goals as goal
 pub recall-requires-clause-in_range : goal.recall-requires-clause-in_range
 recall-requires-clause-in_range g c = votable_tracked c.view-view.result _ c.view-view.ensures c.requires.votable
 
-pub recall-requires-clause-taken : goal.recall-requires-clause-taken
-recall-requires-clause-taken g c = tt
-
 pub returns-in_err-recall-clause-setup : goal.returns-in_err-recall-clause-setup
 returns-in_err-recall-clause-setup g c = same_setup_joins _ _ _ c.in_ok-_added.ensures.setup c.recall.ensures.setup
 
