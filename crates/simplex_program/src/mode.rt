@@ -11,7 +11,7 @@ use std::num::NonZeroU32;
 const MOST_MEMBERS: u64 = 1000;
 
 /// What the program serves.
-#[derive(Clone, Copy, PartialEq, Eq, Debug)]
+#[derive(Clone, Copy)]
 pub enum Mode {
     /// One of so many members, which signs by its key or has none. Terms have so many views, and so many views ahead of
     /// the current one may be voted for.

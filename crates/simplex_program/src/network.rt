@@ -7,7 +7,7 @@ use simplex_types::types::TermLength;
 
 /// So many members, one of which signs or none; terms of so many views, and so many views ahead of the current one that
 /// may be voted for.
-#[derive(Clone, Copy, PartialEq, Eq, Debug)]
+#[derive(Clone, Copy)]
 pub struct Network {
     pub members: u32,
     pub me: Option<u32>,

@@ -10,7 +10,7 @@ use simplex_types::types::View;
 use std::alloc::{AllocError, Global};
 
 /// What a line asks of a resolver.
-#[derive(Clone, Copy, PartialEq, Eq, Debug)]
+#[derive(Clone, Copy)]
 pub enum ResolverLine {
     Notarization(View),
     Nullification(View),

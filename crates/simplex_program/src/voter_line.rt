@@ -11,7 +11,7 @@ use simplex_types::types::View;
 use std::alloc::{AllocError, Global};
 
 /// The kind of a certificate.
-#[derive(Clone, Copy, PartialEq, Eq, Debug)]
+#[derive(Clone, Copy)]
 pub enum CertificateKind {
     Notarization,
     Nullification,
@@ -19,7 +19,7 @@ pub enum CertificateKind {
 }
 
 /// What a line asks of a voter. Moments are milliseconds.
-#[derive(Clone, Copy, PartialEq, Eq, Debug)]
+#[derive(Clone, Copy)]
 pub enum VoterLine {
     Notarization {
         view: View,
