@@ -1,4 +1,4 @@
-use Rattle.std.proofs.Common.{◌≡◌, refl, sym, subst, ap, ◌∙◌, false, IfOk, OnOk}
+use Rattle.std.proofs.Common.{◌≡◌, sym, subst, ap, ◌∙◌, false, IfOk, OnOk}
 use Rattle.std.proofs.lemmas.Result.{IfOk-weaker}
 use Rattle.simplex_voter.specs.Facts.{StateFacts}
 use Rattle.simplex_member.specs.Calls.{Told, told, asked}
