@@ -14,11 +14,19 @@ def with_proposals(count):
     """At each hundredth view its leader's proposal comes before the nullification."""
     for view in range(1, count + 1):
         if view % 100 == 0:
-            yield f"proposal {view} 0 7 => true"
-            yield f"verify => ready {view} {leader(view, 1)} 0 0 7"
-            yield f"verified {view} => true"
-            yield f"notarize {view} => notarize {view} 0 7"
+            yield from proposal(view)
         yield nullification(view)
+
+
+def out_of_order(count):
+    """Each hundredth nullification comes twenty views late, and a proposal halfway to the next."""
+    for view in range(1, count + 1):
+        if view % 100 == 50:
+            yield from proposal(view)
+        if view % 100 != 0:
+            yield nullification(view)
+        if view % 100 == 20 and view > 100:
+            yield nullification(view - 20)
 
 
 def with_own_proposals(count):
@@ -37,6 +45,14 @@ def with_late_proposals(count):
     for view in range(100, count + 1, 100):
         yield f"proposal {view} 0 7 => true"
         yield "verify => wait"
+
+
+def proposal(view):
+    """A proposal on genesis, which is verified and voted for."""
+    yield f"proposal {view} 0 7 => true"
+    yield f"verify => ready {view} {leader(view, 1)} 0 0 7"
+    yield f"verified {view} => true"
+    yield f"notarize {view} => notarize {view} 0 7"
 
 
 def nullification(view):

@@ -48,4 +48,5 @@ def of_nullified_views():
     yield Workload("nullified", VOTER, nullified_views.alone)
     yield Workload("nullified, late proposals", VOTER, nullified_views.with_late_proposals)
     yield Workload("nullified, gap searches", VOTER, nullified_views.with_proposals)
+    yield Workload("nullified, out of order", VOTER, nullified_views.out_of_order)
     yield Workload("nullified, own proposals", VOTER, nullified_views.with_own_proposals)
