@@ -52,9 +52,9 @@ module _ {K L D : Type 0} where
     -- the next view is entered, and led, above what was raised
     pub passed : {A E : Type 0} (r : Result A E) (elect : Elect L) (seed : Option (List ℕ)) (y : StateFacts K L D) (next : ℕ) → next ≡ v + 1 → OnOk r (y ≡ with_elected_leader elect (with_view_entered a next now) next seed) → OnOk r (y ≡ with_elected_leader elect (with_view_entered (with_finalized_view (at_moment x now) v) (v + 1) now) (v + 1) seed)
     passed (Ok t) elect seed y next is led =
-        with_leader_at ∙ ap (λ w. with_elected_leader elect (with_view_entered w next now) next seed) raised_then
+        led ∙ ap (λ w. with_elected_leader elect (with_view_entered w next now) next seed) raised_then
         ∙ ap (λ n. with_elected_leader elect (with_view_entered (with_finalized_view (at_moment x now) v) n now) n seed) is
-    passed (Err e) elect seed y next is led = with_leader_at
+    passed (Err e) elect seed y next is led = led
 
 -- the deadlines stay at the moment
 pub deadlines_noted : {K L D : Type 0} (x m : StateFacts K L D) (v now : ℕ) (d : Deadlines) → m ≡ at_moment x now → (ltb x.current v ≡ true → d ≡ deadlines_at x now) → ltb m.current v ≡ true → d ≡ deadlines_at m now
@@ -64,10 +64,10 @@ deadlines_noted x m v now d noted before ahead =
 -- x is what was known, m at the moment, b with the next term's start entered and led, k with the nullification kept
 module _ {K L D : Type 0} (elect : Elect L) (x m b k y : StateFacts K L D) (c : NullificationFacts) (v next now : ℕ) where
   pub nullification_accepted : {A E : Type 0} (r : Result A E) → v ≡ c.round.view → next ≡ next_term_start x.terms.term_length c.round.view → m ≡ at_moment x now → b ≡ with_elected_leader elect (with_view_entered m next now) next (Some c.bytes) → k ≡ with_nullification_at b c → OnOk r (y ≡ nullified_also k v) → OnOk r (y ≡ after_add_nullification elect x c now)
-  nullification_accepted (Ok t) at is noted with_leader_at kept nullifies =
-      let entered_then = with_leader_at ∙ ap (λ w. with_elected_leader elect (with_view_entered w next now) next (Some c.bytes)) noted ∙ ap (λ n. with_elected_leader elect (with_view_entered (at_moment x now) n now) n (Some c.bytes)) is in
+  nullification_accepted (Ok t) at is noted led kept nullifies =
+      let entered_then = led ∙ ap (λ w. with_elected_leader elect (with_view_entered w next now) next (Some c.bytes)) noted ∙ ap (λ n. with_elected_leader elect (with_view_entered (at_moment x now) n now) n (Some c.bytes)) is in
       nullifies ∙ ap (nullified_also k) at ∙ ap (λ w. nullified_also w c.round.view) (kept ∙ ap (λ w. with_nullification_at w c) entered_then)
-  nullification_accepted (Err e) at is noted with_leader_at kept nullifies = nullifies
+  nullification_accepted (Err e) at is noted led kept nullifies = nullifies
 
 -- a view that may be voted for may be tracked
 pub votable_tracked : (v w : ℕ) → v ≡ w → IsVotable w → v ≤ largest_tracked

@@ -57,7 +57,7 @@ module _ {K L D : Type 0} (elect : Elect L) (x m j : StateFacts K L D) (v now : 
 
   module _ (judges : j ≡ with_verdict m v success) where
     judged_then : j ≡ with_verdict (at_moment x now) v success
-    judged_then = judges ∙ ap (λ w. judged w v success) noted
+    judged_then = judges ∙ ap (λ w. with_verdict w v success) noted
 
     pub setup_judged : HasSameSetup x j
     setup_judged = record {
