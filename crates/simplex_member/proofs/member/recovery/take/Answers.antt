@@ -44,4 +44,4 @@ pub returns-clause-after : goal.returns-clause-after
 returns-clause-after g c =
     let e = artifact_facts g.S.CertificateScheme.certificate_bytes c.args.artifact.now in
     let is = c.in_ok-replay.ensures.after ∙ ap (λ (y : StateFacts _ _ _). after_replaying g.D.PartialEq.eq g.L.Elector.elect y e) c.in_ok-add.ensures.after in
-    subst (λ (y : StateFacts _ _ _). OnOk c.give.result (c.give.new.state ≡ given g.L.Elector.elect y c.args.now e)) is c.give.ensures.after
+    subst (λ (y : StateFacts _ _ _). OnOk c.give.result (c.give.new.state ≡ after_verdict_of g.L.Elector.elect y c.args.now e)) is c.give.ensures.after
