@@ -98,7 +98,9 @@ module _ {S K L D G C : Type 0} (bytes_of : C → List ℕ) (same : D → D → 
   pub record TakesEntry (x : StateFacts K L D) (now : ℕ) (a : Artifact S D K G C) : Type 0 where
     pub kept : takes_round x (artifact_round a) ≡ true
     pub replays : TakesReplay (after_adding same elect x now (artifact_facts bytes_of a)) a
-    pub gives : GivesVerdict (after_replaying same elect (after_adding same elect x now (artifact_facts bytes_of a)) (artifact_facts bytes_of a)) (artifact_facts bytes_of a)
+    pub gives : GivesVerdict
+        (after_replaying same elect (after_adding same elect x now (artifact_facts bytes_of a)) (artifact_facts bytes_of a))
+        (artifact_facts bytes_of a)
 
   -- its views are small, and a state that keeps its view allows it
   pub record TakesNext (x : StateFacts K L D) (now : ℕ) (a : Artifact S D K G C) : Type 0 where
