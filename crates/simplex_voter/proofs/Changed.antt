@@ -1,6 +1,6 @@
 -- Rounds of views that change, and what is kept of them.
-use Rattle.std.proofs.Common.{Bor, ◌≡◌, ◌≢◌, ℕ, ◌<◌, ◌≤◌, ◌^◌, Bool, true, false, cond, List, [], ◌∷◌, length, Option, Some, None, is_some, unwrap_or, refl, ap, sym, subst, ◌∙◌, inl, inr, leb}
-use Rattle.std.specs.Prelude.{IfSome, OnSome, slice_get, option_map, option_and_then}
+use Rattle.std.proofs.Common.{Bor, ◌≡◌, ◌≢◌, ℕ, ◌<◌, ◌≤◌, ◌^◌, Bool, true, false, cond, List, [], ◌∷◌, length, Option, Some, None, is_some, unwrap_or, refl, ap, sym, subst, ◌∙◌, inl, inr, leb, arith}
+use Rattle.std.specs.Prelude.{max, IfSome, OnSome, slice_get, option_map, option_and_then}
 use Rattle.std.specs.Option.{option_copied}
 use Rattle.std.specs.Cmp.{nat_cmp_is}
 use Rattle.std.specs.declared.cmp.Ordering.{Ordering}
@@ -16,10 +16,10 @@ use Rattle.simplex_round.specs.Round.{RoundFacts, new_round, leader_at, with_rec
 use Rattle.simplex_types.specs.declared.types.messages.Proposal.{Proposal}
 use Rattle.simplex_types.specs.Certificates.{ProposalFacts}
 use Rattle.simplex_round.specs.declared.round.Leader.{Leader}
-use Rattle.simplex_voter.specs.Rounds.{RoundsFacts, round_at, round_of, round_number, is_tracked, with_round, with_change, with_change_in_place, largest_tracked, IsKept, AreKept}
+use Rattle.simplex_voter.specs.Rounds.{RoundsFacts, round_at, round_of, round_number, is_tracked, with_round, with_change, with_change_in_place, largest_tracked, is_settled, IsKept, AreKept}
 use Rattle.simplex_voter.proofs.Containers.{entries-insert}
 use Rattle.simplex_voter.proofs.RoundsKept.{find_entries, insert-same}
-use Rattle.simplex_voter.proofs.Alike.{IsAlike}
+use Rattle.simplex_voter.proofs.Alike.{IsAlike, IsAlikeBut}
 
 module _ {V : Type 0} where
   found_put : (v : ℕ) (x : V) (es : List (ℕ × V)) → find nat_cmp v (put nat_cmp v x es) ≡ Some x
@@ -40,6 +40,15 @@ module _ {V : Type 0} where
 
   pub some_is : (x y : V) → Some x ≡ Some y → x ≡ y
   some_is x y same = ap (λ o. unwrap_or o x) same
+
+raised_above : (may : Bool) (h v : ℕ) → h ≤ cond may (max h v) h
+raised_above true h v = grind arith
+raised_above false h v = omega arith
+
+-- where a view may settle, the bound is raised to it
+pub raised_to : (may : Bool) (h v new : ℕ) → new ≡ cond may (max h v) h → may ≡ true → v ≤ new
+raised_to true h v new is may = rw is (grind arith)
+raised_to false h v new is never = absurd (false≢true never)
 
 module _ {K D : Type 0} (x : RoundsFacts K D) where
   module _ (m : map.FinMap nat_cmp (RoundFacts K D)) (shown : x.by_view ≡ map.entries m) where
@@ -84,70 +93,98 @@ module _ {K D : Type 0} (x : RoundsFacts K D) where
     pub untouched : (v : ℕ) (change : RoundFacts K D → RoundFacts K D) → None ≡ map.get m v → x ≡ with_change_in_place x v change
     untouched v change none = sym (ap (λ b. cond b (with_change x v change) x) (ap is_some (found_at v ∙ sym none)))
 
-  -- what is kept of each round
-  pub kept_put : AreKept x → (v : ℕ) (r : RoundFacts K D) → IsKept x v r → AreKept (with_round x v r)
-  kept_put kept v r here q s found = elim (cases_eq q v) [
+  -- what is kept of each round, as far as some view settled
+  pub kept_put : {h : ℕ} → AreKept h x → (v : ℕ) (r : RoundFacts K D) → IsKept h x v r → AreKept h (with_round x v r)
+  kept_put {h} kept v r here q s found = elim (cases_eq q v) [
     | inl at ↦
         let same : r ≡ s = some_is r s (sym (rw at (found_put v r x.by_view)) ∙ found) in
         on (rw (at, ← same) here)
     | inr other ↦ on (kept q s (sym (found_other q v other r x.by_view) ∙ found))
   ]
     where
-      on : IsKept x q s → IsKept (with_round x v r) q s
-      on k = record { me = k.me; members = k.members; round = k.round; in_range = k.in_range; notarized = k.notarized; leader = k.leader }
+      on : IsKept h x q s → IsKept h (with_round x v r) q s
+      on k = record { me = k.me; members = k.members; round = k.round; in_range = k.in_range; notarized = k.notarized; leader = k.leader; settled = k.settled }
 
-  pub alike_kept : (v : ℕ) (r s : RoundFacts K D) → IsKept x v r → IsAlike r s → IsKept x v s
-  alike_kept v r s k alike = record {
+  -- a change that may settle the view, where that is not above
+  pub settled_kept : {h : ℕ} {may : Bool} (v : ℕ) (r s : RoundFacts K D) → IsKept h x v r → (may ≡ true → v ≤ h) → IsAlikeBut may r s → IsKept h x v s
+  settled_kept v r s k not_above alike = record {
     me = alike.me ∙ k.me;
     members = alike.members ∙ k.members;
     round = alike.round ∙ k.round;
     in_range = k.in_range;
     notarized = λ some. k.notarized (ap is_some (sym alike.notarization) ∙ some);
     leader = subst (λ l. IfSome l (λ l. l.idx < length x.members)) (sym alike.leader) k.leader;
+    settled = λ is. elim (alike.settled is) [
+      | inl was ↦ k.settled was
+      | inr may ↦ not_above may
+    ];
   }
 
-  pub fresh_kept : (v : ℕ) → v ≤ largest_tracked → IsKept x v (new_round x.me x.members (round_number x v))
-  fresh_kept v within = record { me = refl; members = refl; round = refl; in_range = within; notarized = λ some. absurd (false≢true some); leader = tt }
+  pub alike_kept : {h : ℕ} (v : ℕ) (r s : RoundFacts K D) → IsKept h x v r → IsAlike r s → IsKept h x v s
+  alike_kept v r s k alike = settled_kept v r s k (λ never. absurd (false≢true never)) alike
+
+  -- a higher view may have settled
+  higher_kept : {h : ℕ} (higher : ℕ) → h ≤ higher → AreKept h x → AreKept higher x
+  higher_kept higher above kept v r found =
+      let k = kept v r found in
+      record { me = k.me; members = k.members; round = k.round; in_range = k.in_range; notarized = k.notarized; leader = k.leader; settled = λ is. omega (arith, k.settled is, above) }
+
+  pub raised_kept : {h : ℕ} (may : Bool) (v new : ℕ) → new ≡ cond may (max h v) h → AreKept h x → AreKept new x
+  raised_kept {h} may v new is kept = higher_kept new (rw is (raised_above may h v)) kept
+
+  pub unsettled_above : {h : ℕ} → AreKept h x → (v : ℕ) (r : RoundFacts K D) → h < v → round_at x v ≡ Some r → is_settled r ≡ false
+  unsettled_above {h} kept v r above found = by_test (is_settled r) refl
+    where
+      by_test : (b : Bool) → is_settled r ≡ b → b ≡ false
+      by_test true is = absurd (omega (arith, (kept v r found).settled is, above))
+      by_test false is = refl
+
+  pub fresh_kept : {h : ℕ} (v : ℕ) → v ≤ largest_tracked → IsKept h x v (new_round x.me x.members (round_number x v))
+  fresh_kept v within = record { me = refl; members = refl; round = refl; in_range = within; notarized = λ some. absurd (false≢true some); leader = tt; settled = λ some. absurd (false≢true some) }
 
   -- a leader is a member
-  pub leader_member : AreKept x → (v : ℕ) (r : RoundFacts K D) (l : Leader K) → Some r ≡ round_at x v → Some l ≡ r.leader → l.idx < length x.members
+  pub leader_member : {h : ℕ} → AreKept h x → (v : ℕ) (r : RoundFacts K D) (l : Leader K) → Some r ≡ round_at x v → Some l ≡ r.leader → l.idx < length x.members
   leader_member kept v r l here is = subst (λ o. IfSome o (λ l. l.idx < length x.members)) (sym is) (kept v r (sym here)).leader
 
-  module _ (m : map.FinMap nat_cmp (RoundFacts K D)) (shown : x.by_view ≡ map.entries m) (kept : AreKept x) where
+  module _ (m : map.FinMap nat_cmp (RoundFacts K D)) (shown : x.by_view ≡ map.entries m) {h : ℕ} (kept : AreKept h x) where
     pub in_range_at : (v : ℕ) (found : Option (Bor (RoundFacts K D))) → option_copied found ≡ map.get m v → OnSome found (v ≤ largest_tracked)
     in_range_at v None is = tt
     in_range_at v (Some r) is = (kept v r.now (found_at m shown v ∙ sym is)).in_range
 
-    pub kept_at : (v : ℕ) (r : RoundFacts K D) → Some r ≡ map.get m v → IsKept x v r
+    pub kept_at : (v : ℕ) (r : RoundFacts K D) → Some r ≡ map.get m v → IsKept h x v r
     kept_at v r here = kept v r (found_at m shown v ∙ sym here)
 
-    pub kept_insert : (v : ℕ) (s : RoundFacts K D) → IsKept x v s → AreKept (record x { by_view = map.entries (map.insert m v s) })
-    kept_insert v s here = subst AreKept (sym (put_shown m shown v s)) (kept_put kept v s here)
+    pub kept_insert : (v : ℕ) (s : RoundFacts K D) → IsKept h x v s → AreKept h (record x { by_view = map.entries (map.insert m v s) })
+    kept_insert v s here = subst (AreKept h) (sym (put_shown m shown v s)) (kept_put kept v s here)
 
     -- a notarization of a view that one may be of, and a leader that is a member
-    pub kept_notarized : (same : Proposal D → Proposal D → Bool) (v : ℕ) (r s : RoundFacts K D) (c : ProposalFacts D) → v < 2 ^ 63 → Some r ≡ map.get m v → s ≡ with_notarization same r c → AreKept (record x { by_view = map.entries (map.insert m v s) })
+    pub kept_notarized : (same : Proposal D → Proposal D → Bool) (v : ℕ) (r s : RoundFacts K D) (c : ProposalFacts D) → v < 2 ^ 63 → Some r ≡ map.get m v → s ≡ with_notarization same r c → AreKept h (record x { by_view = map.entries (map.insert m v s) })
     kept_notarized same v r s c votable here is = kept_insert v s (rw is (by_kept (is_some r.notarization)))
       where
-        by_kept : (b : Bool) → IsKept x v (cond b r (record (with_recovered same r c.proposal) { notarization = Some c }))
+        by_kept : (b : Bool) → IsKept h x v (cond b r (record (with_recovered same r c.proposal) { notarization = Some c }))
         by_kept true = kept_at v r here
-        by_kept false = let k = kept_at v r here in record { me = k.me; members = k.members; round = k.round; in_range = k.in_range; notarized = λ some. votable; leader = k.leader }
+        by_kept false = let k = kept_at v r here in record { me = k.me; members = k.members; round = k.round; in_range = k.in_range; notarized = λ some. votable; leader = k.leader; settled = k.settled }
 
-    pub kept_led : (v member : ℕ) (r s : RoundFacts K D) → member < length x.members → Some r ≡ map.get m v → s ≡ record r { leader = leader_at r.members member } → AreKept (record x { by_view = map.entries (map.insert m v s) })
+    pub kept_led : (v member : ℕ) (r s : RoundFacts K D) → member < length x.members → Some r ≡ map.get m v → s ≡ record r { leader = leader_at r.members member } → AreKept h (record x { by_view = map.entries (map.insert m v s) })
     kept_led v member r s within here is =
         let k = kept_at v r here in
-        kept_insert v s (rw is (record { me = k.me; members = k.members; round = k.round; in_range = k.in_range; notarized = k.notarized; leader = by_key (slice_get r.members member) }))
+        kept_insert v s (rw is (record { me = k.me; members = k.members; round = k.round; in_range = k.in_range; notarized = k.notarized; leader = by_key (slice_get r.members member); settled = k.settled }))
       where
         by_key : (key : Option K) → IfSome (option_map (λ k. record { idx = member; key = k }) key) (λ (l : Leader K). l.idx < length x.members)
         by_key None = tt
         by_key (Some k) = within
 
-    pub kept_in : (v : ℕ) (new : map.FinMap nat_cmp (RoundFacts K D)) (fresh : RoundFacts K D) → v ≤ largest_tracked → new ≡ map.insert m v fresh → fresh ≡ new_round x.me x.members (round_number x v) → AreKept (record x { by_view = map.entries new })
+    pub kept_in : (v : ℕ) (new : map.FinMap nat_cmp (RoundFacts K D)) (fresh : RoundFacts K D) → v ≤ largest_tracked → new ≡ map.insert m v fresh → fresh ≡ new_round x.me x.members (round_number x v) → AreKept h (record x { by_view = map.entries new })
     kept_in v new fresh within is nothing =
-        subst (λ n. AreKept (record x { by_view = map.entries n })) (sym is) (kept_insert v fresh (rw nothing (fresh_kept v within)))
+        subst (λ n. AreKept h (record x { by_view = map.entries n })) (sym is) (kept_insert v fresh (rw nothing (fresh_kept v within)))
 
     -- a tracked round is changed
-    pub kept_changed : (v : ℕ) (r s : RoundFacts K D) → Some r ≡ map.get m v → IsAlike r s → AreKept (record x { by_view = map.entries (map.insert m v s) })
+    pub kept_changed : (v : ℕ) (r s : RoundFacts K D) → Some r ≡ map.get m v → IsAlike r s → AreKept h (record x { by_view = map.entries (map.insert m v s) })
     kept_changed v r s here alike = kept_insert v s (alike_kept v r s (kept_at v r here) alike)
+
+    -- and may settle
+    pub kept_settled : {may : Bool} (v : ℕ) (r s : RoundFacts K D) → (may ≡ true → v ≤ h) → Some r ≡ map.get m v → IsAlikeBut may r s → AreKept h (record x { by_view = map.entries (map.insert m v s) })
+    kept_settled v r s not_above here alike = kept_insert v s (settled_kept v r s (kept_at v r here) not_above alike)
 
 -- after a view is tracked: y is what is known then
 module _ {K D : Type 0} (x y : RoundsFacts K D) (v : ℕ) (tracked : y ≡ with_round x v (round_of x v)) (m : map.FinMap nat_cmp (RoundFacts K D)) (shown : y.by_view ≡ map.entries m) where
@@ -167,7 +204,7 @@ module _ {K D : Type 0} (x y : RoundsFacts K D) (v : ℕ) (tracked : y ≡ with_
       ∙ ap (with_round x v) (is ∙ ap change (lent_tracked r here))
 
 -- no round is known
-pub none_kept : {K D : Type 0} (x : RoundsFacts K D) → x.by_view ≡ [] → AreKept x
+pub none_kept : {K D : Type 0} {h : ℕ} (x : RoundsFacts K D) → x.by_view ≡ [] → AreKept h x
 none_kept x none v r found = let bad : None ≡ Some r = sym (ap (find nat_cmp v) none) ∙ found in cc
 
 -- a view with a notarization is tracked
@@ -184,12 +221,12 @@ changed_there_always x y is m shown v r s change here same =
     put_shown y m shown v s ∙ ap (with_round y v) (same ∙ ap change (lent y m shown v r here)) ∙ ap (λ z. with_change z v change) is
 
 -- what is left of the rounds
-pub left_kept : {K D : Type 0} (x : RoundsFacts K D) (m : map.FinMap nat_cmp (RoundFacts K D)) → x.by_view ≡ map.entries m → (v : ℕ) (n : map.FinMap nat_cmp (RoundFacts K D)) → n ≡ at_or_above m v → AreKept x → AreKept (record x { by_view = map.entries n })
-left_kept {K} {D} x m shown v n is kept q r found = on (by_test (leb v q) (sym (get-kept m (λ u. leb v u) q) ∙ ap (λ k. map.get k q) (sym is) ∙ sym (find_entries n q) ∙ found))
+pub left_kept : {K D : Type 0} {h : ℕ} (x : RoundsFacts K D) (m : map.FinMap nat_cmp (RoundFacts K D)) → x.by_view ≡ map.entries m → (v : ℕ) (n : map.FinMap nat_cmp (RoundFacts K D)) → n ≡ at_or_above m v → AreKept h x → AreKept h (record x { by_view = map.entries n })
+left_kept {K} {D} {h} x m shown v n is kept q r found = on (by_test (leb v q) (sym (get-kept m (λ u. leb v u) q) ∙ ap (λ k. map.get k q) (sym is) ∙ sym (find_entries n q) ∙ found))
   where
-    on : IsKept x q r → IsKept (record x { by_view = map.entries n }) q r
-    on k = record { me = k.me; members = k.members; round = k.round; in_range = k.in_range; notarized = k.notarized; leader = k.leader }
+    on : IsKept h x q r → IsKept h (record x { by_view = map.entries n }) q r
+    on k = record { me = k.me; members = k.members; round = k.round; in_range = k.in_range; notarized = k.notarized; leader = k.leader; settled = k.settled }
 
-    by_test : (b : Bool) → cond b (map.get m q) None ≡ Some r → IsKept x q r
+    by_test : (b : Bool) → cond b (map.get m q) None ≡ Some r → IsKept h x q r
     by_test true here = kept q r (found_at x m shown q ∙ here)
     by_test false here = let bad : None ≡ Some r = here in cc

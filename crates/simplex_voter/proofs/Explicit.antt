@@ -1,12 +1,14 @@
 -- The search for the highest view with an explicit payload.
-use Rattle.std.proofs.Common.{◌≡◌, ℕ, true, false, List, [], ◌∷◌, ◌++◌, ltb, filter, length, arith, Option, Some, None, is_some, refl, ap, sym, ◌∙◌, inl, inr}
+use Rattle.std.proofs.Common.{◌≡◌, ℕ, true, false, List, [], ◌∷◌, ◌++◌, ◌<◌, ◌≤◌, ltb, eqb, filter, length, arith, Option, Some, None, is_some, refl, ap, sym, ◌∙◌, inl, inr}
 use Rattle.std.specs.List.{filter_map, cons_option, last_or}
-use Rattle.std.proofs.lemmas.Bool.{false≢true}
+use Rattle.std.proofs.lemmas.Bool.{cases_lt, lt-ltb, le-ltb, ne_eqb, false≢true}
+use Rattle.std.specs.Prelude.{option_and_then}
 use Rattle.std.proofs.lemmas.List.Elements.{filter_map-append}
 use Rattle.simplex_round.specs.Round.{RoundFacts}
-use Rattle.simplex_voter.specs.Facts.{StateFacts}
+use Rattle.simplex_voter.specs.Facts.{StateFacts, round_at}
+use Rattle.simplex_voter.specs.Rounds.{is_settled}
+use Rattle.simplex_voter.specs.Payloads.{certified_payload, explicit_payload}
 use Rattle.simplex_voter.specs.Parents.{at_view, explicit_at, explicit_below, highest_explicit}
-use Rattle.simplex_voter.proofs.Gaps.{cases_bool}
 
 module _ {A : Type 0} where
   last-append : (o : Option A) (xs : List A) (y : A) → last_or o (xs ++ y ∷ []) ≡ Some y
@@ -43,19 +45,36 @@ pub none_left : {A B : Type 0} (h : A → Option B) (xs : List A) → length xs 
 none_left h [] is = refl
 none_left h (x ∷ xs) is = absurd (omega (arith, is))
 
-module _ {K L D : Type 0} (x : StateFacts K L D) (v : ℕ) where
-  explicit_kept : (es : List (ℕ × RoundFacts K D)) → filter_map (explicit_at x) (filter (λ e. ltb e.0 v) es) ≡ filter_map (explicit_below x v) es
+module _ {K L D : Type 0} (x : StateFacts K L D) where
+  unsettled : (r : RoundFacts K D) → is_settled r ≡ false → certified_payload r ≡ None
+  unsettled r is = rw is refl
+
+  -- a view above genesis that is not settled has no explicit payload
+  pub no_explicit : (w : ℕ) → 0 < w → ((r : RoundFacts K D) → round_at x w ≡ Some r → is_settled r ≡ false) → explicit_payload x w ≡ None
+  unfolding explicit_payload
+  no_explicit w above rest = rw (ne_eqb w 0 (λ is. omega arith)) (by_round (round_at x w) refl)
+    where
+      by_round : (found : Option (RoundFacts K D)) → round_at x w ≡ found → option_and_then certified_payload found ≡ None
+      by_round None is = refl
+      by_round (Some r) is = unsettled r (rest r is)
+
+-- from `end` up to v no view has an explicit payload
+module _ {K L D : Type 0} (x : StateFacts K L D) (v end : ℕ) (not_above : end ≤ v) (quiet : (w : ℕ) → end ≤ w → w < v → explicit_payload x w ≡ None) where
+  explicit_kept : (es : List (ℕ × RoundFacts K D)) → filter_map (explicit_at x) (filter (λ e. ltb e.0 end) es) ≡ filter_map (explicit_below x v) es
   explicit_kept [] = refl
-  explicit_kept (e ∷ es) = elim (cases_bool (ltb e.0 v)) [
-    | inl under ↦ rw (under, explicit_kept es) refl
-    | inr over ↦ rw over (explicit_kept es)
+  explicit_kept (e ∷ es) = elim (cases_lt e.0 end) [
+    | inl under ↦ rw (lt-ltb e.0 end under, lt-ltb e.0 v (omega (arith, not_above)), explicit_kept es) refl
+    | inr over ↦ elim (cases_lt e.0 v) [
+      | inl below ↦ rw (le-ltb e.0 end over, lt-ltb e.0 v below, quiet e.0 over below) (explicit_kept es)
+      | inr above ↦ rw (le-ltb e.0 end over, le-ltb e.0 v above) (explicit_kept es)
+    ]
   ]
 
-  searched : filter_map (explicit_at x) (filter (λ e. ltb e.0 v) x.rounds) ≡ filter_map (explicit_below x v) x.rounds
+  searched : filter_map (explicit_at x) (filter (λ e. ltb e.0 end) x.rounds) ≡ filter_map (explicit_below x v) x.rounds
   searched = explicit_kept x.rounds
 
-  pub highest_found : (found : ℕ × D) → Some found ≡ last_or None (filter_map (explicit_at x) (filter (λ e. ltb e.0 v) x.rounds)) → Some found ≡ highest_explicit x v
-  highest_found found is = last-there (at_view 0 x.genesis) (filter_map (explicit_at x) (filter (λ e. ltb e.0 v) x.rounds)) found is ∙ ap (last_or (at_view 0 x.genesis)) searched
+  pub highest_found : (found : ℕ × D) → Some found ≡ last_or None (filter_map (explicit_at x) (filter (λ e. ltb e.0 end) x.rounds)) → Some found ≡ highest_explicit x v
+  highest_found found is = last-there (at_view 0 x.genesis) (filter_map (explicit_at x) (filter (λ e. ltb e.0 end) x.rounds)) found is ∙ ap (last_or (at_view 0 x.genesis)) searched
 
-  pub none_explicit : (genesis : Option (ℕ × D)) → None ≡ last_or None (filter_map (explicit_at x) (filter (λ e. ltb e.0 v) x.rounds)) → genesis ≡ at_view 0 x.genesis → genesis ≡ highest_explicit x v
-  none_explicit genesis is other = other ∙ last-absent (at_view 0 x.genesis) (filter_map (explicit_at x) (filter (λ e. ltb e.0 v) x.rounds)) is ∙ ap (last_or (at_view 0 x.genesis)) searched
+  pub none_explicit : (genesis : Option (ℕ × D)) → None ≡ last_or None (filter_map (explicit_at x) (filter (λ e. ltb e.0 end) x.rounds)) → genesis ≡ at_view 0 x.genesis → genesis ≡ highest_explicit x v
+  none_explicit genesis is other = other ∙ last-absent (at_view 0 x.genesis) (filter_map (explicit_at x) (filter (λ e. ltb e.0 end) x.rounds)) is ∙ ap (last_or (at_view 0 x.genesis)) searched

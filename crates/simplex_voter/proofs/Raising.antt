@@ -33,16 +33,16 @@ module _ {K L D : Type 0} where
       ∙ raised_shown y n _ v shown above refl
 
 -- certifications that end change nothing that is kept of rounds
-pub ended_kept : {K D : Type 0} (x : RoundsFacts K D) (v : ℕ) (es : List (ℕ × RoundFacts K D)) → es ≡ map_list (λ e. (e.0, cond (leb e.0 v) (without_token e.1) e.1)) x.by_view → AreKept x → AreKept (record x { by_view = es })
-ended_kept {K} {D} x v es is kept = subst (λ (fs : List (ℕ × RoundFacts K D)). AreKept (record x { by_view = fs })) (sym is) (λ q r found. on q r (by_value q (round_at x q) refl r (sym (find-changed (λ u (s : RoundFacts K D). cond (leb u v) (without_token s) s) q x.by_view) ∙ found)))
+pub ended_kept : {K D : Type 0} {h : ℕ} (x : RoundsFacts K D) (v : ℕ) (es : List (ℕ × RoundFacts K D)) → es ≡ map_list (λ e. (e.0, cond (leb e.0 v) (without_token e.1) e.1)) x.by_view → AreKept h x → AreKept h (record x { by_view = es })
+ended_kept {K} {D} {h} x v es is kept = subst (λ (fs : List (ℕ × RoundFacts K D)). AreKept h (record x { by_view = fs })) (sym is) (λ q r found. on q r (by_value q (round_at x q) refl r (sym (find-changed (λ u (s : RoundFacts K D). cond (leb u v) (without_token s) s) q x.by_view) ∙ found)))
   where
-    on : (q : ℕ) (r : RoundFacts K D) → IsKept x q r → IsKept (record x { by_view = map_list (λ e. (e.0, cond (leb e.0 v) (without_token e.1) e.1)) x.by_view }) q r
-    on q r k = record { me = k.me; members = k.members; round = k.round; in_range = k.in_range; notarized = k.notarized; leader = k.leader }
+    on : (q : ℕ) (r : RoundFacts K D) → IsKept h x q r → IsKept h (record x { by_view = map_list (λ e. (e.0, cond (leb e.0 v) (without_token e.1) e.1)) x.by_view }) q r
+    on q r k = record { me = k.me; members = k.members; round = k.round; in_range = k.in_range; notarized = k.notarized; leader = k.leader; settled = k.settled }
 
-    by_test : (b : Bool) (q : ℕ) (s : RoundFacts K D) → IsKept x q s → IsKept x q (cond b (without_token s) s)
+    by_test : (b : Bool) (q : ℕ) (s : RoundFacts K D) → IsKept h x q s → IsKept h x q (cond b (without_token s) s)
     by_test true q s k = alike_kept x q s (without_token s) k (token_alike s)
     by_test false q s k = k
 
-    by_value : (q : ℕ) (s : Option (RoundFacts K D)) → round_at x q ≡ s → (r : RoundFacts K D) → option_map (λ (t : RoundFacts K D). cond (leb q v) (without_token t) t) s ≡ Some r → IsKept x q r
+    by_value : (q : ℕ) (s : Option (RoundFacts K D)) → round_at x q ≡ s → (r : RoundFacts K D) → option_map (λ (t : RoundFacts K D). cond (leb q v) (without_token t) t) s ≡ Some r → IsKept h x q r
     by_value q None is r e = let bad : None ≡ Some r = e in cc
     by_value q (Some s) is r e = rw (← some_is _ r e) (by_test (leb q v) q s (kept q s is))

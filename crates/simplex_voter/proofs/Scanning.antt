@@ -19,10 +19,11 @@ use Rattle.simplex_voter.specs.declared.voter.verify.Standing.{Standing}
 use Rattle.simplex_voter.specs.declared.voter.verify.Standing.TheVariants.{Passed, Invalid, Lacks, Ready}
 use Rattle.simplex_voter.specs.declared.voter.verify.Verify.{Verify}
 use Rattle.simplex_voter.specs.declared.voter.verify.Verify.TheVariants as verify
-use Rattle.simplex_voter.specs.Facts.{StateFacts, Elect, round_at, round_of, round_number}
+use Rattle.simplex_types.specs.declared.reasons.Kind.{Kind}
+use Rattle.simplex_voter.specs.Facts.{StateFacts, Elect, round_at, round_of, round_number, with_round, with_tracked}
 use Rattle.simplex_voter.specs.Windows.{is_admitted}
 use Rattle.simplex_voter.specs.Proposing.{views_within, views_ahead}
-use Rattle.simplex_voter.specs.Verifying.{round_left, is_answered, answer_at, left_at, parent_standing, standing, answer_in, verify_answer, was_scanned, scan_left, after_try_verify}
+use Rattle.simplex_voter.specs.Verifying.{with_request, verifying_round, round_left, is_answered, answer_at, left_at, parent_standing, standing, answer_in, verify_answer, was_scanned, scan_left, after_try_verify}
 use Rattle.simplex_voter.proofs.Gaps.{cases_bool}
 use Rattle.simplex_voter.proofs.Walked.{first_of, none_of, find-changed, sorted-changed}
 use Rattle.simplex_voter.proofs.Containers.{entries-insert}
@@ -125,6 +126,24 @@ module _ {K L D : Type 0} (same : D → D → Bool) (elect : Elect L) where
       let at : round_of x v ≡ r = ap (λ o. unwrap_or o (new_round x.me x.members (round_number x v))) (sym here) in
       let passes : standing same elect x (v, r) ≡ Passed = ap (λ o. cond (is_admitted x v) (option_map_or (λ (found : Leader K × Proposal D). parent_standing same elect x v r found.1.parent) o Passed) Passed) (sym none) ∙ either (is_admitted x v) Passed in
       sym (ap (λ s. left_at x (v, s) (standing same elect x (v, s))) at ∙ ap (left_at x (v, r)) passes)
+
+  -- a tracked view is left by how it stands
+  module _ (x : StateFacts K L D) (v : ℕ) (r : RoundFacts K D) (here : Some r ≡ round_at x v) (s : Standing D) (so : s ≡ standing same elect x (v, r)) (y : StateFacts K L D) where
+    round_there : round_of x v ≡ r
+    round_there = ap (λ o. unwrap_or o (new_round x.me x.members (round_number x v))) (sym here)
+
+    left_there : left_at x (v, r) s ≡ left_at x (v, round_of x v) (standing same elect x (v, round_of x v))
+    left_there = ap (left_at x (v, r)) so ∙ sym (ap (λ q. left_at x (v, q) (standing same elect x (v, q))) round_there)
+
+    in_place : (change : RoundFacts K D → RoundFacts K D) → y ≡ with_tracked x v (change (round_of x v)) → y ≡ with_round x v (change r)
+    in_place change is =
+        is ∙ ap (λ b. cond b (with_round x v (change (round_of x v))) x) (sym (ap is_some here)) ∙ ap (λ q. with_round x v (change q)) round_there
+
+    pub left_lacks : (w : ℕ) (kind : Kind) → s ≡ Lacks w kind → y ≡ with_tracked x v (with_request (round_of x v) w) → y ≡ left_at x (v, round_of x v) (standing same elect x (v, round_of x v))
+    left_lacks w kind is requests = in_place (λ q. with_request q w) requests ∙ ap (left_at x (v, r)) (sym is) ∙ left_there
+
+    pub left_ready : (d : D) → s ≡ Ready d → y ≡ with_tracked x v (verifying_round (round_of x v) d) → y ≡ left_at x (v, round_of x v) (standing same elect x (v, round_of x v))
+    left_ready d is gives = in_place (λ q. verifying_round q d) gives ∙ ap (left_at x (v, r)) (sym is) ∙ left_there
 
   module _ (x : StateFacts K L D) where
     abbrev stands : ℕ → RoundFacts K D → Standing D

@@ -1,10 +1,12 @@
 -- The rounds of the tracked views. Each is of one member, its members and one epoch.
-use Rattle.std.specs.Prelude.{◌≡◌, ◌<◌, ◌≤◌, ◌+◌, ◌^◌, ℕ, nat_lt, nat_le, Bool, true, false, ◌&&◌, List, [], Option, Some, IfSome, is_some, unwrap_or, if◌then◌else◌, length}
+use Rattle.std.specs.Prelude.{◌≡◌, ◌<◌, ◌≤◌, ◌+◌, ◌^◌, ℕ, nat_lt, nat_le, Bool, true, false, ◌&&◌, ◌||◌, List, [], Option, Some, IfSome, is_some, unwrap_or, if◌then◌else◌, filter, length}
 use Rattle.std.specs.Option.{option_map_or}
 use Rattle.std.specs.FinMap.Entries.{find, put}
 use Rattle.std.specs.Ordering.{nat_cmp}
 use Rattle.simplex_types.specs.declared.types.numbers.Round.{Round}
-use Rattle.simplex_round.specs.Round.{RoundFacts, new_round, leader_at, with_deadlines, is_judged}
+use Rattle.simplex_types.specs.declared.types.messages.Artifact.{Artifact}
+use Rattle.simplex_types.specs.declared.types.messages.Artifact.TheVariants as artifact
+use Rattle.simplex_round.specs.Round.{RoundFacts, new_round, leader_at, with_deadlines, is_judged, is_certified}
 use Rattle.simplex_voter.specs.declared.voter.rounds.Deadlines.{Deadlines}
 
 -- no view above this one is ever tracked: what a certificate names is below 2 ^ 63, what one enters or elects for at most a
@@ -63,19 +65,42 @@ module _ {K D : Type 0} where
     pub members : after.members ≡ before.members
     pub epoch : after.epoch ≡ before.epoch
 
+  -- the view is finalized, or was certified true: its payload is explicit
+  abbrev pub is_settled : RoundFacts K D → Bool
+  is_settled r = is_some r.finalization || is_certified r.certification
+
   -- the round of a tracked view is this member's, among its members and in its epoch; only a view that a certificate may
-  -- name is notarized; and its leader is a member
-  pub record IsKept (x : RoundsFacts K D) (v : ℕ) (r : RoundFacts K D) : Type 0 where
+  -- name is notarized; its leader is a member; and no view above `highest` is settled
+  pub record IsKept (highest : ℕ) (x : RoundsFacts K D) (v : ℕ) (r : RoundFacts K D) : Type 0 where
     pub me : r.me ≡ x.me
     pub members : r.members ≡ x.members
     pub round : r.round ≡ round_number x v
     pub in_range : v ≤ largest_tracked
     pub notarized : is_some r.notarization ≡ true → v < 2 ^ 63
     pub leader : IfSome r.leader (λ l. l.idx < length x.members)
+    pub settled : is_settled r ≡ true → v ≤ highest
 
   -- each tracked round is so
-  abbrev pub AreKept : RoundsFacts K D → Type 0
-  AreKept x = (v : ℕ) (r : RoundFacts K D) → round_at x v ≡ Some r → IsKept x v r
+  abbrev pub AreKept : ℕ → RoundsFacts K D → Type 0
+  AreKept highest x = (v : ℕ) (r : RoundFacts K D) → round_at x v ≡ Some r → IsKept highest x v r
+
+  -- the tracked views below v, with their rounds, but for some above genesis that are not settled
+  pub record AreDownFrom (x : RoundsFacts K D) (v : ℕ) (es : List (ℕ × RoundFacts K D)) : Type 0 where
+    pub end : ℕ
+    pub entries : es ≡ filter (λ e. nat_lt e.0 end) x.by_view
+    pub not_above : end ≤ v
+    pub above : (w : ℕ) → end ≤ w → w < v → 0 < w
+    pub rest : (w : ℕ) (r : RoundFacts K D) → end ≤ w → w < v → round_at x w ≡ Some r → is_settled r ≡ false
+
+-- the entry of the record settles its view
+abbrev pub settles : {S D P G C : Type 0} → Artifact S D P G C → Bool
+settles (artifact.Certification _ success) = success
+settles (artifact.Notarize _) = false
+settles (artifact.Notarization _) = false
+settles (artifact.Nullify _) = false
+settles (artifact.Nullification _) = false
+settles (artifact.Finalize _) = false
+settles (artifact.Finalization _) = false
 
 -- the first entry of a view is noted, and its deadlines count
 abbrev pub with_entry : {K D : Type 0} → RoundFacts K D → ℕ → Deadlines → RoundFacts K D

@@ -10,7 +10,7 @@ ghost use Rattle.std.specs.Option.{option_map_or};
 ghost use Rattle.simplex_round.specs.declared.round.Certification.TheVariants.{Outstanding};
 ghost use Rattle.simplex_round.specs.declared.round.Decision.TheVariants.{Finalize};
 
-use super::rounds::Rounds;
+use super::rounds::{Rounds, higher_where};
 use simplex_types::reasons::TimeoutReason;
 use simplex_types::types::{
     CertificateScheme, Digest, Fault, Finalization, Notarization, Nullification, Proposal, View,
@@ -79,6 +79,7 @@ impl<S: CertificateScheme, D: Digest> Rounds<S, D> {
         ensures origin { HasSameOrigin self.old self.new }
     {
         self.track(view)?;
+        self.highest_settled = higher_where(true, self.highest_settled, view);
         let Some(round) = self.by_view.get_mut(view) else {
             unreachable!()
         };
@@ -173,6 +174,7 @@ impl<S: CertificateScheme, D: Digest> Rounds<S, D> {
         ensures judged { self.new ≡ with_change_in_place self.old view (λ r. certified_round r success) }
         ensures origin { HasSameOrigin self.old self.new }
     {
+        self.highest_settled = higher_where(success, self.highest_settled, view);
         let Some(round) = self.by_view.get_mut(view) else {
             return;
         };

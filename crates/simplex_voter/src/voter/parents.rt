@@ -156,7 +156,7 @@ impl<S: CertificateScheme, L: Elector<S>, D: Digest> State<S, L, D> {
     fn highest_explicit(&self, view: View) -> Option<(View, D)>
         ensures { result ≡ highest_explicit self.now view }
     {
-        match self.last_explicit(self.rounds.below(view)) {
+        match self.last_explicit(self.rounds.down_from(view)) {
             Some(found) => Some(found),
             None => at_view(View::zero(), self.genesis),
         }

@@ -97,13 +97,18 @@ fn end_certification<S: CertificateScheme, D: Digest>(rounds: &mut Tracked<Round
 impl<S: CertificateScheme, D: Digest> Rounds<S, D> {
     ghost use Rattle.std.specs.Ordering.{nat_cmp};
     ghost use Rattle.std.specs.FinMap.Entries.{is_sorted};
-    ghost use Rattle.simplex_voter.specs.Rounds.{is_refused_between};
+    ghost use Rattle.simplex_voter.specs.Rounds.{is_refused_between, AreDownFrom};
 
-    /// The rounds of the tracked views below a view, by rising view.
-    pub fn below(&self, view: View) -> Entries<'_, Round<S, D>>
-        ensures { result ≡ filter (λ e. nat_lt e.0 view) self.now.by_view }
+    /// The rounds of the tracked views below a view, by rising view, but for those above each one that is finalized or was
+    /// certified true.
+    pub fn down_from(&self, view: View) -> Entries<'_, Round<S, D>>
+        ensures { AreDownFrom self.now view result }
     {
-        self.by_view.below(view)
+        if self.highest_settled < view {
+            self.by_view.up_to(self.highest_settled)
+        } else {
+            self.by_view.below(view)
+        }
     }
 
     /// The rounds of the tracked views at or above a view, by rising view.

@@ -5,16 +5,24 @@ ghost use Rattle.simplex_types.specs.Proposal.{same_proposal};
 ghost use Rattle.simplex_types.specs.declared.types.fault.Fault.TheVariants.{OutOfMemory};
 ghost use Rattle.simplex_round.specs.Round.{TakesArtifact, after_replay};
 ghost use Rattle.simplex_voter.specs.Replay.{bound_again, artifact_too_large, voted_proposal};
+ghost use Rattle.simplex_voter.specs.Rounds.{settles};
 ghost use Rattle.simplex_types.specs.Terms.{IsVotable};
 ghost use Rattle.simplex_types.specs.Viewed.{artifact_view};
 
 use super::conditions::names_too_large;
-use super::rounds::Rounds;
+use super::rounds::{Rounds, higher_where};
 use super::state::{LARGEST_VIEW, State};
 use simplex_round::round::Round;
 use simplex_types::types::{
     Artifact, CertificateScheme, Digest, Elector, Fault, Proposal, View, Viewable,
 };
+
+/// Whether the entry of the record is a true verdict.
+fn settles<S: CertificateScheme, D: Digest>(artifact: &Artifact<S, D>) -> bool
+    ensures { result ≡ settles artifact.now }
+{
+    matches!(artifact, Artifact::Certification(_, true))
+}
 
 /// A round takes an entry of the record: a vote is decided again, a certificate counts as handed out, and a verdict
 /// stands. It is bound again where there is a binding.
@@ -66,6 +74,7 @@ impl<S: CertificateScheme, D: Digest> Rounds<S, D> {
         ensures origin { HasSameOrigin self.old self.new }
     {
         self.track(view)?;
+        self.highest_settled = higher_where(settles(artifact), self.highest_settled, view);
         let Some(round) = self.by_view.get_mut(view) else {
             unreachable!()
         };

@@ -1,6 +1,6 @@
 //! The rounds of the tracked views.
 
-ghost use Rattle.std.specs.Prelude.{◌≡◌, ◌<◌, ◌≤◌, ◌+◌, ◌^◌, IfErr, IfSome, OnOk, OnSome, true, is_some, option_map, option_and_then, length};
+ghost use Rattle.std.specs.Prelude.{◌≡◌, ◌<◌, ◌≤◌, ◌+◌, ◌^◌, IfErr, IfSome, OnOk, OnSome, true, max, is_some, if◌then◌else◌, option_map, option_and_then, length};
 ghost use Rattle.simplex_round.specs.Round.{after_nullify};
 ghost use Rattle.std.specs.Option.{option_copied};
 ghost use Rattle.simplex_types.specs.declared.types.fault.Fault.TheVariants.{OutOfMemory};
@@ -36,7 +36,8 @@ impl Deadlines {
 /// The rounds of the tracked views, each of this member, among its members and in its epoch.
 ///
 /// Contracts see them as the record `RoundsFacts`. No view above 2^63 + 2^33 is tracked, only views up to 2^63 - 1 are
-/// notarized, and each leader is a member.
+/// notarized, and each leader is a member. So that a search needn't go over views that wait, the highest view is kept that
+/// was ever finalized or certified true.
 #[derive(Drop)]
 pub struct Rounds<S: CertificateScheme, D: Digest> {
     pub(super) alloc: Global,
@@ -44,6 +45,8 @@ pub struct Rounds<S: CertificateScheme, D: Digest> {
     scheme: S,
     epoch: Epoch,
     pub(super) by_view: Tracked<Round<S, D>>,
+    // no tracked view above it is finalized or was certified true
+    pub(super) highest_settled: View,
 }
 
 impl<S: CertificateScheme, D: Digest> Model for Rounds<S, D> {
@@ -55,7 +58,14 @@ impl<S: CertificateScheme, D: Digest> Model for Rounds<S, D> {
 
     ghost view = { rounds_view S.me S.participants };
 
-    ghost invariant = { λ r. AreKept (rounds_view S.me S.participants r) };
+    ghost invariant = { λ r. AreKept r.highest_settled (rounds_view S.me S.participants r) };
+}
+
+/// The higher of two views, where the second one counts.
+pub(super) fn higher_where(counts: bool, view: View, other: View) -> View
+    ensures { result ≡ (if counts then max view other else view) }
+{
+    if counts { view.max(other) } else { view }
 }
 
 impl<S: CertificateScheme, D: Digest> Rounds<S, D> {
@@ -70,6 +80,7 @@ impl<S: CertificateScheme, D: Digest> Rounds<S, D> {
             scheme,
             epoch,
             by_view: Tracked::new(alloc),
+            highest_settled: View::zero(),
         }
     }
 

@@ -1,4 +1,4 @@
-use Rattle.std.proofs.Common.{ap, sym, refl, ◌∙◌}
+use Rattle.std.proofs.Common.{ap, sym, refl, ◌∙◌, inl}
 use Rattle.simplex_round.specs.Round.{can_finalize}
 use Rattle.simplex_round.specs.declared.round.Decision.TheVariants.{Finalize}
 use Rattle.simplex_voter.proofs.Changed.{lent, finalizable_there, kept_changed, changed_there_always}
@@ -11,7 +11,7 @@ pub invariant_of-self : goal.invariant_of-self
 invariant_of-self g c =
     let lent = lent c.args.self.now _ (sym (ap (λ x. x.by_view) c.self.view_is)) _ _ c.in-Some.ensures.value in
     let can = ap can_finalize lent ∙ c.requires in
-    kept_changed _ _ refl c.self.invariant _ _ _ c.in-Some.ensures.value (rw (c.construct_finalize.ensures.facts, can) (record { me = refl; members = refl; round = refl; notarization = refl; leader = refl }))
+    kept_changed _ _ refl c.self.invariant _ _ _ c.in-Some.ensures.value (rw (c.construct_finalize.ensures.facts, can) (record { me = refl; members = refl; round = refl; notarization = refl; leader = refl; settled = inl }))
 
 pub returns-clause-vote : goal.returns-clause-vote
 returns-clause-vote g c =
