@@ -38,7 +38,7 @@ impl<D: Digest, P: Copy> Openings<D, P> {
     ghost use Rattle.simplex_member.specs.Openings.{is_verifying, without_verification, with_verification};
     ghost use Rattle.simplex_member.specs.Openings.{is_offered, without_offer, with_offers};
 
-    pub fn new(alloc: Global) -> Self
+    pub(super) fn new(alloc: Global) -> Self
         ensures { result.open_now ≡ no_openings }
     {
         Openings {
@@ -49,7 +49,7 @@ impl<D: Digest, P: Copy> Openings<D, P> {
     }
 
     /// Makes room for a request and a verification more. Where there is no memory, what is open stays as it is.
-    pub fn make_room(&mut self) -> Result<(), Fault>
+    pub(super) fn make_room(&mut self) -> Result<(), Fault>
         ensures same { self.new.open_now ≡ self.old.open_now }
         ensures room { OnOk result (self.new.has_room ≡ true) }
         ensures refused { IfErr result (λ fault. fault ≡ OutOfMemory) }
@@ -59,20 +59,20 @@ impl<D: Digest, P: Copy> Openings<D, P> {
     }
 
     /// What the request to build in a view was made with.
-    pub fn context(&self, view: View) -> Option<&Context<D, P>>
+    pub(super) fn context(&self, view: View) -> Option<&Context<D, P>>
         ensures { option_copied result ≡ context_at self.now.open_now view }
     {
         self.contexts.get(view)
     }
 
-    pub fn has_context(&self, view: View) -> bool
+    pub(super) fn has_context(&self, view: View) -> bool
         ensures { result ≡ is_some (context_at self.now.open_now view) }
     {
         self.context(view).is_some()
     }
 
     /// A request to build replaces an earlier one in its view.
-    pub fn open_request(&mut self, request: &Option<ProposalRequest<D, P>>)
+    pub(super) fn open_request(&mut self, request: &Option<ProposalRequest<D, P>>)
         requires { self.old.has_room ≡ true }
         ensures { self.new.open_now ≡ with_open_request self.old.open_now request.now }
     {
@@ -89,21 +89,21 @@ impl<D: Digest, P: Copy> Openings<D, P> {
         self.contexts.put(view, context);
     }
 
-    pub fn close_context(&mut self, view: View)
+    pub(super) fn close_context(&mut self, view: View)
         ensures closed { self.new.open_now ≡ without_context self.old.open_now view }
         ensures room { self.old.has_room ≡ true → self.new.has_room ≡ true }
     {
         self.contexts.remove(view);
     }
 
-    pub fn is_verifying(&self, view: View) -> bool
+    pub(super) fn is_verifying(&self, view: View) -> bool
         ensures { result ≡ is_verifying self.now.open_now view }
     {
         self.verifying.get(view).is_some()
     }
 
     /// A proposal that is handed out waits for its answer.
-    pub fn open_verification(&mut self, verify: &Verify<D, P>)
+    pub(super) fn open_verification(&mut self, verify: &Verify<D, P>)
         requires { self.old.has_room ≡ true }
         ensures { self.new.open_now ≡ with_verification self.old.open_now verify.now }
     {
@@ -112,21 +112,21 @@ impl<D: Digest, P: Copy> Openings<D, P> {
         }
     }
 
-    pub fn close_verification(&mut self, view: View)
+    pub(super) fn close_verification(&mut self, view: View)
         ensures closed { self.new.open_now ≡ without_verification self.old.open_now view }
         ensures room { self.old.has_room ≡ true → self.new.has_room ≡ true }
     {
         self.verifying.remove(view);
     }
 
-    pub fn is_offered(&self, view: View) -> bool
+    pub(super) fn is_offered(&self, view: View) -> bool
         ensures { result ≡ is_offered self.now.open_now view }
     {
         self.offered.get(view).is_some()
     }
 
     /// Each proposal that is offered waits for its verdict.
-    pub fn open_offers(&mut self, proposals: &[Proposal<D>]) -> Result<(), Fault>
+    pub(super) fn open_offers(&mut self, proposals: &[Proposal<D>]) -> Result<(), Fault>
         ensures opened { OnOk result (self.new.open_now ≡ with_offers self.old.open_now proposals.now) }
         ensures refused { IfErr result (λ fault. fault ≡ OutOfMemory) }
     {
@@ -136,7 +136,7 @@ impl<D: Digest, P: Copy> Openings<D, P> {
         Ok(())
     }
 
-    pub fn close_offer(&mut self, view: View)
+    pub(super) fn close_offer(&mut self, view: View)
         ensures closed { self.new.open_now ≡ without_offer self.old.open_now view }
         ensures room { self.old.has_room ≡ true → self.new.has_room ≡ true }
     {

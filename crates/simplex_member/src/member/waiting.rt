@@ -30,7 +30,7 @@ impl<V> Model for Waiting<V> {
 }
 
 impl<V: Drop> Waiting<V> {
-    pub fn new(alloc: Global) -> Self
+    pub(super) fn new(alloc: Global) -> Self
         ensures { result ≡ record { entries = []; has_room = true } }
     {
         Waiting {
@@ -39,7 +39,7 @@ impl<V: Drop> Waiting<V> {
         }
     }
 
-    pub fn get(&self, view: View) -> Option<&V>
+    pub(super) fn get(&self, view: View) -> Option<&V>
         ensures { option_copied result ≡ find nat_cmp view self.now.entries }
     {
         match &self.newest {
@@ -55,7 +55,7 @@ impl<V: Drop> Waiting<V> {
     }
 
     /// Makes room for a value more. Where there is no memory, nothing has changed.
-    pub fn make_room(&mut self) -> Result<(), Fault>
+    pub(super) fn make_room(&mut self) -> Result<(), Fault>
         ensures same { self.new.entries ≡ self.old.entries }
         ensures room { OnOk result (self.new.has_room ≡ true) }
         ensures refused { IfErr result (λ fault. fault ≡ OutOfMemory) }
@@ -84,7 +84,7 @@ impl<V: Drop> Waiting<V> {
     }
 
     /// Sets the value of a view, which may have one.
-    pub fn put(&mut self, view: View, value: V)
+    pub(super) fn put(&mut self, view: View, value: V)
         requires { self.old.has_room ≡ true }
         ensures entries { self.new.entries ≡ put nat_cmp view value self.old.entries }
     {
@@ -92,7 +92,7 @@ impl<V: Drop> Waiting<V> {
     }
 
     /// Removes the value of a view, where there is one.
-    pub fn remove(&mut self, view: View)
+    pub(super) fn remove(&mut self, view: View)
         ensures entries { self.new.entries ≡ filter (λ e. not (e.0 == view)) self.old.entries }
         ensures room { self.old.has_room ≡ true → self.new.has_room ≡ true }
     {

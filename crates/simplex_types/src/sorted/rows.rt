@@ -41,7 +41,7 @@ impl<T> Rows<T> {
     ghost use Rattle.std.specs.Borrow.{LendsIf, sem};
     ghost use Rattle.simplex_types.specs.contracts.sorted.rows.Rows.{the_row};
 
-    pub fn new(alloc: Global) -> Self
+    pub(super) fn new(alloc: Global) -> Self
         ensures { result ≡ [] }
     {
         Rows {
@@ -51,18 +51,18 @@ impl<T> Rows<T> {
         }
     }
 
-    pub fn len(&self) -> usize
+    pub(super) fn len(&self) -> usize
         ensures { result ≡ length self.now }
     {
         self.count
     }
 
-    pub fn allocator(&self) -> Global {
+    pub(super) fn allocator(&self) -> Global {
         *self.first.allocator()
     }
 
     /// The entry at a place.
-    pub fn get(&self, place: usize) -> Option<&T>
+    pub(super) fn get(&self, place: usize) -> Option<&T>
         ensures variant { IsSome result ↔ (place < length self.now) }
         ensures lookup { IfSome result (λ entry. entry.now ≡ slice_index_or self.now place entry.now) }
     {
@@ -74,7 +74,7 @@ impl<T> Rows<T> {
     }
 
     /// The entry at a place, to be changed.
-    pub fn get_mut(&mut self, place: usize) -> Option<&mut T>
+    pub(super) fn get_mut(&mut self, place: usize) -> Option<&mut T>
         ensures* writes_back { sem 𝓛 (LendsIf (the_row T.row) T.row self.entry result (slice_set self.old place) self.old) }
         ensures variant { IsSome result ↔ (place < length self.old) }
         ensures value { IfSome result (λ entry. entry.now ≡ slice_index_or self.old place entry.now) }
@@ -92,7 +92,7 @@ impl<T> Rows<T> {
     }
 
     /// Puts an entry at a place. Where there is no memory it comes back.
-    pub fn insert(&mut self, place: usize, value: T) -> Result<(), AllocFailed<T>>
+    pub(super) fn insert(&mut self, place: usize, value: T) -> Result<(), AllocFailed<T>>
         requires { place ≤ length self.old }
         ensures items { OnOk result (self.new ≡ insert self.old place value) }
         ensures value_returned { IfErr result (λ refused. refused.value ≡ value) }
@@ -140,7 +140,7 @@ impl<T> Index<usize> for Rows<T> {
 
 impl<T: Drop> Rows<T> {
     /// Removes the first entry, where there is one.
-    pub fn drop_front(&mut self)
+    pub(super) fn drop_front(&mut self)
         ensures { self.new ≡ drop 1 self.old }
     {
         if self.first.is_empty() {
@@ -155,7 +155,7 @@ impl<T: Drop> Rows<T> {
     }
 
     /// Removes the entry at a place.
-    pub fn remove(&mut self, place: usize)
+    pub(super) fn remove(&mut self, place: usize)
         requires { place < length self.old }
         ensures { self.new ≡ remove self.old place }
     {

@@ -15,7 +15,7 @@ use simplex_types::types::{CertificateScheme, Digest, Elector, Fault, Proposal, 
 
 /// Notes a view, which may be noted already.
 #[tactic(auto, using(crate::proofs::RoundsKept::noted))]
-pub fn note_view(views: &mut ByTerm<()>, view: View) -> Result<(), Fault>
+pub(super) fn note_view(views: &mut ByTerm<()>, view: View) -> Result<(), Fault>
     requires { 1 ≤ view }
     ensures same_terms { views.new.term_length ≡ views.old.term_length }
     ensures noted { OnOk result (views.new ≡ record views.old { by_view = map.insert views.old.by_view view tt }) }
@@ -27,7 +27,7 @@ pub fn note_view(views: &mut ByTerm<()>, view: View) -> Result<(), Fault>
 
 /// Names a view, which may be named already.
 #[tactic(auto, using(crate::proofs::RoundsKept::noted))]
-pub fn name_view(views: &mut Tracked<()>, view: View) -> Result<(), Fault>
+pub(super) fn name_view(views: &mut Tracked<()>, view: View) -> Result<(), Fault>
     ensures named { OnOk result (views.new ≡ map.insert views.old view tt) }
     ensures refused { IfErr result (λ fault. fault ≡ OutOfMemory) }
 {

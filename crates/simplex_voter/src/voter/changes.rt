@@ -25,7 +25,7 @@ impl<S: CertificateScheme, D: Digest> Rounds<S, D> {
     ghost use Rattle.simplex_voter.specs.Proposing.{build_requested};
 
     /// Keeps the first notarization of a view. Answers whether it is that, with the key of a leader found to equivocate.
-    pub fn keep_notarization(
+    pub(super) fn keep_notarization(
         &mut self,
         view: View,
         notarization: Notarization<S, D>,
@@ -46,7 +46,7 @@ impl<S: CertificateScheme, D: Digest> Rounds<S, D> {
     }
 
     /// Keeps the first nullification of a view.
-    pub fn keep_nullification(
+    pub(super) fn keep_nullification(
         &mut self,
         view: View,
         nullification: Nullification<S>,
@@ -65,7 +65,7 @@ impl<S: CertificateScheme, D: Digest> Rounds<S, D> {
     }
 
     /// Keeps the first finalization of a view. Answers whether it is that, with the key of a leader found to equivocate.
-    pub fn keep_finalization(
+    pub(super) fn keep_finalization(
         &mut self,
         view: View,
         finalization: Finalization<S, D>,
@@ -87,7 +87,7 @@ impl<S: CertificateScheme, D: Digest> Rounds<S, D> {
     }
 
     /// The round of a view takes a proposal, and answers whether it is to be verified. The view is tracked from then on.
-    pub fn take_proposal(&mut self, view: View, proposal: &Proposal<D>) -> Result<bool, Fault>
+    pub(super) fn take_proposal(&mut self, view: View, proposal: &Proposal<D>) -> Result<bool, Fault>
         requires { view ≤ largest_tracked }
         ensures first { IfOk result (λ first. first ≡ is_new_proposal (round_of self.old view)) }
         ensures taken { OnOk result (self.new ≡ with_change self.old view (λ r. with_proposal D.eq r proposal.now)) }
@@ -102,7 +102,7 @@ impl<S: CertificateScheme, D: Digest> Rounds<S, D> {
     }
 
     /// Hands out the notarization of a view, once.
-    pub fn hand_out_notarization(&mut self, view: View) -> Result<Option<Notarization<S, D>>, Fault>
+    pub(super) fn hand_out_notarization(&mut self, view: View) -> Result<Option<Notarization<S, D>>, Fault>
         ensures answer { IfOk result (λ c.
             option_map (notarization_facts S.certificate_bytes) c
             ≡ option_and_then (λ r. once r.notarization_broadcast r.notarization) (round_at self.old view)) }
@@ -120,7 +120,7 @@ impl<S: CertificateScheme, D: Digest> Rounds<S, D> {
     }
 
     /// Hands out the nullification of a view, once.
-    pub fn hand_out_nullification(&mut self, view: View) -> Result<Option<Nullification<S>>, Fault>
+    pub(super) fn hand_out_nullification(&mut self, view: View) -> Result<Option<Nullification<S>>, Fault>
         ensures answer { IfOk result (λ c.
             option_map (nullification_facts S.certificate_bytes) c
             ≡ option_and_then (λ r. once r.nullification_broadcast r.nullification) (round_at self.old view)) }
@@ -138,7 +138,7 @@ impl<S: CertificateScheme, D: Digest> Rounds<S, D> {
     }
 
     /// Hands out the finalization of a view, once.
-    pub fn hand_out_finalization(&mut self, view: View) -> Result<Option<Finalization<S, D>>, Fault>
+    pub(super) fn hand_out_finalization(&mut self, view: View) -> Result<Option<Finalization<S, D>>, Fault>
         ensures answer { IfOk result (λ c.
             option_map (finalization_facts S.certificate_bytes) c
             ≡ option_and_then (λ r. once r.finalization_broadcast r.finalization) (round_at self.old view)) }
@@ -156,7 +156,7 @@ impl<S: CertificateScheme, D: Digest> Rounds<S, D> {
     }
 
     /// Decides the vote to finalize a view, whose round allows that, and answers what is voted for.
-    pub fn decide_finalize(&mut self, view: View) -> Option<Proposal<D>>
+    pub(super) fn decide_finalize(&mut self, view: View) -> Option<Proposal<D>>
         requires { can_finalize (round_of self.old view) ≡ true }
         ensures vote { result ≡ (round_of self.old view).slot.held }
         ensures decided { self.new ≡ with_change self.old view (λ r. record r { decision = Finalize }) }
@@ -169,7 +169,7 @@ impl<S: CertificateScheme, D: Digest> Rounds<S, D> {
     }
 
     /// Keeps the verdict of a view's certification. No contradicting one stands.
-    pub fn judge(&mut self, view: View, success: bool)
+    pub(super) fn judge(&mut self, view: View, success: bool)
         requires { option_map_or (λ r. is_judged (not success) r.certification) (round_at self.old view) false ≡ false }
         ensures judged { self.new ≡ with_change_in_place self.old view (λ r. certified_round r success) }
         ensures origin { HasSameOrigin self.old self.new }
@@ -182,7 +182,7 @@ impl<S: CertificateScheme, D: Digest> Rounds<S, D> {
     }
 
     /// Latches an explicit timeout of a view, and answers whether it did: the first one stays.
-    pub fn latch(&mut self, view: View, now: u64, reason: TimeoutReason) -> bool
+    pub(super) fn latch(&mut self, view: View, now: u64, reason: TimeoutReason) -> bool
         ensures answer { result ≡ (is_tracked self.old view && awaits_latch (round_of self.old view)) }
         ensures latched { self.new ≡ with_change_in_place self.old view (λ r. with_latch r now reason) }
         ensures origin { HasSameOrigin self.old self.new }
@@ -195,7 +195,7 @@ impl<S: CertificateScheme, D: Digest> Rounds<S, D> {
 
     /// Answers the next timeout of a view, if it has one. The first poll after a vote to nullify sets the moment of its
     /// repeat; where that is past 2^64 - 1, nothing changes and `TimeOverflow` is answered.
-    pub fn poll(
+    pub(super) fn poll(
         &mut self,
         view: View,
         now: u64,
@@ -216,7 +216,7 @@ impl<S: CertificateScheme, D: Digest> Rounds<S, D> {
     }
 
     /// Keeps the token of a view's certification, in place of all before.
-    pub fn set_certify_handle(&mut self, view: View, token: u64)
+    pub(super) fn set_certify_handle(&mut self, view: View, token: u64)
         ensures set { self.new ≡ with_change_in_place self.old view (λ r. record r { certification = Outstanding token }) }
         ensures origin { HasSameOrigin self.old self.new }
     {
@@ -227,7 +227,7 @@ impl<S: CertificateScheme, D: Digest> Rounds<S, D> {
     }
 
     /// Clears the request to build a proposal in a view.
-    pub fn release(&mut self, view: View)
+    pub(super) fn release(&mut self, view: View)
         ensures released { self.new ≡ with_change_in_place self.old view (λ r. record r { slot = build_requested false r.slot }) }
         ensures origin { HasSameOrigin self.old self.new }
     {

@@ -15,7 +15,7 @@ use simplex_types::types::{
 };
 
 /// Whether a proposal's view or its parent's is above 2^63 - 1.
-pub fn names_too_large<D: Digest>(proposal: &Proposal<D>) -> bool
+pub(super) fn names_too_large<D: Digest>(proposal: &Proposal<D>) -> bool
     ensures { result ≡ names_too_large proposal.now }
 {
     proposal.round.view.get() > LARGEST_VIEW || proposal.parent.get() > LARGEST_VIEW

@@ -9,7 +9,7 @@ use super::state::State;
 use simplex_types::types::{CertificateScheme, Digest, Elector, Fault, View};
 
 /// The view before a view; genesis for genesis.
-pub fn before(view: View) -> View
+pub(super) fn before(view: View) -> View
     ensures { result ≡ view - 1 }
 {
     View::new(view.get().saturating_sub(1))

@@ -101,7 +101,7 @@ impl<S: CertificateScheme, D: Digest> Rounds<S, D> {
 
     /// The rounds of the tracked views below a view, by rising view, but for those above each one that is finalized or was
     /// certified true.
-    pub fn down_from(&self, view: View) -> Entries<'_, Round<S, D>>
+    pub(super) fn down_from(&self, view: View) -> Entries<'_, Round<S, D>>
         ensures { AreDownFrom self.now view result }
     {
         if self.highest_settled < view {
@@ -112,14 +112,14 @@ impl<S: CertificateScheme, D: Digest> Rounds<S, D> {
     }
 
     /// The rounds of the tracked views at or above a view, by rising view.
-    pub fn at_or_above(&self, view: View) -> Entries<'_, Round<S, D>>
+    pub(super) fn at_or_above(&self, view: View) -> Entries<'_, Round<S, D>>
         ensures { result ≡ filter (λ e. nat_le view e.0) self.now.by_view }
     {
         self.by_view.at_or_above(view)
     }
 
     /// The rounds of the tracked views from one view to another, by rising view.
-    pub fn within(&self, low: View, high: View) -> Entries<'_, Round<S, D>>
+    pub(super) fn within(&self, low: View, high: View) -> Entries<'_, Round<S, D>>
         requires { (low ≤ high + 1) × (high + 1 < 2 ^ 64) }
         ensures within { result ≡ filter (λ e. nat_le low e.0 && nat_le e.0 high) self.now.by_view }
         ensures ordered { is_sorted nat_cmp self.now.by_view ≡ true }
@@ -128,7 +128,7 @@ impl<S: CertificateScheme, D: Digest> Rounds<S, D> {
     }
 
     /// Whether a view from one on and below another is notarized or finalized.
-    pub fn has_notarized_between(&self, from: View, to: View) -> bool
+    pub(super) fn has_notarized_between(&self, from: View, to: View) -> bool
         requires { from ≤ to }
         ensures { result ≡ list_any (λ e. nat_le from e.0 && nat_lt e.0 to && is_notarized e.1) self.now.by_view }
     {
@@ -136,7 +136,7 @@ impl<S: CertificateScheme, D: Digest> Rounds<S, D> {
     }
 
     /// Whether a view above one, from another on and up to a third was certified false.
-    pub fn has_refused_between(&self, above: View, from: View, last: View) -> bool
+    pub(super) fn has_refused_between(&self, above: View, from: View, last: View) -> bool
         requires { from ≤ last + 1 }
         ensures { result ≡ list_any (is_refused_between above from last) self.now.by_view }
     {
@@ -144,7 +144,7 @@ impl<S: CertificateScheme, D: Digest> Rounds<S, D> {
     }
 
     /// Ends the certifications that are under way at or below a view.
-    pub fn end_certifications(&mut self, view: View)
+    pub(super) fn end_certifications(&mut self, view: View)
         requires { view < 2 ^ 63 }
         ensures { self.new ≡ record self.old { by_view = map_list (λ e. (e.0, if nat_le e.0 view then without_token e.1 else e.1)) self.old.by_view } }
     {
@@ -152,7 +152,7 @@ impl<S: CertificateScheme, D: Digest> Rounds<S, D> {
     }
 
     /// The tracked views below a view, rising.
-    pub fn views_below(&self, view: View) -> Result<Vec<View>, Fault>
+    pub(super) fn views_below(&self, view: View) -> Result<Vec<View>, Fault>
         ensures views { IfOk result (λ views. views.items ≡ map_list (λ e. e.0) (filter (λ e. nat_lt e.0 view) self.now.by_view)) }
         ensures refused { IfErr result (λ fault. fault ≡ OutOfMemory) }
     {
@@ -160,7 +160,7 @@ impl<S: CertificateScheme, D: Digest> Rounds<S, D> {
     }
 
     /// Drops the rounds of the views below a view.
-    pub fn drop_below(&mut self, view: View)
+    pub(super) fn drop_below(&mut self, view: View)
         ensures { self.new ≡ record self.old { by_view = filter (λ e. nat_le view e.0) self.old.by_view } }
     {
         self.by_view.drop_below(view);

@@ -61,7 +61,7 @@ impl<S: CertificateScheme, D: Digest> Rounds<S, D> {
 
     /// The round of a view takes an entry of the record, with a binding where there is one. The view is tracked from then
     /// on.
-    pub fn recall(
+    pub(super) fn recall(
         &mut self,
         view: View,
         artifact: &Artifact<S, D>,

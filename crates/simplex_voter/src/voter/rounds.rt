@@ -22,7 +22,7 @@ pub struct Deadlines {
 
 impl Deadlines {
     /// No moment: for a view that is not entered.
-    pub fn none() -> Deadlines
+    pub(super) fn none() -> Deadlines
         ensures { result ≡ record { leader = 0; certification = 0; stall = None } }
     {
         Deadlines {
@@ -72,7 +72,7 @@ impl<S: CertificateScheme, D: Digest> Rounds<S, D> {
     ghost use Rattle.simplex_voter.specs.Rounds.{no_rounds, round_at, round_of, with_round, with_change, rounds_with_leader, rounds_with_leader_of, with_entry, largest_tracked, HasSameOrigin};
 
     /// No view is tracked.
-    pub fn new(alloc: Global, scheme: S, epoch: Epoch) -> Rounds<S, D>
+    pub(super) fn new(alloc: Global, scheme: S, epoch: Epoch) -> Rounds<S, D>
         ensures { result ≡ no_rounds (S.me scheme) (S.participants scheme) epoch }
     {
         Rounds {
@@ -85,7 +85,7 @@ impl<S: CertificateScheme, D: Digest> Rounds<S, D> {
     }
 
     /// What this member signs by.
-    pub fn scheme(&self) -> &S
+    pub(super) fn scheme(&self) -> &S
         ensures me { S.me result.now ≡ self.now.me }
         ensures members { S.participants result.now ≡ self.now.members }
     {
@@ -93,14 +93,14 @@ impl<S: CertificateScheme, D: Digest> Rounds<S, D> {
     }
 
     /// The epoch that all rounds are of.
-    pub fn epoch(&self) -> Epoch
+    pub(super) fn epoch(&self) -> Epoch
         ensures { result ≡ self.now.epoch }
     {
         self.epoch
     }
 
     /// The round of a tracked view.
-    pub fn get(&self, view: View) -> Option<&Round<S, D>>
+    pub(super) fn get(&self, view: View) -> Option<&Round<S, D>>
         ensures round { option_copied result ≡ round_at self.now view }
         ensures in_range { OnSome result (view ≤ largest_tracked) }
     {
@@ -127,7 +127,7 @@ impl<S: CertificateScheme, D: Digest> Rounds<S, D> {
     }
 
     /// Sets the leader of a view that has none.
-    pub fn lead(&mut self, view: View, leader: Participant) -> Result<(), Fault>
+    pub(super) fn lead(&mut self, view: View, leader: Participant) -> Result<(), Fault>
         requires in_range { view ≤ largest_tracked }
         requires member { leader < length self.old.members }
         ensures led { OnOk result (self.new ≡ rounds_with_leader self.old view leader) }
@@ -146,7 +146,7 @@ impl<S: CertificateScheme, D: Digest> Rounds<S, D> {
     }
 
     /// The leader of one view, where it is known, goes on to another that has none.
-    pub fn inherit(&mut self, from: View, to: View) -> Result<(), Fault>
+    pub(super) fn inherit(&mut self, from: View, to: View) -> Result<(), Fault>
         requires { to ≤ largest_tracked }
         ensures inherited { OnOk result (self.new ≡ rounds_with_leader_of self.old from to) }
         ensures refused { IfErr result (λ fault. fault ≡ OutOfMemory) }
@@ -170,7 +170,7 @@ impl<S: CertificateScheme, D: Digest> Rounds<S, D> {
     }
 
     /// The view after a notarized one.
-    pub fn after_notarized(&self, view: View) -> View
+    pub(super) fn after_notarized(&self, view: View) -> View
         requires { is_some (option_and_then (λ r. r.notarization) (round_at self.now view)) ≡ true }
         ensures next { result ≡ view + 1 }
         ensures in_range { view < 2 ^ 63 }
@@ -192,7 +192,7 @@ impl<S: CertificateScheme, D: Digest> Rounds<S, D> {
     }
 
     /// Notes the entry of a view, the first one, and arms its deadlines.
-    pub fn enter(&mut self, view: View, now: u64, deadlines: &Deadlines) -> Result<(), Fault>
+    pub(super) fn enter(&mut self, view: View, now: u64, deadlines: &Deadlines) -> Result<(), Fault>
         requires { view ≤ largest_tracked }
         ensures entered { OnOk result (self.new ≡ with_change self.old view (λ r. with_entry r now deadlines.now)) }
         ensures refused { IfErr result (λ fault. fault ≡ OutOfMemory) }
@@ -208,7 +208,7 @@ impl<S: CertificateScheme, D: Digest> Rounds<S, D> {
     }
 
     /// Decides the vote to nullify a view, unless the vote to finalize it was decided.
-    pub fn decide_nullify(&mut self, view: View) -> Result<(), Fault>
+    pub(super) fn decide_nullify(&mut self, view: View) -> Result<(), Fault>
         requires { view ≤ largest_tracked }
         ensures decided { OnOk result (self.new ≡ with_change self.old view after_nullify) }
         ensures refused { IfErr result (λ fault. fault ≡ OutOfMemory) }

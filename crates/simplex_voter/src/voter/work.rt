@@ -27,7 +27,7 @@ impl<S: CertificateScheme, D: Digest> Rounds<S, D> {
     ghost use Rattle.simplex_voter.specs.Verifying.{with_request, verifying_round, with_mark, with_nothing_bound};
 
     /// Sets the request to build a proposal in a view that is ready for it.
-    pub fn ask_to_build(&mut self, view: View)
+    pub(super) fn ask_to_build(&mut self, view: View)
         requires { should_propose (round_of self.old view) ≡ true }
         ensures asked { self.new ≡ with_change_in_place self.old view (λ r. record r { slot = build_requested true r.slot }) }
         ensures origin { HasSameOrigin self.old self.new }
@@ -39,7 +39,7 @@ impl<S: CertificateScheme, D: Digest> Rounds<S, D> {
     }
 
     /// Notes that the verification of a view's proposal asks for a certificate of another view.
-    pub fn note_request(&mut self, view: View, wanted: View)
+    pub(super) fn note_request(&mut self, view: View, wanted: View)
         ensures noted { self.new ≡ with_change_in_place self.old view (λ r. with_request r wanted) }
         ensures origin { HasSameOrigin self.old self.new }
     {
@@ -50,7 +50,7 @@ impl<S: CertificateScheme, D: Digest> Rounds<S, D> {
     }
 
     /// Gives the proposal of a view out to be verified, bound to its parent's payload.
-    pub fn give_out(&mut self, view: View, payload: D)
+    pub(super) fn give_out(&mut self, view: View, payload: D)
         requires { is_some (pending_proposal (round_of self.old view)) ≡ true }
         ensures given { self.new ≡ with_change_in_place self.old view (λ r. verifying_round r payload) }
         ensures origin { HasSameOrigin self.old self.new }
@@ -66,7 +66,7 @@ impl<S: CertificateScheme, D: Digest> Rounds<S, D> {
     }
 
     /// Marks the held proposal of a view as verified, and answers whether it did.
-    pub fn mark(&mut self, view: View) -> bool
+    pub(super) fn mark(&mut self, view: View) -> bool
         ensures first { result ≡ option_map_or (λ r. not (is_nullify r.decision) && is_unverified r.slot) (round_at self.old view) false }
         ensures marked { self.new ≡ with_change_in_place self.old view with_mark }
         ensures origin { HasSameOrigin self.old self.new }
@@ -78,7 +78,7 @@ impl<S: CertificateScheme, D: Digest> Rounds<S, D> {
     }
 
     /// Takes the binding of a view away.
-    pub fn unbind(&mut self, view: View)
+    pub(super) fn unbind(&mut self, view: View)
         ensures unbound { self.new ≡ with_change_in_place self.old view with_nothing_bound }
         ensures origin { HasSameOrigin self.old self.new }
     {
@@ -90,7 +90,7 @@ impl<S: CertificateScheme, D: Digest> Rounds<S, D> {
 
     /// Records what was built in a tracked view, bound to its parent's payload, where nullify was not decided and no other
     /// proposal is held.
-    pub fn record_proposal(
+    pub(super) fn record_proposal(
         &mut self,
         context: &Context<D, S::PublicKey>,
         payload: D,
@@ -116,7 +116,7 @@ impl<S: CertificateScheme, D: Digest> Rounds<S, D> {
     }
 
     /// Decides the vote to notarize a view, whose round allows that, and answers what is voted for.
-    pub fn decide_notarize(&mut self, view: View) -> Option<Proposal<D>>
+    pub(super) fn decide_notarize(&mut self, view: View) -> Option<Proposal<D>>
         requires { can_notarize (round_of self.old view) ≡ true }
         ensures vote { result ≡ (round_of self.old view).slot.held }
         ensures decided { self.new ≡ with_change self.old view (λ r. record r { notarize_decided = true }) }
