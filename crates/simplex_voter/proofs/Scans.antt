@@ -1,11 +1,10 @@
 -- Walks over views for the first that answers, and the views that a walk comes to.
-use Rattle.std.proofs.Common.{◌≡◌, ℕ, ◌+◌, ◌<◌, ◌≤◌, true, false, ◌&&◌, ltb, leb, List, [], ◌∷◌, filter, length, get_or, drop, Option, Some, None, slice_get, is_some, refl, ap, sym, ◌∙◌, arith}
+use Rattle.std.proofs.Common.{◌≡◌, ℕ, ◌+◌, true, false, ◌&&◌, ltb, leb, List, [], ◌∷◌, filter, length, Option, Some, None, slice_get, is_some, refl, ap, sym, ◌∙◌, arith}
 use Rattle.std.specs.List.{filter_map}
 use Rattle.std.specs.Ordering.{nat_cmp}
 use Rattle.std.specs.FinMap as map
 use Rattle.std.proofs.lemmas.Bool.{false≢true}
 use Rattle.std.proofs.lemmas.Bool.Decides.{nat_tests}
-use Rattle.std.proofs.lemmas.List.{drop_more, drop_all}
 use Rattle.simplex_types.specs.Tracked.{at_or_above, below}
 use Rattle.std.specs.Prelude.{option_map}
 use Rattle.std.specs.FinMap.Entries.{is_sorted}

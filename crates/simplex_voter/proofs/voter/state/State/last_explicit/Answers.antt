@@ -1,4 +1,4 @@
-use Rattle.std.proofs.Common.{None, ap, sym, ◌∙◌, ◌+◌, length, length-append, arith}
+use Rattle.std.proofs.Common.{None, ap, sym, ◌∙◌}
 use Rattle.std.specs.List.{filter_map, last_or}
 use Rattle.simplex_voter.specs.Parents.{explicit_at}
 use Rattle.simplex_voter.proofs.Explicit.{passed_by, stopped_at}
