@@ -1,5 +1,5 @@
 -- An encoding is read back part by part: each part has a fixed length, and the scheme's bytes are what is left.
-use Rattle.std.proofs.Common.{◌≡◌, ℕ, ◌<◌, ◌^◌, List, [], ◌∷◌, ◌++◌, length, get_or, drop, refl, ap, sym, ◌∙◌, arith}
+use Rattle.std.proofs.Common.{◌≡◌, ℕ, ◌<◌, ◌^◌, List, [], ◌∷◌, ◌++◌, length, get_or, drop, refl, ap, sym, ◌∙◌, arith, Result, Ok, Err, OnOk}
 use Rattle.std.specs.Int.{w64, to_be_bytes, from_be_bytes}
 use Rattle.std.proofs.lemmas.List.{append_assoc}
 use Rattle.std.proofs.lemmas.Nat.{from_be_bytes-to_be_bytes_8}
@@ -33,6 +33,12 @@ rest (x ∷ xs) (z ∷ zs) ys ws len same = rest xs zs ys ws (omega (arith, len)
 -- two parts that are appended one after the other
 pub appended : (start middle end xs ys : List ℕ) → middle ≡ start ++ xs → end ≡ middle ++ ys → end ≡ start ++ (xs ++ ys)
 appended start middle end xs ys first second = second ∙ ap (λ l. l ++ ys) first ∙ append_assoc start xs ys
+
+-- a part behind the byte of its kind
+pub behind_kind : {E : Type 0} (result : Result (Unit {0}) E) (start middle end rest : List ℕ) (kind : ℕ) →
+    middle ≡ start ++ kind ∷ [] → OnOk result (end ≡ middle ++ rest) → OnOk result (end ≡ start ++ kind ∷ rest)
+behind_kind (Ok _) start middle end rest kind first second = appended start middle end (kind ∷ []) rest first second
+behind_kind (Err _) start middle end rest kind first second = tt
 
 same_number : (m n : ℕ) → m < 2 ^ 64 → n < 2 ^ 64 → to_be_bytes w64 m ≡ to_be_bytes w64 n → m ≡ n
 same_number m n small small' same =

@@ -16,17 +16,27 @@ round_bytes r = to_be_bytes w64 r.epoch ++ to_be_bytes w64 r.view
 abbrev pub proposal_bytes : {D : Type 0} → (D → List ℕ) → Proposal D → List ℕ
 proposal_bytes payload_bytes p = round_bytes p.round ++ to_be_bytes w64 p.parent ++ payload_bytes p.payload
 
--- the encoding of a certificate: 0 marks a notarization, 1 a nullification, 2 a finalization
-abbrev pub encoding : {D : Type 0} → (D → List ℕ) → CertificateFacts D → List ℕ
-encoding payload_bytes (Notarized c) = 0 ∷ (proposal_bytes payload_bytes c.proposal ++ c.bytes)
-encoding payload_bytes (Nullified c) = 1 ∷ (round_bytes c.round ++ c.bytes)
-encoding payload_bytes (Finalized c) = 2 ∷ (proposal_bytes payload_bytes c.proposal ++ c.bytes)
-
--- what a vote signs: its kind, by the certificate that it counts for, and what it is on
+-- what a vote signs: 0 marks a vote to notarize, 1 one to nullify, 2 one to finalize; then what it is on
 abbrev pub subject_bytes : {D : Type 0} → (D → List ℕ) → Subject D → List ℕ
 subject_bytes payload_bytes (subject.Notarize p) = 0 ∷ proposal_bytes payload_bytes p
 subject_bytes payload_bytes (subject.Nullify r) = 1 ∷ round_bytes r
 subject_bytes payload_bytes (subject.Finalize p) = 2 ∷ proposal_bytes payload_bytes p
+
+-- what a certificate's votes are about
+abbrev pub certificate_subject : {D : Type 0} → CertificateFacts D → Subject D
+certificate_subject (Notarized c) = subject.Notarize c.proposal
+certificate_subject (Nullified c) = subject.Nullify c.round
+certificate_subject (Finalized c) = subject.Finalize c.proposal
+
+-- the scheme's own bytes of a certificate
+abbrev pub scheme_bytes : {D : Type 0} → CertificateFacts D → List ℕ
+scheme_bytes (Notarized c) = c.bytes
+scheme_bytes (Nullified c) = c.bytes
+scheme_bytes (Finalized c) = c.bytes
+
+-- the encoding of a certificate: what its votes sign, and the scheme's own bytes
+abbrev pub encoding : {D : Type 0} → (D → List ℕ) → CertificateFacts D → List ℕ
+encoding payload_bytes c = subject_bytes payload_bytes (certificate_subject c) ++ scheme_bytes c
 
 -- the numbers of a round fit eight bytes each, as those of each `Round` of the program do
 abbrev pub IsEncodableRound : Round → Type 0

@@ -3,7 +3,7 @@
 ghost use Rattle.std.specs.Prelude.{◌≡◌, ◌++◌, OnOk, IfOk, IsOkUnless};
 ghost use Rattle.std.specs.Int.{w64, to_be_bytes};
 ghost use Rattle.simplex_types.specs.Certificates.{certificate_facts};
-ghost use Rattle.simplex_types.specs.Encoding.{encoding, subject_bytes, round_bytes, proposal_bytes, EncodingTellsApart};
+ghost use Rattle.simplex_types.specs.Encoding.{encoding, certificate_subject, scheme_bytes, subject_bytes, round_bytes, proposal_bytes, EncodingTellsApart};
 
 use crate::types::Fault;
 use crate::types::messages::{Certificate, Proposal, Subject};
@@ -29,24 +29,31 @@ impl<S: CertificateScheme, D: Digest> Certificate<S, D> {
         ensures refused { IsOkUnless result Fault.OutOfMemory }
     {
         let mut out = BytesMut::new(alloc);
-        match self {
-            Certificate::Notarization(notarization) => {
-                out.put_u8(NOTARIZATION)?;
-                put_proposal(&mut out, &notarization.proposal)?;
-                out.put_slice(S::certificate_bytes(&notarization.certificate))?;
-            }
-            Certificate::Nullification(nullification) => {
-                out.put_u8(NULLIFICATION)?;
-                put_round(&mut out, nullification.round)?;
-                out.put_slice(S::certificate_bytes(&nullification.certificate))?;
-            }
-            Certificate::Finalization(finalization) => {
-                out.put_u8(FINALIZATION)?;
-                put_proposal(&mut out, &finalization.proposal)?;
-                out.put_slice(S::certificate_bytes(&finalization.certificate))?;
-            }
-        }
+        put_subject(&mut out, &self.subject())?;
+        out.put_slice(self.scheme_bytes())?;
         Ok(out.freeze()?)
+    }
+
+    /// What its votes are about.
+    fn subject(&self) -> Subject<D>
+        ensures { result ≡ certificate_subject (certificate_facts S.certificate_bytes self.now) }
+    {
+        match self {
+            Certificate::Notarization(notarization) => Subject::Notarize(notarization.proposal),
+            Certificate::Nullification(nullification) => Subject::Nullify(nullification.round),
+            Certificate::Finalization(finalization) => Subject::Finalize(finalization.proposal),
+        }
+    }
+
+    /// The scheme's own bytes.
+    fn scheme_bytes(&self) -> &[u8]
+        ensures { result.now ≡ scheme_bytes (certificate_facts S.certificate_bytes self.now) }
+    {
+        match self {
+            Certificate::Notarization(it) => S::certificate_bytes(&it.certificate),
+            Certificate::Nullification(it) => S::certificate_bytes(&it.certificate),
+            Certificate::Finalization(it) => S::certificate_bytes(&it.certificate),
+        }
     }
 }
 
@@ -56,20 +63,7 @@ impl<D: Digest> Subject<D> {
         ensures { IfOk result (λ bytes. bytes ≡ subject_bytes D.bytes self.now) }
     {
         let mut out = BytesMut::new(alloc);
-        match self {
-            Subject::Notarize(proposal) => {
-                out.put_u8(NOTARIZATION)?;
-                put_proposal(&mut out, proposal)?;
-            }
-            Subject::Nullify(round) => {
-                out.put_u8(NULLIFICATION)?;
-                put_round(&mut out, *round)?;
-            }
-            Subject::Finalize(proposal) => {
-                out.put_u8(FINALIZATION)?;
-                put_proposal(&mut out, proposal)?;
-            }
-        }
+        put_subject(&mut out, self)?;
         Ok(out.freeze()?)
     }
 }
@@ -80,6 +74,25 @@ impl<D: Digest> Subject<D> {
 pub fn encoding_tells_apart<D: Digest>()
     ensures { EncodingTellsApart D.bytes }
 {}
+
+fn put_subject<D: Digest>(out: &mut BytesMut, subject: &Subject<D>) -> Result<(), AllocError>
+    ensures { OnOk result (out.new.items ≡ out.old.items ++ subject_bytes D.bytes subject.now) }
+{
+    match subject {
+        Subject::Notarize(proposal) => {
+            out.put_u8(NOTARIZATION)?;
+            put_proposal(out, proposal)
+        }
+        Subject::Nullify(round) => {
+            out.put_u8(NULLIFICATION)?;
+            put_round(out, *round)
+        }
+        Subject::Finalize(proposal) => {
+            out.put_u8(FINALIZATION)?;
+            put_proposal(out, proposal)
+        }
+    }
+}
 
 fn put_round(out: &mut BytesMut, round: Round) -> Result<(), AllocError>
     ensures { OnOk result (out.new.items ≡ out.old.items ++ round_bytes round) }
