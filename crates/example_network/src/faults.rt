@@ -26,7 +26,7 @@ pub enum Deed {
 }
 
 /// What the faulty member does in the view.
-pub fn deed_in(view: View) -> Deed {
+pub(crate) fn deed_in(view: View) -> Deed {
     match view.get() / 4 % 4 {
         1 => Deed::StaysSilent,
         2 => Deed::DeceivesOne,
@@ -36,7 +36,12 @@ pub fn deed_in(view: View) -> Deed {
 }
 
 /// What is sent to a member of a message, if anything is.
-pub fn sent(alloc: Global, from: u8, to: u8, message: &Message) -> Result<Option<Message>, Fault> {
+pub(crate) fn sent(
+    alloc: Global,
+    from: u8,
+    to: u8,
+    message: &Message,
+) -> Result<Option<Message>, Fault> {
     match message {
         Message::Propose(block) if from == FAULTY => Ok(tampered(to, block)),
         _ => Ok(Some(message.copy(alloc)?)),

@@ -21,31 +21,31 @@ pub struct Network {
 
 impl Network {
     /// Nothing is under way.
-    pub fn new(alloc: Global) -> Network {
+    pub(crate) fn new(alloc: Global) -> Network {
         Network {
             parcels: Vec::new(alloc),
         }
     }
 
     /// How long a message takes from one member to another, in milliseconds.
-    pub fn delay(from: u8, to: u8) -> u64 {
+    pub(crate) fn delay(from: u8, to: u8) -> u64 {
         10 + (u64::from(from) * 7 + u64::from(to) * 3) % 5
     }
 
     /// Sends a message behind those that are under way.
-    pub fn send(&mut self, parcel: Parcel) -> Result<(), AllocError> {
+    pub(crate) fn send(&mut self, parcel: Parcel) -> Result<(), AllocError> {
         self.parcels.push(parcel)?;
         Ok(())
     }
 
     /// When the next message comes.
-    pub fn next_moment(&self) -> Option<u64> {
+    pub(crate) fn next_moment(&self) -> Option<u64> {
         let (_, moment) = self.next_parcel()?;
         Some(moment)
     }
 
     /// The message that comes next.
-    pub fn take_next(&mut self) -> Option<Parcel> {
+    pub(crate) fn take_next(&mut self) -> Option<Parcel> {
         let (first, _) = self.next_parcel()?;
         if first >= self.parcels.len() {
             return None;

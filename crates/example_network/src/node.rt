@@ -41,7 +41,7 @@ pub struct Node {
 
 impl Node {
     /// A member that never voted, in a process that begins now.
-    pub fn start(alloc: Global, members: u8, me: u8, now: u64) -> Result<Node, EngineError>
+    pub(crate) fn start(alloc: Global, members: u8, me: u8, now: u64) -> Result<Node, EngineError>
         requires { me < members }
     {
         let member = Member::start(alloc, start_of(alloc, members, me, now)?)?;
@@ -50,7 +50,7 @@ impl Node {
     }
 
     /// A member that goes on from its journal, in a process that begins now.
-    pub fn resume(
+    pub(crate) fn resume(
         alloc: Global,
         members: u8,
         me: u8,
@@ -111,17 +111,17 @@ impl Node {
     }
 
     /// What is left when the process ends: the disk.
-    pub fn into_journal(self) -> Journal {
+    pub(crate) fn into_journal(self) -> Journal {
         self.driver.into_journal()
     }
 
     /// The moment of the next timeout, in milliseconds.
-    pub fn wake(&self) -> Option<u64> {
+    pub(crate) fn wake(&self) -> Option<u64> {
         self.wake
     }
 
     /// The view that was entered last; 0 where the core has failed.
-    pub fn current_view(&self) -> View {
+    pub(crate) fn current_view(&self) -> View {
         match self.driver.state() {
             Some(state) => state.current_view(),
             None => View::zero(),
@@ -129,7 +129,7 @@ impl Node {
     }
 
     /// The highest finalized view; 0 where the core has failed.
-    pub fn last_finalized(&self) -> View {
+    pub(crate) fn last_finalized(&self) -> View {
         match self.driver.state() {
             Some(state) => state.last_finalized(),
             None => View::zero(),
@@ -137,17 +137,17 @@ impl Node {
     }
 
     /// How many fetches are open.
-    pub fn open_fetches(&self) -> usize {
+    pub(crate) fn open_fetches(&self) -> usize {
         self.resolver.fetches().len()
     }
 
     /// The letters to be sent, oldest first; there are none afterwards.
-    pub fn take_letters(&mut self) -> Vec<Letter> {
+    pub(crate) fn take_letters(&mut self) -> Vec<Letter> {
         std::mem::replace(&mut self.outbox, Vec::new(self.alloc))
     }
 
     /// What has happened, oldest first; nothing afterwards.
-    pub fn take_news(&mut self) -> Vec<News> {
+    pub(crate) fn take_news(&mut self) -> Vec<News> {
         std::mem::replace(&mut self.news, Vec::new(self.alloc))
     }
 

@@ -14,7 +14,7 @@ pub enum Options {
 impl Options {
     /// What the arguments after the program's name ask for: nothing, a hundred views; `--help`; or `--views` and a number
     /// from 1 to 1000.
-    pub fn read(arguments: &[String]) -> Option<Options> {
+    pub(crate) fn read(arguments: &[String]) -> Option<Options> {
         match arguments {
             [] => Some(Options::Run(100)),
             [word] if word.as_str() == "--help" => Some(Options::Help),

@@ -21,7 +21,7 @@ pub struct Polls {
 
 impl Polls {
     /// No vote is counted yet.
-    pub fn new(alloc: Global, members: u8, me: u8) -> Result<Polls, AllocError>
+    pub(crate) fn new(alloc: Global, members: u8, me: u8) -> Result<Polls, AllocError>
         requires { me < members }
     {
         let scheme = SealScheme::new(alloc, members, me)?;
@@ -35,14 +35,14 @@ impl Polls {
     }
 
     /// Whether the vote's signature is good.
-    pub fn is_signed(&self, vote: &Vote) -> Result<bool, AllocError> {
+    pub(crate) fn is_signed(&self, vote: &Vote) -> Result<bool, AllocError> {
         let subject = vote.subject();
         self.scheme
             .is_signed_by(self.alloc, vote.signer(), &subject, vote.signature())
     }
 
     /// Whether the certificate is good.
-    pub fn is_good(&self, proof: &Proof) -> bool {
+    pub(crate) fn is_good(&self, proof: &Proof) -> bool {
         match proof {
             Certificate::Notarization(it) => self
                 .scheme
@@ -57,7 +57,11 @@ impl Polls {
     }
 
     /// Counts a vote. Answers the certificate that it completes.
-    pub fn count(&mut self, state: &CoreState, vote: &Vote) -> Result<Option<Proof>, AllocError> {
+    pub(crate) fn count(
+        &mut self,
+        state: &CoreState,
+        vote: &Vote,
+    ) -> Result<Option<Proof>, AllocError> {
         let Ok(signer) = u8::try_from(vote.signer().get()) else {
             return Ok(None);
         };
@@ -117,7 +121,7 @@ impl Polls {
     }
 
     /// Forgets the votes of the views below.
-    pub fn prune(&mut self, lowest: View) {
+    pub(crate) fn prune(&mut self, lowest: View) {
         self.to_notarize.prune(lowest);
         self.to_nullify.prune(lowest);
         self.to_finalize.prune(lowest);

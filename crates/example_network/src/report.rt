@@ -28,7 +28,7 @@ pub struct Report {
 
 impl Report {
     /// Nothing has happened yet.
-    pub fn new(alloc: Global, members: u8) -> Result<Report, AllocError> {
+    pub(crate) fn new(alloc: Global, members: u8) -> Result<Report, AllocError> {
         let mut tallies = Vec::new(alloc);
         for _ in 0..members {
             tallies.push(Tally {
@@ -47,12 +47,12 @@ impl Report {
     }
 
     /// How many views are finalized.
-    pub fn finalized(&self) -> usize {
+    pub(crate) fn finalized(&self) -> usize {
         self.finalized.len()
     }
 
     /// The highest finalized view; 0 where there is none.
-    pub fn highest(&self) -> View {
+    pub(crate) fn highest(&self) -> View {
         match self.finalized.last() {
             Some(view) => *view,
             None => View::zero(),
@@ -60,7 +60,7 @@ impl Report {
     }
 
     /// How often a member came back.
-    pub fn restarts(&self, member: u8) -> u64 {
+    pub(crate) fn restarts(&self, member: u8) -> u64 {
         match self.tallies.get(usize::from(member)) {
             Some(tally) => tally.restarts,
             None => 0,
@@ -68,14 +68,14 @@ impl Report {
     }
 
     /// A member came back.
-    pub fn note_restart(&mut self, member: u8) {
+    pub(crate) fn note_restart(&mut self, member: u8) {
         if let Some(tally) = self.tallies.get_mut(usize::from(member)) {
             tally.restarts = tally.restarts.saturating_add(1);
         }
     }
 
     /// Counts what a member tells, and prints what nobody told before.
-    pub fn note(
+    pub(crate) fn note(
         &mut self,
         rt: &impl Print,
         member: u8,
@@ -132,7 +132,7 @@ impl Report {
     }
 
     /// Prints what came of it all.
-    pub fn print_summary(&self, rt: &impl Print, now: u64) -> Result<(), io::Error> {
+    pub(crate) fn print_summary(&self, rt: &impl Print, now: u64) -> Result<(), io::Error> {
         let (finalized, nullified) = (self.finalized.len(), self.nullified.len());
         println!(rt; "")?;
         println!(rt; "{finalized} views finalized and {nullified} nullified in {now} ms")?;
@@ -143,7 +143,7 @@ impl Report {
     }
 
     /// Prints what came of a member.
-    pub fn print_member(
+    pub(crate) fn print_member(
         &self,
         rt: &impl Print,
         member: u8,

@@ -44,7 +44,7 @@ enum Event {
 
 impl World {
     /// All members start at genesis.
-    pub fn start(alloc: Global) -> Result<World, EngineError> {
+    pub(crate) fn start(alloc: Global) -> Result<World, EngineError> {
         let seats = seats(alloc)?;
         let report = Report::new(alloc, MEMBERS)?;
         Ok(World {
@@ -57,7 +57,7 @@ impl World {
     }
 
     /// Goes on until so many views are finalized, and every member knows of the last of them.
-    pub fn run(&mut self, rt: &impl Print, views: u64) -> Result<(), EngineError> {
+    pub(crate) fn run(&mut self, rt: &impl Print, views: u64) -> Result<(), EngineError> {
         for me in 0..MEMBERS {
             self.collect(rt, me)?;
         }

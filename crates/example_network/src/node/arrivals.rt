@@ -15,7 +15,12 @@ use std::alloc::{AllocError, Global};
 
 impl Node {
     /// Takes a message of another member.
-    pub fn receive(&mut self, from: u8, message: &Message, now: u64) -> Result<(), EngineError> {
+    pub(crate) fn receive(
+        &mut self,
+        from: u8,
+        message: &Message,
+        now: u64,
+    ) -> Result<(), EngineError> {
         match message {
             Message::Propose(block) => self.take_proposal(from, block)?,
             Message::Vote(vote) => self.take_vote(vote, now)?,
@@ -27,7 +32,7 @@ impl Node {
     }
 
     /// The moment of the next timeout came.
-    pub fn time_out(&mut self, now: u64) -> Result<(), EngineError> {
+    pub(crate) fn time_out(&mut self, now: u64) -> Result<(), EngineError> {
         self.wake = None;
         self.ask_peers()?;
         self.settle(now)
