@@ -1,5 +1,5 @@
 -- What a walk over the views that wait gathers.
-use Rattle.std.proofs.Common.{◌≡◌, List, [], ◌∷◌, ◌++◌, Option, Some, None, Result, Ok, Err, IfOk, append_assoc, refl, ap, sym, ◌∙◌}
+use Rattle.std.proofs.Common.{◌≡◌, List, [], ◌∷◌, ◌++◌, Option, Some, None, append_assoc, refl, ap, sym, ◌∙◌}
 use Rattle.std.specs.List.{filter_map, cons_option}
 
 module _ {A B : Type 0} (h : A → Option B) (xs : List A) where
@@ -17,8 +17,3 @@ module _ {A B : Type 0} (h : A → Option B) (xs : List A) where
       ap (λ zs. zs ++ filter_map h rest) added ∙ append_assoc ys (cons_option o []) (filter_map h rest)
       ∙ ap (λ zs. ys ++ zs) (in_front o (filter_map h rest) ∙ ap (λ p. cons_option p (filter_map h rest)) is ∙ sym (ap (filter_map h) first))
       ∙ before
-
--- what two clauses say of a value
-pub both_ok : {A E : Type 0} {P Q R : A → Type 0} (r : Result A E) → ((a : A) → P a → Q a → R a) → IfOk r P → IfOk r Q → IfOk r R
-both_ok (Ok a) f p q = f a p q
-both_ok (Err e) f p q = tt

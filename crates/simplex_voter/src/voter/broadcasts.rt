@@ -15,7 +15,6 @@ use simplex_types::types::{
 impl<S: CertificateScheme, L: Elector<S>, D: Digest> State<S, L, D> {
     ghost use Rattle.simplex_voter.specs.Refusals.{plain_refusal, is_started, HasFailed};
     ghost use Rattle.simplex_voter.specs.Serving.{best_certificate, entry_certificate, entry_nullification, highest_nullified, broadcast_notarization_answer, after_broadcast_notarization, broadcast_nullification_answer, after_broadcast_nullification, broadcast_finalization_answer, after_broadcast_finalization};
-    ghost use Rattle.simplex_voter.specs.Setup.{HasSameSetup};
 
     /// A copy of the certificate that helps others into the current view: of the view before the finalization, else at a
     /// term's start the last term's highest nullification where it is held there, else the notarization. None in view 1.
@@ -42,18 +41,22 @@ impl<S: CertificateScheme, L: Elector<S>, D: Digest> State<S, L, D> {
         ensures refused { IfErr result (λ fault. fault ≡ OutOfMemory) }
     {
         if let Some(finalization) = self.finalization(view) {
-            let copy = finalization.clone(self.alloc)?;
-            return Ok(Some(Certificate::Finalization(copy)));
+            return match finalization.clone(self.alloc) {
+                Ok(copy) => Ok(Some(Certificate::Finalization(copy))),
+                Err(fault) => Err(fault),
+            };
         }
         if let Some(nullification) = self.entry_nullification(view) {
-            let copy = nullification.clone(self.alloc)?;
-            return Ok(Some(Certificate::Nullification(copy)));
+            return match nullification.clone(self.alloc) {
+                Ok(copy) => Ok(Some(Certificate::Nullification(copy))),
+                Err(fault) => Err(fault),
+            };
         }
         match self.notarization(view) {
-            Some(notarization) => {
-                let copy = notarization.clone(self.alloc)?;
-                Ok(Some(Certificate::Notarization(copy)))
-            }
+            Some(notarization) => match notarization.clone(self.alloc) {
+                Ok(copy) => Ok(Some(Certificate::Notarization(copy))),
+                Err(fault) => Err(fault),
+            },
             None => Ok(None),
         }
     }
@@ -95,23 +98,13 @@ impl<S: CertificateScheme, L: Elector<S>, D: Digest> State<S, L, D> {
         if self.is_failed() {
             return Err(Fault::Failed);
         }
-        match self.hand_out_notarization(view) {
+        match self.rounds.hand_out_notarization(view) {
             Ok(certificate) => Ok(certificate),
             Err(fault) => {
                 self.fail();
                 Err(fault)
             }
         }
-    }
-
-    fn hand_out_notarization(&mut self, view: View) -> Result<Option<Notarization<S, D>>, Fault>
-        ensures answer { IfOk result (λ c. option_map (notarization_facts S.certificate_bytes) c ≡ broadcast_notarization_answer self.old view) }
-        ensures handed_out { OnOk result (self.new ≡ after_broadcast_notarization self.old view) }
-        ensures refused { IfErr result (λ fault. fault ≡ OutOfMemory) }
-        ensures refused_only_a_copy { OnErr result (is_some (broadcast_notarization_answer self.old view) ≡ true) }
-        ensures setup { HasSameSetup self.old self.new }
-    {
-        self.rounds.hand_out_notarization(view)
     }
 
     /// Hands out the nullification of a tracked view, if it is there and was not handed out or replayed before.
@@ -128,23 +121,13 @@ impl<S: CertificateScheme, L: Elector<S>, D: Digest> State<S, L, D> {
         if self.is_failed() {
             return Err(Fault::Failed);
         }
-        match self.hand_out_nullification(view) {
+        match self.rounds.hand_out_nullification(view) {
             Ok(certificate) => Ok(certificate),
             Err(fault) => {
                 self.fail();
                 Err(fault)
             }
         }
-    }
-
-    fn hand_out_nullification(&mut self, view: View) -> Result<Option<Nullification<S>>, Fault>
-        ensures answer { IfOk result (λ c. option_map (nullification_facts S.certificate_bytes) c ≡ broadcast_nullification_answer self.old view) }
-        ensures handed_out { OnOk result (self.new ≡ after_broadcast_nullification self.old view) }
-        ensures refused { IfErr result (λ fault. fault ≡ OutOfMemory) }
-        ensures refused_only_a_copy { OnErr result (is_some (broadcast_nullification_answer self.old view) ≡ true) }
-        ensures setup { HasSameSetup self.old self.new }
-    {
-        self.rounds.hand_out_nullification(view)
     }
 
     /// Hands out the finalization of a tracked view, if it is there and was not handed out or replayed before.
@@ -164,22 +147,12 @@ impl<S: CertificateScheme, L: Elector<S>, D: Digest> State<S, L, D> {
         if self.is_failed() {
             return Err(Fault::Failed);
         }
-        match self.hand_out_finalization(view) {
+        match self.rounds.hand_out_finalization(view) {
             Ok(certificate) => Ok(certificate),
             Err(fault) => {
                 self.fail();
                 Err(fault)
             }
         }
-    }
-
-    fn hand_out_finalization(&mut self, view: View) -> Result<Option<Finalization<S, D>>, Fault>
-        ensures answer { IfOk result (λ c. option_map (finalization_facts S.certificate_bytes) c ≡ broadcast_finalization_answer self.old view) }
-        ensures handed_out { OnOk result (self.new ≡ after_broadcast_finalization self.old view) }
-        ensures refused { IfErr result (λ fault. fault ≡ OutOfMemory) }
-        ensures refused_only_a_copy { OnErr result (is_some (broadcast_finalization_answer self.old view) ≡ true) }
-        ensures setup { HasSameSetup self.old self.new }
-    {
-        self.rounds.hand_out_finalization(view)
     }
 }

@@ -160,9 +160,9 @@ impl<S: CertificateScheme, L: Elector<S>, D: Digest> State<S, L, D> {
         if self.is_failed() {
             return Err(Fault::Failed);
         }
-        match self.candidates() {
+        match self.candidates_of(self.candidates.at_or_above(View::zero())) {
             Ok(candidates) => {
-                self.forget_named();
+                self.candidates = Tracked::new(self.alloc);
                 Ok(candidates)
             }
             Err(fault) => {
@@ -170,14 +170,6 @@ impl<S: CertificateScheme, L: Elector<S>, D: Digest> State<S, L, D> {
                 Err(fault)
             }
         }
-    }
-
-    /// What is offered of the views that wait, and what they have to fetch.
-    fn candidates(&self) -> Result<(Vec<Proposal<D>>, Vec<CertificateFetch>), Fault>
-        ensures answer { IfOk result (λ answer. (answer.0.items, answer.1.items) ≡ candidates_answer D.eq L.elect self.now) }
-        ensures refused { IfErr result (λ fault. fault ≡ OutOfMemory) }
-    {
-        self.candidates_of(self.candidates.at_or_above(View::zero()))
     }
 
     /// What is offered of these views, and what they have to fetch.
@@ -196,13 +188,6 @@ impl<S: CertificateScheme, L: Elector<S>, D: Digest> State<S, L, D> {
             append(&mut fetches, self.fetch(entry.0))?;
         }
         Ok((offers, fetches))
-    }
-
-    /// No view waits for certification.
-    fn forget_named(&mut self)
-        ensures { self.new ≡ after_candidates self.old }
-    {
-        self.candidates = Tracked::new(self.alloc);
     }
 
     /// Whether the token of a view's certification is taken: a floor was set, and the view has no verdict.
@@ -231,14 +216,8 @@ impl<S: CertificateScheme, L: Elector<S>, D: Digest> State<S, L, D> {
         if self.is_failed() {
             return Err(Fault::Failed);
         }
-        self.set_handle(view, token);
-        Ok(())
-    }
-
-    fn set_handle(&mut self, view: View, token: u64)
-        ensures { self.new ≡ after_set_certify_handle self.old view token }
-    {
         self.rounds.set_certify_handle(view, token);
+        Ok(())
     }
 
     /// The token of a tracked view's certification, while that is under way.

@@ -77,7 +77,7 @@ impl<S: CertificateScheme, L: Elector<S>, D: Digest> State<S, L, D> {
         ensures in_range { OnSome result (view ≤ largest_tracked) }
     {
         if view.is_zero() {
-            return Some(Basis::Certain(self.genesis?));
+            return self.genesis.map(Basis::Certain);
         }
         let round = self.round_at(view)?;
         self.basis_of(view, view.next(), round)

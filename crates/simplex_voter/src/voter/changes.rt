@@ -87,7 +87,11 @@ impl<S: CertificateScheme, D: Digest> Rounds<S, D> {
     }
 
     /// The round of a view takes a proposal, and answers whether it is to be verified. The view is tracked from then on.
-    pub(super) fn take_proposal(&mut self, view: View, proposal: &Proposal<D>) -> Result<bool, Fault>
+    pub(super) fn take_proposal(
+        &mut self,
+        view: View,
+        proposal: &Proposal<D>,
+    ) -> Result<bool, Fault>
         requires { view ≤ largest_tracked }
         ensures first { IfOk result (λ first. first ≡ is_new_proposal (round_of self.old view)) }
         ensures taken { OnOk result (self.new ≡ with_change self.old view (λ r. with_proposal D.eq r proposal.now)) }
@@ -102,7 +106,10 @@ impl<S: CertificateScheme, D: Digest> Rounds<S, D> {
     }
 
     /// Hands out the notarization of a view, once.
-    pub(super) fn hand_out_notarization(&mut self, view: View) -> Result<Option<Notarization<S, D>>, Fault>
+    pub(super) fn hand_out_notarization(
+        &mut self,
+        view: View,
+    ) -> Result<Option<Notarization<S, D>>, Fault>
         ensures answer { IfOk result (λ c.
             option_map (notarization_facts S.certificate_bytes) c
             ≡ option_and_then (λ r. once r.notarization_broadcast r.notarization) (round_at self.old view)) }
@@ -120,7 +127,10 @@ impl<S: CertificateScheme, D: Digest> Rounds<S, D> {
     }
 
     /// Hands out the nullification of a view, once.
-    pub(super) fn hand_out_nullification(&mut self, view: View) -> Result<Option<Nullification<S>>, Fault>
+    pub(super) fn hand_out_nullification(
+        &mut self,
+        view: View,
+    ) -> Result<Option<Nullification<S>>, Fault>
         ensures answer { IfOk result (λ c.
             option_map (nullification_facts S.certificate_bytes) c
             ≡ option_and_then (λ r. once r.nullification_broadcast r.nullification) (round_at self.old view)) }
@@ -138,7 +148,10 @@ impl<S: CertificateScheme, D: Digest> Rounds<S, D> {
     }
 
     /// Hands out the finalization of a view, once.
-    pub(super) fn hand_out_finalization(&mut self, view: View) -> Result<Option<Finalization<S, D>>, Fault>
+    pub(super) fn hand_out_finalization(
+        &mut self,
+        view: View,
+    ) -> Result<Option<Finalization<S, D>>, Fault>
         ensures answer { IfOk result (λ c.
             option_map (finalization_facts S.certificate_bytes) c
             ≡ option_and_then (λ r. once r.finalization_broadcast r.finalization) (round_at self.old view)) }

@@ -13,10 +13,9 @@ use simplex_types::types::{
 };
 
 impl<S: CertificateScheme, L: Elector<S>, D: Digest> State<S, L, D> {
-    ghost use Rattle.simplex_voter.specs.Certification.{with_finalized_view, with_waiting_candidate};
+    ghost use Rattle.simplex_voter.specs.Certification.{with_finalized_view};
     ghost use Rattle.simplex_voter.specs.Setup.{HasSameSetup, deadlines_at};
     ghost use Rattle.simplex_voter.specs.Refusals.{HasFailed};
-    ghost use Rattle.simplex_voter.specs.Leaders.{with_window_leaders};
     ghost use Rattle.simplex_voter.specs.Acceptance.{takes_proposal_certificate, finalization_refusal, finalization_added, after_add_finalization, with_finalization_at};
 
     /// The last finalized view is this one, where that is above the one before: nothing at or below it waits for
@@ -107,20 +106,9 @@ impl<S: CertificateScheme, L: Elector<S>, D: Digest> State<S, L, D> {
         if !added.0 {
             return Ok(added);
         }
-        self.open_above(view)?;
-        Ok(added)
-    }
-
-    /// The view that waited for a finalized one is a candidate for certification again, and the views whose window it
-    /// opens are led.
-    fn open_above(&mut self, view: View) -> Result<(), Fault>
-        requires { IsVotable view }
-        ensures opened { OnOk result (self.new ≡ with_window_leaders (with_waiting_candidate L.elect self.old view) view) }
-        ensures refused { IfErr result (λ fault. fault ≡ OutOfMemory) }
-        ensures setup { HasSameSetup self.old self.new }
-    {
         self.wake(view)?;
-        self.slide(view)
+        self.slide(view)?;
+        Ok(added)
     }
 
     fn keep_finalization(

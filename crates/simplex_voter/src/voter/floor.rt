@@ -129,11 +129,31 @@ impl<S: CertificateScheme, L: Elector<S>, D: Digest> State<S, L, D> {
         ensures refused { IfErr result (λ fault. fault ≡ OutOfMemory) }
         ensures setup { HasSameSetup self.old self.new }
     {
+        let copy = finalization.clone(self.alloc)?;
+        match self.accept_finalization(finalization, now, deadlines) {
+            Ok(_) => self.hand_back(copy),
+            Err(fault) => Err(fault),
+        }
+    }
+
+    /// A finalization that is kept counts as handed out. Answers it.
+    fn hand_back(
+        &mut self,
+        finalization: Finalization<S, D>,
+    ) -> Result<Option<Finalization<S, D>>, Fault>
+        requires { IsVotable finalization.proposal.round.view }
+        ensures answer { IfOk result (λ answer.
+            option_map (finalization_facts S.certificate_bytes) answer ≡ Some (finalization_facts S.certificate_bytes finalization)) }
+        ensures counted { OnOk result (self.new ≡ with_finalization_broadcast self.old finalization.proposal.round.view) }
+        ensures refused { IfErr result (λ fault. fault ≡ OutOfMemory) }
+        ensures setup { HasSameSetup self.old self.new }
+    {
         let view = finalization.view();
-        let entry = Artifact::Finalization(finalization.clone(self.alloc)?);
-        let _added = self.accept_finalization(finalization, now, deadlines)?;
-        self.recall(view, &entry, None)?;
-        Ok(finalization_in(entry))
+        let entry = Artifact::Finalization(finalization);
+        match self.recall(view, &entry, None) {
+            Ok(()) => Ok(finalization_in(entry)),
+            Err(fault) => Err(fault),
+        }
     }
 }
 

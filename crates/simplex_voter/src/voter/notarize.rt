@@ -66,18 +66,15 @@ impl<S: CertificateScheme, L: Elector<S>, D: Digest> State<S, L, D> {
         let Some(proposal) = held else {
             return Ok(None);
         };
-        let Some(signer) = self.rounds.scheme().me() else {
-            return Ok(None);
-        };
-        let subject = Subject::Notarize(proposal);
-        let Some(signature) = self.rounds.scheme().sign(self.alloc, &subject)? else {
-            unreachable!()
-        };
-        Ok(Some(Notarize {
-            proposal,
-            signer,
-            signature,
-        }))
+        match self.sign(&Subject::Notarize(proposal)) {
+            Ok(Some((signer, signature))) => Ok(Some(Notarize {
+                proposal,
+                signer,
+                signature,
+            })),
+            Ok(None) => Ok(None),
+            Err(fault) => Err(fault),
+        }
     }
 
     /// Decides the vote to notarize a view, and answers what is voted for.

@@ -125,16 +125,8 @@ impl<S: CertificateScheme, L: Elector<S>, D: Digest> State<S, L, D> {
         let Some(request) = self.next_request() else {
             return Ok(None);
         };
-        self.ask_to_build(request.view());
+        self.rounds.ask_to_build(request.view());
         Ok(Some(request))
-    }
-
-    /// Sets the request to build a proposal in a view that is ready for it.
-    fn ask_to_build(&mut self, view: View)
-        requires { should_propose (round_of self.old view) ≡ true }
-        ensures { self.new ≡ with_build self.old view true }
-    {
-        self.rounds.ask_to_build(view);
     }
 
     /// The request of the lowest view ahead that has one.
@@ -143,16 +135,7 @@ impl<S: CertificateScheme, L: Elector<S>, D: Digest> State<S, L, D> {
         ensures answer { result ≡ propose_answer D.eq L.elect self.now }
         ensures ready { IfSome result (λ request. should_propose (round_of self.now (request_context request).round.view) ≡ true) }
     {
-        self.first_request(self.views_ahead())
-    }
-
-    /// The tracked views from the current one to the next term's start, by rising view.
-    fn views_ahead(&self) -> Entries<'_, Round<S, D>>
-        requires { 1 ≤ self.now.current }
-        ensures ahead { result ≡ views_ahead self.now }
-        ensures ordered { is_sorted nat_cmp self.now.rounds ≡ true }
-    {
-        self.views_within(self.current, self.last_ahead())
+        self.first_request(self.views_within(self.current, self.last_ahead()))
     }
 
     /// The tracked views from one view to another, by rising view.

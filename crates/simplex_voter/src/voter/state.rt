@@ -144,8 +144,12 @@ impl<S: CertificateScheme, L: Elector<S>, D: Digest> State<S, L, D> {
         ensures late { IsNone result ↔ IsTrue (has_late_deadline self.now now) }
         ensures moments { IfSome result (λ deadlines. deadlines ≡ deadlines_at self.now now) }
     {
-        let leader = now.checked_add(self.leader_timeout)?;
-        let certification = now.checked_add(self.certification_timeout)?;
+        let (Some(leader), Some(certification)) = (
+            now.checked_add(self.leader_timeout),
+            now.checked_add(self.certification_timeout),
+        ) else {
+            return None;
+        };
         let stall = match self.elector.terms().stall_timeout {
             Some(timeout) => Some(now.checked_add(timeout)?),
             None => None,

@@ -231,7 +231,7 @@ impl<S: CertificateScheme, L: Elector<S>, D: Digest> State<S, L, D> {
             self.unbind(view);
             return Ok(false);
         }
-        Ok(self.mark(view))
+        Ok(self.rounds.mark(view))
     }
 
     /// The application refused the proposal that was given out for a view, or could not verify it: the view times out at
@@ -261,14 +261,6 @@ impl<S: CertificateScheme, L: Elector<S>, D: Digest> State<S, L, D> {
             self.unbind(view);
         }
         Ok(())
-    }
-
-    /// Marks the held proposal of a view as verified, and answers whether it did.
-    fn mark(&mut self, view: View) -> bool
-        ensures first { result ≡ option_map_or (λ r. not (is_nullify r.decision) && is_unverified r.slot) (round_at self.old view) false }
-        ensures marked { self.new ≡ with_tracked self.old view (with_mark (round_of self.old view)) }
-    {
-        self.rounds.mark(view)
     }
 
     fn unbind(&mut self, view: View)

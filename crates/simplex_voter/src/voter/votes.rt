@@ -8,7 +8,8 @@ use super::state::State;
 use simplex_round::round::Decision;
 use simplex_types::reasons::TimeoutReason;
 use simplex_types::types::{
-    CertificateScheme, Digest, Elector, Fault, Finalize, Nullify, Proposal, Scheme, Subject, View,
+    CertificateScheme, Digest, Elector, Fault, Finalize, Nullify, Participant, Proposal, Scheme,
+    Subject, View,
 };
 
 impl<S: CertificateScheme, L: Elector<S>, D: Digest> State<S, L, D> {
@@ -19,6 +20,7 @@ impl<S: CertificateScheme, L: Elector<S>, D: Digest> State<S, L, D> {
     ghost use Rattle.simplex_voter.specs.Votes.{nullify_answer, nullify_cast, after_construct_nullify, IsSignedNullify};
     ghost use Rattle.simplex_voter.specs.Votes.{finalize_answer, signed_proposal, finalize_cast, after_construct_finalize, IsSignedFinalize};
     ghost use Rattle.simplex_voter.specs.Refusals.{HasFailed, plain_refusal, is_started};
+    ghost use Rattle.simplex_types.specs.Signing.{IsSignedAs};
     ghost use Rattle.std.specs.Ordering.{nat_cmp};
     ghost use Rattle.std.specs.BTreeSet.{insert_key};
     ghost use Rattle.simplex_round.specs.Round.{is_nullify, after_nullify, can_finalize};
@@ -70,12 +72,9 @@ impl<S: CertificateScheme, L: Elector<S>, D: Digest> State<S, L, D> {
         ensures setup { HasSameSetup self.old self.new }
     {
         self.decide_nullify(view)?;
-        let Some(signer) = self.rounds.scheme().me() else {
-            return Ok(None);
-        };
         let subject = Subject::Nullify(self.round_number(view));
-        let Some(signature) = self.rounds.scheme().sign(self.alloc, &subject)? else {
-            unreachable!()
+        let Some((signer, signature)) = self.sign(&subject)? else {
+            return Ok(None);
         };
         self.note_nullify_vote(view)?;
         Ok(Some(Nullify {
@@ -83,6 +82,28 @@ impl<S: CertificateScheme, L: Elector<S>, D: Digest> State<S, L, D> {
             signer,
             signature,
         }))
+    }
+
+    /// Signs a vote as this member, where there is a key.
+    pub(super) fn sign(
+        &self,
+        subject: &Subject<D>,
+    ) -> Result<Option<(Participant, S::Signature)>, Fault>
+    where
+        S: Scheme<D>,
+        ensures keyed { IfOk result (λ signed. is_some signed ≡ is_some self.now.me) }
+        ensures signer { IfOk result (λ signed. IfSome signed (λ s. self.now.me ≡ Some s.0)) }
+        ensures signed { IfOk result (λ signed. IfSome signed (λ s. IsSignedAs S.IsSignature self.now.me self.now.members subject.now s.1)) }
+        ensures refused { IfErr result (λ fault. fault ≡ OutOfMemory) }
+    {
+        let scheme = self.rounds.scheme();
+        let Some(signer) = scheme.me() else {
+            return Ok(None);
+        };
+        let Some(signature) = scheme.sign(self.alloc, subject)? else {
+            unreachable!()
+        };
+        Ok(Some((signer, signature)))
     }
 
     /// This member's vote to nullify a view is out.
@@ -168,18 +189,15 @@ impl<S: CertificateScheme, L: Elector<S>, D: Digest> State<S, L, D> {
         let Some(proposal) = self.decide_finalize(view) else {
             return Ok(None);
         };
-        let Some(signer) = self.rounds.scheme().me() else {
-            return Ok(None);
-        };
-        let subject = Subject::Finalize(proposal);
-        let Some(signature) = self.rounds.scheme().sign(self.alloc, &subject)? else {
-            unreachable!()
-        };
-        Ok(Some(Finalize {
-            proposal,
-            signer,
-            signature,
-        }))
+        match self.sign(&Subject::Finalize(proposal)) {
+            Ok(Some((signer, signature))) => Ok(Some(Finalize {
+                proposal,
+                signer,
+                signature,
+            })),
+            Ok(None) => Ok(None),
+            Err(fault) => Err(fault),
+        }
     }
 
     /// Decides the vote to finalize a view, and answers what is voted for.

@@ -1,5 +1,6 @@
-use Rattle.std.proofs.Common.{◌∙◌}
+use Rattle.std.proofs.Common.{ap, ◌∙◌}
 use Rattle.simplex_types.specs.Certificates.{finalization_facts}
+use Rattle.simplex_voter.specs.Leaders.{with_window_leaders}
 use Rattle.simplex_voter.proofs.Accepting.{finalization_stays_added, finalized_again, finalized_first}
 use Rattle.simplex_voter.proofs.Sliding.{same_setup_joins}
 use Rattle.simplex_voter.proofs.voter.state.State.accept_finalization.Goals as goal
@@ -24,7 +25,7 @@ pub returns-clause-accepted : goal.returns-clause-accepted
 returns-clause-accepted g c =
     let facts = finalization_facts g.S.CertificateScheme.certificate_bytes c.args.finalization in
     finalized_first g.D.PartialEq.eq g.L.Elector.elect c.args.self.now c.pass.new.self c.keep_finalization.new.self facts c.view-view.result c.args.now
-    c.view-view.ensures c.in_ok-pass.ensures.passed c.in_ok-added.added c.in_ok-added.ensures.added c.in_ok-added.ensures.kept c.if-not-added.false _ c.in_ok-open_above.ensures.opened
+    c.view-view.ensures c.in_ok-pass.ensures.passed c.in_ok-added.added c.in_ok-added.ensures.added c.in_ok-added.ensures.kept c.if-not-added.false _ (c.in_ok-slide.ensures.slid ∙ ap (λ w. with_window_leaders w c.view-view.result) c.in_ok-wake.ensures.woken)
 
 pub returns-in_err-added-clause-setup : goal.returns-in_err-added-clause-setup
 returns-in_err-added-clause-setup g c = same_setup_joins _ _ _ c.pass.ensures.setup c.keep_finalization.ensures.setup
@@ -32,8 +33,11 @@ returns-in_err-added-clause-setup g c = same_setup_joins _ _ _ c.pass.ensures.se
 pub returns-then-not-added-clause-setup : goal.returns-then-not-added-clause-setup
 returns-then-not-added-clause-setup g c = same_setup_joins _ _ _ c.pass.ensures.setup c.keep_finalization.ensures.setup
 
-pub returns-in_err-open_above-clause-setup : goal.returns-in_err-open_above-clause-setup
-returns-in_err-open_above-clause-setup g c = same_setup_joins _ _ _ (same_setup_joins _ _ _ c.pass.ensures.setup c.keep_finalization.ensures.setup) c.open_above.ensures.setup
+pub returns-in_err-wake-clause-setup : goal.returns-in_err-wake-clause-setup
+returns-in_err-wake-clause-setup g c = same_setup_joins _ _ _ (same_setup_joins _ _ _ c.pass.ensures.setup c.keep_finalization.ensures.setup) c.wake.ensures.setup
+
+pub returns-in_err-slide-clause-setup : goal.returns-in_err-slide-clause-setup
+returns-in_err-slide-clause-setup g c = same_setup_joins _ _ _ (same_setup_joins _ _ _ (same_setup_joins _ _ _ c.pass.ensures.setup c.keep_finalization.ensures.setup) c.wake.ensures.setup) c.slide.ensures.setup
 
 pub returns-clause-setup : goal.returns-clause-setup
-returns-clause-setup g c = same_setup_joins _ _ _ (same_setup_joins _ _ _ c.pass.ensures.setup c.keep_finalization.ensures.setup) c.open_above.ensures.setup
+returns-clause-setup g c = same_setup_joins _ _ _ (same_setup_joins _ _ _ (same_setup_joins _ _ _ c.pass.ensures.setup c.keep_finalization.ensures.setup) c.wake.ensures.setup) c.slide.ensures.setup

@@ -1,5 +1,24 @@
+use Rattle.std.proofs.Common.{refl, ap, sym, length, ◌∙◌}
+use Rattle.simplex_voter.proofs.Shown.{where_true, same_setup}
 use Rattle.simplex_voter.proofs.Faults.{failed_now}
+use Rattle.simplex_voter.specs.Rounds.{is_tracked}
 use Rattle.simplex_voter.proofs.voter.state.State.broadcast_nullification.Goals as goal
 
+pub invariant_of-self : goal.invariant_of-self
+invariant_of-self g c = record {
+  in_range = c.self.invariant.in_range;
+  nullified = c.self.invariant.nullified;
+  nullify_votes = c.self.invariant.nullify_votes;
+  elector = c.self.invariant.elector ∙ ap length (sym c.hand_out_nullification.ensures.origin.members);
+}
+
+pub returns-in-Ok-clause-answer : goal.returns-in-Ok-clause-answer
+returns-in-Ok-clause-answer g c = rw (← c.self.view_is) c.in-Ok.ensures.answer
+
+pub returns-in-Ok-clause-after : goal.returns-in-Ok-clause-after
+returns-in-Ok-clause-after g c = rw (← c.self.view_is) (where_true _ _ c.self.view_is (is_tracked c.self.inside.rounds c.args.view) _ _ c.self.inside.rounds c.in-Ok.ensures.handed_out refl)
+
 pub returns-in-Err-clause-out_of_memory : goal.returns-in-Err-clause-out_of_memory
-returns-in-Err-clause-out_of_memory g c none = (c.in-Err.ensures.refused, failed_now _ _ _ c.in-Err.ensures.setup c.fail.ensures)
+returns-in-Err-clause-out_of_memory g c none =
+    let origin = c.hand_out_nullification.ensures.origin in
+    (c.in-Err.ensures.refused, failed_now _ _ _ (same_setup _ _ c.self.view_is _ origin.me origin.members origin.epoch) c.fail.ensures)

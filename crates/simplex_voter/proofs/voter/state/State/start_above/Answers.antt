@@ -1,21 +1,29 @@
-use Rattle.std.proofs.Common.{ap, ◌∙◌}
-use Rattle.simplex_types.specs.Certificates.{finalization_facts}
+use Rattle.std.proofs.Common.{ℕ, Result, Ok, Err, OnOk, IfOk, Some, option_map, ◌≡◌, ap, sym, subst, ◌∙◌}
+use Rattle.simplex_types.specs.Terms.{IsVotable}
+use Rattle.simplex_types.specs.Certificates.{ProposalFacts, finalization_facts}
+use Rattle.simplex_voter.specs.Facts.{StateFacts}
 use Rattle.simplex_voter.specs.Acceptance.{after_add_finalization, with_finalization_broadcast}
-use Rattle.simplex_voter.proofs.Entering.{votable_tracked}
 use Rattle.simplex_voter.proofs.Sliding.{same_setup_joins}
 use Rattle.simplex_voter.proofs.voter.state.State.start_above.Goals as goal
 
-pub recall-requires-clause-in_range : goal.recall-requires-clause-in_range
-recall-requires-clause-in_range g c = votable_tracked c.view-view.result _ c.view-view.ensures c.requires.votable
+-- the copy is of the same view, and what was kept before is what is known of it
+started_at : {K L D A E : Type 0} (r : Result A E) (n y z : StateFacts K L D) (v w : ℕ) → OnOk r (n ≡ with_finalization_broadcast y v) → y ≡ z → v ≡ w → OnOk r (n ≡ with_finalization_broadcast z w)
+started_at (Ok a) n y z v w counted accepted same = counted ∙ ap (λ x. with_finalization_broadcast x v) accepted ∙ ap (with_finalization_broadcast z) same
+started_at (Err e) n y z v w counted accepted same = counted
 
-pub returns-in_err-recall-clause-setup : goal.returns-in_err-recall-clause-setup
-returns-in_err-recall-clause-setup g c = same_setup_joins _ _ _ c.in_ok-_added.ensures.setup c.recall.ensures.setup
+pub hand_back-requires : goal.hand_back-requires
+hand_back-requires g c = subst IsVotable (sym (ap (λ (f : ProposalFacts _). f.proposal.round.view) c.in_ok-copy.ensures.same)) c.requires.votable
 
-pub returns-clause-setup : goal.returns-clause-setup
-returns-clause-setup g c = same_setup_joins _ _ _ c.in_ok-_added.ensures.setup c.recall.ensures.setup
+pub returns-in-Ok-clause-setup : goal.returns-in-Ok-clause-setup
+returns-in-Ok-clause-setup g c = same_setup_joins _ _ _ c.in-Ok.ensures.setup c.hand_back.ensures.setup
 
-pub returns-clause-started : goal.returns-clause-started
-returns-clause-started g c =
-    let facts = finalization_facts g.S.CertificateScheme.certificate_bytes c.args.finalization in
-    c.in_ok-recall.ensures.recalled ∙ ap (λ w. with_finalization_broadcast w c.view-view.result) c.in_ok-_added.ensures.accepted
-    ∙ ap (with_finalization_broadcast (after_add_finalization g.D.PartialEq.eq g.L.Elector.elect c.args.self.now facts c.args.now)) c.view-view.ensures
+pub returns-in-Ok-clause-answer : goal.returns-in-Ok-clause-answer
+returns-in-Ok-clause-answer g c =
+    let bytes_of = g.S.CertificateScheme.certificate_bytes in
+    subst (λ (f : ProposalFacts _). IfOk c.hand_back.result (λ answer. option_map (finalization_facts bytes_of) answer ≡ Some f)) c.in_ok-copy.ensures.same c.hand_back.ensures.answer
+
+pub returns-in-Ok-clause-started : goal.returns-in-Ok-clause-started
+returns-in-Ok-clause-started g c =
+    let after = after_add_finalization g.D.PartialEq.eq g.L.Elector.elect c.args.self.now (finalization_facts g.S.CertificateScheme.certificate_bytes c.args.finalization) c.args.now in
+    let same : c.in_ok-copy.copy.proposal.round.view ≡ c.args.finalization.proposal.round.view = ap (λ (f : ProposalFacts _). f.proposal.round.view) c.in_ok-copy.ensures.same in
+    started_at c.hand_back.result c.hand_back.new.self c.accept_finalization.new.self after c.in_ok-copy.copy.proposal.round.view c.args.finalization.proposal.round.view c.hand_back.ensures.counted c.in-Ok.ensures.accepted same

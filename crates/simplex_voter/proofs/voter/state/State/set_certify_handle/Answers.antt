@@ -1,7 +1,7 @@
 use Rattle.std.proofs.Common.{refl, ap, sym, length, ◌∙◌}
 use Rattle.simplex_voter.proofs.Shown.{where_true}
 use Rattle.simplex_voter.specs.Rounds.{is_tracked}
-use Rattle.simplex_voter.proofs.voter.state.State.set_handle.Goals as goal
+use Rattle.simplex_voter.proofs.voter.state.State.set_certify_handle.Goals as goal
 
 pub invariant_of-self : goal.invariant_of-self
 invariant_of-self g c = record {
@@ -11,5 +11,5 @@ invariant_of-self g c = record {
   elector = c.self.invariant.elector ∙ ap length (sym c.set_certify_handle.ensures.origin.members);
 }
 
-pub returns : goal.returns
-returns g c = rw (← c.self.view_is) (where_true _ _ c.self.view_is (is_tracked c.self.inside.rounds c.args.view) _ _ c.self.inside.rounds c.set_certify_handle.ensures.set refl)
+pub returns-clause-after : goal.returns-clause-after
+returns-clause-after g c = rw (← c.self.view_is) (where_true _ _ c.self.view_is (is_tracked c.self.inside.rounds c.args.view) _ _ c.self.inside.rounds c.set_certify_handle.ensures.set refl)

@@ -1,0 +1,5 @@
+use Rattle.simplex_voter.proofs.Entering.{votable_tracked}
+use Rattle.simplex_voter.proofs.voter.state.State.hand_back.Goals as goal
+
+pub recall-requires-clause-in_range : goal.recall-requires-clause-in_range
+recall-requires-clause-in_range g c = votable_tracked c.view-view.result _ c.view-view.ensures c.requires
