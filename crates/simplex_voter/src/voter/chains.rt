@@ -89,7 +89,7 @@ impl<S: CertificateScheme, L: Elector<S>, D: Digest> State<S, L, D> {
         ensures { result ≡ basis_of L.elect self.now view round.now }
     {
         if round.is_directly_notarized() {
-            return Some(Basis::Certain(self.unrefused_payload(view, round)?));
+            return self.unrefused_payload(view, round).map(Basis::Certain);
         }
         let proposal = self.served_proposal(view, next, round)?;
         Some(Basis::Vote(proposal, bound_payload(round)))

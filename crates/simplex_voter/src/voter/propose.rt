@@ -59,7 +59,7 @@ impl<D: Digest, P: Copy> Viewable for ProposalRequest<D, P> {
 
 impl<S: CertificateScheme, L: Elector<S>, D: Digest> State<S, L, D> {
     ghost use Rattle.simplex_voter.specs.Refusals.{plain_refusal, is_started};
-    ghost use Rattle.simplex_voter.specs.Proposing.{after_release, parent_certified, voted_nullify, context_on, request_on, request_in, propose_answer, after_try_propose, with_build, request_context, views_within, views_ahead};
+    ghost use Rattle.simplex_voter.specs.Proposing.{after_release, parent_certified, voted_nullify, context_on, request_on, request_in, propose_answer, after_try_propose, request_context, views_within};
     ghost use Rattle.std.specs.Ordering.{nat_cmp};
     ghost use Rattle.std.specs.FinMap.Entries.{is_sorted};
     ghost use Rattle.simplex_types.specs.Terms.{next_term_start};
@@ -201,16 +201,14 @@ impl<S: CertificateScheme, L: Elector<S>, D: Digest> State<S, L, D> {
     ) -> Option<ProposalRequest<D, S::PublicKey>>
         ensures { result ≡ request_on D.eq self.now view round.now parent }
     {
-        let handoff = self.is_start(view) && !self.parent_certified(parent);
-        if handoff && self.voted_nullify(self.current) {
+        let context = self.context_on(view, parent, round.leader()?);
+        if !self.is_start(view) || self.parent_certified(parent) {
+            return Some(ProposalRequest::Propose(context));
+        }
+        if self.voted_nullify(self.current) {
             return None;
         }
-        let context = self.context_on(view, parent, round.leader()?);
-        if handoff {
-            Some(ProposalRequest::Prepare(context))
-        } else {
-            Some(ProposalRequest::Propose(context))
-        }
+        Some(ProposalRequest::Prepare(context))
     }
 
     fn context_on(

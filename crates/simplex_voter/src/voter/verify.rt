@@ -1,12 +1,10 @@
 //! The proposals of other leaders: how each stands, which one is verified next or what is lacking, and what came of those that
 //! were given out.
 
-ghost use Rattle.std.specs.Prelude.{◌≡◌, ◌≤◌, ◌+◌, ◌<◌, ◌^◌, IfSome, IfOk, OnOk, Err, None, true, is_some, option_map, slice_get, if◌then◌else◌, ◌&&◌, not, false};
-ghost use Rattle.simplex_voter.specs.Verifying.{unless_asked, with_request, verifying_round, with_mark};
+ghost use Rattle.std.specs.Prelude.{◌≡◌, ◌≤◌, ◌+◌, ◌<◌, ◌^◌, IfSome, IfOk, OnOk, Err, None, true, is_some, option_map, slice_get, if◌then◌else◌};
+ghost use Rattle.simplex_voter.specs.Verifying.{unless_asked, with_request, verifying_round};
 ghost use Rattle.std.specs.Result.{IsOk};
-ghost use Rattle.simplex_round.specs.Round.{pending_proposal, is_nullify};
-ghost use Rattle.std.specs.Option.{option_map_or};
-ghost use Rattle.simplex_round.specs.Slot.{is_unverified};
+ghost use Rattle.simplex_round.specs.Round.{pending_proposal};
 
 use super::state::State;
 use simplex_round::round::{Leader, Round};
@@ -65,7 +63,7 @@ impl<S: CertificateScheme, L: Elector<S>, D: Digest> State<S, L, D> {
     ghost use Rattle.std.specs.Ordering.{nat_cmp};
     ghost use Rattle.std.specs.FinMap.Entries.{is_sorted};
     ghost use Rattle.simplex_types.specs.Terms.{next_term_start};
-    ghost use Rattle.simplex_voter.specs.Facts.{round_of, with_tracked, is_tracked, round_at};
+    ghost use Rattle.simplex_voter.specs.Facts.{round_of, with_tracked, is_tracked};
     ghost use Rattle.simplex_voter.specs.Refusals.{plain_refusal, is_started};
     ghost use Rattle.simplex_voter.specs.Proposing.{views_within};
 
