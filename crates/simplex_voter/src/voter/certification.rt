@@ -90,7 +90,7 @@ impl<S: CertificateScheme, L: Elector<S>, D: Digest> State<S, L, D> {
         ensures refused { IfErr result (λ fault. fault ≡ OutOfMemory) }
         ensures setup { HasSameSetup self.old self.new }
     {
-        let next = self.after_notarized(view);
+        let next = self.rounds.after_notarized(view);
         self.note_moment(now);
         self.judge(view, success);
         if !success {
@@ -111,16 +111,7 @@ impl<S: CertificateScheme, L: Elector<S>, D: Digest> State<S, L, D> {
         if !success {
             return Some(Deadlines::none());
         }
-        self.deadlines_to(self.after_notarized(view), now)
-    }
-
-    /// The view after a notarized one.
-    fn after_notarized(&self, view: View) -> View
-        requires { is_some (certified_answer self.now view) ≡ true }
-        ensures next { result ≡ view + 1 }
-        ensures in_range { view < 2 ^ 63 }
-    {
-        self.rounds.after_notarized(view)
+        self.deadlines_to(self.rounds.after_notarized(view), now)
     }
 
     /// A copy of the view's notarization, if it is there.
