@@ -41,22 +41,18 @@ impl<S: CertificateScheme, L: Elector<S>, D: Digest> State<S, L, D> {
         ensures refused { IfErr result (λ fault. fault ≡ OutOfMemory) }
     {
         if let Some(finalization) = self.finalization(view) {
-            return match finalization.clone(self.alloc) {
-                Ok(copy) => Ok(Some(Certificate::Finalization(copy))),
-                Err(fault) => Err(fault),
-            };
+            let copy = finalization.clone(self.alloc)?;
+            return Ok(Some(Certificate::Finalization(copy)));
         }
         if let Some(nullification) = self.entry_nullification(view) {
-            return match nullification.clone(self.alloc) {
-                Ok(copy) => Ok(Some(Certificate::Nullification(copy))),
-                Err(fault) => Err(fault),
-            };
+            let copy = nullification.clone(self.alloc)?;
+            return Ok(Some(Certificate::Nullification(copy)));
         }
         match self.notarization(view) {
-            Some(notarization) => match notarization.clone(self.alloc) {
-                Ok(copy) => Ok(Some(Certificate::Notarization(copy))),
-                Err(fault) => Err(fault),
-            },
+            Some(notarization) => {
+                let copy = notarization.clone(self.alloc)?;
+                Ok(Some(Certificate::Notarization(copy)))
+            }
             None => Ok(None),
         }
     }
