@@ -36,38 +36,32 @@ pub(super) fn build<S: CertificateScheme, L: Elector<S>, D: Digest>(
     ensures refused { IfErr result (EndsCall (asked S.certificate_bytes call) state.old state.new) }
 {
     match call {
-        Call::TryPropose => {
-            let request = state.try_propose().map_err(CallError::Refused)?;
-            Ok(Reply::Request(request))
-        }
+        Call::TryPropose => match state.try_propose() {
+            Ok(request) => Ok(Reply::Request(request)),
+            Err(fault) => Err(CallError::Refused(fault)),
+        },
         Call::Proposed(view, payload, now) => {
-            let context = context_of(openings, view);
-            let recorded = state
-                .proposed(context, payload, now)
-                .map_err(CallError::Refused)?;
-            Ok(Reply::Flag(recorded))
+            match state.proposed(context_of(openings, view), payload, now) {
+                Ok(recorded) => Ok(Reply::Flag(recorded)),
+                Err(fault) => Err(CallError::Refused(fault)),
+            }
         }
         Call::SupersedeProposalRequest(view) => {
-            let context = context_of(openings, view);
-            let superseded = state
-                .supersede_proposal_request(context)
-                .map_err(CallError::Refused)?;
-            Ok(Reply::Flag(superseded))
+            match state.supersede_proposal_request(context_of(openings, view)) {
+                Ok(superseded) => Ok(Reply::Flag(superseded)),
+                Err(fault) => Err(CallError::Refused(fault)),
+            }
         }
         Call::PendingHandoffAbandonment(view) => {
-            let context = context_of(openings, view);
-            let reason = state
-                .pending_handoff_abandonment(context)
-                .map_err(CallError::Refused)?;
-            Ok(Reply::Abandoned(reason))
+            match state.pending_handoff_abandonment(context_of(openings, view)) {
+                Ok(reason) => Ok(Reply::Abandoned(reason)),
+                Err(fault) => Err(CallError::Refused(fault)),
+            }
         }
-        Call::ReleaseProposalRequest(view) => {
-            let was_open = openings.has_context(view);
-            state
-                .release_proposal_request(view)
-                .map_err(CallError::Refused)?;
-            Ok(Reply::Released(was_open))
-        }
+        Call::ReleaseProposalRequest(view) => match state.release_proposal_request(view) {
+            Ok(()) => Ok(Reply::Released(openings.has_context(view))),
+            Err(fault) => Err(CallError::Refused(fault)),
+        },
         _ => unreachable!(),
     }
 }

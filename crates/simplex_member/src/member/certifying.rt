@@ -39,19 +39,19 @@ pub(super) fn certify<S: CertificateScheme, L: Elector<S>, D: Digest>(
         ≡ entries_of S.certificate_bytes artifacts.old.items) }
 {
     match call {
-        Call::CertifyCandidates => {
-            let candidates = state.certify_candidates().map_err(CallError::of)?;
-            Ok(Reply::Candidates(candidates.0, candidates.1))
-        }
-        Call::SetCertifyHandle(view, token) => {
-            state
-                .set_certify_handle(view, token)
-                .map_err(CallError::Refused)?;
-            Ok(Reply::Unit)
-        }
+        Call::CertifyCandidates => match state.certify_candidates() {
+            Ok(candidates) => Ok(Reply::Candidates(candidates.0, candidates.1)),
+            Err(fault) => Err(CallError::of(fault)),
+        },
+        Call::SetCertifyHandle(view, token) => match state.set_certify_handle(view, token) {
+            Ok(()) => Ok(Reply::Unit),
+            Err(fault) => Err(CallError::Refused(fault)),
+        },
         Call::Certified(view, success, now) => {
-            let notarization = parts::certified(state, artifacts, view, success, now)?;
-            Ok(Reply::Certified(success, notarization))
+            match parts::certified(state, artifacts, view, success, now) {
+                Ok(notarization) => Ok(Reply::Certified(success, notarization)),
+                Err(error) => Err(error),
+            }
         }
         _ => unreachable!(),
     }

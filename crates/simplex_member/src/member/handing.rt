@@ -34,26 +34,26 @@ pub(super) fn hand_out<S: CertificateScheme, L: Elector<S>, D: Digest>(
     ensures refused { IfErr result (EndsCall (asked S.certificate_bytes call) state.old state.new) }
 {
     match call {
-        Call::BroadcastNotarization(view) => {
-            let certificate = broadcast_notarization(state, view)?;
-            Ok(Reply::Certificate(certificate))
-        }
-        Call::BroadcastNullification(view) => {
-            let certificate = broadcast_nullification(state, view)?;
-            Ok(Reply::Certificate(certificate))
-        }
-        Call::BroadcastFinalization(view) => {
-            let certificate = broadcast_finalization(state, view)?;
-            Ok(Reply::Certificate(certificate))
-        }
-        Call::GetBestCertificate => {
-            let certificate = state.get_best_certificate().map_err(CallError::Refused)?;
-            Ok(Reply::Certificate(certificate))
-        }
-        Call::Prune => {
-            let views = state.prune().map_err(CallError::of)?;
-            Ok(Reply::Views(views))
-        }
+        Call::BroadcastNotarization(view) => match broadcast_notarization(state, view) {
+            Ok(certificate) => Ok(Reply::Certificate(certificate)),
+            Err(error) => Err(error),
+        },
+        Call::BroadcastNullification(view) => match broadcast_nullification(state, view) {
+            Ok(certificate) => Ok(Reply::Certificate(certificate)),
+            Err(error) => Err(error),
+        },
+        Call::BroadcastFinalization(view) => match broadcast_finalization(state, view) {
+            Ok(certificate) => Ok(Reply::Certificate(certificate)),
+            Err(error) => Err(error),
+        },
+        Call::GetBestCertificate => match state.get_best_certificate() {
+            Ok(certificate) => Ok(Reply::Certificate(certificate)),
+            Err(fault) => Err(CallError::Refused(fault)),
+        },
+        Call::Prune => match state.prune() {
+            Ok(views) => Ok(Reply::Views(views)),
+            Err(fault) => Err(CallError::of(fault)),
+        },
         _ => unreachable!(),
     }
 }
@@ -71,10 +71,10 @@ fn broadcast_notarization<S: CertificateScheme, L: Elector<S>, D: Digest>(
     ensures refused { IfErr result (Ends (is_some (broadcast_notarization_answer state.old view)) (is_some (broadcast_notarization_answer state.old view))
         (plain_refusal state.old) state.old state.new) }
 {
-    let notarization = state.broadcast_notarization(view).map_err(CallError::of)?;
-    match notarization {
-        Some(notarization) => Ok(Some(Certificate::Notarization(notarization))),
-        None => Ok(None),
+    match state.broadcast_notarization(view) {
+        Ok(Some(notarization)) => Ok(Some(Certificate::Notarization(notarization))),
+        Ok(None) => Ok(None),
+        Err(fault) => Err(CallError::of(fault)),
     }
 }
 
@@ -91,10 +91,10 @@ fn broadcast_nullification<S: CertificateScheme, L: Elector<S>, D: Digest>(
     ensures refused { IfErr result (Ends (is_some (broadcast_nullification_answer state.old view)) (is_some (broadcast_nullification_answer state.old view))
         (plain_refusal state.old) state.old state.new) }
 {
-    let nullification = state.broadcast_nullification(view).map_err(CallError::of)?;
-    match nullification {
-        Some(nullification) => Ok(Some(Certificate::Nullification(nullification))),
-        None => Ok(None),
+    match state.broadcast_nullification(view) {
+        Ok(Some(nullification)) => Ok(Some(Certificate::Nullification(nullification))),
+        Ok(None) => Ok(None),
+        Err(fault) => Err(CallError::of(fault)),
     }
 }
 
@@ -111,9 +111,9 @@ fn broadcast_finalization<S: CertificateScheme, L: Elector<S>, D: Digest>(
     ensures refused { IfErr result (Ends (is_some (broadcast_finalization_answer state.old view)) (is_some (broadcast_finalization_answer state.old view))
         (plain_refusal state.old) state.old state.new) }
 {
-    let finalization = state.broadcast_finalization(view).map_err(CallError::of)?;
-    match finalization {
-        Some(finalization) => Ok(Some(Certificate::Finalization(finalization))),
-        None => Ok(None),
+    match state.broadcast_finalization(view) {
+        Ok(Some(finalization)) => Ok(Some(Certificate::Finalization(finalization))),
+        Ok(None) => Ok(None),
+        Err(fault) => Err(CallError::of(fault)),
     }
 }

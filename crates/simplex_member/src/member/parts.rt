@@ -20,8 +20,8 @@ ghost use Rattle.simplex_member.specs.declared.member.serving.Family.TheVariants
 use super::call_error::CallError;
 use super::calls::{Call, Reply};
 use simplex_types::types::{
-    Artifact, CertificateScheme, Digest, Elector, Finalization, Notarization, Nullification, Round,
-    View,
+    Artifact, CertificateScheme, Digest, Elector, Fault, Finalization, Notarization, Nullification,
+    Round, View,
 };
 use simplex_voter::voter::State;
 use std::alloc::Global;
@@ -50,16 +50,22 @@ pub(super) fn take<S: CertificateScheme, L: Elector<S>, D: Digest>(
 {
     match call {
         Call::AddNotarization(notarization) => {
-            let added = add_notarization(alloc, state, artifacts, notarization)?;
-            Ok(Reply::Added(added.0, added.1))
+            match add_notarization(alloc, state, artifacts, notarization) {
+                Ok(added) => Ok(Reply::Added(added.0, added.1)),
+                Err(error) => Err(error),
+            }
         }
         Call::AddNullification(nullification, now) => {
-            let added = add_nullification(alloc, state, artifacts, nullification, now)?;
-            Ok(Reply::AddedNullification(added))
+            match add_nullification(alloc, state, artifacts, nullification, now) {
+                Ok(added) => Ok(Reply::AddedNullification(added)),
+                Err(error) => Err(error),
+            }
         }
         Call::AddFinalization(finalization, now) => {
-            let added = add_finalization(alloc, state, artifacts, finalization, now)?;
-            Ok(Reply::Added(added.0, added.1))
+            match add_finalization(alloc, state, artifacts, finalization, now) {
+                Ok(added) => Ok(Reply::Added(added.0, added.1)),
+                Err(error) => Err(error),
+            }
         }
         _ => unreachable!(),
     }
@@ -116,10 +122,16 @@ fn add_notarization<S: CertificateScheme, L: Elector<S>, D: Digest>(
     ensures same_record { OnErr result (entries_of S.certificate_bytes artifacts.new.items ≡ entries_of S.certificate_bytes artifacts.old.items) }
 {
     artifacts.reserve(1)?;
-    let copy = notarization.clone(alloc).map_err(CallError::Refused)?;
-    let added = state.add_notarization(notarization).map_err(CallError::of)?;
-    keep_new(artifacts, added.0, Artifact::Notarization(copy));
-    Ok(added)
+    let Ok(copy) = notarization.clone(alloc) else {
+        return Err(CallError::Refused(Fault::OutOfMemory));
+    };
+    match state.add_notarization(notarization) {
+        Ok(added) => {
+            keep_new(artifacts, added.0, Artifact::Notarization(copy));
+            Ok(added)
+        }
+        Err(fault) => Err(CallError::of(fault)),
+    }
 }
 
 /// Adds a nullification, and records it where it is the first of its view.
@@ -143,12 +155,16 @@ fn add_nullification<S: CertificateScheme, L: Elector<S>, D: Digest>(
     ensures same_record { OnErr result (entries_of S.certificate_bytes artifacts.new.items ≡ entries_of S.certificate_bytes artifacts.old.items) }
 {
     artifacts.reserve(1)?;
-    let copy = nullification.clone(alloc).map_err(CallError::Refused)?;
-    let added = state
-        .add_nullification(nullification, now)
-        .map_err(CallError::of)?;
-    keep_new(artifacts, added, Artifact::Nullification(copy));
-    Ok(added)
+    let Ok(copy) = nullification.clone(alloc) else {
+        return Err(CallError::Refused(Fault::OutOfMemory));
+    };
+    match state.add_nullification(nullification, now) {
+        Ok(added) => {
+            keep_new(artifacts, added, Artifact::Nullification(copy));
+            Ok(added)
+        }
+        Err(fault) => Err(CallError::of(fault)),
+    }
 }
 
 /// Adds a finalization, and records it where it is the first of its view.
@@ -172,12 +188,16 @@ fn add_finalization<S: CertificateScheme, L: Elector<S>, D: Digest>(
     ensures same_record { OnErr result (entries_of S.certificate_bytes artifacts.new.items ≡ entries_of S.certificate_bytes artifacts.old.items) }
 {
     artifacts.reserve(1)?;
-    let copy = finalization.clone(alloc).map_err(CallError::Refused)?;
-    let added = state
-        .add_finalization(finalization, now)
-        .map_err(CallError::of)?;
-    keep_new(artifacts, added.0, Artifact::Finalization(copy));
-    Ok(added)
+    let Ok(copy) = finalization.clone(alloc) else {
+        return Err(CallError::Refused(Fault::OutOfMemory));
+    };
+    match state.add_finalization(finalization, now) {
+        Ok(added) => {
+            keep_new(artifacts, added.0, Artifact::Finalization(copy));
+            Ok(added)
+        }
+        Err(fault) => Err(CallError::of(fault)),
+    }
 }
 
 /// Gives a verdict, and records it where it is the first of a tracked view.
@@ -204,7 +224,11 @@ pub(super) fn certified<S: CertificateScheme, L: Elector<S>, D: Digest>(
         epoch: state.epoch(),
         view,
     };
-    let answer = state.certified(view, success, now).map_err(CallError::of)?;
-    keep_new(artifacts, is_first, Artifact::Certification(round, success));
-    Ok(answer)
+    match state.certified(view, success, now) {
+        Ok(answer) => {
+            keep_new(artifacts, is_first, Artifact::Certification(round, success));
+            Ok(answer)
+        }
+        Err(fault) => Err(CallError::of(fault)),
+    }
 }

@@ -35,15 +35,15 @@ pub(super) fn time<S: CertificateScheme, L: Elector<S>, D: Digest>(
 {
     match call {
         Call::TriggerTimeout(view, reason, now) => {
-            let latched = state
-                .trigger_timeout(view, reason, now)
-                .map_err(CallError::Refused)?;
-            Ok(Reply::Triggered(latched))
+            match state.trigger_timeout(view, reason, now) {
+                Ok(latched) => Ok(Reply::Triggered(latched)),
+                Err(fault) => Err(CallError::Refused(fault)),
+            }
         }
-        Call::NextTimeout(now) => {
-            let timeout = state.next_timeout(now).map_err(CallError::Refused)?;
-            Ok(Reply::Timeout(timeout.0, timeout.1))
-        }
+        Call::NextTimeout(now) => match state.next_timeout(now) {
+            Ok(timeout) => Ok(Reply::Timeout(timeout.0, timeout.1)),
+            Err(fault) => Err(CallError::Refused(fault)),
+        },
         _ => unreachable!(),
     }
 }

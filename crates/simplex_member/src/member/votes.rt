@@ -3,7 +3,6 @@
 //! A vote is recorded before it is handed out: the state counts as lost until it is.
 
 ghost use Rattle.std.specs.Prelude.{◌≡◌, ◌<◌, ◌++◌, Option, Some, None, Bool, true, false, IfOk, IfErr, OnOk, OnErr, IfSome, vec_len, vec_capacity};
-ghost use Rattle.simplex_types.specs.declared.types.fault.Fault.TheVariants.{OutOfMemory};
 ghost use Rattle.simplex_voter.specs.Refusals.{plain_refusal, is_started};
 ghost use Rattle.simplex_voter.specs.Votes.{after_construct_notarize, after_construct_nullify, after_construct_finalize};
 ghost use Rattle.simplex_member.specs.Entries.{entries_of};
@@ -12,6 +11,7 @@ ghost use Rattle.simplex_member.specs.Allowed.{fault_of};
 ghost use Rattle.simplex_member.specs.Made.{notarize_vote, nullify_vote, finalize_vote, first_vote, vote_entry, answer, after_call, recorded_by};
 ghost use Rattle.simplex_member.specs.Parts.{EndsBy, family_of, EndsCall};
 ghost use Rattle.simplex_member.specs.Openings.{no_openings};
+ghost use Rattle.simplex_member.specs.declared.member.call_error.CallError.TheVariants.{Lost};
 ghost use Rattle.simplex_member.specs.declared.member.serving.Family.TheVariants.{Votes};
 ghost use Rattle.simplex_member.specs.Signed.{IsSignedReply, signatures_of, notarize_signature, nullify_signature, finalize_signature};
 ghost use Rattle.simplex_types.specs.Signing.{IsSignedAs};
@@ -22,7 +22,7 @@ use super::calls::{Call, Reply};
 use super::parts::keep;
 use simplex_types::reasons::TimeoutReason;
 use simplex_types::types::{
-    Artifact, CertificateScheme, Digest, Elector, Fault, Finalize, Notarize, Nullify, Scheme, View,
+    Artifact, CertificateScheme, Digest, Elector, Finalize, Notarize, Nullify, Scheme, View,
 };
 use simplex_voter::voter::State;
 use std::alloc::Global;
@@ -49,89 +49,91 @@ pub(super) fn vote<S: Scheme<D>, L: Elector<S>, D: Digest>(
         ≡ entries_of S.certificate_bytes artifacts.old.items) }
 {
     match call {
-        Call::ConstructNotarize(view) => {
-            let vote = construct_notarize(alloc, state, artifacts, view)?;
-            Ok(Reply::Notarize(vote))
-        }
+        Call::ConstructNotarize(view) => match construct_notarize(alloc, state, artifacts, view) {
+            Ok(vote) => Ok(Reply::Notarize(vote)),
+            Err(error) => Err(error),
+        },
         Call::ConstructNullify(view, reason) => {
-            let vote = construct_nullify(alloc, state, artifacts, view, reason)?;
-            Ok(Reply::Nullify(vote))
+            match construct_nullify(alloc, state, artifacts, view, reason) {
+                Ok(vote) => Ok(Reply::Nullify(vote)),
+                Err(error) => Err(error),
+            }
         }
-        Call::ConstructFinalize(view) => {
-            let vote = construct_finalize(alloc, state, artifacts, view)?;
-            Ok(Reply::Finalize(vote))
-        }
+        Call::ConstructFinalize(view) => match construct_finalize(alloc, state, artifacts, view) {
+            Ok(vote) => Ok(Reply::Finalize(vote)),
+            Err(error) => Err(error),
+        },
         _ => unreachable!(),
     }
 }
 
-/// Records a vote that is no repeat.
+/// Records a vote that is no repeat before it is handed out.
 fn keep_nullify<S: CertificateScheme, D: Digest>(
     alloc: Global,
     artifacts: &mut Vec<Artifact<S, D>>,
-    vote: &Option<(bool, Nullify<S>)>,
-) -> Result<(), Fault>
+    vote: Option<(bool, Nullify<S>)>,
+) -> Result<Option<(bool, Nullify<S>)>, CallError>
     requires { vec_len artifacts.old < vec_capacity artifacts.old }
+    ensures same { IfOk result (λ kept. kept ≡ vote) }
     ensures kept { OnOk result (entries_of S.certificate_bytes artifacts.new.items
-        ≡ entries_of S.certificate_bytes artifacts.old.items ++ first_vote (told_nullify vote.now)) }
-    ensures signature { OnOk result (signatures_of artifacts.new.items ≡ signatures_of artifacts.old.items ++ nullify_signature vote.now) }
+        ≡ entries_of S.certificate_bytes artifacts.old.items ++ first_vote (told_nullify vote)) }
+    ensures signature { OnOk result (signatures_of artifacts.new.items ≡ signatures_of artifacts.old.items ++ nullify_signature vote) }
     ensures same_record { OnErr result (entries_of S.certificate_bytes artifacts.new.items ≡ entries_of S.certificate_bytes artifacts.old.items) }
-    ensures out_of_memory { IfErr result (λ fault. fault ≡ OutOfMemory) }
+    ensures lost { IfErr result (λ error. error ≡ Lost) }
 {
-    match vote {
-        Some((false, vote)) => {
-            let copy = vote.clone(alloc)?;
-            keep(artifacts, Artifact::Nullify(copy));
-            Ok(())
-        }
-        _ => Ok(()),
+    if let Some((false, first)) = &vote {
+        let Ok(copy) = first.clone(alloc) else {
+            return Err(CallError::Lost);
+        };
+        keep(artifacts, Artifact::Nullify(copy));
     }
+    Ok(vote)
 }
 
-/// Records a vote to notarize.
+/// Records a vote to notarize before it is handed out.
 fn keep_notarize<S: CertificateScheme, D: Digest>(
     alloc: Global,
     artifacts: &mut Vec<Artifact<S, D>>,
-    vote: &Option<Notarize<S, D>>,
-) -> Result<(), Fault>
+    vote: Option<Notarize<S, D>>,
+) -> Result<Option<Notarize<S, D>>, CallError>
     requires { vec_len artifacts.old < vec_capacity artifacts.old }
+    ensures same { IfOk result (λ kept. kept ≡ vote) }
     ensures kept { OnOk result (entries_of S.certificate_bytes artifacts.new.items
-        ≡ entries_of S.certificate_bytes artifacts.old.items ++ vote_entry (told_notarize vote.now)) }
-    ensures signature { OnOk result (signatures_of artifacts.new.items ≡ signatures_of artifacts.old.items ++ notarize_signature vote.now) }
+        ≡ entries_of S.certificate_bytes artifacts.old.items ++ vote_entry (told_notarize vote)) }
+    ensures signature { OnOk result (signatures_of artifacts.new.items ≡ signatures_of artifacts.old.items ++ notarize_signature vote) }
     ensures same_record { OnErr result (entries_of S.certificate_bytes artifacts.new.items ≡ entries_of S.certificate_bytes artifacts.old.items) }
-    ensures out_of_memory { IfErr result (λ fault. fault ≡ OutOfMemory) }
+    ensures lost { IfErr result (λ error. error ≡ Lost) }
 {
-    match vote {
-        Some(vote) => {
-            let copy = vote.clone(alloc)?;
-            keep(artifacts, Artifact::Notarize(copy));
-            Ok(())
-        }
-        None => Ok(()),
+    if let Some(cast) = &vote {
+        let Ok(copy) = cast.clone(alloc) else {
+            return Err(CallError::Lost);
+        };
+        keep(artifacts, Artifact::Notarize(copy));
     }
+    Ok(vote)
 }
 
-/// Records a vote to finalize.
+/// Records a vote to finalize before it is handed out.
 fn keep_finalize<S: CertificateScheme, D: Digest>(
     alloc: Global,
     artifacts: &mut Vec<Artifact<S, D>>,
-    vote: &Option<Finalize<S, D>>,
-) -> Result<(), Fault>
+    vote: Option<Finalize<S, D>>,
+) -> Result<Option<Finalize<S, D>>, CallError>
     requires { vec_len artifacts.old < vec_capacity artifacts.old }
+    ensures same { IfOk result (λ kept. kept ≡ vote) }
     ensures kept { OnOk result (entries_of S.certificate_bytes artifacts.new.items
-        ≡ entries_of S.certificate_bytes artifacts.old.items ++ vote_entry (told_finalize vote.now)) }
-    ensures signature { OnOk result (signatures_of artifacts.new.items ≡ signatures_of artifacts.old.items ++ finalize_signature vote.now) }
+        ≡ entries_of S.certificate_bytes artifacts.old.items ++ vote_entry (told_finalize vote)) }
+    ensures signature { OnOk result (signatures_of artifacts.new.items ≡ signatures_of artifacts.old.items ++ finalize_signature vote) }
     ensures same_record { OnErr result (entries_of S.certificate_bytes artifacts.new.items ≡ entries_of S.certificate_bytes artifacts.old.items) }
-    ensures out_of_memory { IfErr result (λ fault. fault ≡ OutOfMemory) }
+    ensures lost { IfErr result (λ error. error ≡ Lost) }
 {
-    match vote {
-        Some(vote) => {
-            let copy = vote.clone(alloc)?;
-            keep(artifacts, Artifact::Finalize(copy));
-            Ok(())
-        }
-        None => Ok(()),
+    if let Some(cast) = &vote {
+        let Ok(copy) = cast.clone(alloc) else {
+            return Err(CallError::Lost);
+        };
+        keep(artifacts, Artifact::Finalize(copy));
     }
+    Ok(vote)
 }
 
 /// Votes to nullify a view, and records the vote before it is handed out.
@@ -155,11 +157,10 @@ fn construct_nullify<S: Scheme<D>, L: Elector<S>, D: Digest>(
     ensures same_record { OnErr result (entries_of S.certificate_bytes artifacts.new.items ≡ entries_of S.certificate_bytes artifacts.old.items) }
 {
     artifacts.reserve(1)?;
-    let vote = state
-        .construct_nullify(view, reason)
-        .map_err(CallError::of)?;
-    keep_nullify(alloc, artifacts, &vote).map_err(CallError::of)?;
-    Ok(vote)
+    match state.construct_nullify(view, reason) {
+        Ok(vote) => keep_nullify(alloc, artifacts, vote),
+        Err(fault) => Err(CallError::of(fault)),
+    }
 }
 
 /// Votes to notarize a view, and records the vote before it is handed out.
@@ -182,9 +183,10 @@ fn construct_notarize<S: Scheme<D>, L: Elector<S>, D: Digest>(
     ensures same_record { OnErr result (entries_of S.certificate_bytes artifacts.new.items ≡ entries_of S.certificate_bytes artifacts.old.items) }
 {
     artifacts.reserve(1)?;
-    let vote = state.construct_notarize(view).map_err(CallError::of)?;
-    keep_notarize(alloc, artifacts, &vote).map_err(CallError::of)?;
-    Ok(vote)
+    match state.construct_notarize(view) {
+        Ok(vote) => keep_notarize(alloc, artifacts, vote),
+        Err(fault) => Err(CallError::of(fault)),
+    }
 }
 
 /// Votes to finalize a view, and records the vote before it is handed out.
@@ -207,7 +209,8 @@ fn construct_finalize<S: Scheme<D>, L: Elector<S>, D: Digest>(
     ensures same_record { OnErr result (entries_of S.certificate_bytes artifacts.new.items ≡ entries_of S.certificate_bytes artifacts.old.items) }
 {
     artifacts.reserve(1)?;
-    let vote = state.construct_finalize(view).map_err(CallError::of)?;
-    keep_finalize(alloc, artifacts, &vote).map_err(CallError::of)?;
-    Ok(vote)
+    match state.construct_finalize(view) {
+        Ok(vote) => keep_finalize(alloc, artifacts, vote),
+        Err(fault) => Err(CallError::of(fault)),
+    }
 }

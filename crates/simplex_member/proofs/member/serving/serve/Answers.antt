@@ -1,11 +1,8 @@
-use Rattle.std.proofs.Common.{◌≡◌, sym, subst, ap, ◌∙◌, false, IfOk, OnOk}
-use Rattle.std.proofs.lemmas.Result.{IfOk-weaker}
-use Rattle.simplex_voter.specs.Facts.{StateFacts}
-use Rattle.simplex_member.specs.Calls.{Told, told, asked}
+use Rattle.std.proofs.Common.{sym, ap, ◌∙◌}
+use Rattle.simplex_member.specs.Calls.{asked}
 use Rattle.simplex_member.specs.Entries.{entries_of}
-use Rattle.simplex_member.specs.Signed.{IsSignedReply, is_vote_reply}
 use Rattle.simplex_member.proofs.Answering.{allowed_ready}
-use Rattle.simplex_member.proofs.Serving.{is_building, answered_alike, left_alike, unsigned, nothing_recorded, same_record}
+use Rattle.simplex_member.proofs.Serving.{is_building, told_alike, after_alike, unsigned_result, nothing_recorded, same_record}
 use Rattle.simplex_member.proofs.member.serving.serve.Goals as goal
 
 pub take-requires-clause-family : goal.take-requires-clause-family
@@ -18,22 +15,13 @@ pub returns-in-Certificates-clause-due : goal.returns-in-Certificates-clause-due
 returns-in-Certificates-clause-due g c = c.take.ensures.due
 
 pub returns-in-Certificates-clause-answer : goal.returns-in-Certificates-clause-answer
-returns-in-Certificates-clause-answer g c =
-    let bytes_of = g.S.CertificateScheme.certificate_bytes in
-    let alike = answered_alike g.D.PartialEq.eq g.L.Elector.elect bytes_of c.args.state.now c.args.openings.now.open_now c.args.call (ap is_building (sym c.of.ensures ∙ c.in-Certificates.is)) in
-    subst (λ (t : Told _ _). IfOk c.take.result (λ reply. told bytes_of reply ≡ t)) (sym alike) c.take.ensures.answer
+returns-in-Certificates-clause-answer g c = told_alike g.D.PartialEq.eq g.L.Elector.elect g.S.CertificateScheme.certificate_bytes c.args.state.now c.args.openings.now.open_now c.args.call c.take.result (ap is_building (sym c.of.ensures ∙ c.in-Certificates.is)) c.take.ensures.answer
 
 pub returns-in-Certificates-clause-after : goal.returns-in-Certificates-clause-after
-returns-in-Certificates-clause-after g c =
-    let bytes_of = g.S.CertificateScheme.certificate_bytes in
-    let alike = left_alike g.D.PartialEq.eq g.L.Elector.elect bytes_of c.args.state.now c.args.openings.now.open_now c.args.call (ap is_building (sym c.of.ensures ∙ c.in-Certificates.is)) in
-    subst (λ (y : StateFacts _ _ _). OnOk c.take.result (c.take.new.state ≡ y)) (sym alike) c.take.ensures.after
+returns-in-Certificates-clause-after g c = after_alike g.D.PartialEq.eq g.L.Elector.elect g.S.CertificateScheme.certificate_bytes c.args.state.now c.args.openings.now.open_now c.args.call c.take.result c.take.new.state (ap is_building (sym c.of.ensures ∙ c.in-Certificates.is)) c.take.ensures.after
 
 pub returns-in-Certificates-clause-signed : goal.returns-in-Certificates-clause-signed
-returns-in-Certificates-clause-signed g c =
-    let bytes_of = g.S.CertificateScheme.certificate_bytes in
-    let sig = g.S.Scheme.IsSignature in
-    IfOk-weaker c.take.result (λ reply. is_vote_reply reply ≡ false) (λ reply. IsSignedReply sig reply c.args.state.now) (unsigned sig c.args.state.now) c.take.ensures.unsigned
+returns-in-Certificates-clause-signed g c = unsigned_result g.S.Scheme.IsSignature c.args.state.now c.take.result c.take.ensures.unsigned
 
 pub returns-in-Certificates-clause-recorded : goal.returns-in-Certificates-clause-recorded
 returns-in-Certificates-clause-recorded g c = c.take.ensures.recorded
@@ -57,15 +45,10 @@ pub returns-in-Proposals-clause-after : goal.returns-in-Proposals-clause-after
 returns-in-Proposals-clause-after g c = c.build.ensures.after
 
 pub returns-in-Proposals-clause-signed : goal.returns-in-Proposals-clause-signed
-returns-in-Proposals-clause-signed g c =
-    let bytes_of = g.S.CertificateScheme.certificate_bytes in
-    let sig = g.S.Scheme.IsSignature in
-    IfOk-weaker c.build.result (λ reply. is_vote_reply reply ≡ false) (λ reply. IsSignedReply sig reply c.args.state.now) (unsigned sig c.args.state.now) c.build.ensures.unsigned
+returns-in-Proposals-clause-signed g c = unsigned_result g.S.Scheme.IsSignature c.args.state.now c.build.result c.build.ensures.unsigned
 
 pub returns-in-Proposals-clause-recorded : goal.returns-in-Proposals-clause-recorded
-returns-in-Proposals-clause-recorded g c =
-    let bytes_of = g.S.CertificateScheme.certificate_bytes in
-    nothing_recorded c.build.result (entries_of bytes_of c.args.artifacts.now.items) _ c.build.ensures.unrecorded
+returns-in-Proposals-clause-recorded g c = nothing_recorded c.build.result (entries_of g.S.CertificateScheme.certificate_bytes c.args.artifacts.now.items) _ c.build.ensures.unrecorded
 
 pub returns-in-Proposals-clause-same_record : goal.returns-in-Proposals-clause-same_record
 returns-in-Proposals-clause-same_record g c = same_record c.build.result (entries_of g.S.CertificateScheme.certificate_bytes c.args.artifacts.now.items)
@@ -83,27 +66,16 @@ pub returns-in-Verifications-clause-due : goal.returns-in-Verifications-clause-d
 returns-in-Verifications-clause-due g c = c.verify.ensures.due
 
 pub returns-in-Verifications-clause-answer : goal.returns-in-Verifications-clause-answer
-returns-in-Verifications-clause-answer g c =
-    let bytes_of = g.S.CertificateScheme.certificate_bytes in
-    let alike = answered_alike g.D.PartialEq.eq g.L.Elector.elect bytes_of c.args.state.now c.args.openings.now.open_now c.args.call (ap is_building (sym c.of.ensures ∙ c.in-Verifications.is)) in
-    subst (λ (t : Told _ _). IfOk c.verify.result (λ reply. told bytes_of reply ≡ t)) (sym alike) c.verify.ensures.answer
+returns-in-Verifications-clause-answer g c = told_alike g.D.PartialEq.eq g.L.Elector.elect g.S.CertificateScheme.certificate_bytes c.args.state.now c.args.openings.now.open_now c.args.call c.verify.result (ap is_building (sym c.of.ensures ∙ c.in-Verifications.is)) c.verify.ensures.answer
 
 pub returns-in-Verifications-clause-after : goal.returns-in-Verifications-clause-after
-returns-in-Verifications-clause-after g c =
-    let bytes_of = g.S.CertificateScheme.certificate_bytes in
-    let alike = left_alike g.D.PartialEq.eq g.L.Elector.elect bytes_of c.args.state.now c.args.openings.now.open_now c.args.call (ap is_building (sym c.of.ensures ∙ c.in-Verifications.is)) in
-    subst (λ (y : StateFacts _ _ _). OnOk c.verify.result (c.verify.new.state ≡ y)) (sym alike) c.verify.ensures.after
+returns-in-Verifications-clause-after g c = after_alike g.D.PartialEq.eq g.L.Elector.elect g.S.CertificateScheme.certificate_bytes c.args.state.now c.args.openings.now.open_now c.args.call c.verify.result c.verify.new.state (ap is_building (sym c.of.ensures ∙ c.in-Verifications.is)) c.verify.ensures.after
 
 pub returns-in-Verifications-clause-signed : goal.returns-in-Verifications-clause-signed
-returns-in-Verifications-clause-signed g c =
-    let bytes_of = g.S.CertificateScheme.certificate_bytes in
-    let sig = g.S.Scheme.IsSignature in
-    IfOk-weaker c.verify.result (λ reply. is_vote_reply reply ≡ false) (λ reply. IsSignedReply sig reply c.args.state.now) (unsigned sig c.args.state.now) c.verify.ensures.unsigned
+returns-in-Verifications-clause-signed g c = unsigned_result g.S.Scheme.IsSignature c.args.state.now c.verify.result c.verify.ensures.unsigned
 
 pub returns-in-Verifications-clause-recorded : goal.returns-in-Verifications-clause-recorded
-returns-in-Verifications-clause-recorded g c =
-    let bytes_of = g.S.CertificateScheme.certificate_bytes in
-    nothing_recorded c.verify.result (entries_of bytes_of c.args.artifacts.now.items) _ c.verify.ensures.unrecorded
+returns-in-Verifications-clause-recorded g c = nothing_recorded c.verify.result (entries_of g.S.CertificateScheme.certificate_bytes c.args.artifacts.now.items) _ c.verify.ensures.unrecorded
 
 pub returns-in-Verifications-clause-same_record : goal.returns-in-Verifications-clause-same_record
 returns-in-Verifications-clause-same_record g c = same_record c.verify.result (entries_of g.S.CertificateScheme.certificate_bytes c.args.artifacts.now.items)
@@ -118,16 +90,10 @@ pub returns-in-Votes-clause-due : goal.returns-in-Votes-clause-due
 returns-in-Votes-clause-due g c = c.vote.ensures.due
 
 pub returns-in-Votes-clause-answer : goal.returns-in-Votes-clause-answer
-returns-in-Votes-clause-answer g c =
-    let bytes_of = g.S.CertificateScheme.certificate_bytes in
-    let alike = answered_alike g.D.PartialEq.eq g.L.Elector.elect bytes_of c.args.state.now c.args.openings.now.open_now c.args.call (ap is_building (sym c.of.ensures ∙ c.in-Votes.is)) in
-    subst (λ (t : Told _ _). IfOk c.vote.result (λ reply. told bytes_of reply ≡ t)) (sym alike) c.vote.ensures.answer
+returns-in-Votes-clause-answer g c = told_alike g.D.PartialEq.eq g.L.Elector.elect g.S.CertificateScheme.certificate_bytes c.args.state.now c.args.openings.now.open_now c.args.call c.vote.result (ap is_building (sym c.of.ensures ∙ c.in-Votes.is)) c.vote.ensures.answer
 
 pub returns-in-Votes-clause-after : goal.returns-in-Votes-clause-after
-returns-in-Votes-clause-after g c =
-    let bytes_of = g.S.CertificateScheme.certificate_bytes in
-    let alike = left_alike g.D.PartialEq.eq g.L.Elector.elect bytes_of c.args.state.now c.args.openings.now.open_now c.args.call (ap is_building (sym c.of.ensures ∙ c.in-Votes.is)) in
-    subst (λ (y : StateFacts _ _ _). OnOk c.vote.result (c.vote.new.state ≡ y)) (sym alike) c.vote.ensures.after
+returns-in-Votes-clause-after g c = after_alike g.D.PartialEq.eq g.L.Elector.elect g.S.CertificateScheme.certificate_bytes c.args.state.now c.args.openings.now.open_now c.args.call c.vote.result c.vote.new.state (ap is_building (sym c.of.ensures ∙ c.in-Votes.is)) c.vote.ensures.after
 
 pub returns-in-Votes-clause-signed : goal.returns-in-Votes-clause-signed
 returns-in-Votes-clause-signed g c = c.vote.ensures.signed
@@ -151,22 +117,13 @@ pub returns-in-Certifications-clause-due : goal.returns-in-Certifications-clause
 returns-in-Certifications-clause-due g c = c.certify.ensures.due
 
 pub returns-in-Certifications-clause-answer : goal.returns-in-Certifications-clause-answer
-returns-in-Certifications-clause-answer g c =
-    let bytes_of = g.S.CertificateScheme.certificate_bytes in
-    let alike = answered_alike g.D.PartialEq.eq g.L.Elector.elect bytes_of c.args.state.now c.args.openings.now.open_now c.args.call (ap is_building (sym c.of.ensures ∙ c.in-Certifications.is)) in
-    subst (λ (t : Told _ _). IfOk c.certify.result (λ reply. told bytes_of reply ≡ t)) (sym alike) c.certify.ensures.answer
+returns-in-Certifications-clause-answer g c = told_alike g.D.PartialEq.eq g.L.Elector.elect g.S.CertificateScheme.certificate_bytes c.args.state.now c.args.openings.now.open_now c.args.call c.certify.result (ap is_building (sym c.of.ensures ∙ c.in-Certifications.is)) c.certify.ensures.answer
 
 pub returns-in-Certifications-clause-after : goal.returns-in-Certifications-clause-after
-returns-in-Certifications-clause-after g c =
-    let bytes_of = g.S.CertificateScheme.certificate_bytes in
-    let alike = left_alike g.D.PartialEq.eq g.L.Elector.elect bytes_of c.args.state.now c.args.openings.now.open_now c.args.call (ap is_building (sym c.of.ensures ∙ c.in-Certifications.is)) in
-    subst (λ (y : StateFacts _ _ _). OnOk c.certify.result (c.certify.new.state ≡ y)) (sym alike) c.certify.ensures.after
+returns-in-Certifications-clause-after g c = after_alike g.D.PartialEq.eq g.L.Elector.elect g.S.CertificateScheme.certificate_bytes c.args.state.now c.args.openings.now.open_now c.args.call c.certify.result c.certify.new.state (ap is_building (sym c.of.ensures ∙ c.in-Certifications.is)) c.certify.ensures.after
 
 pub returns-in-Certifications-clause-signed : goal.returns-in-Certifications-clause-signed
-returns-in-Certifications-clause-signed g c =
-    let bytes_of = g.S.CertificateScheme.certificate_bytes in
-    let sig = g.S.Scheme.IsSignature in
-    IfOk-weaker c.certify.result (λ reply. is_vote_reply reply ≡ false) (λ reply. IsSignedReply sig reply c.args.state.now) (unsigned sig c.args.state.now) c.certify.ensures.unsigned
+returns-in-Certifications-clause-signed g c = unsigned_result g.S.Scheme.IsSignature c.args.state.now c.certify.result c.certify.ensures.unsigned
 
 pub returns-in-Certifications-clause-recorded : goal.returns-in-Certifications-clause-recorded
 returns-in-Certifications-clause-recorded g c = c.certify.ensures.recorded
@@ -184,27 +141,16 @@ pub returns-in-Servings-clause-due : goal.returns-in-Servings-clause-due
 returns-in-Servings-clause-due g c = c.hand_out.ensures.due
 
 pub returns-in-Servings-clause-answer : goal.returns-in-Servings-clause-answer
-returns-in-Servings-clause-answer g c =
-    let bytes_of = g.S.CertificateScheme.certificate_bytes in
-    let alike = answered_alike g.D.PartialEq.eq g.L.Elector.elect bytes_of c.args.state.now c.args.openings.now.open_now c.args.call (ap is_building (sym c.of.ensures ∙ c.in-Servings.is)) in
-    subst (λ (t : Told _ _). IfOk c.hand_out.result (λ reply. told bytes_of reply ≡ t)) (sym alike) c.hand_out.ensures.answer
+returns-in-Servings-clause-answer g c = told_alike g.D.PartialEq.eq g.L.Elector.elect g.S.CertificateScheme.certificate_bytes c.args.state.now c.args.openings.now.open_now c.args.call c.hand_out.result (ap is_building (sym c.of.ensures ∙ c.in-Servings.is)) c.hand_out.ensures.answer
 
 pub returns-in-Servings-clause-after : goal.returns-in-Servings-clause-after
-returns-in-Servings-clause-after g c =
-    let bytes_of = g.S.CertificateScheme.certificate_bytes in
-    let alike = left_alike g.D.PartialEq.eq g.L.Elector.elect bytes_of c.args.state.now c.args.openings.now.open_now c.args.call (ap is_building (sym c.of.ensures ∙ c.in-Servings.is)) in
-    subst (λ (y : StateFacts _ _ _). OnOk c.hand_out.result (c.hand_out.new.state ≡ y)) (sym alike) c.hand_out.ensures.after
+returns-in-Servings-clause-after g c = after_alike g.D.PartialEq.eq g.L.Elector.elect g.S.CertificateScheme.certificate_bytes c.args.state.now c.args.openings.now.open_now c.args.call c.hand_out.result c.hand_out.new.state (ap is_building (sym c.of.ensures ∙ c.in-Servings.is)) c.hand_out.ensures.after
 
 pub returns-in-Servings-clause-signed : goal.returns-in-Servings-clause-signed
-returns-in-Servings-clause-signed g c =
-    let bytes_of = g.S.CertificateScheme.certificate_bytes in
-    let sig = g.S.Scheme.IsSignature in
-    IfOk-weaker c.hand_out.result (λ reply. is_vote_reply reply ≡ false) (λ reply. IsSignedReply sig reply c.args.state.now) (unsigned sig c.args.state.now) c.hand_out.ensures.unsigned
+returns-in-Servings-clause-signed g c = unsigned_result g.S.Scheme.IsSignature c.args.state.now c.hand_out.result c.hand_out.ensures.unsigned
 
 pub returns-in-Servings-clause-recorded : goal.returns-in-Servings-clause-recorded
-returns-in-Servings-clause-recorded g c =
-    let bytes_of = g.S.CertificateScheme.certificate_bytes in
-    nothing_recorded c.hand_out.result (entries_of bytes_of c.args.artifacts.now.items) _ c.hand_out.ensures.unrecorded
+returns-in-Servings-clause-recorded g c = nothing_recorded c.hand_out.result (entries_of g.S.CertificateScheme.certificate_bytes c.args.artifacts.now.items) _ c.hand_out.ensures.unrecorded
 
 pub returns-in-Servings-clause-same_record : goal.returns-in-Servings-clause-same_record
 returns-in-Servings-clause-same_record g c = same_record c.hand_out.result (entries_of g.S.CertificateScheme.certificate_bytes c.args.artifacts.now.items)
@@ -222,27 +168,16 @@ pub returns-in-Timeouts-clause-due : goal.returns-in-Timeouts-clause-due
 returns-in-Timeouts-clause-due g c = c.time.ensures.due
 
 pub returns-in-Timeouts-clause-answer : goal.returns-in-Timeouts-clause-answer
-returns-in-Timeouts-clause-answer g c =
-    let bytes_of = g.S.CertificateScheme.certificate_bytes in
-    let alike = answered_alike g.D.PartialEq.eq g.L.Elector.elect bytes_of c.args.state.now c.args.openings.now.open_now c.args.call (ap is_building (sym c.of.ensures ∙ c.in-Timeouts.is)) in
-    subst (λ (t : Told _ _). IfOk c.time.result (λ reply. told bytes_of reply ≡ t)) (sym alike) c.time.ensures.answer
+returns-in-Timeouts-clause-answer g c = told_alike g.D.PartialEq.eq g.L.Elector.elect g.S.CertificateScheme.certificate_bytes c.args.state.now c.args.openings.now.open_now c.args.call c.time.result (ap is_building (sym c.of.ensures ∙ c.in-Timeouts.is)) c.time.ensures.answer
 
 pub returns-in-Timeouts-clause-after : goal.returns-in-Timeouts-clause-after
-returns-in-Timeouts-clause-after g c =
-    let bytes_of = g.S.CertificateScheme.certificate_bytes in
-    let alike = left_alike g.D.PartialEq.eq g.L.Elector.elect bytes_of c.args.state.now c.args.openings.now.open_now c.args.call (ap is_building (sym c.of.ensures ∙ c.in-Timeouts.is)) in
-    subst (λ (y : StateFacts _ _ _). OnOk c.time.result (c.time.new.state ≡ y)) (sym alike) c.time.ensures.after
+returns-in-Timeouts-clause-after g c = after_alike g.D.PartialEq.eq g.L.Elector.elect g.S.CertificateScheme.certificate_bytes c.args.state.now c.args.openings.now.open_now c.args.call c.time.result c.time.new.state (ap is_building (sym c.of.ensures ∙ c.in-Timeouts.is)) c.time.ensures.after
 
 pub returns-in-Timeouts-clause-signed : goal.returns-in-Timeouts-clause-signed
-returns-in-Timeouts-clause-signed g c =
-    let bytes_of = g.S.CertificateScheme.certificate_bytes in
-    let sig = g.S.Scheme.IsSignature in
-    IfOk-weaker c.time.result (λ reply. is_vote_reply reply ≡ false) (λ reply. IsSignedReply sig reply c.args.state.now) (unsigned sig c.args.state.now) c.time.ensures.unsigned
+returns-in-Timeouts-clause-signed g c = unsigned_result g.S.Scheme.IsSignature c.args.state.now c.time.result c.time.ensures.unsigned
 
 pub returns-in-Timeouts-clause-recorded : goal.returns-in-Timeouts-clause-recorded
-returns-in-Timeouts-clause-recorded g c =
-    let bytes_of = g.S.CertificateScheme.certificate_bytes in
-    nothing_recorded c.time.result (entries_of bytes_of c.args.artifacts.now.items) _ c.time.ensures.unrecorded
+returns-in-Timeouts-clause-recorded g c = nothing_recorded c.time.result (entries_of g.S.CertificateScheme.certificate_bytes c.args.artifacts.now.items) _ c.time.ensures.unrecorded
 
 pub returns-in-Timeouts-clause-same_record : goal.returns-in-Timeouts-clause-same_record
 returns-in-Timeouts-clause-same_record g c = same_record c.time.result (entries_of g.S.CertificateScheme.certificate_bytes c.args.artifacts.now.items)
