@@ -18,7 +18,6 @@ pub mod Allowing
 pub mod Remaking
 pub mod GoingCalls
 pub mod Answering
-pub mod Adding
 pub mod Serving
 pub mod Settings
 pub mod Typed

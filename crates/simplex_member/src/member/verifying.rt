@@ -34,23 +34,23 @@ pub(super) fn verify<S: CertificateScheme, L: Elector<S>, D: Digest>(
     ensures refused { IfErr result (EndsCall (asked S.certificate_bytes call) state.old state.new) }
 {
     match call {
-        Call::SetProposal(view, proposal) => {
-            let is_new = state.set_proposal(view, &proposal).map_err(CallError::of)?;
-            Ok(Reply::Flag(is_new))
-        }
-        Call::TryVerify => {
-            let verify = state.try_verify().map_err(CallError::Refused)?;
-            Ok(Reply::Work(verify))
-        }
-        Call::Verified(view) => {
-            let marked = state.verified(view).map_err(CallError::Refused)?;
-            Ok(Reply::Flag(marked))
-        }
+        Call::SetProposal(view, proposal) => match state.set_proposal(view, &proposal) {
+            Ok(is_new) => Ok(Reply::Flag(is_new)),
+            Err(fault) => Err(CallError::of(fault)),
+        },
+        Call::TryVerify => match state.try_verify() {
+            Ok(verify) => Ok(Reply::Work(verify)),
+            Err(fault) => Err(CallError::Refused(fault)),
+        },
+        Call::Verified(view) => match state.verified(view) {
+            Ok(marked) => Ok(Reply::Flag(marked)),
+            Err(fault) => Err(CallError::Refused(fault)),
+        },
         Call::VerificationFailed(view, reason, now) => {
-            state
-                .verification_failed(view, reason, now)
-                .map_err(CallError::Refused)?;
-            Ok(Reply::Unit)
+            match state.verification_failed(view, reason, now) {
+                Ok(()) => Ok(Reply::Unit),
+                Err(fault) => Err(CallError::Refused(fault)),
+            }
         }
         _ => unreachable!(),
     }
