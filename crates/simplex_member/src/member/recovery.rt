@@ -36,19 +36,31 @@ fn add<S: CertificateScheme, L: Elector<S>, D: Digest>(
 {
     match artifact {
         Artifact::Notarization(notarization) => {
-            let copy = notarization.clone(alloc)?;
-            let _added = state.add_notarization(copy)?;
-            Ok(())
+            let Ok(copy) = notarization.clone(alloc) else {
+                return Err(Fault::OutOfMemory);
+            };
+            match state.add_notarization(copy) {
+                Ok(_) => Ok(()),
+                Err(fault) => Err(fault),
+            }
         }
         Artifact::Nullification(nullification) => {
-            let copy = nullification.clone(alloc)?;
-            let _added = state.add_nullification(copy, now)?;
-            Ok(())
+            let Ok(copy) = nullification.clone(alloc) else {
+                return Err(Fault::OutOfMemory);
+            };
+            match state.add_nullification(copy, now) {
+                Ok(_) => Ok(()),
+                Err(fault) => Err(fault),
+            }
         }
         Artifact::Finalization(finalization) => {
-            let copy = finalization.clone(alloc)?;
-            let _added = state.add_finalization(copy, now)?;
-            Ok(())
+            let Ok(copy) = finalization.clone(alloc) else {
+                return Err(Fault::OutOfMemory);
+            };
+            match state.add_finalization(copy, now) {
+                Ok(_) => Ok(()),
+                Err(fault) => Err(fault),
+            }
         }
         Artifact::Notarize(_)
         | Artifact::Nullify(_)
