@@ -16,7 +16,7 @@ use Rattle.simplex_round.specs.Round.{RoundFacts, new_round, leader_at, with_rec
 use Rattle.simplex_types.specs.declared.types.messages.Proposal.{Proposal}
 use Rattle.simplex_types.specs.Certificates.{ProposalFacts}
 use Rattle.simplex_round.specs.declared.round.Leader.{Leader}
-use Rattle.simplex_voter.specs.Rounds.{RoundsFacts, round_at, round_of, round_number, is_tracked, with_round, with_change, with_change_in_place, largest_tracked, is_settled, IsKept, AreKept}
+use Rattle.simplex_voter.specs.Rounds.{RoundsFacts, round_at, round_of, round_number, is_tracked, with_round, with_change, with_change_in_place, largest_tracked, is_explicit, IsKept, AreKept}
 use Rattle.simplex_voter.proofs.Containers.{entries-insert}
 use Rattle.simplex_voter.proofs.RoundsKept.{find_entries, insert-same}
 use Rattle.simplex_voter.proofs.Alike.{IsAlike, IsAlikeBut}
@@ -45,7 +45,7 @@ raised_above : (may : Bool) (h v : ℕ) → h ≤ cond may (max h v) h
 raised_above true h v = grind arith
 raised_above false h v = omega arith
 
--- where a view may settle, the bound is raised to it
+-- where a view may become explicit, the bound is raised to it
 pub raised_to : (may : Bool) (h v new : ℕ) → new ≡ cond may (max h v) h → may ≡ true → v ≤ new
 raised_to true h v new is may = rw is (grind arith)
 raised_to false h v new is never = absurd (false≢true never)
@@ -93,7 +93,7 @@ module _ {K D : Type 0} (x : RoundsFacts K D) where
     pub untouched : (v : ℕ) (change : RoundFacts K D → RoundFacts K D) → None ≡ map.get m v → x ≡ with_change_in_place x v change
     untouched v change none = sym (ap (λ b. cond b (with_change x v change) x) (ap is_some (found_at v ∙ sym none)))
 
-  -- what is kept of each round, as far as some view settled
+  -- what is kept of each round, as far as some view is explicit
   pub kept_put : {h : ℕ} → AreKept h x → (v : ℕ) (r : RoundFacts K D) → IsKept h x v r → AreKept h (with_round x v r)
   kept_put {h} kept v r here q s found = elim (cases_eq q v) [
     | inl at ↦
@@ -103,44 +103,44 @@ module _ {K D : Type 0} (x : RoundsFacts K D) where
   ]
     where
       on : IsKept h x q s → IsKept h (with_round x v r) q s
-      on k = record { me = k.me; members = k.members; round = k.round; in_range = k.in_range; notarized = k.notarized; leader = k.leader; settled = k.settled }
+      on k = record { me = k.me; members = k.members; round = k.round; in_range = k.in_range; notarized = k.notarized; leader = k.leader; explicit = k.explicit }
 
-  -- a change that may settle the view, where that is not above
-  pub settled_kept : {h : ℕ} {may : Bool} (v : ℕ) (r s : RoundFacts K D) → IsKept h x v r → (may ≡ true → v ≤ h) → IsAlikeBut may r s → IsKept h x v s
-  settled_kept v r s k not_above alike = record {
+  -- a change that may make the view explicit, where that is not above
+  pub explicit_kept : {h : ℕ} {may : Bool} (v : ℕ) (r s : RoundFacts K D) → IsKept h x v r → (may ≡ true → v ≤ h) → IsAlikeBut may r s → IsKept h x v s
+  explicit_kept v r s k not_above alike = record {
     me = alike.me ∙ k.me;
     members = alike.members ∙ k.members;
     round = alike.round ∙ k.round;
     in_range = k.in_range;
     notarized = λ some. k.notarized (ap is_some (sym alike.notarization) ∙ some);
     leader = subst (λ l. IfSome l (λ l. l.idx < length x.members)) (sym alike.leader) k.leader;
-    settled = λ is. elim (alike.settled is) [
-      | inl was ↦ k.settled was
+    explicit = λ is. elim (alike.explicit is) [
+      | inl was ↦ k.explicit was
       | inr may ↦ not_above may
     ];
   }
 
   pub alike_kept : {h : ℕ} (v : ℕ) (r s : RoundFacts K D) → IsKept h x v r → IsAlike r s → IsKept h x v s
-  alike_kept v r s k alike = settled_kept v r s k (λ never. absurd (false≢true never)) alike
+  alike_kept v r s k alike = explicit_kept v r s k (λ never. absurd (false≢true never)) alike
 
-  -- a higher view may have settled
+  -- a higher view may be explicit
   higher_kept : {h : ℕ} (higher : ℕ) → h ≤ higher → AreKept h x → AreKept higher x
   higher_kept higher above kept v r found =
       let k = kept v r found in
-      record { me = k.me; members = k.members; round = k.round; in_range = k.in_range; notarized = k.notarized; leader = k.leader; settled = λ is. omega (arith, k.settled is, above) }
+      record { me = k.me; members = k.members; round = k.round; in_range = k.in_range; notarized = k.notarized; leader = k.leader; explicit = λ is. omega (arith, k.explicit is, above) }
 
   pub raised_kept : {h : ℕ} (may : Bool) (v new : ℕ) → new ≡ cond may (max h v) h → AreKept h x → AreKept new x
   raised_kept {h} may v new is kept = higher_kept new (rw is (raised_above may h v)) kept
 
-  pub unsettled_above : {h : ℕ} → AreKept h x → (v : ℕ) (r : RoundFacts K D) → h < v → round_at x v ≡ Some r → is_settled r ≡ false
-  unsettled_above {h} kept v r above found = by_test (is_settled r) refl
+  pub none_explicit_above : {h : ℕ} → AreKept h x → (v : ℕ) (r : RoundFacts K D) → h < v → round_at x v ≡ Some r → is_explicit r ≡ false
+  none_explicit_above {h} kept v r above found = by_test (is_explicit r) refl
     where
-      by_test : (b : Bool) → is_settled r ≡ b → b ≡ false
-      by_test true is = absurd (omega (arith, (kept v r found).settled is, above))
+      by_test : (b : Bool) → is_explicit r ≡ b → b ≡ false
+      by_test true is = absurd (omega (arith, (kept v r found).explicit is, above))
       by_test false is = refl
 
   pub fresh_kept : {h : ℕ} (v : ℕ) → v ≤ largest_tracked → IsKept h x v (new_round x.me x.members (round_number x v))
-  fresh_kept v within = record { me = refl; members = refl; round = refl; in_range = within; notarized = λ some. absurd (false≢true some); leader = tt; settled = λ some. absurd (false≢true some) }
+  fresh_kept v within = record { me = refl; members = refl; round = refl; in_range = within; notarized = λ some. absurd (false≢true some); leader = tt; explicit = λ some. absurd (false≢true some) }
 
   -- a leader is a member
   pub leader_member : {h : ℕ} → AreKept h x → (v : ℕ) (r : RoundFacts K D) (l : Leader K) → Some r ≡ round_at x v → Some l ≡ r.leader → l.idx < length x.members
@@ -163,12 +163,12 @@ module _ {K D : Type 0} (x : RoundsFacts K D) where
       where
         by_kept : (b : Bool) → IsKept h x v (cond b r (record (with_recovered same r c.proposal) { notarization = Some c }))
         by_kept true = kept_at v r here
-        by_kept false = let k = kept_at v r here in record { me = k.me; members = k.members; round = k.round; in_range = k.in_range; notarized = λ some. votable; leader = k.leader; settled = k.settled }
+        by_kept false = let k = kept_at v r here in record { me = k.me; members = k.members; round = k.round; in_range = k.in_range; notarized = λ some. votable; leader = k.leader; explicit = k.explicit }
 
     pub kept_led : (v member : ℕ) (r s : RoundFacts K D) → member < length x.members → Some r ≡ map.get m v → s ≡ record r { leader = leader_at r.members member } → AreKept h (record x { by_view = map.entries (map.insert m v s) })
     kept_led v member r s within here is =
         let k = kept_at v r here in
-        kept_insert v s (rw is (record { me = k.me; members = k.members; round = k.round; in_range = k.in_range; notarized = k.notarized; leader = by_key (slice_get r.members member); settled = k.settled }))
+        kept_insert v s (rw is (record { me = k.me; members = k.members; round = k.round; in_range = k.in_range; notarized = k.notarized; leader = by_key (slice_get r.members member); explicit = k.explicit }))
       where
         by_key : (key : Option K) → IfSome (option_map (λ k. record { idx = member; key = k }) key) (λ (l : Leader K). l.idx < length x.members)
         by_key None = tt
@@ -182,9 +182,9 @@ module _ {K D : Type 0} (x : RoundsFacts K D) where
     pub kept_changed : (v : ℕ) (r s : RoundFacts K D) → Some r ≡ map.get m v → IsAlike r s → AreKept h (record x { by_view = map.entries (map.insert m v s) })
     kept_changed v r s here alike = kept_insert v s (alike_kept v r s (kept_at v r here) alike)
 
-    -- and may settle
-    pub kept_settled : {may : Bool} (v : ℕ) (r s : RoundFacts K D) → (may ≡ true → v ≤ h) → Some r ≡ map.get m v → IsAlikeBut may r s → AreKept h (record x { by_view = map.entries (map.insert m v s) })
-    kept_settled v r s not_above here alike = kept_insert v s (settled_kept v r s (kept_at v r here) not_above alike)
+    -- and may make it explicit
+    pub kept_explicit : {may : Bool} (v : ℕ) (r s : RoundFacts K D) → (may ≡ true → v ≤ h) → Some r ≡ map.get m v → IsAlikeBut may r s → AreKept h (record x { by_view = map.entries (map.insert m v s) })
+    kept_explicit v r s not_above here alike = kept_insert v s (explicit_kept v r s (kept_at v r here) not_above alike)
 
 -- after a view is tracked: y is what is known then
 module _ {K D : Type 0} (x y : RoundsFacts K D) (v : ℕ) (tracked : y ≡ with_round x v (round_of x v)) (m : map.FinMap nat_cmp (RoundFacts K D)) (shown : y.by_view ≡ map.entries m) where
@@ -225,7 +225,7 @@ pub left_kept : {K D : Type 0} {h : ℕ} (x : RoundsFacts K D) (m : map.FinMap n
 left_kept {K} {D} {h} x m shown v n is kept q r found = on (by_test (leb v q) (sym (get-kept m (λ u. leb v u) q) ∙ ap (λ k. map.get k q) (sym is) ∙ sym (find_entries n q) ∙ found))
   where
     on : IsKept h x q r → IsKept h (record x { by_view = map.entries n }) q r
-    on k = record { me = k.me; members = k.members; round = k.round; in_range = k.in_range; notarized = k.notarized; leader = k.leader; settled = k.settled }
+    on k = record { me = k.me; members = k.members; round = k.round; in_range = k.in_range; notarized = k.notarized; leader = k.leader; explicit = k.explicit }
 
     by_test : (b : Bool) → cond b (map.get m q) None ≡ Some r → IsKept h x q r
     by_test true here = kept q r (found_at x m shown q ∙ here)

@@ -6,7 +6,7 @@ use Rattle.std.specs.Prelude.{option_and_then}
 use Rattle.std.proofs.lemmas.List.Elements.{filter_map-append}
 use Rattle.simplex_round.specs.Round.{RoundFacts}
 use Rattle.simplex_voter.specs.Facts.{StateFacts, round_at}
-use Rattle.simplex_voter.specs.Rounds.{is_settled}
+use Rattle.simplex_voter.specs.Rounds.{is_explicit}
 use Rattle.simplex_voter.specs.Payloads.{certified_payload, explicit_payload}
 use Rattle.simplex_voter.specs.Parents.{at_view, explicit_at, explicit_below, highest_explicit}
 
@@ -46,17 +46,17 @@ none_left h [] is = refl
 none_left h (x ∷ xs) is = absurd (omega (arith, is))
 
 module _ {K L D : Type 0} (x : StateFacts K L D) where
-  unsettled : (r : RoundFacts K D) → is_settled r ≡ false → certified_payload r ≡ None
-  unsettled r is = rw is refl
+  not_explicit : (r : RoundFacts K D) → is_explicit r ≡ false → certified_payload r ≡ None
+  not_explicit r is = rw is refl
 
-  -- a view above genesis that is not settled has no explicit payload
-  pub no_explicit : (w : ℕ) → 0 < w → ((r : RoundFacts K D) → round_at x w ≡ Some r → is_settled r ≡ false) → explicit_payload x w ≡ None
+  -- a view above genesis that is not explicit has no explicit payload
+  pub no_explicit : (w : ℕ) → 0 < w → ((r : RoundFacts K D) → round_at x w ≡ Some r → is_explicit r ≡ false) → explicit_payload x w ≡ None
   unfolding explicit_payload
   no_explicit w above rest = rw (ne_eqb w 0 (λ is. omega arith)) (by_round (round_at x w) refl)
     where
       by_round : (found : Option (RoundFacts K D)) → round_at x w ≡ found → option_and_then certified_payload found ≡ None
       by_round None is = refl
-      by_round (Some r) is = unsettled r (rest r is)
+      by_round (Some r) is = not_explicit r (rest r is)
 
 -- from `end` up to v no view has an explicit payload
 module _ {K L D : Type 0} (x : StateFacts K L D) (v end : ℕ) (not_above : end ≤ v) (quiet : (w : ℕ) → end ≤ w → w < v → explicit_payload x w ≡ None) where

@@ -37,7 +37,7 @@ pub ended_kept : {K D : Type 0} {h : ℕ} (x : RoundsFacts K D) (v : ℕ) (es : 
 ended_kept {K} {D} {h} x v es is kept = subst (λ (fs : List (ℕ × RoundFacts K D)). AreKept h (record x { by_view = fs })) (sym is) (λ q r found. on q r (by_value q (round_at x q) refl r (sym (find-changed (λ u (s : RoundFacts K D). cond (leb u v) (without_token s) s) q x.by_view) ∙ found)))
   where
     on : (q : ℕ) (r : RoundFacts K D) → IsKept h x q r → IsKept h (record x { by_view = map_list (λ e. (e.0, cond (leb e.0 v) (without_token e.1) e.1)) x.by_view }) q r
-    on q r k = record { me = k.me; members = k.members; round = k.round; in_range = k.in_range; notarized = k.notarized; leader = k.leader; settled = k.settled }
+    on q r k = record { me = k.me; members = k.members; round = k.round; in_range = k.in_range; notarized = k.notarized; leader = k.leader; explicit = k.explicit }
 
     by_test : (b : Bool) (q : ℕ) (s : RoundFacts K D) → IsKept h x q s → IsKept h x q (cond b (without_token s) s)
     by_test true q s k = alike_kept x q s (without_token s) k (token_alike s)

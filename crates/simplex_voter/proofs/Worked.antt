@@ -26,13 +26,13 @@ module _ {K D : Type 0} where
     where
       by_test : (b : Bool) → IsAlike r (cond b r (record r { slot = after_mark r.slot }))
       by_test true = unchanged r
-      by_test false = record { me = refl; members = refl; round = refl; notarization = refl; leader = refl; settled = inl }
+      by_test false = record { me = refl; members = refl; round = refl; notarization = refl; leader = refl; explicit = inl }
 
   pub notarized_alike : (r s : RoundFacts K D) (b : Bool) → s ≡ record r { notarize_decided = b } → IsAlike r s
-  notarized_alike r s b is = rw is (record { me = refl; members = refl; round = refl; notarization = refl; leader = refl; settled = inl })
+  notarized_alike r s b is = rw is (record { me = refl; members = refl; round = refl; notarization = refl; leader = refl; explicit = inl })
 
   pub verifying_alike : (r s : RoundFacts K D) (d : D) → s ≡ verifying_round r d → IsAlike r s
-  verifying_alike r s d is = rw is (record { me = refl; members = refl; round = refl; notarization = refl; leader = refl; settled = inl })
+  verifying_alike r s d is = rw is (record { me = refl; members = refl; round = refl; notarization = refl; leader = refl; explicit = inl })
 
   pub notarizable_there : (x : RoundsFacts K D) (m : map.FinMap nat_cmp (RoundFacts K D)) → x.by_view ≡ map.entries m → (v : ℕ) → can_notarize (round_of x v) ≡ true → None ≡ map.get m v → ⊥
   notarizable_there x m shown v can none = false≢true (ap (λ found. can_notarize (unwrap_or found (new_round x.me x.members (round_number x v)))) (none ∙ sym (found_at x m shown v)) ∙ can)
@@ -65,4 +65,4 @@ module _ {K D : Type 0} where
       then' ∙ ap (λ u. bound u p) first ∙ ap (λ p. bound (own p) p) is
 
   pub own_alike : (same : D → D → Bool) (r s : RoundFacts K D) (context : Context D K) (payload : D) (now : ℕ) → s ≡ proposed_round same r context payload now → IsAlike r s
-  own_alike same r s context payload now is = rw is (record { me = refl; members = refl; round = refl; notarization = refl; leader = refl; settled = inl })
+  own_alike same r s context payload now is = rw is (record { me = refl; members = refl; round = refl; notarization = refl; leader = refl; explicit = inl })

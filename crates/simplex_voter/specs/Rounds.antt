@@ -66,11 +66,11 @@ module _ {K D : Type 0} where
     pub epoch : after.epoch ≡ before.epoch
 
   -- the view is finalized, or was certified true: its payload is explicit
-  abbrev pub is_settled : RoundFacts K D → Bool
-  is_settled r = is_some r.finalization || is_certified r.certification
+  abbrev pub is_explicit : RoundFacts K D → Bool
+  is_explicit r = is_some r.finalization || is_certified r.certification
 
   -- the round of a tracked view is this member's, among its members and in its epoch; only a view that a certificate may
-  -- name is notarized; its leader is a member; and no view above `highest` is settled
+  -- name is notarized; its leader is a member; and no view above `highest` is explicit
   pub record IsKept (highest : ℕ) (x : RoundsFacts K D) (v : ℕ) (r : RoundFacts K D) : Type 0 where
     pub me : r.me ≡ x.me
     pub members : r.members ≡ x.members
@@ -78,29 +78,29 @@ module _ {K D : Type 0} where
     pub in_range : v ≤ largest_tracked
     pub notarized : is_some r.notarization ≡ true → v < 2 ^ 63
     pub leader : IfSome r.leader (λ l. l.idx < length x.members)
-    pub settled : is_settled r ≡ true → v ≤ highest
+    pub explicit : is_explicit r ≡ true → v ≤ highest
 
   -- each tracked round is so
   abbrev pub AreKept : ℕ → RoundsFacts K D → Type 0
   AreKept highest x = (v : ℕ) (r : RoundFacts K D) → round_at x v ≡ Some r → IsKept highest x v r
 
-  -- the tracked views below v, with their rounds, but for some above genesis that are not settled
+  -- the tracked views below v, with their rounds, but for some above genesis that are not explicit
   pub record AreDownFrom (x : RoundsFacts K D) (v : ℕ) (es : List (ℕ × RoundFacts K D)) : Type 0 where
     pub end : ℕ
     pub entries : es ≡ filter (λ e. nat_lt e.0 end) x.by_view
     pub not_above : end ≤ v
     pub above : (w : ℕ) → end ≤ w → w < v → 0 < w
-    pub rest : (w : ℕ) (r : RoundFacts K D) → end ≤ w → w < v → round_at x w ≡ Some r → is_settled r ≡ false
+    pub rest : (w : ℕ) (r : RoundFacts K D) → end ≤ w → w < v → round_at x w ≡ Some r → is_explicit r ≡ false
 
--- the entry of the record settles its view
-abbrev pub settles : {S D P G C : Type 0} → Artifact S D P G C → Bool
-settles (artifact.Certification _ success) = success
-settles (artifact.Notarize _) = false
-settles (artifact.Notarization _) = false
-settles (artifact.Nullify _) = false
-settles (artifact.Nullification _) = false
-settles (artifact.Finalize _) = false
-settles (artifact.Finalization _) = false
+-- the entry of the record makes the payload of its view explicit
+abbrev pub makes_explicit : {S D P G C : Type 0} → Artifact S D P G C → Bool
+makes_explicit (artifact.Certification _ success) = success
+makes_explicit (artifact.Notarize _) = false
+makes_explicit (artifact.Notarization _) = false
+makes_explicit (artifact.Nullify _) = false
+makes_explicit (artifact.Nullification _) = false
+makes_explicit (artifact.Finalize _) = false
+makes_explicit (artifact.Finalization _) = false
 
 -- the first entry of a view is noted, and its deadlines count
 abbrev pub with_entry : {K D : Type 0} → RoundFacts K D → ℕ → Deadlines → RoundFacts K D

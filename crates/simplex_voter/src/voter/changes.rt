@@ -79,7 +79,7 @@ impl<S: CertificateScheme, D: Digest> Rounds<S, D> {
         ensures origin { HasSameOrigin self.old self.new }
     {
         self.track(view)?;
-        self.highest_settled = higher_where(true, self.highest_settled, view);
+        self.explicit_bound = higher_where(true, self.explicit_bound, view);
         let Some(round) = self.by_view.get_mut(view) else {
             unreachable!()
         };
@@ -187,7 +187,7 @@ impl<S: CertificateScheme, D: Digest> Rounds<S, D> {
         ensures judged { self.new ≡ with_change_in_place self.old view (λ r. certified_round r success) }
         ensures origin { HasSameOrigin self.old self.new }
     {
-        self.highest_settled = higher_where(success, self.highest_settled, view);
+        self.explicit_bound = higher_where(success, self.explicit_bound, view);
         let Some(round) = self.by_view.get_mut(view) else {
             return;
         };

@@ -104,8 +104,8 @@ impl<S: CertificateScheme, D: Digest> Rounds<S, D> {
     pub(super) fn down_from(&self, view: View) -> Entries<'_, Round<S, D>>
         ensures { AreDownFrom self.now view result }
     {
-        if self.highest_settled < view {
-            self.by_view.up_to(self.highest_settled)
+        if self.explicit_bound < view {
+            self.by_view.up_to(self.explicit_bound)
         } else {
             self.by_view.below(view)
         }

@@ -5,7 +5,7 @@ ghost use Rattle.simplex_types.specs.Proposal.{same_proposal};
 ghost use Rattle.simplex_types.specs.declared.types.fault.Fault.TheVariants.{OutOfMemory};
 ghost use Rattle.simplex_round.specs.Round.{TakesArtifact, after_replay};
 ghost use Rattle.simplex_voter.specs.Replay.{bound_again, artifact_too_large, voted_proposal};
-ghost use Rattle.simplex_voter.specs.Rounds.{settles};
+ghost use Rattle.simplex_voter.specs.Rounds.{makes_explicit};
 ghost use Rattle.simplex_types.specs.Terms.{IsVotable};
 ghost use Rattle.simplex_types.specs.Viewed.{artifact_view};
 
@@ -18,8 +18,8 @@ use simplex_types::types::{
 };
 
 /// Whether the entry of the record is a true verdict.
-fn settles<S: CertificateScheme, D: Digest>(artifact: &Artifact<S, D>) -> bool
-    ensures { result ≡ settles artifact.now }
+fn makes_explicit<S: CertificateScheme, D: Digest>(artifact: &Artifact<S, D>) -> bool
+    ensures { result ≡ makes_explicit artifact.now }
 {
     matches!(artifact, Artifact::Certification(_, true))
 }
@@ -74,7 +74,7 @@ impl<S: CertificateScheme, D: Digest> Rounds<S, D> {
         ensures origin { HasSameOrigin self.old self.new }
     {
         self.track(view)?;
-        self.highest_settled = higher_where(settles(artifact), self.highest_settled, view);
+        self.explicit_bound = higher_where(makes_explicit(artifact), self.explicit_bound, view);
         let Some(round) = self.by_view.get_mut(view) else {
             unreachable!()
         };

@@ -46,7 +46,7 @@ pub struct Rounds<S: CertificateScheme, D: Digest> {
     epoch: Epoch,
     pub(super) by_view: Tracked<Round<S, D>>,
     // no tracked view above it is finalized or was certified true
-    pub(super) highest_settled: View,
+    pub(super) explicit_bound: View,
 }
 
 impl<S: CertificateScheme, D: Digest> Model for Rounds<S, D> {
@@ -58,7 +58,7 @@ impl<S: CertificateScheme, D: Digest> Model for Rounds<S, D> {
 
     ghost view = { rounds_view S.me S.participants };
 
-    ghost invariant = { λ r. AreKept r.highest_settled (rounds_view S.me S.participants r) };
+    ghost invariant = { λ r. AreKept r.explicit_bound (rounds_view S.me S.participants r) };
 }
 
 /// The higher of two views, where the second one counts.
@@ -80,7 +80,7 @@ impl<S: CertificateScheme, D: Digest> Rounds<S, D> {
             scheme,
             epoch,
             by_view: Tracked::new(alloc),
-            highest_settled: View::zero(),
+            explicit_bound: View::zero(),
         }
     }
 

@@ -2,19 +2,19 @@ use Rattle.std.proofs.Common.{◌+◌, ◌<◌, nat_lt, filter, ap, ◌∙◌, a
 use Rattle.simplex_types.proofs.Gaps.{lt_yes}
 use Rattle.simplex_types.proofs.Maps.{entries-retain_keys}
 use Rattle.simplex_voter.specs.Rounds.{round_at}
-use Rattle.simplex_voter.proofs.Changed.{unsettled_above}
+use Rattle.simplex_voter.proofs.Changed.{none_explicit_above}
 use Rattle.simplex_voter.proofs.voter.rounds.Rounds.down_from.Goals as goal
 
 pub returns-then-lt : goal.returns-then-lt
 returns-then-lt g c =
-    let above : c.self.inside.highest_settled < c.args.view = lt_yes c.self.inside.highest_settled c.args.view c.if-lt.ensures in
-    let end = c.self.inside.highest_settled + 1 in
+    let above : c.self.inside.explicit_bound < c.args.view = lt_yes c.self.inside.explicit_bound c.args.view c.if-lt.ensures in
+    let end = c.self.inside.explicit_bound + 1 in
     record {
       end = end;
       entries = c.up_to.ensures ∙ entries-retain_keys c.self.inside.by_view (λ u. nat_lt u end) ∙ ap (λ x. filter (λ e. nat_lt e.0 end) x.by_view) c.self.view_is;
       not_above = omega (arith, above);
       above = λ w low high. omega arith;
-      rest = λ w r low high found. unsettled_above _ c.self.invariant w r (omega (arith, low)) (ap (λ x. round_at x w) c.self.view_is ∙ found);
+      rest = λ w r low high found. none_explicit_above _ c.self.invariant w r (omega (arith, low)) (ap (λ x. round_at x w) c.self.view_is ∙ found);
     }
 
 pub returns-else-lt : goal.returns-else-lt
