@@ -1,5 +1,5 @@
 -- Changes of the rounds, as changes of a state's facts.
-use Rattle.std.proofs.Common.{◌≡◌, ℕ, Bool, true, false, cond, ltb, leb, filter, Option, Some, None, Result, Ok, Err, OnOk, inl, inr, arith, ap, sym, ◌∙◌}
+use Rattle.std.proofs.Common.{◌≡◌, ℕ, Bool, true, false, cond, ltb, leb, filter, Option, Some, None, Result, Ok, Err, OnOk, inl, inr, arith, ap, sym, length, ◌∙◌}
 use Rattle.std.specs.Ordering.{nat_cmp, is_le}
 use Rattle.std.proofs.lemmas.Bool.{cases_lt, lt-ltb}
 use Rattle.std.proofs.lemmas.Bool.Decides.{nat_tests}
@@ -9,9 +9,12 @@ use Rattle.std.specs.Prelude.{IfErr}
 use Rattle.std.specs.Option.{option_map_or}
 use Rattle.simplex_voter.specs.Setup.{HasSameSetup, deadlines_at}
 use Rattle.simplex_round.specs.declared.round.Leader.{Leader}
-use Rattle.simplex_voter.specs.Rounds.{RoundsFacts, with_round, with_change, with_entry}
+use Rattle.simplex_voter.specs.Rounds.{RoundsFacts, HasSameOrigin, with_round, with_change, with_entry}
 use Rattle.simplex_voter.specs.Entering.{with_view_entered}
 use Rattle.simplex_voter.specs.declared.voter.rounds.Deadlines.{Deadlines}
+use Rattle.simplex_types.specs.declared.types.window.Terms.{Terms}
+use Rattle.simplex_voter.specs.declared.voter.state.State.TheInside.{Inside}
+use Rattle.simplex_voter.specs.StateView.{IsKept}
 use Rattle.simplex_voter.specs.Facts as facts
 use Rattle.simplex_voter.specs.Facts.{StateFacts}
 use Rattle.simplex_voter.specs.Serving.{after_prune}
@@ -67,17 +70,29 @@ module _ {K L D : Type 0} where
   handed_on y x is None b lead v r t same stays = ap (with_rounds y) same ∙ stays
   handed_on y x is (Some l) b lead v r t same stays = where_false y x is b r (with_round t v (lead l.idx)) t same stays
 
-  -- rounds of the same member, members and epoch leave how the state was set up
-  pub same_setup : (y x : StateFacts K L D) → y ≡ x → (r : RoundsFacts K D) → r.me ≡ y.me → r.members ≡ y.members → r.epoch ≡ y.settings.epoch → HasSameSetup x (with_rounds y r)
-  same_setup y x is r me members epoch = record {
+  abbrev rounds_of : StateFacts K L D → RoundsFacts K D
+  rounds_of y = record { me = y.me; members = y.members; epoch = y.settings.epoch; by_view = y.rounds }
+
+  -- rounds of the same origin leave how the state was set up
+  pub same_setup : (y x : StateFacts K L D) → y ≡ x → (r : RoundsFacts K D) → HasSameOrigin (rounds_of y) r → HasSameSetup x (with_rounds y r)
+  same_setup y x is r origin = record {
     failed = ap (λ z. z.failed) is;
-    settings = ap (λ e. record (y.settings) { epoch = e }) epoch ∙ ap (λ z. z.settings) is;
-    me = me ∙ ap (λ z. z.me) is;
-    members = members ∙ ap (λ z. z.members) is;
+    settings = ap (λ e. record (y.settings) { epoch = e }) origin.epoch ∙ ap (λ z. z.settings) is;
+    me = origin.me ∙ ap (λ z. z.me) is;
+    members = origin.members ∙ ap (λ z. z.members) is;
     elector = ap (λ z. z.elector) is;
     terms = ap (λ z. z.terms) is;
     elects_early = ap (λ z. z.elects_early) is;
   }
+
+-- what a state keeps of its rounds is who its members are
+pub kept_with_rounds : {S L D K G C : Type 0} {terms : L → Terms} {count : L → ℕ} {s : Inside S L D K G C} {r : RoundsFacts K D} → IsKept terms count s → HasSameOrigin s.rounds r → IsKept terms count (record s { rounds = r })
+kept_with_rounds kept origin = record {
+  in_range = kept.in_range;
+  nullified = kept.nullified;
+  nullify_votes = kept.nullify_votes;
+  elector = kept.elector ∙ ap length (sym origin.members);
+}
 
 module _ {K L D : Type 0} where
   pub nullified_shown : (x : StateFacts K L D) (m new : TermMap (Unit {0})) (v : ℕ) → x.nullified ≡ map.keys m.by_view → new ≡ record m { by_view = map.insert m.by_view v tt } → record x { nullified = map.keys new.by_view } ≡ nullified_also x v

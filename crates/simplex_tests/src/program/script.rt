@@ -27,7 +27,7 @@ pub struct Parts {
 
 impl Script {
     /// The script's parts. Its last line may lack its line feed.
-    pub fn parts(&self, alloc: Global) -> Result<Parts, AllocError> {
+    pub(super) fn parts(&self, alloc: Global) -> Result<Parts, AllocError> {
         let mut input = String::new(alloc);
         let mut output = String::new(alloc);
         let mut lines: u64 = 0;
@@ -63,7 +63,7 @@ impl Script {
 }
 
 /// Whether the replies are the wanted ones.
-pub fn are_wanted(written: &str, wanted: &str) -> bool {
+pub(super) fn are_wanted(written: &str, wanted: &str) -> bool {
     if written.split('\n').count() != wanted.split('\n').count() {
         return false;
     }

@@ -1,16 +1,11 @@
-use Rattle.std.proofs.Common.{refl, ap, sym, length, ◌∙◌}
-use Rattle.simplex_voter.proofs.Shown.{where_true, same_setup}
+use Rattle.std.proofs.Common.{refl}
+use Rattle.simplex_voter.proofs.Shown.{where_true, same_setup, kept_with_rounds}
 use Rattle.simplex_voter.proofs.Faults.{failed_now}
 use Rattle.simplex_voter.specs.Rounds.{is_tracked}
 use Rattle.simplex_voter.proofs.voter.state.State.broadcast_nullification.Goals as goal
 
 pub invariant_of-self : goal.invariant_of-self
-invariant_of-self g c = record {
-  in_range = c.self.invariant.in_range;
-  nullified = c.self.invariant.nullified;
-  nullify_votes = c.self.invariant.nullify_votes;
-  elector = c.self.invariant.elector ∙ ap length (sym c.hand_out_nullification.ensures.origin.members);
-}
+invariant_of-self g c = kept_with_rounds c.self.invariant c.hand_out_nullification.ensures.origin
 
 pub returns-in-Ok-clause-answer : goal.returns-in-Ok-clause-answer
 returns-in-Ok-clause-answer g c = rw (← c.self.view_is) c.in-Ok.ensures.answer
@@ -20,5 +15,4 @@ returns-in-Ok-clause-after g c = rw (← c.self.view_is) (where_true _ _ c.self.
 
 pub returns-in-Err-clause-out_of_memory : goal.returns-in-Err-clause-out_of_memory
 returns-in-Err-clause-out_of_memory g c none =
-    let origin = c.hand_out_nullification.ensures.origin in
-    (c.in-Err.ensures.refused, failed_now _ _ _ (same_setup _ _ c.self.view_is _ origin.me origin.members origin.epoch) c.fail.ensures)
+    (c.in-Err.ensures.refused, failed_now _ _ _ (same_setup _ _ c.self.view_is _ c.hand_out_nullification.ensures.origin) c.fail.ensures)

@@ -1,14 +1,8 @@
-use Rattle.std.proofs.Common.{ap, sym, length, ◌∙◌}
-use Rattle.simplex_voter.proofs.Shown.{by_rounds}
+use Rattle.simplex_voter.proofs.Shown.{by_rounds, kept_with_rounds}
 use Rattle.simplex_voter.proofs.voter.state.State.decide_notarize.Goals as goal
 
 pub invariant_of-self : goal.invariant_of-self
-invariant_of-self g c = record {
-  in_range = c.self.invariant.in_range;
-  nullified = c.self.invariant.nullified;
-  nullify_votes = c.self.invariant.nullify_votes;
-  elector = c.self.invariant.elector ∙ ap length (sym c.decide_notarize.ensures.origin.members);
-}
+invariant_of-self g c = kept_with_rounds c.self.invariant c.decide_notarize.ensures.origin
 
 pub returns-clause-decided : goal.returns-clause-decided
 returns-clause-decided g c = rw (← c.self.view_is) (by_rounds _ _ c.self.view_is _ _ c.decide_notarize.ensures.decided)

@@ -1,15 +1,10 @@
 use Rattle.std.proofs.Common.{length, ap, sym, refl, ◌∙◌}
 use Rattle.simplex_voter.specs.Setup.{deadlines_at}
-use Rattle.simplex_voter.proofs.Shown.{not_le, entered_by}
+use Rattle.simplex_voter.proofs.Shown.{not_le, entered_by, kept_with_rounds}
 use Rattle.simplex_voter.proofs.voter.state.State.enter.Goals as goal
 
 pub invariant_of-self : goal.invariant_of-self
-invariant_of-self g c = record {
-  in_range = c.self.invariant.in_range;
-  nullified = c.self.invariant.nullified;
-  nullify_votes = c.self.invariant.nullify_votes;
-  elector = c.self.invariant.elector ∙ ap length (sym c.enter.ensures.origin.members);
-}
+invariant_of-self g c = kept_with_rounds c.self.invariant c.enter.ensures.origin
 
 pub invariant_of-self-2 : goal.invariant_of-self-2
 invariant_of-self-2 g c = record {

@@ -1,19 +1,14 @@
-use Rattle.std.proofs.Common.{refl, ap, sym, length, ◌∙◌}
+use Rattle.std.proofs.Common.{refl}
 use Rattle.simplex_round.specs.Round.{leader_at}
 use Rattle.simplex_voter.specs.Rounds.{round_of}
-use Rattle.simplex_voter.proofs.Shown.{on_ok, handed_on, same_setup}
+use Rattle.simplex_voter.proofs.Shown.{on_ok, handed_on, same_setup, kept_with_rounds}
 use Rattle.simplex_voter.proofs.voter.state.State.inherit.Goals as goal
 
 pub invariant_of-self : goal.invariant_of-self
-invariant_of-self g c = record {
-  in_range = c.self.invariant.in_range;
-  nullified = c.self.invariant.nullified;
-  nullify_votes = c.self.invariant.nullify_votes;
-  elector = c.self.invariant.elector ∙ ap length (sym c.inherit.ensures.origin.members);
-}
+invariant_of-self g c = kept_with_rounds c.self.invariant c.inherit.ensures.origin
 
 pub returns-clause-setup : goal.returns-clause-setup
-returns-clause-setup g c = same_setup _ _ c.self.view_is _ c.inherit.ensures.origin.me c.inherit.ensures.origin.members c.inherit.ensures.origin.epoch
+returns-clause-setup g c = same_setup _ _ c.self.view_is _ c.inherit.ensures.origin
 
 pub returns-clause-inherited : goal.returns-clause-inherited
 returns-clause-inherited g c = rw (← c.self.view_is) (on_ok c.inherit.result (λ is. handed_on _ _ c.self.view_is _ _ (λ i. record (round_of c.self.inside.rounds c.args.to) { leader = leader_at c.self.inside.rounds.members i }) c.args.to _ _ is refl) c.inherit.ensures.inherited)

@@ -1,14 +1,9 @@
-use Rattle.std.proofs.Common.{refl, ap, sym, length, ◌∙◌}
-use Rattle.simplex_voter.proofs.Shown.{by_rounds}
+use Rattle.std.proofs.Common.{refl, ◌∙◌}
+use Rattle.simplex_voter.proofs.Shown.{by_rounds, kept_with_rounds}
 use Rattle.simplex_voter.proofs.voter.state.State.judge.Goals as goal
 
 pub invariant_of-self : goal.invariant_of-self
-invariant_of-self g c = record {
-  in_range = c.self.invariant.in_range;
-  nullified = c.self.invariant.nullified;
-  nullify_votes = c.self.invariant.nullify_votes;
-  elector = c.self.invariant.elector ∙ ap length (sym c.judge.ensures.origin.members);
-}
+invariant_of-self g c = kept_with_rounds c.self.invariant c.judge.ensures.origin
 
 pub returns : goal.returns
 returns g c =

@@ -1,17 +1,12 @@
-use Rattle.std.proofs.Common.{refl, ap, sym, length, ◌∙◌}
+use Rattle.std.proofs.Common.{refl, ap, sym, ◌∙◌}
 use Rattle.simplex_voter.specs.Rounds.{is_tracked, round_at}
 use Rattle.simplex_voter.specs.Timeouts.{has_skip_budget}
-use Rattle.simplex_voter.proofs.Shown.{on_ok, on_err, by_rounds, where_true}
+use Rattle.simplex_voter.proofs.Shown.{on_ok, on_err, by_rounds, where_true, kept_with_rounds}
 use Rattle.simplex_voter.proofs.Polling.{answered, answer_shown}
 use Rattle.simplex_voter.proofs.voter.state.State.poll.Goals as goal
 
 pub invariant_of-self : goal.invariant_of-self
-invariant_of-self g c = record {
-  in_range = c.self.invariant.in_range;
-  nullified = c.self.invariant.nullified;
-  nullify_votes = c.self.invariant.nullify_votes;
-  elector = c.self.invariant.elector ∙ ap length (sym c.poll.ensures.origin.members);
-}
+invariant_of-self g c = kept_with_rounds c.self.invariant c.poll.ensures.origin
 
 pub returns-clause-late : goal.returns-clause-late
 returns-clause-late g c = rw (← c.self.view_is) c.poll.ensures.late

@@ -1,14 +1,9 @@
-use Rattle.std.proofs.Common.{refl, ap, sym, length, ◌∙◌}
-use Rattle.simplex_voter.proofs.Shown.{where_true}
+use Rattle.std.proofs.Common.{refl}
+use Rattle.simplex_voter.proofs.Shown.{where_true, kept_with_rounds}
 use Rattle.simplex_voter.proofs.voter.state.State.record_proposal.Goals as goal
 
 pub invariant_of-self : goal.invariant_of-self
-invariant_of-self g c = record {
-  in_range = c.self.invariant.in_range;
-  nullified = c.self.invariant.nullified;
-  nullify_votes = c.self.invariant.nullify_votes;
-  elector = c.self.invariant.elector ∙ ap length (sym c.record_proposal.ensures.origin.members);
-}
+invariant_of-self g c = kept_with_rounds c.self.invariant c.record_proposal.ensures.origin
 
 pub returns-clause-recorded : goal.returns-clause-recorded
 returns-clause-recorded g c = rw (← c.self.view_is) c.record_proposal.ensures.recorded
