@@ -16,7 +16,7 @@ use Rattle.simplex_laws.specs.Events as event
 use Rattle.simplex_laws.specs.Events.{Event, after_event}
 use Rattle.simplex_laws.specs.LifeLaws.{Kind, Notarization, Nullification, Finalization}
 use Rattle.simplex_laws.specs.Sums.{finalized_by_event, is_prune}
-use Rattle.simplex_laws.proofs.frames.Fresh.{IsFresh, fresh_state}
+use Rattle.simplex_laws.proofs.frames.Fresh.{IsFresh}
 use Rattle.simplex_laws.proofs.frames.CallsMake.{is_floor}
 use Rattle.simplex_laws.proofs.frames.EachRound.{IsGone}
 use Rattle.simplex_laws.proofs.frames.Paths.{from_entry, from_first_entry}

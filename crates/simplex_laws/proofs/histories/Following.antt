@@ -1,21 +1,21 @@
 -- For `histories_are_shown`.
 -- What an event says is what it adds to a state's facts.
-use Rattle.std.proofs.Common.{◌≡◌, ◌⊎◌, refl, ap, sym, ◌∙◌, ℕ, ◌≤◌, max, Bool, true, false, ◌||◌, eqb, if◌then◌else◌, List, [], ◌∷◌, None, unwrap_or, arith, inl, inr}
+use Rattle.std.proofs.Common.{◌≡◌, ◌⊎◌, refl, ap, sym, ◌∙◌, ℕ, ◌≤◌, max, Bool, true, false, ◌||◌, eqb, if◌then◌else◌, List, [], ◌∷◌, Option, Some, None, is_some, unwrap_or, arith, inl, inr}
 use Rattle.std.specs.Option.{option_or}
 use Rattle.std.specs.Ordering.{nat_cmp, match_ordering}
 use Rattle.std.specs.declared.cmp.Ordering.{Ordering}
 use Rattle.std.specs.declared.cmp.Ordering.TheVariants.{Less, Equal, Greater}
 use Rattle.std.specs.BTreeSet.{insert_key}
 use Rattle.std.proofs.lemmas.Bool.{cases_eq, ne_eqb}
-use Rattle.simplex_round.specs.Round.{RoundFacts}
-use Rattle.simplex_voter.specs.Facts.{StateFacts, Elect, round_of, is_tracked, with_round}
+use Rattle.simplex_round.specs.Round.{RoundFacts, new_round}
+use Rattle.simplex_voter.specs.Facts.{StateFacts, Elect, round_at, round_of, round_number, is_tracked, with_round}
 use Rattle.simplex_voter.specs.Windows.{min_active}
 use Rattle.simplex_laws.specs.Events.{Event}
 use Rattle.simplex_laws.specs.Sums.{notarizes, nullifies, finalizes, verdict_of_event, covers_from, sets_genesis, finalized_by_event, entered_by, moment_by, is_prune, or_new, has_view}
 use Rattle.simplex_laws.specs.OwnWork.{contradicts, hands_out_notarization, hands_out_nullification, hands_out_finalization, decides_nullify, casts_nullify, first_certificate_by, hears, decides_finalize, decides_notarize, owns}
 use Rattle.simplex_member.proofs.Growing.{round_of-put, round_of-same}
 use Rattle.simplex_laws.proofs.votes.NullifyVotes.{tied}
-use Rattle.simplex_laws.proofs.histories.Leaving.{Known, known_of, Alike, Leaves}
+use Rattle.simplex_laws.proofs.histories.Leaving.{Known, known_of, Alike, Leaves, Quiet, quiet}
 
 -- the lowest view that an event leaves
 abbrev pub left_from : {K L D : Type 0} → StateFacts K L D → Event K D → ℕ
@@ -55,14 +55,21 @@ module _ {K L D : Type 0} (same : D → D → Bool) (elect : Elect L) where
     pub nullify_votes : (v : ℕ) → left_from x e ≤ v → has_view y.nullify_votes v ≡ (casts_nullify v x e || has_view x.nullify_votes v)
     pub rounds : (v : ℕ) → left_from x e ≤ v → known_of (round_of y v) ≡ adds x e v (known_of (round_of x v))
 
-  -- an event says nothing
-  pub record IsSilent (x : StateFacts K L D) (e : Event K D) : Type 0 where
-    pub genesis : sets_genesis e ≡ None
-    pub entered : (term_length : ℕ) → entered_by term_length (is_tracked x) e ≡ 0
-    pub finalized : finalized_by_event e ≡ 0
-    pub nullified : (v : ℕ) → covers_from v e ≡ false
-    pub nullify_votes : (v : ℕ) → casts_nullify v x e ≡ false
-    pub rounds : (v : ℕ) → IsElsewhere x e v
+-- what an event says beside rounds and moments
+pub record Said (D : Type 0) : Type 0 where
+  pub genesis : Option D
+  pub entered : ℕ
+  pub finalized : ℕ
+  pub nullified : ℕ → Bool
+  pub nullify_voted : ℕ → Bool
+
+module _ {K L D : Type 0} where
+  -- an event says nothing but of rounds
+  abbrev pub IsOfRounds : StateFacts K L D → Event K D → Type 0
+  IsOfRounds x e =
+      ◌≡◌ {A = Said D}
+      (record { genesis = sets_genesis e; entered = entered_by x.terms.term_length (is_tracked x) e; finalized = finalized_by_event e; nullified = λ v. covers_from v e; nullify_voted = λ v. casts_nullify v x e })
+      (record { genesis = None; entered = 0; finalized = 0; nullified = λ v. false; nullify_voted = λ v. false })
 
 -- a view is among those with one more
 pub among_noted : (k v : ℕ) (ks : List ℕ) → has_view (insert_key nat_cmp ks k) v ≡ (eqb v k || has_view ks v)
@@ -104,16 +111,58 @@ module _ {K L D : Type 0} (same : D → D → Bool) (elect : Elect L) (x : State
   pub put_alone : (v : ℕ) (r : RoundFacts K D) → known_of r ≡ adds same elect x e v (known_of (round_of x v)) → ((w : ℕ) → eqb w v ≡ false → IsElsewhere same elect x e w) → (w : ℕ) → known_of (round_of (with_round x v r) w) ≡ adds same elect x e w (known_of (round_of x w))
   put_alone v r added elsewhere w = put_between x (with_round x v r) v r (λ u. refl) added elsewhere (λ u. refl) w
 
-  -- an event that says nothing
-  pub silent_follows : (y : StateFacts K L D) → IsSilent same elect x e → Leaves (unwrap_or (moment_by e) x.moment) x.current x.finalized x y → Follows same elect e x y
+module _ {K L D : Type 0} (same : D → D → Bool) (elect : Elect L) (x : StateFacts K L D) (e : Event K D) (only : IsOfRounds x e) where
+  no_genesis : sets_genesis e ≡ None
+  no_genesis = ap (λ (s : Said D). s.genesis) only
+
+  none_entered : entered_by x.terms.term_length (is_tracked x) e ≡ 0
+  none_entered = ap (λ (s : Said D). s.entered) only
+
+  none_finalized : finalized_by_event e ≡ 0
+  none_finalized = ap (λ (s : Said D). s.finalized) only
+
+  none_nullified : (w : ℕ) → covers_from w e ≡ false
+  none_nullified w = ap (λ (s : Said D). s.nullified w) only
+
+  no_nullify_vote : (w : ℕ) → casts_nullify w x e ≡ false
+  no_nullify_vote w = ap (λ (s : Said D). s.nullify_voted w) only
+
+  -- the one view that the event speaks of has its round put, between changes that leave the rounds alike
+  pub put_follows : (y z : StateFacts K L D) (v : ℕ) (r : RoundFacts K D) → Leaves (unwrap_or (moment_by e) x.moment) x.current x.finalized x y → known_of r ≡ adds same elect x e v (known_of (round_of y v)) → ((w : ℕ) → eqb w v ≡ false → IsElsewhere same elect x e w) → Quiet (with_round y v r) z → Follows same elect e x z
+  put_follows y z v r before added elsewhere after = record {
+    settings = after.settings ∙ before.settings;
+    terms = after.terms ∙ before.terms;
+    genesis = after.genesis ∙ before.genesis ∙ sym (ap (λ o. option_or o x.genesis) no_genesis);
+    moment = after.moment_is ∙ before.moment_is;
+    current = after.current_is ∙ before.current_is ∙ omega (arith, none_entered);
+    finalized = after.finalized_is ∙ before.finalized_is ∙ omega (arith, none_finalized);
+    nullified = λ w _. ap (λ views. has_view views w) (after.nullified ∙ before.nullified) ∙ sym (ap (λ b. b || has_view x.nullified w) (none_nullified w));
+    nullify_votes = λ w _. ap (λ views. has_view views w) (after.nullify_votes ∙ before.nullify_votes) ∙ sym (ap (λ b. b || has_view x.nullify_votes w) (no_nullify_vote w));
+    rounds = λ w _. put_between same elect x e y z v r before.rounds added elsewhere after.rounds w;
+  }
+
+  -- the same, where nothing else changes
+  pub round_follows : (v : ℕ) (r : RoundFacts K D) → moment_by e ≡ None → known_of r ≡ adds same elect x e v (known_of (round_of x v)) → ((w : ℕ) → eqb w v ≡ false → IsElsewhere same elect x e w) → Follows same elect e x (with_round x v r)
+  round_follows v r timeless added elsewhere = put_follows x (with_round x v r) v r (rw timeless (quiet x)) added elsewhere (quiet (with_round x v r))
+
+  -- it says nothing of rounds either
+  pub silent_follows : (y : StateFacts K L D) → ((v : ℕ) → IsElsewhere same elect x e v) → Leaves (unwrap_or (moment_by e) x.moment) x.current x.finalized x y → Follows same elect e x y
   silent_follows y silent leaves = record {
     settings = leaves.settings;
     terms = leaves.terms;
-    genesis = leaves.genesis ∙ sym (ap (λ o. option_or o x.genesis) silent.genesis);
+    genesis = leaves.genesis ∙ sym (ap (λ o. option_or o x.genesis) no_genesis);
     moment = leaves.moment_is;
-    current = leaves.current_is ∙ omega (arith, silent.entered x.terms.term_length);
-    finalized = leaves.finalized_is ∙ omega (arith, silent.finalized);
-    nullified = λ v _. ap (λ views. has_view views v) leaves.nullified ∙ sym (ap (λ b. b || has_view x.nullified v) (silent.nullified v));
-    nullify_votes = λ v _. ap (λ views. has_view views v) leaves.nullify_votes ∙ sym (ap (λ b. b || has_view x.nullify_votes v) (silent.nullify_votes v));
-    rounds = λ v _. nothing_added v (silent.rounds v) (round_of x v) (round_of y v) (leaves.rounds v);
+    current = leaves.current_is ∙ omega (arith, none_entered);
+    finalized = leaves.finalized_is ∙ omega (arith, none_finalized);
+    nullified = λ v _. ap (λ views. has_view views v) leaves.nullified ∙ sym (ap (λ b. b || has_view x.nullified v) (none_nullified v));
+    nullify_votes = λ v _. ap (λ views. has_view views v) leaves.nullify_votes ∙ sym (ap (λ b. b || has_view x.nullify_votes v) (no_nullify_vote v));
+    rounds = λ v _. nothing_added same elect x e v (silent v) (round_of x v) (round_of y v) (leaves.rounds v);
   }
+
+  -- a certificate is handed out where its view is tracked; where it isn't, there is none
+  pub handed_follows : (v : ℕ) (r : RoundFacts K D) → moment_by e ≡ None → known_of r ≡ adds same elect x e v (known_of (round_of x v)) → ((w : ℕ) → eqb w v ≡ false → IsElsewhere same elect x e w) → (round_of x v ≡ new_round x.me x.members (round_number x v) → (w : ℕ) → IsElsewhere same elect x e w) → Follows same elect e x (if is_tracked x v then with_round x v r else x)
+  handed_follows v r timeless added elsewhere never = by_round (round_at x v) refl
+    where
+      by_round : (o : Option (RoundFacts K D)) → round_at x v ≡ o → Follows same elect e x (if is_some o then with_round x v r else x)
+      by_round (Some _) found = round_follows v r timeless added elsewhere
+      by_round None none = silent_follows x (never (ap (λ o. unwrap_or o (new_round x.me x.members (round_number x v))) none)) (rw timeless (quiet x))

@@ -29,7 +29,7 @@ use Rattle.simplex_laws.specs.OwnWork.{contradicts}
 use Rattle.simplex_laws.specs.Shows.{verdict_of}
 use Rattle.simplex_member.proofs.Growing.{round_of-same}
 use Rattle.simplex_laws.proofs.histories.Leaving.{Known, known_of, Alike, Leaves, Quiet, quiet, then_quiet, both_quiet, leaves_joined, quiet_where, moment_leaves, entered_leaves, raised_leaves, named_quiet, slid_quiet, triggered_quiet, elected_quiet, woken_quiet}
-use Rattle.simplex_laws.proofs.histories.Following.{adds, Follows, among_noted, nothing_added, put_between}
+use Rattle.simplex_laws.proofs.histories.Following.{adds, Follows, among_noted, nothing_added, put_between, put_follows}
 
 -- a certificate settles its view's proposal
 
@@ -106,17 +106,7 @@ module _ {K L D : Type 0} (same : D → D → Bool) (decides : (d e : D) → sam
       let y = if is_some (round_of x v).notarization then z else with_window_leaders (named_also z v) v in
       let before : Quiet x d = elected_quiet elect x (v + 1) (Some c.bytes) in
       let after : Quiet z y = quiet_where z (is_some (round_of x v).notarization) z (with_window_leaders (named_also z v) v) (quiet z) (both_quiet z (named_also z v) (with_window_leaders (named_also z v) v) (named_quiet z v) (slid_quiet (named_also z v) v)) in
-      record {
-        settings = after.settings ∙ before.settings;
-        terms = after.terms ∙ before.terms;
-        genesis = after.genesis ∙ before.genesis;
-        moment = after.moment_is ∙ before.moment_is;
-        current = omega (arith, after.current_is, before.current_is);
-        finalized = omega (arith, after.finalized_is, before.finalized_is);
-        nullified = λ w _. ap (λ views. has_view views w) (after.nullified ∙ before.nullified);
-        nullify_votes = λ w _. ap (λ views. has_view views w) (after.nullify_votes ∙ before.nullify_votes);
-        rounds = λ w _. put_between same elect x (AddNotarization c) d y v (with_notarization (same_proposal same) (round_of d v) c) before.rounds (notarization_added same decides elect x c (round_of d v) (ap (λ k. k.notarization) (before.rounds v))) (λ u apart k. rw apart refl) after.rounds w;
-      }
+      put_follows same elect x (AddNotarization c) refl d y v (with_notarization (same_proposal same) (round_of d v) c) before (notarization_added same decides elect x c (round_of d v) (ap (λ k. k.notarization) (before.rounds v))) (λ u apart k. rw apart refl) after
 
   pub finalization_follows : (now : ℕ) → Follows same elect (AddFinalization c now) x (after_add_finalization same elect x c now)
   finalization_follows now =

@@ -16,7 +16,7 @@ use Rattle.simplex_round.specs.declared.round.Decision.{Decision}
 use Rattle.simplex_round.specs.declared.round.Decision.TheVariants as decision
 use Rattle.simplex_round.specs.Slot.{SlotFacts, after_own, after_vote, holds_or_empty}
 use Rattle.simplex_round.specs.Round.{RoundFacts, new_round, after_nullify, is_pending, is_nullify, is_finalize}
-use Rattle.simplex_voter.specs.Facts.{StateFacts, Elect, round_at, round_of, round_number, with_round}
+use Rattle.simplex_voter.specs.Facts.{StateFacts, Elect, round_of, round_number, with_round}
 use Rattle.simplex_voter.specs.Windows.{min_active}
 use Rattle.simplex_voter.specs.Entering.{at_moment}
 use Rattle.simplex_voter.specs.Leaders.{with_next_view_ready}
@@ -30,8 +30,8 @@ use Rattle.simplex_laws.specs.Events.{ConstructNotarize, ConstructNullify, Const
 use Rattle.simplex_laws.specs.Sums.{or_new, has_view}
 use Rattle.simplex_laws.specs.OwnWork.{contradicts}
 use Rattle.simplex_laws.proofs.votes.NullifyVotes.{tied}
-use Rattle.simplex_laws.proofs.histories.Leaving.{known_of, Quiet, prepared_quiet}
-use Rattle.simplex_laws.proofs.histories.Following.{adds, Follows, among_noted, nothing_added, put_between, put_alone}
+use Rattle.simplex_laws.proofs.histories.Leaving.{known_of, Quiet, quiet, moment_leaves, prepared_quiet}
+use Rattle.simplex_laws.proofs.histories.Following.{adds, Follows, among_noted, put_alone, put_follows, round_follows, silent_follows, handed_follows}
 use Rattle.simplex_laws.proofs.histories.FollowingHanded.{and_false}
 
 pending_nullify : (d : Decision) → is_pending d ≡ true → false ≡ is_nullify d
@@ -127,7 +127,7 @@ module _ {K L D : Type 0} (same : D → D → Bool) (elect : Elect L) (x : State
 
       by_rule : (b : Bool) → may_nullify x v ≡ b → Follows same elect (ConstructNullify v) x (if b then nullify_cast z v else x)
       by_rule true may = voted (is_some x.me) refl may
-      by_rule false barred = record { settings = refl; terms = refl; genesis = refl; moment = refl; current = omega arith; finalized = omega arith; nullified = λ w _. refl; nullify_votes = λ w _. rw barred refl; rounds = λ w _. nothing_added same elect x (ConstructNullify v) w (λ k. rw (barred, and_false (eqb w v)) refl) (round_of x w) (round_of x w) refl }
+      by_rule false barred = silent_follows same elect x (ConstructNullify v) (rw barred refl) x (λ w k. rw (barred, and_false (eqb w v)) refl) (quiet x)
 
   pub finalize_follows : (v : ℕ) → Follows same elect (ConstructFinalize v) x (after_construct_finalize elect x v)
   finalize_follows v = by_rule (may_finalize elect x v) refl
@@ -139,8 +139,8 @@ module _ {K L D : Type 0} (same : D → D → Bool) (elect : Elect L) (x : State
       decided may = rw (may, eq-eqb v v refl) (λ i. record (known_of r) { nullify_decided = pending_nullify r.decision (finalize_parts elect x v may).undecided i; finalize_decided = true })
 
       by_rule : (b : Bool) → may_finalize elect x v ≡ b → Follows same elect (ConstructFinalize v) x (if b then finalize_cast x v else x)
-      by_rule true may = record { settings = refl; terms = refl; genesis = refl; moment = refl; current = omega arith; finalized = omega arith; nullified = λ w _. refl; nullify_votes = λ w _. refl; rounds = λ w _. put_alone same elect x (ConstructFinalize v) v (record r { decision = decision.Finalize }) (decided may) (λ u apart k. rw apart refl) w }
-      by_rule false barred = record { settings = refl; terms = refl; genesis = refl; moment = refl; current = omega arith; finalized = omega arith; nullified = λ w _. refl; nullify_votes = λ w _. refl; rounds = λ w _. nothing_added same elect x (ConstructFinalize v) w (λ k. rw (barred, and_false (eqb w v)) refl) (round_of x w) (round_of x w) refl }
+      by_rule true may = round_follows same elect x (ConstructFinalize v) refl v (record r { decision = decision.Finalize }) refl (decided may) (λ u apart k. rw apart refl)
+      by_rule false barred = silent_follows same elect x (ConstructFinalize v) refl x (λ w k. rw (barred, and_false (eqb w v)) refl) (quiet x)
 
   pub notarize_follows : (v : ℕ) → Follows same elect (ConstructNotarize v) x (after_construct_notarize same elect x v)
   notarize_follows v = by_rule (may_notarize same elect x v) refl
@@ -155,36 +155,13 @@ module _ {K L D : Type 0} (same : D → D → Bool) (elect : Elect L) (x : State
       decided may = rw (may, eq-eqb v v refl) refl
 
       by_rule : (b : Bool) → may_notarize same elect x v ≡ b → Follows same elect (ConstructNotarize v) x (if b then with_next_view_ready elect z v else x)
-      by_rule true may =
-          let after : Quiet z (with_next_view_ready elect z v) = prepared_quiet elect z v in
-          record {
-            settings = after.settings;
-            terms = after.terms;
-            genesis = after.genesis;
-            moment = after.moment_is;
-            current = omega (arith, after.current_is);
-            finalized = omega (arith, after.finalized_is);
-            nullified = λ w _. ap (λ views. has_view views w) after.nullified;
-            nullify_votes = λ w _. ap (λ views. has_view views w) after.nullify_votes;
-            rounds = λ w _. put_between same elect x (ConstructNotarize v) x (with_next_view_ready elect z v) v r (λ u. refl) (decided may) (λ u apart k. rw apart refl) after.rounds w;
-          }
-      by_rule false barred = record { settings = refl; terms = refl; genesis = refl; moment = refl; current = omega arith; finalized = omega arith; nullified = λ w _. refl; nullify_votes = λ w _. refl; rounds = λ w _. nothing_added same elect x (ConstructNotarize v) w (λ k. rw (barred, and_false (eqb w v)) refl) (round_of x w) (round_of x w) refl }
+      by_rule true may = put_follows same elect x (ConstructNotarize v) refl x (with_next_view_ready elect z v) v r (quiet x) (decided may) (λ u apart k. rw apart refl) (prepared_quiet elect z v)
+      by_rule false barred = silent_follows same elect x (ConstructNotarize v) refl x (λ w k. rw (barred, and_false (eqb w v)) refl) (quiet x)
 
   -- proposals
 
   pub proposal_follows : (v : ℕ) (p : Proposal D) → Follows same elect (SetProposal v p) x (after_set_proposal same elect x v p)
-  proposal_follows v p =
-      record {
-        settings = before.settings;
-        terms = before.terms;
-        genesis = before.genesis;
-        moment = before.moment_is;
-        current = omega (arith, before.current_is);
-        finalized = omega (arith, before.finalized_is);
-        nullified = λ w _. ap (λ views. has_view views w) before.nullified;
-        nullify_votes = λ w _. ap (λ views. has_view views w) before.nullify_votes;
-        rounds = λ w _. put_between same elect x (SetProposal v p) y (with_round y v (with_proposal same r p)) v (with_proposal same r p) before.rounds (heard (is_nullify r.decision) refl) (λ u apart k. rw apart refl) (λ u. refl) w;
-      }
+  proposal_follows v p = put_follows same elect x (SetProposal v p) refl y (with_round y v (with_proposal same r p)) v (with_proposal same r p) before (heard (is_nullify r.decision) refl) (λ u apart k. rw apart refl) (quiet (with_round y v (with_proposal same r p)))
     where
       y : StateFacts K L D
       y = with_next_view_ready elect x v
@@ -222,64 +199,34 @@ module _ {K L D : Type 0} (same : D → D → Bool) (elect : Elect L) (x : State
       built taken = rw (taken, eq-eqb v v refl) (λ i. record (known_of r) { held = own_held same r.slot p decides i; conflict = own_conflict same r.slot p i })
 
       by_answer : (b : Bool) → proposed_answer same elect x context payload ≡ b → Follows same elect (Proposed context payload now) x (if b then with_round a v (proposed_round same r context payload now) else a)
-      by_answer true taken = record { settings = refl; terms = refl; genesis = refl; moment = refl; current = omega arith; finalized = omega arith; nullified = λ w _. refl; nullify_votes = λ w _. refl; rounds = λ w _. put_alone same elect x (Proposed context payload now) v (proposed_round same r context payload now) (built taken) (λ u apart k. rw apart refl) w }
-      by_answer false dropped = record { settings = refl; terms = refl; genesis = refl; moment = refl; current = omega arith; finalized = omega arith; nullified = λ w _. refl; nullify_votes = λ w _. refl; rounds = λ w _. nothing_added same elect x (Proposed context payload now) w (λ k. rw (dropped, and_false (eqb w v)) refl) (round_of x w) (round_of x w) refl }
+      by_answer true taken = put_follows same elect x (Proposed context payload now) refl a (with_round a v (proposed_round same r context payload now)) v (proposed_round same r context payload now) (moment_leaves x now) (built taken) (λ u apart k. rw apart refl) (quiet (with_round a v (proposed_round same r context payload now)))
+      by_answer false dropped = silent_follows same elect x (Proposed context payload now) refl a (λ w k. rw (dropped, and_false (eqb w v)) refl) (moment_leaves x now)
 
   -- broadcasts
 
   pub broadcast_notarization_follows : (v : ℕ) → Follows same elect (BroadcastNotarization v) x (after_broadcast_notarization x v)
-  broadcast_notarization_follows v = by_round (round_at x v) refl
-    where
-      r : RoundFacts K D
-      r = round_of x v
-
-      s : RoundFacts K D
-      s = record r { notarization_broadcast = r.notarization_broadcast || is_some r.notarization }
-
-      handed : known_of s ≡ adds same elect x (BroadcastNotarization v) v (known_of r)
-      handed = rw (eq-eqb v v refl) (λ i. record (known_of r) { notarization_broadcast = or_swap r.notarization_broadcast (is_some r.notarization) i })
-
-      by_round : (o : Option (RoundFacts K D)) → round_at x v ≡ o → Follows same elect (BroadcastNotarization v) x (if is_some o then with_round x v s else x)
-      by_round (Some _) found = record { settings = refl; terms = refl; genesis = refl; moment = refl; current = omega arith; finalized = omega arith; nullified = λ w _. refl; nullify_votes = λ w _. refl; rounds = λ w _. put_alone same elect x (BroadcastNotarization v) v s handed (λ u apart k. rw apart refl) w }
-      by_round None none =
-          let empty : is_some (round_of x v).notarization ≡ false = ap (λ o. is_some (unwrap_or o (new_round x.me x.members (round_number x v))).notarization) none in
-          record { settings = refl; terms = refl; genesis = refl; moment = refl; current = omega arith; finalized = omega arith; nullified = λ w _. refl; nullify_votes = λ w _. refl; rounds = λ w _. nothing_added same elect x (BroadcastNotarization v) w (λ k. rw (empty, and_false (eqb w v)) refl) (round_of x w) (round_of x w) refl }
+  broadcast_notarization_follows v =
+      let r = round_of x v in
+      handed_follows same elect x (BroadcastNotarization v) refl v (record r { notarization_broadcast = r.notarization_broadcast || is_some r.notarization }) refl
+      (rw (eq-eqb v v refl) (λ i. record (known_of r) { notarization_broadcast = or_swap r.notarization_broadcast (is_some r.notarization) i }))
+      (λ u apart k. rw apart refl)
+      (λ untracked w k. rw (ap (λ (s : RoundFacts K D). is_some s.notarization) untracked, and_false (eqb w v)) refl)
 
   pub broadcast_nullification_follows : (v : ℕ) → Follows same elect (BroadcastNullification v) x (after_broadcast_nullification x v)
-  broadcast_nullification_follows v = by_round (round_at x v) refl
-    where
-      r : RoundFacts K D
-      r = round_of x v
-
-      s : RoundFacts K D
-      s = record r { nullification_broadcast = r.nullification_broadcast || is_some r.nullification }
-
-      handed : known_of s ≡ adds same elect x (BroadcastNullification v) v (known_of r)
-      handed = rw (eq-eqb v v refl) (λ i. record (known_of r) { nullification_broadcast = or_swap r.nullification_broadcast (is_some r.nullification) i })
-
-      by_round : (o : Option (RoundFacts K D)) → round_at x v ≡ o → Follows same elect (BroadcastNullification v) x (if is_some o then with_round x v s else x)
-      by_round (Some _) found = record { settings = refl; terms = refl; genesis = refl; moment = refl; current = omega arith; finalized = omega arith; nullified = λ w _. refl; nullify_votes = λ w _. refl; rounds = λ w _. put_alone same elect x (BroadcastNullification v) v s handed (λ u apart k. rw apart refl) w }
-      by_round None none =
-          let empty : is_some (round_of x v).nullification ≡ false = ap (λ o. is_some (unwrap_or o (new_round x.me x.members (round_number x v))).nullification) none in
-          record { settings = refl; terms = refl; genesis = refl; moment = refl; current = omega arith; finalized = omega arith; nullified = λ w _. refl; nullify_votes = λ w _. refl; rounds = λ w _. nothing_added same elect x (BroadcastNullification v) w (λ k. rw (empty, and_false (eqb w v)) refl) (round_of x w) (round_of x w) refl }
+  broadcast_nullification_follows v =
+      let r = round_of x v in
+      handed_follows same elect x (BroadcastNullification v) refl v (record r { nullification_broadcast = r.nullification_broadcast || is_some r.nullification }) refl
+      (rw (eq-eqb v v refl) (λ i. record (known_of r) { nullification_broadcast = or_swap r.nullification_broadcast (is_some r.nullification) i }))
+      (λ u apart k. rw apart refl)
+      (λ untracked w k. rw (ap (λ (s : RoundFacts K D). is_some s.nullification) untracked, and_false (eqb w v)) refl)
 
   pub broadcast_finalization_follows : (v : ℕ) → Follows same elect (BroadcastFinalization v) x (after_broadcast_finalization x v)
-  broadcast_finalization_follows v = by_round (round_at x v) refl
-    where
-      r : RoundFacts K D
-      r = round_of x v
-
-      s : RoundFacts K D
-      s = record r { finalization_broadcast = r.finalization_broadcast || is_some r.finalization }
-
-      handed : known_of s ≡ adds same elect x (BroadcastFinalization v) v (known_of r)
-      handed = rw (eq-eqb v v refl) (λ i. record (known_of r) { finalization_broadcast = or_swap r.finalization_broadcast (is_some r.finalization) i })
-
-      by_round : (o : Option (RoundFacts K D)) → round_at x v ≡ o → Follows same elect (BroadcastFinalization v) x (if is_some o then with_round x v s else x)
-      by_round (Some _) found = record { settings = refl; terms = refl; genesis = refl; moment = refl; current = omega arith; finalized = omega arith; nullified = λ w _. refl; nullify_votes = λ w _. refl; rounds = λ w _. put_alone same elect x (BroadcastFinalization v) v s handed (λ u apart k. rw apart refl) w }
-      by_round None none =
-          let empty : is_some (round_of x v).finalization ≡ false = ap (λ o. is_some (unwrap_or o (new_round x.me x.members (round_number x v))).finalization) none in
-          record { settings = refl; terms = refl; genesis = refl; moment = refl; current = omega arith; finalized = omega arith; nullified = λ w _. refl; nullify_votes = λ w _. refl; rounds = λ w _. nothing_added same elect x (BroadcastFinalization v) w (λ k. rw (empty, and_false (eqb w v)) refl) (round_of x w) (round_of x w) refl }
+  broadcast_finalization_follows v =
+      let r = round_of x v in
+      handed_follows same elect x (BroadcastFinalization v) refl v (record r { finalization_broadcast = r.finalization_broadcast || is_some r.finalization }) refl
+      (rw (eq-eqb v v refl) (λ i. record (known_of r) { finalization_broadcast = or_swap r.finalization_broadcast (is_some r.finalization) i }))
+      (λ u apart k. rw apart refl)
+      (λ untracked w k. rw (ap (λ (s : RoundFacts K D). is_some s.finalization) untracked, and_false (eqb w v)) refl)
 
   pub prune_follows : Follows same elect Prune x (after_prune x)
   prune_follows = record {
