@@ -8,9 +8,8 @@ use Rattle.simplex_member.specs.Calls.{TryVerify, Verified, ConstructNotarize, T
 use Rattle.simplex_member.specs.Runs.{StepFacts, Calls, Restarts}
 use Rattle.simplex_laws.specs.Continuations.{and_then}
 use Rattle.simplex_laws.specs.Places.{Place, Faulty, Honest}
-use Rattle.simplex_laws.specs.Scripts.{round, proposal, one}
+use Rattle.simplex_laws.specs.Turns.{round, proposal, one, begin_at, begins_with, context_of, builds, hears, verifies, certifies, finalizes, gives_up, skips}
 use Rattle.simplex_laws.specs.Stories.{Story}
-use Rattle.simplex_laws.specs.Turns.{begin_at, begins_with, context_of, builds, hears, verifies, certifies, finalizes, gives_up, skips}
 
 -- the leader's other proposal of view 1
 abbrev pub rival : Proposal ℕ

@@ -9,9 +9,8 @@ use Rattle.simplex_member.specs.Calls.{TryPropose, Proposed, ConstructNotarize, 
 use Rattle.simplex_member.specs.Runs.{StepFacts, Calls}
 use Rattle.simplex_laws.specs.Continuations.{and_then}
 use Rattle.simplex_laws.specs.Places.{Place, Faulty, Honest}
-use Rattle.simplex_laws.specs.Scripts.{proposal, notarize_vote, two}
+use Rattle.simplex_laws.specs.Turns.{proposal, notarize_vote, two, begins_with, first_view, context_of, builds, hears, verifies, certifies, finalizes, gives_up, skips}
 use Rattle.simplex_laws.specs.Stories.{Story}
-use Rattle.simplex_laws.specs.Turns.{begins_with, first_view, context_of, builds, hears, verifies, certifies, finalizes, gives_up, skips}
 
 -- view 3, which starts a term, is built on view 2 before that is certified
 abbrev pub handed_over : Proposal ℕ

@@ -8,9 +8,8 @@ use Rattle.simplex_member.specs.Calls.{AddNotarization, CertifyCandidates, TryVe
 use Rattle.simplex_member.specs.Runs.{StepFacts, Calls}
 use Rattle.simplex_laws.specs.Continuations.{and_then}
 use Rattle.simplex_laws.specs.Places.{Place, Faulty, Honest}
-use Rattle.simplex_laws.specs.Scripts.{proposal, certificate, one, two}
+use Rattle.simplex_laws.specs.Turns.{proposal, certificate, one, two, begins_with, first_view, builds, hears, verifies, certifies, finalizes, gives_up, skips}
 use Rattle.simplex_laws.specs.Stories.{Story}
-use Rattle.simplex_laws.specs.Turns.{begins_with, first_view, builds, hears, verifies, certifies, finalizes, gives_up, skips}
 
 -- view 3 is built on view 1
 abbrev pub over_two : Proposal ℕ

@@ -1,6 +1,6 @@
 -- What a member of a network does, over all its lives: what comes to it, what it answers, and its deeds.
 use Rattle.std.specs.Prelude.{◌≡◌, ◌⊎◌, ℕ, Bool, List, ◌++◌, Contains, Some, None}
-use Rattle.simplex_voter.specs.Facts.{StateFacts, Elect}
+use Rattle.simplex_voter.specs.Facts.{Elect}
 use Rattle.simplex_member.specs.Calls.{Told}
 use Rattle.simplex_member.specs.Runs.{StepFacts, Restarts, IsRunFrom}
 use Rattle.simplex_member.specs.Start.{Setup, StartFacts}

@@ -1,18 +1,62 @@
--- Pieces of the stories of four members that take turns to lead. Each step stands beside its reply; keys, electors and payloads are numbers.
-use Rattle.std.specs.Prelude.{ℕ, ◌+◌, ◌%◌, Bool, true, List, [], ◌∷◌, ◌++◌, map, Some, None}
+-- Pieces of the stories of four members. Each step stands beside its reply; keys, electors and payloads are numbers.
+use Rattle.std.specs.Prelude.{ℕ, ◌+◌, ◌%◌, Bool, true, false, List, [], ◌∷◌, ◌++◌, map, Some, None}
+use Rattle.simplex_types.specs.Certificates.{ProposalFacts, NullificationFacts, NotarizeVote, NullifyVote, FinalizeVote}
 use Rattle.simplex_types.specs.Config.{Genesis}
 use Rattle.simplex_types.specs.Terms.{term_index}
 use Rattle.simplex_types.specs.declared.reasons.TimeoutReason.{TimeoutReason}
 use Rattle.simplex_types.specs.declared.types.messages.Context.{Context}
 use Rattle.simplex_types.specs.declared.types.messages.Proposal.{Proposal}
-use Rattle.simplex_voter.specs.Facts.{Elect}
+use Rattle.simplex_types.specs.declared.types.numbers.Round.{Round}
+use Rattle.simplex_voter.specs.Facts.{Settings, Elect}
 use Rattle.simplex_voter.specs.declared.voter.propose.ProposalRequest.TheVariants.{Propose}
 use Rattle.simplex_voter.specs.declared.voter.verify.Verify.TheVariants.{Ready}
-use Rattle.simplex_member.specs.Calls.{AddNotarization, AddNullification, AddFinalization, SetProposal, TryPropose, Proposed, TryVerify, Verified, ConstructNotarize, CertifyCandidates, Certified, ConstructNullify, ConstructFinalize, NextTimeout, Told, Added, AddedNullification, Judged, Standing, Answered, Requested, Candidates, TimesOut}
+use Rattle.simplex_member.specs.Calls.{AddNotarization, AddNullification, AddFinalization, SetProposal, TryPropose, Proposed, TryVerify, Verified, ConstructNotarize, CertifyCandidates, Certified, ConstructNullify, ConstructFinalize, NextTimeout, Told, Added, AddedNullification, Judged, Nullify, Finalize, Notarize, Standing, Answered, Requested, Candidates, TimesOut}
 use Rattle.simplex_member.specs.Runs.{StepFacts, Calls}
-use Rattle.simplex_member.specs.Start.{StartFacts}
-use Rattle.simplex_laws.specs.Scripts.{set_up_as, round, certificate, nullification, nullify_vote, notarize_vote, finalize_vote, one}
+use Rattle.simplex_member.specs.Start.{Setup, StartFacts}
 use Rattle.simplex_laws.specs.Stories.{Story}
+
+abbrev pub settings : Settings
+settings = record { epoch = 1; view_retention = 1; leader_timeout = 1000; certification_timeout = 2000; timeout_retry = 500; skip_budget = 4 }
+
+-- terms of so many views, in which none is voted for ahead
+abbrev pub set_up_as : ℕ → ℕ → Setup ℕ ℕ
+set_up_as term_length me = record {
+  settings = settings;
+  me = Some me;
+  members = 0 ∷ 1 ∷ 2 ∷ 3 ∷ [];
+  elector = 1;
+  terms = record { term_length = term_length; optimistic_views = 0; stall_timeout = None };
+  elects_early = true;
+}
+
+abbrev pub round : ℕ → Round
+round view = record { epoch = 1; view = view }
+
+-- the payload is the view
+abbrev pub proposal : ℕ → ℕ → Proposal ℕ
+proposal view parent = record { round = round view; parent = parent; payload = view }
+
+abbrev pub certificate : Proposal ℕ → ProposalFacts ℕ
+certificate p = record { proposal = p; bytes = [] }
+
+abbrev pub nullification : ℕ → NullificationFacts
+nullification view = record { round = round view; bytes = [] }
+
+-- the first two proposals
+abbrev pub one : Proposal ℕ
+one = proposal 1 0
+
+abbrev pub two : Proposal ℕ
+two = proposal 2 1
+
+abbrev pub nullify_vote : ℕ → ℕ → Told ℕ ℕ
+nullify_vote me view = Nullify (Some (false, NullifyVote (round view) me))
+
+abbrev pub notarize_vote : ℕ → Proposal ℕ → Told ℕ ℕ
+notarize_vote me p = Notarize (Some (NotarizeVote p me))
+
+abbrev pub finalize_vote : ℕ → Proposal ℕ → Told ℕ ℕ
+finalize_vote me p = Finalize (Some (FinalizeVote p me))
 
 -- member 3 leads the first term, then 0, 1, 2, 3 and so on; the elector is the length of terms
 abbrev pub in_turn : Elect ℕ
@@ -22,9 +66,13 @@ in_turn length round seed = (term_index length round.view + 3) % 4
 abbrev pub begin_at : ℕ → ℕ → StartFacts ℕ ℕ ℕ
 begin_at term_length me = record { setup = record (set_up_as term_length me) { elector = term_length }; floor = Genesis 0; now = 0 }
 
+-- a member's start, and what it does then
+abbrev pub story_of : StartFacts ℕ ℕ ℕ → List (StepFacts ℕ ℕ ℕ × Told ℕ ℕ) → Story ℕ ℕ ℕ
+story_of start steps = record { start = start; steps = map (λ e. e.0) steps; replies = map (λ e. e.1) steps }
+
 -- a member that starts at genesis, and what it does then
 abbrev pub begins_with : ℕ → ℕ → List (StepFacts ℕ ℕ ℕ × Told ℕ ℕ) → Story ℕ ℕ ℕ
-begins_with term_length me steps = record { start = begin_at term_length me; steps = map (λ e. e.0) steps; replies = map (λ e. e.1) steps }
+begins_with term_length me steps = story_of (begin_at term_length me) steps
 
 -- the payload of a view is its number
 abbrev pub context_of : ℕ → Proposal ℕ → Context ℕ ℕ
@@ -50,31 +98,47 @@ verifies me leader p =
 abbrev pub hears : Proposal ℕ → Bool → StepFacts ℕ ℕ ℕ × Told ℕ ℕ
 hears p first = (Calls (SetProposal p.round.view p), Answered first)
 
--- it accepts the notarization of a proposal, and certifies it
+-- it accepts the notarization of a proposal
+abbrev pub accepts_notarization : Proposal ℕ → StepFacts ℕ ℕ ℕ × Told ℕ ℕ
+accepts_notarization p = (Calls (AddNotarization (certificate p)), Added true None)
+
+-- and is told that the proposal is certified
+abbrev pub accepts : Proposal ℕ → List (StepFacts ℕ ℕ ℕ × Told ℕ ℕ)
+accepts p =
+    accepts_notarization p
+    ∷ (Calls (Certified p.round.view true 0), Judged true (Some (certificate p)))
+    ∷ []
+
+-- the same, and offers it for certification between
 abbrev pub certifies : Proposal ℕ → List (StepFacts ℕ ℕ ℕ × Told ℕ ℕ)
 certifies p =
-    (Calls (AddNotarization (certificate p)), Added true None)
+    accepts_notarization p
     ∷ (Calls CertifyCandidates, Candidates (p ∷ []) [])
     ∷ (Calls (Certified p.round.view true 0), Judged true (Some (certificate p)))
     ∷ []
 
--- it votes to finalize the proposal
+-- it votes to finalize the proposal, or may not
 abbrev pub votes_for : ℕ → Proposal ℕ → StepFacts ℕ ℕ ℕ × Told ℕ ℕ
 votes_for me p = (Calls (ConstructFinalize p.round.view), finalize_vote me p)
 
+abbrev pub may_not_finalize : ℕ → StepFacts ℕ ℕ ℕ × Told ℕ ℕ
+may_not_finalize view = (Calls (ConstructFinalize view), Finalize None)
+
+-- it accepts the finalization of the proposal
+abbrev pub accepts_finalization : Proposal ℕ → StepFacts ℕ ℕ ℕ × Told ℕ ℕ
+accepts_finalization p = (Calls (AddFinalization (certificate p) 0), Added true None)
+
 -- it votes to finalize the proposal, and accepts the finalization
 abbrev pub finalizes : ℕ → Proposal ℕ → List (StepFacts ℕ ℕ ℕ × Told ℕ ℕ)
-finalizes me p =
-    votes_for me p
-    ∷ (Calls (AddFinalization (certificate p) 0), Added true None)
-    ∷ []
+finalizes me p = votes_for me p ∷ accepts_finalization p ∷ []
+
+-- it votes to nullify a view
+abbrev pub votes_against : ℕ → ℕ → StepFacts ℕ ℕ ℕ × Told ℕ ℕ
+votes_against me view = (Calls (ConstructNullify view), nullify_vote me view)
 
 -- the view times out, and it votes to nullify it
 abbrev pub gives_up : ℕ → ℕ → ℕ → TimeoutReason → List (StepFacts ℕ ℕ ℕ × Told ℕ ℕ)
-gives_up me view at why =
-    (Calls (NextTimeout 0), TimesOut (Some (at, why)))
-    ∷ (Calls (ConstructNullify view), nullify_vote me view)
-    ∷ []
+gives_up me view at why = (Calls (NextTimeout 0), TimesOut (Some (at, why))) ∷ votes_against me view ∷ []
 
 -- it accepts the nullification of a view
 abbrev pub skips : ℕ → StepFacts ℕ ℕ ℕ × Told ℕ ℕ

@@ -1,6 +1,6 @@
 -- For `accountability`.
 -- Accountability: two quorums share n - 2f members, and one that gave both votes broke a rule or accepted a contradiction.
-use Rattle.std.proofs.Common.{◌≡◌, ◌≢◌, ℕ, ◌-◌, ◌*◌, ◌<◌, ◌≤◌, inl, inr, List, length, Option, Some, None, Contains, arith, refl, sym, ap, ◌∙◌}
+use Rattle.std.proofs.Common.{◌≡◌, ◌≢◌, ℕ, ◌-◌, ◌*◌, ◌<◌, inl, inr, List, length, Option, Some, None, arith, sym, ◌∙◌}
 use Rattle.std.specs.Prelude.{true}
 use Rattle.std.proofs.lemmas.Bool.{false≢true}
 use Rattle.simplex_types.specs.declared.types.messages.Proposal.{Proposal}

@@ -12,7 +12,7 @@ use Rattle.simplex_types.proofs.Covers.{covers_parts}
 use Rattle.simplex_voter.specs.Facts.{Elect}
 use Rattle.simplex_laws.specs.Agreement.{Certified, OneProposal, FinalizedUncovered, ParentBefore, ParentNotBelow, FinalizedNotarized, Chain, ChainHoldsFinalized}
 use Rattle.simplex_laws.specs.Deeds.{Deed, Accepts}
-use Rattle.simplex_laws.specs.Lawful.{HasSigned, SignsAfter, IsLawful}
+use Rattle.simplex_laws.specs.Lawful.{SignsAfter, IsLawful}
 use Rattle.simplex_laws.specs.Places.{Place, Honest, Backed, IsNetworkOf}
 use Rattle.simplex_laws.specs.Stories.{Story, deeds_of}
 use Rattle.simplex_laws.proofs.agreement.Quorums.{shared_member}

@@ -43,7 +43,7 @@ use Rattle.simplex_laws.specs.Events.{Event, after_event, SetFloor, AddNotarizat
 use Rattle.simplex_laws.specs.Sums.{finalized_by_event}
 use Rattle.simplex_laws.proofs.frames.Steps as step
 use Rattle.simplex_laws.proofs.frames.Rounds.{round_put}
-use Rattle.simplex_laws.proofs.frames.Steps.{is_timed, RoundStep, Step, Path, Still, Then, Puts, Moves, Founds, Names, Unnames, Covers, Notes, Reaches, Raises, Scans, Prunes, notarization_by, nullification_by, finalization_by, verdict_by, nullify_by}
+use Rattle.simplex_laws.proofs.frames.Steps.{is_timed, RoundStep, Path, Still, Then, Puts, Moves, Founds, Names, Unnames, Covers, Notes, Reaches, Raises, Scans, Prunes, notarization_by, nullification_by, finalization_by, nullify_by}
 
 -- what holds of a view's round and of no new one is of a tracked view
 pub tracked_by : {K L D : Type 0} (x : StateFacts K L D) (v : ℕ) (test : RoundFacts K D → Bool) → test (new_round x.me x.members (round_number x v)) ≡ false → test (round_of x v) ≡ true → is_tracked x v ≡ true

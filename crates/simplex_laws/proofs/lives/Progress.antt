@@ -1,6 +1,6 @@
 -- For `views_are_left`.
 -- The current view of each state of a run can be left.
-use Rattle.std.proofs.Common.{◌≡◌, refl, ap, sym, ◌∙◌, subst, ℕ, ◌+◌, ◌-◌, ◌<◌, ◌≤◌, max, Bool, true, false, ◌&&◌, not, nat_lt, nat_le, if◌then◌else◌, inl, inr, List, Option, Some, None, is_some, unwrap_or, arith}
+use Rattle.std.proofs.Common.{◌≡◌, refl, ap, sym, ◌∙◌, subst, ℕ, ◌+◌, ◌-◌, ◌<◌, max, Bool, true, false, ◌&&◌, not, nat_lt, nat_le, if◌then◌else◌, inl, inr, List, Option, Some, None, is_some, unwrap_or, arith}
 use Rattle.std.specs.Prelude.{◌==◌, MatchOption}
 use Rattle.std.specs.Option.{option_map_or}
 use Rattle.std.proofs.Math.Nat.{le-max_right}
@@ -8,7 +8,6 @@ use Rattle.std.proofs.lemmas.Bool.{lt-ltb, le-leb, eq-eqb, false≢true}
 use Rattle.simplex_types.specs.Certificates.{ProposalFacts, NullificationFacts}
 use Rattle.simplex_types.specs.Config.{FloorFacts}
 use Rattle.simplex_types.specs.Terms.{next_term_start}
-use Rattle.simplex_types.specs.declared.types.fault.Fault.{Fault}
 use Rattle.simplex_types.specs.declared.types.numbers.Round.{Round}
 use Rattle.simplex_types.proofs.Gaps.{next_above}
 use Rattle.simplex_round.specs.Round.{RoundFacts, is_judged, new_round}
@@ -24,7 +23,7 @@ use Rattle.simplex_member.specs.Runs.{StepFacts, IsRun}
 use Rattle.simplex_member.specs.Start.{StartFacts, started_member, new_state}
 use Rattle.simplex_laws.specs.Events as event
 use Rattle.simplex_laws.specs.Events.{Event, after_event}
-use Rattle.simplex_laws.specs.Progress.{GoesPast, CallsGoPast, CanBeLeft}
+use Rattle.simplex_laws.specs.Progress.{GoesPast, CanBeLeft}
 use Rattle.simplex_laws.specs.TermLengths.{HasTerms, KeepTerms}
 use Rattle.simplex_laws.proofs.histories.FollowingHanded.{and_false, nullification_follows, verdict_follows}
 use Rattle.simplex_laws.proofs.frames.Fresh.{IsFresh}

@@ -20,7 +20,7 @@ use Rattle.simplex_laws.specs.Events as event
 use Rattle.simplex_laws.specs.Events.{Event, after_event}
 use Rattle.simplex_laws.specs.Sums.{finalized_by_event, is_prune}
 use Rattle.simplex_laws.specs.TermLengths.{HasTerms, KeepTerms}
-use Rattle.simplex_laws.proofs.frames.Fresh.{IsFresh, fresh_state}
+use Rattle.simplex_laws.proofs.frames.Fresh.{IsFresh}
 use Rattle.simplex_laws.specs.LifeLaws.{CurrentTimesOut}
 use Rattle.simplex_member.specs.Calls.{Told}
 use Rattle.simplex_member.specs.Lives.{MemberFacts}

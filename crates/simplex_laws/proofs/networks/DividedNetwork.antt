@@ -20,9 +20,8 @@ use Rattle.simplex_laws.specs.DividedNetwork.{rival, deceived, warned, divided, 
 use Rattle.simplex_laws.specs.Continuations.{and_then, PlacesGoOn, GoesOnToFinalize}
 use Rattle.simplex_laws.specs.Deeds.{Deed, Signs}
 use Rattle.simplex_laws.specs.Places.{FewFaulty, Backed, IsNetworkOf}
-use Rattle.simplex_laws.specs.Scripts.{one}
+use Rattle.simplex_laws.specs.Turns.{one, in_turn}
 use Rattle.simplex_laws.specs.Stories.{Story, deeds_of, Ran}
-use Rattle.simplex_laws.specs.Turns.{in_turn}
 use Rattle.simplex_laws.proofs.networks.ComputedRuns.{rises}
 use Rattle.simplex_laws.proofs.networks.Continuations.{AllRan, all_ran_before, network_of, goes_on_so}
 use Rattle.simplex_laws.proofs.records.DeedsShown.{only_one}

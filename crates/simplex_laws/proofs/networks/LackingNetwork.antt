@@ -13,9 +13,8 @@ use Rattle.simplex_member.specs.Check.{first_recover_error}
 use Rattle.simplex_laws.specs.Continuations.{and_then, HasAccepted, PlacesGoOn, GoesOnToFinalize}
 use Rattle.simplex_laws.specs.LackingNetwork.{lacks_nullification, skips_two, member_without_notarization, lacking, finishes, has_nullification, has_notarization, supplied, over_two}
 use Rattle.simplex_laws.specs.Places.{FewFaulty, IsNetworkOf}
-use Rattle.simplex_laws.specs.Scripts.{round, one}
+use Rattle.simplex_laws.specs.Turns.{round, one, in_turn}
 use Rattle.simplex_laws.specs.Stories.{Story, Ran}
-use Rattle.simplex_laws.specs.Turns.{in_turn}
 use Rattle.simplex_laws.proofs.networks.Continuations.{not_accepted, AllRan, all_ran_before, network_of, goes_on_so}
 use Rattle.simplex_laws.proofs.networks.Turns.{begins, told_in, ran_as_told}
 

@@ -17,7 +17,8 @@ use Rattle.simplex_member.specs.Cuts.{may_drop, pruned_entries}
 use Rattle.simplex_member.specs.Entries.{entry_view}
 use Rattle.simplex_member.specs.Recovery.{recovered_state, after_kept_entry}
 use Rattle.simplex_laws.specs.Places.{Honest, Backed, IsNetworkOf}
-use Rattle.simplex_laws.specs.Scripts.{leader, start_at, round, proposal, certificate, one, two, impatient, patient, forgetful, four, restarting, skipping, five}
+use Rattle.simplex_laws.specs.Scripts.{leader, start_at, impatient, patient, forgetful, four, restarting, skipping, five}
+use Rattle.simplex_laws.specs.Turns.{round, proposal, certificate, one, two}
 use Rattle.simplex_laws.specs.Deeds.{Accepts}
 use Rattle.simplex_laws.specs.Stories.{Story, deeds_of, BeginsAs, Ran}
 use Rattle.simplex_laws.proofs.networks.ComputedRuns.{replies_from, Fits, begun, fits_run_from, rises, each_begins}

@@ -21,7 +21,6 @@ use Rattle.simplex_laws.proofs.votes.StartStands.{start_stays, floor_unsigned}
 use Rattle.simplex_laws.proofs.frames.CallsMake.{all_keep}
 use Rattle.simplex_laws.proofs.frames.Rising.{event_goes, finalization_passes}
 use Rattle.simplex_laws.specs.Events as event
-use Rattle.simplex_laws.specs.Events.{Event}
 use Rattle.simplex_laws.proofs.records.DeedsShown.{Remembers, AreRecorded, entries_deeds, entry_of, deed_of, of_accept, all_stay, stays_over}
 
 module _ {K L D : Type 0} (same : D → D → Bool) (elect : Elect L) (x : StateFacts K L D) (now : ℕ) where

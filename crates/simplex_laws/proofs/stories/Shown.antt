@@ -16,7 +16,7 @@ use Rattle.simplex_member.specs.Calls.{Told, told, asked, CallFacts, Added, Adde
 use Rattle.simplex_member.specs.declared.member.restart.Restart.{Restart}
 use Rattle.simplex_member.specs.Restarts.{RestartFacts, restart_facts}
 use Rattle.simplex_member.specs.Runs.{Calls, Restarts, step_facts, steps_of, restart_told}
-use Rattle.simplex_member.specs.Start.{start_facts, new_state}
+use Rattle.simplex_member.specs.Start.{start_facts}
 use Rattle.simplex_member.specs.declared.member.error.RecoverError.{RecoverError}
 use Rattle.std.proofs.lemmas.List.{append-nil}
 use Rattle.simplex_laws.specs.Living.{story_of}

@@ -4,7 +4,8 @@ ghost use Rattle.std.specs.Prelude.{◌≡◌, ℕ, nat_eq, false, true, List, [
 ghost use Rattle.simplex_types.specs.Terms.{covers};
 ghost use Rattle.simplex_types.specs.declared.types.messages.Subject.TheVariants.{Notarize, Nullify, Finalize};
 ghost use Rattle.simplex_laws.specs.Places.{faults, IsNetworkOf, Backed};
-ghost use Rattle.simplex_laws.specs.Scripts.{leader, round, proposal, one, two, impatient, patient, four, restarting, skipping, five};
+ghost use Rattle.simplex_laws.specs.Scripts.{leader, impatient, patient, four, restarting, skipping, five};
+ghost use Rattle.simplex_laws.specs.Turns.{round, proposal, one, two};
 ghost use Rattle.simplex_laws.specs.Deeds.{Accepts, Signs};
 ghost use Rattle.simplex_laws.specs.Stories.{deeds_of, Ran};
 

@@ -1,4 +1,4 @@
-use Rattle.std.proofs.Common.{◌≡◌, true, ap, sym, ◌∙◌, inr}
+use Rattle.std.proofs.Common.{ap, ◌∙◌, inr}
 use Rattle.example_calls.proofs.lawful.blocks_agree.Goals as goal
 
 pub returns : goal.returns
