@@ -36,6 +36,15 @@ def parent_of(pid):
         return int(it.read().rpartition(")")[2].split()[1])
 
 
+def is_below(pid, top):
+    """Whether a process was begun by another one, or by one that it began."""
+    while pid > 1:
+        pid = parent_of(pid)
+        if pid == top:
+            return True
+    return False
+
+
 def is_check(words):
     """Whether this is the compiler at work on a crate."""
     return os.path.basename(words[0]) == "rattle" and words[1:2] in (["check"], ["build"]) and "--crate-name" in words
@@ -52,14 +61,14 @@ def step_of(words, folder):
     return name, "tests" if "--test" in words else "proof"
 
 
-def look(found):
-    """Notes what each check under way has taken so far. What its forks take is counted with it, once they have ended."""
+def look(found, top):
+    """Notes what each check below a process has taken so far. What its forks take is counted with it, once they have ended."""
     for entry in os.listdir("/proc"):
         if not entry.isdigit():
             continue
         try:
             words = words_of(entry)
-            if not is_check(words) or is_check(words_of(parent_of(entry))):
+            if not is_check(words) or is_check(words_of(parent_of(entry))) or not is_below(int(entry), top):
                 continue
             key = entry, *step_of(words, os.readlink(f"/proc/{entry}/cwd"))
             found[key] = max(found.get(key, 0), spent(entry))
@@ -84,7 +93,7 @@ def main(file, *command):
     found = {}
     with subprocess.Popen(command) as running:
         while running.poll() is None:
-            look(found)
+            look(found, running.pid)
             time.sleep(1)
     with open(file, "w", encoding="utf-8") as it:
         it.writelines(f"{line}\n" for line in table(found))
