@@ -46,6 +46,7 @@ module _ {K D : Type 0} where
   accepted_by call (AddedNullification _) = handed_in call
   accepted_by call _ = []
 
+  -- what a call does that others can learn of, by what it was told
   abbrev pub deeds_of_call : CallFacts D → Told K D → List (Deed D)
   deeds_of_call call told = accepted_by call told ++ signed_in told
 
@@ -56,6 +57,7 @@ module _ {K L D : Type 0} where
   accepted_at (Restarts r) Restarted = of_floor r.start.floor
   accepted_at (Restarts r) _ = []
 
+  -- what a step does, by its reply
   abbrev pub deeds_at : StepFacts K L D → Told K D → List (Deed D)
   deeds_at step told = accepted_at step told ++ signed_in told
 

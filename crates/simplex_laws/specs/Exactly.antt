@@ -12,6 +12,7 @@ use Rattle.simplex_member.specs.Start.{started_member, new_state}
 use Rattle.simplex_laws.specs.Deeds.{Deed, Signs, signed_in}
 use Rattle.simplex_laws.specs.Stories.{Story}
 
+-- a call is refused for a fault
 abbrev pub is_refused : {K D : Type 0} → Told K D → Bool
 is_refused (Refused fault) = true
 is_refused _ = false

@@ -40,6 +40,7 @@ module _ {K L D : Type 0} where
       then history
       else with_events history (retaken_events now e)
 
+  -- with entries that are taken again, one after another
   abbrev pub with_entries : History K L D → ℕ → List (ArtifactFacts D) → History K L D
   with_entries history now [] = history
   with_entries history now (e ∷ rest) = with_entries (with_entry_taken history now e) now rest
@@ -84,6 +85,7 @@ module _ (K : Type 0) {L D : Type 0} (same : D → D → Bool) (elect : Elect L)
       (history : History K L D) (x : StateFacts K L D) (e : Event K D) → Shows same elect history x → IsEvent x e
       → Shows same elect (with_event history e) (after_event same elect x e)
 
+  -- a call makes of the history what it says
   abbrev pub CallsAreShown : Type 0
   CallsAreShown =
       (history : History K L D) (m left : MemberFacts K L D) (call : CallFacts D) (told : Told K D)
@@ -91,6 +93,7 @@ module _ (K : Type 0) {L D : Type 0} (same : D → D → Bool) (elect : Elect L)
       → IsCall same elect m call told left
       → IsShown same elect (with_call_events history m.openings call told) left
 
+  -- a recovery that is not refused is shown by the history that it begins
   abbrev pub RecoveriesAreShown : Type 0
   RecoveriesAreShown =
       (start : StartFacts K L D) (entries : List (ArtifactFacts D))

@@ -35,35 +35,36 @@ module _ {K L D : Type 0} (elect : Elect L) where
   abbrev pub elected_leader : StateFacts K L D → ℕ → ℕ → Option (List ℕ) → Option (Leader K)
   elected_leader x v w seed = if v == w then leader_at x.members (elect x.elector (round_number x w) seed) else None
 
-  -- the certificate elects for the next view; the first of its kind opens windows above it, which take the nearest leader
-
+  -- the leader that a certificate's window gives the view, once the certificate has elected for the next view
   abbrev pub opens : StateFacts K L D → ℕ → ProposalFacts D → Option (Leader K)
   opens x v c =
       let u = c.proposal.round.view in
       window_leader (with_elected_leader elect x (u + 1) (Some c.bytes)) u v
 
+  -- the leader that a certificate gives the view: it elects for the next one, and the first of its kind opens windows above it
   abbrev pub leads_by : StateFacts K L D → Bool → ℕ → ProposalFacts D → Option (Leader K)
   leads_by x is_first v c =
       option_or
       (elected_leader x v (c.proposal.round.view + 1) (Some c.bytes))
       (if is_first then same_member x (opens x v c) else None)
 
+  -- a certificate has the view tracked: its own, the next one, and those of a window that get a leader
   abbrev pub tracks_by : StateFacts K L D → Bool → ℕ → ProposalFacts D → Bool
   tracks_by x is_first v c =
       v == c.proposal.round.view || v == c.proposal.round.view + 1 || is_first && is_some (opens x v c)
 
-  -- a proposal or this member's own vote for w readies the next view: in its window it takes the leader of w, and at a
-  -- term's start, after its own vote, a member that is elected early takes it over
-
+  -- at a term's start a member that is elected early takes the view over, after its own vote for the view before
   abbrev pub takes_over : StateFacts K L D → Bool → ℕ → Bool
   takes_over x voted v = voted && is_elected_early elect x v
 
+  -- the leader that a proposal or an own vote of w gives the view: in its window the next view takes the leader of w
   abbrev pub leads_after : StateFacts K L D → Bool → ℕ → ℕ → Option (Leader K)
   leads_after x voted w v =
       if in_window x (w + 1)
       then (if v == w + 1 then same_member x (round_of x w).leader else None)
       else (if takes_over x voted (w + 1) then elected_leader x v (w + 1) None else None)
 
+  -- a proposal or an own vote of w has the next view tracked, where it gets a leader
   abbrev pub tracks_after : StateFacts K L D → Bool → ℕ → ℕ → Bool
   tracks_after x voted w v =
       v == w + 1 && (if in_window x (w + 1) then is_some (round_of x w).leader else takes_over x voted (w + 1))

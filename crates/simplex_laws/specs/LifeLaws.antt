@@ -94,6 +94,7 @@ module _ {K D : Type 0} where
   HandedOnce calls replies = (kind : Kind) → IsDistinct nat_eq (handed_in kind calls replies)
 
 module _ {D : Type 0} where
+  -- which kind of certificate it is
   abbrev pub kind_of : CertificateFacts D → Kind
   kind_of (Notarized _) = Notarization
   kind_of (Nullified _) = Nullification

@@ -18,6 +18,7 @@ use Rattle.simplex_laws.specs.Deeds.{Deed}
 use Rattle.simplex_laws.specs.Shown.{floor_in, begun_by, IsSetUpAs}
 use Rattle.simplex_laws.specs.Stories.{Story, deeds_of, LivesAs, Ran}
 
+-- what came to a member of the code and what it answered, as a story
 abbrev pub story_of : {S L D K G C : Type 0} → (S → Option ℕ) → (S → List K) → (L → Terms) → (L → Bool) → (C → List ℕ) → Start S L D K G C
     → List (Step S L D K G C) → List (Reply S D K G C) → Story K L D
 story_of me members terms elects_early bytes_of start steps replies = record {

@@ -22,31 +22,32 @@ contradicts same held (Some p) = option_map_or (λ h. not (same_proposal same h 
 -- what one event does at a view, by what is known before it
 
 module _ {K L D : Type 0} where
-  -- each certificate is handed out, or was before it was replayed
-
+  -- the notarization of a view is handed out, or was before it was replayed
   abbrev pub hands_out_notarization : ℕ → StateFacts K L D → Event K D → Bool
   hands_out_notarization v x (BroadcastNotarization w) = v == w && is_some (round_of x w).notarization
   hands_out_notarization v x (Replay (Accepted (Notarized c))) = v == c.proposal.round.view
   hands_out_notarization v x _ = false
 
+  -- the nullification
   abbrev pub hands_out_nullification : ℕ → StateFacts K L D → Event K D → Bool
   hands_out_nullification v x (BroadcastNullification w) = v == w && is_some (round_of x w).nullification
   hands_out_nullification v x (Replay (Accepted (Nullified c))) = v == c.round.view
   hands_out_nullification v x _ = false
 
+  -- the finalization, which a floor hands out as well
   abbrev pub hands_out_finalization : ℕ → StateFacts K L D → Event K D → Bool
   hands_out_finalization v x (BroadcastFinalization w) = v == w && is_some (round_of x w).finalization
   hands_out_finalization v x (SetFloor (FloorFinalized c) _) = v == c.proposal.round.view
   hands_out_finalization v x (Replay (Accepted (Finalized c))) = v == c.proposal.round.view
   hands_out_finalization v x _ = false
 
-  -- a vote to nullify is decided; and it is out, where there is a key
-
+  -- a vote to nullify the view is decided
   abbrev pub decides_nullify : ℕ → StateFacts K L D → Event K D → Bool
   decides_nullify v x (ConstructNullify w) = v == w && may_nullify x w
   decides_nullify v x (Replay (NullifyVote round _)) = v == round.view
   decides_nullify v x _ = false
 
+  -- and it is out, where there is a key
   abbrev pub casts_nullify : ℕ → StateFacts K L D → Event K D → Bool
   casts_nullify v x (ConstructNullify w) = may_nullify x w && is_some x.me && v == w
   casts_nullify v x (Replay (NullifyVote round _)) = v == round.view
@@ -68,11 +69,13 @@ module _ {K L D : Type 0} where
   hears v x _ = None
 
 module _ {K L D : Type 0} (same : D → D → Bool) (elect : Elect L) where
+  -- a vote to finalize the view is decided
   abbrev pub decides_finalize : ℕ → StateFacts K L D → Event K D → Bool
   decides_finalize v x (ConstructFinalize w) = v == w && may_finalize elect x w
   decides_finalize v x (Replay (FinalizeVote p _)) = v == p.round.view
   decides_finalize v x _ = false
 
+  -- a vote to notarize it
   abbrev pub decides_notarize : ℕ → StateFacts K L D → Event K D → Bool
   decides_notarize v x (ConstructNotarize w) = v == w && may_notarize same elect x w
   decides_notarize v x (Replay (NotarizeVote p _)) = v == p.round.view
@@ -85,8 +88,7 @@ module _ {K L D : Type 0} (same : D → D → Bool) (elect : Elect L) where
   owns v x (Replay (NotarizeVote p _)) = at v p.round.view p
   owns v x _ = None
 
-  -- what the list says, from a new state on
-
+  -- what a list of events makes of a new state
   abbrev pub facts_after : StateFacts K L D → List (Event K D) → StateFacts K L D
   facts_after fresh [] = fresh
   facts_after fresh (e ∷ before) = after_event same elect (facts_after fresh before) e
@@ -96,12 +98,12 @@ module _ {K L D : Type 0} (same : D → D → Bool) (elect : Elect L) where
   was_done does fresh [] = false
   was_done does fresh (e ∷ before) = does (facts_after fresh before) e || was_done does fresh before
 
-  -- the first and the last that an event has said, by what was known before it
-
+  -- the first that an event has said, by what was known before it
   abbrev pub first_said : {A : Type 0} → (StateFacts K L D → Event K D → Option A) → StateFacts K L D → List (Event K D) → Option A
   first_said says fresh [] = None
   first_said says fresh (e ∷ before) = or_new (first_said says fresh before) (says (facts_after fresh before) e)
 
+  -- the last
   abbrev pub last_said : {A : Type 0} → (StateFacts K L D → Event K D → Option A) → StateFacts K L D → List (Event K D) → Option A
   last_said says fresh [] = None
   last_said says fresh (e ∷ before) = option_or (says (facts_after fresh before) e) (last_said says fresh before)

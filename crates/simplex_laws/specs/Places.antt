@@ -20,10 +20,12 @@ pub data Place (K L D : Type 0) : Type 0 where
   Honest : Story K L D → Place K L D
 
 module _ {K L D : Type 0} where
+  -- a faulty member stands there
   abbrev pub is_faulty : Place K L D → Bool
   is_faulty Faulty = true
   is_faulty (Honest s) = false
 
+  -- how many members are faulty
   abbrev pub faults : List (Place K L D) → ℕ
   faults network = count_by is_faulty network
 

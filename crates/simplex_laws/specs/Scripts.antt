@@ -1,4 +1,4 @@
--- Networks in which much happens, step by step. Member 3 leads each view.
+-- Networks in which much happens, step by step.
 use Rattle.std.specs.Prelude.{ℕ, Bool, true, false, List, [], ◌∷◌, ◌++◌}
 use Rattle.simplex_types.specs.Config.{FloorFacts, Genesis, Finalized}
 use Rattle.simplex_types.specs.declared.types.messages.Proposal.{Proposal}
@@ -8,11 +8,13 @@ use Rattle.simplex_member.specs.Runs.{StepFacts, Restarts}
 use Rattle.simplex_member.specs.Start.{StartFacts}
 use Rattle.simplex_laws.specs.Places.{Place, Faulty, Honest}
 use Rattle.simplex_laws.specs.Stories.{Story}
-use Rattle.simplex_laws.specs.Turns.{set_up_as, proposal, certificate, one, two, story_of, hears, verifies, accepts_notarization, accepts, votes_for, may_not_finalize, accepts_finalization, votes_against, skips}
+use Rattle.simplex_laws.specs.Turns.{set_up_as, proposal, certificate, one, two, story_from, hears, verifies, accepts_notarization, accepts, votes_for, may_not_finalize, accepts_finalization, votes_against, skips}
 
+-- member 3 leads each view
 abbrev pub leader : Elect ℕ
 leader length round seed = 3
 
+-- a start at a floor, at moment 0
 abbrev pub start_at : ℕ → FloorFacts ℕ → ℕ → StartFacts ℕ ℕ ℕ
 start_at term_length floor me = record { setup = set_up_as term_length me; floor = floor; now = 0 }
 
@@ -27,7 +29,7 @@ restarts drop prune start = (Restarts (record { drop = drop; prune = prune; star
 -- a term of five views: a member votes to nullify view 1 and may finalize neither it nor the next one, until it accepts the
 -- finalization of view 1
 abbrev pub impatient : Story ℕ ℕ ℕ
-impatient = story_of (start_at 5 (Genesis 0) 0) (
+impatient = story_from (start_at 5 (Genesis 0) 0) (
     votes_against 0 1
     ∷ accepts one
     ++ may_not_finalize 1
@@ -39,12 +41,12 @@ impatient = story_of (start_at 5 (Genesis 0) 0) (
 
 -- another one verifies both proposals and votes for each to the end
 abbrev pub patient : ℕ → Story ℕ ℕ ℕ
-patient me = story_of (start_at 5 (Genesis 0) me) (votes_through me one ++ votes_through me two)
+patient me = story_from (start_at 5 (Genesis 0) me) (votes_through me one ++ votes_through me two)
 
 -- a third one does the same, and restarts between the two: the finalization that came after its last vote is dropped, so that
 -- it is new again, but not the vote; and its record is pruned
 abbrev pub forgetful : Story ℕ ℕ ℕ
-forgetful = story_of (start_at 5 (Genesis 0) 2) (
+forgetful = story_from (start_at 5 (Genesis 0) 2) (
     votes_through 2 one
     ++ accepts_finalization one
     ∷ restarts 5 true (start_at 5 (Genesis 0) 2)
@@ -59,7 +61,7 @@ four = Honest impatient ∷ Honest (patient 1) ∷ Honest forgetful ∷ Faulty �
 -- a member restarts three times: first the notarization that came after its last vote is dropped, so that it is new again,
 -- but not the vote; then its record is pruned; then it starts at a finalized floor
 abbrev pub restarting : Story ℕ ℕ ℕ
-restarting = story_of (start_at 5 (Genesis 0) 1) (
+restarting = story_from (start_at 5 (Genesis 0) 1) (
     accepts one
     ++ votes_for 1 one
     ∷ accepts_notarization two
@@ -77,7 +79,7 @@ restarting = story_of (start_at 5 (Genesis 0) 1) (
 
 -- terms of one view: view 3 is built on view 1, over view 2, for which there is a nullification
 abbrev pub skipping : ℕ → Story ℕ ℕ ℕ
-skipping me = story_of (start_at 1 (Genesis 0) me) (
+skipping me = story_from (start_at 1 (Genesis 0) me) (
     hears one true
     ∷ verifies me 3 one
     ++ accepts one

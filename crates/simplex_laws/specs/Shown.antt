@@ -34,6 +34,7 @@ module _ {S D K G C : Type 0} where
   taken_by call (reply.AddedNullification _) = certificates_in call
   taken_by call _ = []
 
+  -- the finalization of a floor is accepted
   abbrev pub floor_in : Floor S D K G C → List (Deed D)
   floor_in (floor.Genesis _) = []
   floor_in (floor.Finalized c) = Accepts (subject.Finalize c.proposal) ∷ []
@@ -45,10 +46,12 @@ module _ {S L D K G C : Type 0} where
   taken_in (step.Restart restart) reply.Restarted = floor_in restart.start.floor
   taken_in _ _ = []
 
+  -- a start accepts it, unless it is refused
   abbrev pub begun_by : {E : Type 0} → Start S L D K G C → Result (Unit {0}) E → List (Deed D)
   begun_by start (Ok _) = floor_in start.floor
   begun_by start (Err _) = []
 
+  -- what the steps and their replies show, in turn
   abbrev pub shown_by : List (Step S L D K G C) → List (Reply S D K G C) → List (Deed D)
   shown_by (step ∷ steps) (reply ∷ replies) = (taken_in step reply ++ votes_in reply) ++ shown_by steps replies
   shown_by _ _ = []

@@ -11,6 +11,7 @@ use Rattle.simplex_laws.specs.Sums.{notarization_in, nullification_in, finalizat
 use Rattle.simplex_laws.specs.Timing.{enters, proposes, decision_in}
 
 module _ {K L D : Type 0} (same : D → D → Bool) (elect : Elect L) where
+  -- the whole round of a view, as the history says
   abbrev pub round_in : History K L D → ℕ → RoundFacts K D
   round_in history v =
       let fresh = history.fresh in

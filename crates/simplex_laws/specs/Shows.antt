@@ -13,6 +13,7 @@ use Rattle.simplex_laws.specs.ShownRounds.{round_in}
 use Rattle.simplex_laws.specs.Sums.{verdict_in, is_nullified_in, genesis_in, moment_in, finalized_by_events, current_in, kept_in, has_view}
 use Rattle.simplex_laws.specs.Timing.{enters}
 
+-- the verdict that was given
 abbrev pub verdict_of : Certification → Option Bool
 verdict_of Ready = None
 verdict_of (Outstanding _) = None

@@ -7,25 +7,27 @@ use Rattle.simplex_types.specs.Certificates.{ProposalFacts, NullificationFacts, 
 use Rattle.simplex_types.specs.Config.{Genesis, Finalized}
 use Rattle.simplex_laws.specs.Events.{Event, SetFloor, AddNotarization, AddNullification, AddFinalization, Certified, Proposed, VerificationFailed, TriggerTimeout, NextTimeout, Prune, Replay}
 
--- the first thing that a list says, the last and the greatest
-
 -- what was there, or else what is new
 abbrev pub or_new : {A : Type 0} → Option A → Option A → Option A
 or_new old None = old
 or_new old (Some a) = option_or old (Some a)
 
+-- the first thing that a list says
 abbrev pub earliest : {A B : Type 0} → (A → Option B) → List A → Option B
 earliest f [] = None
 earliest f (e ∷ before) = or_new (earliest f before) (f e)
 
+-- the last one
 abbrev pub latest : {A B : Type 0} → (A → Option B) → List A → Option B
 latest f [] = None
 latest f (e ∷ before) = option_or (f e) (latest f before)
 
+-- the greatest one, or 0
 abbrev pub greatest : {A : Type 0} → (A → ℕ) → List A → ℕ
 greatest f [] = 0
 greatest f (e ∷ before) = max (greatest f before) (f e)
 
+-- the thing, where it is of this view
 abbrev pub at : {A : Type 0} → ℕ → ℕ → A → Option A
 at v w a = if v == w then Some a else None
 
@@ -38,14 +40,17 @@ has_view views v = list_any (λ u. v == u) views
 module _ {K D : Type 0} where
   -- of a view
 
+  -- the notarization that an event hands in, of this view
   abbrev pub notarizes : ℕ → Event K D → Option (ProposalFacts D)
   notarizes v (AddNotarization c) = at v c.proposal.round.view c
   notarizes v _ = None
 
+  -- the nullification
   abbrev pub nullifies : ℕ → Event K D → Option NullificationFacts
   nullifies v (AddNullification c _) = at v c.round.view c
   nullifies v _ = None
 
+  -- the finalization, a floor's as well
   abbrev pub finalizes : ℕ → Event K D → Option (ProposalFacts D)
   finalizes v (AddFinalization c _) = at v c.proposal.round.view c
   finalizes v (SetFloor (Finalized c) _) = at v c.proposal.round.view c
@@ -65,10 +70,12 @@ module _ {K D : Type 0} where
 
   -- of the state
 
+  -- the payload of genesis that a floor sets
   abbrev pub sets_genesis : Event K D → Option D
   sets_genesis (SetFloor (Genesis payload) _) = Some payload
   sets_genesis _ = None
 
+  -- the view that it finalizes, or 0
   abbrev pub finalized_by_event : Event K D → ℕ
   finalized_by_event (AddFinalization c _) = c.proposal.round.view
   finalized_by_event (SetFloor (Finalized c) _) = c.proposal.round.view
@@ -83,6 +90,7 @@ module _ {K D : Type 0} where
   entered_by term_length is_notarized (Certified v true _) = if is_notarized v then v + 1 else 0
   entered_by term_length is_notarized _ = 0
 
+  -- the moment that it carries, in milliseconds
   abbrev pub moment_by : Event K D → Option ℕ
   moment_by (SetFloor _ now) = Some now
   moment_by (AddNullification _ now) = Some now
@@ -94,6 +102,7 @@ module _ {K D : Type 0} where
   moment_by (NextTimeout now) = Some now
   moment_by _ = None
 
+  -- it drops the views below those that are kept
   abbrev pub is_prune : Event K D → Bool
   is_prune Prune = true
   is_prune _ = false
@@ -101,35 +110,44 @@ module _ {K D : Type 0} where
 -- what the list says
 
 module _ {K D : Type 0} where
+  -- the first notarization of a view
   abbrev pub notarization_in : ℕ → List (Event K D) → Option (ProposalFacts D)
   notarization_in v history = earliest (notarizes v) history
 
+  -- the first nullification
   abbrev pub nullification_in : ℕ → List (Event K D) → Option NullificationFacts
   nullification_in v history = earliest (nullifies v) history
 
+  -- the first finalization
   abbrev pub finalization_in : ℕ → List (Event K D) → Option (ProposalFacts D)
   finalization_in v history = earliest (finalizes v) history
 
+  -- there is a notarization of the view
   abbrev pub is_notarized_in : List (Event K D) → ℕ → Bool
   is_notarized_in history v = is_some (notarization_in v history)
 
+  -- the first verdict on a view, once it was notarized
   abbrev pub verdict_in : ℕ → List (Event K D) → Option Bool
   verdict_in v [] = None
   verdict_in v (e ∷ before) = or_new (verdict_in v before) (verdict_of_event (is_notarized_in before) v e)
 
+  -- a nullification of the view was handed in or replayed
   abbrev pub is_nullified_in : ℕ → List (Event K D) → Bool
   is_nullified_in v history = list_any (covers_from v) history
 
+  -- the payload of genesis that was set last
   abbrev pub genesis_in : List (Event K D) → Option D
   genesis_in history = latest sets_genesis history
 
+  -- the last moment, or 0
   abbrev pub moment_in : List (Event K D) → ℕ
   moment_in history = unwrap_or (latest moment_by history) 0
 
-  -- the greatest finalized view, and the greatest view that was entered, in terms of this length
+  -- the greatest finalized view
   abbrev pub finalized_by_events : List (Event K D) → ℕ
   finalized_by_events history = greatest finalized_by_event history
 
+  -- the greatest view that was entered, in terms of this length
   abbrev pub current_in : ℕ → List (Event K D) → ℕ
   current_in term_length [] = 0
   current_in term_length (e ∷ before) = max (current_in term_length before) (entered_by term_length (is_notarized_in before) e)

@@ -15,6 +15,7 @@ use Rattle.simplex_member.specs.Runs.{StepFacts, Calls}
 use Rattle.simplex_member.specs.Start.{Setup, StartFacts}
 use Rattle.simplex_laws.specs.Stories.{Story}
 
+-- settings that each of them has
 abbrev pub settings : Settings
 settings = record { epoch = 1; view_retention = 1; leader_timeout = 1000; certification_timeout = 2000; timeout_retry = 500; skip_budget = 4 }
 
@@ -29,6 +30,7 @@ set_up_as term_length me = record {
   elects_early = true;
 }
 
+-- a view of epoch 1
 abbrev pub round : ℕ → Round
 round view = record { epoch = 1; view = view }
 
@@ -36,25 +38,31 @@ round view = record { epoch = 1; view = view }
 abbrev pub proposal : ℕ → ℕ → Proposal ℕ
 proposal view parent = record { round = round view; parent = parent; payload = view }
 
+-- a certificate of a proposal, of no bytes
 abbrev pub certificate : Proposal ℕ → ProposalFacts ℕ
 certificate p = record { proposal = p; bytes = [] }
 
+-- a nullification of a view, of no bytes
 abbrev pub nullification : ℕ → NullificationFacts
 nullification view = record { round = round view; bytes = [] }
 
--- the first two proposals
+-- the proposal of view 1, on genesis
 abbrev pub one : Proposal ℕ
 one = proposal 1 0
 
+-- and the second, on the first
 abbrev pub two : Proposal ℕ
 two = proposal 2 1
 
+-- the reply that has a vote to nullify, and says that it is the first
 abbrev pub nullify_vote : ℕ → ℕ → Told ℕ ℕ
 nullify_vote me view = Nullify (Some (false, NullifyVote (round view) me))
 
+-- the reply that has a vote to notarize
 abbrev pub notarize_vote : ℕ → Proposal ℕ → Told ℕ ℕ
 notarize_vote me p = Notarize (Some (NotarizeVote p me))
 
+-- the reply that has a vote to finalize
 abbrev pub finalize_vote : ℕ → Proposal ℕ → Told ℕ ℕ
 finalize_vote me p = Finalize (Some (FinalizeVote p me))
 
@@ -67,12 +75,12 @@ abbrev pub begin_at : ℕ → ℕ → StartFacts ℕ ℕ ℕ
 begin_at term_length me = record { setup = record (set_up_as term_length me) { elector = term_length }; floor = Genesis 0; now = 0 }
 
 -- a member's start, and what it does then
-abbrev pub story_of : StartFacts ℕ ℕ ℕ → List (StepFacts ℕ ℕ ℕ × Told ℕ ℕ) → Story ℕ ℕ ℕ
-story_of start steps = record { start = start; steps = map (λ e. e.0) steps; replies = map (λ e. e.1) steps }
+abbrev pub story_from : StartFacts ℕ ℕ ℕ → List (StepFacts ℕ ℕ ℕ × Told ℕ ℕ) → Story ℕ ℕ ℕ
+story_from start steps = record { start = start; steps = map (λ e. e.0) steps; replies = map (λ e. e.1) steps }
 
 -- a member that starts at genesis, and what it does then
 abbrev pub begins_with : ℕ → ℕ → List (StepFacts ℕ ℕ ℕ × Told ℕ ℕ) → Story ℕ ℕ ℕ
-begins_with term_length me steps = story_of (begin_at term_length me) steps
+begins_with term_length me steps = story_from (begin_at term_length me) steps
 
 -- the payload of a view is its number
 abbrev pub context_of : ℕ → Proposal ℕ → Context ℕ ℕ
@@ -117,10 +125,11 @@ certifies p =
     ∷ (Calls (Certified p.round.view true 0), Judged true (Some (certificate p)))
     ∷ []
 
--- it votes to finalize the proposal, or may not
+-- it votes to finalize the proposal
 abbrev pub votes_for : ℕ → Proposal ℕ → StepFacts ℕ ℕ ℕ × Told ℕ ℕ
 votes_for me p = (Calls (ConstructFinalize p.round.view), finalize_vote me p)
 
+-- a vote to finalize the view is not allowed
 abbrev pub may_not_finalize : ℕ → StepFacts ℕ ℕ ℕ × Told ℕ ℕ
 may_not_finalize view = (Calls (ConstructFinalize view), Finalize None)
 
