@@ -8,6 +8,7 @@ use Rattle.example_engine.specs.declared.messages.Message.TheVariants as message
 use Rattle.example_engine.specs.declared.messages.Vote.{Vote}
 use Rattle.example_engine.specs.Sealing.{seal_bytes}
 
+-- a message, as plain data
 pub data MessageFacts : Type 0 where
   Proposed : Proposal BlockDigest → MessageFacts
   Voted : Vote → MessageFacts
@@ -15,6 +16,7 @@ pub data MessageFacts : Type 0 where
   Asked : ℕ → MessageFacts
   Served : List ℕ → MessageFacts
 
+-- how a message shows it
 abbrev pub message_facts : Message → MessageFacts
 message_facts (message.Propose block) = Proposed block
 message_facts (message.Vote vote) = Voted vote

@@ -10,9 +10,11 @@ use Rattle.example_engine.specs.declared.digest.BlockDigest.{BlockDigest}
 use Rattle.example_engine.specs.declared.scheme.MemberKey.{MemberKey}
 use Rattle.example_engine.specs.Digests.{bytes_of}
 
+-- two digests have the same bytes
 abbrev pub same_block : BlockDigest → BlockDigest → Bool
 same_block d e = bytes_eq (bytes_of d) (bytes_of e)
 
+-- members lead in turn, a term each
 abbrev pub leader_of_round : PlainElector → Round → Option (List ℕ) → ℕ
 leader_of_round e round seed = leader_in_turn e round.view
 
@@ -20,5 +22,6 @@ leader_of_round e round seed = leader_in_turn e round.view
 abbrev pub CoreFacts : Type 0
 CoreFacts = MemberFacts MemberKey PlainElector BlockDigest
 
+-- a call of the core, as plain data
 abbrev pub CoreCallFacts : Type 0
 CoreCallFacts = CallFacts BlockDigest

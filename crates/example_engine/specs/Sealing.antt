@@ -12,12 +12,15 @@ use Rattle.example_engine.specs.Checksum.{checksum_from}
 use Rattle.example_engine.specs.Digests.{bytes_of}
 use Rattle.example_engine.specs.Rising.{are_members}
 
+-- the member that the scheme signs as
 abbrev pub signer_of : SealScheme → Option ℕ
 signer_of s = s.signer
 
+-- the keys of all members
 abbrev pub keys_of : SealScheme → List MemberKey
 keys_of s = s.keys.items
 
+-- a certificate's own bytes: who signed
 abbrev pub seal_bytes : Seal → List ℕ
 seal_bytes seal = seal.signers.items
 
@@ -33,6 +36,7 @@ IsSignedBy s member subject signature = MatchOption (slice_get (keys_of s) membe
 abbrev pub signature_bytes : Signature → List ℕ
 signature_bytes s = to_be_bytes w32 s.key.number ++ to_be_bytes w64 s.sum
 
+-- a signature read back from its twelve bytes
 abbrev pub signature_from_bytes : List ℕ → Option Signature
 signature_from_bytes bytes =
     if length bytes == 12

@@ -12,6 +12,7 @@ use Rattle.example_engine.specs.declared.scheme.Seal.{Seal}
 use Rattle.example_engine.specs.declared.scheme.SealScheme.{SealScheme}
 use Rattle.example_engine.specs.declared.scheme.Signature.{Signature}
 
+-- the entry that records a vote
 abbrev pub entry_of : Vote → Artifact SealScheme BlockDigest MemberKey Signature Seal
 entry_of (Notarize vote) = artifact.Notarize vote
 entry_of (Nullify vote) = artifact.Nullify vote
@@ -23,11 +24,13 @@ subject_of (Notarize vote) = subject.Notarize vote.proposal
 subject_of (Nullify vote) = subject.Nullify vote.round
 subject_of (Finalize vote) = subject.Finalize vote.proposal
 
+-- the signature of a vote
 abbrev pub signature_of : Vote → Signature
 signature_of (Notarize vote) = vote.signature
 signature_of (Nullify vote) = vote.signature
 signature_of (Finalize vote) = vote.signature
 
+-- the member that cast it
 abbrev pub signer_of : Vote → ℕ
 signer_of (Notarize vote) = vote.signer
 signer_of (Nullify vote) = vote.signer

@@ -79,14 +79,17 @@ PreferredParentStands K L D =
 
 -- the rules of votes, by their parts
 
+-- the test of votes to notarize is their rule
 abbrev pub MayNotarizeIs : (K L D : Type 0) → Type 0
 MayNotarizeIs K L D =
     (same : D → D → Bool) (elect : Elect L) (x : StateFacts K L D) (v : ℕ)
     → (may_notarize same elect x v ≡ true) ↔ NotarizeRule same elect x v
 
+-- the test of votes to nullify is theirs
 abbrev pub MayNullifyIs : (K L D : Type 0) → Type 0
 MayNullifyIs K L D = (x : StateFacts K L D) (v : ℕ) → (may_nullify x v ≡ true) ↔ NullifyRule x v
 
+-- the test of votes to finalize is theirs
 abbrev pub MayFinalizeIs : (K L D : Type 0) → Type 0
 MayFinalizeIs K L D = (elect : Elect L) (x : StateFacts K L D) (v : ℕ) → (may_finalize elect x v ≡ true) ↔ FinalizeRule elect x v
 
@@ -118,6 +121,7 @@ OpenedViewsAre K L D =
 
 -- the facts' lists are what the sorted containers are seen as
 
+-- what definitions do with lists is what the containers' maps do
 pub record ListsAreContainers (R : Type 0) : Type 0 where
   pub looked_up : (m : fin.FinMap nat_cmp R) (v : ℕ) → fin.get m v ≡ find nat_cmp v (fin.entries m)
   pub put_in : (m : fin.FinMap nat_cmp R) (v : ℕ) (r : R) → fin.entries (fin.insert m v r) ≡ put nat_cmp v r (fin.entries m)

@@ -101,16 +101,20 @@ pub data Told (K D : Type 0) : Type 0 where
 module _ {S D K G C : Type 0} where
   -- a vote as the entry that it is recorded as
 
+  -- a vote to nullify that is answered, with whether it was sent before
   abbrev pub told_nullify : Option (Bool × vote.Nullify S K G C) → Option (Bool × ArtifactFacts D)
   told_nullify vote = option_map (λ v. (v.0, NullifyVote v.1.round v.1.signer)) vote
 
+  -- a vote to finalize that is answered
   abbrev pub told_finalize : Option (final.Finalize S D K G C) → Option (ArtifactFacts D)
   told_finalize vote = option_map (λ v. FinalizeVote v.proposal v.signer) vote
 
+  -- a vote to notarize
   abbrev pub told_notarize : Option (first.Notarize S D K G C) → Option (ArtifactFacts D)
   told_notarize vote = option_map (λ v. NotarizeVote v.proposal v.signer) vote
 
 module _ {S D K G C : Type 0} (bytes_of : C → List ℕ) where
+  -- a reply, as plain data
   abbrev pub told : Reply S D K G C → Told K D
   told reply.Unit = Done
   told (reply.Flag taken) = Answered taken

@@ -27,18 +27,22 @@ module _ {D : Type 0} where
   abbrev pub stands : ℕ → (ArtifactFacts D → Bool) → List (ArtifactFacts D) → Bool
   stands v is_kind entries = list_any (λ e. entry_view e == v && is_kind e) entries
 
+  -- the entry is a notarization
   abbrev pub is_notarization : ArtifactFacts D → Bool
   is_notarization (Accepted (Notarized _)) = true
   is_notarization _ = false
 
+  -- a verdict like this one
   abbrev pub is_verdict : Bool → ArtifactFacts D → Bool
   is_verdict success (Verdict _ given) = agrees success given
   is_verdict success _ = false
 
+  -- a vote to nullify
   abbrev pub is_nullify_vote : ArtifactFacts D → Bool
   is_nullify_vote (NullifyVote _ _) = true
   is_nullify_vote _ = false
 
+  -- a vote to finalize
   abbrev pub is_finalize_vote : ArtifactFacts D → Bool
   is_finalize_vote (FinalizeVote _ _) = true
   is_finalize_vote _ = false
@@ -72,10 +76,12 @@ module _ {D : Type 0} where
 module _ {D : Type 0} (same : D → D → Bool) where
   -- a vote of this kind for another proposal
 
+  -- a vote to notarize another proposal
   abbrev pub notarizes_other : Proposal D → ArtifactFacts D → Bool
   notarizes_other p (NotarizeVote q _) = not (same_proposal same q p)
   notarizes_other p _ = false
 
+  -- a vote to finalize another one
   abbrev pub finalizes_other : Proposal D → ArtifactFacts D → Bool
   finalizes_other p (FinalizeVote q _) = not (same_proposal same q p)
   finalizes_other p _ = false

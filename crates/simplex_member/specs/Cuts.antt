@@ -5,6 +5,7 @@ use Rattle.simplex_types.specs.Certificates.{Finalized, ArtifactFacts, NotarizeV
 use Rattle.simplex_member.specs.Entries.{entry_view}
 
 module _ {D : Type 0} where
+  -- the entry is a vote of the member's own, which no restart drops
   abbrev pub is_vote : ArtifactFacts D → Bool
   is_vote (NotarizeVote _ _) = true
   is_vote (NullifyVote _ _) = true

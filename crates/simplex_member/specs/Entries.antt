@@ -9,6 +9,7 @@ abbrev pub entries_of : {S D K G C : Type 0} → (C → List ℕ) → List (Arti
 entries_of bytes_of artifacts = map (artifact_facts bytes_of) artifacts
 
 module _ {D : Type 0} where
+  -- the view that a certificate is of
   abbrev pub certificate_round : CertificateFacts D → Round
   certificate_round (Notarized c) = c.proposal.round
   certificate_round (Nullified c) = c.round
@@ -21,6 +22,7 @@ module _ {D : Type 0} where
   certificate_parent (Finalized c) = Some c.proposal.parent
 
 module _ {D : Type 0} where
+  -- the view that an entry is of, with its epoch
   abbrev pub entry_round : ArtifactFacts D → Round
   entry_round (NotarizeVote p _) = p.round
   entry_round (NullifyVote round _) = round
@@ -28,5 +30,6 @@ module _ {D : Type 0} where
   entry_round (Verdict round _) = round
   entry_round (Accepted c) = certificate_round c
 
+  -- its number
   abbrev pub entry_view : ArtifactFacts D → ℕ
   entry_view e = (entry_round e).view

@@ -11,6 +11,7 @@ use Rattle.simplex_member.specs.declared.member.resume.ResumeError.TheVariants a
 use Rattle.simplex_member.specs.declared.member.settings.StartError.{StartError}
 use Rattle.simplex_member.specs.declared.member.settings.StartError.TheVariants as start_error
 
+-- why no state is made of a record
 abbrev pub recover_error_name : RecoverError → List ℕ
 recover_error_name error.OutOfOrder = codes "OutOfOrder"
 recover_error_name error.OtherEpoch = codes "OtherEpoch"
@@ -27,14 +28,17 @@ recover_error_name error.TimeOverflow = codes "TimeOverflow"
 recover_error_name error.OutOfMemory = codes "OutOfMemory"
 recover_error_name error.RetentionGrown = codes "RetentionGrown"
 
+-- why a member does not go on from its journal
 abbrev pub resume_error_name : ResumeError → List ℕ
 resume_error_name resume_error.EntriesLost = codes "EntriesLost"
 resume_error_name (resume_error.Recover e) = recover_error_name e
 
+-- why a call has no answer
 abbrev pub refusal_name : Refusal → List ℕ
 refusal_name (refusal.Fault fault) = fault_name fault
 refusal_name refusal.NotAllowed = codes "NotAllowed"
 
+-- why a member does not start
 abbrev pub start_error_name : StartError → List ℕ
 start_error_name (start_error.Config e) = config_error_name e
 start_error_name start_error.OtherMembers = codes "OtherMembers"

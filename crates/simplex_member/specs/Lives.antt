@@ -9,6 +9,7 @@ use Rattle.simplex_member.specs.Calls.{CallFacts, Told, Refused, NotAllowed}
 use Rattle.simplex_member.specs.Made.{answer, after_call, openings_after, recorded_by}
 use Rattle.simplex_member.specs.Openings.{Openings, no_openings}
 
+-- a member, as contracts see it
 pub record MemberFacts (K L D : Type 0) : Type 0 where
   -- what its state knows; none while the member has failed
   pub life : Option (StateFacts K L D)
@@ -28,6 +29,7 @@ pub record MemberFacts (K L D : Type 0) : Type 0 where
 abbrev pub living : {K L D : Type 0} → Bool → StateFacts K L D → Option (StateFacts K L D)
 living failed x = if failed then None else Some x
 
+-- nothing is open once the member has failed
 abbrev pub open_while : {K D : Type 0} → Bool → Openings K D → Openings K D
 open_while failed o = if failed then no_openings else o
 
@@ -75,6 +77,7 @@ module _ {K L D : Type 0} (same : D → D → Bool) (elect : Elect L) where
       ⊎ ((may_want x call && is_allowed x m.openings call ≡ true) × (told ≡ Refused fault.OutOfMemory)
       × ((left ≡ m) ⊎ ((fault_of x call ≡ None) × (may_fall call ≡ true) × (left ≡ without_life m))))
 
+  -- a member that has failed refuses each call, and stays as it was
   abbrev pub AnswersAlive : Option (StateFacts K L D) → MemberFacts K L D → CallFacts D → Told K D → MemberFacts K L D → Type 0
   AnswersAlive None m call told left = (told ≡ Refused fault.Failed) × (left ≡ m)
   AnswersAlive (Some x) m call told left = Answers x m call told left

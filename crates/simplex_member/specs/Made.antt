@@ -48,6 +48,7 @@ abbrev pub first_vote : {D : Type 0} → Option (Bool × ArtifactFacts D) → Li
 first_vote None = []
 first_vote (Some (retry, vote)) = if retry then [] else vote ∷ []
 
+-- the entry that records a vote, where there is one
 abbrev pub vote_entry : {D : Type 0} → Option (ArtifactFacts D) → List (ArtifactFacts D)
 vote_entry None = []
 vote_entry (Some vote) = vote ∷ []

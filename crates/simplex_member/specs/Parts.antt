@@ -37,9 +37,11 @@ module _ {K L D : Type 0} where
   Ends wants loses due x y (Refused fault) = ((due ≡ Some fault) ⊎ IsWant wants fault) × (y ≡ x)
   Ends wants loses due x y Lost = IsLoss loses due
 
+  -- a call that may want memory, by the fault that is due
   abbrev pub EndsBy : Option Fault → StateFacts K L D → StateFacts K L D → CallError → Type 0
   EndsBy due x y error = Ends true true due x y error
 
+  -- a call, by what it may want and what is due
   abbrev pub EndsCall : CallFacts D → StateFacts K L D → StateFacts K L D → CallError → Type 0
   EndsCall call x y error = Ends (may_want x call) (may_fall call && may_want x call) (fault_of x call) x y error
 

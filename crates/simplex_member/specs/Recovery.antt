@@ -73,6 +73,7 @@ module _ {K L D : Type 0} (same : D → D → Bool) where
       (if has_late_deadline x now then Some error.TimeOverflow else None)
 
 module _ {D : Type 0} where
+  -- the entry is a finalization
   abbrev pub is_finalization : ArtifactFacts D → Bool
   is_finalization (Accepted (Finalized _)) = true
   is_finalization _ = false

@@ -24,6 +24,7 @@ pub record Setup (K L : Type 0) : Type 0 where
   pub terms : Terms
   pub elects_early : Bool
 
+-- what settings set up, as plain data
 abbrev pub setup_of : {S L K G C : Type 0} → (S → Option ℕ) → (S → List K) → (L → Terms) → (L → Bool) → Config S L K G C → Setup K L
 setup_of me members terms elects_early c = record {
   settings = settings_of c;
@@ -48,6 +49,7 @@ pub record StartFacts (K L D : Type 0) : Type 0 where
   pub floor : FloorFacts D
   pub now : ℕ
 
+-- a start, as plain data
 abbrev pub start_facts : {S L D K G C : Type 0} → (S → Option ℕ) → (S → List K) → (L → Terms) → (L → Bool) → (C → List ℕ) → Start S L D K G C → StartFacts K L D
 start_facts me members terms elects_early bytes_of start = record {
   setup = setup_of me members terms elects_early start.settings;

@@ -54,6 +54,7 @@ module _ {K D : Type 0} where
   IfAnswered NotAllowed claim = Unit {0}
   IfAnswered _ claim = claim
 
+  -- this holds of the refusal, where it is one
   abbrev pub IfRefused : Told K D → (Refusal → Type 0) → Type 0
   IfRefused (Refused due) claim = claim (refusal.Fault due)
   IfRefused NotAllowed claim = claim refusal.NotAllowed
@@ -77,14 +78,15 @@ module _ {K L D : Type 0} (same : D → D → Bool) (elect : Elect L) where
     pub left_so : left ≡ with_call same elect state m call
 
 module _ {K L D : Type 0} where
-  -- while the member lives, it has decided such a vote in the view
-
+  -- while the member lives, a vote to notarize the view is decided
   abbrev pub HasNotarized : MemberFacts K L D → ℕ → Type 0
   HasNotarized m v = IfSome m.life (λ x. (round_of x v).notarize_decided ≡ true)
 
+  -- a vote to nullify it
   abbrev pub HasNullified : MemberFacts K L D → ℕ → Type 0
   HasNullified m v = IfSome m.life (λ x. is_nullify (round_of x v).decision ≡ true)
 
+  -- a vote to finalize it
   abbrev pub HasFinalized : MemberFacts K L D → ℕ → Type 0
   HasFinalized m v = IfSome m.life (λ x. is_finalize (round_of x v).decision ≡ true)
 

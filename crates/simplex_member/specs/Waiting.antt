@@ -3,6 +3,7 @@ use Rattle.std.specs.Prelude.{ℕ, Bool, List, Option, Some, None}
 use Rattle.std.specs.FinMap.{FinMap, insert}
 use Rattle.std.specs.Ordering.{nat_cmp}
 
+-- they, and whether there is room
 pub record WaitingFacts (V : Type 0) : Type 0 where
   -- by rising view
   pub entries : List (ℕ × V)

@@ -20,15 +20,18 @@ use Rattle.simplex_program.specs.declared.resolver.Answer.TheVariants as answer
 
 -- the certificates that lines stand for: good ones of epoch 1, whose proposal follows the view before, with payload 0
 
+-- a view of epoch 1
 abbrev pub round_at : ℕ → Round
 round_at v = record { epoch = 1; view = v }
 
+-- the certificate that stands for any proposal of a view
 abbrev pub proposed_at : ℕ → ProposalFacts (List ℕ)
 proposed_at v = record {
   proposal = record { round = round_at v; parent = v - 1; payload = to_be_bytes w64 0 };
   bytes = 1 ∷ [];
 }
 
+-- the nullification of a view
 abbrev pub nullified_at : ℕ → NullificationFacts
 nullified_at v = record { round = round_at v; bytes = 1 ∷ [] }
 
@@ -41,15 +44,19 @@ pub record IsProposedAt (v : ℕ) (p : Proposal PlainDigest) : Type 0 where
 
 -- what a line hands to the resolver, by the bytes of the payload
 
+-- what a line on a notarization tells the resolver
 abbrev pub notarization_call : ℕ → Call
 notarization_call v = update {D = List ℕ} (λ payload. payload) (Notarized (proposed_at v))
 
+-- on a nullification
 abbrev pub nullification_call : ℕ → Call
 nullification_call v = update {D = List ℕ} (λ payload. payload) (Nullified (nullified_at v))
 
+-- on a finalization
 abbrev pub finalization_call : ℕ → Call
 finalization_call v = update {D = List ℕ} (λ payload. payload) (Finalized (proposed_at v))
 
+-- on a verdict
 abbrev pub verdict_call : ℕ → Bool → Call
 verdict_call v success = verdict {D = List ℕ} (λ payload. payload) (proposed_at v) success
 

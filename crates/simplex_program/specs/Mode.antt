@@ -19,6 +19,7 @@ abbrev pub IsNetwork : ℕ → Option ℕ → ℕ → Type 0
 IsNetwork members me term_length =
     (1 ≤ members) × (members ≤ 1000) × IfSome me (λ index. index < members) × ((1 ≤ term_length) × (term_length < 2 ^ 32))
 
+-- a mode that the arguments can name: its numbers are in range
 abbrev pub IsServed : Mode → Type 0
 IsServed (Voter members me term_length optimistic) = IsNetwork members me term_length × (optimistic < 2 ^ 64)
 IsServed (Resolver term_length) = (1 ≤ term_length) × (term_length < 2 ^ 32)

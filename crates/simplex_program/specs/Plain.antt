@@ -10,12 +10,15 @@ use Rattle.simplex_types.specs.Plain.{digest_bytes, leader_in_turn}
 use Rattle.simplex_member.specs.Calls.{CallFacts}
 use Rattle.simplex_member.specs.Lives.{MemberFacts}
 
+-- two payloads have the same bytes
 abbrev pub same_payload : PlainDigest → PlainDigest → Bool
 same_payload d e = bytes_eq (digest_bytes d) (digest_bytes e)
 
+-- members lead in turn, a term each
 abbrev pub plain_leader : PlainElector → Round → Option (List ℕ) → ℕ
 plain_leader e round seed = leader_in_turn e round.view
 
+-- the one byte of a plain certificate
 abbrev pub plain_bytes : PlainCertificate → List ℕ
 plain_bytes c = (if c.good then 1 else 0) ∷ []
 

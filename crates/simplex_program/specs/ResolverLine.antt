@@ -31,6 +31,7 @@ HasSmallView (Uncertifiable view) = view < 2 ^ 64
 HasSmallView (Produce view) = view < 2 ^ 64
 HasSmallView Outstanding = ⊤
 
+-- lines by what they do
 pub data Family : Type 0 where
   reports : Family
   questions : Family
@@ -49,12 +50,15 @@ family_of (Uncertifiable view) = questions
 family_of (Produce view) = questions
 family_of Outstanding = others
 
+-- it hands a certificate or a verdict in
 abbrev pub IsReport : ResolverLine → Type 0
 IsReport line = family_of line ≡ reports
 
+-- it asks what is settled, or kept
 abbrev pub IsQuestion : ResolverLine → Type 0
 IsQuestion line = family_of line ≡ questions
 
+-- it ends the replay, or asks for the open fetches
 abbrev pub IsOther : ResolverLine → Type 0
 IsOther line = family_of line ≡ others
 

@@ -10,6 +10,7 @@ use Rattle.simplex_program.specs.declared.resolver.Answer.TheVariants as answer
 use Rattle.simplex_program.specs.Texts.{text_of, fault_words}
 use Rattle.simplex_program.specs.Words.{flag_word}
 
+-- an effect, in words
 abbrev pub effect_words : Effect → List (List ℕ)
 effect_words (effect.Fetch view cause reason) = codes "fetch" ∷ decimal view ∷ decimal cause ∷ fetch_reason_text reason ∷ []
 effect_words (effect.Settled kind start end) = codes "settled" ∷ kind_text kind ∷ decimal start ∷ decimal end ∷ []

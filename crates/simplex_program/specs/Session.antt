@@ -8,12 +8,15 @@ use Rattle.simplex_program.specs.declared.resolver.Resolver.{Resolver as LineRes
 use Rattle.simplex_program.specs.declared.voter.Voter.{Voter as LineVoter}
 use Rattle.simplex_program.specs.Transcript.{Asked, Member, Resolver, IsOfNoLine}
 
+-- a voter, as what its lines are asked of
 abbrev pub voter_asked : LineVoter → Asked
 voter_asked v = Member v.network v.member
 
+-- a resolver
 abbrev pub resolver_asked : LineResolver → Asked
 resolver_asked r = Resolver r.state r.outstanding.keys
 
+-- either
 abbrev pub asked_of : Session → Asked
 asked_of (session.Voter v) = voter_asked v
 asked_of (session.Resolver r) = resolver_asked r

@@ -47,6 +47,7 @@ pub record IsGenesis (n : Network) (e : PlainElector) (d : PlainDigest) : Type 0
   pub terms : terms_of e ≡ network_terms n
   pub payload : digest_bytes d ≡ to_be_bytes w64 0
 
+-- how a member of the network starts at genesis
 abbrev pub genesis_start : Network → PlainElector → PlainDigest → ℕ → StartFacts PlainKey PlainElector PlainDigest
 genesis_start n e payload now = record {
   setup = record {

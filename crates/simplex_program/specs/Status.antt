@@ -3,6 +3,7 @@ use Rattle.std.specs.Prelude.{ℕ}
 use Rattle.simplex_program.specs.declared.serve_error.ServeError.{ServeError}
 use Rattle.simplex_program.specs.declared.serve_error.ServeError.TheVariants.{NotACall, OutOfMemory, Read, Write}
 
+-- the status that tells why the program ended
 abbrev pub exit_status : ServeError → ℕ
 exit_status (NotACall _) = 3
 exit_status OutOfMemory = 4

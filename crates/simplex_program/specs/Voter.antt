@@ -25,12 +25,15 @@ use Rattle.simplex_program.specs.Setup.{IsGenesisStart}
 
 -- the round, the payload and the proposal that the numbers of a line stand for
 
+-- a view of epoch 1
 abbrev pub round_in_epoch : ℕ → Round
 round_in_epoch v = record { epoch = 1; view = v }
 
+-- a payload is the bytes of this number
 abbrev pub IsPayload : ℕ → PlainDigest → Type 0
 IsPayload d payload = digest_bytes payload ≡ to_be_bytes w64 d
 
+-- a proposal is of these numbers
 pub record IsProposal (v p d : ℕ) (q : Proposal PlainDigest) : Type 0 where
   pub round : q.round ≡ round_in_epoch v
   pub parent : q.parent ≡ p

@@ -13,6 +13,7 @@ kind_word kind.Notarization = codes "notarization"
 kind_word kind.Nullification = codes "nullification"
 kind_word kind.Finalization = codes "finalization"
 
+-- the word names a kind of certificate
 abbrev pub ReadsCertificateKind : List ℕ → Option CertificateKind → Type 0
 ReadsCertificateKind = ReadsWord kind_word
 
@@ -76,6 +77,7 @@ HasSmallNumbers (RestartPruned drop now) = (drop < 2 ^ 64) × (now < 2 ^ 64)
 HasSmallNumbers Record = ⊤
 HasSmallNumbers Views = ⊤
 
+-- lines by what they ask for
 pub data Family : Type 0 where
   certificates : Family
   progress : Family
@@ -118,33 +120,43 @@ family_of (RestartPruned drop now) = lives
 family_of Record = lives
 family_of Views = lives
 
+-- it hands a notarization or a nullification in
 abbrev pub IsCertificate : VoterLine → Type 0
 IsCertificate line = family_of line ≡ certificates
 
+-- it hands in what ends a view: a finalization or a verdict
 abbrev pub IsProgress : VoterLine → Type 0
 IsProgress line = family_of line ≡ progress
 
+-- it asks for a vote
 abbrev pub IsVote : VoterLine → Type 0
 IsVote line = family_of line ≡ votes
 
+-- it asks for a certificate, or for a prune
 abbrev pub IsServing : VoterLine → Type 0
 IsServing line = family_of line ≡ servings
 
+-- it hands a leader's proposal in, or releases a view
 abbrev pub IsOnProposals : VoterLine → Type 0
 IsOnProposals line = family_of line ≡ proposals
 
+-- it is on the member's own proposals
 abbrev pub IsOnBuilding : VoterLine → Type 0
 IsOnBuilding line = family_of line ≡ building
 
+-- it is on a verification
 abbrev pub IsOnVerifying : VoterLine → Type 0
 IsOnVerifying line = family_of line ≡ verifying
 
+-- it is on what is offered for certification
 abbrev pub IsOnOffers : VoterLine → Type 0
 IsOnOffers line = family_of line ≡ offers
 
+-- it is on a timeout
 abbrev pub IsOnTimeouts : VoterLine → Type 0
 IsOnTimeouts line = family_of line ≡ timeouts
 
+-- it asks for a restart, the record or the views
 abbrev pub IsOfLives : VoterLine → Type 0
 IsOfLives line = family_of line ≡ lives
 

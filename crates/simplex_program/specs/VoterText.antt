@@ -30,6 +30,7 @@ use Rattle.simplex_program.specs.Words.{flag_word}
 abbrev pub PlainReply : Type 0
 PlainReply = Reply PlainScheme PlainDigest PlainKey PlainSignature PlainCertificate
 
+-- a certificate of plain parts
 abbrev pub PlainCertified : Type 0
 PlainCertified = Certificate PlainScheme PlainDigest PlainKey PlainSignature PlainCertificate
 
@@ -37,6 +38,7 @@ PlainCertified = Certificate PlainScheme PlainDigest PlainKey PlainSignature Pla
 abbrev pub payload_word : PlainDigest → List ℕ
 payload_word payload = decimal (from_be_bytes w64 (digest_bytes payload))
 
+-- a key, by its number
 abbrev pub key_word : PlainKey → List ℕ
 key_word key = decimal key.0
 
@@ -53,6 +55,7 @@ proposal_words first p = first ∷ decimal p.round.view ∷ decimal p.parent ∷
 abbrev pub context_words : List ℕ → Context PlainDigest PlainKey → List (List ℕ) → List (List ℕ)
 context_words first x others = first ∷ decimal x.round.view ∷ key_word x.leader ∷ decimal x.parent.0 ∷ payload_word x.parent.1 ∷ others
 
+-- a request to build, in words
 abbrev pub request_words : ProposalRequest PlainDigest PlainKey → List (List ℕ)
 request_words (request.Prepare context) = context_words (codes "prepare") context []
 request_words (request.Propose context) = context_words (codes "propose") context []
@@ -68,9 +71,11 @@ verify_words verify.Wait = codes "wait" ∷ []
 abbrev pub offer_word : Proposal PlainDigest → List ℕ
 offer_word p = decimal p.round.view
 
+-- what is to be fetched: the view of the proposal, and that of the certificate
 abbrev pub fetch_word : CertificateFetch → List ℕ
 fetch_word fetch = decimal fetch.proposal ++ 58 ∷ decimal fetch.view
 
+-- the kind of a certificate
 abbrev pub certificate_word : PlainCertified → List ℕ
 certificate_word (certificate.Notarization _) = codes "notarization"
 certificate_word (certificate.Nullification _) = codes "nullification"

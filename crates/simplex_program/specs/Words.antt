@@ -23,11 +23,14 @@ flag_word false = codes "false"
 abbrev pub ReadsWord : {T : Type 0} → (T → List ℕ) → List ℕ → Option T → Type 0
 ReadsWord {T = T} spelled word r = MatchOption r ((x : T) → word ≢ spelled x) (λ x. word ≡ spelled x)
 
+-- the word names a truth
 abbrev pub ReadsFlag : List ℕ → Option Bool → Type 0
 ReadsFlag = ReadsWord flag_word
 
+-- a kind
 abbrev pub ReadsKind : List ℕ → Option Kind → Type 0
 ReadsKind = ReadsWord kind_text
 
+-- a reason to give a view up
 abbrev pub ReadsTimeoutReason : List ℕ → Option TimeoutReason → Type 0
 ReadsTimeoutReason = ReadsWord timeout_reason_text

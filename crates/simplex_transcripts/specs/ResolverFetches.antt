@@ -37,6 +37,7 @@ abbrev pub answered_by : Answer → List Call → List Call
 answered_by (answer.Effects _) calls = calls
 answered_by _ calls = []
 
+-- the calls of the resolver that a line made, by its answer
 abbrev pub made_in : ResolverLine → Answer → List Call
 made_in line answer = answered_by answer (call_in line)
 

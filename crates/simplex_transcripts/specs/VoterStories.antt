@@ -30,12 +30,15 @@ use Rattle.simplex_program.specs.Words.{words_in}
 
 -- the parts of a story, of a member of plain parts
 
+-- a step of a plain member
 abbrev pub PlainStep : Type 0
 PlainStep = StepFacts PlainKey PlainElector PlainDigest
 
+-- what it is told
 abbrev pub PlainTold : Type 0
 PlainTold = Told PlainKey PlainDigest
 
+-- its story
 abbrev pub PlainStory : Type 0
 PlainStory = Story PlainKey PlainElector PlainDigest
 

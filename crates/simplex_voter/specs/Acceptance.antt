@@ -33,10 +33,12 @@ module _ {K L D : Type 0} where
   abbrev pub nullification_added : StateFacts K L D → NullificationFacts → Bool
   nullification_added x c = not (is_some (round_of x c.round.view).nullification)
 
+  -- why a nullification is refused: the state has failed, its view is too large, or a deadline of the next term's first view is
   abbrev pub nullification_refusal : StateFacts K L D → NullificationFacts → ℕ → Option Fault
   nullification_refusal x c now =
       first_fault x.failed (is_too_large c.round.view) (enters_late x (next_term_start x.terms.term_length c.round.view) now)
 
+  -- the nullification is kept in its view's round
   abbrev pub with_nullification_at : StateFacts K L D → NullificationFacts → StateFacts K L D
   with_nullification_at x c = with_round x c.round.view (with_nullification (round_of x c.round.view) c)
 
@@ -67,6 +69,7 @@ module _ {K L D : Type 0} (elect : Elect L) where
       (with_nullification_at (with_elected_leader elect (with_view_entered (at_moment x now) next now) next (Some c.bytes)) c)
       c.round.view
 
+  -- the floor is genesis: its payload is kept, and view 1 entered and led
   abbrev pub after_set_genesis : StateFacts K L D → D → ℕ → StateFacts K L D
   after_set_genesis x payload now = with_elected_leader elect (with_view_entered (record (at_moment x now) { genesis = Some payload }) 1 now) 1 None
 
@@ -76,6 +79,7 @@ module _ {K L D : Type 0} (same : D → D → Bool) (elect : Elect L) where
   notarization_added x c =
       added_answer same (round_of x c.proposal.round.view).notarization (round_of x c.proposal.round.view) c.proposal
 
+  -- the notarization is kept in its view's round, whose proposal it settles
   abbrev pub with_notarization_at : StateFacts K L D → ProposalFacts D → StateFacts K L D
   with_notarization_at x c =
       with_round x c.proposal.round.view (with_notarization (same_proposal same) (round_of x c.proposal.round.view) c)
@@ -87,10 +91,12 @@ module _ {K L D : Type 0} (same : D → D → Bool) (elect : Elect L) where
       let kept = with_notarization_at (with_elected_leader elect x (v + 1) (Some c.bytes)) c in
       if is_some (round_of x v).notarization then kept else with_window_leaders (named_also kept v) v
 
+  -- whether it is the first of its view, and the leader that it shows to have equivocated
   abbrev pub finalization_added : StateFacts K L D → ProposalFacts D → Bool × Option K
   finalization_added x c =
       added_answer same (round_of x c.proposal.round.view).finalization (round_of x c.proposal.round.view) c.proposal
 
+  -- the finalization is kept in its view's round, whose proposal it settles
   abbrev pub with_finalization_at : StateFacts K L D → ProposalFacts D → StateFacts K L D
   with_finalization_at x c =
       with_round x c.proposal.round.view (with_finalization (same_proposal same) (round_of x c.proposal.round.view) c)
@@ -104,6 +110,7 @@ module _ {K L D : Type 0} (same : D → D → Bool) (elect : Elect L) where
       let kept = with_finalization_at (with_elected_leader elect passed (v + 1) (Some c.bytes)) c in
       if is_some (round_of x v).finalization then kept else with_window_leaders (with_waiting_candidate elect kept v) v
 
+  -- the floor is set: genesis, or a finalization, which is not handed out then
   abbrev pub after_set_floor : StateFacts K L D → FloorFacts D → ℕ → StateFacts K L D
   after_set_floor x (Genesis payload) now = after_set_genesis elect x payload now
   after_set_floor x (Finalized c) now = with_finalization_broadcast (after_add_finalization x c now) c.proposal.round.view
@@ -113,8 +120,10 @@ module _ {K L D : Type 0} where
   abbrev pub takes_proposal_certificate : StateFacts K L D → ProposalFacts D → Bool
   takes_proposal_certificate x c = takes_round x c.proposal.round
 
+  -- a nullification of this epoch, of a view that one may name
   abbrev pub takes_nullification : StateFacts K L D → NullificationFacts → Bool
   takes_nullification x c = takes_round x c.round
 
+  -- why a notarization is refused
   abbrev pub notarization_refusal : StateFacts K L D → ProposalFacts D → Option Fault
   notarization_refusal x c = proposal_refusal x c.proposal

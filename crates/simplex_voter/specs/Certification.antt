@@ -65,6 +65,7 @@ module _ {K L D : Type 0} (elect : Elect L) where
       else None)
       (required_parent elect x v p)
 
+  -- what is to be fetched before the proposal of a view can be certified
   abbrev pub fetched_of : StateFacts K L D → ℕ → Option CertificateFetch
   fetched_of x v = option_and_then (fetch_for x v) (round_of x v).slot.held
 
@@ -81,6 +82,7 @@ module _ {K L D : Type 0} (same : D → D → Bool) (elect : Elect L) where
   candidates_answer x = (filter_map (offered_of x) x.named, filter_map (fetched_of elect x) x.named)
 
 module _ {K L D : Type 0} where
+  -- each candidate was offered
   abbrev pub after_candidates : StateFacts K L D → StateFacts K L D
   after_candidates x = record x { named = [] }
 
@@ -108,9 +110,11 @@ module _ {K L D : Type 0} where
   is_first_verdict x v =
       option_map_or (λ r. not (is_judged true r.certification) && not (is_judged false r.certification)) (round_at x v) false
 
+  -- why a verdict is refused: the state has failed, or a deadline of the view that it enters is too large
   abbrev pub certified_refusal : StateFacts K L D → ℕ → Bool → ℕ → Option Fault
   certified_refusal x v success now = first_fault x.failed false (success && is_tracked x v && enters_late x (v + 1) now)
 
+  -- the verdict is kept in the view's round
   abbrev pub with_verdict : StateFacts K L D → ℕ → Bool → StateFacts K L D
   with_verdict x v success = with_round x v (certified_round (round_of x v) success)
 
@@ -120,6 +124,7 @@ module _ {K L D : Type 0} (elect : Elect L) where
   verdict_taken x v true now = with_waiting_candidate elect (with_view_entered (with_verdict x v true) (v + 1) now) v
   verdict_taken x v false now = with_timeout (with_verdict x v false) v FailedCertification now
 
+  -- a verdict is given; of a view that is not tracked it only notes the moment
   abbrev pub after_certified : StateFacts K L D → ℕ → Bool → ℕ → StateFacts K L D
   after_certified x v success now =
       if is_tracked x v then verdict_taken (at_moment x now) v success now else at_moment x now

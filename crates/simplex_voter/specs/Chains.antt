@@ -23,6 +23,7 @@ module _ {K L D : Type 0} (elect : Elect L) where
   served_proposal x v r =
       if serves elect x v r then option_and_then (λ p. if follows x v p.parent then Some p else None) r.slot.held else None
 
+  -- what the payload of a tracked view rests on: its certificate, or the vote for its proposal with the payload that was bound
   abbrev pub basis_of : StateFacts K L D → ℕ → RoundFacts K D → Option (Basis D)
   basis_of x v r =
       if is_notarized r

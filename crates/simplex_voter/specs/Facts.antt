@@ -69,12 +69,15 @@ module _ {K L D : Type 0} where
     failed = false;
   }
 
+  -- the round of a tracked view
   abbrev pub round_at : StateFacts K L D → ℕ → Option (RoundFacts K D)
   round_at x v = find nat_cmp v x.rounds
 
+  -- something is known of the view
   abbrev pub is_tracked : StateFacts K L D → ℕ → Bool
   is_tracked x v = is_some (round_at x v)
 
+  -- the view in this epoch
   abbrev pub round_number : StateFacts K L D → ℕ → Round
   round_number x v = record { epoch = x.settings.epoch; view = v }
 

@@ -4,6 +4,7 @@ use Rattle.std.specs.List.{list_any}
 use Rattle.simplex_types.specs.Terms.{covers, next_term_start}
 use Rattle.simplex_voter.specs.Facts.{StateFacts}
 
+-- the lower of a view and another one, where there is one
 abbrev pub lower_of : ℕ → Option ℕ → Option ℕ
 lower_of v None = Some v
 lower_of v (Some w) = Some (min v w)
@@ -33,6 +34,7 @@ module _ {K L D : Type 0} where
   abbrev pub gap_starts : StateFacts K L D → ℕ → List ℕ
   gap_starts x p = (p + 1) ∷ map (next_term_start x.terms.term_length) x.nullified
 
+  -- a view between p and v that no nullification covers
   abbrev pub is_gap : StateFacts K L D → ℕ → ℕ → ℕ → Bool
   is_gap x p v w = nat_lt p w && nat_lt w v && not (is_covered x w)
 

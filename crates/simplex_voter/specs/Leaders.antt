@@ -9,6 +9,7 @@ use Rattle.simplex_voter.specs.Windows.{in_window}
 use Rattle.simplex_voter.specs.Payloads.{is_elected_early}
 
 module _ {K L D : Type 0} where
+  -- the view has a leader
   abbrev pub has_leader : StateFacts K L D → ℕ → Bool
   has_leader x v = is_some (round_of x v).leader
 

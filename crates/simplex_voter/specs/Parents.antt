@@ -23,6 +23,7 @@ module _ {K L D : Type 0} where
   abbrev pub explicit_at : StateFacts K L D → ℕ × RoundFacts K D → Option (ℕ × D)
   explicit_at x e = at_view e.0 (explicit_payload x e.0)
 
+  -- the same, of the views below v
   abbrev pub explicit_below : StateFacts K L D → ℕ → ℕ × RoundFacts K D → Option (ℕ × D)
   explicit_below x v e = if nat_lt e.0 v then explicit_at x e else None
 
@@ -34,9 +35,11 @@ module _ {K L D : Type 0} where
   abbrev pub leads : StateFacts K L D → RoundFacts K D → Bool
   leads x r = option_map_or (λ l. is_me x l.idx) r.leader false
 
+-- there is a payload, and it is this one
 abbrev pub is_payload : {D : Type 0} → (D → D → Bool) → Option D → D → Bool
 is_payload same found d = option_map_or (λ e. same e d) found false
 
+-- there is a parent, and it is this one
 abbrev pub is_parent : {D : Type 0} → (D → D → Bool) → Option (ℕ × D) → ℕ → D → Bool
 is_parent same found p d = option_map_or (λ e. e.0 == p && same e.1 d) found false
 

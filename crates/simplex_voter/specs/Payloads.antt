@@ -53,6 +53,7 @@ module _ {K L D : Type 0} (same : D → D → Bool) (elect : Elect L) where
       then option_and_then (λ d. if is_bound_to same r.binding d then Some p.payload else None) (below p.parent)
       else None
 
+  -- what the round of a view offers: its certificate's payload, unless its verdict was false, or that of a vote, by what the parent offers
   abbrev pub served_payload : StateFacts K L D → (ℕ → Option D) → ℕ → RoundFacts K D → Option D
   served_payload x below v r =
       if is_notarized r

@@ -19,6 +19,7 @@ use Rattle.simplex_voter.specs.Payloads.{explicit_payload}
 use Rattle.simplex_voter.specs.Parents.{is_payload, preferred_parent, may_stand}
 use Rattle.simplex_voter.specs.Entering.{at_moment}
 
+-- the context that a request is for
 abbrev pub request_context : {K D : Type 0} → ProposalRequest D K → Context D K
 request_context (Prepare context) = context
 request_context (Propose context) = context
@@ -32,6 +33,7 @@ is_handoff (Propose _) = false
 abbrev pub proposal_of : {K D : Type 0} → Context D K → D → Proposal D
 proposal_of context payload = record { round = context.round; parent = context.parent.0; payload = payload }
 
+-- a block was asked for, or no longer
 abbrev pub build_requested : {D : Type 0} → Bool → SlotFacts D → SlotFacts D
 build_requested requested s = record s { build_requested = requested }
 
@@ -57,9 +59,11 @@ module _ {K L D : Type 0} where
   abbrev pub voted_nullify : StateFacts K L D → ℕ → Bool
   voted_nullify x v = list_any (λ u. u == v) x.nullify_votes
 
+  -- the context of a view on a parent, for this leader
   abbrev pub context_on : StateFacts K L D → ℕ → ℕ × D → Leader K → Context D K
   context_on x v parent leader = record { round = round_number x v; leader = leader.key; parent = parent }
 
+  -- a block for the view was asked for, or no longer
   abbrev pub with_build : StateFacts K L D → ℕ → Bool → StateFacts K L D
   with_build x v requested = with_tracked x v (record (round_of x v) { slot = build_requested requested (round_of x v).slot })
 
@@ -91,6 +95,7 @@ module _ {K L D : Type 0} (same : D → D → Bool) (elect : Elect L) where
   unfoldable pub propose_answer : StateFacts K L D → Option (ProposalRequest D K)
   propose_answer x = slice_get (filter_map (request_in x) (views_ahead x)) 0
 
+  -- what a request leaves: its block was asked for
   abbrev pub after_try_propose : StateFacts K L D → StateFacts K L D
   after_try_propose x =
       option_map_or (λ request. with_build x (request_context request).round.view true) (propose_answer x) x
@@ -108,6 +113,7 @@ module _ {K L D : Type 0} (same : D → D → Bool) (elect : Elect L) where
       (round_at x context.round.view)
       false
 
+  -- what a built block leaves: it is the view's proposal where it is taken, and the moment is noted
   abbrev pub after_proposed : StateFacts K L D → Context D K → D → ℕ → StateFacts K L D
   after_proposed x context payload now =
       if proposed_answer x context payload
@@ -119,6 +125,7 @@ module _ {K L D : Type 0} (same : D → D → Bool) (elect : Elect L) where
   supersede_answer x context =
       is_some (preferred_parent same elect x context.round.view) && not (context_stands x context)
 
+  -- a request that is superseded is released
   abbrev pub after_supersede : StateFacts K L D → Context D K → StateFacts K L D
   after_supersede x context = if supersede_answer x context then after_release x context.round.view else x
 

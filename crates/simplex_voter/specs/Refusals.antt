@@ -21,6 +21,7 @@ is_too_large v = nat_le (2 ^ 63) v
 abbrev pub names_too_large : {D : Type 0} → Proposal D → Bool
 names_too_large p = is_too_large p.round.view || is_too_large p.parent
 
+-- a moment that is no 64-bit number of milliseconds
 abbrev pub is_past_u64 : ℕ → Bool
 is_past_u64 moment = nat_le (2 ^ 64) moment
 

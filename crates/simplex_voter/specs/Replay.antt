@@ -19,6 +19,7 @@ use Rattle.simplex_voter.specs.Leaders.{with_next_view_ready}
 use Rattle.simplex_voter.specs.Acceptance.{nullified_also}
 
 module _ {S K G C D : Type 0} where
+  -- the view that an artifact names
   abbrev pub artifact_round : Artifact S D K G C → Round
   artifact_round (artifact.Notarize vote) = vote.proposal.round
   artifact_round (artifact.Notarization n) = n.proposal.round
@@ -71,6 +72,7 @@ module _ {K L D : Type 0} where
   replayed_sets x (artifact.Nullification n) = nullified_also x n.round.view
   replayed_sets x _ = x
 
+  -- why an artifact is refused: the state has failed, or its view is too large
   abbrev pub replay_refusal : {S G C : Type 0} → StateFacts K L D → Artifact S D K G C → Option Fault
   replay_refusal x a = first_fault x.failed (artifact_too_large a) false
 
@@ -80,6 +82,7 @@ module _ {K L D : Type 0} where
     pub taken : TakesArtifact (round_of x (artifact_view a)) a
 
 module _ {K L D : Type 0} (same : D → D → Bool) where
+  -- what the artifact makes of its view; a vote to notarize is bound again to the payload of its parent
   abbrev pub replayed_round : {S G C : Type 0} → StateFacts K L D → Artifact S D K G C → RoundFacts K D
   replayed_round x a =
       bound_again

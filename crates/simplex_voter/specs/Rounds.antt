@@ -14,6 +14,7 @@ use Rattle.simplex_voter.specs.declared.voter.rounds.Deadlines.{Deadlines}
 abbrev pub largest_tracked : ℕ
 largest_tracked = 2 ^ 63 + 2 ^ 33
 
+-- the rounds, as contracts see them
 pub record RoundsFacts (K D : Type 0) : Type 0 where
   -- as whom this member signs, all members' keys, and the epoch
   pub me : Option ℕ
@@ -23,15 +24,19 @@ pub record RoundsFacts (K D : Type 0) : Type 0 where
   pub by_view : List (ℕ × RoundFacts K D)
 
 module _ {K D : Type 0} where
+  -- no view is tracked
   abbrev pub no_rounds : Option ℕ → List K → ℕ → RoundsFacts K D
   no_rounds me members epoch = record { me = me; members = members; epoch = epoch; by_view = [] }
 
+  -- the round of a tracked view
   abbrev pub round_at : RoundsFacts K D → ℕ → Option (RoundFacts K D)
   round_at x v = find nat_cmp v x.by_view
 
+  -- something is known of the view
   abbrev pub is_tracked : RoundsFacts K D → ℕ → Bool
   is_tracked x v = is_some (round_at x v)
 
+  -- the view in this epoch
   abbrev pub round_number : RoundsFacts K D → ℕ → Round
   round_number x v = record { epoch = x.epoch; view = v }
 
@@ -43,10 +48,11 @@ module _ {K D : Type 0} where
   abbrev pub with_round : RoundsFacts K D → ℕ → RoundFacts K D → RoundsFacts K D
   with_round x v r = record x { by_view = put nat_cmp v r x.by_view }
 
-  -- the round of a view after a change, tracked from then on; and of a view that is tracked, while of another nothing changes
+  -- the round of a view after a change, tracked from then on
   abbrev pub with_change : RoundsFacts K D → ℕ → (RoundFacts K D → RoundFacts K D) → RoundsFacts K D
   with_change x v change = with_round x v (change (round_of x v))
 
+  -- the same of a view that is tracked; of another nothing changes
   abbrev pub with_change_in_place : RoundsFacts K D → ℕ → (RoundFacts K D → RoundFacts K D) → RoundsFacts K D
   with_change_in_place x v change = if is_tracked x v then with_change x v change else x
 

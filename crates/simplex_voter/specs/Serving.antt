@@ -12,18 +12,23 @@ use Rattle.simplex_voter.specs.Windows.{is_start, min_active}
 module _ {K L D : Type 0} where
   -- the plain getters, of a view that is tracked
 
+  -- the notarization of a view
   abbrev pub notarization_of : StateFacts K L D → ℕ → Option (ProposalFacts D)
   notarization_of x v = option_and_then (λ r. r.notarization) (round_at x v)
 
+  -- its nullification
   abbrev pub nullification_of : StateFacts K L D → ℕ → Option NullificationFacts
   nullification_of x v = option_and_then (λ r. r.nullification) (round_at x v)
 
+  -- its finalization
   abbrev pub finalization_of : StateFacts K L D → ℕ → Option (ProposalFacts D)
   finalization_of x v = option_and_then (λ r. r.finalization) (round_at x v)
 
+  -- its leader's index
   abbrev pub leader_of : StateFacts K L D → ℕ → Option ℕ
   leader_of x v = option_and_then (λ r. option_map (λ l. l.idx) r.leader) (round_at x v)
 
+  -- its proposal, where that may be passed on to others
   abbrev pub forwardable_of : StateFacts K L D → ℕ → Option (Proposal D)
   forwardable_of x v = option_and_then forwardable (round_at x v)
 
@@ -31,6 +36,7 @@ module _ {K L D : Type 0} where
   abbrev pub certify_token_of : StateFacts K L D → ℕ → Option ℕ
   certify_token_of x v = option_and_then (λ r. token_of r.certification) (round_at x v)
 
+  -- its certification was given up
   abbrev pub is_certify_aborted : StateFacts K L D → ℕ → Bool
   is_certify_aborted x v = option_map_or (λ r. is_aborted r.certification) (round_at x v) false
 
@@ -38,6 +44,7 @@ module _ {K L D : Type 0} where
   abbrev pub elapsed_since_start : StateFacts K L D → ℕ → ℕ → Option ℕ
   elapsed_since_start x v now = option_and_then (λ r. elapsed now (start_of r)) (round_at x v)
 
+  -- the milliseconds since it was entered
   abbrev pub elapsed_since_entry : StateFacts K L D → ℕ → ℕ → Option ℕ
   elapsed_since_entry x v now = option_and_then (λ r. elapsed now r.entered_at) (round_at x v)
 
@@ -47,6 +54,7 @@ module _ {K L D : Type 0} where
   abbrev pub broadcast_notarization_answer : StateFacts K L D → ℕ → Option (ProposalFacts D)
   broadcast_notarization_answer x v = option_and_then (λ r. once r.notarization_broadcast r.notarization) (round_at x v)
 
+  -- the notarization of the view, where there is one, is out
   abbrev pub after_broadcast_notarization : StateFacts K L D → ℕ → StateFacts K L D
   after_broadcast_notarization x v =
       let r = round_of x v in
@@ -56,6 +64,7 @@ module _ {K L D : Type 0} where
   abbrev pub broadcast_nullification_answer : StateFacts K L D → ℕ → Option NullificationFacts
   broadcast_nullification_answer x v = option_and_then (λ r. once r.nullification_broadcast r.nullification) (round_at x v)
 
+  -- the nullification
   abbrev pub after_broadcast_nullification : StateFacts K L D → ℕ → StateFacts K L D
   after_broadcast_nullification x v =
       let r = round_of x v in
@@ -65,6 +74,7 @@ module _ {K L D : Type 0} where
   abbrev pub broadcast_finalization_answer : StateFacts K L D → ℕ → Option (ProposalFacts D)
   broadcast_finalization_answer x v = option_and_then (λ r. once r.finalization_broadcast r.finalization) (round_at x v)
 
+  -- the finalization
   abbrev pub after_broadcast_finalization : StateFacts K L D → ℕ → StateFacts K L D
   after_broadcast_finalization x v =
       let r = round_of x v in
@@ -93,6 +103,7 @@ module _ {K L D : Type 0} where
   abbrev pub prune_answer : StateFacts K L D → List ℕ
   prune_answer x = map (λ e. e.0) (filter (λ e. nat_lt e.0 (min_active x)) x.rounds)
 
+  -- nothing is known of the views below those that are kept
   abbrev pub after_prune : StateFacts K L D → StateFacts K L D
   after_prune x =
       record x {

@@ -6,6 +6,7 @@ use Rattle.simplex_voter.specs.declared.voter.state.Config.{Config}
 use Rattle.simplex_voter.specs.declared.voter.state.State.TheInside.{Inside}
 use Rattle.simplex_voter.specs.Facts.{Settings, StateFacts}
 
+-- how a state's fields show its facts
 abbrev pub state_view : {S L D K G C : Type 0} → (L → Terms) → (L → Bool) → Inside S L D K G C → StateFacts K L D
 state_view terms elects_early s =
     record {

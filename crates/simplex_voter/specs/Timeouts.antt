@@ -11,10 +11,12 @@ use Rattle.simplex_voter.specs.Facts.{StateFacts, round_at, round_of, is_tracked
 use Rattle.simplex_voter.specs.Refusals.{first_fault, is_past_u64}
 use Rattle.simplex_voter.specs.Entering.{at_moment}
 
+-- the reason that says: the vote to nullify is sent again
 abbrev pub is_retry : TimeoutReason → Bool
 is_retry Retry = true
 is_retry _ = false
 
+-- the reason that says: the leader was silent for long
 abbrev pub is_inactivity : TimeoutReason → Bool
 is_inactivity Inactivity = true
 is_inactivity _ = false
@@ -54,6 +56,7 @@ module _ {K L D : Type 0} where
   abbrev pub trigger_answer : StateFacts K L D → ℕ → TimeoutReason → Bool
   trigger_answer x v reason = can_trigger x v reason && awaits_latch (round_of x v)
 
+  -- a reason to give the view up is latched, where none was, and the moment is noted
   abbrev pub after_trigger_timeout : StateFacts K L D → ℕ → TimeoutReason → ℕ → StateFacts K L D
   after_trigger_timeout x v reason now = with_timeout (at_moment x now) v reason now
 
@@ -80,9 +83,11 @@ module _ {K L D : Type 0} where
   next_timeout_answer x now =
       option_map (or_stalled (stall_deadline x) now) (round_timeout (round_with_retry x now) (has_skip_budget x))
 
+  -- a member that waits to vote again has its next retry, and the moment is noted
   abbrev pub after_next_timeout : StateFacts K L D → ℕ → StateFacts K L D
   after_next_timeout x now = with_tracked (at_moment x now) x.current (round_with_retry x now)
 
+  -- why a poll is refused: the state has failed, or the next retry is too late
   abbrev pub next_timeout_refusal : StateFacts K L D → ℕ → Option Fault
   next_timeout_refusal x now =
       first_fault x.failed false (awaits_retry (round_of x x.current) && is_past_u64 (now + x.settings.timeout_retry))

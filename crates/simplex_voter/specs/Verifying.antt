@@ -50,6 +50,7 @@ round_left r now Invalid = with_latch r now InvalidProposal
 round_left r now (Lacks w kind) = with_request r w
 round_left r now (Ready d) = verifying_round r d
 
+-- the scan ends here: something is to be fetched or verified
 abbrev pub is_answered : {D : Type 0} → Standing D → Bool
 is_answered Passed = false
 is_answered Invalid = false
@@ -61,6 +62,7 @@ abbrev pub through : {A : Type 0} → (A → Bool) → List A → List A
 through test [] = []
 through test (a ∷ rest) = if test a then a ∷ [] else a ∷ through test rest
 
+-- what the application is asked: the proposal's view, its leader, and its parent with the payload
 abbrev pub verify_context : {K D : Type 0} → Leader K × Proposal D → D → Context D K
 verify_context found d = record { round = found.1.round; leader = found.0.key; parent = (found.1.parent, d) }
 
@@ -87,6 +89,7 @@ module _ {K L D : Type 0} where
   abbrev pub takes_proposal : StateFacts K L D → ℕ → Proposal D → Bool
   takes_proposal x v p = takes_round x p.round && p.round.view == v
 
+  -- the proposal of the view is bound to no payload of its parent
   abbrev pub without_binding : StateFacts K L D → ℕ → StateFacts K L D
   without_binding x v = with_tracked x v (with_nothing_bound (round_of x v))
 
@@ -94,14 +97,17 @@ module _ {K L D : Type 0} where
   abbrev pub set_proposal_answer : StateFacts K L D → ℕ → Bool
   set_proposal_answer x v = is_new_proposal (round_of x v)
 
+-- the round hears of a proposal, unless the view is voted to nullify
 abbrev pub with_proposal : {K D : Type 0} → (D → D → Bool) → RoundFacts K D → Proposal D → RoundFacts K D
 with_proposal same r p =
     if is_nullify r.decision then r else record r { slot = after_vote (same_proposal same) r.slot p }
 
+-- its proposal is verified, unless the view is voted to nullify
 abbrev pub with_mark : {K D : Type 0} → RoundFacts K D → RoundFacts K D
 with_mark r = if is_nullify r.decision then r else record r { slot = after_mark r.slot }
 
 module _ {K L D : Type 0} (same : D → D → Bool) (elect : Elect L) where
+  -- a proposal is handed in: the next view is readied, and the proposal heard of
   abbrev pub after_set_proposal : StateFacts K L D → ℕ → Proposal D → StateFacts K L D
   after_set_proposal x v p =
       let ready = with_next_view_ready elect x v in
@@ -126,6 +132,7 @@ module _ {K L D : Type 0} (same : D → D → Bool) (elect : Elect L) where
       then option_map_or (λ found. parent_standing x e.0 e.1 found.1.parent) (pending_proposal e.1) Passed
       else Passed
 
+  -- what is answered where the scan comes to this view
   abbrev pub answer_in : StateFacts K L D → ℕ × RoundFacts K D → Option (Verify D K)
   answer_in x e = option_and_then (answer_at e.0 (standing x e)) (pending_proposal e.1)
 
@@ -137,6 +144,7 @@ module _ {K L D : Type 0} (same : D → D → Bool) (elect : Elect L) where
   abbrev pub scanned_views : StateFacts K L D → List (ℕ × RoundFacts K D)
   scanned_views x = through (λ e. is_answered (standing x e)) (views_ahead x)
 
+  -- the scan came to the view
   abbrev pub was_scanned : StateFacts K L D → ℕ → Bool
   was_scanned x v = list_any (λ e. v == e.0) (scanned_views x)
 
@@ -154,6 +162,7 @@ module _ {K L D : Type 0} (same : D → D → Bool) (elect : Elect L) where
       binding_matches same elect x v
       && option_map_or (λ r. not (is_nullify r.decision) && is_unverified r.slot) (round_at x v) false
 
+  -- the application found the proposal valid: it is marked where its binding matches, else that is forgotten
   abbrev pub after_verified : StateFacts K L D → ℕ → StateFacts K L D
   after_verified x v =
       if binding_matches same elect x v then with_tracked x v (with_mark (round_of x v)) else without_binding x v

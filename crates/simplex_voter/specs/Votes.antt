@@ -27,6 +27,7 @@ pub record IsSignedNotarize {S L D K G C : Type 0} (is_signature : K → Subject
   pub signer : x.me ≡ Some vote.signer
   pub signed : IsSignedAs is_signature x.me x.members (subject.Notarize vote.proposal) vote.signature
 
+-- the vote is this member's, with its signature on just that
 pub record IsSignedFinalize {S L D K G C : Type 0} (is_signature : K → Subject D → G → Type 0) (x : StateFacts K L D)
     (vote : message.Finalize S D K G C) : Type 0 where
   pub signer : x.me ≡ Some vote.signer
@@ -41,6 +42,7 @@ module _ {K L D : Type 0} where
   abbrev pub nullify_answer : StateFacts K L D → ℕ → Option Bool
   nullify_answer x v = if is_some x.me && may_nullify x v then Some (is_nullify (round_of x v).decision) else None
 
+  -- the vote is decided and out where its rule allows it, else nothing changes
   abbrev pub after_construct_nullify : StateFacts K L D → ℕ → StateFacts K L D
   after_construct_nullify x v =
       if may_nullify x v then nullify_cast (with_round x v (after_nullify (round_of x v))) v else x
@@ -63,6 +65,7 @@ module _ {K L D : Type 0} (elect : Elect L) where
   abbrev pub finalize_answer : StateFacts K L D → ℕ → Option (Proposal D)
   finalize_answer x v = if is_some x.me && may_finalize elect x v then (round_of x v).slot.held else None
 
+  -- the same, of a vote to finalize
   abbrev pub after_construct_finalize : StateFacts K L D → ℕ → StateFacts K L D
   after_construct_finalize x v = if may_finalize elect x v then finalize_cast x v else x
 
@@ -71,6 +74,7 @@ module _ {K L D : Type 0} (same : D → D → Bool) (elect : Elect L) where
   abbrev pub notarize_answer : StateFacts K L D → ℕ → Option (Proposal D)
   notarize_answer x v = if is_some x.me && may_notarize same elect x v then (round_of x v).slot.held else None
 
+  -- the same, of a vote to notarize, which readies the next view
   abbrev pub after_construct_notarize : StateFacts K L D → ℕ → StateFacts K L D
   after_construct_notarize x v =
       if may_notarize same elect x v then with_next_view_ready elect (notarize_cast x v) v else x

@@ -53,8 +53,10 @@ module _ {K L D : Type 0} where
   abbrev pub min_active : StateFacts K L D → ℕ
   min_active x = x.finalized - x.settings.view_retention
 
+  -- a certificate of the view may be handed in
   abbrev pub admits_certificate : StateFacts K L D → ℕ → Bool
   admits_certificate x v = nat_le 1 v && nat_le (min_active x) v
 
+  -- so may a vote, up to the first view of the next term
   abbrev pub admits_vote : StateFacts K L D → ℕ → Bool
   admits_vote x v = admits_certificate x v && nat_le v (next_term_start x.terms.term_length x.current)
