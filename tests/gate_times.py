@@ -4,9 +4,10 @@
     tests/gate_times.py FILE COMMAND ..
 
 The table has a line for each crate and step, in processor seconds of all processes of that step: the proof, the proof and build of the
-tests, the seed (the same proof once more, which must-fail edits begin with), and the edits, with how many were tried. They are read
-off /proc once a second, so what the last second of a process took is not counted. What earlier runs on this machine proved is kept by
-`rt ci`, and takes nothing here: `rt ci --anew` proves all of it.
+tests, the seed (the same proof once more, which a crate's edits begin with: a check of its own in some kits, and in others the first
+edit's), and the edits, with how many were tried. They are read off /proc once a second, so what the last second of a process took is
+not counted. `taskset -c 0,1` before the command shows what two processors make of it. Some kits' `rt ci` keeps what earlier runs on
+this machine proved, which then takes nothing here: `rt ci --anew` proves all of it.
 """
 
 import collections
@@ -50,19 +51,20 @@ def is_check(words):
     return os.path.basename(words[0]) == "rattle" and words[1:2] in (["check"], ["build"]) and "--crate-name" in words
 
 
-def step_of(words, folder):
-    """Which crate is checked, and for which step."""
+def step_of(words, folder, is_first):
+    """Which crate is checked, and for which step. The first check over a folder of kept work makes it."""
     name = words[words.index("--crate-name") + 1]
     over = words[words.index("--incremental") + 1] if "--incremental" in words else ""
-    if over.endswith("/seed"):
+    if over.endswith("/seed") or (re.search(r"/rt-edits-[^/]*$", over) and is_first(over)):
         return name, "seed"
     if over or re.search(r"/rt-edit-", folder):
         return name, "edits"
     return name, "tests" if "--test" in words else "proof"
 
 
-def look(found, top):
-    """Notes what each check below a process has taken so far. What its forks take is counted with it, once they have ended."""
+def look(found, first, top):
+    """Notes what each check below a process has taken so far, and which check was the first over a folder. What its forks take is
+    counted with it, once they have ended."""
     for entry in os.listdir("/proc"):
         if not entry.isdigit():
             continue
@@ -70,7 +72,8 @@ def look(found, top):
             words = words_of(entry)
             if not is_check(words) or is_check(words_of(parent_of(entry))) or not is_below(int(entry), top):
                 continue
-            key = entry, *step_of(words, os.readlink(f"/proc/{entry}/cwd"))
+            step = step_of(words, os.readlink(f"/proc/{entry}/cwd"), lambda over: first.setdefault(over, entry) == entry)
+            key = entry, *step
             found[key] = max(found.get(key, 0), spent(entry))
         except (OSError, ValueError, IndexError):
             # (it has ended meanwhile)
@@ -90,10 +93,10 @@ def table(found):
 
 
 def main(file, *command):
-    found = {}
+    found, first = {}, {}
     with subprocess.Popen(command) as running:
         while running.poll() is None:
-            look(found, running.pid)
+            look(found, first, running.pid)
             time.sleep(1)
     with open(file, "w", encoding="utf-8") as it:
         it.writelines(f"{line}\n" for line in table(found))
