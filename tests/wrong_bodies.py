@@ -46,7 +46,7 @@ WRONG_BODIES = (
 WRONG_WITHOUT_MEMORY = (
     "simplex_member/a_best_certificate_that_fails_the_member",
     "simplex_member/a_refused_resume_that_loses_the_entries",
-    "simplex_replay/goes_on_without_memory_for_its_effects",
+    "simplex_resolver/goes_on_without_memory_for_its_effects",
     "simplex_voter/a_state_that_always_fails",
 )
 RUNS_AT_ONCE = 16

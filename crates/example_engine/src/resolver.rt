@@ -9,14 +9,14 @@ ghost use Rattle.simplex_types.specs.Certificates.{certificate_facts, notarizati
 ghost use Rattle.simplex_types.specs.Viewed.{certificate_view};
 ghost use Rattle.simplex_resolver.specs.Held.{served_encoding};
 ghost use Rattle.simplex_resolver.specs.Steps.{update, verdict};
-ghost use Rattle.simplex_replay.specs.Calls.{replay_calls};
-ghost use Rattle.simplex_replay.specs.Told.{HasBeenTold, IsToldMore, OfAllTold, OpensTheWanted};
+ghost use Rattle.simplex_resolver.specs.RecordCalls.{replay_calls};
+ghost use Rattle.simplex_resolver.specs.Told.{HasBeenTold, IsToldMore, OfAllTold, OpensTheWanted};
 ghost use Rattle.example_engine.specs.Digests.{bytes_of};
 ghost use Rattle.example_engine.specs.Sealing.{seal_bytes};
 
 use crate::parts::{Entry, Notarized, Proof};
 use bytes::Bytes;
-use simplex_replay::replay::{LawfulResolver, ReplayError};
+use simplex_resolver::replay::{LawfulResolver, ReplayError};
 use simplex_resolver::resolver::Effect;
 use simplex_types::types::{Fault, TermLength, View};
 use std::alloc::Global;

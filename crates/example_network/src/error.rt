@@ -1,7 +1,7 @@
 //! Why the example ends early.
 
 use simplex_member::member::{RecoverError, ResumeError};
-use simplex_replay::replay::ReplayError;
+use simplex_resolver::replay::ReplayError;
 use simplex_types::types::Fault;
 use std::alloc::AllocError;
 use std::io;

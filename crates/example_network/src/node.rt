@@ -12,7 +12,7 @@ use example_engine::resolver::PeerResolver;
 use example_engine::scheme::SealScheme;
 use example_engine::start::start_of;
 use simplex_member::member::{Call, Member};
-use simplex_replay::replay::ReplayError;
+use simplex_resolver::replay::ReplayError;
 use simplex_types::types::plain::PlainElector;
 use simplex_types::types::{Elector, Round, TermLength, Terms, View};
 use std::alloc::Global;

@@ -20,6 +20,7 @@ signed_proposal payload_bytes signer proposal own = to_be_bytes w32 signer ++ (p
 abbrev pub signed_round : ℕ → Round → List ℕ → List ℕ
 signed_round signer round own = to_be_bytes w32 signer ++ (round_bytes round ++ own)
 
+-- the bytes of a verdict
 abbrev pub verdict_bytes : Round → Bool → List ℕ
 verdict_bytes round success = round_bytes round ++ ((if success then 1 else 0) ∷ [])
 

@@ -9,6 +9,7 @@ use Rattle.simplex_codec.specs.declared.error.DecodeError.{DecodeError}
 use Rattle.simplex_codec.specs.declared.error.DecodeError.TheVariants.{OutOfMemory, TooShort, UnknownKind, UnreadablePayload, UnreadableCertificate}
 use Rattle.simplex_codec.specs.Reading.{NoneHas}
 
+-- its numbers fit in the bytes that an encoding has for them
 abbrev pub IsEncodableProposal : {D : Type 0} → Proposal D → Type 0
 IsEncodableProposal p = IsEncodableRound p.round × (p.parent < 2 ^ 64)
 

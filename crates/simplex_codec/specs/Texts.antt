@@ -3,6 +3,7 @@ use Rattle.std.specs.Prelude.{ℕ, List, ◌++◌, codes, decimal}
 use Rattle.simplex_codec.specs.declared.error.DecodeError.{DecodeError}
 use Rattle.simplex_codec.specs.declared.error.DecodeError.TheVariants as error
 
+-- why bytes are refused
 abbrev pub decode_error_text : DecodeError → List ℕ
 decode_error_text error.OutOfMemory = codes "no memory is left"
 decode_error_text error.TooShort = codes "the bytes end early"
@@ -13,5 +14,6 @@ decode_error_text error.UnreadableSignature = codes "the signature is not the sc
 decode_error_text (error.UnknownVerdict verdict) = decimal verdict ++ codes " is no verdict"
 decode_error_text error.TrailingBytes = codes "bytes are left over"
 
+-- why a frame is refused
 abbrev pub damaged_frame_text : List ℕ
 damaged_frame_text = codes "the frame is damaged"

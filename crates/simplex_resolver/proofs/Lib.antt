@@ -11,3 +11,9 @@ pub mod Last
 pub mod AnswersLaw
 pub mod Again
 pub mod Ranges
+pub mod Newest
+pub mod Sound
+pub mod Going
+pub mod Replayed
+pub mod Told
+pub mod Made

@@ -65,6 +65,7 @@ NoContradiction calls = (v : ℕ) → list_any (is_true_verdict v) calls ≡ tru
 
 -- ---- the law
 
+-- what a resolver answers is what it was told
 pub record AnswersFit (t : ℕ) (calls : List Call) (x : ResolverFacts) : Type 0 where
   pub settled : (v : ℕ) (kind : Kind) → is_settled x v kind ≡ is_settled_by t calls v kind
   pub uncertifiable : (v : ℕ) → finmap.contains_key x.uncertifiable v ≡ is_failed_by calls v

@@ -37,6 +37,7 @@ empty t = record {
   is_failed = false;
 }
 
+-- how many views a term has
 abbrev pub term_length : ResolverFacts → ℕ
 term_length x = x.nullifications.term_length
 
@@ -54,6 +55,7 @@ certified_encoding m v = option_and_then (λ e. e) (map.get m v)
 
 -- ---- anchors
 
+-- the view is the first one of its term
 abbrev pub is_term_start : ℕ → ℕ → Bool
 is_term_start t v = v == term_start t v
 
@@ -75,6 +77,7 @@ end_of_scan t first end = if nat_lt first end then next_term_start t (end - 1) e
 
 -- ---- how facts are stored: as the tuple of their fields
 
+-- facts as numbers and maps, so that two can be told apart
 abbrev pub facts_code : Coded ResolverFacts
 facts_code =
     code_by

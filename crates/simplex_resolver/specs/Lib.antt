@@ -4,3 +4,7 @@ pub mod Held
 pub mod Received
 pub mod Repair
 pub mod Answers
+pub mod ReplayErrors
+pub mod RecordCalls
+pub mod RecordRules
+pub mod Told

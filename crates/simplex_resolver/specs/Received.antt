@@ -25,16 +25,19 @@ are_alike (Notarization v) (Notarization u) = v == u
 are_alike (Finalization v encoding) (Finalization u other) = v == u
 are_alike call other = false
 
+-- the replay ends
 abbrev pub is_replayed : Call → Bool
 is_replayed Replayed = true
 is_replayed call = false
 
 -- ---- views
 
+-- the greatest, or 0
 abbrev pub greatest : List ℕ → ℕ
 greatest [] = 0
 greatest (v ∷ vs) = max v (greatest vs)
 
+-- the view that a call finalizes, or 0
 abbrev pub finalized_view : Call → ℕ
 finalized_view (Finalization v encoding) = v
 finalized_view call = 0
@@ -45,6 +48,7 @@ floor_raised_to (Finalization v encoding) = v
 floor_raised_to (Verdict v encoding true) = v
 floor_raised_to call = 0
 
+-- the view that a certificate is of, or 0
 abbrev pub current_view : Call → ℕ
 current_view (Nullification v encoding) = v
 current_view (Notarization v) = v
@@ -55,18 +59,22 @@ current_view call = 0
 abbrev pub finalized_of : List Call → ℕ
 finalized_of calls = greatest (map finalized_view calls)
 
+-- the floor that the calls raise
 abbrev pub floor_of : List Call → ℕ
 floor_of calls = greatest (map floor_raised_to calls)
 
+-- the highest view with a certificate
 abbrev pub current_of : List Call → ℕ
 current_of calls = greatest (map current_view calls)
 
 -- ---- what a call says of a view
 
+-- a true verdict on the view
 abbrev pub is_true_verdict : ℕ → Call → Bool
 is_true_verdict v (Verdict u encoding true) = v == u
 is_true_verdict v call = false
 
+-- a false verdict on it
 abbrev pub is_false_verdict : ℕ → Call → Bool
 is_false_verdict v (Verdict u encoding false) = v == u
 is_false_verdict v call = false

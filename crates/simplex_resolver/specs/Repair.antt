@@ -10,6 +10,7 @@ use Rattle.simplex_resolver.specs.Received.{is_replayed, are_alike, NamesAView, 
 
 -- ---- the effects
 
+-- the effect opens a fetch of the view
 abbrev pub fetches : ℕ → Effect → Bool
 fetches v (Fetch u cause reason) = v == u
 fetches v effect = false
@@ -44,10 +45,12 @@ KeepsOutstanding old es new = (earlier : List Effect) → IsOutstandingSet old e
 
 -- ---- runs, the last call first
 
+-- the facts after a list of calls, the latest first
 abbrev pub facts_of : ℕ → List Call → ResolverFacts
 facts_of t [] = empty t
 facts_of t (call ∷ earlier) = after (facts_of t earlier) call
 
+-- all effects of these, in order
 abbrev pub effects_of : ℕ → List Call → List Effect
 effects_of t [] = []
 effects_of t (call ∷ earlier) = effects_of t earlier ++ effects (facts_of t earlier) call

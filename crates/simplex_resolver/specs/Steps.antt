@@ -48,6 +48,7 @@ scan_start x = max x.scanned (x.floor + 1)
 abbrev pub missing : ResolverFacts → List ℕ
 missing x = uncovered_anchors x.nullifications (scan_start x) x.current
 
+-- fetches of nullifications that are missing
 abbrev pub missing_fetches : ℕ → List ℕ → List Effect
 missing_fetches cause vs = map (λ v. Fetch v cause MissingNullification) vs
 
@@ -55,9 +56,11 @@ missing_fetches cause vs = map (λ v. Fetch v cause MissingNullification) vs
 abbrev pub scan_fetches : ResolverFacts → ℕ → List Effect
 scan_fetches x cause = if x.replaying then [] else missing_fetches cause (missing x)
 
+-- where the next scan ends
 abbrev pub scan_end : ResolverFacts → ℕ
 scan_end x = end_of_scan (term_length x) (scan_start x) x.current
 
+-- scans have come that far, once the replay has ended
 abbrev pub after_scan : ResolverFacts → ResolverFacts
 after_scan x = if x.replaying then x else record x { scanned = scan_end x }
 
@@ -70,6 +73,7 @@ after_raise x v =
     then record x { floor = v; scanned = if is_term_start (term_length x) (v + 1) then x.scanned else min x.scanned (v + 1) }
     else x
 
+-- the floor rises, where the view is above it
 abbrev pub raise_effects : ResolverFacts → ℕ → List Effect
 raise_effects x v = if nat_lt x.floor v then Raised v ∷ [] else []
 
@@ -79,6 +83,7 @@ raise_effects x v = if nat_lt x.floor v then Raised v ∷ [] else []
 abbrev pub insert_new : {V : Type 0} → FinMap nat_cmp V → ℕ → V → FinMap nat_cmp V
 insert_new m v x = if map.contains_key m v then m else map.insert m v x
 
+-- the nullification is kept, unless one of its view is
 abbrev pub with_kept_nullification : ResolverFacts → ℕ → List ℕ → ResolverFacts
 with_kept_nullification x v encoding =
     record x { nullifications = record x.nullifications { by_view = insert_new x.nullifications.by_view v encoding } }
@@ -90,6 +95,7 @@ after_nullification x v encoding =
     then record (with_kept_nullification x v encoding) { current = max x.current v }
     else record x { current = max x.current v }
 
+-- what a nullification settles: its view and the rest of its term, unless that is finalized
 abbrev pub nullification_effects : ResolverFacts → ℕ → List Effect
 nullification_effects x v =
     if nat_lt (last_finalized x) (term_end (term_length x) v)
@@ -103,6 +109,7 @@ after_notarization x v =
     then record x { current = max x.current v; notarizations = insert_new x.notarizations v None }
     else record x { current = max x.current v }
 
+-- what a notarization settles, unless its view is finalized or has failed
 abbrev pub notarization_effects : ResolverFacts → ℕ → List Effect
 notarization_effects x v =
     if nat_lt (last_finalized x) v && not (map.contains_key x.uncertifiable v) then Settled OfNotarization v v ∷ [] else []
@@ -122,10 +129,12 @@ without_finalized x finalized = record x {
   uncertifiable = at_or_above x.uncertifiable (finalized + 1);
 }
 
+-- what a finalization makes of the facts
 abbrev pub after_finalization : ResolverFacts → ℕ → List ℕ → ResolverFacts
 after_finalization x v encoding =
     after_raise (without_finalized (with_kept_finalization x v encoding) (max (last_finalized x) v)) v
 
+-- what it settles
 abbrev pub finalization_effects : ResolverFacts → ℕ → List Effect
 finalization_effects x v = Finalized (max (last_finalized x) v) ∷ raise_effects x v
 
@@ -136,6 +145,7 @@ abbrev pub with_certified : ResolverFacts → ℕ → List ℕ → ResolverFacts
 with_certified x v encoding =
     if nat_lt (last_finalized x) v then record x { notarizations = map.insert x.notarizations v (Some encoding) } else x
 
+-- what a true verdict makes of the facts
 abbrev pub after_success : ResolverFacts → ℕ → List ℕ → ResolverFacts
 after_success x v encoding = after_raise (with_certified x v encoding) v
 
@@ -154,6 +164,7 @@ needs_nullification x v = nat_lt x.floor v && not (is_covered x.nullifications v
 abbrev pub failure_fetches : List ℕ → List Effect
 failure_fetches vs = map (λ v. Fetch v v CertificationFailed) vs
 
+-- the view of a false verdict, where it needs a nullification then
 abbrev pub failing : ResolverFacts → ℕ → List ℕ
 failing x v = if not x.replaying && needs_nullification x v then v ∷ [] else []
 

@@ -1,4 +1,5 @@
-//! The resolver: which certificates are kept and served, and which views are fetched.
+//! The resolver: which certificates are kept and served, which views are fetched, and how one starts from a record.
 #![tactic(auto)]
 
+pub mod replay;
 pub mod resolver;

@@ -33,11 +33,13 @@ first_notarization [] = None
 first_notarization (Notarized c ∷ calls) = Some (unwrap_or (first_notarization calls) c)
 first_notarization (_ ∷ calls) = first_notarization calls
 
+-- the first nullification
 abbrev pub first_nullification : {D : Type 0} → List (RoundCall D) → Option NullificationFacts
 first_nullification [] = None
 first_nullification (Nullified c ∷ calls) = Some (unwrap_or (first_nullification calls) c)
 first_nullification (_ ∷ calls) = first_nullification calls
 
+-- the first finalization
 abbrev pub first_finalization : {D : Type 0} → List (RoundCall D) → Option (ProposalFacts D)
 first_finalization [] = None
 first_finalization (Finalized c ∷ calls) = Some (unwrap_or (first_finalization calls) c)
@@ -49,6 +51,7 @@ first_entry [] = None
 first_entry (Entered now ∷ calls) = Some (unwrap_or (first_entry calls) now)
 first_entry (_ ∷ calls) = first_entry calls
 
+-- the moment of the last own proposal
 abbrev pub last_proposed : {D : Type 0} → List (RoundCall D) → Option ℕ
 last_proposed [] = None
 last_proposed (Proposed now ∷ calls) = Some now
@@ -60,11 +63,13 @@ leader_deadline [] = None
 leader_deadline (Armed leader _ _ ∷ calls) = Some leader
 leader_deadline (_ ∷ calls) = leader_deadline calls
 
+-- the deadline for a certification, as it was set last
 abbrev pub certification_deadline : {D : Type 0} → List (RoundCall D) → Option ℕ
 certification_deadline [] = None
 certification_deadline (Armed _ certification _ ∷ calls) = Some certification
 certification_deadline (_ ∷ calls) = certification_deadline calls
 
+-- that of a stall
 abbrev pub last_stall_deadline : {D : Type 0} → List (RoundCall D) → Option ℕ
 last_stall_deadline [] = None
 last_stall_deadline (Armed _ _ stall ∷ calls) = stall
@@ -85,6 +90,7 @@ retry_moment (Polled now interval ∷ calls) =
     (if is_some (first_finalization calls) then None else Some (now + interval))
 retry_moment (_ ∷ calls) = retry_moment calls
 
+-- a vote that excludes another one
 pub data Vote : Type 0 where
   ToNullify : Vote
   ToFinalize : Vote

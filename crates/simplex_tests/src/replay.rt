@@ -2,7 +2,7 @@
 
 ghost use Rattle.std.specs.Prelude.{◌≡◌};
 
-use simplex_replay::replay::{LawfulResolver, ReplayError, replay_record};
+use simplex_resolver::replay::{LawfulResolver, ReplayError, replay_record};
 use simplex_resolver::resolver::{Effect, State, apply};
 use simplex_types::reasons::{FetchReason, Kind};
 use simplex_types::types::plain::{

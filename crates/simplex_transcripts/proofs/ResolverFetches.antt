@@ -7,8 +7,8 @@ use Rattle.simplex_types.specs.declared.types.fault.Fault.TheVariants as fault
 use Rattle.simplex_resolver.specs.Facts.{ResolverFacts, empty}
 use Rattle.simplex_resolver.specs.Received.{NamesAView}
 use Rattle.simplex_resolver.specs.Steps.{Call, Replayed as EndOfReplay, Refused}
-use Rattle.simplex_replay.specs.Told.{LawfulResolverFacts, HasBeenTold}
-use Rattle.simplex_replay.proofs.Told.{still_told, opens_the_wanted, opens_none, opens_none_again, answers_the_told}
+use Rattle.simplex_resolver.specs.Told.{LawfulResolverFacts, HasBeenTold}
+use Rattle.simplex_resolver.proofs.Told.{still_told, opens_the_wanted, opens_none, opens_none_again, answers_the_told}
 use Rattle.simplex_program.specs.declared.resolver.Answer.{Answer}
 use Rattle.simplex_program.specs.declared.resolver.Answer.TheVariants as answer
 use Rattle.simplex_program.specs.declared.resolver_line.ResolverLine.{ResolverLine}

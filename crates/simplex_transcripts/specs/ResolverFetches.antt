@@ -2,7 +2,7 @@
 use Rattle.std.specs.Prelude.{◌≡◌, ◌⊎◌, ℕ, ◌+◌, ⊤, List, [], ◌∷◌, ◌++◌, length, Option, Result, Err}
 use Rattle.std.specs.Io.KnownBytes.{Keeps, Appends}
 use Rattle.simplex_resolver.specs.Steps.{Call, Replayed as EndOfReplay}
-use Rattle.simplex_replay.specs.Told.{LawfulResolverFacts, HasBeenTold, OpensTheWanted, OpensNone, OpensNoneAgain, AnswersTheTold}
+use Rattle.simplex_resolver.specs.Told.{LawfulResolverFacts, HasBeenTold, OpensTheWanted, OpensNone, OpensNoneAgain, AnswersTheTold}
 use Rattle.simplex_program.specs.declared.mode.Mode.TheVariants.{Resolver}
 use Rattle.simplex_program.specs.declared.serve_error.ServeError.{ServeError}
 use Rattle.simplex_program.specs.declared.serve_error.ServeError.TheVariants.{OutOfMemory}

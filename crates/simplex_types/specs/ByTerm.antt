@@ -12,6 +12,7 @@ pub record TermMap (V : Type 0) : Type 0 where
   pub term_length : ℕ
   pub by_view : FinMap nat_cmp V
 
+-- such a map as a number and a map, so that two can be told apart
 abbrev pub term_map_code : {V : Type 0} → Coded V → Coded (TermMap V)
 term_map_code {V} value =
     code_by (ℕ × FinMap nat_cmp V) (coded× coded_ℕ (code coded_ℕ value)) (λ m. (m.term_length, m.by_view)) (λ p. record { term_length = p.0; by_view = p.1 }) (λ _. refl)

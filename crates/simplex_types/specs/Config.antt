@@ -33,6 +33,7 @@ pub data FloorFacts (D : Type 0) : Type 0 where
   Genesis : D → FloorFacts D
   Finalized : ProposalFacts D → FloorFacts D
 
+-- a floor, as plain data
 abbrev pub floor_facts : {S D K G C : Type 0} → (C → List ℕ) → Floor S D K G C → FloorFacts D
 floor_facts bytes_of (floor.Genesis payload) = Genesis payload
 floor_facts bytes_of (floor.Finalized f) = Finalized (finalization_facts bytes_of f)
@@ -51,6 +52,7 @@ floor_rules accepts epoch (floor.Finalized f) =
     ∷ (not (accepts (subject.Finalize f.proposal) f.certificate), error.FloorUnverified)
     ∷ []
 
+-- the first rule that a floor breaks
 abbrev pub first_broken_floor_rule : {S D K G C : Type 0} → (Subject D → C → Bool) → ℕ → Floor S D K G C → Option ConfigError
 first_broken_floor_rule accepts epoch floor = first_broken (floor_rules accepts epoch floor)
 
@@ -70,6 +72,7 @@ config_rules participants accepts c =
 abbrev pub first_broken_rule : {S D K G C : Type 0} → ℕ → (Subject D → C → Bool) → Config S D K G C → Option ConfigError
 first_broken_rule participants accepts c = first_broken (config_rules participants accepts c)
 
+-- the name of a broken rule
 abbrev pub config_error_name : ConfigError → List ℕ
 config_error_name error.NoParticipants = codes "NoParticipants"
 config_error_name error.LeaderTimeoutZero = codes "LeaderTimeoutZero"

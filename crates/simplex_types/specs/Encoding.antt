@@ -42,6 +42,7 @@ encoding payload_bytes c = subject_bytes payload_bytes (certificate_subject c) +
 abbrev pub IsEncodableRound : Round → Type 0
 IsEncodableRound r = (r.epoch < 2 ^ 64) × (r.view < 2 ^ 64)
 
+-- its numbers fit in the bytes that the encoding has for them
 abbrev pub IsEncodable : {D : Type 0} → CertificateFacts D → Type 0
 IsEncodable (Notarized c) = IsEncodableRound c.proposal.round × (c.proposal.parent < 2 ^ 64)
 IsEncodable (Nullified c) = IsEncodableRound c.round

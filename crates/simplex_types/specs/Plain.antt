@@ -17,6 +17,7 @@ use Rattle.simplex_types.specs.declared.types.plain.PlainElector.{PlainElector}
 use Rattle.simplex_types.specs.Encoding.{subject_bytes}
 use Rattle.simplex_types.specs.Terms.{term_index}
 
+-- the bytes of a digest
 abbrev pub digest_bytes : PlainDigest → List ℕ
 digest_bytes d = d.bytes
 
@@ -24,6 +25,7 @@ digest_bytes d = d.bytes
 abbrev pub signer_of : PlainScheme → Option ℕ
 signer_of s = s.signer
 
+-- the keys of all members
 abbrev pub keys_of : PlainScheme → List PlainKey
 keys_of s = s.keys.items
 
@@ -35,9 +37,11 @@ IsPlainSignature payload_bytes key subject signature = (signature.key ≡ key) �
 abbrev pub keys_below : ℕ → List PlainKey
 keys_below n = map (λ i. record { 0 = i }) (range_with_len 0 n)
 
+-- how many members the elector chooses among
 abbrev pub members_of : PlainElector → ℕ
 members_of e = e.count
 
+-- its terms
 abbrev pub terms_of : PlainElector → Terms
 terms_of e = e.terms
 

@@ -12,6 +12,7 @@ use Rattle.simplex_types.specs.declared.reasons.Until.{Until}
 use Rattle.simplex_types.specs.declared.reasons.Until.TheVariants as until
 use Rattle.simplex_types.specs.declared.reasons.Ask.{Ask}
 
+-- why a view is given up
 abbrev pub timeout_reason_text : TimeoutReason → List ℕ
 timeout_reason_text timeout.Retry = codes "Retry"
 timeout_reason_text timeout.Inactivity = codes "Inactivity"
@@ -24,6 +25,7 @@ timeout_reason_text timeout.IgnoredProposal = codes "IgnoredProposal"
 timeout_reason_text timeout.InvalidProposal = codes "InvalidProposal"
 timeout_reason_text timeout.FailedCertification = codes "FailedCertification"
 
+-- why a handoff is given up
 abbrev pub handoff_abandoned_reason_text : HandoffAbandonedReason → List ℕ
 handoff_abandoned_reason_text abandoned.ViewExit = codes "ViewExit"
 handoff_abandoned_reason_text abandoned.AncestrySuperseded = codes "AncestrySuperseded"
@@ -33,14 +35,17 @@ handoff_abandoned_reason_text abandoned.ViewNullify = codes "ViewNullify"
 handoff_abandoned_reason_text abandoned.ResponseClosed = codes "ResponseClosed"
 handoff_abandoned_reason_text abandoned.IneligibleAtRecording = codes "IneligibleAtRecording"
 
+-- why something is fetched
 abbrev pub fetch_reason_text : FetchReason → List ℕ
 fetch_reason_text fetch.MissingNullification = codes "missing_nullification"
 fetch_reason_text fetch.CertificationFailed = codes "certification_failed"
 
+-- which certificate is fetched
 abbrev pub kind_text : Kind → List ℕ
 kind_text kind.Nullification = codes "nullification"
 kind_text kind.Notarization = codes "notarization"
 
+-- until when
 abbrev pub until_text : Until → List ℕ
 until_text until.Floor = codes "floor"
 until_text until.Finalization = codes "finalization"

@@ -16,6 +16,7 @@ at_or_above m view = retain_keys m (λ key. nat_le view key)
 abbrev pub first_entry : {V : Type 0} → FinMap nat_cmp V → Option (ℕ × V)
 first_entry m = slice_get (entries m) 0
 
+-- the entry of the highest view
 abbrev pub last_entry : {V : Type 0} → FinMap nat_cmp V → Option (ℕ × V)
 last_entry m = slice_get (entries m) (length (entries m) - 1)
 

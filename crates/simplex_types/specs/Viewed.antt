@@ -7,11 +7,13 @@ use Rattle.simplex_types.specs.declared.types.messages.Artifact.TheVariants as a
 use Rattle.simplex_types.specs.declared.types.messages.Subject.{Subject}
 use Rattle.simplex_types.specs.declared.types.messages.Subject.TheVariants as subject
 
+-- the view of a certificate
 abbrev pub certificate_view : {S D K G C : Type 0} → Certificate S D K G C → ℕ
 certificate_view (certificate.Notarization n) = n.proposal.round.view
 certificate_view (certificate.Nullification n) = n.round.view
 certificate_view (certificate.Finalization f) = f.proposal.round.view
 
+-- of an artifact
 abbrev pub artifact_view : {S D K G C : Type 0} → Artifact S D K G C → ℕ
 artifact_view (artifact.Notarize vote) = vote.proposal.round.view
 artifact_view (artifact.Notarization n) = n.proposal.round.view
@@ -21,6 +23,7 @@ artifact_view (artifact.Nullification n) = n.round.view
 artifact_view (artifact.Finalize vote) = vote.proposal.round.view
 artifact_view (artifact.Finalization f) = f.proposal.round.view
 
+-- of what a vote is on
 abbrev pub subject_view : {D : Type 0} → Subject D → ℕ
 subject_view (subject.Notarize p) = p.round.view
 subject_view (subject.Nullify round) = round.view

@@ -1,4 +1,0 @@
-pub mod Errors
-pub mod Calls
-pub mod Rules
-pub mod Told

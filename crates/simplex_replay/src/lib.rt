@@ -1,4 +1,0 @@
-//! A member's record, handed to a resolver.
-#![tactic(auto)]
-
-pub mod replay;

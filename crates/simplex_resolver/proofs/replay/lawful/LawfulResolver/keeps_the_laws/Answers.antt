@@ -1,0 +1,14 @@
+use Rattle.simplex_resolver.proofs.Told.{opens_the_wanted, opens_none, opens_none_again, answers_the_told}
+use Rattle.simplex_resolver.proofs.replay.lawful.LawfulResolver.keeps_the_laws.Goals as goal
+
+pub returns-clause-wanted : goal.returns-clause-wanted
+returns-clause-wanted c = opens_the_wanted c.args.self.now
+
+pub returns-clause-none : goal.returns-clause-none
+returns-clause-none c = opens_none c.args.self.now
+
+pub returns-clause-again : goal.returns-clause-again
+returns-clause-again c = opens_none_again c.args.self.now
+
+pub returns-clause-answers : goal.returns-clause-answers
+returns-clause-answers c = answers_the_told c.args.self.now

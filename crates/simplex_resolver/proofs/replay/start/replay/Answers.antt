@@ -1,0 +1,11 @@
+use Rattle.std.proofs.Common.{ap, ◌∙◌}
+use Rattle.simplex_resolver.specs.RecordCalls.{newest_first, calls_of}
+use Rattle.simplex_resolver.proofs.Going.{all_go_on}
+use Rattle.simplex_resolver.proofs.Sound.{refused_alike}
+use Rattle.simplex_resolver.proofs.replay.start.replay.Goals as goal
+
+pub returns-clause-refused : goal.returns-clause-refused
+returns-clause-refused g c =
+    let calls = calls_of g.D.Digest.bytes (newest_first g.S.CertificateScheme.certificate_bytes c.args.entries.now) in
+    let live = ap (λ x. x.is_failed) c.in_ok-hand_all.ensures.after ∙ all_go_on c.args.state.now calls ∙ c.requires.going_on in
+    refused_alike c.replayed.result c.hand_all.new.state c.replayed.new.self live c.replayed.ensures.refused

@@ -1,0 +1,194 @@
+//! A resolver that a driver keeps, with its open fetches and with the law of them at each moment.
+
+ghost use Rattle.std.specs.Prelude.{◌≡◌, ◌≤◌, ◌<◌, ◌^◌, [], true, false, None, IfOk, IfErr, OnOk, OnErr};
+ghost use Rattle.simplex_types.specs.Certificates.{certificate_facts, notarization_facts};
+ghost use Rattle.simplex_types.specs.Viewed.{certificate_view};
+ghost use Rattle.simplex_types.specs.declared.types.fault.Fault.TheVariants.{OutOfMemory};
+ghost use Rattle.simplex_resolver.specs.Facts.{empty};
+ghost use Rattle.simplex_resolver.specs.Repair.{IsApplied};
+ghost use Rattle.simplex_resolver.specs.Steps.{Replayed, update, verdict, highest_named, highest_view};
+ghost use Rattle.simplex_resolver.specs.RecordCalls.{newest_first, replay_calls};
+ghost use Rattle.simplex_resolver.specs.ReplayErrors.{IsDue};
+ghost use Rattle.simplex_resolver.specs.RecordRules.{record_error};
+
+use super::error::ReplayError;
+use super::start::replay_record;
+use crate::resolver::{Effect, State, apply};
+use simplex_types::types::{
+    Artifact, Certificate, CertificateScheme, Digest, Fault, Notarization, TermLength, View,
+};
+use std::alloc::Global;
+use std::collections::BTreeSet;
+use std::marker::Model;
+
+/// A resolver that a driver keeps, and the views whose fetch is open: the effects of each call are applied to them.
+///
+/// `HasBeenTold` says which calls it was told so far: `new` and `start` begin the list, each method says what it adds, and
+/// `keeps_the_laws` says what holds of the whole.
+#[derive(Drop)]
+pub struct LawfulResolver {
+    state: State,
+    fetches: BTreeSet<View>,
+}
+
+impl Model for LawfulResolver {
+    ghost use Rattle.simplex_resolver.specs.Told.{LawfulResolverFacts, resolver_facts_code};
+
+    ghost Value = { LawfulResolverFacts };
+
+    ghost coded = { resolver_facts_code };
+
+    ghost view = { λ r. record { state = r.state; open_fetches = r.fetches.keys } };
+}
+
+impl LawfulResolver {
+    ghost use Rattle.simplex_resolver.specs.Told.{HasBeenTold, IsMade, IsToldMore, IsBegun, IsLeftBy, OfAllTold, OpensTheWanted, OpensNone, OpensNoneAgain, AnswersTheTold};
+
+    /// A resolver that was told nothing. It opens no fetch before `replayed` is called.
+    pub fn new(alloc: Global, term_length: TermLength) -> LawfulResolver
+        ensures state { result.state ≡ empty term_length }
+        ensures begins { HasBeenTold term_length [] result }
+    {
+        let _positive = term_length.get();
+        LawfulResolver {
+            state: State::new(alloc, term_length),
+            fetches: BTreeSet::new(alloc),
+        }
+    }
+
+    /// A resolver that starts from a member's record, oldest entry first, as `replay_record` does, with its first fetches
+    /// open.
+    ///
+    /// # Errors
+    ///
+    /// Those of `replay_record`, `OutOfMemory` also where there is none for the fetches. There is no resolver then.
+    pub fn start<S: CertificateScheme, D: Digest>(
+        alloc: Global,
+        term_length: TermLength,
+        entries: &[Artifact<S, D>],
+    ) -> Result<LawfulResolver, ReplayError>
+        ensures begins { IfOk result (HasBeenTold term_length (replay_calls D.bytes S.certificate_bytes entries.now)) }
+        ensures accepted { OnOk result (record_error (newest_first S.certificate_bytes entries.now) ≡ None) }
+        ensures refused { IfErr result (IsDue (record_error (newest_first S.certificate_bytes entries.now))) }
+    {
+        let _positive = term_length.get();
+        let (state, effects) = replay_record(alloc, term_length, entries)?;
+        let mut fetches = BTreeSet::new(alloc);
+        match apply(&mut fetches, &effects) {
+            Ok(()) => Ok(LawfulResolver { state, fetches }),
+            Err(_) => Err(ReplayError::OutOfMemory),
+        }
+    }
+
+    /// Tells of a certificate that the member accepted, as `State::updated` does. Answers the effects, which are applied to
+    /// the open fetches. A fetch among them may be of a view whose fetch is open already.
+    ///
+    /// # Errors
+    ///
+    /// `Failed` on a failed resolver, `ViewTooLarge` where the certificate's view or its parent's is above 2^63 - 1; both
+    /// change nothing. After `OutOfMemory` the resolver has failed: a beginning of the effects is applied, and every later
+    /// call is refused.
+    pub fn updated<S: CertificateScheme, D: Digest>(
+        &mut self,
+        certificate: &Certificate<S, D>,
+    ) -> Result<Vec<Effect>, Fault>
+        requires { 1 ≤ certificate_view certificate.now }
+        ensures made { IfOk result (λ es. IsMade (update D.bytes (certificate_facts S.certificate_bytes certificate.now)) self.old es.items self.new) }
+        ensures told { OnOk result (IsToldMore self.old (update D.bytes (certificate_facts S.certificate_bytes certificate.now)) self.new) }
+        ensures accepted { OnOk result ((self.old.state.is_failed ≡ false) × (highest_view certificate.now < 2 ^ 63)) }
+        ensures refused { IfErr result (λ fault. IsLeftBy self.old (highest_view certificate.now)
+            (update D.bytes (certificate_facts S.certificate_bytes certificate.now)) fault self.new) }
+    {
+        match self.state.updated(certificate) {
+            Ok(effects) => self.apply(effects),
+            Err(fault) => Err(fault),
+        }
+    }
+
+    /// Tells of a verdict on a notarization, as `State::certified` does. Answers the effects, which are applied to the open
+    /// fetches.
+    ///
+    /// # Errors
+    ///
+    /// As `updated`.
+    pub fn certified<S: CertificateScheme, D: Digest>(
+        &mut self,
+        notarization: Notarization<S, D>,
+        success: bool,
+    ) -> Result<Vec<Effect>, Fault>
+        requires { 1 ≤ notarization.proposal.round.view }
+        ensures made { IfOk result (λ es. IsMade (verdict D.bytes (notarization_facts S.certificate_bytes notarization) success) self.old es.items self.new) }
+        ensures told { OnOk result (IsToldMore self.old (verdict D.bytes (notarization_facts S.certificate_bytes notarization) success) self.new) }
+        ensures accepted { OnOk result ((self.old.state.is_failed ≡ false) × (highest_named notarization.proposal < 2 ^ 63)) }
+        ensures refused { IfErr result (λ fault. IsLeftBy self.old (highest_named notarization.proposal)
+            (verdict D.bytes (notarization_facts S.certificate_bytes notarization) success) fault self.new) }
+    {
+        match self.state.certified(notarization, success) {
+            Ok(effects) => self.apply(effects),
+            Err(fault) => Err(fault),
+        }
+    }
+
+    /// Ends the replay, as `State::replayed` does. Answers the effects, which are applied to the open fetches.
+    ///
+    /// # Errors
+    ///
+    /// As `updated`, but no view is too large.
+    pub fn replayed(&mut self) -> Result<Vec<Effect>, Fault>
+        ensures made { IfOk result (λ es. IsMade Replayed self.old es.items self.new) }
+        ensures told { OnOk result (IsToldMore self.old Replayed self.new) }
+        ensures accepted { OnOk result (self.old.state.is_failed ≡ false) }
+        ensures refused { IfErr result (λ fault. IsLeftBy self.old 0 Replayed fault self.new) }
+    {
+        match self.state.replayed() {
+            Ok(effects) => self.apply(effects),
+            Err(fault) => Err(fault),
+        }
+    }
+
+    /// Applies the effects of a call to the open fetches. Without memory for them the resolver fails.
+    fn apply(&mut self, effects: Vec<Effect>) -> Result<Vec<Effect>, Fault>
+        ensures state { OnOk result (self.new.state ≡ self.old.state) }
+        ensures answered { IfOk result (λ es. es ≡ effects) }
+        ensures applied { OnOk result (IsApplied self.old.open_fetches effects.items self.new.open_fetches) }
+        ensures memory { IfErr result (λ fault. fault ≡ OutOfMemory) }
+        ensures failed { OnErr result (self.new.state ≡ record self.old.state { is_failed = true }) }
+        ensures begun { OnErr result (IsBegun self.old.open_fetches effects.items self.new.open_fetches) }
+    {
+        match apply(&mut self.fetches, &effects) {
+            Ok(()) => Ok(effects),
+            Err(fault) => {
+                self.state.fail();
+                Err(fault)
+            }
+        }
+    }
+
+    /// The resolver's state: what is settled, what is served, and whether it has failed.
+    pub fn state(&self) -> &State
+        ensures { result.now ≡ self.now.state }
+    {
+        &self.state
+    }
+
+    /// The views whose fetch is open, rising.
+    pub fn fetches(&self) -> &BTreeSet<View>
+        ensures { result.now.keys ≡ self.now.open_fetches }
+    {
+        &self.fetches
+    }
+
+    /// The laws of all that the resolver was told so far. It does nothing: its contract is the law.
+    ///
+    /// - `wanted`: once its replay has ended, its open fetches are exactly the views that are wanted by what it was told, in
+    ///   whatever order it came.
+    /// - `none`: before that none is open.
+    /// - `again`: a certificate of a kind and view that it was told of before opens no fetch.
+    /// - `answers`: what its state answers follows from what it was told.
+    pub fn keeps_the_laws(&self)
+        ensures wanted { OfAllTold self.now (OpensTheWanted self.now) }
+        ensures none { OfAllTold self.now (OpensNone self.now) }
+        ensures again { OfAllTold self.now (OpensNoneAgain self.now) }
+        ensures answers { OfAllTold self.now (AnswersTheTold self.now) }
+    {}
+}
