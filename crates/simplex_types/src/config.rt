@@ -1,7 +1,7 @@
 //! The policies of an engine, the point that it starts from, and the check of its settings.
 
 ghost use Rattle.std.specs.Prelude.{◌≡◌, ◌≢◌, ◌↔◌, ◌<◌, ◌^◌, IsTrue, IfOk, IsOkUnless, MatchOption, Ok, Err, length};
-ghost use Rattle.simplex_types.specs.Config.{skip_budget, floor_view, floor_facts, is_at_or_below, first_broken_rule, first_broken_floor_rule};
+ghost use Rattle.simplex_types.specs.Config.{skip_budget, floor_view, floor_facts, is_at_or_below, first_broken_rule, first_broken_floor_rule, config_error_name};
 ghost use Rattle.simplex_types.specs.declared.config.ForwardPolicy.TheVariants.{Disabled as ForwardDisabled};
 
 use crate::types::{
@@ -221,25 +221,32 @@ pub enum ConfigError {
     FloorUnverified,
 }
 
+impl ConfigError {
+    fn name(&self) -> &'static str
+        ensures { result.now ≡ config_error_name self.now }
+    {
+        match self {
+            ConfigError::NoParticipants => "NoParticipants",
+            ConfigError::LeaderTimeoutZero => "LeaderTimeoutZero",
+            ConfigError::CertificationNotAboveLeader => "CertificationNotAboveLeader",
+            ConfigError::SkipNotAboveCertification => "SkipNotAboveCertification",
+            ConfigError::SkipNotAboveRetry => "SkipNotAboveRetry",
+            ConfigError::RetryZero => "RetryZero",
+            ConfigError::RetentionZero => "RetentionZero",
+            ConfigError::FloorEpoch => "FloorEpoch",
+            ConfigError::FloorAtGenesis => "FloorAtGenesis",
+            ConfigError::FloorUnverified => "FloorUnverified",
+        }
+    }
+}
+
 impl fmt::Display for ConfigError {
     ghost use Rattle.std.specs.Prelude.{Some};
-    ghost use Rattle.simplex_types.specs.Config.{config_error_name};
 
     ghost output = { λ error. Some (config_error_name error) };
 
     fn fmt<W: fmt::Write>(&self, f: &mut fmt::Formatter<W>) -> fmt::Result {
-        match self {
-            ConfigError::NoParticipants => write!(f, "NoParticipants"),
-            ConfigError::LeaderTimeoutZero => write!(f, "LeaderTimeoutZero"),
-            ConfigError::CertificationNotAboveLeader => write!(f, "CertificationNotAboveLeader"),
-            ConfigError::SkipNotAboveCertification => write!(f, "SkipNotAboveCertification"),
-            ConfigError::SkipNotAboveRetry => write!(f, "SkipNotAboveRetry"),
-            ConfigError::RetryZero => write!(f, "RetryZero"),
-            ConfigError::RetentionZero => write!(f, "RetentionZero"),
-            ConfigError::FloorEpoch => write!(f, "FloorEpoch"),
-            ConfigError::FloorAtGenesis => write!(f, "FloorAtGenesis"),
-            ConfigError::FloorUnverified => write!(f, "FloorUnverified"),
-        }
+        f.write_str(self.name())
     }
 }
 

@@ -103,10 +103,7 @@ impl<S: CertificateScheme, D: Digest> Round<S, D> {
         if self.is_nullified() {
             return false;
         }
-        match self.slot.update_vote(proposal) {
-            Some(Change::New) => true,
-            Some(Change::Unchanged | Change::Equivocated { .. }) | None => false,
-        }
+        matches!(self.slot.update_vote(proposal), Some(Change::New))
     }
 
     fn is_verify_ready(&self) -> bool
@@ -125,12 +122,14 @@ impl<S: CertificateScheme, D: Digest> Round<S, D> {
     pub fn pending_verification(&self) -> Option<(Leader<S::PublicKey>, Proposal<D>)>
         ensures { result ≡ pending_proposal self.now }
     {
-        if !self.is_verify_ready() {
-            return None;
+        if self.is_verify_ready()
+            && let Some(leader) = self.leader
+            && let Some(proposal) = self.slot.proposal()
+        {
+            Some((leader, *proposal))
+        } else {
+            None
         }
-        let leader = self.leader?;
-        let proposal = *self.slot.proposal()?;
-        Some((leader, proposal))
     }
 
     /// Records that verification is asked for. False where it was asked for before, this member
@@ -142,10 +141,7 @@ impl<S: CertificateScheme, D: Digest> Round<S, D> {
               (self.old.slot) { verify_requested = true };
         } else self.old) }
     {
-        if !self.is_verify_ready() {
-            return false;
-        }
-        self.slot.request_verify()
+        self.is_verify_ready() && self.slot.request_verify()
     }
 
     /// Marks the held proposal as verified. False where nothing was marked: nullify was
@@ -154,10 +150,7 @@ impl<S: CertificateScheme, D: Digest> Round<S, D> {
         ensures marked { result ≡ (not (is_nullify self.old.decision) && is_unverified self.old.slot) }
         ensures facts { self.new ≡ (if is_nullify self.old.decision then self.old else record self.old { slot = after_mark self.old.slot }) }
     {
-        if self.is_nullified() {
-            return false;
-        }
-        self.slot.mark_verified()
+        !self.is_nullified() && self.slot.mark_verified()
     }
 
     /// Whether `view` was the last one that peers were asked for, to verify this view's proposal.
@@ -173,11 +166,9 @@ impl<S: CertificateScheme, D: Digest> Round<S, D> {
         ensures first { result ≡ not (is_last_request self.old view) }
         ensures facts { self.new ≡ record self.old { last_request = Some view } }
     {
-        if self.is_last_request(view) {
-            return false;
-        }
+        let first = !self.is_last_request(view);
         self.last_request = Some(view);
-        true
+        first
     }
 
     /// Binds the view to a proposal and its parent's payload, as they were when it was handed to

@@ -42,14 +42,12 @@ impl<S: CertificateScheme, D: Digest> Round<S, D> {
     pub fn set_deadlines(&mut self, leader: u64, certification: u64, stall: Option<u64>)
         ensures { self.new ≡ with_deadlines self.old leader certification stall }
     {
-        if let Decision::Pending {
-            leader: leader_deadline,
-            certification: certification_deadline,
-            ..
-        } = &mut self.decision
-        {
-            *leader_deadline = Some(leader);
-            *certification_deadline = Some(certification);
+        if let Decision::Pending { latch, .. } = self.decision {
+            self.decision = Decision::Pending {
+                leader: Some(leader),
+                certification: Some(certification),
+                latch,
+            };
         }
         self.stall_deadline = stall;
     }

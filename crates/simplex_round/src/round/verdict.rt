@@ -22,13 +22,12 @@ impl<S: CertificateScheme, D: Digest> Round<S, D> {
     pub fn pending_certification(&self) -> Option<Proposal<D>>
         ensures { result ≡ certifiable_proposal (same_proposal D.eq) self.now }
     {
-        if !matches!(self.certification, Certification::Ready) {
-            return None;
-        }
-        let notarization = self.notarization.as_ref()?;
-        let held = *self.slot.proposal()?;
-        if held == notarization.proposal {
-            Some(held)
+        if matches!(self.certification, Certification::Ready)
+            && let Some(notarization) = &self.notarization
+            && let Some(held) = self.slot.proposal()
+            && *held == notarization.proposal
+        {
+            Some(*held)
         } else {
             None
         }

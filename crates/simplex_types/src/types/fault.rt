@@ -20,6 +20,22 @@ pub enum Fault {
     TimeOverflow,
 }
 
+impl Fault {
+    ghost use Rattle.std.specs.Prelude.{◌≡◌};
+    ghost use Rattle.simplex_types.specs.Fault.{fault_name};
+
+    fn name(&self) -> &'static str
+        ensures { result.now ≡ fault_name self.now }
+    {
+        match self {
+            Fault::OutOfMemory => "OutOfMemory",
+            Fault::Failed => "Failed",
+            Fault::ViewTooLarge => "ViewTooLarge",
+            Fault::TimeOverflow => "TimeOverflow",
+        }
+    }
+}
+
 impl fmt::Display for Fault {
     ghost use Rattle.std.specs.Prelude.{Some};
     ghost use Rattle.simplex_types.specs.Fault.{fault_name};
@@ -27,12 +43,7 @@ impl fmt::Display for Fault {
     ghost output = { λ fault. Some (fault_name fault) };
 
     fn fmt<W: fmt::Write>(&self, f: &mut fmt::Formatter<W>) -> fmt::Result {
-        match self {
-            Fault::OutOfMemory => write!(f, "OutOfMemory"),
-            Fault::Failed => write!(f, "Failed"),
-            Fault::ViewTooLarge => write!(f, "ViewTooLarge"),
-            Fault::TimeOverflow => write!(f, "TimeOverflow"),
-        }
+        f.write_str(self.name())
     }
 }
 

@@ -25,3 +25,36 @@ returns-clause-items g c =
           rw w.self-inside-is (ap (λ t. first.items ++ t) w.in_ok-insert_in.ensures.items
           ∙ sym (insert-append_right first.items rest c.len-first.result c.args.place c.args.value (sym (c.len-first.ensures ∙ first.ok.0)) (omega (arith, w.if-place-first.false))) ∙ same)
     ]
+
+pub invariant_of-self : goal.invariant_of-self
+invariant_of-self g c =
+    let was = c.self.invariant in
+    record {
+      counted = was.counted ∙ ap length (sym c.end_full_row.ensures.same);
+      fits = was.fits;
+      first_fits = c.end_full_row.ensures.places.0;
+      cut = c.end_full_row.ensures.cut;
+    }
+
+pub invariant_of-self-in_err-put : goal.invariant_of-self-in_err-put
+invariant_of-self-in_err-put g c =
+    let was = c.self.invariant in
+    let rest = row_entries c.end_full_row.new.rest.items in
+    let unchanged = c.in_err-put.ensures.unchanged in
+    record {
+      counted = was.counted ∙ ap length (sym (ap (λ t. t ++ rest) unchanged.0 ∙ c.end_full_row.ensures.same));
+      fits = was.fits;
+      first_fits = omega (arith, unchanged.1, c.end_full_row.ensures.places.0);
+      cut = c.end_full_row.ensures.cut;
+    }
+
+pub invariant_of-self-in_err-insert_in : goal.invariant_of-self-in_err-insert_in
+invariant_of-self-in_err-insert_in g c =
+    let was = c.self.invariant in
+    let first = c.end_full_row.new.first in
+    record {
+      counted = was.counted ∙ ap length (sym (ap (λ t. first.items ++ t) c.in_err-insert_in.ensures.unchanged ∙ c.end_full_row.ensures.same));
+      fits = was.fits;
+      first_fits = c.end_full_row.ensures.places.0;
+      cut = c.insert_in.ensures.cut;
+    }
