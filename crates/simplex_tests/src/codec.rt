@@ -84,11 +84,14 @@ fn signature(alloc: Global, subject: &Subject<PlainDigest>) -> Result<PlainSigna
 /// An artifact of each kind.
 fn artifacts(alloc: Global) -> Result<[PlainArtifact; 8], AllocError> {
     let signer = Participant::new(2);
+    let notarize = signature(alloc, &Subject::Notarize(proposal(3, 2)))?;
+    let nullify = signature(alloc, &Subject::Nullify(round(3)))?;
+    let finalize = signature(alloc, &Subject::Finalize(proposal(3, 2)))?;
     Ok([
         Artifact::Notarize(Notarize {
             proposal: proposal(3, 2),
             signer,
-            signature: signature(alloc, &Subject::Notarize(proposal(3, 2)))?,
+            signature: notarize,
         }),
         Artifact::Notarization(notarization()),
         Artifact::Certification(round(3), true),
@@ -96,13 +99,13 @@ fn artifacts(alloc: Global) -> Result<[PlainArtifact; 8], AllocError> {
         Artifact::Nullify(Nullify {
             round: round(3),
             signer,
-            signature: signature(alloc, &Subject::Nullify(round(3)))?,
+            signature: nullify,
         }),
         Artifact::Nullification(nullification()),
         Artifact::Finalize(Finalize {
             proposal: proposal(3, 2),
             signer,
-            signature: signature(alloc, &Subject::Finalize(proposal(3, 2)))?,
+            signature: finalize,
         }),
         Artifact::Finalization(finalization()),
     ])
@@ -118,69 +121,10 @@ fn artifact_refusal(alloc: Global, bytes: &[u8]) -> Option<DecodeError> {
     decode_artifact::<PlainScheme, PlainDigest>(alloc, bytes).err()
 }
 
-#[test]
-fn certificates_are_read_back(rt: HostRuntime) -> Result<(), Fail> {
-    for certificate in certificates() {
-        let bytes = certificate.encode(rt.alloc())?;
-        let read: Certificate<PlainScheme, PlainDigest> = decode_certificate(
-            rt.alloc(),
-            bytes.as_slice(),
-        )?;
-        assert!(rt; read.encode(rt.alloc())? == bytes);
-    }
-    Ok(())
-}
-
-#[test]
-fn a_certificate_is_read_as_the_vector_says(rt: HostRuntime) -> Result<(), Fail> {
-    let bytes = [
-        0, 0, 0, 0, 0, 0, 0, 0, 1, 2, 0, 0, 0, 0, 0, 0, 3, 0, 0, 0, 0, 0, 0, 0, 2, 0, 0, 0, 0, 0,
-        0, 0, 7, 1,
-    ];
-    let read: Certificate<PlainScheme, PlainDigest> = decode_certificate(
-        rt.alloc(),
-        bytes.as_slice(),
-    )?;
-    let Certificate::Notarization(read) = &read else {
-        return Err(Fail::from("a notarization"));
-    };
-    assert_eq!(rt; read.proposal.round.view.get(), 0x0200_0000_0000_0003);
-    assert_eq!(rt; read.proposal.parent.get(), 2);
-    assert_eq!(rt; read.proposal.payload.number(), 7);
-    assert!(rt; read.certificate.good);
-    Ok(())
-}
-
-#[test]
-fn artifacts_are_read_back(rt: HostRuntime) -> Result<(), Fail> {
-    for artifact in artifacts(rt.alloc())? {
-        let bytes = encode_artifact(rt.alloc(), &artifact)?;
-        let read: PlainArtifact = decode_artifact(rt.alloc(), bytes.as_slice())?;
-        assert!(rt; encode_artifact(rt.alloc(), &read)? == bytes);
-    }
-    Ok(())
-}
-
-#[test]
-fn votes_and_verdicts_are_written_as_the_vectors_say(rt: HostRuntime) -> Result<(), Fail> {
-    let verdict: PlainArtifact = Artifact::Certification(round(3), true);
-    let wanted = [6, 0, 0, 0, 0, 0, 0, 0, 1, 0, 0, 0, 0, 0, 0, 0, 3, 1];
-    let bytes = encode_artifact(rt.alloc(), &verdict)?;
-    assert_eq!(rt; bytes.as_slice(), wanted.as_slice());
-    let nullify: PlainArtifact = Artifact::Nullify(Nullify {
-        round: round(3),
-        signer: Participant::new(0x0102_0304),
-        signature: PlainSignature {
-            key: PlainKey(5),
-            text: Bytes::from_static(&[9, 8]),
-        },
-    });
-    let wanted = [
-        4, 1, 2, 3, 4, 0, 0, 0, 0, 0, 0, 0, 1, 0, 0, 0, 0, 0, 0, 0, 3, 0, 0, 0, 5, 9, 8,
-    ];
-    let bytes = encode_artifact(rt.alloc(), &nullify)?;
-    assert_eq!(rt; bytes.as_slice(), wanted.as_slice());
-    Ok(())
+/// Whether the certificate of the bytes is read, and encodes to them again.
+fn is_read_back(alloc: Global, bytes: &[u8]) -> Result<bool, Fail> {
+    let read: Certificate<PlainScheme, PlainDigest> = decode_certificate(alloc, bytes)?;
+    Ok(read.encode(alloc)?.as_slice() == bytes)
 }
 
 /// Whether each front of the bytes is refused as it is to be: one that ends within the parts is too short.
@@ -201,82 +145,127 @@ fn refuses_fronts(alloc: Global, bytes: &[u8], parts: usize) -> bool {
     true
 }
 
+/// Whether the bytes are refused with a byte more.
+fn refuses_more(alloc: Global, bytes: &[u8]) -> Result<bool, AllocError> {
+    let mut longer = Vec::from_slice(alloc, bytes)?;
+    longer.push(0)?;
+    let refused = Some(DecodeError::UnreadableCertificate);
+    Ok(
+        certificate_refusal(alloc, longer.as_slice()) == refused
+            && artifact_refusal(alloc, longer.as_slice()) == refused,
+    )
+}
+
 #[test]
-fn certificates_that_end_early_are_refused(rt: HostRuntime) -> Result<(), Fail> {
-    for certificate in certificates() {
-        let parts = match &certificate {
+fn certificates_are_read_from_all_their_bytes_and_no_more(rt: HostRuntime) -> Result<(), Fail> {
+    for certificate in &certificates() {
+        let parts = match certificate {
             Certificate::Nullification(_) => 17,
             _ => 33,
         };
-        let bytes = certificate.encode(rt.alloc())?;
-        assert!(rt; refuses_fronts(rt.alloc(), bytes.as_slice(), parts));
+        let encoding = certificate.encode(rt.alloc())?;
+        let bytes = encoding.as_slice();
+        assert!(rt; is_read_back(rt.alloc(), bytes)? && refuses_more(rt.alloc(), bytes)?);
+        assert!(rt; refuses_fronts(rt.alloc(), bytes, parts));
+    }
+    Ok(())
+}
+
+/// The view, the parent and the payload of a notarization, and whether its certificate is good.
+fn notarized(certificate: &Certificate<PlainScheme, PlainDigest>) -> Option<(u64, u64, u64, bool)> {
+    match certificate {
+        Certificate::Notarization(read) => Some((
+            read.proposal.round.view.get(),
+            read.proposal.parent.get(),
+            read.proposal.payload.number(),
+            read.certificate.good,
+        )),
+        _ => None,
+    }
+}
+
+#[test]
+fn a_certificate_is_read_as_the_vector_says(rt: HostRuntime) -> Result<(), Fail> {
+    let bytes = [
+        0, 0, 0, 0, 0, 0, 0, 0, 1, 2, 0, 0, 0, 0, 0, 0, 3, 0, 0, 0, 0, 0, 0, 0, 2, 0, 0, 0, 0, 0,
+        0, 0, 7, 1,
+    ];
+    let read = decode_certificate(rt.alloc(), bytes.as_slice())?;
+    assert!(rt; notarized(&read) == Some((0x0200_0000_0000_0003, 2, 7, true)));
+    Ok(())
+}
+
+/// Whether the artifact is written as these bytes.
+fn is_written(alloc: Global, artifact: &PlainArtifact, bytes: &[u8]) -> Result<bool, Fail> {
+    Ok(encode_artifact(alloc, artifact)?.as_slice() == bytes)
+}
+
+/// Whether the artifact is read back from its bytes.
+fn artifact_is_read_back(alloc: Global, artifact: &PlainArtifact) -> Result<bool, Fail> {
+    let bytes = encode_artifact(alloc, artifact)?;
+    is_written(
+        alloc,
+        &decode_artifact(alloc, bytes.as_slice())?,
+        bytes.as_slice(),
+    )
+}
+
+#[test]
+fn artifacts_are_read_back(rt: HostRuntime) -> Result<(), Fail> {
+    for artifact in &artifacts(rt.alloc())? {
+        assert!(rt; artifact_is_read_back(rt.alloc(), artifact)?);
     }
     Ok(())
 }
 
 #[test]
-fn bytes_that_are_too_many_are_refused(rt: HostRuntime) -> Result<(), Fail> {
-    for certificate in certificates() {
-        let mut bytes = Vec::from_slice(rt.alloc(), certificate.encode(rt.alloc())?.as_slice())?;
-        bytes.push(0)?;
-        let refused = Some(DecodeError::UnreadableCertificate);
-        assert_eq!(rt; certificate_refusal(rt.alloc(), bytes.as_slice()), refused);
-        assert_eq!(rt; artifact_refusal(rt.alloc(), bytes.as_slice()), refused);
-    }
-    let verdict: PlainArtifact = Artifact::Certification(round(3), true);
-    let mut bytes = Vec::from_slice(
-        rt.alloc(),
-        encode_artifact(rt.alloc(), &verdict)?.as_slice(),
-    )?;
-    bytes.push(0)?;
-    assert_eq!(rt;
-        artifact_refusal(rt.alloc(), bytes.as_slice()),
-        Some(DecodeError::TrailingBytes)
+fn votes_and_verdicts_are_written_as_the_vectors_say(rt: HostRuntime) -> Result<(), Fail> {
+    let verdict = Artifact::Certification(round(3), true);
+    let verdict_bytes = [6, 0, 0, 0, 0, 0, 0, 0, 1, 0, 0, 0, 0, 0, 0, 0, 3, 1];
+    let vote = Artifact::Nullify(Nullify {
+        round: round(3),
+        signer: Participant::new(0x0102_0304),
+        signature: PlainSignature {
+            key: PlainKey(5),
+            text: Bytes::from_static(&[9, 8]),
+        },
+    });
+    let vote_bytes = [
+        4, 1, 2, 3, 4, 0, 0, 0, 0, 0, 0, 0, 1, 0, 0, 0, 0, 0, 0, 0, 3, 0, 0, 0, 5, 9, 8,
+    ];
+    assert!(rt;
+        is_written(rt.alloc(), &verdict, verdict_bytes.as_slice())?
+            && is_written(rt.alloc(), &vote, vote_bytes.as_slice())?
     );
     Ok(())
 }
 
 #[test]
-fn each_other_refusal_has_its_name(rt: HostRuntime) -> Result<(), Fail> {
-    assert_eq!(rt;
-        certificate_refusal(rt.alloc(), &[3; 40]),
-        Some(DecodeError::UnknownKind(3))
-    );
-    assert_eq!(rt;
-        artifact_refusal(rt.alloc(), &[7; 40]),
-        Some(DecodeError::UnknownKind(7))
-    );
-    assert_eq!(rt;
-        artifact_refusal(rt.alloc(), &[]),
-        Some(DecodeError::TooShort)
-    );
-    // a verdict of 6
-    assert_eq!(rt;
-        artifact_refusal(rt.alloc(), &[6; 18]),
-        Some(DecodeError::UnknownVerdict(6))
-    );
-    assert_eq!(rt;
-        artifact_refusal(rt.alloc(), &[6; 17]),
-        Some(DecodeError::TooShort)
-    );
-    // three bytes of a key, behind a signer and what was voted on
-    assert_eq!(rt;
-        artifact_refusal(rt.alloc(), &[3; 40]),
-        Some(DecodeError::UnreadableSignature)
-    );
-    assert_eq!(rt;
-        artifact_refusal(rt.alloc(), &[4; 24]),
-        Some(DecodeError::UnreadableSignature)
-    );
-    assert_eq!(rt;
-        artifact_refusal(rt.alloc(), &[5; 36]),
-        Some(DecodeError::TooShort)
-    );
-    assert_eq!(rt;
-        artifact_refusal(rt.alloc(), &[4; 20]),
-        Some(DecodeError::TooShort)
-    );
-    Ok(())
+fn each_other_refusal_has_its_name(rt: HostRuntime) {
+    assert!(rt; certificate_refusal(rt.alloc(), &[3; 40]) == Some(DecodeError::UnknownKind(3)));
+    let rows: [(&[u8], DecodeError); 9] = [
+        (&[7; 40], DecodeError::UnknownKind(7)),
+        (&[], DecodeError::TooShort),
+        // a verdict of 6
+        (&[6; 18], DecodeError::UnknownVerdict(6)),
+        (&[6; 17], DecodeError::TooShort),
+        // a verdict with a byte more
+        (
+            &[6, 0, 0, 0, 0, 0, 0, 0, 1, 0, 0, 0, 0, 0, 0, 0, 3, 1, 0],
+            DecodeError::TrailingBytes,
+        ),
+        // three bytes of a key, behind a signer and what was voted on
+        (&[3; 40], DecodeError::UnreadableSignature),
+        (&[4; 24], DecodeError::UnreadableSignature),
+        (&[5; 36], DecodeError::TooShort),
+        (&[4; 20], DecodeError::TooShort),
+    ];
+    for (bytes, wanted) in rows {
+        assert!(rt;
+            artifact_refusal(rt.alloc(), bytes) == Some(wanted),
+            "{wanted:?}"
+        );
+    }
 }
 
 /// The text of a value.
@@ -312,26 +301,26 @@ fn refusals_have_their_texts(rt: HostRuntime) -> Result<(), Fail> {
 }
 
 #[test]
-fn a_digest_of_bytes_is_its_bytes(rt: HostRuntime) -> Result<(), Fail> {
+fn a_digest_of_bytes_is_its_bytes(rt: HostRuntime) {
     let bytes = [7u8; 32];
     let digest = BytesDigest::from(bytes);
-    assert_eq!(rt; digest.as_bytes(), bytes.as_slice());
-    assert_eq!(rt; BytesDigest::<32>::read(bytes.as_slice()), Some(digest));
-    assert_eq!(rt; BytesDigest::<32>::read(&[7; 31]), None);
-    assert_eq!(rt; BytesDigest::<32>::read(&[7; 33]), None);
     let back: [u8; 32] = digest.into();
-    assert_eq!(rt; back.as_slice(), bytes.as_slice());
-    let other = BytesDigest::from([8u8; 32]);
-    assert!(rt; digest < other);
-    Ok(())
+    assert!(rt; digest.as_bytes() == bytes.as_slice() && back.as_slice() == bytes.as_slice());
+    assert!(rt;
+        BytesDigest::<32>::read(bytes.as_slice()) == Some(digest)
+            && BytesDigest::<32>::read(&[7; 31]).is_none()
+            && BytesDigest::<32>::read(&[7; 33]).is_none()
+    );
+    assert!(rt; digest < BytesDigest::from([8u8; 32]));
 }
 
 /// Three entries in their frames.
 fn journal(alloc: Global) -> Result<Bytes, Fault> {
     let mut out = BytesMut::new(alloc);
-    write_frame(&mut out, &[1, 2, 3])?;
-    write_frame(&mut out, &[])?;
-    write_frame(&mut out, &[4; 70])?;
+    let entries: [&[u8]; 3] = [&[1, 2, 3], &[], &[4; 70]];
+    for entry in entries {
+        write_frame(&mut out, entry)?;
+    }
     Ok(out.freeze()?)
 }
 
@@ -352,42 +341,51 @@ fn read_entries(bytes: &[u8]) -> (u32, bool) {
     (read, false)
 }
 
-#[test]
-fn entries_of_a_journal_are_read_up_to_a_cut(rt: HostRuntime) -> Result<(), Fail> {
-    let bytes = journal(rt.alloc())?;
-    assert_eq!(rt; bytes.len(), 181);
-    assert_eq!(rt; read_entries(bytes.as_slice()), (3, true));
-    for end in 1..bytes.len() {
-        let wanted = match end {
-            39 => (1, true),
-            75 => (2, true),
-            0..39 => (0, false),
-            40..75 => (1, false),
-            _ => (2, false),
-        };
-        assert_eq!(rt; read_entries(&bytes.as_slice()[..end]), wanted);
+/// How many entries stand whole before a place.
+fn entries_before(place: usize) -> u32 {
+    if place < 39 {
+        0
+    } else if place < 75 {
+        1
+    } else {
+        2
     }
-    Ok(())
+}
+
+/// Whether the entries are read up to each cut, and the end is whole behind an entry alone.
+fn are_read_up_to_each_cut(bytes: &[u8]) -> bool {
+    for end in 1..bytes.len() {
+        if read_entries(&bytes[..end]) != (entries_before(end), end == 39 || end == 75) {
+            return false;
+        }
+    }
+    true
+}
+
+/// What is read of the bytes with a bit of a byte flipped.
+fn read_flipped(alloc: Global, bytes: &[u8], place: usize) -> Result<(u32, bool), AllocError> {
+    let mut flipped = Vec::from_slice(alloc, bytes)?;
+    if let Some(byte) = flipped.get_mut(place) {
+        *byte ^= 16;
+    }
+    Ok(read_entries(flipped.as_slice()))
+}
+
+fn each_flipped_bit_is_found(alloc: Global, bytes: &[u8]) -> Result<bool, AllocError> {
+    for place in 0..bytes.len() {
+        if read_flipped(alloc, bytes, place)? != (entries_before(place), false) {
+            return Ok(false);
+        }
+    }
+    Ok(true)
 }
 
 #[test]
-fn a_flipped_bit_is_found(rt: HostRuntime) -> Result<(), Fail> {
-    let bytes = journal(rt.alloc())?;
-    for place in 0..bytes.len() {
-        let mut flipped = Vec::from_slice(rt.alloc(), bytes.as_slice())?;
-        if let Some(byte) = flipped.get_mut(place) {
-            *byte ^= 16;
-        }
-        let (read, whole) = read_entries(flipped.as_slice());
-        assert!(rt; !whole);
-        let before = if place < 39 {
-            0
-        } else if place < 75 {
-            1
-        } else {
-            2
-        };
-        assert_eq!(rt; read, before);
-    }
+fn entries_of_a_journal_are_read_up_to_a_cut_or_a_flipped_bit(rt: HostRuntime) -> Result<(), Fail> {
+    let journal = journal(rt.alloc())?;
+    let bytes = journal.as_slice();
+    assert!(rt; bytes.len() == 181 && read_entries(bytes) == (3, true));
+    assert!(rt; are_read_up_to_each_cut(bytes));
+    assert!(rt; each_flipped_bit_is_found(rt.alloc(), bytes)?);
     Ok(())
 }

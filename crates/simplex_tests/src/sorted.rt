@@ -53,45 +53,45 @@ fn tracked_of(alloc: Global, numbers: [u64; 3]) -> Result<Tracked<u64>, Fail> {
     Ok(tracked)
 }
 
-#[test]
-fn the_nearest_view_is_found(rt: HostRuntime) -> Result<(), Fail> {
-    let tracked = tracked_of(rt.alloc(), [5, 2, 9])?;
-    assert_eq!(rt; tracked.first_at(view(5)), Some((view(5), &5)));
-    assert_eq!(rt; tracked.first_at(view(10)), None);
-    assert_eq!(rt; tracked.last_below(view(5)), Some((view(2), &2)));
-    Ok(())
+/// Whether the nearest of views 5, 2 and 9 are found.
+fn finds_the_nearest(tracked: &Tracked<u64>) -> bool {
+    tracked.first_at(view(5)) == Some((view(5), &5))
+        && tracked.first_at(view(10)).is_none()
+        && tracked.last_below(view(5)) == Some((view(2), &2))
 }
 
-#[test]
-fn a_part_is_taken_from_both_ends(rt: HostRuntime) -> Result<(), Fail> {
-    let tracked = tracked_of(rt.alloc(), [5, 2, 9])?;
+/// Whether the views of a part are taken from both of its ends.
+fn gives_both_ends(tracked: &Tracked<u64>) -> bool {
     let mut between = tracked.between(view(2), view(9));
-    assert_eq!(rt; between.pop_last(), Some((view(5), &5)));
-    assert_eq!(rt; between.pop_first(), Some((view(2), &2)));
-    assert_eq!(rt; between.pop_first(), None);
-    assert_eq!(rt; between.pop_last(), None);
-    Ok(())
+    between.pop_last() == Some((view(5), &5))
+        && between.pop_first() == Some((view(2), &2))
+        && between.pop_first().is_none()
+        && between.pop_last().is_none()
 }
 
-#[test]
-fn the_views_below_one_are_listed(rt: HostRuntime) -> Result<(), Fail> {
-    let tracked = tracked_of(rt.alloc(), [5, 2, 9])?;
-    let below = tracked.views_below(rt.alloc(), view(6))?;
-    assert_eq!(rt; below.as_slice(), [view(2), view(5)].as_slice());
-    Ok(())
+/// Whether the views below one are listed.
+fn lists_the_views_below(alloc: Global, tracked: &Tracked<u64>) -> Result<bool, Fail> {
+    let below = tracked.views_below(alloc, view(6))?;
+    Ok(below.as_slice() == [view(2), view(5)].as_slice())
 }
 
-#[test]
-fn views_are_dropped_and_removed(rt: HostRuntime) -> Result<(), Fail> {
-    let mut tracked = tracked_of(rt.alloc(), [5, 2, 9])?;
+/// Whether views are dropped and removed.
+fn drops_and_removes(tracked: &mut Tracked<u64>) -> bool {
     tracked.drop_below(view(5));
-    assert_eq!(rt; tracked.len(), 2);
-    assert_eq!(rt; tracked.below(view(6)).pop_first(), Some((view(5), &5)));
-    let last = tracked.from_to(view(6), view(9)).pop_last();
-    assert_eq!(rt; last, Some((view(9), &9)));
+    let kept = tracked.len() == 2
+        && tracked.below(view(6)).pop_first() == Some((view(5), &5))
+        && tracked.from_to(view(6), view(9)).pop_last() == Some((view(9), &9));
     tracked.remove(view(9));
     tracked.remove(view(8));
-    assert_eq!(rt; tracked.len(), 1);
+    kept && tracked.len() == 1
+}
+
+#[test]
+fn views_are_found_listed_dropped_and_removed(rt: HostRuntime) -> Result<(), Fail> {
+    let mut tracked = tracked_of(rt.alloc(), [5, 2, 9])?;
+    assert!(rt; finds_the_nearest(&tracked) && gives_both_ends(&tracked));
+    assert!(rt; lists_the_views_below(rt.alloc(), &tracked)?);
+    assert!(rt; drops_and_removes(&mut tracked));
     Ok(())
 }
 
@@ -112,33 +112,35 @@ fn kept_by_term(alloc: Global) -> Result<ByTerm<u64>, Fail> {
     Ok(kept)
 }
 
-#[test]
-fn the_nearest_value_of_a_term_covers(rt: HostRuntime) -> Result<(), Fail> {
-    let mut kept = kept_by_term(rt.alloc())?;
-    assert_eq!(rt; kept.insert(view(4), 0)?, Some(0));
-    assert_eq!(rt; kept.covering(view(1)), None);
-    assert_eq!(rt; kept.covering(view(5)), Some((view(4), &4)));
-    assert_eq!(rt; kept.covering(view(6)), None);
-    assert_eq!(rt; kept.covering_below(view(4)), Some((view(2), &2)));
-    Ok(())
+/// Whether the nearest value of a term covers, and a value that stands stays.
+fn covers_by_the_nearest(kept: &mut ByTerm<u64>) -> Result<bool, Fail> {
+    Ok(
+        kept.insert(view(4), 0)? == Some(0)
+            && kept.covering(view(1)).is_none()
+            && kept.covering(view(5)) == Some((view(4), &4))
+            && kept.covering(view(6)).is_none()
+            && kept.covering_below(view(4)) == Some((view(2), &2)),
+    )
 }
 
-#[test]
-fn views_below_one_are_dropped_of_a_term(rt: HostRuntime) -> Result<(), Fail> {
-    let mut kept = kept_by_term(rt.alloc())?;
+/// Whether the views below one are dropped of a term.
+fn drops_views_below(kept: &mut ByTerm<u64>) -> bool {
     kept.drop_ended(view(4));
-    assert_eq!(rt; kept.get(view(2)), Some(&2));
+    let stands = kept.get(view(2)) == Some(&2);
     kept.drop_below(view(4));
-    assert_eq!(rt; kept.get(view(2)), None);
-    assert_eq!(rt; kept.get(view(4)), Some(&4));
-    Ok(())
+    stands && kept.get(view(2)).is_none() && kept.get(view(4)) == Some(&4)
+}
+
+/// Whether a term that ends is dropped.
+fn drops_ended_terms(kept: &mut ByTerm<u64>) -> bool {
+    kept.drop_ended(view(5));
+    kept.get(view(4)).is_none() && kept.covering(view(10)) == Some((view(8), &8))
 }
 
 #[test]
-fn a_term_that_ends_is_dropped(rt: HostRuntime) -> Result<(), Fail> {
+fn the_nearest_value_of_a_term_covers_until_it_is_dropped(rt: HostRuntime) -> Result<(), Fail> {
     let mut kept = kept_by_term(rt.alloc())?;
-    kept.drop_ended(view(5));
-    assert_eq!(rt; kept.get(view(4)), None);
-    assert_eq!(rt; kept.covering(view(10)), Some((view(8), &8)));
+    assert!(rt; covers_by_the_nearest(&mut kept)?);
+    assert!(rt; drops_views_below(&mut kept) && drops_ended_terms(&mut kept));
     Ok(())
 }

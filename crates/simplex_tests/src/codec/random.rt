@@ -4,9 +4,8 @@ use super::{PlainArtifact, artifacts};
 use simplex_codec::artifact::{decode_artifact, encode_artifact};
 use simplex_codec::certificate::decode_certificate;
 use simplex_codec::error::DecodeError;
-use simplex_types::types::Certificate;
 use simplex_types::types::plain::{PlainDigest, PlainScheme};
-use std::alloc::Global;
+use std::alloc::{AllocError, Global};
 use std::test::Fail;
 
 /// How many inputs are read; `tests/decodings.py` puts another number here.
@@ -36,7 +35,7 @@ impl Random {
 }
 
 /// What the inputs were read as.
-#[derive(Drop)]
+#[derive(Clone, Copy)]
 struct Tally {
     artifacts: u32,
     certificates: u32,
@@ -61,16 +60,8 @@ fn random_bytes(alloc: Global, random: &mut Random) -> Result<Vec<u8>, Fail> {
     Ok(bytes)
 }
 
-/// The encoding of one of the artifacts, with a byte changed, the end cut off, or a byte more.
-fn damaged_bytes(
-    alloc: Global,
-    random: &mut Random,
-    whole: &[PlainArtifact],
-) -> Result<Vec<u8>, Fail> {
-    let Some(artifact) = whole.get(random.next() as usize % 8) else {
-        return Err(Fail::from("eight artifacts"));
-    };
-    let mut bytes = Vec::from_slice(alloc, encode_artifact(alloc, artifact)?.as_slice())?;
+/// Changes a byte, cuts off the end, or puts a byte more.
+fn damage(random: &mut Random, bytes: &mut Vec<u8>) -> Result<(), AllocError> {
     let place = random.next() as usize % (bytes.len().max(1));
     match random.next() % 4 {
         0 => bytes.truncate(place),
@@ -82,36 +73,72 @@ fn damaged_bytes(
             }
         }
     }
-    Ok(bytes)
+    Ok(())
 }
 
-/// Reads the bytes as an artifact and as a certificate: what is read encodes to them again, and what is not is refused
-/// by the name of a fault in them.
-fn read(alloc: Global, bytes: &[u8], tally: &mut Tally) -> Result<(), Fail> {
+/// The encoding of one of the artifacts.
+fn encoding(alloc: Global, random: &mut Random, whole: &[PlainArtifact]) -> Result<Vec<u8>, Fail> {
+    match whole.get(random.next() as usize % 8) {
+        Some(artifact) => Ok(Vec::from_slice(alloc, encode_artifact(alloc, artifact)?.as_slice())?),
+        None => Err(Fail::from("eight artifacts")),
+    }
+}
+
+/// Whether the bytes are read as an artifact: what is read encodes to them again, and what is not is refused by the name
+/// of a fault in them.
+fn is_artifact(alloc: Global, bytes: &[u8]) -> Result<bool, Fail> {
     match decode_artifact::<PlainScheme, PlainDigest>(alloc, bytes) {
         Ok(artifact) => {
-            if encode_artifact(alloc, &artifact)?.as_slice() != bytes {
-                return Err(Fail::from("an artifact of other bytes"));
+            if encode_artifact(alloc, &artifact)?.as_slice() == bytes {
+                Ok(true)
+            } else {
+                Err(Fail::from("an artifact of other bytes"))
             }
-            tally.artifacts = tally.artifacts.wrapping_add(1);
         }
-        Err(DecodeError::OutOfMemory) => return Err(Fail::from("no memory")),
-        Err(_) => tally.refused = tally.refused.wrapping_add(1),
+        Err(DecodeError::OutOfMemory) => Err(Fail::from("no memory")),
+        Err(_) => Ok(false),
     }
-    let decoded: Result<Certificate<PlainScheme, PlainDigest>, DecodeError> = decode_certificate(
-        alloc, bytes,
-    );
-    match decoded {
+}
+
+/// The same of a certificate.
+fn is_certificate(alloc: Global, bytes: &[u8]) -> Result<bool, Fail> {
+    match decode_certificate::<PlainScheme, PlainDigest>(alloc, bytes) {
         Ok(certificate) => {
-            if certificate.encode(alloc)?.as_slice() != bytes {
-                return Err(Fail::from("a certificate of other bytes"));
+            if certificate.encode(alloc)?.as_slice() == bytes {
+                Ok(true)
+            } else {
+                Err(Fail::from("a certificate of other bytes"))
             }
-            tally.certificates = tally.certificates.wrapping_add(1);
         }
-        Err(DecodeError::OutOfMemory) => return Err(Fail::from("no memory")),
-        Err(_) => {}
+        Err(DecodeError::OutOfMemory) => Err(Fail::from("no memory")),
+        Err(_) => Ok(false),
+    }
+}
+
+/// Reads the bytes as an artifact and as a certificate.
+fn read(alloc: Global, bytes: &[u8], tally: &mut Tally) -> Result<(), Fail> {
+    if is_artifact(alloc, bytes)? {
+        tally.artifacts = tally.artifacts.wrapping_add(1);
+    } else {
+        tally.refused = tally.refused.wrapping_add(1);
+    }
+    if is_certificate(alloc, bytes)? {
+        tally.certificates = tally.certificates.wrapping_add(1);
     }
     Ok(())
+}
+
+/// Reads random bytes and a damaged encoding.
+fn read_two(
+    alloc: Global,
+    random: &mut Random,
+    whole: &[PlainArtifact],
+    tally: &mut Tally,
+) -> Result<(), Fail> {
+    read(alloc, &random_bytes(alloc, random)?, tally)?;
+    let mut bytes = encoding(alloc, random, whole)?;
+    damage(random, &mut bytes)?;
+    read(alloc, &bytes, tally)
 }
 
 #[test]
@@ -125,10 +152,7 @@ fn inputs_are_refused_or_encode_to_themselves(rt: HostRuntime) -> Result<(), Fai
         refused: 0,
     };
     for _ in 0..INPUTS / 2 {
-        let bytes = random_bytes(alloc, &mut random)?;
-        read(alloc, &bytes, &mut tally)?;
-        let bytes = damaged_bytes(alloc, &mut random, whole.as_slice())?;
-        read(alloc, &bytes, &mut tally)?;
+        read_two(alloc, &mut random, whole.as_slice(), &mut tally)?;
     }
     println!(rt;
         "{} artifacts, {} certificates, {} refused",
