@@ -4,34 +4,67 @@ use simplex_member::member::{RecoverError, ResumeError};
 use simplex_resolver::replay::ReplayError;
 use simplex_types::types::Fault;
 use std::alloc::AllocError;
-use std::io;
-use thiserror::Error;
+use std::{fmt, io};
 
 /// Why a run of the network ends before its views are finalized.
-#[derive(Debug, Drop, Error)]
+#[derive(Clone, Copy)]
 pub enum EngineError {
-    #[error("out of memory")]
-    OutOfMemory(#[from] AllocError),
-    #[error("a call was refused: {0}")]
-    Fault(#[from] Fault),
-    #[error("a member did not start: {0}")]
-    NotStarted(#[from] RecoverError),
-    #[error("a member did not go on from its journal: {0}")]
-    NotResumed(#[from] ResumeError),
-    #[error("a resolver did not start: {0}")]
-    NotReplayed(#[from] ReplayError),
-    #[error("what is printed could not be written")]
-    NotPrinted(#[from] io::Error),
-    #[error("a vote was answered that is not stored")]
-    NotStored,
-    #[error("a member answers without end")]
-    NeverIdle,
-    #[error("the views were not finalized in time")]
+    /// A call was refused, or there was no memory.
+    Fault(Fault),
+    /// A member did not start.
+    NotStarted(RecoverError),
+    /// A member did not go on from its journal.
+    NotResumed(ResumeError),
+    /// A resolver did not start.
+    NotReplayed(ReplayError),
+    /// What is printed could not be written.
+    NotPrinted,
+    /// The views were not finalized in time.
     NotFinalized,
 }
 
-impl<V: Drop> From<std::alloc::AllocFailed<V>> for EngineError {
-    fn from(_refused: std::alloc::AllocFailed<V>) -> EngineError {
-        EngineError::OutOfMemory(AllocError)
+impl fmt::Display for EngineError {
+    fn fmt<W: fmt::Write>(&self, f: &mut fmt::Formatter<W>) -> fmt::Result {
+        match self {
+            EngineError::Fault(Fault::OutOfMemory) => write!(f, "out of memory"),
+            EngineError::Fault(fault) => write!(f, "a call was refused: {fault}"),
+            EngineError::NotStarted(error) => write!(f, "a member did not start: {error}"),
+            EngineError::NotResumed(error) => {
+                write!(f, "a member did not go on from its journal: {error}")
+            }
+            EngineError::NotReplayed(error) => write!(f, "a resolver did not start: {error}"),
+            EngineError::NotPrinted => write!(f, "what is printed could not be written"),
+            EngineError::NotFinalized => write!(f, "the views were not finalized in time"),
+        }
+    }
+}
+
+impl From<Fault> for EngineError {
+    fn from(fault: Fault) -> EngineError {
+        EngineError::Fault(fault)
+    }
+}
+
+impl From<AllocError> for EngineError {
+    fn from(_refused: AllocError) -> EngineError {
+        EngineError::Fault(Fault::OutOfMemory)
+    }
+}
+
+impl From<RecoverError> for EngineError {
+    fn from(error: RecoverError) -> EngineError {
+        EngineError::NotStarted(error)
+    }
+}
+
+impl From<ReplayError> for EngineError {
+    fn from(error: ReplayError) -> EngineError {
+        EngineError::NotReplayed(error)
+    }
+}
+
+impl From<io::Error> for EngineError {
+    fn from(_error: io::Error) -> EngineError {
+        EngineError::NotPrinted
     }
 }

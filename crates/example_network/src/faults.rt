@@ -13,7 +13,7 @@ pub const CRASHING: u8 = 1;
 pub const FAULTY: u8 = 3;
 
 /// What the faulty member does in a view that it leads.
-#[derive(Clone, Copy, PartialEq, Eq, Debug)]
+#[derive(Clone, Copy)]
 pub enum Deed {
     /// It sends its proposal to nobody.
     StaysSilent,
@@ -43,24 +43,26 @@ pub(crate) fn sent(
     message: &Message,
 ) -> Result<Option<Message>, Fault> {
     match message {
-        Message::Propose(block) if from == FAULTY => Ok(tampered(to, block)),
+        Message::Propose(block) if from == FAULTY => match shown(to, block) {
+            Some(block) => Ok(Some(Message::Propose(block))),
+            None => Ok(None),
+        },
         _ => Ok(Some(message.copy(alloc)?)),
     }
 }
 
 /// The proposal that the faulty leader sends to a member, if it sends one.
-fn tampered(to: u8, block: &Block) -> Option<Message> {
-    let view = block.round.view;
-    let is_deceived = match deed_in(view) {
+fn shown(to: u8, block: &Block) -> Option<Block> {
+    let is_deceived = match deed_in(block.round.view) {
         Deed::StaysSilent => return None,
         Deed::DeceivesOne => to == 2,
         Deed::DeceivesTwo => to == 1 || to == 2,
         Deed::Obeys => false,
     };
     if is_deceived {
-        return Some(Message::Propose(another(block)));
+        return Some(another(block));
     }
-    Some(Message::Propose(*block))
+    Some(*block)
 }
 
 /// Another block in the same place.

@@ -9,11 +9,12 @@ mod node;
 mod options;
 mod polls;
 mod report;
+mod tally;
 mod world;
 
 use error::EngineError;
 use options::Options;
-use std::alloc::AllocError;
+use simplex_types::types::Fault;
 use std::process::ExitCode;
 use std::{env, io};
 use world::World;
@@ -24,33 +25,29 @@ const USAGE: &str =
 const USAGE_STATUS: u8 = 2;
 
 fn main(rt: HostRuntime) -> ExitCode {
-    let arguments = match arguments(&rt) {
-        Ok(arguments) => arguments,
-        Err(e) if e.kind() == io::ErrorKind::OutOfMemory => {
-            return failed(&rt, EngineError::OutOfMemory(AllocError));
-        }
-        Err(_) => return misused(&rt),
-    };
-    match Options::read(&arguments) {
-        Some(Options::Run(views)) => match simulate(&rt, views) {
+    match asked(&rt) {
+        Ok(Some(Options::Run(views))) => match simulate(&rt, views) {
             Ok(()) => ExitCode::SUCCESS,
             Err(error) => failed(&rt, error),
         },
-        Some(Options::Help) => {
+        Ok(Some(Options::Help)) => {
             let _ = println!(rt; "{USAGE}");
             ExitCode::SUCCESS
         }
-        None => misused(&rt),
+        Err(e) if e.kind() == io::ErrorKind::OutOfMemory => {
+            failed(&rt, EngineError::Fault(Fault::OutOfMemory))
+        }
+        Ok(None) | Err(_) => misused(&rt),
     }
 }
 
-/// The arguments after the program's name.
-fn arguments(rt: &HostRuntime) -> io::Result<Vec<String>> {
+/// What the arguments after the program's name ask for.
+fn asked(rt: &HostRuntime) -> io::Result<Option<Options>> {
     let mut words = Vec::new(rt.alloc());
     for word in env::args(rt)?.skip(1) {
         words.push(word)?;
     }
-    Ok(words)
+    Ok(Options::read(&words))
 }
 
 fn failed(rt: &HostRuntime, error: EngineError) -> ExitCode {
@@ -65,9 +62,8 @@ fn misused(rt: &HostRuntime) -> ExitCode {
 
 fn simulate(rt: &HostRuntime, views: u64) -> Result<(), EngineError> {
     println!(rt;
-        "Four members, {views} views to finalize. Member 3 is faulty where it leads, member 1 crashes."
+        "Four members, {views} views to finalize. Member 3 is faulty where it leads, member 1 crashes.\n"
     )?;
-    println!(rt; "")?;
     let mut world = World::start(rt.alloc())?;
     world.run(rt, views)
 }

@@ -1,7 +1,10 @@
 //! The network of the example, and its clock: letters that are under way, by the moment at which they come.
 
-use example_engine::messages::Message;
-use std::alloc::{AllocError, Global};
+use crate::faults::sent;
+use crate::world::MEMBERS;
+use example_engine::messages::{Letter, Message};
+use simplex_types::types::Fault;
+use std::alloc::Global;
 
 /// A message under way.
 #[derive(Drop)]
@@ -16,6 +19,7 @@ pub struct Parcel {
 /// What is under way, in the order in which it was sent.
 #[derive(Drop)]
 pub struct Network {
+    alloc: Global,
     parcels: Vec<Parcel>,
 }
 
@@ -23,18 +27,43 @@ impl Network {
     /// Nothing is under way.
     pub(crate) fn new(alloc: Global) -> Network {
         Network {
+            alloc,
             parcels: Vec::new(alloc),
         }
     }
 
-    /// How long a message takes from one member to another, in milliseconds.
-    pub(crate) fn delay(from: u8, to: u8) -> u64 {
-        10 + (u64::from(from) * 7 + u64::from(to) * 3) % 5
+    /// Puts a member's letters under way, behind those that are.
+    pub(crate) fn post_all(&mut self, from: u8, letters: &[Letter], now: u64) -> Result<(), Fault> {
+        for letter in letters {
+            self.post(from, letter, now)?;
+        }
+        Ok(())
     }
 
-    /// Sends a message behind those that are under way.
-    pub(crate) fn send(&mut self, parcel: Parcel) -> Result<(), AllocError> {
-        self.parcels.push(parcel)?;
+    /// Puts a letter's copies under way.
+    fn post(&mut self, from: u8, letter: &Letter, now: u64) -> Result<(), Fault> {
+        for to in 0..MEMBERS {
+            let is_meant = match letter.to {
+                Some(only) => to == only,
+                None => to != from,
+            };
+            if is_meant {
+                self.send(from, to, &letter.message, now)?;
+            }
+        }
+        Ok(())
+    }
+
+    /// Puts a message to one member under way, if anything of it is sent.
+    fn send(&mut self, from: u8, to: u8, message: &Message, now: u64) -> Result<(), Fault> {
+        if let Some(message) = sent(self.alloc, from, to, message)? {
+            self.parcels.push(Parcel {
+                at: now.saturating_add(delay(from, to)),
+                from,
+                to,
+                message,
+            })?;
+        }
         Ok(())
     }
 
@@ -67,4 +96,9 @@ impl Network {
         }
         next
     }
+}
+
+/// How long a message takes from one member to another, in milliseconds.
+fn delay(from: u8, to: u8) -> u64 {
+    10 + (u64::from(from) * 7 + u64::from(to) * 3) % 5
 }

@@ -10,11 +10,10 @@ use example_engine::journal::Journal;
 use example_engine::messages::{Letter, Message, VoteKind};
 use example_engine::resolver::PeerResolver;
 use example_engine::scheme::SealScheme;
-use example_engine::start::start_of;
+use example_engine::start::{Core, CoreCall, start_of};
 use simplex_member::member::{Call, Member};
-use simplex_resolver::replay::ReplayError;
 use simplex_types::types::plain::PlainElector;
-use simplex_types::types::{Elector, Round, TermLength, Terms, View};
+use simplex_types::types::{Elector, Fault, Round, TermLength, Terms, View};
 use std::alloc::Global;
 
 mod answers;
@@ -40,13 +39,13 @@ pub struct Node {
 }
 
 impl Node {
-    /// A member that never voted, in a process that begins now.
-    pub(crate) fn start(alloc: Global, members: u8, me: u8, now: u64) -> Result<Node, EngineError>
+    /// A member that never voted, at the clock's first moment.
+    pub(crate) fn start(alloc: Global, members: u8, me: u8) -> Result<Node, EngineError>
         requires { me < members }
     {
-        let member = Member::start(alloc, start_of(alloc, members, me, now)?)?;
-        let journal = Journal::open(alloc, &member)?;
-        Node::begin(alloc, members, me, Driver::new(alloc, member, journal), now)
+        let polls = Polls::new(alloc, members, me)?;
+        let member = Member::start(alloc, start_of(alloc, members, me, 0)?)?;
+        Node::open(alloc, members, polls, member)
     }
 
     /// A member that goes on from its journal, in a process that begins now.
@@ -59,37 +58,40 @@ impl Node {
     ) -> Result<Node, EngineError>
         requires { me < members }
     {
-        let (member, journal) = journal.resume(start_of(alloc, members, me, now)?)?;
-        Node::begin(alloc, members, me, Driver::new(alloc, member, journal), now)
-    }
-
-    /// The parts round a member whose life begins, and what follows from its record.
-    fn begin(
-        alloc: Global,
-        members: u8,
-        me: u8,
-        driver: Driver,
-        now: u64,
-    ) -> Result<Node, EngineError>
-        requires { me < members }
-    {
         let polls = Polls::new(alloc, members, me)?;
-        let resolver = resolver_of(alloc, &driver)?;
-        let mut node = Node::assemble(alloc, members, driver, resolver, polls);
-        node.set_out(now)?;
-        Ok(node)
+        match journal.resume(start_of(alloc, members, me, now)?) {
+            Ok(resumed) => Node::go_on_from(alloc, members, polls, resumed),
+            Err(error) => Err(EngineError::NotResumed(error)),
+        }
     }
 
-    fn assemble(
+    /// The parts round a member that goes on, and the journal of its new life.
+    fn go_on_from(
         alloc: Global,
         members: u8,
-        driver: Driver,
-        resolver: PeerResolver,
         polls: Polls,
-    ) -> Node
+        resumed: (Core, Journal),
+    ) -> Result<Node, EngineError>
         requires { 0 < members }
     {
-        Node {
+        let (member, journal) = resumed;
+        Node::begin(alloc, members, polls, Driver::new(alloc, member, journal))
+    }
+
+    /// The journal of a member whose life has just begun, and the parts round it.
+    fn open(alloc: Global, members: u8, polls: Polls, member: Core) -> Result<Node, EngineError>
+        requires { 0 < members }
+    {
+        let journal = Journal::open(alloc, &member)?;
+        Node::begin(alloc, members, polls, Driver::new(alloc, member, journal))
+    }
+
+    /// The parts round a driver, with the resolver that its member's record begins.
+    fn begin(alloc: Global, members: u8, polls: Polls, driver: Driver) -> Result<Node, EngineError>
+        requires { 0 < members }
+    {
+        let resolver = PeerResolver::start(alloc, TermLength::ONE, driver.member().record())?;
+        Ok(Node {
             alloc,
             driver,
             resolver,
@@ -99,11 +101,11 @@ impl Node {
             wake: None,
             outbox: Vec::new(alloc),
             news: Vec::new(alloc),
-        }
+        })
     }
 
     /// Asks for what is lacking as the process begins, and goes on.
-    fn set_out(&mut self, now: u64) -> Result<(), EngineError> {
+    pub(crate) fn set_out(&mut self, now: u64) -> Result<(), Fault> {
         self.tell_open()?;
         self.ask_peers()?;
         self.follow(self.current_view())?;
@@ -141,14 +143,20 @@ impl Node {
         self.resolver.fetches().len()
     }
 
-    /// The letters to be sent, oldest first; there are none afterwards.
-    pub(crate) fn take_letters(&mut self) -> Vec<Letter> {
-        std::mem::replace(&mut self.outbox, Vec::new(self.alloc))
+    /// The letters to be sent, oldest first.
+    pub(crate) fn letters(&self) -> &[Letter] {
+        &self.outbox
     }
 
-    /// What has happened, oldest first; nothing afterwards.
-    pub(crate) fn take_news(&mut self) -> Vec<News> {
-        std::mem::replace(&mut self.news, Vec::new(self.alloc))
+    /// What has happened, oldest first.
+    pub(crate) fn news(&self) -> &[News] {
+        &self.news
+    }
+
+    /// The letters are sent and the news are read: there are none afterwards.
+    pub(crate) fn clear_out(&mut self) {
+        self.outbox.clear();
+        self.news.clear();
     }
 
     /// The leader of a round.
@@ -156,26 +164,18 @@ impl Node {
         Elector::<SealScheme>::elect(&self.elector, round, None).get()
     }
 
-    fn send_to(&mut self, to: u8, message: Message) -> Result<(), EngineError> {
-        self.outbox.push(Letter {
-            to: Some(to),
-            message,
-        })?;
+    fn send_to_all(&mut self, message: Message) -> Result<(), Fault> {
+        self.outbox.push(Letter { to: None, message })?;
         Ok(())
     }
 
-    fn send_to_all(&mut self, message: Message) -> Result<(), EngineError> {
-        self.outbox.push(letter_to_all(message))?;
-        Ok(())
-    }
-
-    fn tell(&mut self, news: News) -> Result<(), EngineError> {
+    fn tell(&mut self, news: News) -> Result<(), Fault> {
         self.news.push(news)?;
         Ok(())
     }
 
     /// Tells of the fetches that are open as the process begins.
-    fn tell_open(&mut self) -> Result<(), EngineError> {
+    fn tell_open(&mut self) -> Result<(), Fault> {
         for view in self.resolver.fetches() {
             self.news.push(News::FetchOpened(*view))?;
         }
@@ -183,47 +183,46 @@ impl Node {
     }
 
     /// Asks the core for what follows an event about a view.
-    fn follow(&mut self, view: View) -> Result<(), EngineError> {
-        let driver = &mut self.driver;
-        driver.call(Topic::Next, Call::TryVerify)?;
-        driver.call(Topic::Next, Call::TryPropose)?;
-        driver.call(Topic::Next, Call::CertifyCandidates)?;
-        let votes = [
-            (VoteKind::Notarize, Call::ConstructNotarize(view)),
-            (VoteKind::Finalize, Call::ConstructFinalize(view)),
-        ];
-        for (kind, call) in votes {
-            driver.call(Topic::Voted(kind, view), call)?;
-        }
-        driver.call(Topic::Next, Call::BroadcastNotarization(view))?;
-        driver.call(Topic::Next, Call::BroadcastNullification(view))?;
-        driver.call(Topic::Next, Call::BroadcastFinalization(view))?;
-        Ok(())
+    fn follow(&mut self, view: View) -> Result<(), Fault> {
+        self.ask(Call::TryVerify)?;
+        self.ask(Call::TryPropose)?;
+        self.ask(Call::CertifyCandidates)?;
+        self.driver.call(
+            Topic::Voted(VoteKind::Notarize, view),
+            Call::ConstructNotarize(view),
+        )?;
+        self.driver.call(
+            Topic::Voted(VoteKind::Finalize, view),
+            Call::ConstructFinalize(view),
+        )?;
+        self.ask(Call::BroadcastNotarization(view))?;
+        self.ask(Call::BroadcastNullification(view))?;
+        self.ask(Call::BroadcastFinalization(view))
+    }
+
+    fn ask(&mut self, call: CoreCall) -> Result<(), Fault> {
+        self.driver.call(Topic::Next, call)
     }
 
     /// Carries out all that is owed, then asks for the next timeout and for what can be forgotten, and stores the record.
-    fn settle(&mut self, now: u64) -> Result<(), EngineError> {
+    fn settle(&mut self, now: u64) -> Result<(), Fault> {
         self.carry_out_all(now)?;
-        self.driver.call(Topic::Next, Call::NextTimeout(now))?;
-        self.driver.call(Topic::Next, Call::Prune)?;
+        self.ask(Call::NextTimeout(now))?;
+        self.ask(Call::Prune)?;
         self.carry_out_all(now)?;
-        self.driver.store()?;
-        Ok(())
+        self.driver.store()
     }
 
-    fn carry_out_all(&mut self, now: u64) -> Result<(), EngineError> {
+    /// Carries out what is owed. What is left after very many answers waits for the next event.
+    fn carry_out_all(&mut self, now: u64) -> Result<(), Fault> {
         for _ in 0..MOST_ANSWERS {
             let Some(owed) = self.driver.next() else {
                 return Ok(());
             };
             self.carry_out(&owed.topic, &owed.reply, now)?;
         }
-        Err(EngineError::NeverIdle)
+        Ok(())
     }
-}
-
-fn letter_to_all(message: Message) -> Letter {
-    Letter { to: None, message }
 }
 
 /// Leaders who take turns, as `start_of` sets them up.
@@ -236,9 +235,4 @@ fn elector_of(members: u8) -> PlainElector
         stall_timeout: None,
     };
     PlainElector::new(u32::from(members), terms)
-}
-
-/// The resolver that a member's record begins.
-fn resolver_of(alloc: Global, driver: &Driver) -> Result<PeerResolver, ReplayError> {
-    PeerResolver::start(alloc, TermLength::ONE, driver.member().record())
 }

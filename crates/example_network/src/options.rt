@@ -4,7 +4,7 @@
 const MOST_VIEWS: u64 = 1000;
 
 /// What the arguments ask for.
-#[derive(Clone, Copy, PartialEq, Eq, Debug)]
+#[derive(Clone, Copy)]
 pub enum Options {
     Help,
     /// So many views are to be finalized.

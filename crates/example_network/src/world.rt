@@ -3,14 +3,16 @@
 ghost use Rattle.std.specs.Prelude.{◌<◌};
 
 use crate::error::EngineError;
-use crate::faults::{CRASHING, sent};
-use crate::network::{Network, Parcel};
+use crate::faults::CRASHING;
+use crate::network::Network;
+use crate::news::News;
 use crate::node::Node;
 use crate::report::Report;
+use crate::tally::Tally;
 use example_engine::journal::Journal;
-use example_engine::messages::Letter;
-use simplex_types::types::View;
-use std::alloc::Global;
+use simplex_types::types::{Fault, View};
+use std::alloc::{AllocError, Global};
+use std::io;
 
 /// How many members there are.
 pub const MEMBERS: u8 = 4;
@@ -18,11 +20,12 @@ pub const MEMBERS: u8 = 4;
 /// The most events for each view that is to be finalized.
 const MOST_EVENTS: u64 = 2000;
 
-/// A member: its process, while it runs, and its disk, while it does not.
+/// A member: its process, while it runs, its disk, while it does not, and what has happened at it.
 #[derive(Drop)]
 struct Seat {
     node: Option<Node>,
     disk: Option<Journal>,
+    tally: Tally,
 }
 
 /// The members, what is under way between them, and the moment, in milliseconds.
@@ -36,7 +39,7 @@ pub struct World {
 }
 
 /// What happens next.
-#[derive(Clone, Copy, PartialEq, Eq)]
+#[derive(Clone, Copy)]
 enum Event {
     Message,
     Timeout(u8),
@@ -45,94 +48,92 @@ enum Event {
 impl World {
     /// All members start at genesis.
     pub(crate) fn start(alloc: Global) -> Result<World, EngineError> {
-        let seats = seats(alloc)?;
-        let report = Report::new(alloc, MEMBERS)?;
         Ok(World {
             alloc,
-            seats,
+            seats: seats(alloc)?,
             network: Network::new(alloc),
             now: 0,
-            report,
+            report: Report::new(alloc),
         })
     }
 
     /// Goes on until so many views are finalized, and every member knows of the last of them.
     pub(crate) fn run(&mut self, rt: &impl Print, views: u64) -> Result<(), EngineError> {
         for me in 0..MEMBERS {
-            self.collect(rt, me)?;
+            self.set_out(me)?;
         }
         for _ in 0..views.saturating_mul(MOST_EVENTS) {
-            self.disturb(rt, views)?;
+            self.disturb(views)?;
+            self.report.print_lines(rt)?;
             if self.is_done(views) {
                 return self.summarize(rt);
             }
-            self.step(rt)?;
+            self.step()?;
         }
         Err(EngineError::NotFinalized)
     }
 
+    /// A member whose process begins goes on, and what it wrote is sent.
+    fn set_out(&mut self, me: u8) -> Result<(), Fault> {
+        if let Some(seat) = self.seats.get_mut(usize::from(me)) {
+            seat.set_out(self.now)?;
+        }
+        self.collect(me)
+    }
+
     /// A member crashes once a quarter of the views is finalized, and comes back once half of them are.
-    fn disturb(&mut self, rt: &impl Print, views: u64) -> Result<(), EngineError> {
-        let done = self.report.finalized() as u64;
-        if done == views / 4 + 1 && self.report.restarts(CRASHING) == 0 {
-            self.crash(rt, CRASHING)?;
+    fn disturb(&mut self, views: u64) -> Result<(), EngineError> {
+        let done = self.report.finalized();
+        if done == views / 4 + 1 {
+            self.crash(CRASHING)?;
         }
         if done > views / 2 {
-            self.come_back(rt, CRASHING)?;
+            self.come_back(CRASHING)?;
         }
         Ok(())
     }
 
-    /// Ends a member's process. What is on its disk stays.
-    fn crash(&mut self, rt: &impl Print, me: u8) -> Result<(), EngineError> {
+    /// Ends a member's process, where it did not end before. What is on its disk stays.
+    fn crash(&mut self, me: u8) -> Result<(), AllocError> {
         let Some(seat) = self.seats.get_mut(usize::from(me)) else {
             return Ok(());
         };
-        let Some(node) = seat.node.take() else {
-            return Ok(());
-        };
-        let journal = node.into_journal();
-        let (now, count) = (self.now, journal.count());
-        seat.disk = Some(journal);
-        println!(rt; "{now:>7} ms  member {me} crashes; {count} entries are on its disk")?;
-        Ok(())
+        match seat.crash() {
+            Some(count) => self.report.note(me, News::Crashed(count), self.now),
+            None => Ok(()),
+        }
     }
 
     /// Begins the process of a member that crashed, from its disk.
-    fn come_back(&mut self, rt: &impl Print, me: u8) -> Result<(), EngineError> {
-        let (alloc, now) = (self.alloc, self.now);
+    fn come_back(&mut self, me: u8) -> Result<(), EngineError> {
         let Some(seat) = self.seats.get_mut(usize::from(me)) else {
             return Ok(());
         };
-        let Some(view) = seat.resume(alloc, now)? else {
+        let Some(view) = seat.resume(self.alloc, self.now)? else {
             return Ok(());
         };
-        let view = view.get();
-        self.report.note_restart(me);
-        println!(rt; "{now:>7} ms  member {me} is back, in view {view}")?;
-        self.collect(rt, me)
+        self.report.note(me, News::CameBack(view), self.now)?;
+        Ok(self.collect(me)?)
     }
 
     /// Whether so many views are finalized, and every member runs and knows of the last of them.
     fn is_done(&self, views: u64) -> bool {
         let highest = self.report.highest();
-        self.report.finalized() as u64 >= views
+        self.report.finalized() >= views
             && self.seats.iter().all(|seat| seat.has_finalized(highest))
     }
 
     /// Lets the next thing happen: a message comes, or a member's timeout.
-    fn step(&mut self, rt: &impl Print) -> Result<(), EngineError> {
-        match self.next_event() {
-            Some((moment, Event::Message)) => {
-                self.now = self.now.max(moment);
-                self.deliver(rt)
-            }
-            Some((moment, Event::Timeout(me))) => {
-                self.now = self.now.max(moment);
-                self.time_out(rt, me)
-            }
-            None => Err(EngineError::NotFinalized),
+    fn step(&mut self) -> Result<(), EngineError> {
+        let Some((moment, event)) = self.next_event() else {
+            return Err(EngineError::NotFinalized);
+        };
+        self.now = self.now.max(moment);
+        match event {
+            Event::Message => self.deliver()?,
+            Event::Timeout(me) => self.time_out(me)?,
         }
+        Ok(())
     }
 
     /// The next thing that happens, and when.
@@ -163,64 +164,42 @@ impl World {
     }
 
     /// The message that comes next is taken, where its member runs.
-    fn deliver(&mut self, rt: &impl Print) -> Result<(), EngineError> {
-        let now = self.now;
+    fn deliver(&mut self) -> Result<(), Fault> {
         let Some(parcel) = self.network.take_next() else {
             return Ok(());
         };
-        if let Some(seat) = self.seats.get_mut(usize::from(parcel.to)) {
+        let to = parcel.to;
+        if let Some(seat) = self.seats.get_mut(usize::from(to)) {
             if let Some(node) = &mut seat.node {
-                node.receive(parcel.from, &parcel.message, now)?;
+                node.receive(parcel.from, &parcel.message, self.now)?;
             }
         }
-        self.collect(rt, parcel.to)
+        self.collect(to)
     }
 
-    fn time_out(&mut self, rt: &impl Print, me: u8) -> Result<(), EngineError> {
-        let now = self.now;
+    fn time_out(&mut self, me: u8) -> Result<(), Fault> {
         if let Some(seat) = self.seats.get_mut(usize::from(me)) {
             if let Some(node) = &mut seat.node {
-                node.time_out(now)?;
+                node.time_out(self.now)?;
             }
         }
-        self.collect(rt, me)
+        self.collect(me)
     }
 
-    /// Sends what a member wrote, and reports what it tells.
-    fn collect(&mut self, rt: &impl Print, me: u8) -> Result<(), EngineError> {
-        let now = self.now;
+    /// Sends what a member wrote, and notes what it tells.
+    fn collect(&mut self, me: u8) -> Result<(), Fault> {
         let Some(seat) = self.seats.get_mut(usize::from(me)) else {
             return Ok(());
         };
         let Some(node) = &mut seat.node else {
             return Ok(());
         };
-        let letters = node.take_letters();
-        let news = node.take_news();
-        for item in &news {
-            self.report.note(rt, me, *item, now)?;
+        self.network.post_all(me, node.letters(), self.now)?;
+        for item in node.news() {
+            seat.tally.count(*item);
+            self.report.note(me, *item, self.now)?;
         }
-        for letter in &letters {
-            self.post(me, letter)?;
-        }
-        Ok(())
-    }
-
-    /// Puts a letter's copies under way.
-    fn post(&mut self, from: u8, letter: &Letter) -> Result<(), EngineError> {
-        for to in 0..MEMBERS {
-            if to == from || letter.to.is_some_and(|only| only != to) {
-                continue;
-            }
-            if let Some(message) = sent(self.alloc, from, to, &letter.message)? {
-                self.network.send(Parcel {
-                    at: self.now.saturating_add(Network::delay(from, to)),
-                    from,
-                    to,
-                    message,
-                })?;
-            }
-        }
+        node.clear_out();
         Ok(())
     }
 
@@ -228,10 +207,7 @@ impl World {
         self.report.print_summary(rt, self.now)?;
         for me in 0..MEMBERS {
             if let Some(seat) = self.seats.get(usize::from(me)) {
-                if let Some(node) = &seat.node {
-                    let (last, open) = (node.last_finalized(), node.open_fetches());
-                    self.report.print_member(rt, me, last, open)?;
-                }
+                seat.print(rt, me)?;
             }
         }
         Ok(())
@@ -243,22 +219,45 @@ impl Seat {
     fn start(alloc: Global, me: u8) -> Result<Seat, EngineError>
         requires { me < 4 }
     {
-        let node = Node::start(alloc, MEMBERS, me, 0)?;
         Ok(Seat {
-            node: Some(node),
+            node: Some(Node::start(alloc, MEMBERS, me)?),
             disk: None,
+            tally: Tally::new(),
         })
+    }
+
+    /// Ends the process, where it did not end before. Answers how many entries are on the disk.
+    fn crash(&mut self) -> Option<usize> {
+        if self.tally.restarts > 0 {
+            return None;
+        }
+        let journal = self.node.take()?.into_journal();
+        let count = journal.count();
+        self.disk = Some(journal);
+        Some(count)
     }
 
     /// Begins the process of the member that crashed, from its disk. Answers the view that it is in.
     fn resume(&mut self, alloc: Global, now: u64) -> Result<Option<View>, EngineError> {
-        let Some(journal) = self.disk.take() else {
+        let Some(journal) = &self.disk else {
             return Ok(None);
         };
-        let node = Node::resume(alloc, MEMBERS, CRASHING, &journal, now)?;
-        let view = node.current_view();
-        self.node = Some(node);
+        self.node = Some(Node::resume(alloc, MEMBERS, CRASHING, journal, now)?);
+        self.disk = None;
+        let view = self.set_out(now)?;
+        self.tally.count(News::CameBack(view));
         Ok(Some(view))
+    }
+
+    /// The process goes on from what its member starts with. Answers the view that the member is in.
+    fn set_out(&mut self, now: u64) -> Result<View, Fault> {
+        match &mut self.node {
+            Some(node) => {
+                node.set_out(now)?;
+                Ok(node.current_view())
+            }
+            None => Ok(View::zero()),
+        }
     }
 
     /// Whether the member runs and has finalized the view or one above it.
@@ -268,13 +267,35 @@ impl Seat {
             None => false,
         }
     }
+
+    /// Prints what came of the member, where it runs.
+    fn print(&self, rt: &impl Print, me: u8) -> Result<(), io::Error> {
+        match &self.node {
+            Some(node) => {
+                let (last, open) = (node.last_finalized(), node.open_fetches());
+                self.tally.print(rt, me, last, open)
+            }
+            None => Ok(()),
+        }
+    }
 }
 
 /// All members at genesis.
 fn seats(alloc: Global) -> Result<Vec<Seat>, EngineError> {
     let mut seats = Vec::new(alloc);
     for me in 0..MEMBERS {
-        seats.push(Seat::start(alloc, me)?)?;
+        add_seat(&mut seats, alloc, me)?;
     }
     Ok(seats)
+}
+
+/// Adds a member that starts at genesis.
+fn add_seat(seats: &mut Vec<Seat>, alloc: Global, me: u8) -> Result<(), EngineError>
+    requires { me < 4 }
+{
+    let seat = Seat::start(alloc, me)?;
+    match seats.push(seat) {
+        Ok(()) => Ok(()),
+        Err(_) => Err(EngineError::Fault(Fault::OutOfMemory)),
+    }
 }

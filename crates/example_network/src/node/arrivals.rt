@@ -1,26 +1,18 @@
 //! What comes in: messages, and the moment of a timeout.
 
 use super::Node;
-use crate::error::EngineError;
 use example_engine::decode::decode;
 use example_engine::driver::Topic;
-use example_engine::messages::{Message, Vote, VoteKind};
+use example_engine::messages::{Letter, Message, Vote, VoteKind};
 use example_engine::parts::{Block, Proof};
-use example_engine::start::CoreCall;
 use simplex_codec::error::DecodeError;
 use simplex_member::member::Call;
 use simplex_types::reasons::TimeoutReason;
 use simplex_types::types::{Certificate, Fault, Round, View, Viewable};
-use std::alloc::{AllocError, Global};
 
 impl Node {
     /// Takes a message of another member.
-    pub(crate) fn receive(
-        &mut self,
-        from: u8,
-        message: &Message,
-        now: u64,
-    ) -> Result<(), EngineError> {
+    pub(crate) fn receive(&mut self, from: u8, message: &Message, now: u64) -> Result<(), Fault> {
         match message {
             Message::Propose(block) => self.take_proposal(from, block)?,
             Message::Vote(vote) => self.take_vote(vote, now)?,
@@ -32,24 +24,24 @@ impl Node {
     }
 
     /// The moment of the next timeout came.
-    pub(crate) fn time_out(&mut self, now: u64) -> Result<(), EngineError> {
+    pub(crate) fn time_out(&mut self, now: u64) -> Result<(), Fault> {
         self.wake = None;
         self.ask_peers()?;
         self.settle(now)
     }
 
     /// A proposal, if it is its view's leader's.
-    fn take_proposal(&mut self, from: u8, block: &Block) -> Result<(), EngineError> {
+    fn take_proposal(&mut self, from: u8, block: &Block) -> Result<(), Fault> {
         let view = block.round.view;
         if u32::from(from) == self.leader(block.round) {
             let call = Call::SetProposal(view, *block);
-            self.driver.call(Topic::Proposed(view), call)?;
+            return self.driver.call(Topic::Proposed(view), call);
         }
         Ok(())
     }
 
     /// A vote, if its signature is good.
-    pub(super) fn take_vote(&mut self, vote: &Vote, now: u64) -> Result<(), EngineError> {
+    pub(super) fn take_vote(&mut self, vote: &Vote, now: u64) -> Result<(), Fault> {
         if !self.polls.is_signed(vote)? {
             return Ok(());
         }
@@ -63,17 +55,16 @@ impl Node {
     }
 
     /// A leader that votes to nullify its own view has given it up.
-    fn heed(&mut self, signer: u32, round: Round, now: u64) -> Result<(), EngineError> {
+    fn heed(&mut self, signer: u32, round: Round, now: u64) -> Result<(), Fault> {
         let view = round.view;
         if signer == self.leader(round) {
-            let call = Call::TriggerTimeout(view, TimeoutReason::LeaderNullify, now);
-            self.driver.call(Topic::Next, call)?;
+            return self.ask(Call::TriggerTimeout(view, TimeoutReason::LeaderNullify, now));
         }
         Ok(())
     }
 
     /// Counts a vote. Answers the certificate that it completes.
-    fn count(&mut self, vote: &Vote) -> Result<Option<Proof>, EngineError> {
+    fn count(&mut self, vote: &Vote) -> Result<Option<Proof>, Fault> {
         let Some(state) = self.driver.state() else {
             return Ok(None);
         };
@@ -81,24 +72,24 @@ impl Node {
     }
 
     /// A certificate, if it is good.
-    fn take_certificate(&mut self, proof: &Proof, now: u64) -> Result<(), EngineError> {
+    fn take_certificate(&mut self, proof: &Proof, now: u64) -> Result<(), Fault> {
         if self.polls.is_good(proof) {
-            self.accept(proof, now)?;
+            return self.accept(proof, now);
         }
         Ok(())
     }
 
     /// The bytes of a certificate, if they are one's. Other bytes are passed over.
-    fn take_served(&mut self, bytes: &[u8], now: u64) -> Result<(), EngineError> {
+    fn take_served(&mut self, bytes: &[u8], now: u64) -> Result<(), Fault> {
         match decode(self.alloc, bytes) {
             Ok(proof) => self.take_certificate(&proof, now),
-            Err(DecodeError::OutOfMemory) => Err(EngineError::OutOfMemory(AllocError)),
+            Err(DecodeError::OutOfMemory) => Err(Fault::OutOfMemory),
             Err(_) => Ok(()),
         }
     }
 
     /// A good certificate goes to the resolver and to the core, where its view is kept.
-    fn accept(&mut self, proof: &Proof, now: u64) -> Result<(), EngineError> {
+    fn accept(&mut self, proof: &Proof, now: u64) -> Result<(), Fault> {
         let view = proof.view();
         if view.is_zero() || !self.is_kept(view) {
             return Ok(());
@@ -115,17 +106,23 @@ impl Node {
         }
     }
 
-    fn hand_in(&mut self, proof: &Proof, now: u64) -> Result<(), EngineError> {
+    fn hand_in(&mut self, proof: &Proof, now: u64) -> Result<(), Fault> {
         let topic = Topic::Accepted(kind_of(proof), proof.view());
-        let call = handed_in(self.alloc, proof, now)?;
-        self.driver.call(topic, call)?;
-        Ok(())
+        let call = match proof {
+            Certificate::Notarization(it) => Call::AddNotarization(it.clone(self.alloc)?),
+            Certificate::Nullification(it) => Call::AddNullification(it.clone(self.alloc)?, now),
+            Certificate::Finalization(it) => Call::AddFinalization(it.clone(self.alloc)?, now),
+        };
+        self.driver.call(topic, call)
     }
 
     /// The certificate that a peer asked for, if there is one.
-    fn serve(&mut self, from: u8, view: View) -> Result<(), EngineError> {
+    fn serve(&mut self, from: u8, view: View) -> Result<(), Fault> {
         if let Some(bytes) = self.resolver.serve(view)? {
-            self.send_to(from, Message::Served(bytes))?;
+            self.outbox.push(Letter {
+                to: Some(from),
+                message: Message::Served(bytes),
+            })?;
         }
         Ok(())
     }
@@ -138,13 +135,4 @@ fn kind_of(proof: &Proof) -> VoteKind {
         Certificate::Nullification(_) => VoteKind::Nullify,
         Certificate::Finalization(_) => VoteKind::Finalize,
     }
-}
-
-/// The call that hands a certificate in.
-fn handed_in(alloc: Global, proof: &Proof, now: u64) -> Result<CoreCall, Fault> {
-    Ok(match proof {
-        Certificate::Notarization(it) => Call::AddNotarization(it.clone(alloc)?),
-        Certificate::Nullification(it) => Call::AddNullification(it.clone(alloc)?, now),
-        Certificate::Finalization(it) => Call::AddFinalization(it.clone(alloc)?, now),
-    })
 }
