@@ -51,6 +51,12 @@ impl From<AllocError> for EngineError {
     }
 }
 
+impl<V: Drop> From<std::alloc::AllocFailed<V>> for EngineError {
+    fn from(_refused: std::alloc::AllocFailed<V>) -> EngineError {
+        EngineError::Fault(Fault::OutOfMemory)
+    }
+}
+
 impl From<RecoverError> for EngineError {
     fn from(error: RecoverError) -> EngineError {
         EngineError::NotStarted(error)

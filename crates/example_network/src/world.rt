@@ -20,10 +20,11 @@ pub const MEMBERS: u8 = 4;
 /// The most events for each view that is to be finalized.
 const MOST_EVENTS: u64 = 2000;
 
-/// A member: its process, while it runs, its disk, while it does not, and what has happened at it.
+/// A member: its process, while it runs, its disk, while it does not, and what has happened at it. A process is large, and
+/// stands on the heap.
 #[derive(Drop)]
 struct Seat {
-    node: Option<Node>,
+    node: Option<Box<Node>>,
     disk: Option<Journal>,
     tally: Tally,
 }
@@ -219,8 +220,9 @@ impl Seat {
     fn start(alloc: Global, me: u8) -> Result<Seat, EngineError>
         requires { me < 4 }
     {
+        let node = Node::start(alloc, MEMBERS, me)?;
         Ok(Seat {
-            node: Some(Node::start(alloc, MEMBERS, me)?),
+            node: Some(Box::new(alloc, node)?),
             disk: None,
             tally: Tally::new(),
         })
@@ -231,7 +233,7 @@ impl Seat {
         if self.tally.restarts > 0 {
             return None;
         }
-        let journal = self.node.take()?.into_journal();
+        let journal = Box::into_inner(self.node.take()?).into_journal();
         let count = journal.count();
         self.disk = Some(journal);
         Some(count)
@@ -242,7 +244,8 @@ impl Seat {
         let Some(journal) = &self.disk else {
             return Ok(None);
         };
-        self.node = Some(Node::resume(alloc, MEMBERS, CRASHING, journal, now)?);
+        let node = Node::resume(alloc, MEMBERS, CRASHING, journal, now)?;
+        self.node = Some(Box::new(alloc, node)?);
         self.disk = None;
         let view = self.set_out(now)?;
         self.tally.count(News::CameBack(view));
@@ -284,18 +287,7 @@ impl Seat {
 fn seats(alloc: Global) -> Result<Vec<Seat>, EngineError> {
     let mut seats = Vec::new(alloc);
     for me in 0..MEMBERS {
-        add_seat(&mut seats, alloc, me)?;
+        seats.push(Seat::start(alloc, me)?)?;
     }
     Ok(seats)
-}
-
-/// Adds a member that starts at genesis.
-fn add_seat(seats: &mut Vec<Seat>, alloc: Global, me: u8) -> Result<(), EngineError>
-    requires { me < 4 }
-{
-    let seat = Seat::start(alloc, me)?;
-    match seats.push(seat) {
-        Ok(()) => Ok(()),
-        Err(_) => Err(EngineError::Fault(Fault::OutOfMemory)),
-    }
 }

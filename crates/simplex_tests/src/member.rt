@@ -109,9 +109,31 @@ fn nullifies_first(member: &mut PlainMember) -> bool {
     matches!(reply, Reply::Nullify(Some(_)))
 }
 
+/// A member that starts, on the heap.
+fn started(
+    alloc: Global,
+    start: Start<PlainScheme, PlainElector, PlainDigest>,
+) -> Result<Box<PlainMember>, Fail>
+    requires { members_of start.settings.elector ≡ length (keys_of start.settings.scheme) }
+{
+    Ok(Box::new(alloc, Member::start(alloc, start)?)?)
+}
+
+/// A member that goes on from its journal, on the heap.
+fn resumed(
+    alloc: Global,
+    stored: Stored,
+    entries: Vec<PlainArtifact>,
+) -> Result<Box<PlainMember>, Fail> {
+    match Member::resume(alloc, start(alloc, 10)?, stored, entries) {
+        Ok(member) => Ok(Box::new(alloc, member)?),
+        Err(_) => Err(Fail::from("refused")),
+    }
+}
+
 /// A member that may vote to finalize view 1.
-fn certified(alloc: Global) -> Result<PlainMember, Fail> {
-    let mut member = Member::start(alloc, start(alloc, 10)?)?;
+fn certified(alloc: Global) -> Result<Box<PlainMember>, Fail> {
+    let mut member = started(alloc, start(alloc, 10)?)?;
     member.call(Call::AddNotarization(first_notarization()));
     member.call(Call::Certified(View::new(1), true, 10));
     Ok(member)
@@ -145,9 +167,9 @@ fn refused(
     stored: Stored,
     entries: Vec<PlainArtifact>,
 ) -> Result<(ResumeError, Vec<PlainArtifact>), Fail> {
-    match Member::resume(alloc, start(alloc, retention)?, stored, entries) {
-        Ok(_) => Err(Fail::from("resumed")),
-        Err(refusal) => Ok((refusal.error, refusal.entries)),
+    match Member::resume(alloc, start(alloc, retention)?, stored, entries).err() {
+        None => Err(Fail::from("resumed")),
+        Some(refusal) => Ok((refusal.error, refusal.entries)),
     }
 }
 
@@ -158,9 +180,7 @@ fn a_member_that_resumes_does_not_vote_again(rt: HostRuntime) -> Result<(), Fail
     assert!(rt; finalizes_first(&mut member));
     let (stored, entries) = read_back(alloc, &member)?;
     assert_eq!(rt; entries.len(), 3);
-    let Ok(mut resumed) = Member::resume(alloc, start(alloc, 10)?, stored, entries) else {
-        return Err(Fail::from("refused"));
-    };
+    let mut resumed = resumed(alloc, stored, entries)?;
     assert!(rt; !finalizes_first(&mut resumed));
     assert!(rt; !nullifies_first(&mut resumed));
     assert!(rt; resumed.record_since(3).is_empty());
@@ -171,10 +191,9 @@ fn a_member_that_resumes_does_not_vote_again(rt: HostRuntime) -> Result<(), Fail
 #[test]
 fn a_member_that_did_not_vote_votes_after_it_resumed(rt: HostRuntime) -> Result<(), Fail> {
     let alloc = rt.alloc();
-    let (stored, entries) = read_back(alloc, &certified(alloc)?)?;
-    let Ok(mut resumed) = Member::resume(alloc, start(alloc, 10)?, stored, entries) else {
-        return Err(Fail::from("refused"));
-    };
+    let member = certified(alloc)?;
+    let (stored, entries) = read_back(alloc, &member)?;
+    let mut resumed = resumed(alloc, stored, entries)?;
     assert!(rt; finalizes_first(&mut resumed));
     assert_eq!(rt; resumed.record_since(2).len(), 1);
     Ok(())
@@ -198,7 +217,7 @@ fn a_larger_retention_is_refused(rt: HostRuntime) -> Result<(), Fail> {
     let (stored, entries) = pruned(alloc)?;
     let (error, entries) = refused(alloc, 11, stored, entries)?;
     assert_eq!(rt; error, ResumeError::Recover(RecoverError::RetentionGrown));
-    let again = Member::resume(alloc, start(alloc, 10)?, stored, entries);
-    assert!(rt; again.is_ok());
+    let refusal = Member::resume(alloc, start(alloc, 10)?, stored, entries).err();
+    assert!(rt; refusal.is_none());
     Ok(())
 }

@@ -1,7 +1,7 @@
 //! Members of plain parts that begin at a finalization.
 
-use super::{PlainMember, start};
-use simplex_member::member::{Call, Member, Reply, Restart};
+use super::{PlainMember, start, started};
+use simplex_member::member::{Call, Reply, Restart};
 use simplex_types::config::Floor;
 use simplex_types::types::plain::{PlainCertificate, PlainDigest, PlainElector, PlainScheme};
 use simplex_types::types::{Certificate, Epoch, Finalization, Proposal, Round, View, Viewable};
@@ -37,7 +37,7 @@ fn a_member_begins_behind_the_view_of_its_floor(rt: HostRuntime) -> Result<(), F
     let alloc = rt.alloc();
     let mut begun = start(alloc, 10)?;
     begun.floor = floor(5, 4);
-    let mut member = Member::start(alloc, begun)?;
+    let mut member = started(alloc, begun)?;
     assert_eq!(rt; best(&mut member), Some(View::new(5)));
     assert_eq!(rt; member.record_since(0).len(), 1);
     let mut again = start(alloc, 10)?;
@@ -55,7 +55,7 @@ fn a_member_begins_behind_the_view_of_its_floor(rt: HostRuntime) -> Result<(), F
 #[test]
 fn no_certificate_lets_others_enter_the_first_view(rt: HostRuntime) -> Result<(), Fail> {
     let alloc = rt.alloc();
-    let mut member = Member::start(alloc, start(alloc, 10)?)?;
+    let mut member = started(alloc, start(alloc, 10)?)?;
     assert_eq!(rt; best(&mut member), None);
     Ok(())
 }

@@ -98,10 +98,7 @@ fn refusal_of(alloc: Global, record: &[Entry]) -> Result<Option<RecoverError>, F
     for entry in record {
         entries.push(artifact_of(alloc, *entry)?)?;
     }
-    match recover(alloc, start(alloc, 10)?, &entries) {
-        Ok(_) => Ok(None),
-        Err(error) => Ok(Some(error)),
-    }
+    Ok(recover(alloc, start(alloc, 10)?, &entries).err())
 }
 
 #[test]

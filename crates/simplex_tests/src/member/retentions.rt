@@ -1,7 +1,7 @@
 //! Retentions that shrink and grow over the lives of a member of plain parts.
 
-use super::{PlainMember, notarization, proposal, start};
-use simplex_member::member::{Call, Member, RecoverError, Reply, Restart};
+use super::{PlainMember, notarization, proposal, start, started};
+use simplex_member::member::{Call, RecoverError, Reply, Restart};
 use simplex_types::types::plain::PlainCertificate;
 use simplex_types::types::{Finalization, View};
 use std::alloc::Global;
@@ -22,8 +22,8 @@ fn restart(
 }
 
 /// A member that keeps ten views, and accepted a finalization of view 20 and a notarization of view 12.
-fn finalized_at_20(alloc: Global) -> Result<PlainMember, Fail> {
-    let mut member = Member::start(alloc, start(alloc, 10)?)?;
+fn finalized_at_20(alloc: Global) -> Result<Box<PlainMember>, Fail> {
+    let mut member = started(alloc, start(alloc, 10)?)?;
     let finalization = Finalization {
         proposal: proposal(20, 19, 7),
         certificate: PlainCertificate { good: true },

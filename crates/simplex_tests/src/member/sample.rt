@@ -1,7 +1,7 @@
 //! The README's sample: a vote is stored before it is sent.
 
-use super::{PlainArtifact, PlainMember, first_notarization, start};
-use simplex_member::member::{Member, Refusal};
+use super::{PlainArtifact, PlainMember, first_notarization, start, started};
+use simplex_member::member::Refusal;
 use simplex_types::types::plain::{PlainDigest, PlainScheme};
 use simplex_types::types::{Finalize, Notarization, View};
 use std::alloc::Global;
@@ -32,7 +32,7 @@ fn finalize(
 #[test]
 fn a_vote_is_stored_before_it_is_sent(rt: HostRuntime) -> Result<(), Fail> {
     let alloc = rt.alloc();
-    let mut member = Member::start(alloc, start(alloc, 10)?)?;
+    let mut member = started(alloc, start(alloc, 10)?)?;
     let mut journal = Vec::new(alloc);
     let first = View::new(1);
     let vote = finalize(

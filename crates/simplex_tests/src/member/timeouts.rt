@@ -1,6 +1,6 @@
 //! Timeouts of a member of plain parts: a skip budget, a stall, and a moment past 64 bits.
 
-use super::{PlainMember, first_notarization, proposal, start, start_in};
+use super::{PlainMember, first_notarization, proposal, start, start_in, started};
 use simplex_member::member::{Call, Member, RecoverError, Reply};
 use simplex_types::reasons::TimeoutReason;
 use simplex_types::types::plain::PlainCertificate;
@@ -18,10 +18,10 @@ fn next_timeout(member: &mut PlainMember, now: u64) -> Option<(u64, TimeoutReaso
 }
 
 /// A member in view 1 with a proposal, whose leader gave the view up at 5 milliseconds.
-fn given_up(alloc: Global, skip_budget: u64) -> Result<PlainMember, Fail> {
+fn given_up(alloc: Global, skip_budget: u64) -> Result<Box<PlainMember>, Fail> {
     let mut begun = start(alloc, 10)?;
     begun.settings.skip_budget = skip_budget;
-    let mut member = Member::start(alloc, begun)?;
+    let mut member = started(alloc, begun)?;
     let proposal = first_notarization().proposal;
     member.call(Call::SetProposal(View::new(1), proposal));
     member.call(Call::TriggerTimeout(View::new(1), TimeoutReason::LeaderNullify, 5));
@@ -41,7 +41,7 @@ fn a_latched_timeout_counts_within_the_skip_budget(rt: HostRuntime) -> Result<()
 }
 
 /// A member in terms of five views that stall after 5 seconds, with longer timeouts of a view.
-fn stalling(alloc: Global) -> Result<PlainMember, Fail> {
+fn stalling(alloc: Global) -> Result<Box<PlainMember>, Fail> {
     let terms = Terms {
         term_length: TermLength::new(NonZeroU32::MIN.saturating_add(4)),
         optimistic_views: 0,
@@ -50,7 +50,7 @@ fn stalling(alloc: Global) -> Result<PlainMember, Fail> {
     let mut begun = start_in(alloc, 10, terms)?;
     begun.settings.leader_timeout = 9000;
     begun.settings.certification_timeout = 10000;
-    Ok(Member::start(alloc, begun)?)
+    started(alloc, begun)
 }
 
 #[test]
@@ -79,11 +79,9 @@ fn a_start_whose_deadline_passes_64_bits_is_refused(rt: HostRuntime) -> Result<(
     let alloc = rt.alloc();
     let mut begun = start(alloc, 10)?;
     begun.now = u64::MAX;
-    match Member::start(alloc, begun) {
-        Ok(_) => Err(Fail::from("started")),
-        Err(error) => {
-            assert_eq!(rt; error, RecoverError::TimeOverflow);
-            Ok(())
-        }
-    }
+    assert_eq!(rt;
+        Member::start(alloc, begun).err(),
+        Some(RecoverError::TimeOverflow)
+    );
+    Ok(())
 }
