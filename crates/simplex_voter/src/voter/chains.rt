@@ -7,14 +7,28 @@ ghost use Rattle.simplex_voter.specs.Chains.{payload_of};
 use super::state::State;
 use simplex_round::round::Round;
 use simplex_types::types::{CertificateScheme, Digest, Elector, Proposal, View};
+use std::alloc::AllocError;
 
 /// What a view's payload rests on.
-#[derive(Clone, Copy)]
 pub enum Basis<D: Digest> {
     /// Genesis or a certificate.
     Certain(D),
     /// This member's vote for the proposal, with the payload that the parent had when it was bound to one.
     Vote(Proposal<D>, Option<D>),
+}
+
+impl<D: Digest> Copy for Basis<D> {}
+
+impl<D: Digest> Clone for Basis<D> {
+    ghost use Rattle.std.specs.Prelude.{◌≡◌, ⊤};
+
+    ghost is_clone = { λ it copy. copy ≡ it };
+
+    ghost is_infallible = { λ _. ⊤ };
+
+    fn clone(&self) -> Result<Basis<D>, AllocError> {
+        Ok(*self)
+    }
 }
 
 impl<D: Digest> Basis<D> {

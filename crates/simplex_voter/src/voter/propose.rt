@@ -10,14 +10,29 @@ use super::state::State;
 use simplex_round::round::{Leader, Round};
 use simplex_types::sorted::Entries;
 use simplex_types::types::{CertificateScheme, Context, Digest, Elector, Fault, View, Viewable};
+use std::alloc::AllocError;
 
 /// A proposal that this member is asked to build.
-#[derive(Clone, Copy, PartialEq, Eq)]
+#[derive(PartialEq, Eq)]
 pub enum ProposalRequest<D: Digest, P: Copy> {
     /// A handoff: the first proposal of a term, on a parent that is not certified yet. It may have to be given up.
     Prepare(Context<D, P>),
     /// A proposal on a certified parent, or on one that its window allows.
     Propose(Context<D, P>),
+}
+
+impl<D: Digest, P: Copy> Copy for ProposalRequest<D, P> {}
+
+impl<D: Digest, P: Copy> Clone for ProposalRequest<D, P> {
+    ghost use Rattle.std.specs.Prelude.{◌≡◌, ⊤};
+
+    ghost is_clone = { λ it copy. copy ≡ it };
+
+    ghost is_infallible = { λ _. ⊤ };
+
+    fn clone(&self) -> Result<ProposalRequest<D, P>, AllocError> {
+        Ok(*self)
+    }
 }
 
 impl<D: Digest, P: Copy> ProposalRequest<D, P> {

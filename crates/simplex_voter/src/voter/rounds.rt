@@ -13,7 +13,7 @@ use std::alloc::Global;
 use std::marker::Model;
 
 /// The moments, in milliseconds, at which a view that is entered times out.
-#[derive(Clone, Copy, PartialEq, Eq, Debug)]
+#[derive(Clone, Copy)]
 pub struct Deadlines {
     pub leader: u64,
     pub certification: u64,

@@ -10,9 +10,10 @@ use super::state::State;
 use simplex_round::round::{Leader, Round};
 use simplex_types::reasons::{Kind, TimeoutReason};
 use simplex_types::types::{CertificateScheme, Context, Digest, Elector, Fault, Proposal, View};
+use std::alloc::AllocError;
 
 /// What comes next in verifying the proposals of other leaders.
-#[derive(Clone, Copy, PartialEq, Eq)]
+#[derive(PartialEq, Eq)]
 pub enum Verify<D: Digest, P: Copy> {
     /// The proposal is to be verified, in this context.
     Ready(Context<D, P>, Proposal<D>),
@@ -30,8 +31,21 @@ pub enum Verify<D: Digest, P: Copy> {
     Wait,
 }
 
+impl<D: Digest, P: Copy> Copy for Verify<D, P> {}
+
+impl<D: Digest, P: Copy> Clone for Verify<D, P> {
+    ghost use Rattle.std.specs.Prelude.{◌≡◌, ⊤};
+
+    ghost is_clone = { λ it copy. copy ≡ it };
+
+    ghost is_infallible = { λ _. ⊤ };
+
+    fn clone(&self) -> Result<Verify<D, P>, AllocError> {
+        Ok(*self)
+    }
+}
+
 /// How the proposal of a view stands.
-#[derive(Clone, Copy)]
 pub enum Standing<D: Digest> {
     /// Nothing is to be done now.
     Passed,
@@ -41,6 +55,20 @@ pub enum Standing<D: Digest> {
     Lacks(View, Kind),
     /// It can be verified, on a parent with this payload.
     Ready(D),
+}
+
+impl<D: Digest> Copy for Standing<D> {}
+
+impl<D: Digest> Clone for Standing<D> {
+    ghost use Rattle.std.specs.Prelude.{◌≡◌, ⊤};
+
+    ghost is_clone = { λ it copy. copy ≡ it };
+
+    ghost is_infallible = { λ _. ⊤ };
+
+    fn clone(&self) -> Result<Standing<D>, AllocError> {
+        Ok(*self)
+    }
 }
 
 /// A certificate of a view is to be asked for, unless its view was the last one asked for.
