@@ -3,7 +3,7 @@
 ghost use Rattle.std.specs.Prelude.{◌≡◌, if◌then◌else◌, Ok, Err};
 ghost use Rattle.simplex_member.specs.Errors.{recover_error_name};
 
-use std::alloc::AllocError;
+use std::alloc::{AllocError, AllocFailed};
 use std::error::Error;
 use std::fmt;
 
@@ -75,6 +75,17 @@ impl fmt::Display for RecoverError {
 }
 
 impl Error for RecoverError {}
+
+impl<V: Drop> From<AllocFailed<V>> for RecoverError {
+    ghost use Rattle.std.specs.Prelude.{◌≡◌};
+    ghost use Rattle.simplex_member.specs.declared.member.error.RecoverError.TheVariants.{OutOfMemory};
+
+    ghost from_gives = { λ _ error. error ≡ OutOfMemory };
+
+    fn from(_refused: AllocFailed<V>) -> RecoverError {
+        RecoverError::OutOfMemory
+    }
+}
 
 impl From<AllocError> for RecoverError {
     ghost use Rattle.std.specs.Prelude.{◌≡◌};

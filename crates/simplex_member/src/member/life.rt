@@ -25,7 +25,7 @@ use std::marker::Model;
 #[derive(Drop)]
 pub struct Member<S: CertificateScheme, L: Elector<S>, D: Digest> {
     pub(super) alloc: Global,
-    pub(super) state: State<S, L, D>,
+    pub(super) state: Box<State<S, L, D>>,
     /// What its state handed out and was not told the end of.
     pub(super) openings: Openings<D, S::PublicKey>,
     pub(super) artifacts: Vec<Artifact<S, D>>,
@@ -48,7 +48,7 @@ impl<S: CertificateScheme, L: Elector<S>, D: Digest> Model for Member<S, L, D> {
     ghost Value = { MemberFacts S.PublicKey L D };
 
     ghost view = { λ m. record {
-      life = living m.failed m.state;
+      life = living m.failed m.state.value;
       openings = open_while m.failed m.openings.open_now;
       entries = entries_of S.certificate_bytes m.artifacts.items;
       closed = m.closed;
@@ -57,7 +57,7 @@ impl<S: CertificateScheme, L: Elector<S>, D: Digest> Model for Member<S, L, D> {
       least_retention = m.least_retention;
     } };
 
-    ghost invariant = { λ m. m.failed ≡ false → (m.state.failed ≡ false) × (is_started m.state ≡ true) };
+    ghost invariant = { λ m. m.failed ≡ false → (m.state.value.failed ≡ false) × (is_started m.state.value ≡ true) };
 }
 
 impl<S: CertificateScheme, L: Elector<S>, D: Digest> Member<S, L, D> {

@@ -164,11 +164,11 @@ pub(super) fn remake<S: CertificateScheme, L: Elector<S>, D: Digest>(
     alloc: Global,
     start: Start<S, L, D>,
     entries: &[Artifact<S, D>],
-) -> Result<(State<S, L, D>, Option<Finalization<S, D>>), RecoverError>
+) -> Result<(Box<State<S, L, D>>, Option<Finalization<S, D>>), RecoverError>
     requires { L.members start.settings.elector ≡ length (S.participants start.settings.scheme) }
-    ensures recovered { IfOk result (λ made. made.0 ≡ recovered_state D.eq L.elect (set_up S.me S.participants L.terms L.elects_early start.settings)
+    ensures recovered { IfOk result (λ made. made.0.value ≡ recovered_state D.eq L.elect (set_up S.me S.participants L.terms L.elects_early start.settings)
         (floor_facts S.certificate_bytes start.floor) start.now (entries_of S.certificate_bytes entries.now)) }
-    ensures going_on { IfOk result (λ made. (made.0.failed ≡ false) × (is_started made.0 ≡ true)) }
+    ensures going_on { IfOk result (λ made. (made.0.value.failed ≡ false) × (is_started made.0.value ≡ true)) }
     ensures floor { IfOk result (λ made. option_map (finalization_facts S.certificate_bytes) made.1
         ≡ floor_answer (floor_facts S.certificate_bytes start.floor)) }
     ensures accepted { OnOk result (recover_error D.eq (set_up S.me S.participants L.terms L.elects_early start.settings)
@@ -212,5 +212,5 @@ pub fn recover<S: CertificateScheme, L: Elector<S>, D: Digest>(
         (floor_facts S.certificate_bytes start.floor) start.now (entries_of S.certificate_bytes entries.now))) }
 {
     let (state, _finalization) = remake(alloc, start, entries)?;
-    Ok(state)
+    Ok(Box::into_inner(state))
 }

@@ -110,12 +110,12 @@ pub(super) fn renew<S: CertificateScheme, L: Elector<S>, D: Digest>(
     alloc: Global,
     start: Start<S, L, D>,
     artifacts: &mut Vec<Artifact<S, D>>,
-) -> Result<State<S, L, D>, RecoverError>
+) -> Result<Box<State<S, L, D>>, RecoverError>
     requires { L.members start.settings.elector ≡ length (S.participants start.settings.scheme) }
     ensures renewed { IfOk result (λ state. IsRemadeBy D.eq L.elect
         (start_facts S.me S.participants L.terms L.elects_early S.certificate_bytes start)
-        (entries_of S.certificate_bytes artifacts.old.items) state) }
-    ensures going_on { IfOk result (λ state. (state.failed ≡ false) × (is_started state ≡ true)) }
+        (entries_of S.certificate_bytes artifacts.old.items) state.value) }
+    ensures going_on { IfOk result (λ state. (state.value.failed ≡ false) × (is_started state.value ≡ true)) }
     ensures recorded { OnOk result (entries_of S.certificate_bytes artifacts.new.items
         ≡ with_floor (entries_of S.certificate_bytes artifacts.old.items) (floor_facts S.certificate_bytes start.floor)) }
     ensures same { OnErr result (artifacts.new.items ≡ artifacts.old.items) }
@@ -133,13 +133,13 @@ fn remake_by_view<S: CertificateScheme, L: Elector<S>, D: Digest>(
     alloc: Global,
     start: Start<S, L, D>,
     artifacts: &[Artifact<S, D>],
-) -> Result<(State<S, L, D>, Option<Finalization<S, D>>), RecoverError>
+) -> Result<(Box<State<S, L, D>>, Option<Finalization<S, D>>), RecoverError>
     requires { L.members start.settings.elector ≡ length (S.participants start.settings.scheme) }
     ensures remade { IfOk result (λ made. IsRemadeBy D.eq L.elect
-        (start_facts S.me S.participants L.terms L.elects_early S.certificate_bytes start) (entries_of S.certificate_bytes artifacts.now) made.0) }
+        (start_facts S.me S.participants L.terms L.elects_early S.certificate_bytes start) (entries_of S.certificate_bytes artifacts.now) made.0.value) }
     ensures floor { IfOk result (λ made. option_map (finalization_facts S.certificate_bytes) made.1
         ≡ floor_answer (floor_facts S.certificate_bytes start.floor)) }
-    ensures going_on { IfOk result (λ made. (made.0.failed ≡ false) × (is_started made.0 ≡ true)) }
+    ensures going_on { IfOk result (λ made. (made.0.value.failed ≡ false) × (is_started made.0.value ≡ true)) }
     ensures refused { IfErr result (λ error. (error ≡ OutOfMemory) ⊎ IsRefusedBy D.eq
         (start_facts S.me S.participants L.terms L.elects_early S.certificate_bytes start) (entries_of S.certificate_bytes artifacts.now) error) }
 {

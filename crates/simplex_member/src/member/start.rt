@@ -35,15 +35,15 @@ pub(super) fn retention_of<S: CertificateScheme, L: Elector<S>>(
     settings.view_retention
 }
 
-/// A new state at a floor, with the floor's finalization.
+/// A new state at a floor, on the heap since it is large, with the floor's finalization.
 pub(super) fn begin<S: CertificateScheme, L: Elector<S>, D: Digest>(
     alloc: Global,
     settings: Config<S, L>,
     floor: Floor<S, D>,
     now: u64,
-) -> Result<(State<S, L, D>, Option<Finalization<S, D>>), RecoverError>
+) -> Result<(Box<State<S, L, D>>, Option<Finalization<S, D>>), RecoverError>
     requires { L.members settings.elector ≡ length (S.participants settings.scheme) }
-    ensures begun { IfOk result (λ begun. begun.0
+    ensures begun { IfOk result (λ begun. begun.0.value
         ≡ after_set_floor D.eq L.elect (set_up S.me S.participants L.terms L.elects_early settings) (floor_facts S.certificate_bytes floor) now) }
     ensures floor { IfOk result (λ begun. option_map (finalization_facts S.certificate_bytes) begun.1 ≡ floor_answer (floor_facts S.certificate_bytes floor)) }
     ensures accepted { OnOk result (recover_error D.eq (set_up S.me S.participants L.terms L.elects_early settings)
@@ -54,7 +54,7 @@ pub(super) fn begin<S: CertificateScheme, L: Elector<S>, D: Digest>(
     check_floor(settings.epoch, &floor)?;
     let mut state = State::new(alloc, settings);
     match state.set_floor(floor, now) {
-        Ok(finalization) => Ok((state, finalization)),
+        Ok(finalization) => Ok((Box::new(alloc, state)?, finalization)),
         Err(fault) => Err(error_of(fault)),
     }
 }

@@ -25,19 +25,19 @@ returns-in_err-state-clause-refused g c =
 pub take_all-requires-clause-going_on : goal.take_all-requires-clause-going_on
 take_all-requires-clause-going_on g c =
     let x = set_up g.S.CertificateScheme.me g.S.CertificateScheme.participants g.L.Elector.terms g.L.Elector.elects_early c.args.start.settings in
-    rw c.in_ok-state.ensures.begun (floor_goes g.D.PartialEq.eq g.L.Elector.elect x (floor_facts g.S.CertificateScheme.certificate_bytes c.args.start.floor) c.args.start.now refl).0
+    rw (c.deref_mut.ensures.value, c.in_ok-state.ensures.begun) (floor_goes g.D.PartialEq.eq g.L.Elector.elect x (floor_facts g.S.CertificateScheme.certificate_bytes c.args.start.floor) c.args.start.now refl).0
 
 pub take_all-requires-clause-in_time : goal.take_all-requires-clause-in_time
 take_all-requires-clause-in_time g c =
     let x = set_up g.S.CertificateScheme.me g.S.CertificateScheme.participants g.L.Elector.terms g.L.Elector.elects_early c.args.start.settings in
     let floor = floor_facts g.S.CertificateScheme.certificate_bytes c.args.start.floor in
-    rw c.in_ok-state.ensures.begun (set_in_time g.D.PartialEq.eq g.L.Elector.elect x floor c.args.start.now (accepted_in_time g.D.PartialEq.eq x floor c.args.start.now c.in_ok-state.ensures.accepted))
+    rw (c.deref_mut.ensures.value, c.in_ok-state.ensures.begun) (set_in_time g.D.PartialEq.eq g.L.Elector.elect x floor c.args.start.now (accepted_in_time g.D.PartialEq.eq x floor c.args.start.now c.in_ok-state.ensures.accepted))
 
 pub take_all-requires-clause-each : goal.take_all-requires-clause-each
 take_all-requires-clause-each g c =
     let x = set_up g.S.CertificateScheme.me g.S.CertificateScheme.participants g.L.Elector.terms g.L.Elector.elects_early c.args.start.settings in
     let bytes_of = g.S.CertificateScheme.certificate_bytes in
-    rw c.in_ok-state.ensures.begun
+    rw (c.deref_mut.ensures.value, c.in_ok-state.ensures.begun)
     (set_takes g.D.PartialEq.eq g.L.Elector.elect x (floor_facts bytes_of c.args.start.floor) c.args.start.now bytes_of c.args.entries.now refl
     (new_bears x.settings x.me x.members x.elector x.terms x.elects_early)
     (none_broken _ _ _ c.in_ok-check_record.ensures))
@@ -51,14 +51,14 @@ returns-in-Ok-clause-recovered g c =
     let now = c.args.start.now in
     let es = entries_of bytes_of c.args.entries.now in
     c.in-Ok.ensures.after
-    ∙ ap (λ y. after_entries same elect y now es) c.in_ok-state.ensures.begun
+    ∙ ap (λ y. after_entries same elect y now es) (c.deref_mut.ensures.value ∙ c.in_ok-state.ensures.begun)
     ∙ recovered_is same elect x (floor_facts bytes_of c.args.start.floor) now es
 
 pub returns-in-Ok-clause-going_on : goal.returns-in-Ok-clause-going_on
 returns-in-Ok-clause-going_on g c =
     let x = set_up g.S.CertificateScheme.me g.S.CertificateScheme.participants g.L.Elector.terms g.L.Elector.elects_early c.args.start.settings in
     let bytes_of = g.S.CertificateScheme.certificate_bytes in
-    rw (c.in-Ok.ensures.after, c.in_ok-state.ensures.begun)
+    rw (c.in-Ok.ensures.after, c.deref_mut.ensures.value, c.in_ok-state.ensures.begun)
     (recovered_goes_on g.D.PartialEq.eq g.L.Elector.elect x (floor_facts bytes_of c.args.start.floor) c.args.start.now (entries_of bytes_of c.args.entries.now) refl)
 
 pub returns-in-Ok-clause-accepted : goal.returns-in-Ok-clause-accepted

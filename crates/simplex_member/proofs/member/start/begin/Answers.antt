@@ -17,13 +17,22 @@ set_floor-requires g c =
     let x = set_up g.S.CertificateScheme.me g.S.CertificateScheme.participants g.L.Elector.terms g.L.Elector.elects_early c.args.settings in
     rw c.new-state.ensures (good_floor x refl (floor_facts g.S.CertificateScheme.certificate_bytes c.args.floor) c.in_ok-check_floor.ensures.kept)
 
-pub returns-in-Ok-clause-accepted : goal.returns-in-Ok-clause-accepted
-returns-in-Ok-clause-accepted g c =
+pub returns-in_ok-new-in-Ok-clause-accepted : goal.returns-in_ok-new-in-Ok-clause-accepted
+returns-in_ok-new-in-Ok-clause-accepted g c =
     let x = set_up g.S.CertificateScheme.me g.S.CertificateScheme.participants g.L.Elector.terms g.L.Elector.elects_early c.args.settings in
     let floor = floor_facts g.S.CertificateScheme.certificate_bytes c.args.floor in
     let none = not_refused (floor_refusal c.new-state.result floor c.args.now) _ _ c.in-Ok.ensures.refused in
     floor_error g.D.PartialEq.eq x floor c.args.now refl refl c.in_ok-check_floor.ensures.kept
     ∙ ap (option_map error_of) (ap (λ y. floor_refusal y floor c.args.now) (sym c.new-state.ensures) ∙ none)
+
+pub returns-in_err-new-in-Ok-clause-refused : goal.returns-in_err-new-in-Ok-clause-refused
+returns-in_err-new-in-Ok-clause-refused g c =
+    let x = set_up g.S.CertificateScheme.me g.S.CertificateScheme.participants g.L.Elector.terms g.L.Elector.elects_early c.args.settings in
+    let floor = floor_facts g.S.CertificateScheme.certificate_bytes c.args.floor in
+    let none = not_refused (floor_refusal c.new-state.result floor c.args.now) _ _ c.in-Ok.ensures.refused in
+    let due = floor_error g.D.PartialEq.eq x floor c.args.now refl refl c.in_ok-check_floor.ensures.kept in
+    let p = err_from_is_err_and c.from_residual-in_err-new-in-Ok.result c.from_residual-in_err-new-in-Ok.ensures.1 in
+    rw (p.1, p.2, due, ← c.new-state.ensures, none) refl
 
 pub returns-in-Err-clause-refused : goal.returns-in-Err-clause-refused
 returns-in-Err-clause-refused g c =

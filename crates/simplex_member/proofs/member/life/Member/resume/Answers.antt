@@ -25,7 +25,7 @@ returns-in-Ok-clause-resumed g c =
     rw (c.lesser.ensures, c.retention_of-retention.ensures, c.new.ensures)
     (resumed g.D.PartialEq.eq g.L.Elector.elect c.args.stored (entries_of bytes_of c.args.entries.items) start whole
     (rw (← c.retention_of-retention.ensures) (sym c.retention_grows.ensures ∙ c.if-retention_grows.false))
-    c.in-Ok.state _ c.in-Ok.ensures.renewed c.in-Ok.ensures.recorded)
+    c.in-Ok.state.value _ c.in-Ok.ensures.renewed c.in-Ok.ensures.recorded)
 
 pub returns-in-Err-clause-refused : goal.returns-in-Err-clause-refused
 returns-in-Err-clause-refused g c =
