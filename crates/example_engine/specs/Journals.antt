@@ -13,7 +13,7 @@ use Rattle.example_engine.specs.declared.scheme.Seal.{Seal}
 use Rattle.example_engine.specs.declared.scheme.SealScheme.{SealScheme}
 use Rattle.example_engine.specs.declared.scheme.Signature.{Signature}
 use Rattle.example_engine.specs.Parts.{CoreFacts, same_block, leader_of_round}
-use Rattle.example_engine.specs.Sealing.{signer_of, keys_of, seal_bytes}
+use Rattle.example_engine.specs.Sealing.{seal_signer, seal_keys, seal_bytes}
 
 -- the member's whole record is stored, and what is stored beside it
 pub record HoldsAll (member : CoreFacts) (journal : Journal) : Type 0 where
@@ -24,4 +24,4 @@ pub record HoldsAll (member : CoreFacts) (journal : Journal) : Type 0 where
 abbrev pub GoesOnFrom : Journal → Start SealScheme PlainElector BlockDigest MemberKey Signature Seal → CoreFacts → Type 0
 GoesOnFrom journal start member =
     IsResumed same_block leader_of_round journal.stored (entries_of seal_bytes journal.entries.items)
-    (start_facts signer_of keys_of terms_of (λ _. true) seal_bytes start) member
+    (start_facts seal_signer seal_keys terms_of (λ _. true) seal_bytes start) member

@@ -13,12 +13,12 @@ use Rattle.example_engine.specs.Digests.{bytes_of}
 use Rattle.example_engine.specs.Rising.{are_members}
 
 -- the member that the scheme signs as
-abbrev pub signer_of : SealScheme → Option ℕ
-signer_of s = s.signer
+abbrev pub seal_signer : SealScheme → Option ℕ
+seal_signer s = s.signer
 
 -- the keys of all members
-abbrev pub keys_of : SealScheme → List MemberKey
-keys_of s = s.keys.items
+abbrev pub seal_keys : SealScheme → List MemberKey
+seal_keys s = s.keys.items
 
 -- a certificate's own bytes: who signed
 abbrev pub seal_bytes : Seal → List ℕ
@@ -30,7 +30,7 @@ IsSignature key subject signature = (signature.key ≡ key) × (signature.sum �
 
 -- the signature is one of the member's key on the subject
 abbrev pub IsSignedBy : SealScheme → ℕ → Subject BlockDigest → Signature → Type 0
-IsSignedBy s member subject signature = MatchOption (slice_get (keys_of s) member) ⊥ (λ key. IsSignature key subject signature)
+IsSignedBy s member subject signature = MatchOption (slice_get (seal_keys s) member) ⊥ (λ key. IsSignature key subject signature)
 
 -- the key in four bytes, and then the sum in eight, big-endian
 abbrev pub signature_bytes : Signature → List ℕ
@@ -50,4 +50,4 @@ quorum_of members = members - (members - 1) / 3
 -- a quorum of rising members
 abbrev pub is_good : SealScheme → Seal → Bool
 is_good s seal =
-    nat_lt 0 (length (keys_of s)) && nat_le (quorum_of (length (keys_of s))) (length (seal_bytes seal)) && are_members (length (keys_of s)) 0 (seal_bytes seal)
+    nat_lt 0 (length (seal_keys s)) && nat_le (quorum_of (length (seal_keys s))) (length (seal_bytes seal)) && are_members (length (seal_keys s)) 0 (seal_bytes seal)

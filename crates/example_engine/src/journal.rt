@@ -8,7 +8,7 @@
 ghost use Rattle.std.specs.Prelude.{◌≡◌, ◌++◌, drop, length, Contains, IfOk, IfSome, OnOk, OnErr};
 ghost use Rattle.simplex_types.specs.Plain.{members_of};
 ghost use Rattle.simplex_member.specs.Entries.{entries_of};
-ghost use Rattle.example_engine.specs.Sealing.{keys_of, seal_bytes};
+ghost use Rattle.example_engine.specs.Sealing.{seal_keys, seal_bytes};
 ghost use Rattle.example_engine.specs.Votes.{entry_of};
 
 use crate::messages::{Vote, VoteKind};
@@ -80,7 +80,7 @@ impl Journal {
 
     /// The member that goes on from what is stored, in a process of its own, and the journal of its new life.
     pub fn resume(&self, start: CoreStart) -> Result<(Core, Journal), ResumeError>
-        requires { members_of start.settings.elector ≡ length (keys_of start.settings.scheme) }
+        requires { members_of start.settings.elector ≡ length (seal_keys start.settings.scheme) }
         ensures resumed { IfOk result (λ made. GoesOnFrom self.now start made.0) }
         ensures stored { IfOk result (λ made. HoldsAll made.0 made.1) }
     {

@@ -52,13 +52,13 @@ pub struct SealScheme {
 }
 
 impl SealScheme {
-    ghost use Rattle.example_engine.specs.Sealing.{keys_of, signer_of, IsSignedBy};
+    ghost use Rattle.example_engine.specs.Sealing.{seal_keys, seal_signer, IsSignedBy};
 
     /// The scheme of so many members, for one of them.
     pub fn new(alloc: Global, members: u8, me: u8) -> Result<SealScheme, AllocError>
         requires { me < members }
-        ensures members { IfOk result (λ s. length (keys_of s) ≡ members) }
-        ensures signer { IfOk result (λ s. signer_of s ≡ Some me) }
+        ensures members { IfOk result (λ s. length (seal_keys s) ≡ members) }
+        ensures signer { IfOk result (λ s. seal_signer s ≡ Some me) }
     {
         let mut keys = Vec::new(alloc);
         for index in 0..members {
@@ -115,11 +115,11 @@ impl CertificateScheme for SealScheme {
 
     type Certificate = Seal;
 
-    ghost use Rattle.example_engine.specs.Sealing.{keys_of, signer_of, seal_bytes};
+    ghost use Rattle.example_engine.specs.Sealing.{seal_keys, seal_signer, seal_bytes};
 
-    ghost me = { signer_of };
+    ghost me = { seal_signer };
 
-    ghost participants = { keys_of };
+    ghost participants = { seal_keys };
 
     ghost certificate_bytes = { seal_bytes };
 

@@ -2,7 +2,7 @@
 
 ghost use Rattle.std.specs.Prelude.{◌≡◌, ◌<◌, IfOk, length};
 ghost use Rattle.simplex_types.specs.Plain.{members_of};
-ghost use Rattle.example_engine.specs.Sealing.{keys_of};
+ghost use Rattle.example_engine.specs.Sealing.{seal_keys};
 
 use crate::digest::BlockDigest;
 use crate::scheme::SealScheme;
@@ -43,7 +43,7 @@ const TIMEOUT_RETRY: u64 = 300;
 /// How a member starts at genesis, in terms of one view.
 pub fn start_of(alloc: Global, members: u8, me: u8, now: u64) -> Result<CoreStart, AllocError>
     requires { me < members }
-    ensures { IfOk result (λ start. members_of start.settings.elector ≡ length (keys_of start.settings.scheme)) }
+    ensures { IfOk result (λ start. members_of start.settings.elector ≡ length (seal_keys start.settings.scheme)) }
 {
     let terms = Terms {
         term_length: TermLength::ONE,

@@ -1,4 +1,4 @@
--- A network of four whose first leader proposes twice: no proposal gets votes enough, and each honest member restarts.
+-- A network of four whose first leader proposes twice: no proposal gets votes enough, and each honest member restarts_pruned.
 use Rattle.std.specs.Prelude.{ℕ, true, false, List, [], ◌∷◌, ◌++◌, None}
 use Rattle.simplex_types.specs.declared.reasons.TimeoutReason.{TimeoutReason}
 use Rattle.simplex_types.specs.declared.reasons.TimeoutReason.TheVariants.{LeaderTimeout, CertificationTimeout}
@@ -16,14 +16,14 @@ abbrev pub rival : Proposal ℕ
 rival = record { round = round 1; parent = 0; payload = 9 }
 
 -- a restart that drops what it may and prunes the record
-abbrev pub restarts : ℕ → StepFacts ℕ ℕ ℕ × Told ℕ ℕ
-restarts me = (Restarts (record { drop = 3; prune = true; start = begin_at 1 me }), Restarted)
+abbrev pub restarts_pruned : ℕ → StepFacts ℕ ℕ ℕ × Told ℕ ℕ
+restarts_pruned me = (Restarts (record { drop = 3; prune = true; start = begin_at 1 me }), Restarted)
 
--- a member votes for the proposal that it hears of first, and restarts after the other one
+-- a member votes for the proposal that it hears of first, and restarts_pruned after the other one
 abbrev pub deceived : ℕ → Proposal ℕ → Proposal ℕ → Story ℕ ℕ ℕ
-deceived me p other = begins_with 1 me (hears p true ∷ verifies me 3 p ++ hears other false ∷ restarts me ∷ [])
+deceived me p other = begins_with 1 me (hears p true ∷ verifies me 3 p ++ hears other false ∷ restarts_pruned me ∷ [])
 
--- another hears of both, so it votes for none, and restarts
+-- another hears of both, so it votes for none, and restarts_pruned
 abbrev pub warned : ℕ → Story ℕ ℕ ℕ
 warned me = begins_with 1 me (
     hears one true
@@ -31,7 +31,7 @@ warned me = begins_with 1 me (
     ∷ (Calls TryVerify, Standing (Ready (context_of 3 one) one))
     ∷ (Calls (Verified 1), Answered false)
     ∷ (Calls (ConstructNotarize 1), Notarize None)
-    ∷ restarts me
+    ∷ restarts_pruned me
     ∷ [])
 
 -- four members, of which the leader is faulty: each of its proposals has one vote of an honest member
@@ -43,12 +43,12 @@ abbrev pub after_conflict : Proposal ℕ
 after_conflict = proposal 2 0
 
 -- the leader of view 2 gives view 1 up, by its deadline and why, and builds; it votes for view 2 to the end
-abbrev pub leads_on : ℕ → ℕ → TimeoutReason → List (StepFacts ℕ ℕ ℕ × Told ℕ ℕ)
-leads_on me at why = gives_up me 1 at why ++ skips 1 ∷ builds me after_conflict ++ certifies after_conflict ++ finalizes me after_conflict
+abbrev pub leads_past_conflict : ℕ → ℕ → TimeoutReason → List (StepFacts ℕ ℕ ℕ × Told ℕ ℕ)
+leads_past_conflict me at why = gives_up me 1 at why ++ skips 1 ∷ builds me after_conflict ++ certifies after_conflict ++ finalizes me after_conflict
 
 -- another member does so, and verifies
-abbrev pub follows_on : ℕ → ℕ → TimeoutReason → List (StepFacts ℕ ℕ ℕ × Told ℕ ℕ)
-follows_on me at why =
+abbrev pub follows_past_conflict : ℕ → ℕ → TimeoutReason → List (StepFacts ℕ ℕ ℕ × Told ℕ ℕ)
+follows_past_conflict me at why =
     gives_up me 1 at why
     ++ skips 1
     ∷ hears after_conflict true
@@ -59,8 +59,8 @@ follows_on me at why =
 -- all three finalize view 2
 abbrev pub united : List (Place ℕ ℕ ℕ)
 united =
-    Honest (and_then (deceived 0 one rival) (leads_on 0 2000 CertificationTimeout))
-    ∷ Honest (and_then (deceived 1 rival one) (follows_on 1 2000 CertificationTimeout))
-    ∷ Honest (and_then (warned 2) (follows_on 2 1000 LeaderTimeout))
+    Honest (and_then (deceived 0 one rival) (leads_past_conflict 0 2000 CertificationTimeout))
+    ∷ Honest (and_then (deceived 1 rival one) (follows_past_conflict 1 2000 CertificationTimeout))
+    ∷ Honest (and_then (warned 2) (follows_past_conflict 2 1000 LeaderTimeout))
     ∷ Faulty
     ∷ []

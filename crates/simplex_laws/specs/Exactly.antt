@@ -30,16 +30,16 @@ module _ {K D : Type 0} where
     pub due : (d : Deed D) → is_refused told ≡ false → Rule → IsSignedFor me about d → signed_in told ≡ d ∷ []
 
 -- the proposal that is held of a view
-abbrev pub held_proposal : {K L D : Type 0} → StateFacts K L D → ℕ → Option (Proposal D)
-held_proposal x v = (round_of x v).slot.held
+abbrev pub proposal_at : {K L D : Type 0} → StateFacts K L D → ℕ → Option (Proposal D)
+proposal_at x v = (round_of x v).slot.held
 
 module _ {K L D : Type 0} (same : D → D → Bool) (elect : Elect L) where
   -- of what the state knows before a step: each request for a vote is answered exactly by its rule, and nothing else by a vote
   abbrev pub ExactAt : Option (StateFacts K L D) → StepFacts K L D → Told K D → Type 0
   ExactAt None step told = signed_in told ≡ []
   ExactAt (Some x) (Calls (ConstructNullify v)) told = IsExact (NullifyRule x v) x.me (Some (subject.Nullify (round_number x v))) told
-  ExactAt (Some x) (Calls (ConstructFinalize v)) told = IsExact (FinalizeRule elect x v) x.me (option_map subject.Finalize (held_proposal x v)) told
-  ExactAt (Some x) (Calls (ConstructNotarize v)) told = IsExact (NotarizeRule same elect x v) x.me (option_map subject.Notarize (held_proposal x v)) told
+  ExactAt (Some x) (Calls (ConstructFinalize v)) told = IsExact (FinalizeRule elect x v) x.me (option_map subject.Finalize (proposal_at x v)) told
+  ExactAt (Some x) (Calls (ConstructNotarize v)) told = IsExact (NotarizeRule same elect x v) x.me (option_map subject.Notarize (proposal_at x v)) told
   ExactAt (Some x) _ told = signed_in told ≡ []
 
   -- so it is at each step of a run, of the very member that the steps before it left

@@ -53,18 +53,18 @@ abbrev pub leaves_term : ℕ → List (StepFacts ℕ ℕ ℕ × Told ℕ ℕ)
 leaves_term me = gives_up me 3 2000 CertificationTimeout ++ skips 3 ∷ []
 
 -- the leader of view 5 builds, and votes for it to the end
-abbrev pub leads_on : ℕ → List (StepFacts ℕ ℕ ℕ × Told ℕ ℕ)
-leads_on me = leaves_term me ++ builds me after_handoff ++ certifies after_handoff ++ finalizes me after_handoff
+abbrev pub leads_past_handoff : ℕ → List (StepFacts ℕ ℕ ℕ × Told ℕ ℕ)
+leads_past_handoff me = leaves_term me ++ builds me after_handoff ++ certifies after_handoff ++ finalizes me after_handoff
 
 -- another member verifies, and does so too
-abbrev pub follows_on : ℕ → List (StepFacts ℕ ℕ ℕ × Told ℕ ℕ)
-follows_on me = leaves_term me ++ hears after_handoff true ∷ verifies me 1 after_handoff ++ certifies after_handoff ++ finalizes me after_handoff
+abbrev pub follows_past_handoff : ℕ → List (StepFacts ℕ ℕ ℕ × Told ℕ ℕ)
+follows_past_handoff me = leaves_term me ++ hears after_handoff true ∷ verifies me 1 after_handoff ++ certifies after_handoff ++ finalizes me after_handoff
 
 -- all three finalize view 5
 abbrev pub gone_on : List (Place ℕ ℕ ℕ)
 gone_on =
-    Honest (and_then takes_over (follows_on 0))
-    ∷ Honest (and_then (can_not_verify 1) (leads_on 1))
-    ∷ Honest (and_then (can_not_verify 2) (follows_on 2))
+    Honest (and_then takes_over (follows_past_handoff 0))
+    ∷ Honest (and_then (can_not_verify 1) (leads_past_handoff 1))
+    ∷ Honest (and_then (can_not_verify 2) (follows_past_handoff 2))
     ∷ Faulty
     ∷ []

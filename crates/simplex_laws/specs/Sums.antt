@@ -22,10 +22,10 @@ abbrev pub latest : {A B : Type 0} → (A → Option B) → List A → Option B
 latest f [] = None
 latest f (e ∷ before) = option_or (f e) (latest f before)
 
--- the greatest one, or 0
-abbrev pub greatest : {A : Type 0} → (A → ℕ) → List A → ℕ
-greatest f [] = 0
-greatest f (e ∷ before) = max (greatest f before) (f e)
+-- the highest one, or 0
+abbrev pub highest : {A : Type 0} → (A → ℕ) → List A → ℕ
+highest f [] = 0
+highest f (e ∷ before) = max (highest f before) (f e)
 
 -- the thing, where it is of this view
 abbrev pub at : {A : Type 0} → ℕ → ℕ → A → Option A
@@ -143,11 +143,11 @@ module _ {K D : Type 0} where
   abbrev pub moment_in : List (Event K D) → ℕ
   moment_in history = unwrap_or (latest moment_by history) 0
 
-  -- the greatest finalized view
+  -- the highest finalized view
   abbrev pub finalized_by_events : List (Event K D) → ℕ
-  finalized_by_events history = greatest finalized_by_event history
+  finalized_by_events history = highest finalized_by_event history
 
-  -- the greatest view that was entered, in terms of this length
+  -- the highest view that was entered, in terms of this length
   abbrev pub current_in : ℕ → List (Event K D) → ℕ
   current_in term_length [] = 0
   current_in term_length (e ∷ before) = max (current_in term_length before) (entered_by term_length (is_notarized_in before) e)

@@ -12,7 +12,7 @@ use Rattle.simplex_member.specs.declared.member.error.RecoverError.TheVariants a
 use Rattle.simplex_member.specs.Entries.{entries_of}
 use Rattle.simplex_member.specs.Check.{first_error, recovery_floor_rules, first_broken_after, first_recover_error}
 use Rattle.simplex_member.specs.Recovery.{after_entries, recovered_state, recover_error, TakesEntries}
-use Rattle.simplex_member.specs.Start.{IsDue}
+use Rattle.simplex_member.specs.Start.{IsErrorDue}
 use Rattle.simplex_member.proofs.Going.{floor_goes, still_in_time}
 use Rattle.simplex_member.proofs.Seen.{none_left}
 use Rattle.simplex_member.proofs.Taking.{all_taken_goes, floor_set_goes}
@@ -22,7 +22,7 @@ use Rattle.simplex_member.proofs.Bearing.{BearsAll, bears_kept}
 use Rattle.simplex_member.proofs.Allowing.{takes_entries}
 
 -- the first broken rule is the error that is due
-pub broken_due : {T : Type 0} (ok : T) (broken late : Option RecoverError) (found : RecoverError) → MatchOption broken (◌≡◌ {A = Result T RecoverError} (Err found) (Ok ok)) (λ b. ◌≡◌ {A = Result T RecoverError} (Err found) (Err b)) → IsDue (option_or broken late) found
+pub broken_due : {T : Type 0} (ok : T) (broken late : Option RecoverError) (found : RecoverError) → MatchOption broken (◌≡◌ {A = Result T RecoverError} (Err found) (Ok ok)) (λ b. ◌≡◌ {A = Result T RecoverError} (Err found) (Err b)) → IsErrorDue (option_or broken late) found
 broken_due ok None late found is = absurd cc
 broken_due ok (Some b) late found is = ap (λ e. result_or e found) is
   where

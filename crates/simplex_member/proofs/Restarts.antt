@@ -20,7 +20,7 @@ use Rattle.simplex_member.specs.Lives.{MemberFacts, without_life}
 use Rattle.simplex_member.specs.Remade.{IsRefusedBy, IsRemadeBy}
 use Rattle.simplex_member.specs.Recovery.{recover_error, is_finalization, with_finalization_entry, with_floor}
 use Rattle.simplex_member.specs.Restarts.{IsByView, GoesOn}
-use Rattle.simplex_member.specs.Start.{StartFacts, IsDue, new_state}
+use Rattle.simplex_member.specs.Start.{StartFacts, IsErrorDue, new_state}
 use Rattle.simplex_member.proofs.Seen.{entries_from, view_of_entry}
 
 view_ties : (v w : ℕ) → (not (is_lt (nat_cmp v w)) && not (is_lt (nat_cmp w v))) ≡ (w == v)
@@ -74,10 +74,10 @@ module _ {S D K G C : Type 0} (bytes_of : C → List ℕ) where
   recorded_now entries o f is none = rw (is, none) refl
 
 -- an error for a copy of the record by view, or want of memory
-pub refused_by : {K L D : Type 0} (same : D → D → Bool) (start : StartFacts K L D) (entries copy : List (ArtifactFacts D)) (found : RecoverError) → IsByView entries copy → IsDue (recover_error same (new_state start.setup) start.floor start.now copy) found → (found ≡ error.OutOfMemory) ⊎ IsRefusedBy same start entries found
+pub refused_by : {K L D : Type 0} (same : D → D → Bool) (start : StartFacts K L D) (entries copy : List (ArtifactFacts D)) (found : RecoverError) → IsByView entries copy → IsErrorDue (recover_error same (new_state start.setup) start.floor start.now copy) found → (found ≡ error.OutOfMemory) ⊎ IsRefusedBy same start entries found
 refused_by same start entries copy found by_view due = told (recover_error same (new_state start.setup) start.floor start.now copy) refl due
   where
-    told : (due : Option RecoverError) → recover_error same (new_state start.setup) start.floor start.now copy ≡ due → IsDue due found → (found ≡ error.OutOfMemory) ⊎ IsRefusedBy same start entries found
+    told : (due : Option RecoverError) → recover_error same (new_state start.setup) start.floor start.now copy ≡ due → IsErrorDue due found → (found ≡ error.OutOfMemory) ⊎ IsRefusedBy same start entries found
     told None is memory = inl memory
     told (Some e) is same_error = inr (copy, by_view, is ∙ ap Some (sym same_error))
 

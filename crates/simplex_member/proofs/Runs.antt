@@ -10,7 +10,7 @@ use Rattle.simplex_member.specs.declared.member.calls.Reply.TheVariants as reply
 use Rattle.simplex_member.specs.Calls.{Told, told}
 use Rattle.simplex_member.specs.Lives.{MemberFacts}
 use Rattle.simplex_member.specs.Recovery.{recover_error}
-use Rattle.simplex_member.specs.Start.{StartFacts, started_member, IsDue, new_state}
+use Rattle.simplex_member.specs.Start.{StartFacts, started_member, IsErrorDue, new_state}
 use Rattle.simplex_member.specs.Runs.{IsSetUp, AreSetUp, StepFacts, is_refusal, IsStep, IsRun, IsRefused, EndsRun, IsRunFrom, EndsRunFrom}
 
 -- no reply tells of a restart that was refused
@@ -67,7 +67,7 @@ module _ {K L D : Type 0} (same : D → D → Bool) (elect : Elect L) where
     ends_later m found begun (inr is) = inr (inr (rw begun at is))
 
     -- one that could not start
-    pub ends_at_once : (due : Option RecoverError) (found : RecoverError) → recover_error same (new_state start.setup) start.floor start.now [] ≡ due → IsDue due found → EndsRunFrom same elect start steps found
+    pub ends_at_once : (due : Option RecoverError) (found : RecoverError) → recover_error same (new_state start.setup) start.floor start.now [] ≡ due → IsErrorDue due found → EndsRunFrom same elect start steps found
     unfolding EndsRunFrom
     ends_at_once None found is memory = inl memory
     ends_at_once (Some e) found is refused = inr (inl (is ∙ ap Some (sym refused)))

@@ -13,7 +13,7 @@ use Rattle.simplex_member.specs.declared.member.error.RecoverError.{RecoverError
 use Rattle.simplex_member.specs.declared.member.error.RecoverError.TheVariants as error
 use Rattle.simplex_member.specs.Check.{first_error, recovery_floor_rules, first_recover_error}
 use Rattle.simplex_member.specs.Recovery.{recover_error}
-use Rattle.simplex_member.specs.Start.{IsDue, error_of}
+use Rattle.simplex_member.specs.Start.{IsErrorDue, error_of}
 use Rattle.simplex_member.proofs.Seen.{unbroken, rest_unbroken, from_not_false, option_or_none}
 
 all_of : (a b c : Bool) → a ≡ true → b ≡ true → c ≡ true → (a && b && c) ≡ true
@@ -46,7 +46,7 @@ module _ {K L D : Type 0} (same : D → D → Bool) (x : StateFacts K L D) (floo
   unfolding first_recover_error
   error_alone = ap (λ o. option_or o (if has_late_deadline x now then Some error.TimeOverflow else None)) (option_or_none (first_error (recovery_floor_rules x.settings.epoch floor)))
 
-  pub bad_floor : (e : RecoverError) → first_error (recovery_floor_rules x.settings.epoch floor) ≡ Some e → IsDue (recover_error same x floor now []) e
+  pub bad_floor : (e : RecoverError) → first_error (recovery_floor_rules x.settings.epoch floor) ≡ Some e → IsErrorDue (recover_error same x floor now []) e
   bad_floor e broken = rw (error_alone, broken) refl
 
   pub floor_error : x.current ≡ 0 → x.failed ≡ false → first_error (recovery_floor_rules x.settings.epoch floor) ≡ None → recover_error same x floor now [] ≡ option_map error_of (floor_refusal x floor now)
@@ -61,7 +61,7 @@ option_fault None other = other
 option_fault (Some f) other = f
 
 -- the fault that a state gave is due
-pub due_error : {K L D : Type 0} (T : Type 0) (due : Option Fault) (found : Fault) (x y : StateFacts K L D) → IfSome due (λ f. (◌≡◌ {A = Result T Fault} (Err found) (Err f)) × (y ≡ x)) → (due ≡ None → (found ≡ fault.OutOfMemory) × HasFailed x y) → IsDue (option_map error_of due) (error_of found)
+pub due_error : {K L D : Type 0} (T : Type 0) (due : Option Fault) (found : Fault) (x y : StateFacts K L D) → IfSome due (λ f. (◌≡◌ {A = Result T Fault} (Err found) (Err f)) × (y ≡ x)) → (due ≡ None → (found ≡ fault.OutOfMemory) × HasFailed x y) → IsErrorDue (option_map error_of due) (error_of found)
 due_error T (Some f) found x y same memory = ap (λ o. error_of (option_fault o found)) (ap result_err same.0)
 due_error T None found x y same memory = ap error_of (memory refl).0
 

@@ -44,9 +44,9 @@ abbrev pub if_new : {D : Type 0} → Bool → ArtifactFacts D → List (Artifact
 if_new is_new e = if is_new then e ∷ [] else []
 
 -- a vote that is no repeat
-abbrev pub first_vote : {D : Type 0} → Option (Bool × ArtifactFacts D) → List (ArtifactFacts D)
-first_vote None = []
-first_vote (Some (retry, vote)) = if retry then [] else vote ∷ []
+abbrev pub unrepeated_vote : {D : Type 0} → Option (Bool × ArtifactFacts D) → List (ArtifactFacts D)
+unrepeated_vote None = []
+unrepeated_vote (Some (retry, vote)) = if retry then [] else vote ∷ []
 
 -- the entry that records a vote, where there is one
 abbrev pub vote_entry : {D : Type 0} → Option (ArtifactFacts D) → List (ArtifactFacts D)
@@ -133,6 +133,6 @@ module _ {K L D : Type 0} (same : D → D → Bool) (elect : Elect L) where
   recorded_by x (AddFinalization c _) = if_new (finalization_added same elect x c).0 (Accepted (Finalized c))
   recorded_by x (ConstructNotarize v) = vote_entry (notarize_vote same elect x v)
   recorded_by x (Certified v success _) = if_new (is_first_verdict x v) (Verdict (round_number x v) success)
-  recorded_by x (ConstructNullify v) = first_vote (nullify_vote x v)
+  recorded_by x (ConstructNullify v) = unrepeated_vote (nullify_vote x v)
   recorded_by x (ConstructFinalize v) = vote_entry (finalize_vote elect x v)
   recorded_by x _ = []

@@ -70,8 +70,8 @@ started_member same elect x floor now = record {
 }
 
 -- the error that is due, and where none is, want of memory
-abbrev pub IsDue : Option RecoverError → RecoverError → Type 0
-IsDue due found = MatchOption due (found ≡ error.OutOfMemory) (λ e. found ≡ e)
+abbrev pub IsErrorDue : Option RecoverError → RecoverError → Type 0
+IsErrorDue due found = MatchOption due (found ≡ error.OutOfMemory) (λ e. found ≡ e)
 
 -- what a fault in setting a good floor means for the start
 abbrev pub error_of : Fault → RecoverError

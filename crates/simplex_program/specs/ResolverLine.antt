@@ -32,35 +32,35 @@ HasSmallView (Produce view) = view < 2 ^ 64
 HasSmallView Outstanding = ⊤
 
 -- lines by what they do
-pub data Family : Type 0 where
-  reports : Family
-  questions : Family
-  others : Family
+pub data ResolverFamily : Type 0 where
+  reports : ResolverFamily
+  questions : ResolverFamily
+  others : ResolverFamily
 
 -- the family that reads a line
-abbrev pub family_of : ResolverLine → Family
-family_of (Notarization view) = reports
-family_of (Nullification view) = reports
-family_of (Finalization view) = reports
-family_of (Certified view success) = reports
-family_of Replayed = others
-family_of (Settled view kind) = questions
-family_of (KeySettled view) = questions
-family_of (Uncertifiable view) = questions
-family_of (Produce view) = questions
-family_of Outstanding = others
+abbrev pub resolver_family : ResolverLine → ResolverFamily
+resolver_family (Notarization view) = reports
+resolver_family (Nullification view) = reports
+resolver_family (Finalization view) = reports
+resolver_family (Certified view success) = reports
+resolver_family Replayed = others
+resolver_family (Settled view kind) = questions
+resolver_family (KeySettled view) = questions
+resolver_family (Uncertifiable view) = questions
+resolver_family (Produce view) = questions
+resolver_family Outstanding = others
 
 -- it hands a certificate or a verdict in
 abbrev pub IsReport : ResolverLine → Type 0
-IsReport line = family_of line ≡ reports
+IsReport line = resolver_family line ≡ reports
 
 -- it asks what is settled, or kept
 abbrev pub IsQuestion : ResolverLine → Type 0
-IsQuestion line = family_of line ≡ questions
+IsQuestion line = resolver_family line ≡ questions
 
 -- it ends the replay, or asks for the open fetches
 abbrev pub IsOther : ResolverLine → Type 0
-IsOther line = family_of line ≡ others
+IsOther line = resolver_family line ≡ others
 
 -- the line that the words ask for, and none where they ask for none of this family
 abbrev pub ReadsLineOf : (ResolverLine → Type 0) → List (List ℕ) → Option ResolverLine → Type 0

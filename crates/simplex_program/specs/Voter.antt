@@ -77,14 +77,14 @@ brings (Finalization _ _ _ _) = true
 brings (Verdict _ _ _) = true
 brings _ = false
 
--- this member builds a proposal
-abbrev pub builds : VoterLine → Bool
-builds Propose = true
-builds (Built _ _ _) = true
-builds (Supersede _) = true
-builds (Abandon _) = true
-builds (Release _) = true
-builds _ = false
+-- this member builds_proposals a proposal
+abbrev pub builds_proposals : VoterLine → Bool
+builds_proposals Propose = true
+builds_proposals (Built _ _ _) = true
+builds_proposals (Supersede _) = true
+builds_proposals (Abandon _) = true
+builds_proposals (Release _) = true
+builds_proposals _ = false
 
 -- a leader's proposal comes, is verified or certified
 abbrev pub is_about_proposals : VoterLine → Bool

@@ -78,87 +78,87 @@ HasSmallNumbers Record = ⊤
 HasSmallNumbers Views = ⊤
 
 -- lines by what they ask for
-pub data Family : Type 0 where
-  certificates : Family
-  progress : Family
-  votes : Family
-  servings : Family
-  proposals : Family
-  building : Family
-  verifying : Family
-  offers : Family
-  timeouts : Family
-  lives : Family
+pub data VoterFamily : Type 0 where
+  certificates : VoterFamily
+  progress : VoterFamily
+  votes : VoterFamily
+  servings : VoterFamily
+  proposals : VoterFamily
+  building : VoterFamily
+  verifying : VoterFamily
+  offers : VoterFamily
+  timeouts : VoterFamily
+  lives : VoterFamily
 
 -- the family that reads a line
-abbrev pub family_of : VoterLine → Family
-family_of (Notarization view parent payload) = certificates
-family_of (Nullification view now) = certificates
-family_of (Finalization view parent payload now) = progress
-family_of (Verdict view success now) = progress
-family_of (Notarize view) = votes
-family_of (Nullify view) = votes
-family_of (Finalize view) = votes
-family_of (Broadcast kind view) = servings
-family_of Best = servings
-family_of Prune = servings
-family_of (Proposal view parent payload) = proposals
-family_of (Release view) = proposals
-family_of Propose = building
-family_of (Proposed view payload now) = building
-family_of (Supersede view) = building
-family_of (Abandon view) = building
-family_of Verify = verifying
-family_of (Verified view) = verifying
-family_of (Rejected view now) = verifying
-family_of Candidates = offers
-family_of (Token view token) = offers
-family_of (Trigger view reason now) = timeouts
-family_of (Timeout now) = timeouts
-family_of (Restart drop now) = lives
-family_of (RestartPruned drop now) = lives
-family_of Record = lives
-family_of Views = lives
+abbrev pub voter_family : VoterLine → VoterFamily
+voter_family (Notarization view parent payload) = certificates
+voter_family (Nullification view now) = certificates
+voter_family (Finalization view parent payload now) = progress
+voter_family (Verdict view success now) = progress
+voter_family (Notarize view) = votes
+voter_family (Nullify view) = votes
+voter_family (Finalize view) = votes
+voter_family (Broadcast kind view) = servings
+voter_family Best = servings
+voter_family Prune = servings
+voter_family (Proposal view parent payload) = proposals
+voter_family (Release view) = proposals
+voter_family Propose = building
+voter_family (Proposed view payload now) = building
+voter_family (Supersede view) = building
+voter_family (Abandon view) = building
+voter_family Verify = verifying
+voter_family (Verified view) = verifying
+voter_family (Rejected view now) = verifying
+voter_family Candidates = offers
+voter_family (Token view token) = offers
+voter_family (Trigger view reason now) = timeouts
+voter_family (Timeout now) = timeouts
+voter_family (Restart drop now) = lives
+voter_family (RestartPruned drop now) = lives
+voter_family Record = lives
+voter_family Views = lives
 
 -- it hands a notarization or a nullification in
 abbrev pub IsCertificate : VoterLine → Type 0
-IsCertificate line = family_of line ≡ certificates
+IsCertificate line = voter_family line ≡ certificates
 
 -- it hands in what ends a view: a finalization or a verdict
 abbrev pub IsProgress : VoterLine → Type 0
-IsProgress line = family_of line ≡ progress
+IsProgress line = voter_family line ≡ progress
 
 -- it asks for a vote
 abbrev pub IsVote : VoterLine → Type 0
-IsVote line = family_of line ≡ votes
+IsVote line = voter_family line ≡ votes
 
 -- it asks for a certificate, or for a prune
 abbrev pub IsServing : VoterLine → Type 0
-IsServing line = family_of line ≡ servings
+IsServing line = voter_family line ≡ servings
 
 -- it hands a leader's proposal in, or releases a view
 abbrev pub IsOnProposals : VoterLine → Type 0
-IsOnProposals line = family_of line ≡ proposals
+IsOnProposals line = voter_family line ≡ proposals
 
 -- it is on the member's own proposals
 abbrev pub IsOnBuilding : VoterLine → Type 0
-IsOnBuilding line = family_of line ≡ building
+IsOnBuilding line = voter_family line ≡ building
 
 -- it is on a verification
 abbrev pub IsOnVerifying : VoterLine → Type 0
-IsOnVerifying line = family_of line ≡ verifying
+IsOnVerifying line = voter_family line ≡ verifying
 
 -- it is on what is offered for certification
 abbrev pub IsOnOffers : VoterLine → Type 0
-IsOnOffers line = family_of line ≡ offers
+IsOnOffers line = voter_family line ≡ offers
 
 -- it is on a timeout
 abbrev pub IsOnTimeouts : VoterLine → Type 0
-IsOnTimeouts line = family_of line ≡ timeouts
+IsOnTimeouts line = voter_family line ≡ timeouts
 
 -- it asks for a restart, the record or the views
 abbrev pub IsOfLives : VoterLine → Type 0
-IsOfLives line = family_of line ≡ lives
+IsOfLives line = voter_family line ≡ lives
 
 -- the line that the words ask for, and none where they ask for none of this family
 abbrev pub ReadsVoterLineOf : (VoterLine → Type 0) → List (List ℕ) → Option VoterLine → Type 0

@@ -5,7 +5,7 @@ ghost use Rattle.simplex_types.specs.Plain.{digest_bytes};
 ghost use Rattle.simplex_member.specs.Calls.{asked};
 ghost use Rattle.simplex_program.specs.declared.voter_line.VoterLine.TheVariants.{Broadcast};
 ghost use Rattle.simplex_program.specs.Plain.{plain_bytes};
-ghost use Rattle.simplex_program.specs.Voter.{StandsFor, IsProposal, is_no_call, brings, builds, is_about_proposals, asks, round_in_epoch};
+ghost use Rattle.simplex_program.specs.Voter.{StandsFor, IsProposal, is_no_call, brings, builds_proposals, is_about_proposals, asks, round_in_epoch};
 
 use crate::voter_line::{CertificateKind, VoterLine};
 use simplex_member::member::Call;
@@ -61,9 +61,9 @@ fn certificate_call(line: &VoterLine) -> Option<Call<PlainScheme, PlainDigest>>
     }
 }
 
-/// The call of a line on what this member builds.
+/// The call of a line on what this member builds_proposals.
 fn building_call(line: &VoterLine) -> Option<Call<PlainScheme, PlainDigest>>
-    ensures { MatchOption result (builds line.now ≡ false) (λ call. StandsFor line.now (asked plain_bytes call)) }
+    ensures { MatchOption result (builds_proposals line.now ≡ false) (λ call. StandsFor line.now (asked plain_bytes call)) }
 {
     match *line {
         VoterLine::Propose => Some(Call::TryPropose),

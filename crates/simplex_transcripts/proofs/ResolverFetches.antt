@@ -19,7 +19,7 @@ use Rattle.simplex_program.specs.ResolverLine.{line_words}
 use Rattle.simplex_program.specs.ResolverText.{resolver_reply_text}
 use Rattle.simplex_program.specs.Transcript.{Asked, Member, Resolver, Point, AreAnswered, Replies, reply_line}
 use Rattle.simplex_program.specs.Words.{words_in}
-use Rattle.simplex_transcripts.specs.ResolverFetches.{Turn, answered_by, made_in, made_by, AreSpelled, replies_to, ResolverTranscriptsKeepFetches}
+use Rattle.simplex_transcripts.specs.ResolverFetches.{ResolverTurn, answered_by, made_in, made_by, AreResolverLines, resolver_replies, ResolverTranscriptsKeepFetches}
 use Rattle.simplex_transcripts.proofs.Growing.{nothing_appended, more_appended}
 
 abbrev of_parts : ResolverFacts → List ℕ → LawfulResolverFacts
@@ -80,15 +80,15 @@ module _ (t : ℕ) (calls : List Call) (x y : ResolverFacts) (fetching left : Li
 
 -- the lines between two points, asked of a resolver that was told these calls
 record FetchesFrom (t : ℕ) (calls : List Call) (lines : List (List ℕ)) (p q : Point) : Type 0 where
-  pub turns : List Turn
+  pub turns : List ResolverTurn
   pub end : ResolverFacts
   pub fetching : List ℕ
   pub left : q.asked ≡ Resolver end fetching
-  pub spelled : AreSpelled lines turns
-  pub written : Appends p.held q.held (replies_to turns)
+  pub spelled : AreResolverLines lines turns
+  pub written : Appends p.held q.held (resolver_replies turns)
   pub told : HasBeenTold t (made_by turns ++ calls) (of_parts end fetching)
 
-one_more : (t : ℕ) (calls : List Call) (line : List ℕ) (lines : List (List ℕ)) (p r q : Point) (turn : Turn)
+one_more : (t : ℕ) (calls : List Call) (line : List ℕ) (lines : List (List ℕ)) (p r q : Point) (turn : ResolverTurn)
     → words_in (without_feed line) ≡ line_words turn.line
     → Appends p.held r.held (reply_line (resolver_reply_text turn.answer))
     → FetchesFrom t (made_in turn.line turn.answer ++ calls) lines r q
@@ -99,7 +99,7 @@ one_more t calls line lines p r q turn words appended s = record {
   fetching = s.fetching;
   left = s.left;
   spelled = (words, s.spelled);
-  written = more_appended p.held r.held q.held (reply_line (resolver_reply_text turn.answer)) (replies_to s.turns) appended s.written;
+  written = more_appended p.held r.held q.held (reply_line (resolver_reply_text turn.answer)) (resolver_replies s.turns) appended s.written;
   told = subst (λ (all : List Call). HasBeenTold t all (of_parts s.end s.fetching)) (sym (append_assoc (made_by s.turns) (made_in turn.line turn.answer) calls)) s.told;
 }
 

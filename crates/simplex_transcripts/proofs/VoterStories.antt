@@ -31,7 +31,7 @@ use Rattle.simplex_program.specs.Voter.{VoterAnswers, IsReplied, IsRestarted, Is
 use Rattle.simplex_program.specs.VoterLine.{voter_words}
 use Rattle.simplex_program.specs.VoterText.{voter_reply_words}
 use Rattle.simplex_program.specs.Words.{words_in}
-use Rattle.simplex_transcripts.specs.VoterStories.{PlainStep, PlainTold, PlainStory, Turn, IsStepOf, Tells, only_shows, AreSteps, AreSpelled, replies_to, IsTranscribed, IsLawfulOf, VoterTranscriptsAreLawful, restart_in}
+use Rattle.simplex_transcripts.specs.VoterStories.{PlainStep, PlainTold, PlainStory, VoterTurn, IsStepOf, Tells, only_shows, AreSteps, AreVoterLines, voter_replies, IsTranscribed, IsLawfulOf, VoterTranscriptsAreLawful, restart_in}
 use Rattle.simplex_transcripts.proofs.Growing.{nothing_appended, more_appended}
 
 false≢true : false ≡ true → ⊥
@@ -40,7 +40,7 @@ false≢true e = absurd (cc)
 -- ---- a line
 
 -- it is a step, or it only shows something
-abbrev IsTurnOf : Network → PlainMember → Turn → PlainMember → Type 0
+abbrev IsTurnOf : Network → PlainMember → VoterTurn → PlainMember → Type 0
 IsTurnOf n m turn left =
     ((only_shows turn.line ≡ true) × (left ≡ m))
     ⊎ ((step : PlainStep) × (t : PlainTold) × IsStepOf n turn.line step × Tells turn.answer t × IsStep same_payload plain_leader m step t left)
@@ -99,16 +99,16 @@ module _ (n : Network) (m left : PlainMember) where
 
 -- the lines between two points, asked of a member, are these steps of it
 record StoryFrom (n : Network) (m : PlainMember) (lines : List (List ℕ)) (p q : Point) : Type 0 where
-  pub turns : List Turn
+  pub turns : List VoterTurn
   pub steps : List PlainStep
   pub replies : List PlainTold
   pub end : PlainMember
-  pub spelled : AreSpelled lines turns
-  pub written : Appends p.held q.held (replies_to turns)
+  pub spelled : AreVoterLines lines turns
+  pub written : Appends p.held q.held (voter_replies turns)
   pub taken : AreSteps n turns steps replies
   pub run : IsRun same_payload plain_leader m steps replies end
 
-module _ (n : Network) (m left : PlainMember) (line : List ℕ) (lines : List (List ℕ)) (p r q : Point) (turn : Turn) where
+module _ (n : Network) (m left : PlainMember) (line : List ℕ) (lines : List (List ℕ)) (p r q : Point) (turn : VoterTurn) where
   one_more : words_in (without_feed line) ≡ voter_words turn.line → Appends p.held r.held (reply_line (text_of (voter_reply_words turn.answer))) → IsTurnOf n m turn left → StoryFrom n left lines r q → StoryFrom n m (line ∷ lines) p q
   one_more words appended (inl (shows, same)) s = record {
     turns = turn ∷ s.turns;
@@ -116,7 +116,7 @@ module _ (n : Network) (m left : PlainMember) (line : List ℕ) (lines : List (L
     replies = s.replies;
     end = s.end;
     spelled = (words, s.spelled);
-    written = more_appended p.held r.held q.held (reply_line (text_of (voter_reply_words turn.answer))) (replies_to s.turns) appended s.written;
+    written = more_appended p.held r.held q.held (reply_line (text_of (voter_reply_words turn.answer))) (voter_replies s.turns) appended s.written;
     taken = inl (shows, s.taken);
     run = subst (λ l. IsRun same_payload plain_leader l s.steps s.replies s.end) same s.run;
   }
@@ -126,7 +126,7 @@ module _ (n : Network) (m left : PlainMember) (line : List ℕ) (lines : List (L
     replies = t ∷ s.replies;
     end = s.end;
     spelled = (words, s.spelled);
-    written = more_appended p.held r.held q.held (reply_line (text_of (voter_reply_words turn.answer))) (replies_to s.turns) appended s.written;
+    written = more_appended p.held r.held q.held (reply_line (text_of (voter_reply_words turn.answer))) (voter_replies s.turns) appended s.written;
     taken = inr (step, t, s.steps, s.replies, refl, refl, is, tells, s.taken);
     run = (left, stepped, s.run);
   }
@@ -175,7 +175,7 @@ module _ (n : Network) (some : 0 < n.term_length) (i : ℕ) (signs : (n.me ≡ S
   restart_begins r None is = absurd is
   restart_begins r (Some asked) is = begins asked.1 r.start is.0
 
-  restarts_begin : (turns : List Turn) (steps : List PlainStep) (replies : List PlainTold) → AreSteps n turns steps replies → (r : RestartFacts PlainKey PlainElector PlainDigest) → Contains steps (Restarts r) → BeginsAs n.term_length i r.start.setup
+  restarts_begin : (turns : List VoterTurn) (steps : List PlainStep) (replies : List PlainTold) → AreSteps n turns steps replies → (r : RestartFacts PlainKey PlainElector PlainDigest) → Contains steps (Restarts r) → BeginsAs n.term_length i r.start.setup
   restarts_begin [] steps replies (none, _) r h =
       let empty : Contains [] (Restarts r) = subst (λ (xs : List PlainStep). Contains xs (Restarts r)) none h in
       absurd (omega (arith, empty.1))

@@ -19,7 +19,7 @@ use Rattle.simplex_program.specs.Transcript.{Resolver as Asks, Point, Ends, Tran
 use Rattle.simplex_program.specs.Words.{words_in}
 
 -- a line with its answer
-pub record Turn : Type 0 where
+pub record ResolverTurn : Type 0 where
   pub line : ResolverLine
   pub answer : Answer
 
@@ -42,20 +42,20 @@ abbrev pub made_in : ResolverLine → Answer → List Call
 made_in line answer = answered_by answer (call_in line)
 
 -- the calls that were made, the last one first
-abbrev pub made_by : List Turn → List Call
+abbrev pub made_by : List ResolverTurn → List Call
 made_by [] = []
 made_by (turn ∷ turns) = made_by turns ++ made_in turn.line turn.answer
 
 -- the bytes of each line have the words of its turn
-abbrev pub AreSpelled : List (List ℕ) → List Turn → Type 0
-AreSpelled [] [] = ⊤
-AreSpelled (bytes ∷ lines) (turn ∷ turns) = (words_in (without_feed bytes) ≡ line_words turn.line) × AreSpelled lines turns
-AreSpelled _ _ = ⊥
+abbrev pub AreResolverLines : List (List ℕ) → List ResolverTurn → Type 0
+AreResolverLines [] [] = ⊤
+AreResolverLines (bytes ∷ lines) (turn ∷ turns) = (words_in (without_feed bytes) ≡ line_words turn.line) × AreResolverLines lines turns
+AreResolverLines _ _ = ⊥
 
 -- the replies as they are written
-abbrev pub replies_to : List Turn → List ℕ
-replies_to [] = []
-replies_to (turn ∷ turns) = reply_line (resolver_reply_text turn.answer) ++ replies_to turns
+abbrev pub resolver_replies : List ResolverTurn → List ℕ
+resolver_replies [] = []
+resolver_replies (turn ∷ turns) = reply_line (resolver_reply_text turn.answer) ++ resolver_replies turns
 
 -- the laws of all that a resolver was told
 pub record KeepsFetches (term_length : ℕ) (calls : List Call) (r : LawfulResolverFacts) : Type 0 where
@@ -66,9 +66,9 @@ pub record KeepsFetches (term_length : ℕ) (calls : List Call) (r : LawfulResol
 
 -- the lines, and the replies that a writer holds besides, tell a resolver these calls, and leave it so
 pub record IsTranscribed (term_length : ℕ) (lines : List (List ℕ)) (old new : Option (List ℕ)) (r : LawfulResolverFacts) : Type 0 where
-  pub turns : List Turn
-  pub spelled : AreSpelled lines turns
-  pub written : Appends old new (replies_to turns)
+  pub turns : List ResolverTurn
+  pub spelled : AreResolverLines lines turns
+  pub written : Appends old new (resolver_replies turns)
   pub told : HasBeenTold term_length (made_by turns) r
   pub laws : KeepsFetches term_length (made_by turns) r
 

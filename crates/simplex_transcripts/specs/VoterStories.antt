@@ -43,7 +43,7 @@ abbrev pub PlainStory : Type 0
 PlainStory = Story PlainKey PlainElector PlainDigest
 
 -- a line with its answer
-pub record Turn : Type 0 where
+pub record VoterTurn : Type 0 where
   pub line : VoterLine
   pub answer : VoterAnswer
 
@@ -76,7 +76,7 @@ only_shows Views = true
 only_shows _ = false
 
 -- the steps of the lines in order, and what they are told
-abbrev pub AreSteps : Network → List Turn → List PlainStep → List PlainTold → Type 0
+abbrev pub AreSteps : Network → List VoterTurn → List PlainStep → List PlainTold → Type 0
 AreSteps n [] steps replies = (steps ≡ []) × (replies ≡ [])
 AreSteps n (turn ∷ turns) steps replies =
     ((only_shows turn.line ≡ true) × AreSteps n turns steps replies)
@@ -85,22 +85,22 @@ AreSteps n (turn ∷ turns) steps replies =
     × IsStepOf n turn.line step × Tells turn.answer t × AreSteps n turns rest others)
 
 -- the bytes of each line have the words of its turn
-abbrev pub AreSpelled : List (List ℕ) → List Turn → Type 0
-AreSpelled [] [] = ⊤
-AreSpelled (bytes ∷ lines) (turn ∷ turns) = (words_in (without_feed bytes) ≡ voter_words turn.line) × AreSpelled lines turns
-AreSpelled _ _ = ⊥
+abbrev pub AreVoterLines : List (List ℕ) → List VoterTurn → Type 0
+AreVoterLines [] [] = ⊤
+AreVoterLines (bytes ∷ lines) (turn ∷ turns) = (words_in (without_feed bytes) ≡ voter_words turn.line) × AreVoterLines lines turns
+AreVoterLines _ _ = ⊥
 
 -- the replies as they are written
-abbrev pub replies_to : List Turn → List ℕ
-replies_to [] = []
-replies_to (turn ∷ turns) = reply_line (text_of (voter_reply_words turn.answer)) ++ replies_to turns
+abbrev pub voter_replies : List VoterTurn → List ℕ
+voter_replies [] = []
+voter_replies (turn ∷ turns) = reply_line (text_of (voter_reply_words turn.answer)) ++ voter_replies turns
 
 -- the lines, and the replies that a writer holds besides, are this story of the network's member
 pub record IsTranscribed (n : Network) (lines : List (List ℕ)) (old new : Option (List ℕ)) (s : PlainStory) : Type 0 where
   pub start : IsGenesisStart n 0 s.start
-  pub turns : List Turn
-  pub spelled : AreSpelled lines turns
-  pub written : Appends old new (replies_to turns)
+  pub turns : List VoterTurn
+  pub spelled : AreVoterLines lines turns
+  pub written : Appends old new (voter_replies turns)
   pub steps : AreSteps n turns s.steps s.replies
 
 -- whichever member of a network it signs as, it is what that member does; and its deeds keep the voting rules

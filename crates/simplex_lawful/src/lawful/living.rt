@@ -76,7 +76,7 @@ impl<S: Scheme<D>, L: Elector<S>, D: Digest> LawfulMember<S, L, D> {
     ghost use Rattle.simplex_member.specs.Signed.{IsSignedReply};
     ghost use Rattle.simplex_member.specs.Recovery.{recover_error};
     ghost use Rattle.simplex_member.specs.Restarts.{restart_facts, IsRestart};
-    ghost use Rattle.simplex_member.specs.Start.{set_up, started_member, IsDue};
+    ghost use Rattle.simplex_member.specs.Start.{set_up, started_member, IsErrorDue};
     ghost use Rattle.simplex_laws.specs.Exactly.{ExactAt};
     ghost use Rattle.simplex_laws.specs.Living.{DoesMore, MayBeDoneBy, OfAllDone, HasBegun, HasBegunAgain};
     ghost use Rattle.simplex_laws.specs.Shown.{votes_in, taken_by};
@@ -95,7 +95,7 @@ impl<S: Scheme<D>, L: Elector<S>, D: Digest> LawfulMember<S, L, D> {
         ensures started { IfOk result (λ member. member ≡ started_member D.eq L.elect
             (set_up S.me S.participants L.terms L.elects_early start.settings)
             (floor_facts S.certificate_bytes start.floor) start.now) }
-        ensures refused { IfErr result (IsDue (recover_error D.eq
+        ensures refused { IfErr result (IsErrorDue (recover_error D.eq
             (set_up S.me S.participants L.terms L.elects_early start.settings)
             (floor_facts S.certificate_bytes start.floor) start.now [])) }
         ensures begins { IfOk result (HasBegun D.eq L.elect S.me L.terms start) }

@@ -24,7 +24,7 @@ use Rattle.simplex_member.specs.Openings.{Openings}
 use Rattle.simplex_member.specs.Runs.{StepFacts, Calls, Restarts, restart_told, IsStep, IsRun, IsRunFrom}
 use Rattle.simplex_member.specs.Restarts.{RestartFacts}
 use Rattle.simplex_member.specs.Start.{started_member, new_state}
-use Rattle.simplex_laws.specs.Exactly.{is_refused, IsSignedFor, IsExact, held_proposal, ExactAt, RunsExactly, SignsExactly}
+use Rattle.simplex_laws.specs.Exactly.{is_refused, IsSignedFor, IsExact, proposal_at, ExactAt, RunsExactly, SignsExactly}
 use Rattle.simplex_laws.specs.Deeds.{Deed, Signs, signed_in}
 use Rattle.simplex_laws.specs.Stories.{Story}
 
@@ -99,8 +99,8 @@ module _ (K D : Type 0) where
 module _ {K L D : Type 0} (same : D → D → Bool) (elect : Elect L) where
   call_refused : (x : StateFacts K L D) (call : CallFacts D) (f : Fault) → ExactAt same elect (Some x) (Calls call) (Refused f)
   call_refused x (ConstructNullify v) f = refused (NullifyRule x v) x.me (Some (subject.Nullify (round_number x v))) f
-  call_refused x (ConstructFinalize v) f = refused (FinalizeRule elect x v) x.me (option_map subject.Finalize (held_proposal x v)) f
-  call_refused x (ConstructNotarize v) f = refused (NotarizeRule same elect x v) x.me (option_map subject.Notarize (held_proposal x v)) f
+  call_refused x (ConstructFinalize v) f = refused (FinalizeRule elect x v) x.me (option_map subject.Finalize (proposal_at x v)) f
+  call_refused x (ConstructNotarize v) f = refused (NotarizeRule same elect x v) x.me (option_map subject.Notarize (proposal_at x v)) f
   call_refused x _ f = refl
 
   call_told : (x : StateFacts K L D) (o : Openings K D) (call : CallFacts D) → ExactAt same elect (Some x) (Calls call) (reply_of same elect x o call)
@@ -111,14 +111,14 @@ module _ {K L D : Type 0} (same : D → D → Bool) (elect : Elect L) where
       by_fault None = exact_nullify (NullifyRule x v) (may_nullify x v) (nullify_whole x v) (nullify_parts x v) (may_nullify x v) refl x.me (is_nullify (round_of x v).decision) (round_number x v)
   call_told x o (ConstructFinalize v) = by_fault (plain_refusal x)
     where
-      by_fault : (f : Option Fault) → IsExact (FinalizeRule elect x v) x.me (option_map subject.Finalize (held_proposal x v)) (unless_refused f (answer same elect x o (ConstructFinalize v)))
+      by_fault : (f : Option Fault) → IsExact (FinalizeRule elect x v) x.me (option_map subject.Finalize (proposal_at x v)) (unless_refused f (answer same elect x o (ConstructFinalize v)))
       by_fault (Some f) = call_refused x (ConstructFinalize v) f
-      by_fault None = exact_finalize (FinalizeRule elect x v) (may_finalize elect x v) (finalize_whole elect x v) (finalize_parts elect x v) (may_finalize elect x v) refl x.me (held_proposal x v)
+      by_fault None = exact_finalize (FinalizeRule elect x v) (may_finalize elect x v) (finalize_whole elect x v) (finalize_parts elect x v) (may_finalize elect x v) refl x.me (proposal_at x v)
   call_told x o (ConstructNotarize v) = by_fault (plain_refusal x)
     where
-      by_fault : (f : Option Fault) → IsExact (NotarizeRule same elect x v) x.me (option_map subject.Notarize (held_proposal x v)) (unless_refused f (answer same elect x o (ConstructNotarize v)))
+      by_fault : (f : Option Fault) → IsExact (NotarizeRule same elect x v) x.me (option_map subject.Notarize (proposal_at x v)) (unless_refused f (answer same elect x o (ConstructNotarize v)))
       by_fault (Some f) = call_refused x (ConstructNotarize v) f
-      by_fault None = exact_notarize (NotarizeRule same elect x v) (may_notarize same elect x v) (notarize_whole same elect x v) (notarize_parts same elect x v) (may_notarize same elect x v) refl x.me (held_proposal x v)
+      by_fault None = exact_notarize (NotarizeRule same elect x v) (may_notarize same elect x v) (notarize_whole same elect x v) (notarize_parts same elect x v) (may_notarize same elect x v) refl x.me (proposal_at x v)
   call_told x o call = still_none (is_allowed x o call) (fault_of x call) (answer same elect x o call) refl
 
   pub call_exact : (m next : MemberFacts K L D) (call : CallFacts D) (told : Told K D) → IsCall same elect m call told next → ExactAt same elect m.life (Calls call) told

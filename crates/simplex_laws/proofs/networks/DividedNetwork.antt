@@ -16,7 +16,7 @@ use Rattle.simplex_member.specs.Check.{first_recover_error}
 use Rattle.simplex_member.specs.Cuts.{may_drop, pruned_entries}
 use Rattle.simplex_member.specs.Entries.{entry_view}
 use Rattle.simplex_member.specs.Recovery.{recovered_state, after_kept_entry}
-use Rattle.simplex_laws.specs.DividedNetwork.{rival, deceived, warned, divided, after_conflict, leads_on, follows_on, united}
+use Rattle.simplex_laws.specs.DividedNetwork.{rival, deceived, warned, divided, after_conflict, leads_past_conflict, follows_past_conflict, united}
 use Rattle.simplex_laws.specs.Continuations.{and_then, PlacesGoOn, GoesOnToFinalize}
 use Rattle.simplex_laws.specs.Deeds.{Deed, Signs}
 use Rattle.simplex_laws.specs.Places.{FewFaulty, Backed, IsNetworkOf}
@@ -28,13 +28,13 @@ use Rattle.simplex_laws.proofs.records.DeedsShown.{only_one}
 use Rattle.simplex_laws.proofs.networks.Turns.{begins, told_in, FitsIn, ran_as_told}
 
 abbrev leading : Story ℕ ℕ ℕ
-leading = and_then (deceived 0 one rival) (leads_on 0 2000 CertificationTimeout)
+leading = and_then (deceived 0 one rival) (leads_past_conflict 0 2000 CertificationTimeout)
 
 abbrev following : Story ℕ ℕ ℕ
-following = and_then (deceived 1 rival one) (follows_on 1 2000 CertificationTimeout)
+following = and_then (deceived 1 rival one) (follows_past_conflict 1 2000 CertificationTimeout)
 
 abbrev forgetting : Story ℕ ℕ ℕ
-forgetting = and_then (warned 2) (follows_on 2 1000 LeaderTimeout)
+forgetting = and_then (warned 2) (follows_past_conflict 2 1000 LeaderTimeout)
 
 leading_told : told_in leading ≡ leading.replies
 unfolding recovered_state after_kept_entry may_drop pruned_entries standing propose_answer proposed_answer preferred_parent may_stand spans payload_for first_gap explicit_payload in_window is_admitted binding_matches parent_payload may_notarize may_nullify may_finalize is_gated required_parent
@@ -89,7 +89,7 @@ later_few : FewFaulty united
 later_few = inl (omega arith, omega arith)
 
 goes : PlacesGoOn divided united
-goes = ((leads_on 0 2000 CertificationTimeout, refl), ((follows_on 1 2000 CertificationTimeout, refl), ((follows_on 2 1000 LeaderTimeout, refl), tt)))
+goes = ((leads_past_conflict 0 2000 CertificationTimeout, refl), ((follows_past_conflict 1 2000 CertificationTimeout, refl), ((follows_past_conflict 2 1000 LeaderTimeout, refl), tt)))
 
 all_ran : AllRan in_turn 1 0 united
 all_ran = (leading_ran, (following_ran, (forgetting_ran, tt)))

@@ -13,7 +13,7 @@ use Rattle.simplex_voter.specs.Verifying.{standing}
 use Rattle.simplex_voter.specs.Windows.{is_admitted, in_window}
 use Rattle.simplex_member.specs.Check.{first_recover_error}
 use Rattle.simplex_laws.specs.Continuations.{and_then, HasSignedAs, PlacesGoOn, GoesOnToFinalize}
-use Rattle.simplex_laws.specs.HandoffNetwork.{handed_over, takes_over, can_not_verify, taken_over, leads_on, follows_on, gone_on, after_handoff}
+use Rattle.simplex_laws.specs.HandoffNetwork.{handed_over, takes_over, can_not_verify, taken_over, leads_past_handoff, follows_past_handoff, gone_on, after_handoff}
 use Rattle.simplex_laws.specs.Deeds.{Signs}
 use Rattle.simplex_laws.specs.Places.{FewFaulty, Backed, IsNetworkOf}
 use Rattle.simplex_laws.specs.Stories.{Story, deeds_of, Ran}
@@ -22,13 +22,13 @@ use Rattle.simplex_laws.proofs.networks.Continuations.{done, each_one, each_one-
 use Rattle.simplex_laws.proofs.networks.Turns.{begins, told_in, ran_as_told}
 
 abbrev left_first : Story ℕ ℕ ℕ
-left_first = and_then takes_over (follows_on 0)
+left_first = and_then takes_over (follows_past_handoff 0)
 
 abbrev left_second : Story ℕ ℕ ℕ
-left_second = and_then (can_not_verify 1) (leads_on 1)
+left_second = and_then (can_not_verify 1) (leads_past_handoff 1)
 
 abbrev left_third : Story ℕ ℕ ℕ
-left_third = and_then (can_not_verify 2) (follows_on 2)
+left_third = and_then (can_not_verify 2) (follows_past_handoff 2)
 
 left_first_told : told_in left_first ≡ left_first.replies
 unfolding standing propose_answer proposed_answer preferred_parent may_stand spans payload_for first_gap explicit_payload optimistic_payload is_handoff_parent serves follows in_window is_admitted binding_matches parent_payload may_notarize may_nullify may_finalize is_gated required_parent
@@ -61,7 +61,7 @@ later_few : FewFaulty gone_on
 later_few = inl (omega arith, omega arith)
 
 goes : PlacesGoOn taken_over gone_on
-goes = ((follows_on 0, refl), ((leads_on 1, refl), ((follows_on 2, refl), tt)))
+goes = ((follows_past_handoff 0, refl), ((leads_past_handoff 1, refl), ((follows_past_handoff 2, refl), tt)))
 
 all_ran : AllRan in_turn 2 0 gone_on
 all_ran = (left_first_ran, (left_second_ran, (left_third_ran, tt)))

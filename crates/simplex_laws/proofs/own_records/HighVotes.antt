@@ -23,7 +23,7 @@ use Rattle.simplex_member.specs.Restarts.{RestartFacts, IsByView, cut_member, ne
 use Rattle.simplex_member.specs.Runs.{StepFacts, Calls, Restarts, restart_told, IsRun}
 use Rattle.simplex_member.specs.Start.{StartFacts, started_member, new_state}
 use Rattle.simplex_laws.specs.Deeds.{Deed, Signs, handed_in, of_floor, signed_in, accepted_by, deeds_of_call, deeds_at, deeds_of_steps}
-use Rattle.simplex_laws.specs.Exactly.{ExactAt, held_proposal}
+use Rattle.simplex_laws.specs.Exactly.{ExactAt, proposal_at}
 use Rattle.simplex_laws.specs.Lawful.{HasSigned}
 use Rattle.simplex_laws.specs.Outside.{VotedTooHigh, is_floor_too_large}
 use Rattle.simplex_laws.specs.TermLengths.{HasTerms, KeepTerms}
@@ -77,8 +77,8 @@ none_finalized (Some h) vote i j p about is = absurd (cc)
 module _ {K L D : Type 0} (same : D → D → Bool) (elect : Elect L) where
   -- a vote to notarize is for what is held
   noted_held : (x : StateFacts K L D) (call : CallFacts D) (told : Told K D) (i : ℕ) (p : Proposal D) → ExactAt same elect (Some x) (Calls call) told → Contains (signed_in told) (Signs i (subject.Notarize p)) → (v : ℕ) × ((round_of x v).slot.held ≡ Some p)
-  noted_held x (calls.ConstructNotarize v) told i p exact h = (let so = (exact.only (Signs i (subject.Notarize p)) h).1 in (v, held_voted (held_proposal x v) so.1 i so.0 p so.3 so.4))
-  noted_held x (calls.ConstructFinalize v) told i p exact h = (let so = (exact.only (Signs i (subject.Notarize p)) h).1 in absurd (none_finalized (held_proposal x v) so.1 i so.0 p so.3 so.4))
+  noted_held x (calls.ConstructNotarize v) told i p exact h = (let so = (exact.only (Signs i (subject.Notarize p)) h).1 in (v, held_voted (proposal_at x v) so.1 i so.0 p so.3 so.4))
+  noted_held x (calls.ConstructFinalize v) told i p exact h = (let so = (exact.only (Signs i (subject.Notarize p)) h).1 in absurd (none_finalized (proposal_at x v) so.1 i so.0 p so.3 so.4))
   noted_held x (calls.ConstructNullify v) told i p exact h = (let so = (exact.only (Signs i (subject.Notarize p)) h).1 in absurd (cc))
   noted_held x _ told i p exact h = absurd (let none = subst (λ ds. Contains ds (Signs i (subject.Notarize p))) exact h in omega (arith, none.1))
 

@@ -18,7 +18,7 @@ use Rattle.simplex_voter.specs.Votes.{nullify_answer, finalize_answer}
 use Rattle.simplex_voter.proofs.Gaps.{and_parts, not_true}
 use Rattle.simplex_member.specs.Calls.{CallFacts, AddNotarization, AddNullification, AddFinalization, Certified, ConstructNullify, ConstructFinalize, BroadcastNotarization, BroadcastNullification, BroadcastFinalization, GetBestCertificate, Prune}
 use Rattle.simplex_member.specs.Allowed.{is_allowed}
-use Rattle.simplex_member.specs.Made.{nullify_vote, finalize_vote, if_new, first_vote, vote_entry, answer, after_call, recorded_by}
+use Rattle.simplex_member.specs.Made.{nullify_vote, finalize_vote, if_new, unrepeated_vote, vote_entry, answer, after_call, recorded_by}
 use Rattle.simplex_member.specs.Openings.{Openings}
 use Rattle.simplex_laws.specs.Deeds.{Deed, deeds_of_call}
 use Rattle.simplex_laws.proofs.own_records.Recorded.{OwnRecord, AreQuiet, quiet_none, quiet_newly, HasNoVerdict, no_verdict, own_quiet, own_verdict}
@@ -130,10 +130,10 @@ module _ {K L D : Type 0} (same : D → D → Bool) (elect : Elect L) (deeds : L
           rw (later, untracked) (record { own = own_quiet deeds entries tells.own more [] quiet_none; shows = shows_more entries [] (at_moment x now) (no_verdict [] quiet_none) (record { notarized = tells.shows.notarized; judged = tells.shows.judged }) })
 
 module _ {K L D : Type 0} (same : D → D → Bool) (elect : Elect L) (deeds : List (Deed D)) (entries : List (ArtifactFacts D)) (x : StateFacts K L D) (tells : Tells deeds entries x) where
-  quiet_nullify : (v : ℕ) → AreQuiet (first_vote (nullify_vote x v))
+  quiet_nullify : (v : ℕ) → AreQuiet (unrepeated_vote (nullify_vote x v))
   quiet_nullify v = by_key x.me (nullify_answer x v)
     where
-      by_key : (o : Option ℕ) (a : Option Bool) → AreQuiet {D = D} (first_vote (option_and_then (λ m. option_map (λ repeat. (repeat, NullifyVote (round_number x v) m)) a) o))
+      by_key : (o : Option ℕ) (a : Option Bool) → AreQuiet {D = D} (unrepeated_vote (option_and_then (λ m. option_map (λ repeat. (repeat, NullifyVote (round_number x v) m)) a) o))
       by_key None a = quiet_none
       by_key (Some m) None = quiet_none
       by_key (Some m) (Some true) = quiet_none

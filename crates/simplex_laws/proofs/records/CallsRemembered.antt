@@ -20,7 +20,7 @@ use Rattle.simplex_voter.proofs.Gaps.{and_parts}
 use Rattle.simplex_voter.proofs.Rules.{nullify_parts, finalize_parts}
 use Rattle.simplex_member.specs.Calls.{CallFacts, AddNotarization, AddNullification, AddFinalization, Certified, ConstructNullify, ConstructFinalize, BroadcastNotarization, BroadcastNullification, BroadcastFinalization, GetBestCertificate, Prune, Nullify, Finalize}
 use Rattle.simplex_member.specs.Allowed.{is_allowed}
-use Rattle.simplex_member.specs.Made.{nullify_vote, finalize_vote, if_new, first_vote, vote_entry, answer, after_call, recorded_by}
+use Rattle.simplex_member.specs.Made.{nullify_vote, finalize_vote, if_new, unrepeated_vote, vote_entry, answer, after_call, recorded_by}
 use Rattle.simplex_member.specs.Openings.{Openings}
 use Rattle.simplex_laws.specs.Deeds.{Deed, Accepts, Signs, deeds_of_call}
 use Rattle.simplex_laws.proofs.votes.Standing.{Stays}
@@ -119,20 +119,20 @@ module _ {K L D : Type 0} (same : D → D → Bool) (elect : Elect L) (term_leng
           let unmoved : after_construct_nullify x v ≡ x = rw barred refl in
           absurd (false≢true (sym before ∙ subst (λ y. is_nullify (round_of y w).decision ≡ true) unmoved after))
 
-  nullify_follows : (v : ℕ) → Follows (deeds ++ deeds_of_call {K = K} (ConstructNullify v) (Nullify (nullify_vote x v))) kept (entries ++ first_vote (nullify_vote x v)) (after_construct_nullify x v)
+  nullify_follows : (v : ℕ) → Follows (deeds ++ deeds_of_call {K = K} (ConstructNullify v) (Nullify (nullify_vote x v))) kept (entries ++ unrepeated_vote (nullify_vote x v)) (after_construct_nullify x v)
   nullify_follows v = by_rule (may_nullify x v) refl
     where
       round : Round
       round = round_number x v
 
-      untold : nullify_vote x v ≡ None → (may_nullify x v ≡ true → is_some x.me ≡ true → ⊥) → Follows (deeds ++ deeds_of_call {K = K} (ConstructNullify v) (Nullify (nullify_vote x v))) kept (entries ++ first_vote (nullify_vote x v)) (after_construct_nullify x v)
+      untold : nullify_vote x v ≡ None → (may_nullify x v ≡ true → is_some x.me ≡ true → ⊥) → Follows (deeds ++ deeds_of_call {K = K} (ConstructNullify v) (Nullify (nullify_vote x v))) kept (entries ++ unrepeated_vote (nullify_vote x v)) (after_construct_nullify x v)
       untold silent barred =
           let y = after_construct_nullify x v in
           let marked = nullify_marked v [] (λ may undecided key. absurd (barred may key)) in
-          subst (λ o. Follows (deeds ++ deeds_of_call {K = K} (ConstructNullify v) (Nullify o)) kept (entries ++ first_vote o) y) (sym silent)
+          subst (λ o. Follows (deeds ++ deeds_of_call {K = K} (ConstructNullify v) (Nullify o)) kept (entries ++ unrepeated_vote o) y) (sym silent)
           (record { remembers = remembers_more deeds entries kept [] [] (grows_nothing deeds entries) follows.remembers; marked = marked })
 
-      by_retry : (m : ℕ) (b : Bool) → is_nullify (round_of x v).decision ≡ b → x.me ≡ Some m → may_nullify x v ≡ true → Follows (deeds ++ Signs m (subject.Nullify (round_number x v)) ∷ []) kept (entries ++ first_vote (Some (b, NullifyVote (round_number x v) m))) (after_construct_nullify x v)
+      by_retry : (m : ℕ) (b : Bool) → is_nullify (round_of x v).decision ≡ b → x.me ≡ Some m → may_nullify x v ≡ true → Follows (deeds ++ Signs m (subject.Nullify (round_number x v)) ∷ []) kept (entries ++ unrepeated_vote (Some (b, NullifyVote (round_number x v) m))) (after_construct_nullify x v)
       by_retry m true decided me may =
           let e = follows.marked.nullified v decided (ap is_some me) in
           record {
@@ -146,15 +146,15 @@ module _ {K L D : Type 0} (same : D → D → Bool) (elect : Elect L) (term_leng
             marked = nullify_marked v new (λ _ _ key. (m, Contains-append_right entries new (NullifyVote round m) (0, omega arith, refl)));
           }
 
-      by_key : (o : Option ℕ) → x.me ≡ o → may_nullify x v ≡ true → Follows (deeds ++ deeds_of_call {K = K} (ConstructNullify v) (Nullify (nullify_vote x v))) kept (entries ++ first_vote (nullify_vote x v)) (after_construct_nullify x v)
+      by_key : (o : Option ℕ) → x.me ≡ o → may_nullify x v ≡ true → Follows (deeds ++ deeds_of_call {K = K} (ConstructNullify v) (Nullify (nullify_vote x v))) kept (entries ++ unrepeated_vote (nullify_vote x v)) (after_construct_nullify x v)
       by_key None me may =
           let keyless : is_some x.me ≡ false = ap is_some me in
           untold (nullify_silent elect x v (no_key (may_nullify x v) x.me me)) (λ _ key. false≢true (sym keyless ∙ key))
       by_key (Some m) me may =
-          subst (λ o. Follows (deeds ++ deeds_of_call {K = K} (ConstructNullify v) (Nullify o)) kept (entries ++ first_vote o) (after_construct_nullify x v)) (sym (nullify_told elect x v m me may))
+          subst (λ o. Follows (deeds ++ deeds_of_call {K = K} (ConstructNullify v) (Nullify o)) kept (entries ++ unrepeated_vote o) (after_construct_nullify x v)) (sym (nullify_told elect x v m me may))
           (by_retry m (is_nullify (round_of x v).decision) refl me may)
 
-      by_rule : (b : Bool) → may_nullify x v ≡ b → Follows (deeds ++ deeds_of_call {K = K} (ConstructNullify v) (Nullify (nullify_vote x v))) kept (entries ++ first_vote (nullify_vote x v)) (after_construct_nullify x v)
+      by_rule : (b : Bool) → may_nullify x v ≡ b → Follows (deeds ++ deeds_of_call {K = K} (ConstructNullify v) (Nullify (nullify_vote x v))) kept (entries ++ unrepeated_vote (nullify_vote x v)) (after_construct_nullify x v)
       by_rule true may = by_key x.me refl may
       by_rule false barred = untold (nullify_silent elect x v (no_rule (may_nullify x v) x.me barred)) (λ may key. false≢true (sym barred ∙ may))
 

@@ -16,7 +16,7 @@ use Rattle.simplex_voter.specs.Votes.{nullify_answer, finalize_answer}
 use Rattle.simplex_voter.specs.Acceptance.{notarization_added, nullification_added, finalization_added}
 use Rattle.simplex_voter.specs.Certification.{is_first_verdict}
 use Rattle.simplex_member.specs.Calls.{CallFacts, AddNotarization, AddNullification, AddFinalization, ConstructNotarize, Certified, ConstructNullify, ConstructFinalize, Nullify, Finalize}
-use Rattle.simplex_member.specs.Made.{if_new, first_vote, vote_entry, answer, recorded_by}
+use Rattle.simplex_member.specs.Made.{if_new, unrepeated_vote, vote_entry, answer, recorded_by}
 use Rattle.simplex_member.specs.Openings.{Openings}
 use Rattle.simplex_member.specs.Check.{stands}
 use Rattle.simplex_member.specs.Cuts.{is_vote}
@@ -170,7 +170,7 @@ module _ {D : Type 0} (round : Round) where
   nullify_casts_none K v (Some m) None = casts_nothing
   nullify_casts_none K v (Some m) (Some retry) = λ p h. absurd (let e = only_signed (Signs m (subject.Nullify round)) (subject.Notarize p) h in cc)
 
-  nullify_notes_none : (me : Option ℕ) (a : Option Bool) → NotesNone {D = D} (first_vote (option_and_then (λ m. option_map (λ retry. (retry, NullifyVote round m)) a) me))
+  nullify_notes_none : (me : Option ℕ) (a : Option Bool) → NotesNone {D = D} (unrepeated_vote (option_and_then (λ m. option_map (λ retry. (retry, NullifyVote round m)) a) me))
   nullify_notes_none None a = notes_nothing
   nullify_notes_none (Some m) None = notes_nothing
   nullify_notes_none (Some m) (Some true) = notes_nothing

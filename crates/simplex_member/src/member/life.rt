@@ -69,7 +69,7 @@ impl<S: CertificateScheme, L: Elector<S>, D: Digest> Member<S, L, D> {
     ghost use Rattle.simplex_member.specs.Signed.{IsSignedReply};
     ghost use Rattle.simplex_member.specs.Typed.{is_reply_to, IfAnswered, IfRefused, IsAnswered, Keeps};
     ghost use Rattle.simplex_member.specs.Recovery.{recover_error};
-    ghost use Rattle.simplex_member.specs.Start.{set_up, started_member, IsDue};
+    ghost use Rattle.simplex_member.specs.Start.{set_up, started_member, IsErrorDue};
     ghost use Rattle.simplex_types.specs.Config.{floor_facts};
 
     /// A member that never voted: its state starts at a floor, with nothing in its record but the floor's finalization. A
@@ -84,7 +84,7 @@ impl<S: CertificateScheme, L: Elector<S>, D: Digest> Member<S, L, D> {
             (set_up S.me S.participants L.terms L.elects_early start.settings) (floor_facts S.certificate_bytes start.floor) start.now) }
         ensures accepted { OnOk result (recover_error D.eq (set_up S.me S.participants L.terms L.elects_early start.settings)
             (floor_facts S.certificate_bytes start.floor) start.now [] ≡ None) }
-        ensures refused { IfErr result (IsDue (recover_error D.eq
+        ensures refused { IfErr result (IsErrorDue (recover_error D.eq
             (set_up S.me S.participants L.terms L.elects_early start.settings) (floor_facts S.certificate_bytes start.floor) start.now [])) }
     {
         let retention = retention_of(&start.settings);

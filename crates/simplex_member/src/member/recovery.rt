@@ -9,7 +9,7 @@ ghost use Rattle.simplex_voter.specs.Refusals.{is_started, takes_round, has_late
 ghost use Rattle.simplex_voter.specs.Replay.{TakesReplay, artifact_round, artifact_too_large};
 ghost use Rattle.simplex_member.specs.Entries.{entries_of};
 ghost use Rattle.simplex_member.specs.Recovery.{after_adding, after_replaying, after_verdict_of, after_entry, after_kept_entry, after_entries, recovered_state, recover_error, GivesVerdict, TakesEntry, TakesNext, TakesEntries};
-ghost use Rattle.simplex_member.specs.Start.{set_up, IsDue};
+ghost use Rattle.simplex_member.specs.Start.{set_up, IsErrorDue};
 
 use super::check::check_record;
 use super::error::RecoverError;
@@ -173,7 +173,7 @@ pub(super) fn remake<S: CertificateScheme, L: Elector<S>, D: Digest>(
         ≡ floor_answer (floor_facts S.certificate_bytes start.floor)) }
     ensures accepted { OnOk result (recover_error D.eq (set_up S.me S.participants L.terms L.elects_early start.settings)
         (floor_facts S.certificate_bytes start.floor) start.now (entries_of S.certificate_bytes entries.now) ≡ None) }
-    ensures refused { IfErr result (IsDue (recover_error D.eq (set_up S.me S.participants L.terms L.elects_early start.settings)
+    ensures refused { IfErr result (IsErrorDue (recover_error D.eq (set_up S.me S.participants L.terms L.elects_early start.settings)
         (floor_facts S.certificate_bytes start.floor) start.now (entries_of S.certificate_bytes entries.now))) }
 {
     let Start {
@@ -208,7 +208,7 @@ pub fn recover<S: CertificateScheme, L: Elector<S>, D: Digest>(
         (floor_facts S.certificate_bytes start.floor) start.now (entries_of S.certificate_bytes entries.now)) }
     ensures accepted { OnOk result (recover_error D.eq (set_up S.me S.participants L.terms L.elects_early start.settings)
         (floor_facts S.certificate_bytes start.floor) start.now (entries_of S.certificate_bytes entries.now) ≡ None) }
-    ensures refused { IfErr result (IsDue (recover_error D.eq (set_up S.me S.participants L.terms L.elects_early start.settings)
+    ensures refused { IfErr result (IsErrorDue (recover_error D.eq (set_up S.me S.participants L.terms L.elects_early start.settings)
         (floor_facts S.certificate_bytes start.floor) start.now (entries_of S.certificate_bytes entries.now))) }
 {
     let (state, _finalization) = remake(alloc, start, entries)?;

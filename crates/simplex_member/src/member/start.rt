@@ -5,7 +5,7 @@ ghost use Rattle.simplex_types.specs.Certificates.{finalization_facts};
 ghost use Rattle.simplex_types.specs.Config.{floor_facts};
 ghost use Rattle.simplex_voter.specs.Acceptance.{floor_answer, after_set_floor};
 ghost use Rattle.simplex_member.specs.Recovery.{recover_error};
-ghost use Rattle.simplex_member.specs.Start.{set_up, IsDue, error_of};
+ghost use Rattle.simplex_member.specs.Start.{set_up, IsErrorDue, error_of};
 
 use super::check::check_floor;
 use super::error::RecoverError;
@@ -48,7 +48,7 @@ pub(super) fn begin<S: CertificateScheme, L: Elector<S>, D: Digest>(
     ensures floor { IfOk result (λ begun. option_map (finalization_facts S.certificate_bytes) begun.1 ≡ floor_answer (floor_facts S.certificate_bytes floor)) }
     ensures accepted { OnOk result (recover_error D.eq (set_up S.me S.participants L.terms L.elects_early settings)
         (floor_facts S.certificate_bytes floor) now [] ≡ None) }
-    ensures refused { IfErr result (IsDue (recover_error D.eq
+    ensures refused { IfErr result (IsErrorDue (recover_error D.eq
         (set_up S.me S.participants L.terms L.elects_early settings) (floor_facts S.certificate_bytes floor) now [])) }
 {
     check_floor(settings.epoch, &floor)?;

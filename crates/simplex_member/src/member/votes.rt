@@ -8,7 +8,7 @@ ghost use Rattle.simplex_voter.specs.Votes.{after_construct_notarize, after_cons
 ghost use Rattle.simplex_member.specs.Entries.{entries_of};
 ghost use Rattle.simplex_member.specs.Calls.{told, told_notarize, told_nullify, told_finalize, asked};
 ghost use Rattle.simplex_member.specs.Allowed.{fault_of};
-ghost use Rattle.simplex_member.specs.Made.{notarize_vote, nullify_vote, finalize_vote, first_vote, vote_entry, answer, after_call, recorded_by};
+ghost use Rattle.simplex_member.specs.Made.{notarize_vote, nullify_vote, finalize_vote, unrepeated_vote, vote_entry, answer, after_call, recorded_by};
 ghost use Rattle.simplex_member.specs.Parts.{EndsBy, family_of, EndsCall};
 ghost use Rattle.simplex_member.specs.Openings.{no_openings};
 ghost use Rattle.simplex_member.specs.declared.member.call_error.CallError.TheVariants.{Lost};
@@ -76,7 +76,7 @@ fn keep_nullify<S: CertificateScheme, D: Digest>(
     requires { vec_len artifacts.old < vec_capacity artifacts.old }
     ensures same { IfOk result (λ kept. kept ≡ vote) }
     ensures kept { OnOk result (entries_of S.certificate_bytes artifacts.new.items
-        ≡ entries_of S.certificate_bytes artifacts.old.items ++ first_vote (told_nullify vote)) }
+        ≡ entries_of S.certificate_bytes artifacts.old.items ++ unrepeated_vote (told_nullify vote)) }
     ensures signature { OnOk result (signatures_of artifacts.new.items ≡ signatures_of artifacts.old.items ++ nullify_signature vote) }
     ensures same_record { OnErr result (entries_of S.certificate_bytes artifacts.new.items ≡ entries_of S.certificate_bytes artifacts.old.items) }
     ensures lost { IfErr result (λ error. error ≡ Lost) }
@@ -152,7 +152,7 @@ fn construct_nullify<S: Scheme<D>, L: Elector<S>, D: Digest>(
     ensures copied { IfOk result (λ vote. signatures_of artifacts.new.items ≡ signatures_of artifacts.old.items ++ nullify_signature vote) }
     ensures after { OnOk result (state.new ≡ after_construct_nullify state.old view) }
     ensures recorded { OnOk result (entries_of S.certificate_bytes artifacts.new.items
-        ≡ entries_of S.certificate_bytes artifacts.old.items ++ first_vote (nullify_vote state.old view)) }
+        ≡ entries_of S.certificate_bytes artifacts.old.items ++ unrepeated_vote (nullify_vote state.old view)) }
     ensures refused { IfErr result (EndsBy (plain_refusal state.old) state.old state.new) }
     ensures same_record { OnErr result (entries_of S.certificate_bytes artifacts.new.items ≡ entries_of S.certificate_bytes artifacts.old.items) }
 {

@@ -6,7 +6,7 @@ ghost use Rattle.std.specs.Prelude.{◌++◌, ◌≡◌, IsNone, IfOk, IfErr, If
 ghost use Rattle.simplex_member.specs.Calls.{ConstructNotarize, ConstructNullify, ConstructFinalize, told_notarize, told_nullify, told_finalize};
 ghost use Rattle.simplex_member.specs.Calls as told;
 ghost use Rattle.simplex_member.specs.Lives.{IsCall};
-ghost use Rattle.simplex_member.specs.Made.{first_vote, vote_entry};
+ghost use Rattle.simplex_member.specs.Made.{unrepeated_vote, vote_entry};
 ghost use Rattle.simplex_member.specs.Signed.{IsSignedReply};
 ghost use Rattle.simplex_member.specs.Typed.{told_of, Keeps, IsAnswered, HasNotarized, HasNullified, HasFinalized};
 ghost use Rattle.simplex_member.specs.declared.member.calls.Reply.TheVariants as reply;
@@ -51,7 +51,7 @@ impl<S: Scheme<D>, L: Elector<S>, D: Digest> Member<S, L, D> {
         ensures answered { IfOk result (λ vote. IsAnswered D.eq L.elect self.old (ConstructNullify view) (told.Nullify (told_nullify vote)) self.new) }
         ensures kept { IfErr result (λ refusal. Keeps self.old refusal self.new) }
         ensures signed { IfOk result (λ vote. IfSome self.old.life (IsSignedReply S.IsSignature (reply.Nullify vote))) }
-        ensures recorded { IfOk result (λ vote. self.new.entries ≡ self.old.entries ++ first_vote (told_nullify vote)) }
+        ensures recorded { IfOk result (λ vote. self.new.entries ≡ self.old.entries ++ unrepeated_vote (told_nullify vote)) }
         ensures decided { IfOk result (λ vote. IfSome vote (λ _. HasNullified self.new view)) }
         ensures barred { HasFinalized self.old view → IfOk result (λ vote. IsNone vote) }
     {

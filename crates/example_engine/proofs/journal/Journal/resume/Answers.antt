@@ -6,12 +6,12 @@ use Rattle.simplex_member.specs.Journal.{IsResumed}
 use Rattle.simplex_member.specs.Start.{start_facts}
 use Rattle.example_engine.specs.declared.digest.BlockDigest.{BlockDigest}
 use Rattle.example_engine.specs.Parts.{same_block, leader_of_round}
-use Rattle.example_engine.specs.Sealing.{signer_of, keys_of, seal_bytes}
+use Rattle.example_engine.specs.Sealing.{seal_signer, seal_keys, seal_bytes}
 use Rattle.example_engine.proofs.journal.Journal.resume.Goals as goal
 
 pub returns-in-Ok-open-clause-resumed : goal.returns-in-Ok-open-clause-resumed
 returns-in-Ok-open-clause-resumed c =
     let Goes : List (ArtifactFacts BlockDigest) → Type 0 = λ entries.
     IsResumed same_block leader_of_round c.args.self.now.stored entries
-    (start_facts signer_of keys_of terms_of (λ _. true) seal_bytes c.args.start) c.in-Ok-resume.member in
+    (start_facts seal_signer seal_keys terms_of (λ _. true) seal_bytes c.args.start) c.in-Ok-resume.member in
     subst Goes (c.in-Ok.ensures ∙ ap (entries_of seal_bytes) c.deref.ensures.value) c.in-Ok-resume.ensures.resumed
