@@ -27,28 +27,16 @@ pub fn serve<R: Read + Drop, W: Write + Drop>(
     requires { IsServed mode }
     ensures { Transcribes mode (R.remaining reader) (W.contents writer.old) result (W.contents writer.new) }
 {
+    let Ok(mut reader) = BufReader::new(alloc, reader) else {
+        return Err(ServeError::OutOfMemory);
+    };
     match Session::start(alloc, mode) {
-        Ok(session) => serve_session(alloc, session, reader, writer),
+        Ok(mut session) => answer_lines(&mut session, alloc, &mut reader, writer),
         Err(_) => Err(ServeError::OutOfMemory),
     }
 }
 
 /// Answers each line of the reader from a session on.
-fn serve_session<R: Read + Drop, W: Write + Drop>(
-    alloc: Global,
-    mut session: Session,
-    reader: R,
-    writer: &mut W,
-) -> Result<(), ServeError>
-    ensures { Continues (record { asked = asked_of session; left = R.remaining reader; held = W.contents writer.old })
-        result (W.contents writer.new) }
-{
-    let Ok(mut reader) = BufReader::new(alloc, reader) else {
-        return Err(ServeError::OutOfMemory);
-    };
-    answer_lines(&mut session, alloc, &mut reader, writer)
-}
-
 fn answer_lines<R: Read + Drop, W: Write + Drop>(
     session: &mut Session,
     alloc: Global,
