@@ -1,8 +1,8 @@
 #!/usr/bin/env python3
 """The must-fail edits: wrong bodies that the contracts refuse, where they stand, and how one is made.
 
-`rt ci` tries those of `crates/NAME/must-fail`: one for about four public functions of the core. The others stand in
-`tests/more_edits/NAME`, and `tests/more_edits.py` tries them."""
+`rt ci` tries those of `crates/NAME/must-fail`: one for four or five public functions of the core. The others stand
+in `tests/more_edits/NAME`, and `tests/more_edits.py` tries them."""
 
 from pathlib import Path
 
