@@ -16,7 +16,7 @@ mod timeouts;
 mod views;
 
 use misuses::MISUSES;
-use script::{Script, are_wanted};
+use script::{Parts, Script, are_wanted};
 use simplex_program::mode::Mode;
 use simplex_program::program::{ServeError, serve};
 use std::alloc::{AllocError, Global};
@@ -98,6 +98,27 @@ fn run(
     Ok((text, ended))
 }
 
+/// Whether serving an input writes just this, and ends so.
+fn is_answered(
+    alloc: Global,
+    mode: Mode,
+    input: &str,
+    wanted: &str,
+    end: Result<(), ServeError>,
+) -> Result<bool, AllocError>
+    requires { IsServed mode }
+{
+    let (output, ended) = run(alloc, mode, input)?;
+    Ok(output.as_str() == wanted && ended == end)
+}
+
+/// Whether serving an input writes nothing, since its first line is no call.
+fn is_refused(alloc: Global, mode: Mode, input: &str) -> Result<bool, AllocError>
+    requires { IsServed mode }
+{
+    is_answered(alloc, mode, input, "", Err(ServeError::NotACall(1)))
+}
+
 /// The scripts of all tables.
 fn scripts(alloc: Global) -> Result<Vec<Script>, AllocError> {
     let mut scripts = Vec::new(alloc);
@@ -119,8 +140,7 @@ fn each_line_has_its_reply(rt: HostRuntime) -> Result<(), Fail> {
         let mode = mode_of(rt.alloc(), script.command)?.ok_or(script.shows)?;
         let parts = script.parts(rt.alloc())?;
         let (output, ended) = run(rt.alloc(), mode, parts.input.as_str())?;
-        assert_eq!(rt; ended, parts.ends, "{}", script.shows);
-        let holds = are_wanted(output.as_str(), parts.output.as_str());
+        let holds = ended == parts.ends && are_wanted(output.as_str(), parts.output.as_str());
         assert!(rt; holds, "{}\n{}", script.shows, output.as_str());
     }
     Ok(())
@@ -170,13 +190,16 @@ fn refused_lines(rt: HostRuntime) -> Result<(), Fail> {
         "settled 1 finalization\n",
     ];
     for line in refused {
-        let (output, ended) = run(rt.alloc(), mode, line)?;
-        assert_eq!(rt; output.as_str(), "", "{line}");
-        assert_eq!(rt; ended, Err(ServeError::NotACall(1)), "{line}");
+        assert!(rt; is_refused(rt.alloc(), mode, line)?, "{line}");
     }
-    let (output, ended) = run(rt.alloc(), mode, "outstanding\n\noutstanding\n")?;
-    assert_eq!(rt; output.as_str(), "outstanding\n");
-    assert_eq!(rt; ended, Err(ServeError::NotACall(2)));
+    let holds = is_answered(
+        rt.alloc(),
+        mode,
+        "outstanding\n\noutstanding\n",
+        "outstanding\n",
+        Err(ServeError::NotACall(2)),
+    )?;
+    assert!(rt; holds);
     Ok(())
 }
 
@@ -198,9 +221,8 @@ fn reasons_of_timeouts(rt: HostRuntime) -> Result<(), Fail> {
     for reason in reasons {
         let input = format!(in rt.alloc(); "trigger 1 {reason} 5\ntimeout 8\n")?;
         let wanted = format!(in rt.alloc(); "ok\ntimeout 5 {reason}\n")?;
-        let (output, ended) = run(rt.alloc(), mode, input.as_str())?;
-        assert_eq!(rt; output.as_str(), wanted.as_str());
-        assert_eq!(rt; ended, Ok(()));
+        let holds = is_answered(rt.alloc(), mode, input.as_str(), wanted.as_str(), Ok(()))?;
+        assert!(rt; holds, "{reason}");
     }
     Ok(())
 }
@@ -233,9 +255,7 @@ fn refused_lines_of_a_voter(rt: HostRuntime) -> Result<(), Fail> {
         "notarise 1\n",
     ];
     for line in refused {
-        let (output, ended) = run(rt.alloc(), mode, line)?;
-        assert_eq!(rt; output.as_str(), "", "{line}");
-        assert_eq!(rt; ended, Err(ServeError::NotACall(1)), "{line}");
+        assert!(rt; is_refused(rt.alloc(), mode, line)?, "{line}");
     }
     Ok(())
 }
@@ -250,8 +270,7 @@ fn long_lines(rt: HostRuntime) -> Result<(), Fail> {
             for _ in 0..length {
                 line.push('7')?;
             }
-            let (_, ended) = run(rt.alloc(), mode, line.as_str())?;
-            assert_eq!(rt; ended, Err(ServeError::NotACall(1)), "{length}");
+            assert!(rt; is_refused(rt.alloc(), mode, line.as_str())?, "{length}");
         }
     }
     Ok(())
@@ -266,9 +285,7 @@ fn a_long_line_of_spaces(rt: HostRuntime) -> Result<(), Fail> {
         line.push(' ')?;
     }
     line.push('\n')?;
-    let (output, ended) = run(rt.alloc(), mode, line.as_str())?;
-    assert_eq!(rt; output.as_str(), "");
-    assert_eq!(rt; ended, Err(ServeError::NotACall(1)));
+    assert!(rt; is_refused(rt.alloc(), mode, line.as_str())?);
     Ok(())
 }
 
@@ -302,33 +319,32 @@ fn feeds(bytes: &[u8]) -> usize {
     count
 }
 
-/// Whatever read fails: each line that came whole has its reply, and the answer says what failed.
+/// Whether, once a read has failed, each line that came whole has its reply, and the end says what failed.
+fn has_replied(alloc: Global, mode: Mode, parts: &Parts, whole: &[u8], reads_left: usize) -> bool
+    requires { IsServed mode }
+{
+    let bytes = parts.input.as_bytes();
+    let reader = FailingReader { bytes, reads_left };
+    let mut output = Vec::new(alloc);
+    let ended = serve(alloc, mode, reader, &mut output);
+    let is_whole = output.is_empty() || output.ends_with(b"\n");
+    if !is_whole || !whole.starts_with(&output) {
+        return false;
+    }
+    match (ended, bytes.get(..reads_left)) {
+        (Err(ServeError::Read), Some(given)) => feeds(&output) == feeds(given),
+        (ended, _) => ended.is_err() && ended == parts.ends,
+    }
+}
+
+/// Whatever read fails.
 fn reads_fail(rt: &(impl Abort + AllocGlobal), script: &Script) -> Result<(), Fail> {
     let mode = mode_of(rt.alloc(), script.command)?.ok_or(script.shows)?;
     let parts = script.parts(rt.alloc())?;
     let (whole, _) = run(rt.alloc(), mode, parts.input.as_str())?;
-    let bytes = parts.input.as_bytes();
-    for reads_left in 0..=bytes.len() {
-        let reader = FailingReader { bytes, reads_left };
-        let mut output = Vec::new(rt.alloc());
-        let ended = serve(rt.alloc(), mode, reader, &mut output);
-        assert!(rt;
-            whole.as_bytes().starts_with(&output),
-            "{} {reads_left}",
-            script.shows
-        );
-        let is_whole = output.is_empty() || output.ends_with(b"\n");
-        assert!(rt; is_whole, "{} {reads_left}", script.shows);
-        if ended == Err(ServeError::Read) {
-            let given = feeds(&bytes[..reads_left]);
-            assert_eq!(rt; feeds(&output), given, "{} {reads_left}", script.shows);
-        } else {
-            assert!(rt;
-                ended.is_err() && ended == parts.ends,
-                "{} {reads_left}",
-                script.shows
-            );
-        }
+    for reads_left in 0..=parts.input.len() {
+        let holds = has_replied(rt.alloc(), mode, &parts, whole.as_bytes(), reads_left);
+        assert!(rt; holds, "{} {reads_left}", script.shows);
     }
     Ok(())
 }
@@ -341,24 +357,34 @@ fn failing_reads(rt: HostRuntime) -> Result<(), Fail> {
     Ok(())
 }
 
-/// Wherever writing fails: all that there was room for is written, and the answer says so.
+/// Whether all that there is room for is written, and the end says that a write failed.
+fn has_filled(alloc: Global, mode: Mode, input: &str, whole: &[u8], room: usize) -> bool
+    requires { IsServed mode }
+{
+    let mut writer = FailingWriter {
+        written: Vec::new(alloc),
+        room,
+    };
+    let ended = serve(alloc, mode, input.as_bytes(), &mut writer);
+    ended == Err(ServeError::Write)
+        && writer.written.len() == room
+        && whole.starts_with(&writer.written)
+}
+
+/// Wherever writing fails.
 fn writes_fail(rt: &(impl Abort + AllocGlobal), script: &Script) -> Result<(), Fail> {
     let mode = mode_of(rt.alloc(), script.command)?.ok_or(script.shows)?;
     let parts = script.parts(rt.alloc())?;
     let (whole, _) = run(rt.alloc(), mode, parts.input.as_str())?;
     for room in 0..whole.len() {
-        let mut writer = FailingWriter {
-            written: Vec::new(rt.alloc()),
+        let holds = has_filled(
+            rt.alloc(),
+            mode,
+            parts.input.as_str(),
+            whole.as_bytes(),
             room,
-        };
-        let ended = serve(rt.alloc(), mode, parts.input.as_bytes(), &mut writer);
-        assert_eq!(rt; ended, Err(ServeError::Write), "{} {room}", script.shows);
-        assert_eq!(rt; writer.written.len(), room, "{}", script.shows);
-        assert!(rt;
-            whole.as_bytes().starts_with(&writer.written),
-            "{} {room}",
-            script.shows
         );
+        assert!(rt; holds, "{} {room}", script.shows);
     }
     Ok(())
 }

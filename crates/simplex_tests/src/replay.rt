@@ -187,9 +187,8 @@ fn a_kept_resolver_starts_with_its_fetches(rt: HostRuntime) -> Result<(), Fail> 
         7,
     ));
     let effects = resolver.updated(&later)?;
-    assert_eq!(rt; effects.len(), 1);
-    assert!(rt; !resolver.fetches().contains(&View::new(7)));
-    assert_eq!(rt; resolver.fetches().len(), 2);
+    let fetches = resolver.fetches();
+    assert!(rt; effects.len() == 1 && fetches.len() == 2 && !fetches.contains(&View::new(7)));
     Ok(())
 }
 
@@ -206,8 +205,7 @@ fn a_kept_resolver_applies_each_call(rt: HostRuntime) -> Result<(), Fail> {
     assert_eq!(rt; effects.as_slice(), [gap_fetch(1, 3)].as_slice());
     assert!(rt; resolver.fetches().contains(&View::new(1)));
     resolver.certified(notarization_of(3), true)?;
-    assert!(rt; resolver.fetches().is_empty());
-    assert!(rt; !resolver.state().is_failed());
+    assert!(rt; resolver.fetches().is_empty() && !resolver.state().is_failed());
     Ok(())
 }
 

@@ -41,6 +41,16 @@ fn dropped(member: &mut PlainMember) -> [Option<View>; 4] {
     [0, 1, 2, 3].map(|place| views.get(place).copied())
 }
 
+/// Whether the member has two entries, keeps the views from 15 on, and has the notarization of view 12 or not.
+fn keeps_from_15(member: &PlainMember, has_notarization: bool) -> bool {
+    let Some(state) = member.state() else {
+        return false;
+    };
+    member.record().len() == 2
+        && state.min_active() == View::new(15)
+        && state.notarization(View::new(12)).is_some() == has_notarization
+}
+
 #[test]
 fn a_shrunk_retention_leaves_the_record_as_the_last_life_kept_it(
     rt: HostRuntime,
@@ -48,21 +58,13 @@ fn a_shrunk_retention_leaves_the_record_as_the_last_life_kept_it(
     let alloc = rt.alloc();
     let mut member = finalized_at_20(alloc)?;
     assert_eq!(rt; restart(alloc, &mut member, true, 5)?, Ok(()));
-    assert_eq!(rt; member.record().len(), 2);
-    let Some(state) = member.state() else {
-        return Err(Fail::from("failed"));
-    };
-    assert_eq!(rt; state.min_active(), View::new(15));
-    assert!(rt; state.notarization(View::new(12)).is_some());
+    assert!(rt; keeps_from_15(&member, true));
     let views = [1, 12, 13].map(View::new);
     assert_eq!(rt;
         dropped(&mut member),
         [Some(views[0]), Some(views[1]), Some(views[2]), None]
     );
-    let Some(state) = member.state() else {
-        return Err(Fail::from("failed"));
-    };
-    assert!(rt; state.notarization(View::new(12)).is_none());
+    assert!(rt; keeps_from_15(&member, false));
     Ok(())
 }
 

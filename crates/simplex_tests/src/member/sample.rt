@@ -43,9 +43,7 @@ fn a_vote_is_stored_before_it_is_sent(rt: HostRuntime) -> Result<(), Fail> {
         first_notarization(),
         10,
     )?;
-    assert!(rt; vote.is_some());
-    assert_eq!(rt; journal.len(), 3);
-    let first = View::new(1);
+    assert!(rt; vote.is_some() && journal.len() == 3);
     let again = finalize(
         alloc,
         &mut member,
@@ -54,7 +52,6 @@ fn a_vote_is_stored_before_it_is_sent(rt: HostRuntime) -> Result<(), Fail> {
         first_notarization(),
         20,
     )?;
-    assert!(rt; again.is_none());
-    assert_eq!(rt; journal.len(), 3);
+    assert!(rt; again.is_none() && journal.len() == 3);
     Ok(())
 }
