@@ -6,7 +6,8 @@ use Rattle.std.proofs.lemmas.Bool.{cases_lt, eqb-true, false≢true, ne_eqb}
 use Rattle.std.proofs.Math.Nat.{div-mul-le_self, le-div_iff_mul-le, mul-div_cancel, mul-le-mul_right}
 use Rattle.simplex_types.specs.Terms.{term_start, term_end, next_term_start}
 use Rattle.simplex_types.specs.Window.{issuance_floor}
-use Rattle.simplex_types.proofs.Gaps.{same_start, next_above}
+use Rattle.simplex_types.proofs.Covers.{same_start}
+use Rattle.simplex_sorted.proofs.Gaps.{next_above}
 use Rattle.simplex_voter.specs.Facts.{StateFacts}
 use Rattle.simplex_voter.specs.Leaders.{opened_views}
 use Rattle.simplex_definitions.specs.Laws.{IsOpenedBy}

@@ -6,8 +6,8 @@ use Rattle.std.specs.Ordering.{nat_cmp}
 use Rattle.std.specs.FinMap.Entries.{find}
 use Rattle.std.proofs.lemmas.Bool.{cases_lt, eqb-true, false≢true, lt-ltb, le-leb}
 use Rattle.std.proofs.lemmas.Bool.Decides.{nat_tests}
-use Rattle.simplex_types.proofs.Maps.{is_eq-nat_cmp}
-use Rattle.simplex_types.proofs.Entries.{AllAbove, Rises, rises}
+use Rattle.simplex_sorted.proofs.Maps.{is_eq-nat_cmp}
+use Rattle.simplex_sorted.proofs.RisingEntries.{AllAbove, Rises, rises}
 use Rattle.simplex_types.specs.Window.{issuance_floor}
 use Rattle.simplex_round.specs.Round.{RoundFacts}
 use Rattle.simplex_voter.specs.Facts.{StateFacts, Elect}

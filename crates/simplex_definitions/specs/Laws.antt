@@ -5,7 +5,7 @@ use Rattle.std.specs.Ordering.{nat_cmp}
 use Rattle.std.specs.FinMap as fin
 use Rattle.std.specs.FinMap.Entries.{find, put, is_sorted}
 use Rattle.std.specs.BTreeSet.{insert_key}
-use Rattle.simplex_types.specs.Tracked.{at_or_above}
+use Rattle.simplex_sorted.specs.Tracked.{at_or_above}
 use Rattle.simplex_types.specs.Window.{issuance_floor, AdmitsOutbound, AdmitsCertificate, AdmitsVote}
 use Rattle.simplex_types.specs.declared.types.messages.Proposal.{Proposal}
 use Rattle.simplex_voter.specs.Facts.{StateFacts, Elect}

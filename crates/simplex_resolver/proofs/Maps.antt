@@ -11,9 +11,9 @@ use Rattle.std.proofs.lemmas.Option.{slice_get-get_or}
 use Rattle.std.proofs.lemmas.Bool.{cond-true}
 use Rattle.std.proofs.lemmas.Bool.Decides.{nat_tests}
 use Rattle.simplex_types.specs.Terms.{term_end, term_start, covers}
-use Rattle.simplex_types.specs.Tracked.{at_or_above, last_entry}
-use Rattle.simplex_types.specs.ByTerm.{is_covered, TermMap, not_ended, covering}
-use Rattle.simplex_types.proofs.Maps.{get-insert, get-kept, entries-retain_keys, is_eq-nat_cmp, made_empty, same_maps}
+use Rattle.simplex_sorted.specs.Tracked.{at_or_above, last_entry}
+use Rattle.simplex_sorted.specs.ByTerm.{is_covered, TermMap, not_ended, covering}
+use Rattle.simplex_sorted.proofs.Maps.{get-insert, get-kept, entries-retain_keys, is_eq-nat_cmp, made_empty, same_maps}
 use Rattle.simplex_resolver.specs.Steps.{insert_new}
 use Rattle.simplex_resolver.specs.Repair.{has}
 use Rattle.simplex_resolver.proofs.Terms.{terms, AreTerms}

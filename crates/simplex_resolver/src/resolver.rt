@@ -16,5 +16,5 @@ mod state;
 pub use effect::Effect;
 pub use laws::{answers, repair};
 pub use outstanding::apply;
-pub use simplex_types::sorted::ByTerm;
+pub use simplex_sorted::by_term::ByTerm;
 pub use state::State;

@@ -1,7 +1,7 @@
 ghost use Rattle.std.specs.Prelude.{◌≡◌};
 
-use simplex_types::sorted::by_term::ByTerm;
-use simplex_types::sorted::tracked::Tracked;
+use simplex_sorted::by_term::ByTerm;
+use simplex_sorted::tracked::Tracked;
 use simplex_types::types::{TermLength, View};
 use std::alloc::Global;
 use std::num::NonZeroU32;

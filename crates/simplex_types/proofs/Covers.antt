@@ -2,9 +2,21 @@
 use Rattle.std.proofs.Common.{◌≡◌, ℕ, ◌+◌, ◌*◌, ◌/◌, ◌-◌, ◌<◌, ◌≤◌, true, refl, ap, sym, ◌∙◌, arith}
 use Rattle.std.proofs.Math.Nat.{div-mul-le_self, lt-div-mul-add}
 use Rattle.std.proofs.lemmas.Bool.{and_parts, le-leb, lt-leb, leb-true, eq-eqb, eqb-true}
-use Rattle.simplex_types.specs.Terms.{term_start, term_end, covers}
+use Rattle.simplex_types.specs.Terms.{term_start, term_end, next_term_start, covers}
 use Rattle.simplex_types.specs.Covering.{CoveringLaws}
-use Rattle.simplex_types.proofs.Gaps.{same_index, same_start}
+use Rattle.std.proofs.lemmas.Nat.{div-mul-add}
+
+-- views of one term have one start
+pub same_index : (T a m : ℕ) → a * T ≤ m → m < a * T + T → m / T ≡ a
+same_index T a m low high =
+    let e : m ≡ a * T + (m - a * T) = omega arith in
+    let b : m - a * T < T = omega arith in
+    ap (λ n. n / T) e ∙ div-mul-add a T (m - a * T) b
+
+pub same_start : (T c w : ℕ) → 1 ≤ c → c ≤ w → w < next_term_start T c → term_start T w ≡ term_start T c
+same_start T c w one up below =
+    let d : (c - 1) / T * T ≤ c - 1 = div-mul-le_self (c - 1) T in
+    ap (λ n. n * T + 1) (same_index T ((c - 1) / T) (w - 1) (omega arith) (omega arith))
 
 -- a term starts at or below each of its views
 pub start_below : (length view : ℕ) → 1 ≤ view → term_start length view ≤ view

@@ -1,11 +1,4 @@
 pub mod Proposal
-pub mod Entries
-pub mod Maps
-pub mod Unboxed
 pub mod Digits
-pub mod Joined
-pub mod Gaps
-pub mod Runs
 pub mod Covers
 pub mod EncodingLaw
-pub mod Rows

@@ -4,10 +4,6 @@ pub mod Plain
 pub mod Proposal
 pub mod Certificates
 pub mod Window
-pub mod Tracked
-pub mod Rows
-pub mod ByTerm
-pub mod Runs
 pub mod Reasons
 pub mod Config
 pub mod Fault

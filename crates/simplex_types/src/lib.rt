@@ -3,5 +3,4 @@
 
 pub mod config;
 pub mod reasons;
-pub mod sorted;
 pub mod types;

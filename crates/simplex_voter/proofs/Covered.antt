@@ -7,10 +7,10 @@ use Rattle.std.specs.FinMap as fin
 use Rattle.std.proofs.lemmas.Bool.{cases_lt, false≢true}
 use Rattle.std.proofs.lemmas.Bool.Decides.{nat_tests}
 use Rattle.simplex_types.specs.Terms.{covers}
-use Rattle.simplex_types.specs.Tracked.{at_or_above, below}
-use Rattle.simplex_types.specs.ByTerm as by
-use Rattle.simplex_types.proofs.Gaps.{any_last}
-use Rattle.simplex_types.proofs.Maps.{entries-retain_keys}
+use Rattle.simplex_sorted.specs.Tracked.{at_or_above, below}
+use Rattle.simplex_sorted.specs.ByTerm as by
+use Rattle.simplex_sorted.proofs.Gaps.{any_last}
+use Rattle.simplex_sorted.proofs.Maps.{entries-retain_keys}
 use Rattle.simplex_round.specs.Round.{RoundFacts, is_judged}
 use Rattle.simplex_voter.specs.Facts.{StateFacts}
 use Rattle.simplex_voter.specs.Gaps.{is_covered, IsGapless, IsFirstGap, first_gap}

@@ -4,7 +4,7 @@ use Rattle.std.specs.Prelude.{map as map_list, option_map}
 use Rattle.std.specs.Ordering.{nat_cmp}
 use Rattle.std.specs.FinMap as map
 use Rattle.std.proofs.lemmas.Bool.Decides.{nat_tests}
-use Rattle.simplex_types.specs.Tracked.{at_or_above}
+use Rattle.simplex_sorted.specs.Tracked.{at_or_above}
 use Rattle.simplex_round.specs.Round.{RoundFacts}
 use Rattle.simplex_voter.specs.Facts.{StateFacts}
 use Rattle.simplex_voter.specs.Certification.{without_token, with_finalized_view}

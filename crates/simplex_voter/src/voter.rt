@@ -31,6 +31,6 @@ mod work;
 
 pub use candidates::CertificateFetch;
 pub use propose::ProposalRequest;
-pub use simplex_types::sorted::Tracked;
+pub use simplex_sorted::tracked::Tracked;
 pub use state::{Config, State};
 pub use verify::Verify;

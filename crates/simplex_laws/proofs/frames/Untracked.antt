@@ -7,8 +7,8 @@ use Rattle.std.specs.Cmp.{nat_cmp_total}
 use Rattle.std.specs.FinMap.Entries.{find, find-put}
 use Rattle.std.proofs.lemmas.Bool.{cases_eq, cases_lt, ne_eqb, false≢true, true≢false, eqb-true}
 use Rattle.std.proofs.lemmas.Bool.Decides.{nat_tests}
-use Rattle.simplex_types.proofs.Gaps.{next_above}
-use Rattle.simplex_types.proofs.Maps.{is_eq-nat_cmp}
+use Rattle.simplex_sorted.proofs.Gaps.{next_above}
+use Rattle.simplex_sorted.proofs.Maps.{is_eq-nat_cmp}
 use Rattle.simplex_types.specs.Certificates.{ArtifactFacts, NotarizeVote, Accepted, Notarized}
 use Rattle.simplex_types.specs.Config.{Genesis, Finalized as FinalizedFloor}
 use Rattle.simplex_types.specs.declared.types.numbers.Round.{Round}

@@ -6,7 +6,7 @@ use Rattle.std.specs.Ordering.{nat_cmp, is_lt}
 use Rattle.std.specs.FinMap.Entries.{find, is_sorted, below_all}
 use Rattle.std.proofs.lemmas.Bool.{eq-eqb, ne_eqb}
 use Rattle.std.proofs.lemmas.Bool.Decides.{nat_tests}
-use Rattle.simplex_types.proofs.Maps.{is_eq-nat_cmp}
+use Rattle.simplex_sorted.proofs.Maps.{is_eq-nat_cmp}
 use Rattle.simplex_laws.proofs.lists.Splits.{Contains-cases}
 
 both_true : (a b : Bool) → T (a && b) → T a × T b

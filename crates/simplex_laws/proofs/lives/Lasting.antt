@@ -19,7 +19,7 @@ use Rattle.simplex_member.specs.Calls.{CallFacts, Proposed, SupersedeProposalReq
 use Rattle.simplex_member.specs.Made.{answer, after_call}
 use Rattle.simplex_member.specs.Openings.{Openings, context_at}
 use Rattle.simplex_voter.specs.Serving.{prune_answer}
-use Rattle.simplex_types.proofs.Maps.{is_eq-nat_cmp}
+use Rattle.simplex_sorted.proofs.Maps.{is_eq-nat_cmp}
 use Rattle.std.specs.FinMap.Entries.{find}
 use Rattle.std.specs.Ordering.{nat_cmp}
 use Rattle.std.specs.List.{list_any}

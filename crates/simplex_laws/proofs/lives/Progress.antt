@@ -9,7 +9,7 @@ use Rattle.simplex_types.specs.Certificates.{ProposalFacts, NullificationFacts}
 use Rattle.simplex_types.specs.Config.{FloorFacts}
 use Rattle.simplex_types.specs.Terms.{next_term_start}
 use Rattle.simplex_types.specs.declared.types.numbers.Round.{Round}
-use Rattle.simplex_types.proofs.Gaps.{next_above}
+use Rattle.simplex_sorted.proofs.Gaps.{next_above}
 use Rattle.simplex_round.specs.Round.{RoundFacts, is_judged, new_round}
 use Rattle.simplex_voter.specs.Acceptance.{after_set_floor}
 use Rattle.simplex_voter.specs.Certification.{takes_verdict}

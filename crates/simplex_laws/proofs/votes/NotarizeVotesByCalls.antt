@@ -10,7 +10,7 @@ use Rattle.std.proofs.lemmas.Bool.{false≢true, true≢false, le-leb}
 use Rattle.std.proofs.lemmas.Bool.Decides.{nat_tests}
 use Rattle.std.proofs.lemmas.List.Elements.{Contains-append_right}
 use Rattle.simplex_types.specs.Terms.{next_term_start}
-use Rattle.simplex_types.proofs.Gaps.{next_above}
+use Rattle.simplex_sorted.proofs.Gaps.{next_above}
 use Rattle.simplex_types.specs.Certificates.{NullificationFacts}
 use Rattle.simplex_types.specs.declared.types.messages.Proposal.{Proposal}
 use Rattle.simplex_types.specs.declared.types.messages.Subject.TheVariants as subject

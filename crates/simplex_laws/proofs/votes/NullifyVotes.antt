@@ -7,7 +7,7 @@ use Rattle.std.specs.declared.cmp.Ordering.{Ordering}
 use Rattle.std.specs.declared.cmp.Ordering.TheVariants.{Less, Equal, Greater}
 use Rattle.std.specs.BTreeSet.{insert_key}
 use Rattle.std.proofs.lemmas.Bool.{false≢true, eqb-true, lt-ltb, cases_lt}
-use Rattle.simplex_types.proofs.Maps.{is_eq-nat_cmp}
+use Rattle.simplex_sorted.proofs.Maps.{is_eq-nat_cmp}
 use Rattle.simplex_types.specs.Terms.{covers}
 use Rattle.simplex_voter.specs.Facts.{StateFacts}
 use Rattle.simplex_voter.specs.Rules.{is_gated}

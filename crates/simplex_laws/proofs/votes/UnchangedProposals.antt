@@ -22,7 +22,7 @@ use Rattle.simplex_voter.specs.Timeouts.{with_timeout, is_contradicted}
 use Rattle.simplex_voter.specs.Certification.{named_also, with_finalized_view, waits_for, with_waiting_candidate, without_token}
 use Rattle.simplex_voter.specs.Acceptance.{with_notarization_at, with_nullification_at, with_finalization_at, with_finalization_broadcast}
 use Rattle.simplex_voter.proofs.Elsewhere.{round_of-with_round}
-use Rattle.simplex_types.proofs.Maps.{is_eq-nat_cmp}
+use Rattle.simplex_sorted.proofs.Maps.{is_eq-nat_cmp}
 use Rattle.simplex_voter.proofs.Gaps.{and_parts}
 use Rattle.simplex_laws.proofs.frames.Rounds.{round_put, tracked_changed, round_changed}
 use Rattle.simplex_laws.proofs.votes.UnchangedRounds.{Calm, calm, calm_joined, calm_alike, calm_led, calm_token, calm_nullification, calm_notarization, calm_finalization}

@@ -3,14 +3,15 @@
 ghost use Rattle.std.specs.Prelude.{◌≡◌, ◌<◌, ◌≤◌, ◌^◌, ◌++◌, filter, not, nat_lt, ◌&&◌, is_some, IfOk, OnOk};
 ghost use Rattle.std.specs.Option.{option_copied};
 ghost use Rattle.std.specs.FinMap as map;
-ghost use Rattle.simplex_types.specs.ByTerm.{is_covered};
+ghost use Rattle.simplex_sorted.specs.ByTerm.{is_covered};
 ghost use Rattle.simplex_resolver.specs.Facts.{covering_encoding, uncovered_anchors, end_of_scan};
 ghost use Rattle.simplex_resolver.specs.Steps.{missing_fetches, failure_fetches};
 
 use crate::resolver::effect::Effect;
 use bytes::Bytes;
+use simplex_sorted::by_term::ByTerm;
+use simplex_sorted::tracked::Tracked;
 use simplex_types::reasons::FetchReason;
-use simplex_types::sorted::{ByTerm, Tracked};
 use simplex_types::types::{TermLength, View};
 use std::alloc::AllocError;
 

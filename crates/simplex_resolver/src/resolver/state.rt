@@ -13,7 +13,8 @@ ghost use Rattle.simplex_resolver.specs.Steps.{update, verdict, Replayed, Refuse
 
 use crate::resolver::effect::Effect;
 use bytes::Bytes;
-use simplex_types::sorted::{ByTerm, Tracked};
+use simplex_sorted::by_term::ByTerm;
+use simplex_sorted::tracked::Tracked;
 use simplex_types::types::{
     Certificate, CertificateScheme, Digest, Fault, Notarization, Proposal, TermLength, View,
     Viewable,

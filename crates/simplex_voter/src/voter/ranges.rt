@@ -11,7 +11,8 @@ ghost use Rattle.simplex_voter.specs.Certification.{without_token};
 
 use super::rounds::Rounds;
 use simplex_round::round::{Certification, Round};
-use simplex_types::sorted::{Entries, Tracked};
+use simplex_sorted::entries::Entries;
+use simplex_sorted::tracked::Tracked;
 use simplex_types::types::{CertificateScheme, Digest, Fault, View};
 
 /// Whether one of the rounds is notarized or finalized.

@@ -6,7 +6,7 @@ ghost use Rattle.std.specs.Option.{option_copied};
 ghost use Rattle.simplex_types.specs.declared.types.fault.Fault.TheVariants.{OutOfMemory};
 
 use simplex_round::round::Round;
-use simplex_types::sorted::Tracked;
+use simplex_sorted::tracked::Tracked;
 use simplex_types::types;
 use simplex_types::types::{CertificateScheme, Digest, Epoch, Fault, Participant, View};
 use std::alloc::Global;

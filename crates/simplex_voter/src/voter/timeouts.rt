@@ -9,8 +9,8 @@ ghost use Rattle.simplex_types.specs.declared.types.fault.Fault.TheVariants.{Tim
 
 use super::state::State;
 use simplex_round::round::{Decision, Round};
+use simplex_sorted::entries::Entries;
 use simplex_types::reasons::TimeoutReason;
-use simplex_types::sorted::Entries;
 use simplex_types::types::{CertificateScheme, Digest, Elector, Fault, TermLength, View};
 
 /// The number of the term of a view, from 0. Genesis counts to the first term.

@@ -1,6 +1,6 @@
 use Rattle.std.proofs.Common.{◌≡◌, ap, ◌∙◌, sym, nat_lt, false}
 use Rattle.std.proofs.lemmas.Result.{err_from_is_err_and}
-use Rattle.simplex_types.proofs.Maps.{is_lt-nat_cmp}
+use Rattle.simplex_sorted.proofs.Maps.{is_lt-nat_cmp}
 use Rattle.simplex_types.specs.Certificates.{artifact_facts}
 use Rattle.simplex_member.specs.Entries.{entry_view}
 use Rattle.simplex_member.specs.Seen.{turned_to}

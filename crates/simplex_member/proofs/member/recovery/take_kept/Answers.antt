@@ -1,5 +1,5 @@
 use Rattle.std.proofs.Common.{◌≡◌, sym, subst, ◌∙◌, nat_lt, true, false, OnOk}
-use Rattle.simplex_types.proofs.Maps.{is_lt-nat_cmp}
+use Rattle.simplex_sorted.proofs.Maps.{is_lt-nat_cmp}
 use Rattle.simplex_types.specs.Certificates.{artifact_facts}
 use Rattle.simplex_voter.specs.Facts.{StateFacts}
 use Rattle.simplex_voter.specs.Windows.{min_active}

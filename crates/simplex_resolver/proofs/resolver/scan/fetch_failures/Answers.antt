@@ -1,7 +1,7 @@
 use Rattle.std.proofs.Common.{ℕ, Bool, ◌&&◌, ◌++◌, ◌∙◌, sym, ap, not, nat_lt, filter, map, append-nil}
 use Rattle.std.specs.FinMap.{entries}
-use Rattle.simplex_types.specs.Tracked.{at_or_above}
-use Rattle.simplex_types.specs.ByTerm.{is_covered}
+use Rattle.simplex_sorted.specs.Tracked.{at_or_above}
+use Rattle.simplex_sorted.specs.ByTerm.{is_covered}
 use Rattle.simplex_resolver.specs.Steps.{failure_fetches}
 use Rattle.simplex_resolver.proofs.Failures.{views_of_all}
 use Rattle.simplex_resolver.proofs.resolver.scan.fetch_failures.Goals as goal

@@ -1,6 +1,6 @@
 use Rattle.std.proofs.Common.{◌≡◌, ℕ, Bool, ◌++◌, ◌&&◌, filter, not, nat_lt, map, length}
 use Rattle.std.specs.FinMap.{keys}
-use Rattle.simplex_types.specs.ByTerm.{is_covered}
+use Rattle.simplex_sorted.specs.ByTerm.{is_covered}
 use Rattle.simplex_resolver.specs.Steps.{failure_fetches}
 use Rattle.simplex_resolver.proofs.resolver.scan.fetch_failures.Given as goal
 

@@ -1,6 +1,6 @@
 use Rattle.std.proofs.Common.{◌≡◌, ◌<◌, ◌≤◌, ◌∙◌, refl, arith}
 use Rattle.std.specs.FinMap as map
-use Rattle.simplex_types.proofs.Gaps.{gt_no, gt_yes}
+use Rattle.simplex_sorted.proofs.Gaps.{gt_no, gt_yes}
 use Rattle.simplex_voter.specs.Certification.{without_token}
 use Rattle.simplex_voter.proofs.Walked.{at_first, at_none, walked_on, walked_step, walked_entries}
 use Rattle.simplex_voter.proofs.voter.ranges.end_certifications.Goals as goal

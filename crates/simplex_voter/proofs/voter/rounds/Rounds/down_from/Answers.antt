@@ -1,6 +1,6 @@
 use Rattle.std.proofs.Common.{◌+◌, ◌<◌, nat_lt, filter, ap, ◌∙◌, arith}
-use Rattle.simplex_types.proofs.Gaps.{lt_yes}
-use Rattle.simplex_types.proofs.Maps.{entries-retain_keys}
+use Rattle.simplex_sorted.proofs.Gaps.{lt_yes}
+use Rattle.simplex_sorted.proofs.Maps.{entries-retain_keys}
 use Rattle.simplex_voter.specs.Rounds.{round_at}
 use Rattle.simplex_voter.proofs.Changed.{none_explicit_above}
 use Rattle.simplex_voter.proofs.voter.rounds.Rounds.down_from.Goals as goal

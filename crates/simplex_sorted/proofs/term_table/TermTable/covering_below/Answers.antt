@@ -1,0 +1,18 @@
+use Rattle.std.proofs.Common.{ap, sym, ◌∙◌}
+use Rattle.simplex_sorted.specs.Tracked.{last_entry}
+use Rattle.simplex_sorted.specs.ByTerm.{covering_below}
+use Rattle.simplex_sorted.proofs.Joined.{covered_below_in, none_covers_below}
+use Rattle.simplex_sorted.proofs.term_table.TermTable.covering_below.Goals as goal
+
+pub returns-in_err-term : goal.returns-in_err-term
+returns-in_err-term g c =
+    let none = sym (rw c.term_start.ensures at c.in_err-term.ensures) in
+    rw c.from_residual.ensures (none_covers_below c.self.inside.term_length c.self.inside.terms c.self.invariant c.args.view none)
+    ∙ ap (λ m. covering_below m c.args.view) c.self.view_is
+
+pub returns : goal.returns
+returns g c =
+    let here = sym (rw c.term_start.ensures at c.in_ok-term.ensures) in
+    c.last_below.ensures
+    ∙ ap last_entry (covered_below_in c.self.inside.term_length c.self.inside.terms c.self.invariant c.args.view _ here)
+    ∙ ap (λ m. covering_below m c.args.view) c.self.view_is

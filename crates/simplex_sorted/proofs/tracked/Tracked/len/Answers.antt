@@ -1,0 +1,7 @@
+use Rattle.std.proofs.Common.{◌∙◌}
+use Rattle.simplex_sorted.proofs.Maps.{length_of_made}
+use Rattle.simplex_sorted.proofs.Unboxed.{same_length}
+use Rattle.simplex_sorted.proofs.tracked.Tracked.len.Goals as goal
+
+pub returns : goal.returns
+returns g c = c.len.ensures ∙ same_length c.self.inside.entries ∙ length_of_made _ _ c.self.view_is c.self.invariant

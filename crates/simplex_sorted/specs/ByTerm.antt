@@ -1,0 +1,61 @@
+-- Words for a finite map from views whose terms matter.
+use Rattle.std.specs.Prelude.{◌≡◌, ℕ, ◌<◌, Bool, true, false, ◌&&◌, nat_lt, Option, Some, None, is_some, IsTrue, flat_map, refl}
+use Rattle.std.specs.Coded.{Coded, code_by, coded×, coded_ℕ}
+use Rattle.std.specs.List.{list_any}
+use Rattle.std.specs.Ordering.{nat_cmp}
+use Rattle.std.specs.FinMap.{FinMap, get, entries, keys, from_entries, retain_keys, code}
+use Rattle.simplex_types.specs.Terms.{term_start, term_end, covers}
+use Rattle.simplex_sorted.specs.Tracked.{last_entry}
+
+-- a map from views, and how many views stand in a term
+pub record TermMap (V : Type 0) : Type 0 where
+  pub term_length : ℕ
+  pub by_view : FinMap nat_cmp V
+
+-- such a map as a number and a map, so that two can be told apart
+abbrev pub term_map_code : {V : Type 0} → Coded V → Coded (TermMap V)
+term_map_code {V} value =
+    code_by (ℕ × FinMap nat_cmp V) (coded× coded_ℕ (code coded_ℕ value)) (λ m. (m.term_length, m.by_view)) (λ p. record { term_length = p.0; by_view = p.1 }) (λ _. refl)
+
+-- the entry of the highest view that covers a view
+abbrev pub covering : {V : Type 0} → TermMap V → ℕ → Option (ℕ × V)
+covering m view = last_entry (retain_keys m.by_view (λ u. covers m.term_length u view))
+
+-- the entry of the highest view below a view in its term
+abbrev pub covering_below : {V : Type 0} → TermMap V → ℕ → Option (ℕ × V)
+covering_below m view = last_entry (retain_keys m.by_view (λ u. nat_lt u view && covers m.term_length u view))
+
+-- the entries of the terms that end above a view
+abbrev pub not_ended : {V : Type 0} → TermMap V → ℕ → FinMap nat_cmp V
+not_ended m view = retain_keys m.by_view (λ u. nat_lt view (term_end m.term_length u))
+
+-- a view there covers w
+abbrev pub is_covered : {V : Type 0} → TermMap V → ℕ → Bool
+is_covered m w = list_any (λ u. covers m.term_length u w) (keys m.by_view)
+
+-- each view strictly between is covered
+abbrev pub Gapless : {V : Type 0} → TermMap V → ℕ → ℕ → Type 0
+Gapless m p v = (w : ℕ) → p < w → w < v → is_covered m w ≡ true
+
+-- w is the least view strictly between that is not covered
+abbrev pub IsFirstGap : {V : Type 0} → TermMap V → ℕ → ℕ → ℕ → Type 0
+IsFirstGap m p v w = (p < w) × (w < v) × (is_covered m w ≡ false) × Gapless m p w
+
+-- how it is kept: a map for each term, under the term's first view
+
+-- the value at a view in the map of a term, if there is one
+abbrev pub in_term : {V : Type 0} → Option (FinMap nat_cmp V) → ℕ → Option V
+in_term None view = None
+in_term (Some term) view = get term view
+
+-- all terms' entries as one map
+abbrev pub entries_by_view : {V : Type 0} → FinMap nat_cmp (FinMap nat_cmp V) → FinMap nat_cmp V
+entries_by_view terms = from_entries (flat_map (λ term. entries term.1) (entries terms))
+
+-- each view stands in the map of its own term
+abbrev pub IsByTerm : {V : Type 0} → ℕ → FinMap nat_cmp (FinMap nat_cmp V) → Type 0
+IsByTerm length terms = (start view : ℕ) → IsTrue (is_some (in_term (get terms start) view)) → term_start length view ≡ start
+
+-- the terms as one map
+abbrev pub map_of_terms : {V : Type 0} → ℕ → FinMap nat_cmp (FinMap nat_cmp V) → TermMap V
+map_of_terms length terms = record { term_length = length; by_view = entries_by_view terms }

@@ -1,0 +1,4 @@
+pub mod Tracked
+pub mod Rows
+pub mod ByTerm
+pub mod Runs

@@ -1,5 +1,0 @@
-use Rattle.std.proofs.Common.{◌≡◌, drop}
-use Rattle.simplex_types.proofs.sorted.tracked.drop_first.Given as goal
-
-abbrev pub invariant-loop : goal.invariant-loop
-invariant-loop g l = l.entries ≡ drop l.counter l.fn.entries
