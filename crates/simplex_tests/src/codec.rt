@@ -240,29 +240,31 @@ fn votes_and_verdicts_are_written_as_the_vectors_say(rt: HostRuntime) -> Result<
     Ok(())
 }
 
+/// Bytes that are no artifact, each with the refusal.
+static REFUSED: [(&[u8], DecodeError); 9] = [
+    (&[7; 40], DecodeError::UnknownKind(7)),
+    (&[], DecodeError::TooShort),
+    // a verdict of 6
+    (&[6; 18], DecodeError::UnknownVerdict(6)),
+    (&[6; 17], DecodeError::TooShort),
+    // a verdict with a byte more
+    (
+        &[6, 0, 0, 0, 0, 0, 0, 0, 1, 0, 0, 0, 0, 0, 0, 0, 3, 1, 0],
+        DecodeError::TrailingBytes,
+    ),
+    // three bytes of a key, behind a signer and what was voted on
+    (&[3; 40], DecodeError::UnreadableSignature),
+    (&[4; 24], DecodeError::UnreadableSignature),
+    (&[5; 36], DecodeError::TooShort),
+    (&[4; 20], DecodeError::TooShort),
+];
+
 #[test]
 fn each_other_refusal_has_its_name(rt: HostRuntime) {
     assert!(rt; certificate_refusal(rt.alloc(), &[3; 40]) == Some(DecodeError::UnknownKind(3)));
-    let rows: [(&[u8], DecodeError); 9] = [
-        (&[7; 40], DecodeError::UnknownKind(7)),
-        (&[], DecodeError::TooShort),
-        // a verdict of 6
-        (&[6; 18], DecodeError::UnknownVerdict(6)),
-        (&[6; 17], DecodeError::TooShort),
-        // a verdict with a byte more
-        (
-            &[6, 0, 0, 0, 0, 0, 0, 0, 1, 0, 0, 0, 0, 0, 0, 0, 3, 1, 0],
-            DecodeError::TrailingBytes,
-        ),
-        // three bytes of a key, behind a signer and what was voted on
-        (&[3; 40], DecodeError::UnreadableSignature),
-        (&[4; 24], DecodeError::UnreadableSignature),
-        (&[5; 36], DecodeError::TooShort),
-        (&[4; 20], DecodeError::TooShort),
-    ];
-    for (bytes, wanted) in rows {
+    for (bytes, wanted) in &REFUSED {
         assert!(rt;
-            artifact_refusal(rt.alloc(), bytes) == Some(wanted),
+            artifact_refusal(rt.alloc(), bytes) == Some(*wanted),
             "{wanted:?}"
         );
     }
@@ -273,25 +275,28 @@ fn text<V: Display>(alloc: Global, value: &V) -> Result<String, Fail> {
     Ok(format!(in alloc; "{value}")?)
 }
 
+/// The refusals, each with its text.
+static TEXTS: [(DecodeError, &str); 8] = [
+    (DecodeError::OutOfMemory, "no memory is left"),
+    (DecodeError::TooShort, "the bytes end early"),
+    (DecodeError::UnknownKind(200), "200 is no kind"),
+    (DecodeError::UnreadablePayload, "the payload is no digest"),
+    (
+        DecodeError::UnreadableCertificate,
+        "the certificate is not the scheme's",
+    ),
+    (
+        DecodeError::UnreadableSignature,
+        "the signature is not the scheme's",
+    ),
+    (DecodeError::UnknownVerdict(6), "6 is no verdict"),
+    (DecodeError::TrailingBytes, "bytes are left over"),
+];
+
 #[test]
 fn refusals_have_their_texts(rt: HostRuntime) -> Result<(), Fail> {
-    for (error, wanted) in [
-        (DecodeError::OutOfMemory, "no memory is left"),
-        (DecodeError::TooShort, "the bytes end early"),
-        (DecodeError::UnknownKind(200), "200 is no kind"),
-        (DecodeError::UnreadablePayload, "the payload is no digest"),
-        (
-            DecodeError::UnreadableCertificate,
-            "the certificate is not the scheme's",
-        ),
-        (
-            DecodeError::UnreadableSignature,
-            "the signature is not the scheme's",
-        ),
-        (DecodeError::UnknownVerdict(6), "6 is no verdict"),
-        (DecodeError::TrailingBytes, "bytes are left over"),
-    ] {
-        assert_eq!(rt; text(rt.alloc(), &error)?.as_str(), wanted);
+    for (error, wanted) in &TEXTS {
+        assert_eq!(rt; text(rt.alloc(), error)?.as_str(), *wanted);
     }
     assert_eq!(rt;
         text(rt.alloc(), &DamagedFrame)?.as_str(),

@@ -173,51 +173,51 @@ fn refused(
     }
 }
 
+/// Another member, that goes on from what a journal reads back of one.
+fn resumed_from(alloc: Global, member: &PlainMember) -> Result<Box<PlainMember>, Fail> {
+    let (stored, entries) = read_back(alloc, member)?;
+    resumed(alloc, stored, entries)
+}
+
+/// Whether a member of three entries and of such stored numbers votes for view 1 no more.
+fn is_done_with_first(member: &mut PlainMember, stored: Stored) -> bool {
+    !finalizes_first(member)
+        && !nullifies_first(member)
+        && member.record_since(3).is_empty()
+        && member.stored() == stored
+}
+
 #[test]
 fn a_member_that_resumes_does_not_vote_again(rt: HostRuntime) -> Result<(), Fail> {
-    let alloc = rt.alloc();
-    let mut member = certified(alloc)?;
-    assert!(rt; finalizes_first(&mut member));
-    let (stored, entries) = read_back(alloc, &member)?;
-    assert_eq!(rt; entries.len(), 3);
-    let mut resumed = resumed(alloc, stored, entries)?;
-    assert!(rt; !finalizes_first(&mut resumed));
-    assert!(rt; !nullifies_first(&mut resumed));
-    assert!(rt; resumed.record_since(3).is_empty());
-    assert_eq!(rt; resumed.stored(), stored);
+    let mut member = certified(rt.alloc())?;
+    assert!(rt; finalizes_first(&mut member) && member.record_since(0).len() == 3);
+    let mut resumed = resumed_from(rt.alloc(), &member)?;
+    assert!(rt; is_done_with_first(&mut resumed, member.stored()));
     Ok(())
 }
 
 #[test]
 fn a_member_that_did_not_vote_votes_after_it_resumed(rt: HostRuntime) -> Result<(), Fail> {
-    let alloc = rt.alloc();
-    let member = certified(alloc)?;
-    let (stored, entries) = read_back(alloc, &member)?;
-    let mut resumed = resumed(alloc, stored, entries)?;
-    assert!(rt; finalizes_first(&mut resumed));
-    assert_eq!(rt; resumed.record_since(2).len(), 1);
+    let mut member = certified(rt.alloc())?;
+    member = resumed_from(rt.alloc(), &member)?;
+    assert!(rt; finalizes_first(&mut member) && member.record_since(2).len() == 1);
     Ok(())
 }
 
 #[test]
 fn a_shorter_record_is_refused(rt: HostRuntime) -> Result<(), Fail> {
-    let alloc = rt.alloc();
-    let (stored, mut entries) = pruned(alloc)?;
-    assert_eq!(rt; stored.closed, 3);
+    let (stored, mut entries) = pruned(rt.alloc())?;
     entries.truncate(2);
-    let (error, entries) = refused(alloc, 10, stored, entries)?;
-    assert_eq!(rt; error, ResumeError::EntriesLost);
-    assert_eq!(rt; entries.len(), 2);
+    let (error, entries) = refused(rt.alloc(), 10, stored, entries)?;
+    assert!(rt; stored.closed == 3 && error == ResumeError::EntriesLost && entries.len() == 2);
     Ok(())
 }
 
 #[test]
 fn a_larger_retention_is_refused(rt: HostRuntime) -> Result<(), Fail> {
-    let alloc = rt.alloc();
-    let (stored, entries) = pruned(alloc)?;
-    let (error, entries) = refused(alloc, 11, stored, entries)?;
-    assert_eq!(rt; error, ResumeError::Recover(RecoverError::RetentionGrown));
-    let refusal = Member::resume(alloc, start(alloc, 10)?, stored, entries).err();
-    assert!(rt; refusal.is_none());
+    let (stored, entries) = pruned(rt.alloc())?;
+    let (error, entries) = refused(rt.alloc(), 11, stored, entries)?;
+    assert!(rt; error == ResumeError::Recover(RecoverError::RetentionGrown));
+    resumed(rt.alloc(), stored, entries)?;
     Ok(())
 }

@@ -22,7 +22,6 @@ use simplex_program::program::{ServeError, serve};
 use std::alloc::{AllocError, Global};
 use std::io;
 use std::io::{Read, Write};
-use std::process::Abort;
 use std::test::Fail;
 
 /// Gives one byte a read, and fails once it has no reads left.
@@ -119,6 +118,22 @@ fn is_refused(alloc: Global, mode: Mode, input: &str) -> Result<bool, AllocError
     is_answered(alloc, mode, input, "", Err(ServeError::NotACall(1)))
 }
 
+/// The first line that is served, if one is.
+fn first_served<'a>(
+    alloc: Global,
+    mode: Mode,
+    lines: &[&'a str],
+) -> Result<Option<&'a str>, AllocError>
+    requires { IsServed mode }
+{
+    for line in lines {
+        if !is_refused(alloc, mode, line)? {
+            return Ok(Some(*line));
+        }
+    }
+    Ok(None)
+}
+
 /// The scripts of all tables.
 fn scripts(alloc: Global) -> Result<Vec<Script>, AllocError> {
     let mut scripts = Vec::new(alloc);
@@ -134,27 +149,38 @@ fn scripts(alloc: Global) -> Result<Vec<Script>, AllocError> {
     Ok(scripts)
 }
 
+/// What a script's lines are answered with, if it is not what the script wants.
+fn other_replies(alloc: Global, script: &Script) -> Result<Option<String>, Fail> {
+    let mode = mode_of(alloc, script.command)?.ok_or(script.shows)?;
+    let parts = script.parts(alloc)?;
+    let (output, ended) = run(alloc, mode, parts.input.as_str())?;
+    if ended == parts.ends && are_wanted(output.as_str(), parts.output.as_str()) {
+        return Ok(None);
+    }
+    Ok(Some(output))
+}
+
 #[test]
 fn each_line_has_its_reply(rt: HostRuntime) -> Result<(), Fail> {
     for script in &scripts(rt.alloc())? {
-        let mode = mode_of(rt.alloc(), script.command)?.ok_or(script.shows)?;
-        let parts = script.parts(rt.alloc())?;
-        let (output, ended) = run(rt.alloc(), mode, parts.input.as_str())?;
-        let holds = ended == parts.ends && are_wanted(output.as_str(), parts.output.as_str());
-        assert!(rt; holds, "{}\n{}", script.shows, output.as_str());
+        if let Some(output) = other_replies(rt.alloc(), script)? {
+            panic!(rt; "{}\n{}", script.shows, output.as_str());
+        }
     }
     Ok(())
 }
 
+/// Command lines that ask for a mode.
+static MODES: [&str; 4] = [
+    "viewstate resolver 1",
+    "viewstate resolver 4294967295",
+    "viewstate voter 4 - 5 18446744073709551615",
+    "viewstate voter 1000 999 4294967295 0",
+];
+
 #[test]
 fn modes(rt: HostRuntime) -> Result<(), Fail> {
-    let commands = [
-        "viewstate resolver 1",
-        "viewstate resolver 4294967295",
-        "viewstate voter 4 - 5 18446744073709551615",
-        "viewstate voter 1000 999 4294967295 0",
-    ];
-    for command in commands {
+    for command in &MODES {
         assert!(rt; mode_of(rt.alloc(), command)?.is_some(), "{command}");
     }
     Ok(())
@@ -162,36 +188,39 @@ fn modes(rt: HostRuntime) -> Result<(), Fail> {
 
 #[test]
 fn misused_commands(rt: HostRuntime) -> Result<(), Fail> {
-    for (shows, command) in MISUSES {
+    for (shows, command) in &MISUSES {
         assert!(rt; mode_of(rt.alloc(), command)?.is_none(), "{shows}");
     }
     Ok(())
 }
 
+/// Lines that are no call of a resolver.
+static REFUSED_BY_A_RESOLVER: [&str; 16] = [
+    "\n",
+    " replayed\n",
+    "replayed \n",
+    "replayd\n",
+    "replayed\r\n",
+    "Replayed\n",
+    "notarization\n",
+    "notarization 01\n",
+    "notarization +1\n",
+    "notarization -1\n",
+    "notarization 1 2\n",
+    "notarization  1\n",
+    "notarization\t1\n",
+    "notarization 18446744073709551616\n",
+    "certified 1 yes\n",
+    "settled 1 finalization\n",
+];
+
 #[test]
 fn refused_lines(rt: HostRuntime) -> Result<(), Fail> {
     let mode = mode_of(rt.alloc(), "viewstate resolver 1")?.ok_or("no mode")?;
-    let refused = [
-        "\n",
-        " replayed\n",
-        "replayed \n",
-        "replayd\n",
-        "replayed\r\n",
-        "Replayed\n",
-        "notarization\n",
-        "notarization 01\n",
-        "notarization +1\n",
-        "notarization -1\n",
-        "notarization 1 2\n",
-        "notarization  1\n",
-        "notarization\t1\n",
-        "notarization 18446744073709551616\n",
-        "certified 1 yes\n",
-        "settled 1 finalization\n",
-    ];
-    for line in refused {
-        assert!(rt; is_refused(rt.alloc(), mode, line)?, "{line}");
-    }
+    assert_eq!(rt;
+        first_served(rt.alloc(), mode, &REFUSED_BY_A_RESOLVER)?,
+        None
+    );
     let holds = is_answered(
         rt.alloc(),
         mode,
@@ -203,76 +232,101 @@ fn refused_lines(rt: HostRuntime) -> Result<(), Fail> {
     Ok(())
 }
 
+/// The names of the reasons.
+static REASONS: [&str; 10] = [
+    "Retry",
+    "Inactivity",
+    "LeaderNullify",
+    "LeaderTimeout",
+    "CertificationTimeout",
+    "StallTimeout",
+    "MissingProposal",
+    "IgnoredProposal",
+    "InvalidProposal",
+    "FailedCertification",
+];
+
+/// Whether a timeout that is triggered for a reason is told with it.
+fn is_told(alloc: Global, mode: Mode, reason: &str) -> Result<bool, Fail>
+    requires { IsServed mode }
+{
+    let input = format!(in alloc; "trigger 1 {reason} 5\ntimeout 8\n")?;
+    let wanted = format!(in alloc; "ok\ntimeout 5 {reason}\n")?;
+    Ok(is_answered(alloc, mode, input.as_str(), wanted.as_str(), Ok(()))?)
+}
+
 #[test]
 fn reasons_of_timeouts(rt: HostRuntime) -> Result<(), Fail> {
     let mode = mode_of(rt.alloc(), "viewstate voter 4 0 1 0")?.ok_or("no mode")?;
-    let reasons = [
-        "Retry",
-        "Inactivity",
-        "LeaderNullify",
-        "LeaderTimeout",
-        "CertificationTimeout",
-        "StallTimeout",
-        "MissingProposal",
-        "IgnoredProposal",
-        "InvalidProposal",
-        "FailedCertification",
-    ];
-    for reason in reasons {
-        let input = format!(in rt.alloc(); "trigger 1 {reason} 5\ntimeout 8\n")?;
-        let wanted = format!(in rt.alloc(); "ok\ntimeout 5 {reason}\n")?;
-        let holds = is_answered(rt.alloc(), mode, input.as_str(), wanted.as_str(), Ok(()))?;
-        assert!(rt; holds, "{reason}");
+    for reason in &REASONS {
+        assert!(rt; is_told(rt.alloc(), mode, reason)?, "{reason}");
     }
     Ok(())
 }
+
+/// Lines that are no call of a voter.
+static REFUSED_BY_A_VOTER: [&str; 22] = [
+    "trigger 1 Timeout 5\n",
+    "trigger 1 retry 5\n",
+    "trigger 1 Retry\n",
+    "trigger Retry 1 5\n",
+    "timeout\n",
+    "timeout 1 2\n",
+    "timeout 01\n",
+    "proposal 1 0\n",
+    "proposal 1 0 7 8\n",
+    "release\n",
+    "propose 1\n",
+    "proposed 1 7\n",
+    "proposed 1 7 5 6\n",
+    "supersede\n",
+    "abandon 1 2\n",
+    "verify 1\n",
+    "verified\n",
+    "rejected 1\n",
+    "candidates 1\n",
+    "token 1\n",
+    "notarize\n",
+    "notarise 1\n",
+];
 
 #[test]
 fn refused_lines_of_a_voter(rt: HostRuntime) -> Result<(), Fail> {
     let mode = mode_of(rt.alloc(), "viewstate voter 4 0 1 0")?.ok_or("no mode")?;
-    let refused = [
-        "trigger 1 Timeout 5\n",
-        "trigger 1 retry 5\n",
-        "trigger 1 Retry\n",
-        "trigger Retry 1 5\n",
-        "timeout\n",
-        "timeout 1 2\n",
-        "timeout 01\n",
-        "proposal 1 0\n",
-        "proposal 1 0 7 8\n",
-        "release\n",
-        "propose 1\n",
-        "proposed 1 7\n",
-        "proposed 1 7 5 6\n",
-        "supersede\n",
-        "abandon 1 2\n",
-        "verify 1\n",
-        "verified\n",
-        "rejected 1\n",
-        "candidates 1\n",
-        "token 1\n",
-        "notarize\n",
-        "notarise 1\n",
-    ];
-    for line in refused {
-        assert!(rt; is_refused(rt.alloc(), mode, line)?, "{line}");
-    }
+    assert_eq!(rt; first_served(rt.alloc(), mode, &REFUSED_BY_A_VOTER)?, None);
     Ok(())
+}
+
+/// Some words, and so many of a character.
+fn padded(alloc: Global, words: &str, character: char, count: usize) -> Result<String, AllocError> {
+    let mut line = String::from_str(alloc, words)?;
+    for _ in 0..count {
+        line.push(character)?;
+    }
+    Ok(line)
+}
+
+/// The length of the first line of sevens that is served, if one is.
+fn first_length_served(alloc: Global, command: &str) -> Result<Option<usize>, Fail> {
+    let mode = mode_of(alloc, command)?.ok_or("no mode")?;
+    for length in [199, 200, 201, 202, 100_000] {
+        if !is_refused(alloc, mode, padded(alloc, "", '7', length)?.as_str())? {
+            return Ok(Some(length));
+        }
+    }
+    Ok(None)
 }
 
 #[test]
 fn long_lines(rt: HostRuntime) -> Result<(), Fail> {
-    let commands = ["viewstate resolver 1", "viewstate voter 4 0 1 0"];
-    for command in commands {
-        let mode = mode_of(rt.alloc(), command)?.ok_or("no mode")?;
-        for length in [199usize, 200, 201, 202, 100_000] {
-            let mut line = String::new(rt.alloc());
-            for _ in 0..length {
-                line.push('7')?;
-            }
-            assert!(rt; is_refused(rt.alloc(), mode, line.as_str())?, "{length}");
-        }
-    }
+    assert_eq!(rt;
+        first_length_served(rt.alloc(), "viewstate resolver 1")?,
+        None
+    );
+    assert_eq!(rt;
+        first_length_served(rt.alloc(), "viewstate voter 4 0 1 0")?,
+        None
+    );
     Ok(())
 }
 
@@ -280,31 +334,27 @@ fn long_lines(rt: HostRuntime) -> Result<(), Fail> {
 #[test]
 fn a_long_line_of_spaces(rt: HostRuntime) -> Result<(), Fail> {
     let mode = mode_of(rt.alloc(), "viewstate voter 4 0 1 0")?.ok_or("no mode")?;
-    let mut line = String::from_str(rt.alloc(), "view")?;
-    for _ in 0..197 {
-        line.push(' ')?;
-    }
+    let mut line = padded(rt.alloc(), "view", ' ', 197)?;
     line.push('\n')?;
     assert!(rt; is_refused(rt.alloc(), mode, line.as_str())?);
     Ok(())
+}
+
+/// Whether bytes whose line of this number is no text are answered up to there.
+fn ends_at(alloc: Global, mode: Mode, input: &[u8], line: u64, wanted: &[u8]) -> bool
+    requires { IsServed mode }
+{
+    let mut output = Vec::new(alloc);
+    let ended = serve(alloc, mode, input, &mut output);
+    ended == Err(ServeError::NotACall(line)) && output.as_slice() == wanted
 }
 
 /// Bytes that are not UTF-8, first and after another line.
 #[test]
 fn bytes_that_are_no_text(rt: HostRuntime) -> Result<(), Fail> {
     let mode = mode_of(rt.alloc(), "viewstate voter 4 0 1 0")?.ok_or("no mode")?;
-    let mut output = Vec::new(rt.alloc());
-    let ended = serve(rt.alloc(), mode, b"view\xFF\n".as_slice(), &mut output);
-    assert_eq!(rt; ended, Err(ServeError::NotACall(1)));
-    assert!(rt; output.is_empty());
-    let ended = serve(
-        rt.alloc(),
-        mode,
-        b"view\nview\xFF\n".as_slice(),
-        &mut output,
-    );
-    assert_eq!(rt; ended, Err(ServeError::NotACall(2)));
-    assert_eq!(rt; output.as_slice(), b"view 1 0 0\n".as_slice());
+    assert!(rt; ends_at(rt.alloc(), mode, b"view\xFF\n", 1, b""));
+    assert!(rt; ends_at(rt.alloc(), mode, b"view\nview\xFF\n", 2, b"view 1 0 0\n"));
     Ok(())
 }
 
@@ -337,22 +387,28 @@ fn has_replied(alloc: Global, mode: Mode, parts: &Parts, whole: &[u8], reads_lef
     }
 }
 
-/// Whatever read fails.
-fn reads_fail(rt: &(impl Abort + AllocGlobal), script: &Script) -> Result<(), Fail> {
-    let mode = mode_of(rt.alloc(), script.command)?.ok_or(script.shows)?;
-    let parts = script.parts(rt.alloc())?;
-    let (whole, _) = run(rt.alloc(), mode, parts.input.as_str())?;
+/// After how many reads a failing one is answered otherwise than it is to be, if there is such a number.
+fn first_wrong_read(alloc: Global, script: &Script) -> Result<Option<usize>, Fail> {
+    let mode = mode_of(alloc, script.command)?.ok_or(script.shows)?;
+    let parts = script.parts(alloc)?;
+    let (whole, _) = run(alloc, mode, parts.input.as_str())?;
     for reads_left in 0..=parts.input.len() {
-        let holds = has_replied(rt.alloc(), mode, &parts, whole.as_bytes(), reads_left);
-        assert!(rt; holds, "{} {reads_left}", script.shows);
+        if !has_replied(alloc, mode, &parts, whole.as_bytes(), reads_left) {
+            return Ok(Some(reads_left));
+        }
     }
-    Ok(())
+    Ok(None)
 }
 
 #[test]
 fn failing_reads(rt: HostRuntime) -> Result<(), Fail> {
     for script in &scripts(rt.alloc())? {
-        reads_fail(&rt, script)?;
+        assert_eq!(rt;
+            first_wrong_read(rt.alloc(), script)?,
+            None,
+            "{}",
+            script.shows
+        );
     }
     Ok(())
 }
@@ -371,43 +427,46 @@ fn has_filled(alloc: Global, mode: Mode, input: &str, whole: &[u8], room: usize)
         && whole.starts_with(&writer.written)
 }
 
-/// Wherever writing fails.
-fn writes_fail(rt: &(impl Abort + AllocGlobal), script: &Script) -> Result<(), Fail> {
-    let mode = mode_of(rt.alloc(), script.command)?.ok_or(script.shows)?;
-    let parts = script.parts(rt.alloc())?;
-    let (whole, _) = run(rt.alloc(), mode, parts.input.as_str())?;
+/// The room behind which a failing write is answered otherwise than it is to be, if there is such a room.
+fn first_wrong_write(alloc: Global, script: &Script) -> Result<Option<usize>, Fail> {
+    let mode = mode_of(alloc, script.command)?.ok_or(script.shows)?;
+    let parts = script.parts(alloc)?;
+    let input = parts.input.as_str();
+    let (whole, _) = run(alloc, mode, input)?;
     for room in 0..whole.len() {
-        let holds = has_filled(
-            rt.alloc(),
-            mode,
-            parts.input.as_str(),
-            whole.as_bytes(),
-            room,
-        );
-        assert!(rt; holds, "{} {room}", script.shows);
+        if !has_filled(alloc, mode, input, whole.as_bytes(), room) {
+            return Ok(Some(room));
+        }
     }
-    Ok(())
+    Ok(None)
 }
 
 #[test]
 fn failing_writes(rt: HostRuntime) -> Result<(), Fail> {
     for script in &scripts(rt.alloc())? {
-        writes_fail(&rt, script)?;
+        assert_eq!(rt;
+            first_wrong_write(rt.alloc(), script)?,
+            None,
+            "{}",
+            script.shows
+        );
     }
     Ok(())
 }
 
+/// The errors, each with its status and its text.
+static ENDS: [(ServeError, u8, &str); 4] = [
+    (ServeError::NotACall(7), 3, "line 7: not a call"),
+    (ServeError::OutOfMemory, 4, "out of memory"),
+    (ServeError::Read, 5, "read failed"),
+    (ServeError::Write, 5, "write failed"),
+];
+
 #[test]
 fn statuses_and_texts(rt: HostRuntime) -> Result<(), Fail> {
-    let cases = [
-        (ServeError::NotACall(7), 3, "line 7: not a call"),
-        (ServeError::OutOfMemory, 4, "out of memory"),
-        (ServeError::Read, 5, "read failed"),
-        (ServeError::Write, 5, "write failed"),
-    ];
-    for (error, status, text) in cases {
-        assert_eq!(rt; error.status(), status);
-        assert_eq!(rt; error.to_string(rt.alloc())?.as_str(), text);
+    for (error, status, text) in &ENDS {
+        assert_eq!(rt; error.status(), *status);
+        assert_eq!(rt; error.to_string(rt.alloc())?.as_str(), *text);
     }
     Ok(())
 }

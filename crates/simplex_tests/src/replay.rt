@@ -1,6 +1,7 @@
 //! Records, and the fetches that a resolver starts with. The fetches were found by hand, from the rule that names them.
 
 ghost use Rattle.std.specs.Prelude.{◌≡◌};
+ghost use Rattle.simplex_types.specs.Viewed.{certificate_view};
 
 use simplex_resolver::replay::{LawfulResolver, ReplayError, replay_record};
 use simplex_resolver::resolver::{Effect, State, apply};
@@ -120,12 +121,13 @@ fn failure_fetch(view: u64) -> Effect {
 }
 
 /// View 1 is finalized, the term of 3 is nullified, 5 has failed, nothing is known of 7, and 9 is notarized.
-fn gaps(alloc: Global) -> Result<[PlainArtifact; 8], Fail> {
+fn gaps(alloc: Global) -> Result<[PlainArtifact; 8], AllocError> {
+    let vote = vote_to_nullify(alloc, 3)?;
     Ok([
         notarization(1),
         verdict(1, true),
         finalization(1),
-        vote_to_nullify(alloc, 3)?,
+        vote,
         nullification(3),
         notarization(5),
         verdict(5, false),
@@ -133,9 +135,36 @@ fn gaps(alloc: Global) -> Result<[PlainArtifact; 8], Fail> {
     ])
 }
 
-fn with_gaps(alloc: Global) -> Result<(State, Vec<Effect>), Fail> {
-    let entries = gaps(alloc)?;
-    Ok(replay_record(alloc, pairs(), &entries)?)
+/// A resolver and what its replay asks for.
+type Replayed = (Box<State>, Vec<Effect>);
+
+/// The resolver of a record, on the heap.
+fn replayed(alloc: Global, entries: &[PlainArtifact]) -> Result<Replayed, Fail> {
+    let (state, effects) = replay_record(alloc, pairs(), entries)?;
+    Ok((Box::new(alloc, state)?, effects))
+}
+
+fn with_gaps(alloc: Global) -> Result<Replayed, Fail> {
+    replayed(alloc, &gaps(alloc)?)
+}
+
+/// Whether the effects leave the fetches of views 2, 5 and 7 open, and no other.
+fn opens_the_gaps(alloc: Global, effects: &[Effect]) -> Result<bool, Fail> {
+    let mut open = BTreeSet::new(alloc);
+    apply(&mut open, effects)?;
+    Ok(
+        open.len() == 3
+            && open.contains(&View::new(2))
+            && open.contains(&View::new(5))
+            && open.contains(&View::new(7)),
+    )
+}
+
+/// Whether view 5 has failed, and view 4 is settled by a nullification and view 2 is not.
+fn settles_the_nullified(state: &State) -> bool {
+    state.uncertifiable(View::new(5))
+        && state.settled(View::new(4), Kind::Nullification)
+        && !state.settled(View::new(2), Kind::Nullification)
 }
 
 #[test]
@@ -147,131 +176,142 @@ fn what_a_record_lacks_is_fetched(rt: HostRuntime) -> Result<(), Fail> {
         gap_fetch(7, 9),
         failure_fetch(5),
     ];
-    assert_eq!(rt; effects.as_slice(), expected.as_slice());
-    let mut open = BTreeSet::new(rt.alloc());
-    apply(&mut open, effects.as_slice())?;
-    assert_eq!(rt; open.len(), 3);
-    for view in [2, 5, 7] {
-        assert!(rt; open.contains(&View::new(view)), "{view}");
-    }
-    assert!(rt; state.uncertifiable(View::new(5)));
-    assert!(rt; state.settled(View::new(4), Kind::Nullification));
-    assert!(rt; !state.settled(View::new(2), Kind::Nullification));
+    assert!(rt; effects.as_slice() == expected.as_slice() && settles_the_nullified(&state));
+    assert!(rt; opens_the_gaps(rt.alloc(), effects.as_slice())?);
     Ok(())
+}
+
+/// A certificate that nullifies a view.
+fn nullified(view: u64) -> Certificate<PlainScheme, PlainDigest>
+    ensures { certificate_view result ≡ view }
+{
+    Certificate::Nullification(nullification_of(view))
 }
 
 #[test]
 fn a_resolver_goes_on_behind_its_record(rt: HostRuntime) -> Result<(), Fail> {
     let (mut state, _effects) = with_gaps(rt.alloc())?;
-    let later: Certificate<PlainScheme, PlainDigest> = Certificate::Nullification(nullification_of(
-        13,
-    ));
     let settled = Effect::Settled {
         kind: Kind::Nullification,
         start: View::new(13),
         end: View::new(14),
     };
-    let effects = state.updated(&later)?;
     let expected = [settled, gap_fetch(9, 13), gap_fetch(11, 13)];
+    let effects = state.updated(&nullified(13))?;
     assert_eq!(rt; effects.as_slice(), expected.as_slice());
     Ok(())
 }
 
+/// A resolver of a record that keeps its fetches, on the heap.
+fn kept(alloc: Global, entries: &[PlainArtifact]) -> Result<Box<LawfulResolver>, Fail> {
+    Ok(Box::new(alloc, LawfulResolver::start(alloc, pairs(), entries)?)?)
+}
+
+/// Whether a nullification of view 7 settles its fetch, and leaves two.
+fn settles_7(resolver: &mut LawfulResolver) -> Result<bool, Fail> {
+    let effects = resolver.updated(&nullified(7))?;
+    let fetches = resolver.fetches();
+    Ok(effects.len() == 1 && fetches.len() == 2 && !fetches.contains(&View::new(7)))
+}
+
 #[test]
 fn a_kept_resolver_starts_with_its_fetches(rt: HostRuntime) -> Result<(), Fail> {
-    let entries = gaps(rt.alloc())?;
-    let mut resolver = LawfulResolver::start(rt.alloc(), pairs(), &entries)?;
+    let mut resolver = kept(rt.alloc(), &gaps(rt.alloc())?)?;
     resolver.keeps_the_laws();
-    assert_eq!(rt; resolver.fetches().len(), 3);
-    let later: Certificate<PlainScheme, PlainDigest> = Certificate::Nullification(nullification_of(
-        7,
-    ));
-    let effects = resolver.updated(&later)?;
-    let fetches = resolver.fetches();
-    assert!(rt; effects.len() == 1 && fetches.len() == 2 && !fetches.contains(&View::new(7)));
+    assert!(rt; resolver.fetches().len() == 3 && settles_7(&mut resolver)?);
     Ok(())
+}
+
+/// Whether a notarization of view 3 opens a fetch when the record is read, and its verdict closes it.
+fn fetches_until_certified(resolver: &mut LawfulResolver) -> Result<bool, Fail> {
+    resolver.updated(&Certificate::Notarization(notarization_of(3)))?;
+    let waits = resolver.fetches().is_empty();
+    let effects = resolver.replayed()?;
+    let asks = effects.as_slice() == [gap_fetch(1, 3)].as_slice()
+        && resolver.fetches().contains(&View::new(1));
+    resolver.certified(notarization_of(3), true)?;
+    Ok(waits && asks && resolver.fetches().is_empty() && !resolver.state().is_failed())
 }
 
 #[test]
 fn a_kept_resolver_applies_each_call(rt: HostRuntime) -> Result<(), Fail> {
-    let mut resolver = LawfulResolver::new(rt.alloc(), pairs());
-    let notarization = notarization_of(3);
-    let certificate: Certificate<PlainScheme, PlainDigest> = Certificate::Notarization(
-        notarization,
-    );
-    resolver.updated(&certificate)?;
-    assert!(rt; resolver.fetches().is_empty());
-    let effects = resolver.replayed()?;
-    assert_eq!(rt; effects.as_slice(), [gap_fetch(1, 3)].as_slice());
-    assert!(rt; resolver.fetches().contains(&View::new(1)));
-    resolver.certified(notarization_of(3), true)?;
-    assert!(rt; resolver.fetches().is_empty() && !resolver.state().is_failed());
+    let mut resolver = Box::new(rt.alloc(), LawfulResolver::new(rt.alloc(), pairs()))?;
+    assert!(rt; fetches_until_certified(&mut resolver)?);
     Ok(())
+}
+
+/// Whether just these bytes are served for view 3.
+fn serves_at_3(state: &mut State, bytes: &[u8]) -> Result<bool, Fail> {
+    let served = state.produce(View::new(3))?.ok_or("nothing is served")?;
+    Ok(served.as_slice() == bytes)
 }
 
 #[test]
 fn a_certified_notarization_is_served_again(rt: HostRuntime) -> Result<(), Fail> {
     let entries = [notarization(3), nullification(5), verdict(3, true)];
-    let (state, effects) = replay_record(rt.alloc(), pairs(), &entries)?;
-    let expected = [gap_fetch(4, 5)];
-    assert_eq!(rt; effects.as_slice(), expected.as_slice());
+    let (mut state, effects) = replayed(rt.alloc(), &entries)?;
     let encoding = [
         0u8, 0, 0, 0, 0, 0, 0, 0, 1, 0, 0, 0, 0, 0, 0, 0, 3, 0, 0, 0, 0, 0, 0, 0, 0, 0, 0, 0, 0, 0,
         0, 0, 7, 1,
     ];
-    let served = state.produce(View::new(3))?.ok_or("nothing is served")?;
-    assert_eq!(rt; served.as_slice(), encoding.as_slice());
+    assert!(rt; effects.as_slice() == [gap_fetch(4, 5)].as_slice());
+    assert!(rt; serves_at_3(&mut state, encoding.as_slice())?);
     Ok(())
 }
 
 #[test]
 fn an_empty_record_fetches_nothing(rt: HostRuntime) -> Result<(), Fail> {
-    let entries: [PlainArtifact; 0] = [];
-    let (state, effects) = replay_record(rt.alloc(), pairs(), &entries)?;
-    assert!(rt; effects.is_empty());
-    assert_eq!(rt; state.term_length(), pairs());
+    let (state, effects) = replayed(rt.alloc(), &[])?;
+    assert!(rt; effects.is_empty() && state.term_length() == pairs());
     Ok(())
 }
 
-#[test]
-fn the_first_bad_entry_is_told(rt: HostRuntime) -> Result<(), Fail> {
-    let rows: [(PlainArtifact, PlainArtifact, ReplayError, &str); 5] = [
+/// Whether a record of two entries is refused so, by an error of this text.
+fn is_refused(
+    alloc: Global,
+    entries: &[PlainArtifact],
+    error: ReplayError,
+    text: &str,
+) -> Result<bool, Fail> {
+    let refused = replay_record(alloc, pairs(), entries).err();
+    Ok(refused == Some(error) && format!(in alloc; "{error}")?.as_str() == text)
+}
+
+/// Two entries each, of which the first breaks a rule, with the refusal and its text.
+fn bad_records() -> [([PlainArtifact; 2], ReplayError, &'static str); 5] {
+    [
         (
-            notarization(0),
-            notarization(TOO_LARGE),
+            [notarization(0), notarization(TOO_LARGE)],
             ReplayError::ZeroView,
             "ZeroView",
         ),
         (
-            notarization(TOO_LARGE),
-            nullification(0),
+            [notarization(TOO_LARGE), nullification(0)],
             ReplayError::ViewTooLarge,
             "ViewTooLarge",
         ),
         (
-            finalization(TOO_LARGE),
-            verdict(1, true),
+            [finalization(TOO_LARGE), verdict(1, true)],
             ReplayError::ViewTooLarge,
             "ViewTooLarge",
         ),
         (
-            notarization_on(3, TOO_LARGE),
-            verdict(3, true),
+            [notarization_on(3, TOO_LARGE), verdict(3, true)],
             ReplayError::ViewTooLarge,
             "ViewTooLarge",
         ),
         (
-            verdict(1, true),
-            notarization(1),
+            [verdict(1, true), notarization(1)],
             ReplayError::VerdictWithoutNotarization,
             "VerdictWithoutNotarization",
         ),
-    ];
-    for (first, second, error, text) in rows {
-        let entries = [first, second];
-        let refused = replay_record(rt.alloc(), pairs(), &entries);
-        assert!(rt; matches!(refused, Err(found) if found == error), "{text}");
-        assert_eq!(rt; format!(in rt.alloc(); "{error}")?.as_str(), text);
+    ]
+}
+
+#[test]
+fn the_first_bad_entry_is_told(rt: HostRuntime) -> Result<(), Fail> {
+    for (entries, error, text) in &bad_records() {
+        assert!(rt; is_refused(rt.alloc(), entries, *error, text)?, "{text}");
     }
     Ok(())
 }

@@ -10,6 +10,7 @@ use simplex_types::types::plain::{PlainCertificate, PlainDigest, PlainScheme};
 use simplex_types::types::{
     Certificate, Epoch, Fault, Notarization, Nullification, Proposal, Round, TermLength, View,
 };
+use std::alloc::{AllocError, Global};
 use std::collections::BTreeSet;
 use std::num::NonZeroU32;
 use std::test::Fail;
@@ -50,67 +51,90 @@ fn nullified(epoch: u64, view: u64) -> Certificate<PlainScheme, PlainDigest>
     })
 }
 
+/// A resolver in terms of one view, on the heap.
+fn begun(alloc: Global) -> Result<Box<State>, AllocError> {
+    Ok(Box::new(alloc, State::new(alloc, term_of_one()))?)
+}
+
+/// Whether a nullification of view 3 opens three fetches, and one of view 2 leaves that of view 1.
+fn settles_in_turn(alloc: Global, state: &mut State) -> Result<bool, Fail> {
+    let mut outstanding = BTreeSet::new(alloc);
+    let opened = state.updated(&nullified(1, 3))?;
+    apply(&mut outstanding, opened.as_slice())?;
+    let settled = state.updated(&nullified(1, 2))?;
+    apply(&mut outstanding, settled.as_slice())?;
+    Ok(opened.len() == 3 && outstanding.len() == 1 && outstanding.contains(&View::new(1)))
+}
+
 #[test]
 fn a_fetch_is_open_until_it_is_settled(rt: HostRuntime) -> Result<(), Fail> {
-    let mut state = State::new(rt.alloc(), term_of_one());
-    assert_eq!(rt; state.term_length(), term_of_one());
-    let mut outstanding = BTreeSet::new(rt.alloc());
-    let effects = state.replayed()?;
-    assert!(rt; effects.is_empty());
-    let effects = state.updated(&nullified(1, 3))?;
-    assert_eq!(rt; effects.len(), 3);
-    apply(&mut outstanding, effects.as_slice())?;
-    let effects = state.updated(&nullified(1, 2))?;
-    apply(&mut outstanding, effects.as_slice())?;
-    assert!(rt; outstanding.contains(&View::new(1)));
-    assert_eq!(rt; outstanding.len(), 1);
+    let mut state = begun(rt.alloc())?;
+    assert!(rt; state.term_length() == term_of_one() && state.replayed()?.is_empty());
+    assert!(rt; settles_in_turn(rt.alloc(), &mut state)?);
     Ok(())
+}
+
+/// Whether just these bytes are served for a view.
+fn serves(state: &mut State, view: u64, bytes: &[u8]) -> Result<bool, Fail> {
+    let served = state.produce(View::new(view))?.ok_or("nothing is served")?;
+    Ok(served.as_slice() == bytes)
+}
+
+/// Whether view 3 is settled by a notarization, is to be fetched by no key, and may be certified.
+fn settles_3(state: &State) -> bool {
+    state.settled(View::new(3), Kind::Notarization)
+        && !state.key_settled(View::new(3))
+        && !state.uncertifiable(View::new(3))
 }
 
 #[test]
 fn a_certified_notarization_is_served(rt: HostRuntime) -> Result<(), Fail> {
-    let mut state = State::new(rt.alloc(), term_of_one());
+    let mut state = begun(rt.alloc())?;
     let effects = state.certified(notarization_of(3), true)?;
     let raised = Effect::Raised(View::new(3));
-    assert_eq!(rt; effects.as_slice().last(), Some(&raised));
+    assert!(rt; effects.as_slice().last() == Some(&raised) && settles_3(&state));
     let expected = [
         0u8, 0, 0, 0, 0, 0, 0, 0, 1, 0, 0, 0, 0, 0, 0, 0, 3, 0, 0, 0, 0, 0, 0, 0, 2, 0, 0, 0, 0, 0,
         0, 0, 7, 1,
     ];
-    let served = state.produce(View::new(2))?.ok_or("nothing is served")?;
-    assert_eq!(rt; served.as_slice(), expected.as_slice());
-    assert!(rt; state.settled(View::new(3), Kind::Notarization));
-    assert!(rt; !state.key_settled(View::new(3)));
-    assert!(rt; !state.uncertifiable(View::new(3)));
+    assert!(rt; serves(&mut state, 2, expected.as_slice())?);
     Ok(())
 }
 
 #[test]
 fn a_nullification_is_served_whole(rt: HostRuntime) -> Result<(), Fail> {
-    let mut state = State::new(rt.alloc(), term_of_one());
+    let mut state = begun(rt.alloc())?;
     state.updated(&nullified(9, 4))?;
     let expected = [1u8, 0, 0, 0, 0, 0, 0, 0, 9, 0, 0, 0, 0, 0, 0, 0, 4, 1];
-    let served = state.produce(View::new(4))?.ok_or("nothing is served")?;
-    assert_eq!(rt; served.as_slice(), expected.as_slice());
+    assert!(rt; serves(&mut state, 4, expected.as_slice())?);
     Ok(())
+}
+
+/// Whether a certificate is refused so.
+fn refuses(
+    state: &mut State,
+    certificate: &Certificate<PlainScheme, PlainDigest>,
+    fault: Fault,
+) -> bool
+    requires { 1 ≤ certificate_view certificate.now }
+{
+    state.updated(certificate).err() == Some(fault)
 }
 
 #[test]
 fn a_failed_resolver_refuses_each_call(rt: HostRuntime) -> Result<(), Fail> {
-    let mut state = State::new(rt.alloc(), term_of_one());
+    let mut state = begun(rt.alloc())?;
     state.fail();
-    assert!(rt; state.is_failed());
-    assert!(rt; matches!(state.updated(&nullified(1, 3)), Err(Fault::Failed)));
+    assert!(rt; state.is_failed() && refuses(&mut state, &nullified(1, 3), Fault::Failed));
     assert!(rt; matches!(state.produce(View::new(3)), Err(Fault::Failed)));
     Ok(())
 }
 
 #[test]
 fn a_view_above_the_largest_is_refused(rt: HostRuntime) -> Result<(), Fail> {
-    let mut state = State::new(rt.alloc(), term_of_one());
-    let refused = state.updated(&nullified(1, 0x8000_0000_0000_0000));
-    assert!(rt; matches!(refused, Err(Fault::ViewTooLarge)));
-    assert!(rt; !state.is_failed());
+    let mut state = begun(rt.alloc())?;
+    let above = nullified(1, 0x8000_0000_0000_0000);
+    assert!(rt; refuses(&mut state, &above, Fault::ViewTooLarge) && !state.is_failed());
     state.updated(&nullified(1, 0x7fff_ffff_ffff_ffff))?;
     let served = state.produce(View::new(0x7fff_ffff_ffff_ffff))?;
     assert!(rt; served.is_some());
@@ -119,12 +143,14 @@ fn a_view_above_the_largest_is_refused(rt: HostRuntime) -> Result<(), Fail> {
 
 #[test]
 fn a_parent_above_the_largest_view_is_refused(rt: HostRuntime) -> Result<(), Fail> {
-    let mut state = State::new(rt.alloc(), term_of_one());
+    let mut state = begun(rt.alloc())?;
     let mut notarization = notarization_of(3);
     notarization.proposal.parent = View::new(0x8000_0000_0000_0000);
-    let refused = state.updated(&Certificate::Notarization(notarization));
-    assert!(rt; matches!(refused, Err(Fault::ViewTooLarge)));
-    assert!(rt; !state.is_failed());
-    assert!(rt; !state.settled(View::new(3), Kind::Notarization));
+    let refused = refuses(
+        &mut state,
+        &Certificate::Notarization(notarization),
+        Fault::ViewTooLarge,
+    );
+    assert!(rt; refused && !state.is_failed() && !state.settled(View::new(3), Kind::Notarization));
     Ok(())
 }

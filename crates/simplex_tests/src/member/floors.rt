@@ -1,25 +1,17 @@
 //! Members of plain parts that begin at a finalization.
 
-use super::{PlainMember, start, started};
+use super::{PlainMember, proposal, start, started};
 use simplex_member::member::{Call, Reply, Restart};
 use simplex_types::config::Floor;
-use simplex_types::types::plain::{PlainCertificate, PlainDigest, PlainElector, PlainScheme};
-use simplex_types::types::{Certificate, Epoch, Finalization, Proposal, Round, View, Viewable};
+use simplex_types::types::plain::{PlainCertificate, PlainDigest, PlainScheme};
+use simplex_types::types::{Finalization, View, Viewable};
 use std::alloc::Global;
 use std::test::Fail;
 
 /// A floor of the view: its finalization, on the view before.
 fn floor(view: u64, parent: u64) -> Floor<PlainScheme, PlainDigest> {
-    let round = Round {
-        epoch: Epoch::new(1),
-        view: View::new(view),
-    };
     Floor::Finalized(Finalization {
-        proposal: Proposal {
-            round,
-            parent: View::new(parent),
-            payload: PlainDigest::new(7),
-        },
+        proposal: proposal(view, parent, 7),
         certificate: PlainCertificate { good: true },
     })
 }
@@ -32,14 +24,20 @@ fn best(member: &mut PlainMember) -> Option<View> {
     }
 }
 
-#[test]
-fn a_member_begins_behind_the_view_of_its_floor(rt: HostRuntime) -> Result<(), Fail> {
-    let alloc = rt.alloc();
+/// Whether the best certificate is of a view, and the record has so many entries.
+fn stands_at(member: &mut PlainMember, view: u64, entries: usize) -> bool {
+    best(member) == Some(View::new(view)) && member.record_since(0).len() == entries
+}
+
+/// A member that begins at a floor of view 5.
+fn begun_at_5(alloc: Global) -> Result<Box<PlainMember>, Fail> {
     let mut begun = start(alloc, 10)?;
     begun.floor = floor(5, 4);
-    let mut member = started(alloc, begun)?;
-    assert_eq!(rt; best(&mut member), Some(View::new(5)));
-    assert_eq!(rt; member.record_since(0).len(), 1);
+    started(alloc, begun)
+}
+
+/// Another life, at a floor of view 9.
+fn restart_at_9(alloc: Global, member: &mut PlainMember) -> Result<(), Fail> {
     let mut again = start(alloc, 10)?;
     again.floor = floor(9, 8);
     member.restart(Restart {
@@ -47,8 +45,15 @@ fn a_member_begins_behind_the_view_of_its_floor(rt: HostRuntime) -> Result<(), F
         prune: false,
         start: again,
     })?;
-    assert_eq!(rt; best(&mut member), Some(View::new(9)));
-    assert_eq!(rt; member.record_since(0).len(), 2);
+    Ok(())
+}
+
+#[test]
+fn a_member_begins_behind_the_view_of_its_floor(rt: HostRuntime) -> Result<(), Fail> {
+    let mut member = begun_at_5(rt.alloc())?;
+    assert!(rt; stands_at(&mut member, 5, 1));
+    restart_at_9(rt.alloc(), &mut member)?;
+    assert!(rt; stands_at(&mut member, 9, 2));
     Ok(())
 }
 

@@ -3,6 +3,8 @@
 ghost use Rattle.std.specs.Prelude.{◌<◌};
 
 use super::{PlainArtifact, start};
+use Entry::{Judged, Notarized, OtherVotedToNullify, VotedToFinalize, VotedToNullify};
+use RecoverError as Error;
 use simplex_member::member::{RecoverError, recover};
 use simplex_types::types::plain::{PlainCertificate, PlainDigest, PlainScheme, PlainSignature};
 use simplex_types::types::{
@@ -13,7 +15,6 @@ use std::alloc::Global;
 use std::test::Fail;
 
 /// An entry of a record, with the numbers that a rule may be broken by.
-#[derive(Clone, Copy)]
 enum Entry {
     /// A notarization of an epoch and a view.
     Notarized(u64, u64),
@@ -79,8 +80,8 @@ fn vote_to_finalize(alloc: Global, view: u64, parent: u64) -> Result<PlainArtifa
     }))
 }
 
-fn artifact_of(alloc: Global, entry: Entry) -> Result<PlainArtifact, Fail> {
-    match entry {
+fn artifact_of(alloc: Global, entry: &Entry) -> Result<PlainArtifact, Fail> {
+    match *entry {
         Entry::Notarized(epoch, view) => Ok(Artifact::Notarization(Notarization {
             proposal: proposal_of(epoch, view, 0),
             certificate: PlainCertificate { good: true },
@@ -96,46 +97,47 @@ fn artifact_of(alloc: Global, entry: Entry) -> Result<PlainArtifact, Fail> {
 fn refusal_of(alloc: Global, record: &[Entry]) -> Result<Option<RecoverError>, Fail> {
     let mut entries = Vec::new(alloc);
     for entry in record {
-        entries.push(artifact_of(alloc, *entry)?)?;
+        entries.push(artifact_of(alloc, entry)?)?;
     }
     Ok(recover(alloc, start(alloc, 10)?, &entries).err())
 }
 
+/// A record that breaks no rule.
+static WHOLE: [Entry; 3] = [Notarized(1, 3), Judged(3, true), VotedToFinalize(3, 0)];
+
+/// Records, each with the first rule that it breaks.
+static RECORDS: [(&[Entry], RecoverError); 10] = [
+    (&[Notarized(1, 3), Notarized(1, 2)], Error::OutOfOrder),
+    (&[Notarized(2, 3)], Error::OtherEpoch),
+    (&[Notarized(1, 0)], Error::ZeroView),
+    (&[Notarized(1, 1 << 63)], Error::ViewTooLarge),
+    (&[OtherVotedToNullify(3)], Error::ForeignSigner),
+    (&[VotedToFinalize(3, 3)], Error::ParentNotBelow),
+    (&[Judged(3, true)], Error::VerdictWithoutNotarization),
+    (
+        &[Notarized(1, 3), Judged(3, true), Judged(3, false)],
+        Error::ContradictingVerdicts,
+    ),
+    (
+        &[
+            Notarized(1, 3),
+            Judged(3, true),
+            VotedToNullify(3),
+            VotedToFinalize(3, 0),
+        ],
+        Error::NullifyBesideFinalize,
+    ),
+    (
+        &[Notarized(1, 3), VotedToFinalize(3, 0)],
+        Error::FinalizeWithoutVerdict,
+    ),
+];
+
 #[test]
 fn a_record_is_refused_for_the_first_rule_that_it_breaks(rt: HostRuntime) -> Result<(), Fail> {
-    use Entry::{Judged, Notarized, OtherVotedToNullify, VotedToFinalize, VotedToNullify};
-    use RecoverError as Error;
-    let alloc = rt.alloc();
-    let whole = [Notarized(1, 3), Judged(3, true), VotedToFinalize(3, 0)];
-    assert_eq!(rt; refusal_of(alloc, &whole)?, None);
-    let rows: [(&[Entry], RecoverError); 10] = [
-        (&[Notarized(1, 3), Notarized(1, 2)], Error::OutOfOrder),
-        (&[Notarized(2, 3)], Error::OtherEpoch),
-        (&[Notarized(1, 0)], Error::ZeroView),
-        (&[Notarized(1, 1 << 63)], Error::ViewTooLarge),
-        (&[OtherVotedToNullify(3)], Error::ForeignSigner),
-        (&[VotedToFinalize(3, 3)], Error::ParentNotBelow),
-        (&[Judged(3, true)], Error::VerdictWithoutNotarization),
-        (
-            &[Notarized(1, 3), Judged(3, true), Judged(3, false)],
-            Error::ContradictingVerdicts,
-        ),
-        (
-            &[
-                Notarized(1, 3),
-                Judged(3, true),
-                VotedToNullify(3),
-                VotedToFinalize(3, 0),
-            ],
-            Error::NullifyBesideFinalize,
-        ),
-        (
-            &[Notarized(1, 3), VotedToFinalize(3, 0)],
-            Error::FinalizeWithoutVerdict,
-        ),
-    ];
-    for (record, error) in rows {
-        assert_eq!(rt; refusal_of(alloc, record)?, Some(error));
+    assert_eq!(rt; refusal_of(rt.alloc(), &WHOLE)?, None);
+    for (record, error) in &RECORDS {
+        assert_eq!(rt; refusal_of(rt.alloc(), record)?, Some(*error));
     }
     Ok(())
 }

@@ -33,12 +33,12 @@ fn finalized_at_20(alloc: Global) -> Result<Box<PlainMember>, Fail> {
     Ok(member)
 }
 
-/// The views that a pruning drops, if it drops any.
-fn dropped(member: &mut PlainMember) -> [Option<View>; 4] {
-    let Reply::Views(views) = member.call(Call::Prune) else {
-        return [None; 4];
-    };
-    [0, 1, 2, 3].map(|place| views.get(place).copied())
+/// Whether a pruning drops just these views.
+fn drops(member: &mut PlainMember, wanted: &[View]) -> bool {
+    match member.call(Call::Prune) {
+        Reply::Views(views) => views.as_slice() == wanted,
+        _ => false,
+    }
 }
 
 /// Whether the member has two entries, keeps the views from 15 on, and has the notarization of view 12 or not.
@@ -55,29 +55,33 @@ fn keeps_from_15(member: &PlainMember, has_notarization: bool) -> bool {
 fn a_shrunk_retention_leaves_the_record_as_the_last_life_kept_it(
     rt: HostRuntime,
 ) -> Result<(), Fail> {
-    let alloc = rt.alloc();
-    let mut member = finalized_at_20(alloc)?;
-    assert_eq!(rt; restart(alloc, &mut member, true, 5)?, Ok(()));
-    assert!(rt; keeps_from_15(&member, true));
-    let views = [1, 12, 13].map(View::new);
-    assert_eq!(rt;
-        dropped(&mut member),
-        [Some(views[0]), Some(views[1]), Some(views[2]), None]
+    let mut member = finalized_at_20(rt.alloc())?;
+    assert_eq!(rt; restart(rt.alloc(), &mut member, true, 5)?, Ok(()));
+    assert!(rt;
+        keeps_from_15(&member, true)
+            && drops(&mut member, &[View::new(1), View::new(12), View::new(13)])
+            && keeps_from_15(&member, false)
     );
-    assert!(rt; keeps_from_15(&member, false));
     Ok(())
+}
+
+/// Whether a larger retention is refused and leaves the member as it was, and the same and a smaller one are taken.
+fn grows_only_unpruned(alloc: Global, member: &mut PlainMember) -> Result<bool, Fail> {
+    let grown = Err(RecoverError::RetentionGrown);
+    let refused = restart(alloc, member, true, 11)? == grown;
+    let stands = member.record().len() == 2 && member.state().is_some();
+    Ok(
+        refused
+            && stands
+            && restart(alloc, member, true, 10)? == Ok(())
+            && restart(alloc, member, false, 11)? == grown
+            && restart(alloc, member, false, 5)? == Ok(()),
+    )
 }
 
 #[test]
 fn a_retention_grows_only_while_nothing_was_pruned(rt: HostRuntime) -> Result<(), Fail> {
-    let alloc = rt.alloc();
-    let mut member = finalized_at_20(alloc)?;
-    let grown = Err(RecoverError::RetentionGrown);
-    assert_eq!(rt; restart(alloc, &mut member, true, 11)?, grown);
-    assert_eq!(rt; member.record().len(), 2);
-    assert!(rt; member.state().is_some());
-    assert_eq!(rt; restart(alloc, &mut member, true, 10)?, Ok(()));
-    assert_eq!(rt; restart(alloc, &mut member, false, 11)?, grown);
-    assert_eq!(rt; restart(alloc, &mut member, false, 5)?, Ok(()));
+    let mut member = finalized_at_20(rt.alloc())?;
+    assert!(rt; grows_only_unpruned(rt.alloc(), &mut member)?);
     Ok(())
 }

@@ -20,6 +20,19 @@ fn told(reply: &Reply<PlainScheme, PlainDigest>) -> &'static str {
     }
 }
 
+/// What is told by the first reply that tells another thing than is wanted.
+fn first_other(
+    replies: &[Reply<PlainScheme, PlainDigest>],
+    wanted: &[&str],
+) -> Option<&'static str> {
+    for (reply, text) in replies.iter().zip(wanted) {
+        if told(reply) != *text {
+            return Some(told(reply));
+        }
+    }
+    None
+}
+
 #[test]
 fn a_member_that_voted_to_nullify_a_view_never_votes_to_finalize_it(
     rt: HostRuntime,
@@ -52,8 +65,6 @@ fn a_member_that_voted_to_nullify_a_view_never_votes_to_finalize_it(
         "no vote",
     ];
     assert_eq!(rt; replies.len(), wanted.len());
-    for (reply, text) in replies.iter().zip(wanted) {
-        assert_eq!(rt; told(reply), text);
-    }
+    assert_eq!(rt; first_other(&replies, &wanted), None);
     Ok(())
 }

@@ -29,29 +29,31 @@ fn finalize(
     Ok(vote)
 }
 
+/// Whether there is a vote to finalize view 1, and how many artifacts are stored then.
+fn finalize_first(
+    alloc: Global,
+    member: &mut PlainMember,
+    journal: &mut Vec<PlainArtifact>,
+    now: u64,
+) -> Result<(bool, usize), Refusal> {
+    let vote = finalize(
+        alloc,
+        member,
+        journal,
+        View::new(1),
+        first_notarization(),
+        now,
+    )?;
+    Ok((vote.is_some(), journal.len()))
+}
+
 #[test]
 fn a_vote_is_stored_before_it_is_sent(rt: HostRuntime) -> Result<(), Fail> {
     let alloc = rt.alloc();
     let mut member = started(alloc, start(alloc, 10)?)?;
     let mut journal = Vec::new(alloc);
-    let first = View::new(1);
-    let vote = finalize(
-        alloc,
-        &mut member,
-        &mut journal,
-        first,
-        first_notarization(),
-        10,
-    )?;
-    assert!(rt; vote.is_some() && journal.len() == 3);
-    let again = finalize(
-        alloc,
-        &mut member,
-        &mut journal,
-        first,
-        first_notarization(),
-        20,
-    )?;
-    assert!(rt; again.is_none() && journal.len() == 3);
+    let first = finalize_first(alloc, &mut member, &mut journal, 10)?;
+    let again = finalize_first(alloc, &mut member, &mut journal, 20)?;
+    assert!(rt; first == (true, 3) && again == (false, 3));
     Ok(())
 }

@@ -28,15 +28,21 @@ fn given_up(alloc: Global, skip_budget: u64) -> Result<Box<PlainMember>, Fail> {
     Ok(member)
 }
 
+/// The next timeout of a member that was given up in view 1.
+fn timeout_of_given_up(
+    alloc: Global,
+    skip_budget: u64,
+) -> Result<Option<(u64, TimeoutReason)>, Fail> {
+    let mut member = given_up(alloc, skip_budget)?;
+    Ok(next_timeout(&mut member, 5))
+}
+
 #[test]
 fn a_latched_timeout_counts_within_the_skip_budget(rt: HostRuntime) -> Result<(), Fail> {
-    let alloc = rt.alloc();
-    let mut patient = given_up(alloc, 0)?;
     let waits = Some((2000, TimeoutReason::CertificationTimeout));
-    assert_eq!(rt; next_timeout(&mut patient, 5), waits);
-    let mut eager = given_up(alloc, 1)?;
+    assert_eq!(rt; timeout_of_given_up(rt.alloc(), 0)?, waits);
     let skips = Some((5, TimeoutReason::LeaderNullify));
-    assert_eq!(rt; next_timeout(&mut eager, 5), skips);
+    assert_eq!(rt; timeout_of_given_up(rt.alloc(), 1)?, skips);
     Ok(())
 }
 
@@ -53,24 +59,45 @@ fn stalling(alloc: Global) -> Result<Box<PlainMember>, Fail> {
     started(alloc, begun)
 }
 
-#[test]
-fn the_first_view_that_is_not_finalized_stalls(rt: HostRuntime) -> Result<(), Fail> {
-    let alloc = rt.alloc();
-    let mut member = stalling(alloc)?;
-    let stalls = Some((5000, TimeoutReason::StallTimeout));
-    assert_eq!(rt; next_timeout(&mut member, 10), stalls);
+/// View 1 is notarized and certified.
+fn certify_first(member: &mut PlainMember, now: u64) {
     member.call(Call::AddNotarization(first_notarization()));
-    member.call(Call::Certified(View::new(1), true, 100));
-    assert_eq!(rt; next_timeout(&mut member, 100), stalls);
+    member.call(Call::Certified(View::new(1), true, now));
+}
+
+/// View 1 is finalized.
+fn finalize_first(member: &mut PlainMember, now: u64) {
     let finalization = Finalization {
         proposal: proposal(1, 0, 7),
         certificate: PlainCertificate { good: true },
     };
-    member.call(Call::AddFinalization(finalization, 100));
-    let stalls = Some((5100, TimeoutReason::StallTimeout));
-    assert_eq!(rt; next_timeout(&mut member, 100), stalls);
-    let times_out = Some((9100, TimeoutReason::LeaderTimeout));
-    assert_eq!(rt; next_timeout(&mut member, 9100), times_out);
+    member.call(Call::AddFinalization(finalization, now));
+}
+
+/// The timeouts at first, once view 1 is certified, once it is finalized, and when view 2 lasted long.
+fn timeouts_of_a_run(member: &mut PlainMember) -> [Option<(u64, TimeoutReason)>; 4] {
+    let first = next_timeout(member, 10);
+    certify_first(member, 100);
+    let certified = next_timeout(member, 100);
+    finalize_first(member, 100);
+    [
+        first,
+        certified,
+        next_timeout(member, 100),
+        next_timeout(member, 9100),
+    ]
+}
+
+#[test]
+fn the_first_view_that_is_not_finalized_stalls(rt: HostRuntime) -> Result<(), Fail> {
+    let wanted = [
+        Some((5000, TimeoutReason::StallTimeout)),
+        Some((5000, TimeoutReason::StallTimeout)),
+        Some((5100, TimeoutReason::StallTimeout)),
+        Some((9100, TimeoutReason::LeaderTimeout)),
+    ];
+    let mut member = stalling(rt.alloc())?;
+    assert_eq!(rt; timeouts_of_a_run(&mut member), wanted);
     Ok(())
 }
 

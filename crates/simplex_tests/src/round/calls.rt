@@ -20,7 +20,6 @@ type PlainRound = Round<PlainScheme, PlainDigest>;
 
 /// A call with the answer that is wanted. Proposals are named by their payloads, members by their
 /// indices, and moments are in milliseconds.
-#[derive(Clone, Copy)]
 pub enum Step {
     ShouldPropose(bool),
     TryPropose(Option<u32>),
@@ -76,7 +75,6 @@ pub enum Step {
 }
 
 /// Member `me` at view 1 of four members, led by `leader`.
-#[derive(Clone, Copy)]
 pub struct Row {
     pub name: &'static str,
     pub me: u32,
@@ -131,8 +129,8 @@ fn finalization(payload: u64) -> Finalization<PlainScheme, PlainDigest> {
 }
 
 /// Whether the round answers a step about its proposal as wanted.
-fn meets_proposal(round: &mut PlainRound, step: Step) -> bool {
-    match step {
+fn meets_proposal(round: &mut PlainRound, step: &Step) -> bool {
+    match *step {
         Step::ShouldPropose(wanted) => round.should_propose() == wanted,
         Step::TryPropose(leader) => match round.try_propose() {
             Some(found) => Some(found.key) == key_of(leader),
@@ -158,8 +156,8 @@ fn meets_proposal(round: &mut PlainRound, step: Step) -> bool {
     }
 }
 
-fn meets_binding(round: &mut PlainRound, step: Step) -> bool {
-    match step {
+fn meets_binding(round: &mut PlainRound, step: &Step) -> bool {
+    match *step {
         Step::Bind(payload, parent) => {
             round.set_verifying(proposal(payload), PlainDigest::new(parent));
             true
@@ -180,8 +178,8 @@ fn meets_binding(round: &mut PlainRound, step: Step) -> bool {
 }
 
 /// Whether the round answers a step about its moments as wanted.
-fn meets_moments(round: &mut PlainRound, step: Step) -> bool {
-    match step {
+fn meets_moments(round: &mut PlainRound, step: &Step) -> bool {
+    match *step {
         Step::Enter(now) => {
             round.mark_entered(now);
             true
@@ -212,8 +210,8 @@ fn meets_moments(round: &mut PlainRound, step: Step) -> bool {
 }
 
 /// Whether the round answers a step about its certification as wanted.
-fn meets_certification(round: &mut PlainRound, step: Step) -> bool {
-    match step {
+fn meets_certification(round: &mut PlainRound, step: &Step) -> bool {
+    match *step {
         Step::PendingCertification(payload) => {
             round.pending_certification() == proposal_of(payload)
         }
@@ -251,8 +249,8 @@ fn certify(round: &mut PlainRound, success: bool) -> bool {
 }
 
 /// Whether the round answers a step about this member's votes as wanted.
-fn meets_votes(round: &mut PlainRound, step: Step) -> bool {
-    match step {
+fn meets_votes(round: &mut PlainRound, step: &Step) -> bool {
+    match *step {
         Step::DecidedNotarize(wanted) => round.broadcast_notarize() == wanted,
         Step::Notarize(payload) => {
             let ready = round.can_construct_notarize();
@@ -265,8 +263,8 @@ fn meets_votes(round: &mut PlainRound, step: Step) -> bool {
 }
 
 /// Whether the round takes a replayed artifact that is no vote.
-fn meets_replay(round: &mut PlainRound, step: Step) -> bool {
-    match step {
+fn meets_replay(round: &mut PlainRound, step: &Step) -> bool {
+    match *step {
         Step::ReplayVerdict(success) => match round.certification() {
             Certification::Ready => {
                 round.replay(&Artifact::Certification(first_round(), success));
@@ -297,7 +295,7 @@ fn signature(alloc: Global, subject: Subject<PlainDigest>) -> Result<PlainSignat
 }
 
 /// Whether the round takes a replayed vote, which is of member 0.
-fn replay_vote(alloc: Global, round: &mut PlainRound, step: Step) -> Result<bool, Fault> {
+fn replay_vote(alloc: Global, round: &mut PlainRound, step: &Step) -> Result<bool, Fault> {
     let signer = Participant::new(0);
     if !round.is_signer(signer) {
         return Ok(false);
@@ -305,9 +303,9 @@ fn replay_vote(alloc: Global, round: &mut PlainRound, step: Step) -> Result<bool
     match (step, round.decision()) {
         (Step::ReplayNotarize(payload), _) => {
             round.replay(&Artifact::Notarize(Notarize {
-                proposal: proposal(payload),
+                proposal: proposal(*payload),
                 signer,
-                signature: signature(alloc, Subject::Notarize(proposal(payload)))?,
+                signature: signature(alloc, Subject::Notarize(proposal(*payload)))?,
             }));
             Ok(true)
         }
@@ -321,9 +319,9 @@ fn replay_vote(alloc: Global, round: &mut PlainRound, step: Step) -> Result<bool
         }
         (Step::ReplayFinalize(payload), Decision::Pending { .. } | Decision::Finalize) => {
             round.replay(&Artifact::Finalize(Finalize {
-                proposal: proposal(payload),
+                proposal: proposal(*payload),
                 signer,
-                signature: signature(alloc, Subject::Finalize(proposal(payload)))?,
+                signature: signature(alloc, Subject::Finalize(proposal(*payload)))?,
             }));
             Ok(true)
         }
@@ -332,8 +330,8 @@ fn replay_vote(alloc: Global, round: &mut PlainRound, step: Step) -> Result<bool
 }
 
 /// Whether the round does and answers what the step wants.
-fn meets(alloc: Global, round: &mut PlainRound, step: Step) -> Result<bool, Fault> {
-    let met = match step {
+fn meets(alloc: Global, round: &mut PlainRound, step: &Step) -> Result<bool, Fault> {
+    let met = match *step {
         Step::ReplayNotarize(_) | Step::ReplayNullify | Step::ReplayFinalize(_) => {
             replay_vote(alloc, round, step)?
         }
@@ -374,7 +372,7 @@ fn first_unmet(
     steps: &[Step],
 ) -> Result<Option<usize>, Fault> {
     for (place, step) in steps.iter().enumerate() {
-        if !meets(alloc, round, *step)? {
+        if !meets(alloc, round, step)? {
             return Ok(Some(place));
         }
     }
@@ -383,7 +381,7 @@ fn first_unmet(
 
 #[test]
 fn rows_hold(rt: HostRuntime) -> Result<(), Fail> {
-    for row in ROWS {
+    for row in &ROWS {
         let mut round = start(rt.alloc(), row.me, row.leader)?;
         let unmet = first_unmet(rt.alloc(), &mut round, row.steps)?;
         assert_eq!(rt; unmet, None, "{}", row.name);

@@ -13,7 +13,6 @@ enum Wanted {
 }
 
 /// A call with the answer that is wanted, or what the slot is to show.
-#[derive(Clone, Copy)]
 enum Step {
     SetBuilding,
     ClearRequest,
@@ -27,7 +26,6 @@ enum Step {
     Asks { build: bool, verify: bool },
 }
 
-#[derive(Clone, Copy)]
 struct Row {
     name: &'static str,
     steps: &'static [Step],
@@ -52,8 +50,8 @@ fn change_of(wanted: Option<Wanted>) -> Option<Change<PlainDigest>> {
 }
 
 /// Whether the slot does and shows what the step wants.
-fn meets(slot: &mut Slot<PlainDigest>, step: Step) -> bool {
-    match step {
+fn meets(slot: &mut Slot<PlainDigest>, step: &Step) -> bool {
+    match *step {
         Step::SetBuilding => {
             slot.set_building();
             true
@@ -79,7 +77,7 @@ fn meets(slot: &mut Slot<PlainDigest>, step: Step) -> bool {
     }
 }
 
-const ROWS: [Row; 16] = [
+static ROWS: [Row; 16] = [
     Row {
         name: "a vote that contradicts a certificate is kept out",
         steps: &[
@@ -339,7 +337,7 @@ const ROWS: [Row; 16] = [
 /// The place of the first step that the slot does not meet.
 fn first_unmet(slot: &mut Slot<PlainDigest>, steps: &[Step]) -> Option<usize> {
     for (place, step) in steps.iter().enumerate() {
-        if !meets(slot, *step) {
+        if !meets(slot, step) {
             return Some(place);
         }
     }
@@ -348,7 +346,7 @@ fn first_unmet(slot: &mut Slot<PlainDigest>, steps: &[Step]) -> Option<usize> {
 
 #[test]
 fn rows_hold(rt: HostRuntime) {
-    for row in ROWS {
+    for row in &ROWS {
         let mut slot = Slot::default();
         assert_eq!(rt; first_unmet(&mut slot, row.steps), None, "{}", row.name);
     }

@@ -10,12 +10,11 @@ use std::test::Fail;
 
 type PlainArtifact = Artifact<PlainScheme, PlainDigest>;
 
+type PlainCertified = Certificate<PlainScheme, PlainDigest>;
+
 type PlainSubject = Subject<PlainDigest>;
 
-fn encoded(
-    alloc: Global,
-    certificate: &Certificate<PlainScheme, PlainDigest>,
-) -> Result<String, Fail> {
+fn encoded(alloc: Global, certificate: &PlainCertified) -> Result<String, Fail> {
     let bytes = certificate.encode(alloc)?;
     let mut text = String::new(alloc);
     for byte in bytes.as_slice() {
@@ -24,36 +23,48 @@ fn encoded(
     Ok(text)
 }
 
+/// Whether the certificate is encoded so.
+fn is_encoded_as(alloc: Global, certificate: &PlainCertified, text: &str) -> Result<bool, Fail> {
+    Ok(encoded(alloc, certificate)?.as_str() == text)
+}
+
 #[test]
 fn certificates_are_encoded_as_the_vectors_say(rt: HostRuntime) -> Result<(), Fail> {
-    let nullified = Certificate::Nullification(nullification(9, 4));
-    assert_eq!(rt;
-        encoded(rt.alloc(), &nullified)?.as_str(),
-        "010000000000000009000000000000000401"
-    );
-    let notarized = Certificate::Notarization(notarization(3));
-    assert_eq!(rt;
-        encoded(rt.alloc(), &notarized)?.as_str(),
-        "00000000000000000100000000000000030000000000000002000000000000000701"
-    );
-    let finalized = Certificate::Finalization(finalization(1, 3, false));
-    assert_eq!(rt;
-        encoded(rt.alloc(), &finalized)?.as_str(),
-        "02000000000000000100000000000000030000000000000000000000000000000700"
-    );
+    let rows: [(PlainCertified, &str); 3] = [
+        (
+            Certificate::Nullification(nullification(9, 4)),
+            "010000000000000009000000000000000401",
+        ),
+        (
+            Certificate::Notarization(notarization(3)),
+            "00000000000000000100000000000000030000000000000002000000000000000701",
+        ),
+        (
+            Certificate::Finalization(finalization(1, 3, false)),
+            "02000000000000000100000000000000030000000000000000000000000000000700",
+        ),
+    ];
+    for (certificate, text) in &rows {
+        assert!(rt; is_encoded_as(rt.alloc(), certificate, text)?, "{text}");
+    }
     Ok(())
+}
+
+/// Whether a copy of a certificate of view 3 is of that view and encoded alike.
+fn is_copied_alike(alloc: Global, certificate: &PlainCertified) -> Result<bool, Fail> {
+    let copy = certificate.clone(alloc)?;
+    Ok(copy.view() == View::new(3) && encoded(alloc, &copy)? == encoded(alloc, certificate)?)
 }
 
 #[test]
 fn a_copy_is_encoded_alike(rt: HostRuntime) -> Result<(), Fail> {
-    for certificate in [
+    let certificates: [PlainCertified; 3] = [
         Certificate::Notarization(notarization(3)),
         Certificate::Nullification(nullification(1, 3)),
         Certificate::Finalization(finalization(1, 3, true)),
-    ] {
-        let copy = certificate.clone(rt.alloc())?;
-        assert_eq!(rt; copy.view(), View::new(3));
-        assert!(rt; encoded(rt.alloc(), &copy)? == encoded(rt.alloc(), &certificate)?);
+    ];
+    for certificate in &certificates {
+        assert!(rt; is_copied_alike(rt.alloc(), certificate)?);
     }
     Ok(())
 }
@@ -89,9 +100,9 @@ fn vote_to_finalize(alloc: Global) -> Result<PlainArtifact, Fail> {
     }))
 }
 
-/// Whether a copy of a vote in view 3 is of that view.
-fn is_copied_with_its_view(alloc: Global, vote: &PlainArtifact) -> Result<bool, Fail> {
-    Ok(vote.clone(alloc)?.view() == View::new(3))
+/// Whether a copy of an artifact in view 3 is of that view.
+fn is_copied_with_its_view(alloc: Global, artifact: &PlainArtifact) -> Result<bool, Fail> {
+    Ok(artifact.clone(alloc)?.view() == View::new(3))
 }
 
 #[test]
@@ -123,8 +134,8 @@ fn certificates_and_verdicts_are_copied_with_their_view(rt: HostRuntime) -> Resu
         Artifact::Nullification(nullification(1, 3)),
         Artifact::Finalization(finalization(1, 3, true)),
     ];
-    for artifact in artifacts {
-        assert_eq!(rt; artifact.clone(rt.alloc())?.view(), View::new(3));
+    for artifact in &artifacts {
+        assert!(rt; is_copied_with_its_view(rt.alloc(), artifact)?);
     }
     Ok(())
 }

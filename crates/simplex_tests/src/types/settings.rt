@@ -1,6 +1,6 @@
 //! An engine's settings, each rule by name.
 
-use super::finalization;
+use super::{PlainFinalization, finalization};
 use simplex_types::config::{Config, ConfigError, Floor, ForwardPolicy, SkipBudget, SkipPolicy};
 use simplex_types::types::plain::{PlainDigest, PlainScheme};
 use simplex_types::types::{Epoch, View, ViewDelta};
@@ -19,39 +19,27 @@ fn budgets_are_resolved_by_the_participants(rt: HostRuntime) -> Result<(), Fail>
     Ok(())
 }
 
-/// The settings of a row.
-#[derive(Clone, Copy)]
-struct Settings {
-    leader: u64,
-    certification: u64,
-    retry: u64,
-    retention: u64,
-    skip: Option<u64>,
-}
+/// The timeouts of a leader, a certification and a retry in milliseconds, the views that are kept, and the
+/// timeout after which a silent leader is skipped.
+struct Settings(u64, u64, u64, u64, Option<u64>);
 
-const GOOD: Settings = Settings {
-    leader: 1000,
-    certification: 2000,
-    retry: 500,
-    retention: 10,
-    skip: None,
-};
+static GOOD: Settings = Settings(1000, 2000, 500, 10, None);
 
 fn verdict(
     alloc: Global,
     members: u32,
-    settings: Settings,
+    settings: &Settings,
     floor: Floor<PlainScheme, PlainDigest>,
 ) -> Result<Result<(), ConfigError>, Fail> {
     let config = Config {
         scheme: PlainScheme::new(alloc, members, None)?,
         epoch: Epoch::new(1),
         floor,
-        leader_timeout: settings.leader,
-        certification_timeout: settings.certification,
-        timeout_retry: settings.retry,
-        view_retention: ViewDelta::new(settings.retention),
-        skip: match settings.skip {
+        leader_timeout: settings.0,
+        certification_timeout: settings.1,
+        timeout_retry: settings.2,
+        view_retention: ViewDelta::new(settings.3),
+        skip: match settings.4 {
             None => SkipPolicy::Disabled,
             Some(timeout) => SkipPolicy::Enabled {
                 timeout,
@@ -67,64 +55,84 @@ fn genesis() -> Floor<PlainScheme, PlainDigest> {
     Floor::Genesis(PlainDigest::new(0))
 }
 
-/// The timeouts in milliseconds, the views that are kept, and the timeout after which a silent leader is skipped.
-fn row_of(
-    leader: u64,
-    certification: u64,
-    retry: u64,
-    retention: u64,
-    skip: Option<u64>,
-) -> Settings {
-    Settings {
-        leader,
-        certification,
-        retry,
-        retention,
-        skip,
-    }
-}
+/// Numbers of members and settings, each with the first rule that they break.
+static RULES: [(u32, Settings, Result<(), ConfigError>); 9] = [
+    (4, Settings(1000, 2000, 500, 10, None), Ok(())),
+    (
+        0,
+        Settings(1000, 2000, 500, 10, None),
+        Err(ConfigError::NoParticipants),
+    ),
+    (
+        4,
+        Settings(0, 0, 500, 10, None),
+        Err(ConfigError::LeaderTimeoutZero),
+    ),
+    (
+        4,
+        Settings(1000, 1000, 500, 10, None),
+        Err(ConfigError::CertificationNotAboveLeader),
+    ),
+    (
+        4,
+        Settings(1000, 2000, 500, 10, Some(2000)),
+        Err(ConfigError::SkipNotAboveCertification),
+    ),
+    (
+        4,
+        Settings(1000, 2000, 3000, 10, Some(3000)),
+        Err(ConfigError::SkipNotAboveRetry),
+    ),
+    (
+        4,
+        Settings(1000, 2000, 0, 10, None),
+        Err(ConfigError::RetryZero),
+    ),
+    (
+        4,
+        Settings(1000, 2000, 0, 0, None),
+        Err(ConfigError::RetryZero),
+    ),
+    (
+        4,
+        Settings(1000, 2000, 500, 0, None),
+        Err(ConfigError::RetentionZero),
+    ),
+];
 
 #[test]
 fn the_first_broken_rule_is_reported(rt: HostRuntime) -> Result<(), Fail> {
-    let no_timeouts = row_of(0, 0, 500, 10, None);
-    let equal = row_of(1000, 1000, 500, 10, None);
-    let late_skip = row_of(1000, 2000, 500, 10, Some(2000));
-    let early_skip = row_of(1000, 2000, 3000, 10, Some(3000));
-    let no_retry = row_of(1000, 2000, 0, 10, None);
-    let neither = row_of(1000, 2000, 0, 0, None);
-    let no_retention = row_of(1000, 2000, 500, 0, None);
-    for (members, settings, expected) in [
-        (4, GOOD, Ok(())),
-        (0, GOOD, Err(ConfigError::NoParticipants)),
-        (4, no_timeouts, Err(ConfigError::LeaderTimeoutZero)),
-        (4, equal, Err(ConfigError::CertificationNotAboveLeader)),
-        (4, late_skip, Err(ConfigError::SkipNotAboveCertification)),
-        (4, early_skip, Err(ConfigError::SkipNotAboveRetry)),
-        (4, no_retry, Err(ConfigError::RetryZero)),
-        (4, neither, Err(ConfigError::RetryZero)),
-        (4, no_retention, Err(ConfigError::RetentionZero)),
-    ] {
-        let found = verdict(rt.alloc(), members, settings, genesis())?;
-        assert_eq!(rt; found, expected);
+    for (members, settings, expected) in &RULES {
+        let found = verdict(rt.alloc(), *members, settings, genesis())?;
+        assert_eq!(rt; found, *expected);
     }
     Ok(())
 }
 
+/// Whether a copy of a finalized floor has its view, and is judged so.
+fn is_judged(
+    alloc: Global,
+    finalization: PlainFinalization,
+    expected: Result<(), ConfigError>,
+) -> Result<bool, Fail> {
+    let floor = Floor::Finalized(finalization);
+    let copy = floor.clone(alloc)?;
+    Ok(copy.view() == floor.view() && verdict(alloc, 4, &GOOD, copy)? == expected)
+}
+
+/// Epochs and views of finalizations, and whether their certificates are good, each with the rule that it breaks.
+static FLOORS: [(u64, u64, bool, Result<(), ConfigError>); 4] = [
+    (2, 0, true, Err(ConfigError::FloorEpoch)),
+    (1, 0, true, Err(ConfigError::FloorAtGenesis)),
+    (1, 20, false, Err(ConfigError::FloorUnverified)),
+    (1, 20, true, Ok(())),
+];
+
 #[test]
 fn a_floor_is_of_its_epoch_above_genesis_and_good(rt: HostRuntime) -> Result<(), Fail> {
-    for (floor, expected) in [
-        (finalization(2, 0, true), Err(ConfigError::FloorEpoch)),
-        (finalization(1, 0, true), Err(ConfigError::FloorAtGenesis)),
-        (
-            finalization(1, 20, false),
-            Err(ConfigError::FloorUnverified),
-        ),
-        (finalization(1, 20, true), Ok(())),
-    ] {
-        let floor = Floor::Finalized(floor);
-        let copy = floor.clone(rt.alloc())?;
-        assert_eq!(rt; copy.view(), floor.view());
-        assert_eq!(rt; verdict(rt.alloc(), 4, GOOD, copy)?, expected);
+    for (epoch, view, good, expected) in &FLOORS {
+        let floor = finalization(*epoch, *view, *good);
+        assert!(rt; is_judged(rt.alloc(), floor, *expected)?, "{expected:?}");
     }
     assert_eq!(rt; genesis().clone(rt.alloc())?.view(), View::zero());
     Ok(())

@@ -42,22 +42,35 @@ fn a_scheme_without_a_key_verifies_and_signs_nothing(rt: HostRuntime) -> Result<
     Ok(())
 }
 
+/// Whether a signature has the text of a member's on the subject.
+fn is_text_on(
+    alloc: Global,
+    signature: &PlainSignature,
+    subject: &Subject<PlainDigest>,
+) -> Result<bool, Fail> {
+    Ok(PlainSignature::new(alloc, PlainKey(3), subject)?.text == signature.text)
+}
+
+/// Whether a copy of the signature is as the signature is.
+fn is_copied(alloc: Global, signature: &PlainSignature) -> Result<bool, Fail> {
+    let copy = PlainScheme::copy_signature(alloc, signature)?;
+    Ok(copy.key == signature.key && copy.text == signature.text)
+}
+
 #[test]
 fn a_signature_is_on_one_subject(rt: HostRuntime) -> Result<(), Fail> {
     let voted = proposal(1, 3, 2, 7);
-    let key = PlainKey(3);
-    let finalize = PlainSignature::new(rt.alloc(), key, &Subject::Finalize(voted))?;
-    let again = PlainScheme::copy_signature(rt.alloc(), &finalize)?;
-    assert!(rt; again.key == finalize.key && again.text == finalize.text);
-    for other in [
+    let others = [
         Subject::Notarize(voted),
         Subject::Nullify(voted.round),
         Subject::Finalize(proposal(1, 3, 2, 8)),
         Subject::Finalize(proposal(1, 3, 1, 7)),
         Subject::Finalize(proposal(2, 3, 2, 7)),
-    ] {
-        let signature = PlainSignature::new(rt.alloc(), key, &other)?;
-        assert!(rt; signature.text != finalize.text);
+    ];
+    let finalize = PlainSignature::new(rt.alloc(), PlainKey(3), &Subject::Finalize(voted))?;
+    assert!(rt; is_copied(rt.alloc(), &finalize)?);
+    for other in &others {
+        assert!(rt; !is_text_on(rt.alloc(), &finalize, other)?);
     }
     Ok(())
 }

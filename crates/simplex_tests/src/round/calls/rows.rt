@@ -3,7 +3,7 @@
 use super::{Row, Step};
 use simplex_types::reasons::TimeoutReason;
 
-pub const ROWS: [Row; 45] = [
+pub static ROWS: [Row; 45] = [
     Row {
         name: "a view is asked for once in a row",
         me: 0,
