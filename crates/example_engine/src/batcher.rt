@@ -63,7 +63,7 @@ impl<C: Copy + Eq> Batcher<C> {
 
     /// Takes a vote, where the state admits its view, it is a member's, and none of that member's was taken in the view.
     /// Answers whether it was taken.
-    pub fn take(&mut self, state: &CoreState, ballot: Ballot<C>) -> Result<bool, AllocError>
+    pub(crate) fn take(&mut self, state: &CoreState, ballot: Ballot<C>) -> Result<bool, AllocError>
         ensures taken { IfOk result (λ taken. IsTrue taken ↔ IsTaken (is_started state.now && admits_vote state.now ballot.view)
             self.old.members self.old.ballots.items ballot.view ballot.signer) }
         ensures after { IfOk result (λ taken. self.new.ballots.items
@@ -106,7 +106,12 @@ impl<C: Copy + Eq> Batcher<C> {
     }
 
     /// The certificate of all members whose votes for the choice in the view were taken, once they are a quorum.
-    pub fn seal(&self, alloc: Global, view: View, choice: C) -> Result<Option<Seal>, AllocError>
+    pub(crate) fn seal(
+        &self,
+        alloc: Global,
+        view: View,
+        choice: C,
+    ) -> Result<Option<Seal>, AllocError>
         ensures { let signers = signers_of C.eq self.now.members self.now.ballots.items view choice in
             IfOk result (λ seal. MatchOption seal
             (length signers < quorum_of self.now.members)

@@ -9,7 +9,7 @@ const MODULUS: u64 = 4_294_967_291;
 const FACTOR: u64 = 65_599;
 
 /// A number of 32 bits that depends on a seed and on each byte. It tells texts apart only where nobody tries to deceive.
-pub fn checksum(seed: u64, bytes: &[u8]) -> u64
+pub(crate) fn checksum(seed: u64, bytes: &[u8]) -> u64
     requires { seed < 2 ^ 32 }
     ensures value { result ≡ checksum_from seed bytes.now }
     ensures in_range { result < 2 ^ 32 }

@@ -10,7 +10,7 @@ use simplex_types::types::{Digest, View};
 use std::fmt;
 
 /// A block's digest, of eight bytes. A real one is a hash that nobody can turn round.
-#[derive(Clone, Copy, PartialEq, Eq, Debug)]
+#[derive(Clone, Copy, PartialEq, Eq)]
 pub struct BlockDigest {
     bytes: [u8; 8],
     ghost sized: { length bytes ≡ 8 },
@@ -20,14 +20,14 @@ impl BlockDigest {
     ghost use Rattle.example_engine.specs.Digests.{bytes_of};
 
     /// The digest of genesis.
-    pub fn genesis() -> BlockDigest
+    pub(crate) fn genesis() -> BlockDigest
         ensures { bytes_of result ≡ to_be_bytes w64 0 }
     {
         BlockDigest::of_number(0)
     }
 
     /// The digest whose bytes are the number's, big-endian.
-    pub fn of_number(number: u64) -> BlockDigest
+    pub(crate) fn of_number(number: u64) -> BlockDigest
         ensures { bytes_of result ≡ to_be_bytes w64 number }
     {
         BlockDigest {

@@ -19,7 +19,7 @@ use std::alloc::Global;
 use std::collections::VecDeque;
 
 /// What a call was about.
-#[derive(Clone, Copy, PartialEq, Eq)]
+#[derive(Clone, Copy)]
 pub enum Topic {
     /// A certificate of the view came in, of votes of this kind.
     Accepted(VoteKind, View),

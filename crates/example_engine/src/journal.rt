@@ -51,7 +51,7 @@ impl Journal {
     }
 
     /// Stores what the member's record has behind the entries that are stored.
-    pub fn append(&mut self, member: &Core) -> Result<(), Fault>
+    pub(crate) fn append(&mut self, member: &Core) -> Result<(), Fault>
         ensures stored { OnOk result (entries_of seal_bytes self.new.entries.items
             ≡ entries_of seal_bytes self.old.entries.items ++ drop (length self.old.entries.items) member.now.entries) }
         ensures kept { OnErr result (self.new.entries.items ≡ self.old.entries.items) }
@@ -64,7 +64,7 @@ impl Journal {
 
     /// Stores what the record has grown by, and then hands out this member's vote of the kind and view, where one is
     /// stored.
-    pub fn hand_out(
+    pub(crate) fn hand_out(
         &mut self,
         member: &Core,
         kind: VoteKind,

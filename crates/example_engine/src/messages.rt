@@ -24,7 +24,7 @@ pub enum Vote {
 }
 
 /// The kinds of votes.
-#[derive(Clone, Copy, PartialEq, Eq, Debug)]
+#[derive(Clone, Copy, PartialEq, Eq)]
 pub enum VoteKind {
     /// Votes to notarize.
     Notarize,
@@ -36,7 +36,7 @@ pub enum VoteKind {
 
 impl Vote {
     /// The same vote once more; the only fault is want of memory.
-    pub fn copy(&self, alloc: Global) -> Result<Vote, Fault>
+    pub(crate) fn copy(&self, alloc: Global) -> Result<Vote, Fault>
         ensures same { IfOk result (λ vote. vote ≡ self.now) }
         ensures refused { IsOkUnless result OutOfMemory }
     {

@@ -12,7 +12,7 @@ use std::alloc::{AllocError, Global};
 mod codec;
 
 /// A member's key, by which it signs and is known.
-#[derive(Clone, Copy, PartialEq, Eq, Debug)]
+#[derive(Clone, Copy, PartialEq, Eq)]
 pub struct MemberKey {
     number: u32,
 }
@@ -20,7 +20,7 @@ pub struct MemberKey {
 impl PublicKey for MemberKey {}
 
 /// A member's signature: its key, and a sum over the key and the bytes of the vote.
-#[derive(Clone, Copy, PartialEq, Eq, Debug)]
+#[derive(Clone, Copy, PartialEq, Eq)]
 pub struct Signature {
     /// The key that it was made under.
     pub key: MemberKey,
@@ -36,7 +36,7 @@ pub struct Seal {
 }
 
 /// How many of so many members make a certificate: all but the faulty ones, of which there are fewer than a third.
-pub fn quorum(members: usize) -> usize
+pub(crate) fn quorum(members: usize) -> usize
     requires { 0 < members }
     ensures { result ≡ members - (members - 1) / 3 }
 {
