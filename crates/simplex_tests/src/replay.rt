@@ -241,7 +241,7 @@ fn a_kept_resolver_applies_each_call(rt: HostRuntime) -> Result<(), Fail> {
 }
 
 /// Whether just these bytes are served for view 3.
-fn serves_at_3(state: &mut State, bytes: &[u8]) -> Result<bool, Fail> {
+fn serves_at_3(state: &State, bytes: &[u8]) -> Result<bool, Fail> {
     let served = state.produce(View::new(3))?.ok_or("nothing is served")?;
     Ok(served.as_slice() == bytes)
 }
@@ -249,13 +249,13 @@ fn serves_at_3(state: &mut State, bytes: &[u8]) -> Result<bool, Fail> {
 #[test]
 fn a_certified_notarization_is_served_again(rt: HostRuntime) -> Result<(), Fail> {
     let entries = [notarization(3), nullification(5), verdict(3, true)];
-    let (mut state, effects) = replayed(rt.alloc(), &entries)?;
+    let (state, effects) = replayed(rt.alloc(), &entries)?;
     let encoding = [
         0u8, 0, 0, 0, 0, 0, 0, 0, 1, 0, 0, 0, 0, 0, 0, 0, 3, 0, 0, 0, 0, 0, 0, 0, 0, 0, 0, 0, 0, 0,
         0, 0, 7, 1,
     ];
     assert!(rt; effects.as_slice() == [gap_fetch(4, 5)].as_slice());
-    assert!(rt; serves_at_3(&mut state, encoding.as_slice())?);
+    assert!(rt; serves_at_3(&state, encoding.as_slice())?);
     Ok(())
 }
 

@@ -75,7 +75,7 @@ fn a_fetch_is_open_until_it_is_settled(rt: HostRuntime) -> Result<(), Fail> {
 }
 
 /// Whether just these bytes are served for a view.
-fn serves(state: &mut State, view: u64, bytes: &[u8]) -> Result<bool, Fail> {
+fn serves(state: &State, view: u64, bytes: &[u8]) -> Result<bool, Fail> {
     let served = state.produce(View::new(view))?.ok_or("nothing is served")?;
     Ok(served.as_slice() == bytes)
 }
@@ -97,7 +97,7 @@ fn a_certified_notarization_is_served(rt: HostRuntime) -> Result<(), Fail> {
         0u8, 0, 0, 0, 0, 0, 0, 0, 1, 0, 0, 0, 0, 0, 0, 0, 3, 0, 0, 0, 0, 0, 0, 0, 2, 0, 0, 0, 0, 0,
         0, 0, 7, 1,
     ];
-    assert!(rt; serves(&mut state, 2, expected.as_slice())?);
+    assert!(rt; serves(&state, 2, expected.as_slice())?);
     Ok(())
 }
 
@@ -106,7 +106,7 @@ fn a_nullification_is_served_whole(rt: HostRuntime) -> Result<(), Fail> {
     let mut state = begun(rt.alloc())?;
     state.updated(&nullified(9, 4))?;
     let expected = [1u8, 0, 0, 0, 0, 0, 0, 0, 9, 0, 0, 0, 0, 0, 0, 0, 4, 1];
-    assert!(rt; serves(&mut state, 4, expected.as_slice())?);
+    assert!(rt; serves(&state, 4, expected.as_slice())?);
     Ok(())
 }
 
