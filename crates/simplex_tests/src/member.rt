@@ -183,6 +183,7 @@ fn resumed_from(alloc: Global, member: &PlainMember) -> Result<Box<PlainMember>,
 fn is_done_with_first(member: &mut PlainMember, stored: Stored) -> bool {
     !finalizes_first(member)
         && !nullifies_first(member)
+        && member.record_since(2).len() == 1
         && member.record_since(3).is_empty()
         && member.stored() == stored
 }
