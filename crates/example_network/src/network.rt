@@ -35,20 +35,14 @@ impl Network {
     /// Puts a member's letters under way, behind those that are.
     pub(crate) fn post_all(&mut self, from: u8, letters: &[Letter], now: u64) -> Result<(), Fault> {
         for letter in letters {
-            self.post(from, letter, now)?;
-        }
-        Ok(())
-    }
-
-    /// Puts a letter's copies under way.
-    fn post(&mut self, from: u8, letter: &Letter, now: u64) -> Result<(), Fault> {
-        for to in 0..MEMBERS {
-            let is_meant = match letter.to {
-                Some(only) => to == only,
-                None => to != from,
-            };
-            if is_meant {
-                self.send(from, to, &letter.message, now)?;
+            for to in 0..MEMBERS {
+                let is_meant = match letter.to {
+                    Some(only) => to == only,
+                    None => to != from,
+                };
+                if is_meant {
+                    self.send(from, to, &letter.message, now)?;
+                }
             }
         }
         Ok(())

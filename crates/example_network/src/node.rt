@@ -10,7 +10,7 @@ use example_engine::journal::Journal;
 use example_engine::messages::{Letter, Message, VoteKind};
 use example_engine::resolver::PeerResolver;
 use example_engine::scheme::SealScheme;
-use example_engine::start::{Core, CoreCall, start_of};
+use example_engine::start::{CoreCall, start_of};
 use simplex_member::member::{Call, Member};
 use simplex_types::types::plain::PlainElector;
 use simplex_types::types::{Elector, Fault, Round, TermLength, Terms, View};
@@ -33,9 +33,11 @@ pub struct Node {
     /// What `TryVerify` asked for last: the proposal's view, and the view that is lacking.
     lacking: Option<(View, View)>,
     /// The moment of the next timeout, in milliseconds.
-    wake: Option<u64>,
-    outbox: Vec<Letter>,
-    news: Vec<News>,
+    pub(crate) wake: Option<u64>,
+    /// The letters to be sent, oldest first.
+    pub(crate) outbox: Vec<Letter>,
+    /// What has happened and is not read yet, oldest first.
+    pub(crate) news: Vec<News>,
 }
 
 impl Node {
@@ -43,9 +45,9 @@ impl Node {
     pub(crate) fn start(alloc: Global, members: u8, me: u8) -> Result<Node, EngineError>
         requires { me < members }
     {
-        let polls = Polls::new(alloc, members, me)?;
         let member = Member::start(alloc, start_of(alloc, members, me, 0)?)?;
-        Node::open(alloc, members, polls, member)
+        let journal = Journal::open(alloc, &member)?;
+        Node::begin(alloc, members, me, Driver::new(alloc, member, journal))
     }
 
     /// A member that goes on from its journal, in a process that begins now.
@@ -58,39 +60,20 @@ impl Node {
     ) -> Result<Node, EngineError>
         requires { me < members }
     {
-        let polls = Polls::new(alloc, members, me)?;
         match journal.resume(start_of(alloc, members, me, now)?) {
-            Ok(resumed) => Node::go_on_from(alloc, members, polls, resumed),
+            Ok((member, journal)) => {
+                Node::begin(alloc, members, me, Driver::new(alloc, member, journal))
+            }
             Err(error) => Err(EngineError::NotResumed(error)),
         }
     }
 
-    /// The parts round a member that goes on, and the journal of its new life.
-    fn go_on_from(
-        alloc: Global,
-        members: u8,
-        polls: Polls,
-        resumed: (Core, Journal),
-    ) -> Result<Node, EngineError>
-        requires { 0 < members }
-    {
-        let (member, journal) = resumed;
-        Node::begin(alloc, members, polls, Driver::new(alloc, member, journal))
-    }
-
-    /// The journal of a member whose life has just begun, and the parts round it.
-    fn open(alloc: Global, members: u8, polls: Polls, member: Core) -> Result<Node, EngineError>
-        requires { 0 < members }
-    {
-        let journal = Journal::open(alloc, &member)?;
-        Node::begin(alloc, members, polls, Driver::new(alloc, member, journal))
-    }
-
     /// The parts round a driver, with the resolver that its member's record begins.
-    fn begin(alloc: Global, members: u8, polls: Polls, driver: Driver) -> Result<Node, EngineError>
-        requires { 0 < members }
+    fn begin(alloc: Global, members: u8, me: u8, driver: Driver) -> Result<Node, EngineError>
+        requires { me < members }
     {
         let resolver = PeerResolver::start(alloc, TermLength::ONE, driver.member().record())?;
+        let polls = Polls::new(alloc, members, me)?;
         Ok(Node {
             alloc,
             driver,
@@ -104,9 +87,11 @@ impl Node {
         })
     }
 
-    /// Asks for what is lacking as the process begins, and goes on.
+    /// Tells of the fetches that are open as the process begins, asks for them, and goes on.
     pub(crate) fn set_out(&mut self, now: u64) -> Result<(), Fault> {
-        self.tell_open()?;
+        for view in self.resolver.fetches() {
+            self.news.push(News::FetchOpened(*view))?;
+        }
         self.ask_peers()?;
         self.follow(self.current_view())?;
         self.settle(now)
@@ -115,11 +100,6 @@ impl Node {
     /// What is left when the process ends: the disk.
     pub(crate) fn into_journal(self) -> Journal {
         self.driver.into_journal()
-    }
-
-    /// The moment of the next timeout, in milliseconds.
-    pub(crate) fn wake(&self) -> Option<u64> {
-        self.wake
     }
 
     /// The view that was entered last; 0 where the core has failed.
@@ -143,22 +123,6 @@ impl Node {
         self.resolver.fetches().len()
     }
 
-    /// The letters to be sent, oldest first.
-    pub(crate) fn letters(&self) -> &[Letter] {
-        &self.outbox
-    }
-
-    /// What has happened, oldest first.
-    pub(crate) fn news(&self) -> &[News] {
-        &self.news
-    }
-
-    /// The letters are sent and the news are read: there are none afterwards.
-    pub(crate) fn clear_out(&mut self) {
-        self.outbox.clear();
-        self.news.clear();
-    }
-
     /// The leader of a round.
     fn leader(&self, round: Round) -> u32 {
         Elector::<SealScheme>::elect(&self.elector, round, None).get()
@@ -171,14 +135,6 @@ impl Node {
 
     fn tell(&mut self, news: News) -> Result<(), Fault> {
         self.news.push(news)?;
-        Ok(())
-    }
-
-    /// Tells of the fetches that are open as the process begins.
-    fn tell_open(&mut self) -> Result<(), Fault> {
-        for view in self.resolver.fetches() {
-            self.news.push(News::FetchOpened(*view))?;
-        }
         Ok(())
     }
 

@@ -3,9 +3,10 @@
 ghost use Rattle.std.specs.Prelude.{◌≡◌, ◌<◌};
 
 use example_engine::batcher::{Ballot, Batcher};
+use example_engine::digest::BlockDigest;
 use example_engine::messages::Vote;
 use example_engine::parts::{Block, CoreState, Finalized, Notarized, Nullified, Proof};
-use example_engine::scheme::SealScheme;
+use example_engine::scheme::{Seal, SealScheme};
 use simplex_types::types::{Certificate, Round, Scheme, Subject, View};
 use std::alloc::{AllocError, Global};
 
@@ -65,57 +66,23 @@ impl Polls {
         let Ok(signer) = u8::try_from(vote.signer().get()) else {
             return Ok(None);
         };
-        match vote.subject() {
-            Subject::Notarize(block) => self.count_to_notarize(state, signer, &block),
-            Subject::Nullify(round) => self.count_to_nullify(state, signer, &round),
-            Subject::Finalize(block) => self.count_to_finalize(state, signer, &block),
-        }
-    }
-
-    fn count_to_notarize(
-        &mut self,
-        state: &CoreState,
-        signer: u8,
-        block: &Block,
-    ) -> Result<Option<Proof>, AllocError> {
-        let ballot = Ballot::new(block.round.view, *block, signer);
-        match self.to_notarize.count(self.alloc, state, ballot)? {
-            Some(certificate) => Ok(Some(Certificate::Notarization(Notarized {
-                proposal: *block,
-                certificate,
-            }))),
-            None => Ok(None),
-        }
-    }
-
-    fn count_to_nullify(
-        &mut self,
-        state: &CoreState,
-        signer: u8,
-        round: &Round,
-    ) -> Result<Option<Proof>, AllocError> {
-        let ballot = Ballot::new(round.view, *round, signer);
-        match self.to_nullify.count(self.alloc, state, ballot)? {
-            Some(certificate) => Ok(Some(Certificate::Nullification(Nullified {
-                round: *round,
-                certificate,
-            }))),
-            None => Ok(None),
-        }
-    }
-
-    fn count_to_finalize(
-        &mut self,
-        state: &CoreState,
-        signer: u8,
-        block: &Block,
-    ) -> Result<Option<Proof>, AllocError> {
-        let ballot = Ballot::new(block.round.view, *block, signer);
-        match self.to_finalize.count(self.alloc, state, ballot)? {
-            Some(certificate) => Ok(Some(Certificate::Finalization(Finalized {
-                proposal: *block,
-                certificate,
-            }))),
+        let subject = vote.subject();
+        let seal = match &subject {
+            Subject::Notarize(block) => {
+                let ballot = Ballot::new(block.round.view, *block, signer);
+                self.to_notarize.count(self.alloc, state, ballot)?
+            }
+            Subject::Nullify(round) => {
+                let ballot = Ballot::new(round.view, *round, signer);
+                self.to_nullify.count(self.alloc, state, ballot)?
+            }
+            Subject::Finalize(block) => {
+                let ballot = Ballot::new(block.round.view, *block, signer);
+                self.to_finalize.count(self.alloc, state, ballot)?
+            }
+        };
+        match seal {
+            Some(certificate) => Ok(Some(proof_of(&subject, certificate))),
             None => Ok(None),
         }
     }
@@ -125,5 +92,23 @@ impl Polls {
         self.to_notarize.prune(lowest);
         self.to_nullify.prune(lowest);
         self.to_finalize.prune(lowest);
+    }
+}
+
+/// The certificate that says this.
+fn proof_of(subject: &Subject<BlockDigest>, certificate: Seal) -> Proof {
+    match subject {
+        Subject::Notarize(block) => Certificate::Notarization(Notarized {
+            proposal: *block,
+            certificate,
+        }),
+        Subject::Nullify(round) => Certificate::Nullification(Nullified {
+            round: *round,
+            certificate,
+        }),
+        Subject::Finalize(block) => Certificate::Finalization(Finalized {
+            proposal: *block,
+            certificate,
+        }),
     }
 }

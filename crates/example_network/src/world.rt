@@ -4,7 +4,7 @@ ghost use Rattle.std.specs.Prelude.{◌<◌};
 
 use crate::error::EngineError;
 use crate::faults::CRASHING;
-use crate::network::Network;
+use crate::network::{Network, Parcel};
 use crate::news::News;
 use crate::node::Node;
 use crate::report::Report;
@@ -49,9 +49,13 @@ enum Event {
 impl World {
     /// All members start at genesis.
     pub(crate) fn start(alloc: Global) -> Result<World, EngineError> {
+        let mut seats = Vec::new(alloc);
+        for me in 0..MEMBERS {
+            seats.push(Seat::start(alloc, me)?)?;
+        }
         Ok(World {
             alloc,
-            seats: seats(alloc)?,
+            seats,
             network: Network::new(alloc),
             now: 0,
             report: Report::new(alloc),
@@ -160,22 +164,24 @@ impl World {
     /// The moment of a member's next timeout, while it runs.
     fn wake_of(&self, me: u8) -> Option<u64> {
         let seat = self.seats.get(usize::from(me))?;
-        let node = seat.node.as_ref()?;
-        node.wake()
+        seat.node.as_ref()?.wake
     }
 
     /// The message that comes next is taken, where its member runs.
     fn deliver(&mut self) -> Result<(), Fault> {
-        let Some(parcel) = self.network.take_next() else {
-            return Ok(());
-        };
-        let to = parcel.to;
-        if let Some(seat) = self.seats.get_mut(usize::from(to)) {
+        match self.network.take_next() {
+            Some(parcel) => self.hand_over(&parcel),
+            None => Ok(()),
+        }
+    }
+
+    fn hand_over(&mut self, parcel: &Parcel) -> Result<(), Fault> {
+        if let Some(seat) = self.seats.get_mut(usize::from(parcel.to)) {
             if let Some(node) = &mut seat.node {
                 node.receive(parcel.from, &parcel.message, self.now)?;
             }
         }
-        self.collect(to)
+        self.collect(parcel.to)
     }
 
     fn time_out(&mut self, me: u8) -> Result<(), Fault> {
@@ -195,12 +201,13 @@ impl World {
         let Some(node) = &mut seat.node else {
             return Ok(());
         };
-        self.network.post_all(me, node.letters(), self.now)?;
-        for item in node.news() {
+        self.network.post_all(me, &node.outbox, self.now)?;
+        for item in &node.news {
             seat.tally.count(*item);
             self.report.note(me, *item, self.now)?;
         }
-        node.clear_out();
+        node.outbox.clear();
+        node.news.clear();
         Ok(())
     }
 
@@ -281,13 +288,4 @@ impl Seat {
             None => Ok(()),
         }
     }
-}
-
-/// All members at genesis.
-fn seats(alloc: Global) -> Result<Vec<Seat>, EngineError> {
-    let mut seats = Vec::new(alloc);
-    for me in 0..MEMBERS {
-        seats.push(Seat::start(alloc, me)?)?;
-    }
-    Ok(seats)
 }

@@ -5,7 +5,7 @@ use crate::news::News;
 use example_engine::digest::BlockDigest;
 use example_engine::driver::Topic;
 use example_engine::messages::{Letter, Message, VoteKind};
-use example_engine::parts::{Block, Notarized, Proof};
+use example_engine::parts::{Block, Notarized};
 use example_engine::scheme::MemberKey;
 use example_engine::start::CoreReply;
 use simplex_member::member::{Call, Reply};
@@ -34,18 +34,19 @@ impl Node {
             }
             Reply::Notarize(Some(_)) | Reply::Finalize(Some(_)) => self.send_vote(topic, now),
             Reply::Nullify(Some((is_repeat, _))) => self.send_nullify(topic, *is_repeat, now),
-            Reply::Certificate(Some(proof)) => self.hand_out(proof),
+            Reply::Certificate(Some(proof)) => {
+                self.send_to_all(Message::Certificate(proof.clone(self.alloc)?))
+            }
             Reply::Timeout(moment, reason) => self.wait_until(*moment, *reason, now),
-            Reply::Views(views) => self.forget(views),
+            Reply::Views(views) => {
+                if let Some(last) = views.last() {
+                    self.polls.prune(*last);
+                }
+                Ok(())
+            }
             Reply::Fault(fault) => Err(*fault),
             _ => Ok(()),
         }
-    }
-
-    /// Sends a certificate that is handed out.
-    fn hand_out(&mut self, proof: &Proof) -> Result<(), Fault> {
-        let copy = proof.clone(self.alloc)?;
-        self.send_to_all(Message::Certificate(copy))
     }
 
     /// What follows a proposal, a verification or a block of this member.
@@ -189,14 +190,6 @@ impl Node {
         self.driver
             .call(topic, Call::ConstructNullify(view, reason))?;
         self.ask(Call::NextTimeout(now))
-    }
-
-    /// The votes of dropped views can go.
-    fn forget(&mut self, views: &[View]) -> Result<(), Fault> {
-        if let Some(last) = views.last() {
-            self.polls.prune(*last);
-        }
-        Ok(())
     }
 
     /// Asks peers for what the effects open.

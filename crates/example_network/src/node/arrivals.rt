@@ -40,7 +40,7 @@ impl Node {
         Ok(())
     }
 
-    /// A vote, if its signature is good.
+    /// A vote, if its signature is good. The certificate that it completes is one that came in.
     pub(super) fn take_vote(&mut self, vote: &Vote, now: u64) -> Result<(), Fault> {
         if !self.polls.is_signed(vote)? {
             return Ok(());
@@ -48,7 +48,10 @@ impl Node {
         if let Vote::Nullify(it) = vote {
             self.heed(it.signer.get(), it.round, now)?;
         }
-        match self.count(vote)? {
+        let Some(state) = self.driver.state() else {
+            return Ok(());
+        };
+        match self.polls.count(state, vote)? {
             Some(proof) => self.accept(&proof, now),
             None => Ok(()),
         }
@@ -61,14 +64,6 @@ impl Node {
             return self.ask(Call::TriggerTimeout(view, TimeoutReason::LeaderNullify, now));
         }
         Ok(())
-    }
-
-    /// Counts a vote. Answers the certificate that it completes.
-    fn count(&mut self, vote: &Vote) -> Result<Option<Proof>, Fault> {
-        let Some(state) = self.driver.state() else {
-            return Ok(None);
-        };
-        Ok(self.polls.count(state, vote)?)
     }
 
     /// A certificate, if it is good.
@@ -91,7 +86,11 @@ impl Node {
     /// A good certificate goes to the resolver and to the core, where its view is kept.
     fn accept(&mut self, proof: &Proof, now: u64) -> Result<(), Fault> {
         let view = proof.view();
-        if view.is_zero() || !self.is_kept(view) {
+        let is_kept = match self.driver.state() {
+            Some(state) => state.admits_certificate(view),
+            None => false,
+        };
+        if view.is_zero() || !is_kept {
             return Ok(());
         }
         let effects = self.resolver.updated(proof)?;
@@ -99,21 +98,22 @@ impl Node {
         self.hand_in(proof, now)
     }
 
-    fn is_kept(&self, view: View) -> bool {
-        match self.driver.state() {
-            Some(state) => state.admits_certificate(view),
-            None => false,
-        }
-    }
-
     fn hand_in(&mut self, proof: &Proof, now: u64) -> Result<(), Fault> {
-        let topic = Topic::Accepted(kind_of(proof), proof.view());
-        let call = match proof {
-            Certificate::Notarization(it) => Call::AddNotarization(it.clone(self.alloc)?),
-            Certificate::Nullification(it) => Call::AddNullification(it.clone(self.alloc)?, now),
-            Certificate::Finalization(it) => Call::AddFinalization(it.clone(self.alloc)?, now),
+        let (kind, call) = match proof {
+            Certificate::Notarization(it) => (
+                VoteKind::Notarize,
+                Call::AddNotarization(it.clone(self.alloc)?),
+            ),
+            Certificate::Nullification(it) => (
+                VoteKind::Nullify,
+                Call::AddNullification(it.clone(self.alloc)?, now),
+            ),
+            Certificate::Finalization(it) => (
+                VoteKind::Finalize,
+                Call::AddFinalization(it.clone(self.alloc)?, now),
+            ),
         };
-        self.driver.call(topic, call)
+        self.driver.call(Topic::Accepted(kind, proof.view()), call)
     }
 
     /// The certificate that a peer asked for, if there is one.
@@ -125,14 +125,5 @@ impl Node {
             })?;
         }
         Ok(())
-    }
-}
-
-/// The kind of votes that a certificate is made of.
-fn kind_of(proof: &Proof) -> VoteKind {
-    match proof {
-        Certificate::Notarization(_) => VoteKind::Notarize,
-        Certificate::Nullification(_) => VoteKind::Nullify,
-        Certificate::Finalization(_) => VoteKind::Finalize,
     }
 }
