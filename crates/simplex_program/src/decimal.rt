@@ -4,7 +4,7 @@ ghost use Rattle.std.specs.Prelude.{◌↔◌, IsTrue};
 ghost use Rattle.simplex_program.specs.Decimal.{ReadsDecimal, ReadsBetween, IsUnpadded};
 
 /// The number that a word writes in decimal, without a sign or leading zeros.
-pub fn decimal(word: &str) -> Option<u64>
+pub(crate) fn decimal(word: &str) -> Option<u64>
     ensures { ReadsDecimal word.now result }
 {
     if !is_unpadded(word.as_bytes()) {
@@ -14,7 +14,7 @@ pub fn decimal(word: &str) -> Option<u64>
 }
 
 /// The number from `least` to `most` that a word writes in decimal.
-pub fn decimal_between(word: &str, least: u64, most: u64) -> Option<u64>
+pub(crate) fn decimal_between(word: &str, least: u64, most: u64) -> Option<u64>
     ensures { ReadsBetween least most word.now result }
 {
     let number = decimal(word)?;

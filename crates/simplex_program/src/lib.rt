@@ -1,20 +1,20 @@
 //! The program `viewstate`: its modes, its lines and their replies, and the loop that serves them.
 #![tactic(auto)]
 
-pub mod decimal;
-pub mod line_reader;
-pub mod line_writer;
+mod decimal;
+mod line_reader;
+mod line_writer;
 pub mod mode;
-pub mod network;
+mod network;
 pub mod program;
-pub mod resolver;
-pub mod resolver_line;
-pub mod resolver_text;
-pub mod serve_error;
-pub mod session;
-pub mod texts;
-pub mod voter;
-pub mod voter_call;
-pub mod voter_line;
-pub mod voter_text;
-pub mod words;
+mod resolver;
+mod resolver_line;
+mod resolver_text;
+mod serve_error;
+mod session;
+mod texts;
+mod voter;
+mod voter_call;
+mod voter_line;
+mod voter_text;
+mod words;

@@ -7,12 +7,12 @@ use std::io::Read;
 use std::{io, str};
 
 /// The most bytes of a line, without its line feed.
-pub const LONGEST_LINE: usize = 200;
+pub(crate) const LONGEST_LINE: usize = 200;
 
 /// Reads the next line, with its line feed, in place of what stands in `line`: of a longer line than `LONGEST_LINE` only
 /// its first bytes, which show that it is too long. Answers whether there was a line. The last one may lack its line feed.
 /// An interrupted read is tried again.
-pub fn read_line<R: Read + Drop>(reader: &mut R, line: &mut Vec<u8>) -> io::Result<bool>
+pub(crate) fn read_line<R: Read + Drop>(reader: &mut R, line: &mut Vec<u8>) -> io::Result<bool>
     ensures { IfOk result (λ there. ReadsNextLine there (R.remaining reader.old) line.new.items (R.remaining reader.new)) }
 {
     line.clear();
@@ -45,7 +45,7 @@ fn next_byte<R: Read + Drop>(reader: &mut R) -> io::Result<Option<u8>>
 }
 
 /// The text of a line, unless it is too long or not UTF-8.
-pub fn line_text(line: &[u8]) -> Option<&str>
+pub(crate) fn line_text(line: &[u8]) -> Option<&str>
     ensures { ReadsText line.now result }
 {
     let bytes = without_feed(line);

@@ -9,7 +9,7 @@ use std::io::Write;
 
 /// Writes all the bytes and has them flushed. An interrupted write is tried again; after an error some front of the bytes is
 /// written.
-pub fn write_line<W: Write + Drop>(writer: &mut W, bytes: &[u8]) -> io::Result<()>
+pub(crate) fn write_line<W: Write + Drop>(writer: &mut W, bytes: &[u8]) -> io::Result<()>
     ensures { MatchResult result
         (λ _. Appends (W.contents writer.old) (W.contents writer.new) bytes.now)
         (λ _. AppendsFront (W.contents writer.old) (W.contents writer.new) bytes.now) }

@@ -27,14 +27,14 @@ const PAYLOAD: u64 = 0;
 
 /// A resolver, and the views whose fetch is open.
 #[derive(Drop)]
-pub struct Resolver {
+pub(crate) struct Resolver {
     state: State,
     outstanding: BTreeSet<View>,
 }
 
 /// A reply line.
 #[derive(Drop)]
-pub enum Answer {
+pub(crate) enum Answer {
     Effects(Vec<Effect>),
     Flag(bool),
     Encoding(Option<Bytes>),
@@ -45,7 +45,7 @@ pub enum Answer {
 
 impl Resolver {
     /// A resolver that replays its journal: it fetches nothing before the line `replayed`.
-    pub fn new(alloc: Global, term_length: TermLength) -> Resolver
+    pub(crate) fn new(alloc: Global, term_length: TermLength) -> Resolver
         ensures state { result.state ≡ empty term_length }
         ensures outstanding { result.outstanding.keys ≡ [] }
     {
@@ -56,7 +56,7 @@ impl Resolver {
     }
 
     /// Does what the line asks. The one error is want of memory.
-    pub fn answer(&mut self, alloc: Global, line: ResolverLine) -> Result<Answer, AllocError>
+    pub(crate) fn answer(&mut self, alloc: Global, line: ResolverLine) -> Result<Answer, AllocError>
         ensures { IfOk result (λ answer. Answers self.old.state self.old.outstanding.keys line answer self.new.state self.new.outstanding.keys) }
     {
         match line {

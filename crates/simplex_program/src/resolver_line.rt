@@ -11,7 +11,7 @@ use std::alloc::{AllocError, Global};
 
 /// What a line asks of a resolver.
 #[derive(Clone, Copy)]
-pub enum ResolverLine {
+pub(crate) enum ResolverLine {
     Notarization(View),
     Nullification(View),
     Finalization(View),
@@ -26,7 +26,7 @@ pub enum ResolverLine {
 
 impl ResolverLine {
     /// What the text asks, or `None` where it is no call. Words are parted by one space.
-    pub fn parse(alloc: Global, text: &str) -> Result<Option<ResolverLine>, AllocError>
+    pub(crate) fn parse(alloc: Global, text: &str) -> Result<Option<ResolverLine>, AllocError>
         ensures { IfOk result (λ line. ReadsLine (words_in text.now) line) }
     {
         let words = words_of(alloc, text)?;
@@ -35,7 +35,7 @@ impl ResolverLine {
 }
 
 /// What the words of a line ask, or `None` where they are no call.
-pub fn line_of(words: &[&str]) -> Option<ResolverLine>
+pub(crate) fn line_of(words: &[&str]) -> Option<ResolverLine>
     ensures { ReadsLine (texts_of words.now) result }
 {
     if let Some(line) = report_line(words) {

@@ -18,14 +18,14 @@ use std::fmt::{Display, Write as _};
 
 /// What the lines are asked of.
 #[derive(Drop)]
-pub enum Session {
+pub(crate) enum Session {
     Voter(Voter),
     Resolver(Resolver),
 }
 
 impl Session {
     /// What a mode asks for, as it begins.
-    pub fn start(alloc: Global, mode: Mode) -> Result<Session, AllocError>
+    pub(crate) fn start(alloc: Global, mode: Mode) -> Result<Session, AllocError>
         requires { IsServed mode }
         ensures { IfOk result (λ session. Begins mode (asked_of session)) }
     {
@@ -49,7 +49,7 @@ impl Session {
     }
 
     /// Writes the reply to the text of a line, with a line feed, in place of what stands in `reply`. The line has this number.
-    pub fn answer(
+    pub(crate) fn answer(
         &mut self,
         alloc: Global,
         number: u64,

@@ -34,14 +34,14 @@ const TIMEOUT_RETRY: u64 = 500;
 
 /// A member that lines are asked of, and its network.
 #[derive(Drop)]
-pub struct Voter {
+pub(crate) struct Voter {
     network: Network,
     member: Member<PlainScheme, PlainElector, PlainDigest>,
 }
 
 /// A reply line.
 #[derive(Drop)]
-pub enum VoterAnswer {
+pub(crate) enum VoterAnswer {
     /// The reply to the call that a line stands for.
     Reply(Reply<PlainScheme, PlainDigest>),
     /// Whether the member was restarted.
@@ -60,7 +60,7 @@ pub enum VoterAnswer {
 
 impl Voter {
     /// A member of the network that starts at genesis, at moment 0.
-    pub fn start(alloc: Global, network: Network) -> Result<Voter, AllocError>
+    pub(crate) fn start(alloc: Global, network: Network) -> Result<Voter, AllocError>
         ensures network { IfOk result (λ voter. voter.network ≡ network) }
         ensures member { IfOk result (λ voter. StartsAtGenesis network voter.member) }
     {
@@ -72,7 +72,11 @@ impl Voter {
     }
 
     /// Does what the line asks. The one error is want of memory.
-    pub fn answer(&mut self, alloc: Global, line: VoterLine) -> Result<VoterAnswer, AllocError>
+    pub(crate) fn answer(
+        &mut self,
+        alloc: Global,
+        line: VoterLine,
+    ) -> Result<VoterAnswer, AllocError>
         ensures network { self.new.network ≡ self.old.network }
         ensures answer { IfOk result (λ answer. VoterAnswers self.old.network self.old.member line answer self.new.member) }
     {

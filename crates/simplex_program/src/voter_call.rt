@@ -16,10 +16,10 @@ use simplex_types::types::{
 };
 
 /// The epoch of every certificate and proposal that a line stands for.
-pub const EPOCH: u64 = 1;
+pub(crate) const EPOCH: u64 = 1;
 
 /// The call that a line stands for, if it stands for one.
-pub fn call_of(line: &VoterLine) -> Option<Call<PlainScheme, PlainDigest>>
+pub(crate) fn call_of(line: &VoterLine) -> Option<Call<PlainScheme, PlainDigest>>
     ensures { MatchOption result (is_no_call line.now ≡ true) (λ call. StandsFor line.now (asked plain_bytes call)) }
 {
     if let Some(call) = certificate_call(line) {

@@ -12,7 +12,7 @@ use std::alloc::{AllocError, Global};
 
 /// The kind of a certificate.
 #[derive(Clone, Copy)]
-pub enum CertificateKind {
+pub(crate) enum CertificateKind {
     Notarization,
     Nullification,
     Finalization,
@@ -20,7 +20,7 @@ pub enum CertificateKind {
 
 /// What a line asks of a voter. Moments are milliseconds.
 #[derive(Clone, Copy)]
-pub enum VoterLine {
+pub(crate) enum VoterLine {
     Notarization {
         view: View,
         parent: View,
@@ -97,7 +97,7 @@ pub enum VoterLine {
 
 impl VoterLine {
     /// What the text asks, or `None` where it is no call. Words are parted by one space.
-    pub fn parse(alloc: Global, text: &str) -> Result<Option<VoterLine>, AllocError>
+    pub(crate) fn parse(alloc: Global, text: &str) -> Result<Option<VoterLine>, AllocError>
         ensures { IfOk result (λ line. ReadsVoterLine (words_in text.now) line) }
     {
         let words = words_of(alloc, text)?;
@@ -106,7 +106,7 @@ impl VoterLine {
 }
 
 /// What the words of a line ask, or `None` where they are no call.
-pub fn voter_line_of(words: &[&str]) -> Option<VoterLine>
+pub(crate) fn voter_line_of(words: &[&str]) -> Option<VoterLine>
     ensures { ReadsVoterLine (texts_of words.now) result }
 {
     if let Some(line) = certificate_line(words) {

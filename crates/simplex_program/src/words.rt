@@ -10,21 +10,21 @@ use simplex_types::types::View;
 use std::alloc::{AllocError, Global};
 
 /// The words of a text, which are parted by one space each.
-pub fn words_of(alloc: Global, text: &str) -> Result<Vec<&str>, AllocError>
+pub(crate) fn words_of(alloc: Global, text: &str) -> Result<Vec<&str>, AllocError>
     ensures { IfOk result (λ words. texts_of words.items ≡ words_in text.now) }
 {
     text.split(' ').collect(alloc)
 }
 
 /// The view that a word writes.
-pub fn view_of(word: &str) -> Option<View>
+pub(crate) fn view_of(word: &str) -> Option<View>
     ensures { ReadsDecimal word.now result }
 {
     Some(View::new(decimal(word)?))
 }
 
 /// The truth that a word names.
-pub fn flag_of(word: &str) -> Option<bool>
+pub(crate) fn flag_of(word: &str) -> Option<bool>
     ensures { ReadsFlag word.now result }
 {
     match word {
@@ -35,7 +35,7 @@ pub fn flag_of(word: &str) -> Option<bool>
 }
 
 /// The reason of a timeout that a word names.
-pub fn timeout_reason_of(word: &str) -> Option<TimeoutReason>
+pub(crate) fn timeout_reason_of(word: &str) -> Option<TimeoutReason>
     ensures { ReadsTimeoutReason word.now result }
 {
     match word {
