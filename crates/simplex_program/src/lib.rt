@@ -10,6 +10,7 @@ pub mod program;
 mod resolver;
 mod resolver_line;
 mod resolver_text;
+mod rounds;
 mod serve_error;
 mod session;
 mod texts;

@@ -5,22 +5,19 @@ ghost use Rattle.simplex_types.specs.declared.types.fault.Fault.TheVariants.{Out
 ghost use Rattle.simplex_resolver.specs.Facts.{empty};
 ghost use Rattle.simplex_resolver.specs.Steps.{Replayed};
 ghost use Rattle.simplex_resolver.specs.Repair.{IsApplied};
-ghost use Rattle.simplex_program.specs.Answers.{Answers, Calls, Reports, IsProposedAt, round_at, notarization_call, nullification_call, finalization_call, verdict_call};
+ghost use Rattle.simplex_program.specs.Answers.{Answers, Calls, Reports, IsProposedAt, notarization_call, nullification_call, finalization_call, verdict_call};
 ghost use Rattle.simplex_program.specs.declared.resolver.Answer.TheVariants.{Effects as AreEffects, Fault as IsFault};
 
 use crate::resolver_line::ResolverLine;
+use crate::rounds::{nullification_of, round_of};
 use bytes::Bytes;
 use simplex_resolver::resolver::{Effect, State, apply};
 use simplex_types::types::plain::{PlainCertificate, PlainDigest, PlainScheme};
 use simplex_types::types::{
-    Certificate, Epoch, Fault, Finalization, Notarization, Nullification, Proposal, Round,
-    TermLength, View,
+    Certificate, Fault, Finalization, Notarization, Proposal, TermLength, View,
 };
 use std::alloc::{AllocError, Global};
 use std::collections::BTreeSet;
-
-/// The epoch of every certificate that a line stands for.
-const EPOCH: u64 = 1;
 
 /// The payload of every proposal that a line stands for.
 const PAYLOAD: u64 = 0;
@@ -171,16 +168,6 @@ fn refused(fault: Fault) -> Result<Answer, AllocError>
     }
 }
 
-/// The round of a view.
-fn round_of(view: View) -> Round
-    ensures { result ≡ round_at view }
-{
-    Round {
-        epoch: Epoch::new(EPOCH),
-        view,
-    }
-}
-
 /// The proposal of a view that a line stands for, which names the view before it as its parent.
 fn proposal_of(view: View) -> Option<Proposal<PlainDigest>>
     ensures { MatchOption result (view ≡ 0) (IsProposedAt view) }
@@ -209,14 +196,4 @@ fn finalization_of(view: View) -> Option<Finalization<PlainScheme, PlainDigest>>
         proposal: proposal_of(view)?,
         certificate: PlainCertificate { good: true },
     })
-}
-
-fn nullification_of(view: View) -> Nullification<PlainScheme>
-    ensures round { result.round ≡ round_at view }
-    ensures good { result.certificate.good ≡ true }
-{
-    Nullification {
-        round: round_of(view),
-        certificate: PlainCertificate { good: true },
-    }
 }

@@ -1,15 +1,14 @@
 //! The reply lines of a resolver.
 
-ghost use Rattle.std.specs.Prelude.{◌≡◌, ◌++◌, ◌∷◌, [], map, codes, decimal, Some};
+ghost use Rattle.std.specs.Prelude.{◌++◌, codes, Some};
 ghost use Rattle.std.specs.List.{flat_map};
 ghost use Rattle.std.specs.Fmt.{WritesOnOk};
 ghost use Rattle.simplex_program.specs.Texts.{text_of};
 ghost use Rattle.simplex_program.specs.ResolverText.{resolver_reply_text, effects_text, effect_words, encoding_text};
 
 use crate::resolver::Answer;
-use crate::texts::{write_fault, write_views};
+use crate::texts::{write_fault, write_list};
 use simplex_resolver::resolver::Effect;
-use simplex_types::types::View;
 use std::fmt;
 use std::fmt::{Display, Formatter};
 
@@ -22,7 +21,7 @@ impl Display for Answer {
             Answer::Flag(flag) => write!(f, "{flag}"),
             Answer::Encoding(None) => f.write_str("none"),
             Answer::Encoding(Some(bytes)) => write_hexadecimal(f, bytes.as_slice()),
-            Answer::Outstanding(views) => write_outstanding(f, views.as_slice()),
+            Answer::Outstanding(views) => write_list(f, "outstanding", views.as_slice()),
             Answer::Fault(fault) => write_fault(f, *fault),
             Answer::NotAllowed => f.write_str("not-allowed"),
         }
@@ -75,14 +74,6 @@ fn write_effect<W: fmt::Write>(f: &mut Formatter<W>, effect: &Effect) -> fmt::Re
         Effect::Finalized(view) => write!(f, "finalized {}", view.get()),
         Effect::Raised(view) => write!(f, "raised {}", view.get()),
     }
-}
-
-/// Open fetches.
-fn write_outstanding<W: fmt::Write>(f: &mut Formatter<W>, views: &[View]) -> fmt::Result
-    ensures { WritesOnOk W.write_str_gives f.old result (text_of (codes "outstanding" ∷ map decimal views.now)) f.new }
-{
-    f.write_str("outstanding")?;
-    write_views(f, views)
 }
 
 fn write_hexadecimal<W: fmt::Write>(f: &mut Formatter<W>, bytes: &[u8]) -> fmt::Result

@@ -1,6 +1,6 @@
 //! How faults, refusals and views are written.
 
-ghost use Rattle.std.specs.Prelude.{◌≡◌, ◌∷◌, decimal};
+ghost use Rattle.std.specs.Prelude.{◌≡◌, ◌∷◌, map, decimal};
 ghost use Rattle.std.specs.List.{flat_map};
 ghost use Rattle.std.specs.Fmt.{WritesOnOk};
 ghost use Rattle.simplex_program.specs.Texts.{text_of, fault_number, fault_words, refusal_number, refusal_words};
@@ -58,8 +58,20 @@ fn refusal_number(error: RecoverError) -> u8
     }
 }
 
+/// A word, and each view behind a space.
+pub(crate) fn write_list<W: fmt::Write>(
+    f: &mut Formatter<W>,
+    first: &str,
+    views: &[View],
+) -> fmt::Result
+    ensures { WritesOnOk W.write_str_gives f.old result (text_of (first.now ∷ map decimal views.now)) f.new }
+{
+    f.write_str(first)?;
+    write_views(f, views)
+}
+
 /// Each view behind a space.
-pub(crate) fn write_views<W: fmt::Write>(f: &mut Formatter<W>, views: &[View]) -> fmt::Result
+fn write_views<W: fmt::Write>(f: &mut Formatter<W>, views: &[View]) -> fmt::Result
     ensures { WritesOnOk W.write_str_gives f.old result (flat_map (λ view. 32 ∷ decimal view) views.now) f.new }
 {
     for view in views {

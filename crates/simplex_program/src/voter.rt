@@ -8,7 +8,8 @@ ghost use Rattle.simplex_program.specs.Plain.{plain_bytes};
 ghost use Rattle.simplex_program.specs.Setup.{IsSetUp, IsGenesisStart, StartsAtGenesis, plain_start};
 
 use crate::network::Network;
-use crate::voter_call::{EPOCH, call_of};
+use crate::rounds::EPOCH;
+use crate::voter_call::call_of;
 use crate::voter_line::VoterLine;
 use simplex_member::member::{Call, Member, RecoverError, Reply, Restart, Start};
 use simplex_types::config::Floor;

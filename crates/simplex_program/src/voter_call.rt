@@ -5,18 +5,14 @@ ghost use Rattle.simplex_types.specs.Plain.{digest_bytes};
 ghost use Rattle.simplex_member.specs.Calls.{asked};
 ghost use Rattle.simplex_program.specs.declared.voter_line.VoterLine.TheVariants.{Broadcast};
 ghost use Rattle.simplex_program.specs.Plain.{plain_bytes};
-ghost use Rattle.simplex_program.specs.Voter.{StandsFor, IsProposal, is_no_call, brings, builds_proposals, is_about_proposals, asks, round_in_epoch};
+ghost use Rattle.simplex_program.specs.Voter.{StandsFor, IsProposal, is_no_call, brings, builds_proposals, is_about_proposals, asks};
 
+use crate::rounds::{nullification_of, round_of};
 use crate::voter_line::{CertificateKind, VoterLine};
 use simplex_member::member::Call;
 use simplex_types::reasons::TimeoutReason;
 use simplex_types::types::plain::{PlainCertificate, PlainDigest, PlainScheme};
-use simplex_types::types::{
-    Epoch, Finalization, Notarization, Nullification, Proposal, Round, View,
-};
-
-/// The epoch of every certificate and proposal that a line stands for.
-pub(crate) const EPOCH: u64 = 1;
+use simplex_types::types::{Finalization, Notarization, Proposal, View};
 
 /// The call that a line stands for, if it stands for one.
 pub(crate) fn call_of(line: &VoterLine) -> Option<Call<PlainScheme, PlainDigest>>
@@ -126,15 +122,6 @@ fn broadcast_of(kind: CertificateKind, view: View) -> Call<PlainScheme, PlainDig
     }
 }
 
-fn round_of(view: View) -> Round
-    ensures { result ≡ round_in_epoch view }
-{
-    Round {
-        epoch: Epoch::new(EPOCH),
-        view,
-    }
-}
-
 fn proposal_of(view: View, parent: View, payload: u64) -> Proposal<PlainDigest>
     ensures { IsProposal view parent payload result }
 {
@@ -161,16 +148,6 @@ fn finalization_of(view: View, parent: View, payload: u64) -> Finalization<Plain
 {
     Finalization {
         proposal: proposal_of(view, parent, payload),
-        certificate: PlainCertificate { good: true },
-    }
-}
-
-fn nullification_of(view: View) -> Nullification<PlainScheme>
-    ensures round { result.round ≡ round_in_epoch view }
-    ensures good { result.certificate.good ≡ true }
-{
-    Nullification {
-        round: round_of(view),
         certificate: PlainCertificate { good: true },
     }
 }

@@ -8,11 +8,11 @@ ghost use Rattle.simplex_program.specs.Texts.{text_of};
 ghost use Rattle.simplex_program.specs.VoterText.{voter_reply_words, reply_words, equivocator_word, request_words, context_words, verify_words, certificate_word, proposal_words, offer_word, fetch_word};
 ghost use Rattle.simplex_program.specs.Words.{flag_word};
 
-use crate::texts::{write_fault, write_refusal, write_views};
+use crate::texts::{write_fault, write_list, write_refusal};
 use crate::voter::VoterAnswer;
 use simplex_member::member::Reply;
 use simplex_types::types::plain::{PlainDigest, PlainKey, PlainScheme};
-use simplex_types::types::{Certificate, Context, Fault, Proposal, View, Viewable};
+use simplex_types::types::{Certificate, Context, Fault, Proposal, Viewable};
 use simplex_voter::voter::{CertificateFetch, ProposalRequest, Verify};
 use std::fmt;
 use std::fmt::{Display, Formatter};
@@ -70,7 +70,7 @@ fn write_reply<W: fmt::Write>(
         Reply::Finalize(Some(vote)) => write_proposal(f, "finalize", &vote.proposal),
         Reply::Certificate(Some(certificate)) => write_certificate(f, certificate),
         Reply::Timeout(moment, reason) => write!(f, "timeout {moment} {}", reason.as_str()),
-        Reply::Views(views) => write_pruned(f, views.as_slice()),
+        Reply::Views(views) => write_list(f, "pruned", views.as_slice()),
         Reply::Abandoned(Some(reason)) => f.write_str(reason.as_str()),
         Reply::Fault(fault) => write_fault(f, *fault),
         Reply::NotAllowed => f.write_str("not-allowed"),
@@ -233,12 +233,4 @@ fn write_proposal<W: fmt::Write>(
         proposal.parent.get(),
         proposal.payload.number()
     )
-}
-
-/// Pruned views.
-fn write_pruned<W: fmt::Write>(f: &mut Formatter<W>, views: &[View]) -> fmt::Result
-    ensures { WritesOnOk W.write_str_gives f.old result (text_of (codes "pruned" ∷ map decimal views.now)) f.new }
-{
-    f.write_str("pruned")?;
-    write_views(f, views)
 }
