@@ -1,12 +1,8 @@
-//! Tests of the libraries, run on their code: worked rows, each refusal by name, and settings at their limits.
+//! Tests of the libraries below the member, run on their code: worked rows, each refusal by name, and settings at their limits.
 #![tactic(auto)]
 
 #[cfg(test)]
 mod codec;
-#[cfg(test)]
-mod member;
-#[cfg(test)]
-mod program;
 #[cfg(test)]
 mod replay;
 #[cfg(test)]

@@ -30,23 +30,15 @@ fn is_encoded_as(alloc: Global, certificate: &PlainCertified, text: &str) -> Res
 
 #[test]
 fn certificates_are_encoded_as_the_vectors_say(rt: HostRuntime) -> Result<(), Fail> {
-    let rows: [(PlainCertified, &str); 3] = [
-        (
-            Certificate::Nullification(nullification(9, 4)),
-            "010000000000000009000000000000000401",
-        ),
-        (
-            Certificate::Notarization(notarization(3)),
-            "00000000000000000100000000000000030000000000000002000000000000000701",
-        ),
-        (
-            Certificate::Finalization(finalization(1, 3, false)),
-            "02000000000000000100000000000000030000000000000000000000000000000700",
-        ),
-    ];
-    for (certificate, text) in &rows {
-        assert!(rt; is_encoded_as(rt.alloc(), certificate, text)?, "{text}");
-    }
+    let nullified = Certificate::Nullification(nullification(9, 4));
+    let text = "010000000000000009000000000000000401";
+    assert!(rt; is_encoded_as(rt.alloc(), &nullified, text)?);
+    let notarized = Certificate::Notarization(notarization(3));
+    let text = "00000000000000000100000000000000030000000000000002000000000000000701";
+    assert!(rt; is_encoded_as(rt.alloc(), &notarized, text)?);
+    let finalized = Certificate::Finalization(finalization(1, 3, false));
+    let text = "02000000000000000100000000000000030000000000000000000000000000000700";
+    assert!(rt; is_encoded_as(rt.alloc(), &finalized, text)?);
     Ok(())
 }
 
