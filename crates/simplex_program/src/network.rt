@@ -8,10 +8,10 @@ use simplex_types::types::TermLength;
 /// So many members, one of which signs or none; terms of so many views, and so many views ahead of the current one that
 /// may be voted for.
 #[derive(Clone, Copy)]
-pub(crate) struct Network {
-    pub(crate) members: u32,
-    pub(crate) me: Option<u32>,
-    pub(crate) term_length: TermLength,
-    pub(crate) optimistic: u64,
+pub struct Network {
+    pub members: u32,
+    pub me: Option<u32>,
+    pub term_length: TermLength,
+    pub optimistic: u64,
     ghost is_network: { IsNetwork members me term_length } by { Prim.hlevel props },
 }

@@ -31,7 +31,7 @@ pub(crate) struct Resolver {
 
 /// A reply line.
 #[derive(Drop)]
-pub(crate) enum Answer {
+pub enum Answer {
     Effects(Vec<Effect>),
     Flag(bool),
     Encoding(Option<Bytes>),

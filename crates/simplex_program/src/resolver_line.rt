@@ -11,7 +11,7 @@ use std::alloc::{AllocError, Global};
 
 /// What a line asks of a resolver.
 #[derive(Clone, Copy)]
-pub(crate) enum ResolverLine {
+pub enum ResolverLine {
     Notarization(View),
     Nullification(View),
     Finalization(View),

@@ -42,7 +42,7 @@ pub(crate) struct Voter {
 
 /// A reply line.
 #[derive(Drop)]
-pub(crate) enum VoterAnswer {
+pub enum VoterAnswer {
     /// The reply to the call that a line stands for.
     Reply(Reply<PlainScheme, PlainDigest>),
     /// Whether the member was restarted.

@@ -20,7 +20,7 @@ pub(crate) enum CertificateKind {
 
 /// What a line asks of a voter. Moments are milliseconds.
 #[derive(Clone, Copy)]
-pub(crate) enum VoterLine {
+pub enum VoterLine {
     Notarization {
         view: View,
         parent: View,
