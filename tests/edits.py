@@ -1,7 +1,7 @@
 #!/usr/bin/env python3
 """The must-fail edits: wrong bodies that the contracts refuse, where they stand, and how one is made.
 
-`rt ci` tries those of `crates/NAME/must-fail`: one for four or five public functions of the core. The others stand
+`rt ci` tries those of `crates/NAME/must-fail`: one for four or five public functions. The others stand
 in `tests/more_edits/NAME`, and `tests/more_edits.py` tries them."""
 
 from pathlib import Path
