@@ -12,7 +12,7 @@ use std::alloc::{AllocError, Global};
 
 /// The kind of a certificate.
 #[derive(Clone, Copy)]
-pub(crate) enum CertificateKind {
+pub enum CertificateKind {
     Notarization,
     Nullification,
     Finalization,
