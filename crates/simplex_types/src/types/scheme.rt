@@ -13,7 +13,7 @@ use crate::types::window::Terms;
 use std::alloc::{AllocError, Global};
 
 /// A payload's digest: a value of `SIZE` bytes.
-pub trait Digest: Copy + Eq {
+pub trait Digest: Copy + PartialEq {
     /// How many bytes a digest has.
     const SIZE: usize;
 
@@ -35,12 +35,9 @@ pub trait Digest: Copy + Eq {
     ghost bytes_injective: { (d e : Self) → bytes d ≡ bytes e → d ≡ e };
 }
 
-/// A member's public key.
-pub trait PublicKey: Copy + Eq {}
-
 /// Who signs, for whom, and what its certificates are.
 pub trait CertificateScheme: Drop {
-    type PublicKey: PublicKey;
+    type PublicKey: Copy;
 
     type Signature: Drop;
 
