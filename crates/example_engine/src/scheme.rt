@@ -6,7 +6,7 @@ ghost use Rattle.example_engine.specs.Rising.{are_members};
 
 use crate::checksum::checksum;
 use crate::digest::BlockDigest;
-use simplex_types::types::{CertificateScheme, Participant, Scheme, Subject};
+use simplex_types::types::{CertificateScheme, Participant, PublicKey, Scheme, Subject};
 use std::alloc::{AllocError, Global};
 
 mod codec;
@@ -16,6 +16,8 @@ mod codec;
 pub struct MemberKey {
     number: u32,
 }
+
+impl PublicKey for MemberKey {}
 
 /// A member's signature: its key, and a sum over the key and the bytes of the vote.
 #[derive(Clone, Copy, PartialEq, Eq)]

@@ -15,6 +15,6 @@ pub use messages::{
     Nullify, Proposal, Subject,
 };
 pub use numbers::{Epoch, Participant, Round, TermLength, View, ViewDelta};
-pub use scheme::{CertificateScheme, Digest, Elector, Scheme};
+pub use scheme::{CertificateScheme, Digest, Elector, PublicKey, Scheme};
 pub use viewable::Viewable;
 pub use window::{Lookahead, Terms, Viewport};

@@ -6,7 +6,7 @@ ghost use Rattle.std.specs.Int.{w64, to_be_bytes, from_be_bytes};
 
 use crate::types::messages::Subject;
 use crate::types::numbers::{Participant, Round};
-use crate::types::scheme::{CertificateScheme, Digest, Elector, Scheme};
+use crate::types::scheme::{CertificateScheme, Digest, Elector, PublicKey, Scheme};
 use crate::types::window::Terms;
 use bytes::Bytes;
 use std::alloc::{AllocError, Global};
@@ -63,6 +63,8 @@ impl Digest for PlainDigest {
 /// A member's key: its index.
 #[derive(Clone, Copy, PartialEq, Eq, Debug)]
 pub struct PlainKey(pub u32);
+
+impl PublicKey for PlainKey {}
 
 /// A signature: whose key it was made with, and the bytes that were signed.
 #[derive(Drop)]

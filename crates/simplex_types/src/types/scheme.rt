@@ -35,9 +35,12 @@ pub trait Digest: Copy + PartialEq {
     ghost bytes_injective: { (d e : Self) → bytes d ≡ bytes e → d ≡ e };
 }
 
+/// A member's public key. It is carried and handed out; the core compares no keys.
+pub trait PublicKey: Copy {}
+
 /// Who signs, for whom, and what its certificates are.
 pub trait CertificateScheme: Drop {
-    type PublicKey: Copy;
+    type PublicKey: PublicKey;
 
     type Signature: Drop;
 
