@@ -87,7 +87,7 @@ impl ForwardPolicy {
 
 /// The certified point that an engine starts from.
 #[derive(Drop)]
-pub enum Floor<S: CertificateScheme, D: Digest> {
+pub enum Floor<S: CertificateScheme, D> {
     /// The payload of genesis, at view 0.
     Genesis(D),
     /// A proposal that is finalized.
@@ -119,7 +119,7 @@ impl<S: CertificateScheme, D: Digest> Floor<S, D> {
 
 /// The settings of an engine, as far as the decision core reads them. Times are milliseconds.
 #[derive(Drop)]
-pub struct Config<S: CertificateScheme, D: Digest> {
+pub struct Config<S: CertificateScheme, D> {
     /// Who signs, for whom.
     pub scheme: S,
     /// The epoch that every message is of.

@@ -20,7 +20,7 @@ use simplex_voter::voter::{CertificateFetch, ProposalRequest, Verify};
 /// Where the state takes a context, a call names its view: the context that is open there is the one of the last request to
 /// build in that view.
 #[derive(Drop)]
-pub enum Call<S: CertificateScheme, D: Digest> {
+pub enum Call<S: CertificateScheme, D> {
     AddNotarization(Notarization<S, D>),
     AddNullification(Nullification<S>, u64),
     AddFinalization(Finalization<S, D>, u64),
@@ -64,7 +64,7 @@ pub enum Call<S: CertificateScheme, D: Digest> {
 
 /// What a call is answered.
 #[derive(Drop)]
-pub enum Reply<S: CertificateScheme, D: Digest> {
+pub enum Reply<S: CertificateScheme, D> {
     /// The call is made.
     Unit,
     /// Whether what was handed in is taken.

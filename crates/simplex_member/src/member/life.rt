@@ -23,7 +23,7 @@ use std::marker::Model;
 /// A member tests what a call asks of its caller, and answers `NotAllowed` where it is not so. It fails where a call left
 /// its state without memory, or where a vote that was cast could not be recorded; then its record alone is left.
 #[derive(Drop)]
-pub struct Member<S: CertificateScheme, L: Elector<S>, D: Digest> {
+pub struct Member<S: CertificateScheme, L: Elector<S>, D> {
     pub(super) alloc: Global,
     pub(super) state: Box<State<S, L, D>>,
     /// What its state handed out and was not told the end of.
@@ -39,7 +39,7 @@ pub struct Member<S: CertificateScheme, L: Elector<S>, D: Digest> {
     pub(super) failed: bool,
 }
 
-impl<S: CertificateScheme, L: Elector<S>, D: Digest> Model for Member<S, L, D> {
+impl<S: CertificateScheme, L: Elector<S>, D> Model for Member<S, L, D> {
     ghost use Rattle.std.specs.Prelude.{◌≡◌, true, false};
     ghost use Rattle.simplex_voter.specs.Refusals.{is_started};
     ghost use Rattle.simplex_member.specs.Entries.{entries_of};

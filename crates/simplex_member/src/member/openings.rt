@@ -14,13 +14,13 @@ use std::marker::Model;
 
 /// The requests, verifications and offers of a life that wait for their answer, by view.
 #[derive(Drop)]
-pub struct Openings<D: Digest, P: Copy> {
+pub struct Openings<D, P: Copy> {
     contexts: Waiting<Context<D, P>>,
     verifying: Waiting<()>,
     offered: Tracked<()>,
 }
 
-impl<D: Digest, P: Copy> Model for Openings<D, P> {
+impl<D, P: Copy> Model for Openings<D, P> {
     ghost use Rattle.std.specs.Prelude.{◌&&◌};
     ghost use Rattle.std.specs.FinMap as map;
     ghost use Rattle.simplex_member.specs.Openings.{KeptOpenings, views_of};

@@ -28,7 +28,7 @@ use std::alloc::Global;
 
 /// How a member is restarted.
 #[derive(Drop)]
-pub struct Restart<S: CertificateScheme, L: Elector<S>, D: Digest> {
+pub struct Restart<S: CertificateScheme, L: Elector<S>, D> {
     /// At most so many of the record's last entries are dropped, but never a vote nor anything before one.
     pub drop: u64,
     /// Whether the record is pruned then.

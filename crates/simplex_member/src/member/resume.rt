@@ -41,7 +41,7 @@ impl Error for ResumeError {}
 
 /// That a member does not go on, with the entries that it was given.
 #[derive(Drop)]
-pub struct NotResumed<S: CertificateScheme, D: Digest> {
+pub struct NotResumed<S: CertificateScheme, D> {
     pub error: ResumeError,
     pub entries: Vec<Artifact<S, D>>,
 }

@@ -16,7 +16,7 @@ use std::alloc::Global;
 
 /// A step of a run.
 #[derive(Drop)]
-pub enum Step<S: CertificateScheme, L: Elector<S>, D: Digest> {
+pub enum Step<S: CertificateScheme, L: Elector<S>, D> {
     Call(Call<S, D>),
     Restart(Restart<S, L, D>),
 }

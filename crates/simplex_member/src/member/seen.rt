@@ -12,7 +12,7 @@ use simplex_types::types::{Artifact, CertificateScheme, Digest, Proposal, View};
 ///
 /// A record is in the order of its views, so nothing of an earlier view has to be kept.
 #[derive(Drop)]
-pub(super) struct Seen<D: Digest> {
+pub(super) struct Seen<D> {
     pub(super) view: View,
     notarized: bool,
     verdict: Option<bool>,

@@ -19,7 +19,7 @@ use std::alloc::Global;
 /// A record doesn't tell how long its terms were, nor whose it is before there is a vote in it. So that a later life has terms
 /// as long as those before it, and the key of the same member or none, is the caller's word: the laws of votes ask for it.
 #[derive(Drop)]
-pub struct Start<S: CertificateScheme, L: Elector<S>, D: Digest> {
+pub struct Start<S: CertificateScheme, L: Elector<S>, D> {
     /// The elector's members are the scheme's participants.
     pub settings: Config<S, L>,
     pub floor: Floor<S, D>,

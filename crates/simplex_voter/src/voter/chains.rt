@@ -10,16 +10,16 @@ use simplex_types::types::{CertificateScheme, Digest, Elector, Proposal, View};
 use std::alloc::AllocError;
 
 /// What a view's payload rests on.
-pub enum Basis<D: Digest> {
+pub enum Basis<D> {
     /// Genesis or a certificate.
     Certain(D),
     /// This member's vote for the proposal, with the payload that the parent had when it was bound to one.
     Vote(Proposal<D>, Option<D>),
 }
 
-impl<D: Digest> Copy for Basis<D> {}
+impl<D: Copy> Copy for Basis<D> {}
 
-impl<D: Digest> Clone for Basis<D> {
+impl<D: Copy> Clone for Basis<D> {
     ghost use Rattle.std.specs.Prelude.{◌≡◌, ⊤};
 
     ghost is_clone = { λ it copy. copy ≡ it };

@@ -14,16 +14,16 @@ use std::alloc::AllocError;
 
 /// A proposal that this member is asked to build.
 #[derive(PartialEq, Eq)]
-pub enum ProposalRequest<D: Digest, P: Copy> {
+pub enum ProposalRequest<D, P: Copy> {
     /// A handoff: the first proposal of a term, on a parent that is not certified yet. It may have to be given up.
     Prepare(Context<D, P>),
     /// A proposal on a certified parent, or on one that its window allows.
     Propose(Context<D, P>),
 }
 
-impl<D: Digest, P: Copy> Copy for ProposalRequest<D, P> {}
+impl<D: Copy, P: Copy> Copy for ProposalRequest<D, P> {}
 
-impl<D: Digest, P: Copy> Clone for ProposalRequest<D, P> {
+impl<D: Copy, P: Copy> Clone for ProposalRequest<D, P> {
     ghost use Rattle.std.specs.Prelude.{◌≡◌, ⊤};
 
     ghost is_clone = { λ it copy. copy ≡ it };

@@ -39,7 +39,7 @@ impl Deadlines {
 /// notarized, and each leader is a member. So that a search needn't go over views that wait, the highest view is kept that
 /// was ever finalized or certified true.
 #[derive(Drop)]
-pub struct Rounds<S: CertificateScheme, D: Digest> {
+pub struct Rounds<S: CertificateScheme, D> {
     pub(super) alloc: Global,
     // signs as the member whose rounds these are; each round has a copy
     scheme: S,
@@ -49,7 +49,7 @@ pub struct Rounds<S: CertificateScheme, D: Digest> {
     pub(super) explicit_bound: View,
 }
 
-impl<S: CertificateScheme, D: Digest> Model for Rounds<S, D> {
+impl<S: CertificateScheme, D> Model for Rounds<S, D> {
     ghost use Rattle.simplex_voter.specs.Rounds.{RoundsFacts, AreKept};
 
     ghost Value = { RoundsFacts S.PublicKey D };

@@ -44,7 +44,7 @@ pub struct Config<S: CertificateScheme, L: Elector<S>> {
 /// Contracts see it as the record `Facts`. After a call that found no memory it has failed: no vote is answered, and
 /// each later call with a result answers `Failed`.
 #[derive(Drop)]
-pub struct State<S: CertificateScheme, L: Elector<S>, D: Digest> {
+pub struct State<S: CertificateScheme, L: Elector<S>, D> {
     pub(super) alloc: Global,
     // who leads each view
     pub(super) elector: L,
@@ -74,7 +74,7 @@ pub struct State<S: CertificateScheme, L: Elector<S>, D: Digest> {
     pub(super) failed: bool,
 }
 
-impl<S: CertificateScheme, L: Elector<S>, D: Digest> Model for State<S, L, D> {
+impl<S: CertificateScheme, L: Elector<S>, D> Model for State<S, L, D> {
     ghost use Rattle.simplex_voter.specs.Facts.{StateFacts};
 
     ghost Value = { StateFacts S.PublicKey L D };

@@ -14,7 +14,7 @@ use std::alloc::AllocError;
 
 /// What comes next in verifying the proposals of other leaders.
 #[derive(PartialEq, Eq)]
-pub enum Verify<D: Digest, P: Copy> {
+pub enum Verify<D, P: Copy> {
     /// The proposal is to be verified, in this context.
     Ready(Context<D, P>, Proposal<D>),
     /// A proposal can't be verified before a certificate is there.
@@ -31,9 +31,9 @@ pub enum Verify<D: Digest, P: Copy> {
     Wait,
 }
 
-impl<D: Digest, P: Copy> Copy for Verify<D, P> {}
+impl<D: Copy, P: Copy> Copy for Verify<D, P> {}
 
-impl<D: Digest, P: Copy> Clone for Verify<D, P> {
+impl<D: Copy, P: Copy> Clone for Verify<D, P> {
     ghost use Rattle.std.specs.Prelude.{◌≡◌, ⊤};
 
     ghost is_clone = { λ it copy. copy ≡ it };
@@ -46,7 +46,7 @@ impl<D: Digest, P: Copy> Clone for Verify<D, P> {
 }
 
 /// How the proposal of a view stands.
-pub enum Standing<D: Digest> {
+pub enum Standing<D> {
     /// Nothing is to be done now.
     Passed,
     /// Its parent is invalid for good.
@@ -57,9 +57,9 @@ pub enum Standing<D: Digest> {
     Ready(D),
 }
 
-impl<D: Digest> Copy for Standing<D> {}
+impl<D: Copy> Copy for Standing<D> {}
 
-impl<D: Digest> Clone for Standing<D> {
+impl<D: Copy> Clone for Standing<D> {
     ghost use Rattle.std.specs.Prelude.{◌≡◌, ⊤};
 
     ghost is_clone = { λ it copy. copy ≡ it };
