@@ -40,13 +40,13 @@ impl<C: Copy> Ballot<C> {
 
 /// The votes of one kind that were taken.
 #[derive(Drop)]
-pub struct Batcher<C: Copy + Eq> {
+pub struct Batcher<C: Copy + PartialEq> {
     members: u8,
     ballots: Vec<Ballot<C>>,
     ghost has_members: { 0 < members },
 }
 
-impl<C: Copy + Eq> Batcher<C> {
+impl<C: Copy + PartialEq> Batcher<C> {
     ghost use Rattle.example_engine.specs.Ballots.{has_voted, has_chosen, signers_of, IsTaken, IsCounted, KeepsOrAdds};
 
     /// A batcher of so many members that has taken nothing.

@@ -12,7 +12,8 @@ use Rattle.simplex_resolver.specs.Steps.{Call, after, effects, highest_named, up
 use Rattle.simplex_resolver.specs.Repair.{IsApplied}
 use Rattle.simplex_program.specs.declared.resolver.Answer.{Answer}
 use Rattle.simplex_program.specs.declared.resolver.Answer.TheVariants.{Effects}
-use Rattle.simplex_program.specs.Answers.{Reports, IsProposedAt, round_at, nullification_call, verdict_call}
+use Rattle.simplex_program.specs.Answers.{Reports, IsProposedAt, nullification_call, verdict_call}
+use Rattle.simplex_program.specs.Plain.{round_in_epoch}
 
 -- `made` is the call that was made, `call` the one that the line stands for
 pub reported : {E : Type 0} (r : Result Answer E) (x y : ResolverFacts) (fetching left : List ℕ) (v : ℕ) (made call : Call) (es : Vec Effect Global) → 1 ≤ v → made ≡ call → x.is_failed ≡ false → es.items ≡ effects x made → y ≡ after x made → IfOk r (λ a. a ≡ Effects es) → OnOk r (IsApplied fetching es.items left) → IfOk r (λ a. Reports x fetching v call a y left)
@@ -27,5 +28,5 @@ named_at v p at = rw (at.round, at.parent) (max-eq_left (omega arith))
 pub same_verdict : (v : ℕ) (success : Bool) (p : Proposal PlainDigest) (good : Bool) → IsProposedAt v p → good ≡ true → verdict digest_bytes (record { proposal = p; bytes = cond good 1 0 ∷ [] }) success ≡ verdict_call v success
 same_verdict v success p good at is = rw (at.round, at.parent, at.payload, is) refl
 
-pub same_nullification : (v : ℕ) (round : Round) (good : Bool) → round ≡ round_at v → good ≡ true → update {D = PlainDigest} digest_bytes (Nullified (record { round = round; bytes = cond good 1 0 ∷ [] })) ≡ nullification_call v
+pub same_nullification : (v : ℕ) (round : Round) (good : Bool) → round ≡ round_in_epoch v → good ≡ true → update {D = PlainDigest} digest_bytes (Nullified (record { round = round; bytes = cond good 1 0 ∷ [] })) ≡ nullification_call v
 same_nullification v round good at is = rw (at, is) refl

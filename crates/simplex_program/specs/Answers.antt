@@ -2,7 +2,6 @@
 use Rattle.std.specs.Prelude.{◌≡◌, ◌≢◌, ℕ, ◌-◌, ◌≤◌, Bool, false, ◌&&◌, if◌then◌else◌, List, [], ◌∷◌}
 use Rattle.std.specs.FinMap as map
 use Rattle.std.specs.Int.{w64, to_be_bytes}
-use Rattle.simplex_types.specs.declared.types.numbers.Round.{Round}
 use Rattle.simplex_types.specs.declared.types.messages.Proposal.{Proposal}
 use Rattle.simplex_types.specs.declared.types.fault.Fault.TheVariants.{OutOfMemory, Failed}
 use Rattle.simplex_types.specs.declared.reasons.Kind.TheVariants.{Nullification as OfNullification, Notarization as OfNotarization}
@@ -17,28 +16,25 @@ use Rattle.simplex_program.specs.declared.resolver_line.ResolverLine.{ResolverLi
 use Rattle.simplex_program.specs.declared.resolver_line.ResolverLine.TheVariants.{Notarization, Nullification, Finalization, Certified, Replayed, Settled, KeySettled, Uncertifiable, Produce, Outstanding}
 use Rattle.simplex_program.specs.declared.resolver.Answer.{Answer}
 use Rattle.simplex_program.specs.declared.resolver.Answer.TheVariants as answer
+use Rattle.simplex_program.specs.Plain.{round_in_epoch}
 
 -- the certificates that lines stand for: good ones of epoch 1, whose proposal follows the view before, with payload 0
-
--- a view of epoch 1
-abbrev pub round_at : ℕ → Round
-round_at v = record { epoch = 1; view = v }
 
 -- the certificate that stands for any proposal of a view
 abbrev pub proposed_at : ℕ → ProposalFacts (List ℕ)
 proposed_at v = record {
-  proposal = record { round = round_at v; parent = v - 1; payload = to_be_bytes w64 0 };
+  proposal = record { round = round_in_epoch v; parent = v - 1; payload = to_be_bytes w64 0 };
   bytes = 1 ∷ [];
 }
 
 -- the nullification of a view
 abbrev pub nullified_at : ℕ → NullificationFacts
-nullified_at v = record { round = round_at v; bytes = 1 ∷ [] }
+nullified_at v = record { round = round_in_epoch v; bytes = 1 ∷ [] }
 
 -- a proposal is the one that a line stands for
 pub record IsProposedAt (v : ℕ) (p : Proposal PlainDigest) : Type 0 where
   pub above : 1 ≤ v
-  pub round : p.round ≡ round_at v
+  pub round : p.round ≡ round_in_epoch v
   pub parent : p.parent ≡ v - 1
   pub payload : digest_bytes p.payload ≡ to_be_bytes w64 0
 

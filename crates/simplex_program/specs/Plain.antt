@@ -1,4 +1,4 @@
--- How the plain parts compare payloads, elect and write certificates.
+-- How the plain parts compare payloads, elect and write certificates, and the epoch that all lines are of.
 use Rattle.std.specs.Prelude.{ℕ, Bool, List, [], ◌∷◌, Option, if◌then◌else◌}
 use Rattle.std.specs.Str.{bytes_eq}
 use Rattle.simplex_types.specs.declared.types.numbers.Round.{Round}
@@ -21,6 +21,10 @@ plain_leader e round seed = leader_in_turn e round.view
 -- the one byte of a plain certificate
 abbrev pub plain_bytes : PlainCertificate → List ℕ
 plain_bytes c = (if c.good then 1 else 0) ∷ []
+
+-- a view of epoch 1, as lines name it
+abbrev pub round_in_epoch : ℕ → Round
+round_in_epoch v = record { epoch = 1; view = v }
 
 -- a member of plain parts
 abbrev pub PlainMember : Type 0

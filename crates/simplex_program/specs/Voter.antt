@@ -1,7 +1,6 @@
 -- What a voter behind lines does: the call that each line stands for, its reply, and what it leaves of the member.
 use Rattle.std.specs.Prelude.{◌≡◌, ◌⊎◌, ℕ, Bool, true, false, [], ◌∷◌, length, Option, Some, None}
 use Rattle.std.specs.Int.{w64, to_be_bytes}
-use Rattle.simplex_types.specs.declared.types.numbers.Round.{Round}
 use Rattle.simplex_types.specs.declared.types.messages.Proposal.{Proposal}
 use Rattle.simplex_types.specs.declared.types.plain.PlainDigest.{PlainDigest}
 use Rattle.simplex_types.specs.declared.types.plain.PlainElector.{PlainElector}
@@ -20,14 +19,10 @@ use Rattle.simplex_program.specs.declared.voter_line.VoterLine.{VoterLine}
 use Rattle.simplex_program.specs.declared.voter_line.VoterLine.TheVariants.{Notarization, Nullification, Finalization, Verdict, Notarize, Nullify, Finalize, Broadcast, Best, Prune, Proposal as ProposalOf, Release, Propose, Proposed as Built, Supersede, Abandon, Verify, Verified as FoundValid, Rejected, Candidates, Token, Trigger, Timeout, Restart, RestartPruned, Record, Views}
 use Rattle.simplex_program.specs.declared.voter.VoterAnswer.{VoterAnswer}
 use Rattle.simplex_program.specs.declared.voter.VoterAnswer.TheVariants as answer
-use Rattle.simplex_program.specs.Plain.{PlainMember, PlainCall, same_payload, plain_leader, plain_bytes}
+use Rattle.simplex_program.specs.Plain.{PlainMember, PlainCall, same_payload, plain_leader, plain_bytes, round_in_epoch}
 use Rattle.simplex_program.specs.Setup.{IsGenesisStart}
 
--- the round, the payload and the proposal that the numbers of a line stand for
-
--- a view of epoch 1
-abbrev pub round_in_epoch : ℕ → Round
-round_in_epoch v = record { epoch = 1; view = v }
+-- the payload and the proposal that the numbers of a line stand for
 
 -- a payload is the bytes of this number
 abbrev pub IsPayload : ℕ → PlainDigest → Type 0

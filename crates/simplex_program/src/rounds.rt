@@ -1,7 +1,7 @@
 //! The rounds of the certificates that lines stand for.
 
 ghost use Rattle.std.specs.Prelude.{◌≡◌, true};
-ghost use Rattle.simplex_program.specs.Voter.{round_in_epoch};
+ghost use Rattle.simplex_program.specs.Plain.{round_in_epoch};
 
 use simplex_types::types::plain::{PlainCertificate, PlainScheme};
 use simplex_types::types::{Epoch, Nullification, Round, View};
