@@ -40,8 +40,8 @@ WRONG_BODIES = (
     "simplex_voter/a_replayed_vote_to_notarize_is_forgotten",
     "simplex_voter/prefers_a_parent_below_a_gap",
     "simplex_round/finalize_without_certification",
-    "simplex_member/a_pruning_that_takes_later_votes_to_nullify",
-    "simplex_member/a_drop_that_takes_votes",
+    "simplex_record/a_pruning_that_takes_later_votes_to_nullify",
+    "simplex_record/a_drop_that_takes_votes",
 )
 WRONG_WITHOUT_MEMORY = (
     "simplex_member/a_best_certificate_that_fails_the_member",

@@ -2,10 +2,10 @@
 use Rattle.std.specs.Prelude.{◌≡◌, true}
 use Rattle.simplex_types.specs.declared.types.plain.PlainElector.{PlainElector}
 use Rattle.simplex_types.specs.Plain.{terms_of}
-use Rattle.simplex_member.specs.declared.member.start.Start.{Start}
-use Rattle.simplex_member.specs.Entries.{entries_of}
+use Rattle.simplex_record.specs.declared.record.start.Start.{Start}
+use Rattle.simplex_record.specs.Entries.{entries_of}
 use Rattle.simplex_member.specs.Journal.{stored_of, IsResumed}
-use Rattle.simplex_member.specs.Start.{start_facts}
+use Rattle.simplex_record.specs.Start.{start_facts}
 use Rattle.example_engine.specs.declared.digest.BlockDigest.{BlockDigest}
 use Rattle.example_engine.specs.declared.journal.Journal.{Journal}
 use Rattle.example_engine.specs.declared.scheme.MemberKey.{MemberKey}

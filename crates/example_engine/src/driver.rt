@@ -5,7 +5,7 @@
 
 ghost use Rattle.std.specs.Prelude.{◌≡◌, ◌++◌, ◌∷◌, [], ◌↔◌, drop, length, Contains, IsTrue, IsNone, IfOk, IfSome, OnOk, OnErr, option_to_list};
 ghost use Rattle.std.specs.Option.{option_copied};
-ghost use Rattle.simplex_member.specs.Entries.{entries_of};
+ghost use Rattle.simplex_record.specs.Entries.{entries_of};
 ghost use Rattle.simplex_member.specs.Calls.{told, asked};
 ghost use Rattle.example_engine.specs.Sealing.{seal_bytes};
 ghost use Rattle.example_engine.specs.Votes.{entry_of};

@@ -7,7 +7,7 @@
 
 ghost use Rattle.std.specs.Prelude.{◌≡◌, ◌++◌, drop, length, Contains, IfOk, IfSome, OnOk, OnErr};
 ghost use Rattle.simplex_types.specs.Plain.{members_of};
-ghost use Rattle.simplex_member.specs.Entries.{entries_of};
+ghost use Rattle.simplex_record.specs.Entries.{entries_of};
 ghost use Rattle.example_engine.specs.Sealing.{seal_keys, seal_bytes};
 ghost use Rattle.example_engine.specs.Votes.{entry_of};
 

@@ -17,7 +17,7 @@ use Rattle.simplex_voter.specs.Votes.{after_construct_notarize, after_construct_
 use Rattle.simplex_member.specs.Calls as calls
 use Rattle.simplex_member.specs.Calls.{CallFacts}
 use Rattle.simplex_member.specs.Openings.{Openings, context_at}
-use Rattle.simplex_member.specs.Recovery.{as_artifact, after_replaying}
+use Rattle.simplex_record.specs.Recovery.{as_artifact, after_replaying}
 
 -- what happens to a state, with each certificate by its facts; the last number of an event that carries a moment is that
 -- moment, in milliseconds

@@ -4,14 +4,15 @@ use Rattle.simplex_types.specs.Certificates.{ArtifactFacts, Verdict, Accepted, N
 use Rattle.simplex_voter.specs.Facts.{StateFacts, Elect}
 use Rattle.simplex_member.specs.Calls.{CallFacts, Told, Refused, NotAllowed, NotRestarted}
 use Rattle.simplex_member.specs.Openings.{Openings}
-use Rattle.simplex_member.specs.Entries.{entry_view}
+use Rattle.simplex_record.specs.Entries.{entry_view}
 use Rattle.simplex_laws.specs.Events.{Event, History, SetFloor, AddNotarization, AddNullification, AddFinalization, Certified, Replay, IsEvent, after_event, with_event, events_of}
 use Rattle.simplex_member.specs.Lives.{MemberFacts, IsCall}
-use Rattle.simplex_member.specs.Recovery.{recovered_state, recover_error}
+use Rattle.simplex_record.specs.Recovery.{recovered_state, recover_error}
 use Rattle.simplex_member.specs.Restarts.{RestartFacts, IsByView, IsRestart, cut_member}
 use Rattle.simplex_member.specs.Runs.{StepFacts, Calls, Restarts, IsStep, IsRun}
 use Rattle.simplex_laws.specs.Shows.{Shows}
-use Rattle.simplex_member.specs.Start.{Setup, StartFacts, started_member, new_state}
+use Rattle.simplex_record.specs.Start.{Setup, StartFacts, new_state}
+use Rattle.simplex_member.specs.Start.{started_member}
 use Rattle.simplex_laws.specs.Sums.{finalized_by_events}
 
 -- an entry is taken again: a certificate is added before it is replayed, and a verdict is given after that

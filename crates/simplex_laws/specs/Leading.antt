@@ -12,7 +12,7 @@ use Rattle.simplex_voter.specs.Leaders.{opened_views, with_elected_leader}
 use Rattle.simplex_voter.specs.Payloads.{is_elected_early}
 use Rattle.simplex_voter.specs.Rules.{may_notarize, may_nullify, may_finalize}
 use Rattle.simplex_voter.specs.Windows.{in_window}
-use Rattle.simplex_member.specs.Entries.{entry_view}
+use Rattle.simplex_record.specs.Entries.{entry_view}
 use Rattle.simplex_laws.specs.Events.{Event, SetFloor, AddNotarization, AddNullification, AddFinalization, ConstructNotarize, ConstructNullify, ConstructFinalize, SetProposal, Replay}
 use Rattle.simplex_laws.specs.Sums.{has_view}
 

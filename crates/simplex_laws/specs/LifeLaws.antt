@@ -7,11 +7,12 @@ use Rattle.simplex_voter.specs.Facts.{StateFacts, Elect, round_of, is_tracked}
 use Rattle.simplex_voter.specs.Timeouts.{has_timeout}
 use Rattle.simplex_voter.specs.Windows.{min_active}
 use Rattle.simplex_member.specs.Calls.{CallFacts, BroadcastNotarization, BroadcastNullification, BroadcastFinalization, Told, Handed, Dropped}
-use Rattle.simplex_member.specs.Entries.{certificate_round}
+use Rattle.simplex_record.specs.Entries.{certificate_round}
 use Rattle.simplex_member.specs.Lives.{MemberFacts}
-use Rattle.simplex_member.specs.Recovery.{recover_error}
+use Rattle.simplex_record.specs.Recovery.{recover_error}
 use Rattle.simplex_member.specs.Runs.{StepFacts, Calls, IsRun, IsRunFrom}
-use Rattle.simplex_member.specs.Start.{StartFacts, started_member, new_state}
+use Rattle.simplex_record.specs.Start.{StartFacts, new_state}
+use Rattle.simplex_member.specs.Start.{started_member}
 use Rattle.simplex_laws.specs.TermLengths.{HasTerms, KeepTerms}
 
 module _ {K L D : Type 0} (same : D → D → Bool) (elect : Elect L) where

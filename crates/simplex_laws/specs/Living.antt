@@ -3,17 +3,18 @@ use Rattle.std.specs.Prelude.{◌≡◌, ℕ, Bool, List, [], ◌∷◌, ◌++�
 use Rattle.simplex_types.specs.declared.types.window.Terms.{Terms}
 use Rattle.simplex_types.specs.Certificates.{ArtifactFacts}
 use Rattle.simplex_voter.specs.Facts.{Elect}
-use Rattle.simplex_member.specs.declared.member.error.RecoverError.{RecoverError}
+use Rattle.simplex_record.specs.declared.record.error.RecoverError.{RecoverError}
 use Rattle.simplex_member.specs.declared.member.journal.Stored.{Stored}
 use Rattle.simplex_member.specs.declared.member.calls.Reply.{Reply}
 use Rattle.simplex_member.specs.declared.member.runs.Step.{Step}
-use Rattle.simplex_member.specs.declared.member.start.Start.{Start}
+use Rattle.simplex_record.specs.declared.record.start.Start.{Start}
 use Rattle.simplex_member.specs.Calls.{Told, told}
 use Rattle.simplex_member.specs.Journal.{stored_of}
 use Rattle.simplex_member.specs.Lives.{MemberFacts}
-use Rattle.simplex_member.specs.Recovery.{recover_error}
+use Rattle.simplex_record.specs.Recovery.{recover_error}
 use Rattle.simplex_member.specs.Runs.{StepFacts, steps_of, IsRun}
-use Rattle.simplex_member.specs.Start.{StartFacts, start_facts, started_member, new_state}
+use Rattle.simplex_record.specs.Start.{StartFacts, start_facts, new_state}
+use Rattle.simplex_member.specs.Start.{started_member}
 use Rattle.simplex_laws.specs.Deeds.{Deed}
 use Rattle.simplex_laws.specs.Shown.{floor_in, begun_by, IsSetUpAs}
 use Rattle.simplex_laws.specs.Stories.{Story, deeds_of, LivesAs, Ran}

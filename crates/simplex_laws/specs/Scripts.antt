@@ -5,7 +5,7 @@ use Rattle.simplex_types.specs.declared.types.messages.Proposal.{Proposal}
 use Rattle.simplex_voter.specs.Facts.{Elect}
 use Rattle.simplex_member.specs.Calls.{Told, Restarted}
 use Rattle.simplex_member.specs.Runs.{StepFacts, Restarts}
-use Rattle.simplex_member.specs.Start.{StartFacts}
+use Rattle.simplex_record.specs.Start.{StartFacts}
 use Rattle.simplex_laws.specs.Places.{Place, Faulty, Honest}
 use Rattle.simplex_laws.specs.Stories.{Story}
 use Rattle.simplex_laws.specs.Turns.{set_up_as, proposal, certificate, one, two, story_from, hears, verifies, accepts_notarization, accepts, votes_for, may_not_finalize, accepts_finalization, votes_against, skips}

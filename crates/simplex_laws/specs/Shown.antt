@@ -10,7 +10,7 @@ use Rattle.simplex_member.specs.declared.member.calls.Reply.{Reply}
 use Rattle.simplex_member.specs.declared.member.calls.Reply.TheVariants as reply
 use Rattle.simplex_member.specs.declared.member.runs.Step.{Step}
 use Rattle.simplex_member.specs.declared.member.runs.Step.TheVariants as step
-use Rattle.simplex_member.specs.declared.member.start.Start.{Start}
+use Rattle.simplex_record.specs.declared.record.start.Start.{Start}
 use Rattle.simplex_laws.specs.Deeds.{Deed, Accepts, Signs}
 
 module _ {S D K G C : Type 0} where

@@ -3,7 +3,7 @@ use Rattle.std.specs.Prelude.{◌≡◌, ◌⊎◌, ℕ, Bool, List, ◌++◌, C
 use Rattle.simplex_voter.specs.Facts.{Elect}
 use Rattle.simplex_member.specs.Calls.{Told}
 use Rattle.simplex_member.specs.Runs.{StepFacts, Restarts, IsRunFrom}
-use Rattle.simplex_member.specs.Start.{Setup, StartFacts}
+use Rattle.simplex_record.specs.Start.{Setup, StartFacts}
 use Rattle.simplex_laws.specs.Deeds.{Deed, of_floor, deeds_of_steps}
 use Rattle.simplex_laws.specs.TermLengths.{HasTerms, KeepTerms}
 use Rattle.simplex_laws.specs.Lawful.{IsLawful}

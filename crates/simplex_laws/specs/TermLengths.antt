@@ -1,7 +1,7 @@
 -- The one length of terms that all lives of all members share.
 use Rattle.std.specs.Prelude.{◌≡◌, ◌<◌, ℕ, List, [], ◌∷◌}
 use Rattle.simplex_member.specs.Runs.{StepFacts, Calls, Restarts}
-use Rattle.simplex_member.specs.Start.{Setup}
+use Rattle.simplex_record.specs.Start.{Setup}
 
 -- a state is set up with terms of this length, which have views
 pub record HasTerms {K L : Type 0} (term_length : ℕ) (setup : Setup K L) : Type 0 where

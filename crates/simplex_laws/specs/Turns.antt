@@ -12,7 +12,7 @@ use Rattle.simplex_voter.specs.declared.voter.propose.ProposalRequest.TheVariant
 use Rattle.simplex_voter.specs.declared.voter.verify.Verify.TheVariants.{Ready}
 use Rattle.simplex_member.specs.Calls.{AddNotarization, AddNullification, AddFinalization, SetProposal, TryPropose, Proposed, TryVerify, Verified, ConstructNotarize, CertifyCandidates, Certified, ConstructNullify, ConstructFinalize, NextTimeout, Told, Added, AddedNullification, Judged, Nullify, Finalize, Notarize, Standing, Answered, Requested, Candidates, TimesOut}
 use Rattle.simplex_member.specs.Runs.{StepFacts, Calls}
-use Rattle.simplex_member.specs.Start.{Setup, StartFacts}
+use Rattle.simplex_record.specs.Start.{Setup, StartFacts}
 use Rattle.simplex_laws.specs.Stories.{Story}
 
 -- settings that each of them has

@@ -15,8 +15,8 @@ use Rattle.simplex_voter.specs.Votes.{notarize_cast}
 use Rattle.simplex_member.specs.Openings.{Openings, context_at}
 use Rattle.simplex_member.specs.Calls.{CallFacts, AddNotarization, AddNullification, AddFinalization, SetProposal, TryPropose, Proposed, SupersedeProposalRequest, PendingHandoffAbandonment, ReleaseProposalRequest, TryVerify, Verified, VerificationFailed, ConstructNotarize, CertifyCandidates, SetCertifyHandle, Certified, ConstructNullify, ConstructFinalize, BroadcastNotarization, BroadcastNullification, BroadcastFinalization, GetBestCertificate, TriggerTimeout, NextTimeout, Prune}
 use Rattle.simplex_member.specs.Made.{after_call}
-use Rattle.simplex_member.proofs.Going.{Goes, stays, joined, where_so, with_round_goes, tracked_goes, moment_goes, triggered_goes, notarization_goes, nullification_goes, finalization_goes, certified_goes, nullify_goes, finalize_goes}
-use Rattle.simplex_member.proofs.Recovery.{prepared_goes}
+use Rattle.simplex_record.proofs.Going.{Goes, stays, joined, where_so, with_round_goes, tracked_goes, moment_goes, triggered_goes, notarization_goes, nullification_goes, finalization_goes, certified_goes, nullify_goes, finalize_goes}
+use Rattle.simplex_record.proofs.Recovery.{prepared_goes}
 
 module _ {K L D : Type 0} (same : D → D → Bool) (elect : Elect L) (x : StateFacts K L D) where
   built : (request : Option (ProposalRequest D K)) → Goes x (option_map_or (λ r. with_build x (request_context r).round.view true) request x)

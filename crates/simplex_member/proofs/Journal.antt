@@ -5,16 +5,16 @@ use Rattle.std.proofs.lemmas.List.{drop_min, drop-map, take_rest}
 use Rattle.simplex_types.specs.Certificates.{ArtifactFacts, artifact_facts}
 use Rattle.simplex_types.specs.declared.types.messages.Artifact.{Artifact}
 use Rattle.simplex_voter.specs.Facts.{StateFacts, Elect}
-use Rattle.simplex_member.specs.declared.member.error.RecoverError.{RecoverError}
-use Rattle.simplex_member.specs.declared.member.error.RecoverError.TheVariants as error
+use Rattle.simplex_record.specs.declared.record.error.RecoverError.{RecoverError}
+use Rattle.simplex_record.specs.declared.record.error.RecoverError.TheVariants as error
 use Rattle.simplex_member.specs.declared.member.journal.Stored.{Stored}
 use Rattle.simplex_member.specs.declared.member.resume.ResumeError.TheVariants as resume_error
-use Rattle.simplex_member.specs.Entries.{entries_of}
+use Rattle.simplex_record.specs.Entries.{entries_of}
 use Rattle.simplex_member.specs.Journal.{stored_facts, has_lost, IsResumed, IsNotResumed}
-use Rattle.simplex_member.specs.Recovery.{with_floor}
+use Rattle.simplex_record.specs.Recovery.{with_floor}
 use Rattle.simplex_member.specs.Remade.{IsRemadeBy, IsRefusedBy}
 use Rattle.simplex_member.specs.Restarts.{IsRestart}
-use Rattle.simplex_member.specs.Start.{StartFacts}
+use Rattle.simplex_record.specs.Start.{StartFacts}
 use Rattle.simplex_member.proofs.Restarts.{gone_on, not_gone_on}
 
 module _ {K L D : Type 0} (same : D → D → Bool) (elect : Elect L) (stored : Stored) (entries : List (ArtifactFacts D)) (start : StartFacts K L D) (whole : has_lost stored entries ≡ false) where

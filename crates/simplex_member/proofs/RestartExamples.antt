@@ -5,12 +5,12 @@ use Rattle.simplex_voter.specs.Facts.{StateFacts, new_facts}
 use Rattle.simplex_voter.specs.Windows.{min_active}
 use Rattle.simplex_voter.specs.Serving.{notarization_of, prune_answer}
 use Rattle.simplex_member.specs.Openings.{no_openings}
-use Rattle.simplex_member.specs.Cuts.{may_drop, pruned_entries}
+use Rattle.simplex_record.specs.Cuts.{may_drop, pruned_entries}
 use Rattle.simplex_member.specs.Lives.{MemberFacts}
-use Rattle.simplex_member.specs.Recovery.{after_kept_entry, recovered_state}
+use Rattle.simplex_record.specs.Recovery.{after_kept_entry, recovered_state}
 use Rattle.simplex_member.specs.Restarts.{retention_grows, cut_member}
-use Rattle.simplex_member.proofs.Examples.{Entry, notarization, nullification, finalization, nullify}
-use Rattle.simplex_member.proofs.RecoveryExamples.{in_turn, settings}
+use Rattle.simplex_record.proofs.Examples.{Entry, notarization, nullification, finalization, nullify}
+use Rattle.simplex_record.proofs.RecoveryExamples.{in_turn, settings}
 
 abbrev Member : Type 0
 Member = MemberFacts ℕ ℕ ℕ

@@ -10,18 +10,18 @@ use Rattle.simplex_types.specs.Certificates.{ArtifactFacts, Accepted, Finalized,
 use Rattle.simplex_types.specs.declared.types.messages.Artifact.{Artifact}
 use Rattle.simplex_types.specs.declared.types.messages.Artifact.TheVariants as artifact
 use Rattle.simplex_types.specs.declared.types.messages.Finalization.{Finalization}
-use Rattle.simplex_member.specs.declared.member.error.RecoverError.{RecoverError}
-use Rattle.simplex_member.specs.declared.member.error.RecoverError.TheVariants as error
-use Rattle.simplex_member.specs.Check.{stands}
-use Rattle.simplex_member.specs.Entries.{entries_of, entry_view}
+use Rattle.simplex_record.specs.declared.record.error.RecoverError.{RecoverError}
+use Rattle.simplex_record.specs.declared.record.error.RecoverError.TheVariants as error
+use Rattle.simplex_record.specs.Check.{stands}
+use Rattle.simplex_record.specs.Entries.{entries_of, entry_view}
 use Rattle.simplex_voter.specs.Facts.{StateFacts, Elect}
 use Rattle.simplex_member.specs.Openings.{no_openings}
 use Rattle.simplex_member.specs.Lives.{MemberFacts, without_life}
 use Rattle.simplex_member.specs.Remade.{IsRefusedBy, IsRemadeBy}
-use Rattle.simplex_member.specs.Recovery.{recover_error, is_finalization, with_finalization_entry, with_floor}
+use Rattle.simplex_record.specs.Recovery.{recover_error, is_finalization, with_finalization_entry, with_floor}
 use Rattle.simplex_member.specs.Restarts.{IsByView, GoesOn}
-use Rattle.simplex_member.specs.Start.{StartFacts, IsErrorDue, new_state}
-use Rattle.simplex_member.proofs.Seen.{entries_from, view_of_entry}
+use Rattle.simplex_record.specs.Start.{StartFacts, IsErrorDue, new_state}
+use Rattle.simplex_record.proofs.Seen.{entries_from, view_of_entry}
 
 view_ties : (v w : ℕ) → (not (is_lt (nat_cmp v w)) && not (is_lt (nat_cmp w v))) ≡ (w == v)
 view_ties v w = grind (arith, nat_tests)

@@ -2,15 +2,16 @@
 use Rattle.std.proofs.Common.{◌≡◌, refl, sym, ◌∙◌, ℕ, ◌+◌, ◌<◌, Bool, false, List, [], ◌∷◌, ◌++◌, map, take, drop, length, get_or, ap, Option, Some, None, inl, inr, ◌⊎◌}
 use Rattle.std.proofs.lemmas.List.{take-append-drop, drop_more}
 use Rattle.simplex_voter.specs.Facts.{Elect}
-use Rattle.simplex_member.specs.declared.member.error.RecoverError.{RecoverError}
-use Rattle.simplex_member.specs.declared.member.error.RecoverError.TheVariants as error
+use Rattle.simplex_record.specs.declared.record.error.RecoverError.{RecoverError}
+use Rattle.simplex_record.specs.declared.record.error.RecoverError.TheVariants as error
 use Rattle.simplex_member.specs.declared.member.runs.Step.{Step}
 use Rattle.simplex_member.specs.declared.member.calls.Reply.{Reply}
 use Rattle.simplex_member.specs.declared.member.calls.Reply.TheVariants as reply
 use Rattle.simplex_member.specs.Calls.{Told, told}
 use Rattle.simplex_member.specs.Lives.{MemberFacts}
-use Rattle.simplex_member.specs.Recovery.{recover_error}
-use Rattle.simplex_member.specs.Start.{StartFacts, started_member, IsErrorDue, new_state}
+use Rattle.simplex_record.specs.Recovery.{recover_error}
+use Rattle.simplex_record.specs.Start.{StartFacts, IsErrorDue, new_state}
+use Rattle.simplex_member.specs.Start.{started_member}
 use Rattle.simplex_member.specs.Runs.{IsSetUp, AreSetUp, StepFacts, is_refusal, IsStep, IsRun, IsRefused, EndsRun, IsRunFrom, EndsRunFrom}
 
 -- no reply tells of a restart that was refused

@@ -16,7 +16,7 @@ use Rattle.simplex_member.specs.Calls.{ConstructNotarize, ConstructNullify, Cons
 use Rattle.simplex_member.specs.Lives.{MemberFacts}
 use Rattle.simplex_member.specs.Made.{nullify_vote, notarize_vote, finalize_vote}
 use Rattle.simplex_member.specs.Typed.{IsAnswered, HasNotarized, HasNullified, HasFinalized}
-use Rattle.simplex_member.proofs.Growing.{round_of-same}
+use Rattle.simplex_record.proofs.Growing.{round_of-same}
 
 -- what is told alike is the same
 module _ {K D : Type 0} where

@@ -1,32 +1,11 @@
--- The names of refusals.
+-- The names of refusals of calls and of resumes.
 use Rattle.std.specs.Prelude.{ℕ, List, codes}
-use Rattle.simplex_member.specs.declared.member.error.RecoverError.{RecoverError}
-use Rattle.simplex_member.specs.declared.member.error.RecoverError.TheVariants as error
-use Rattle.simplex_types.specs.Config.{config_error_name}
 use Rattle.simplex_types.specs.Fault.{fault_name}
+use Rattle.simplex_record.specs.Errors.{recover_error_name}
 use Rattle.simplex_member.specs.declared.member.refusal.Refusal.{Refusal}
 use Rattle.simplex_member.specs.declared.member.refusal.Refusal.TheVariants as refusal
 use Rattle.simplex_member.specs.declared.member.resume.ResumeError.{ResumeError}
 use Rattle.simplex_member.specs.declared.member.resume.ResumeError.TheVariants as resume_error
-use Rattle.simplex_member.specs.declared.member.settings.StartError.{StartError}
-use Rattle.simplex_member.specs.declared.member.settings.StartError.TheVariants as start_error
-
--- why no state is made of a record
-abbrev pub recover_error_name : RecoverError → List ℕ
-recover_error_name error.OutOfOrder = codes "OutOfOrder"
-recover_error_name error.OtherEpoch = codes "OtherEpoch"
-recover_error_name error.ZeroView = codes "ZeroView"
-recover_error_name error.ViewTooLarge = codes "ViewTooLarge"
-recover_error_name error.ForeignSigner = codes "ForeignSigner"
-recover_error_name error.ParentNotBelow = codes "ParentNotBelow"
-recover_error_name error.VerdictWithoutNotarization = codes "VerdictWithoutNotarization"
-recover_error_name error.ContradictingVerdicts = codes "ContradictingVerdicts"
-recover_error_name error.NullifyBesideFinalize = codes "NullifyBesideFinalize"
-recover_error_name error.ContradictingVotes = codes "ContradictingVotes"
-recover_error_name error.FinalizeWithoutVerdict = codes "FinalizeWithoutVerdict"
-recover_error_name error.TimeOverflow = codes "TimeOverflow"
-recover_error_name error.OutOfMemory = codes "OutOfMemory"
-recover_error_name error.RetentionGrown = codes "RetentionGrown"
 
 -- why a member does not go on from its journal
 abbrev pub resume_error_name : ResumeError → List ℕ
@@ -37,8 +16,3 @@ resume_error_name (resume_error.Recover e) = recover_error_name e
 abbrev pub refusal_name : Refusal → List ℕ
 refusal_name (refusal.Fault fault) = fault_name fault
 refusal_name refusal.NotAllowed = codes "NotAllowed"
-
--- why a member does not start
-abbrev pub start_error_name : StartError → List ℕ
-start_error_name (start_error.Config e) = config_error_name e
-start_error_name start_error.OtherMembers = codes "OtherMembers"

@@ -8,7 +8,7 @@ use Rattle.simplex_member.specs.declared.member.resume.ResumeError.TheVariants a
 use Rattle.simplex_member.specs.Openings.{no_openings}
 use Rattle.simplex_member.specs.Lives.{MemberFacts}
 use Rattle.simplex_member.specs.Restarts.{RestartFacts, IsRestart}
-use Rattle.simplex_member.specs.Start.{StartFacts}
+use Rattle.simplex_record.specs.Start.{StartFacts}
 
 module _ {K L D : Type 0} where
   -- what is stored beside the entries

@@ -1,9 +1,4 @@
 pub mod Errors
-pub mod Entries
-pub mod Check
-pub mod Seen
-pub mod Cuts
-pub mod Recovery
 pub mod Calls
 pub mod Allowed
 pub mod Signed
@@ -13,7 +8,6 @@ pub mod Made
 pub mod Lives
 pub mod Typed
 pub mod Start
-pub mod Settings
 pub mod Restarts
 pub mod Journal
 pub mod Remade

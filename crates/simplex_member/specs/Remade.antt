@@ -2,10 +2,10 @@
 use Rattle.std.specs.Prelude.{◌≡◌, Bool, List, Some, None}
 use Rattle.simplex_types.specs.Certificates.{ArtifactFacts}
 use Rattle.simplex_voter.specs.Facts.{StateFacts, Elect}
-use Rattle.simplex_member.specs.declared.member.error.RecoverError.{RecoverError}
-use Rattle.simplex_member.specs.Recovery.{recovered_state, recover_error}
+use Rattle.simplex_record.specs.declared.record.error.RecoverError.{RecoverError}
+use Rattle.simplex_record.specs.Recovery.{recovered_state, recover_error}
 use Rattle.simplex_member.specs.Restarts.{IsByView}
-use Rattle.simplex_member.specs.Start.{StartFacts, new_state}
+use Rattle.simplex_record.specs.Start.{StartFacts, new_state}
 
 module _ {K L D : Type 0} (same : D → D → Bool) where
   -- no state is made, by the error that is due for a copy of the entries by view

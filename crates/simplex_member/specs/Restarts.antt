@@ -5,14 +5,14 @@ use Rattle.simplex_types.specs.Certificates.{ArtifactFacts}
 use Rattle.simplex_types.specs.declared.types.window.Terms.{Terms}
 use Rattle.simplex_voter.specs.Facts.{Elect}
 use Rattle.simplex_member.specs.declared.member.restart.Restart.{Restart}
-use Rattle.simplex_member.specs.declared.member.error.RecoverError.{RecoverError}
-use Rattle.simplex_member.specs.declared.member.error.RecoverError.TheVariants as error
-use Rattle.simplex_member.specs.Entries.{entry_view}
-use Rattle.simplex_member.specs.Cuts.{without_last, pruned_entries}
+use Rattle.simplex_record.specs.declared.record.error.RecoverError.{RecoverError}
+use Rattle.simplex_record.specs.declared.record.error.RecoverError.TheVariants as error
+use Rattle.simplex_record.specs.Entries.{entry_view}
+use Rattle.simplex_record.specs.Cuts.{without_last, pruned_entries}
 use Rattle.simplex_member.specs.Openings.{no_openings}
 use Rattle.simplex_member.specs.Lives.{MemberFacts, without_life}
-use Rattle.simplex_member.specs.Recovery.{recovered_state, recover_error, with_floor}
-use Rattle.simplex_member.specs.Start.{StartFacts, start_facts, new_state}
+use Rattle.simplex_record.specs.Recovery.{recovered_state, recover_error, with_floor}
+use Rattle.simplex_record.specs.Start.{StartFacts, start_facts, new_state}
 
 -- what a restart is asked for: at most so many of the last entries are dropped, whether the record is pruned then, and how
 -- the member starts

@@ -1,61 +1,11 @@
 -- How a member starts, with an empty record.
-use Rattle.std.specs.Prelude.{◌≡◌, ℕ, Bool, false, List, [], Option, Some, MatchOption}
-use Rattle.simplex_types.specs.Config.{FloorFacts, floor_facts}
-use Rattle.simplex_types.specs.declared.types.fault.Fault.{Fault}
-use Rattle.simplex_types.specs.declared.types.fault.Fault.TheVariants as fault
-use Rattle.simplex_types.specs.declared.types.window.Terms.{Terms}
-use Rattle.simplex_voter.specs.declared.voter.state.Config.{Config}
-use Rattle.simplex_voter.specs.Facts.{StateFacts, Settings, Elect, new_facts}
-use Rattle.simplex_voter.specs.StateView.{settings_of}
+use Rattle.std.specs.Prelude.{ℕ, Bool, false, [], Some}
+use Rattle.simplex_types.specs.Config.{FloorFacts}
+use Rattle.simplex_voter.specs.Facts.{StateFacts, Elect}
 use Rattle.simplex_voter.specs.Acceptance.{after_set_floor}
-use Rattle.simplex_member.specs.declared.member.error.RecoverError.{RecoverError}
-use Rattle.simplex_member.specs.declared.member.error.RecoverError.TheVariants as error
-use Rattle.simplex_member.specs.declared.member.start.Start.{Start}
-use Rattle.simplex_member.specs.Recovery.{with_floor}
+use Rattle.simplex_record.specs.Recovery.{with_floor}
 use Rattle.simplex_member.specs.Openings.{no_openings}
 use Rattle.simplex_member.specs.Lives.{MemberFacts}
-
--- how a state is set up
-pub record Setup (K L : Type 0) : Type 0 where
-  pub settings : Settings
-  pub me : Option ℕ
-  pub members : List K
-  pub elector : L
-  pub terms : Terms
-  pub elects_early : Bool
-
--- what settings set up, as plain data
-abbrev pub setup_of : {S L K G C : Type 0} → (S → Option ℕ) → (S → List K) → (L → Terms) → (L → Bool) → Config S L K G C → Setup K L
-setup_of me members terms elects_early c = record {
-  settings = settings_of c;
-  me = me c.scheme;
-  members = members c.scheme;
-  elector = c.elector;
-  terms = terms c.elector;
-  elects_early = elects_early c.elector;
-}
-
--- what a new state knows: nothing but how it was set up
-abbrev pub new_state : {K L D : Type 0} → Setup K L → StateFacts K L D
-new_state s = new_facts s.settings s.me s.members s.elector s.terms s.elects_early
-
--- what a new state of these settings knows
-abbrev pub set_up : {S L D K G C : Type 0} → (S → Option ℕ) → (S → List K) → (L → Terms) → (L → Bool) → Config S L K G C → StateFacts K L D
-set_up me members terms elects_early c = new_state (setup_of me members terms elects_early c)
-
--- how a member starts: how its state is set up, the floor, and the moment in milliseconds
-pub record StartFacts (K L D : Type 0) : Type 0 where
-  pub setup : Setup K L
-  pub floor : FloorFacts D
-  pub now : ℕ
-
--- a start, as plain data
-abbrev pub start_facts : {S L D K G C : Type 0} → (S → Option ℕ) → (S → List K) → (L → Terms) → (L → Bool) → (C → List ℕ) → Start S L D K G C → StartFacts K L D
-start_facts me members terms elects_early bytes_of start = record {
-  setup = setup_of me members terms elects_early start.settings;
-  floor = floor_facts bytes_of start.floor;
-  now = start.now;
-}
 
 -- a member whose state sets the floor, and whose record is the floor's finalization
 abbrev pub started_member : {K L D : Type 0} → (D → D → Bool) → Elect L → StateFacts K L D → FloorFacts D → ℕ → MemberFacts K L D
@@ -68,12 +18,3 @@ started_member same elect x floor now = record {
   retention = x.settings.view_retention;
   least_retention = x.settings.view_retention;
 }
-
--- the error that is due, and where none is, want of memory
-abbrev pub IsErrorDue : Option RecoverError → RecoverError → Type 0
-IsErrorDue due found = MatchOption due (found ≡ error.OutOfMemory) (λ e. found ≡ e)
-
--- what a fault in setting a good floor means for the start
-abbrev pub error_of : Fault → RecoverError
-error_of fault.TimeOverflow = error.TimeOverflow
-error_of _ = error.OutOfMemory

@@ -7,7 +7,7 @@ use Rattle.simplex_types.specs.declared.types.plain.PlainDigest.{PlainDigest}
 use Rattle.simplex_types.specs.declared.types.plain.PlainElector.{PlainElector}
 use Rattle.simplex_types.specs.declared.types.plain.PlainKey.{PlainKey}
 use Rattle.simplex_voter.specs.Facts.{Settings}
-use Rattle.simplex_member.specs.Start.{StartFacts}
+use Rattle.simplex_record.specs.Start.{StartFacts}
 
 pub count_of_keys : (n : ℕ) → length (keys_below n) ≡ n
 count_of_keys n = length-map-range_with_len _ 0 n

@@ -13,8 +13,9 @@ use Rattle.simplex_types.specs.Plain.{digest_bytes, members_of, terms_of, keys_b
 use Rattle.simplex_voter.specs.Facts.{Settings, new_facts}
 use Rattle.simplex_voter.specs.StateView.{settings_of}
 use Rattle.simplex_voter.specs.declared.voter.state.Config.{Config}
-use Rattle.simplex_member.specs.declared.member.start.Start.{Start}
-use Rattle.simplex_member.specs.Start.{StartFacts, start_facts, started_member, new_state}
+use Rattle.simplex_record.specs.declared.record.start.Start.{Start}
+use Rattle.simplex_record.specs.Start.{StartFacts, start_facts, new_state}
+use Rattle.simplex_member.specs.Start.{started_member}
 use Rattle.simplex_program.specs.declared.network.Network.{Network}
 use Rattle.simplex_program.specs.Plain.{PlainMember, same_payload, plain_leader, plain_bytes}
 

@@ -4,9 +4,9 @@ use Rattle.std.specs.List.{join_with_byte}
 use Rattle.simplex_types.specs.declared.types.fault.Fault.{Fault}
 use Rattle.simplex_types.specs.declared.types.fault.Fault.TheVariants as fault
 use Rattle.simplex_types.specs.Fault.{fault_name}
-use Rattle.simplex_member.specs.declared.member.error.RecoverError.{RecoverError}
-use Rattle.simplex_member.specs.declared.member.error.RecoverError.TheVariants as error
-use Rattle.simplex_member.specs.Errors.{recover_error_name}
+use Rattle.simplex_record.specs.declared.record.error.RecoverError.{RecoverError}
+use Rattle.simplex_record.specs.declared.record.error.RecoverError.TheVariants as error
+use Rattle.simplex_record.specs.Errors.{recover_error_name}
 
 -- the text of words: one space between each two
 abbrev pub text_of : List (List ℕ) → List ℕ

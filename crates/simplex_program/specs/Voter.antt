@@ -12,7 +12,7 @@ use Rattle.simplex_voter.specs.Windows.{min_active}
 use Rattle.simplex_member.specs.Calls.{AddNotarization, AddNullification, AddFinalization, SetProposal, TryPropose, Proposed, SupersedeProposalRequest, PendingHandoffAbandonment, ReleaseProposalRequest, TryVerify, Verified, VerificationFailed, ConstructNotarize, CertifyCandidates, SetCertifyHandle, Certified, ConstructNullify, ConstructFinalize, BroadcastNotarization, BroadcastNullification, BroadcastFinalization, GetBestCertificate, TriggerTimeout, NextTimeout, Prune as PruneCall, told}
 use Rattle.simplex_member.specs.Lives.{IsCall}
 use Rattle.simplex_member.specs.Restarts.{IsRestart}
-use Rattle.simplex_member.specs.Start.{StartFacts}
+use Rattle.simplex_record.specs.Start.{StartFacts}
 use Rattle.simplex_program.specs.declared.network.Network.{Network}
 use Rattle.simplex_program.specs.declared.voter_line.CertificateKind.TheVariants as kind
 use Rattle.simplex_program.specs.declared.voter_line.VoterLine.{VoterLine}

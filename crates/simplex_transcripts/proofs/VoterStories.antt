@@ -8,11 +8,12 @@ use Rattle.simplex_types.specs.declared.types.plain.PlainKey.{PlainKey}
 use Rattle.simplex_types.specs.Config.{Genesis}
 use Rattle.simplex_types.specs.Plain.{digest_from_eq}
 use Rattle.simplex_member.specs.Calls.{told}
-use Rattle.simplex_member.specs.Check.{first_recover_error}
-use Rattle.simplex_member.specs.Recovery.{recover_error}
+use Rattle.simplex_record.specs.Check.{first_recover_error}
+use Rattle.simplex_record.specs.Recovery.{recover_error}
 use Rattle.simplex_member.specs.Restarts.{RestartFacts}
 use Rattle.simplex_member.specs.Runs.{Calls, Restarts, restart_told, IsStep, IsRun, IsRunFrom}
-use Rattle.simplex_member.specs.Start.{StartFacts, started_member, new_state}
+use Rattle.simplex_record.specs.Start.{StartFacts, new_state}
+use Rattle.simplex_member.specs.Start.{started_member}
 use Rattle.simplex_laws.specs.Lawful.{IsLawful}
 use Rattle.simplex_laws.specs.Stories.{BeginsAs, Ran, deeds_of}
 use Rattle.simplex_laws.proofs.records.RunsLawful.{story_lawful}

@@ -1,7 +1,7 @@
 //! A lawful member and its journal.
 
 ghost use Rattle.std.specs.Prelude.{◌≡◌, IfOk, IfErr, drop, length};
-ghost use Rattle.simplex_member.specs.Start.{start_facts};
+ghost use Rattle.simplex_record.specs.Start.{start_facts};
 
 use super::living::LawfulMember;
 use simplex_member::member::{Member, NotResumed, Start, Stored};
@@ -9,7 +9,7 @@ use simplex_types::types::{Artifact, Digest, Elector, Scheme};
 use std::alloc::Global;
 
 impl<S: Scheme<D>, L: Elector<S>, D: Digest> LawfulMember<S, L, D> {
-    ghost use Rattle.simplex_member.specs.Entries.{entries_of};
+    ghost use Rattle.simplex_record.specs.Entries.{entries_of};
     ghost use Rattle.simplex_member.specs.Journal.{stored_of, IsResumed, IsNotResumed};
     ghost use Rattle.simplex_laws.specs.Living.{HasGoneOn};
 

@@ -2,7 +2,7 @@
 
 ghost use Rattle.std.specs.Prelude.{◌≡◌, ℕ, IfOk, IfErr, IfSome, length};
 ghost use Rattle.simplex_member.specs.Runs.{AreSetUp, EndsRunFrom, steps_of};
-ghost use Rattle.simplex_member.specs.Start.{start_facts};
+ghost use Rattle.simplex_record.specs.Start.{start_facts};
 ghost use Rattle.simplex_laws.specs.Exactly.{SignsExactly};
 ghost use Rattle.simplex_laws.specs.Living.{story_of};
 ghost use Rattle.simplex_laws.specs.Lawful.{IsLawful};
@@ -74,9 +74,10 @@ impl<S: Scheme<D>, L: Elector<S>, D: Digest> LawfulMember<S, L, D> {
     ghost use Rattle.simplex_member.specs.Lives.{IsCall};
     ghost use Rattle.simplex_member.specs.Runs.{Calls};
     ghost use Rattle.simplex_member.specs.Signed.{IsSignedReply};
-    ghost use Rattle.simplex_member.specs.Recovery.{recover_error};
+    ghost use Rattle.simplex_record.specs.Recovery.{recover_error};
     ghost use Rattle.simplex_member.specs.Restarts.{restart_facts, IsRestart};
-    ghost use Rattle.simplex_member.specs.Start.{set_up, started_member, IsErrorDue};
+    ghost use Rattle.simplex_record.specs.Start.{set_up, IsErrorDue};
+    ghost use Rattle.simplex_member.specs.Start.{started_member};
     ghost use Rattle.simplex_laws.specs.Exactly.{ExactAt};
     ghost use Rattle.simplex_laws.specs.Living.{DoesMore, MayBeDoneBy, OfAllDone, HasBegun, HasBegunAgain};
     ghost use Rattle.simplex_laws.specs.Shown.{votes_in, taken_by};

@@ -15,7 +15,7 @@ use Rattle.simplex_voter.specs.Refusals.{plain_refusal}
 use Rattle.simplex_round.specs.Round.{is_nullify}
 use Rattle.simplex_voter.specs.Rules.{may_notarize, may_nullify, may_finalize, NotarizeRule, NullifyRule, FinalizeRule}
 use Rattle.simplex_voter.proofs.Rules.{nullify_parts, nullify_whole, finalize_parts, finalize_whole, notarize_parts, notarize_whole}
-use Rattle.simplex_member.specs.declared.member.error.RecoverError.{RecoverError}
+use Rattle.simplex_record.specs.declared.record.error.RecoverError.{RecoverError}
 use Rattle.simplex_member.specs.Allowed.{is_allowed, fault_of}
 use Rattle.simplex_member.specs.Calls.{CallFacts, ConstructNotarize, ConstructNullify, ConstructFinalize, Told, Nullify, Finalize, Notarize, Refused, NotAllowed}
 use Rattle.simplex_member.specs.Made.{answer}
@@ -23,7 +23,8 @@ use Rattle.simplex_member.specs.Lives.{MemberFacts, IsCall, AnswersAlive, reply_
 use Rattle.simplex_member.specs.Openings.{Openings}
 use Rattle.simplex_member.specs.Runs.{StepFacts, Calls, Restarts, restart_told, IsStep, IsRun, IsRunFrom}
 use Rattle.simplex_member.specs.Restarts.{RestartFacts}
-use Rattle.simplex_member.specs.Start.{started_member, new_state}
+use Rattle.simplex_record.specs.Start.{new_state}
+use Rattle.simplex_member.specs.Start.{started_member}
 use Rattle.simplex_laws.specs.Exactly.{is_refused, IsSignedFor, IsExact, proposal_at, ExactAt, RunsExactly, SignsExactly}
 use Rattle.simplex_laws.specs.Deeds.{Deed, Signs, signed_in}
 use Rattle.simplex_laws.specs.Stories.{Story}

@@ -15,10 +15,10 @@ use Rattle.simplex_voter.proofs.Gaps.{and_parts}
 use Rattle.simplex_member.specs.Calls as calls
 use Rattle.simplex_member.specs.Allowed.{is_allowed}
 use Rattle.simplex_member.specs.Calls.{CallFacts}
-use Rattle.simplex_member.specs.Entries.{entry_view}
+use Rattle.simplex_record.specs.Entries.{entry_view}
 use Rattle.simplex_member.specs.Made.{after_call}
 use Rattle.simplex_member.specs.Openings.{Openings, context_at, is_offered}
-use Rattle.simplex_member.specs.Recovery.{after_replaying, after_entry, after_kept_entry, after_entries, recovered_state}
+use Rattle.simplex_record.specs.Recovery.{after_replaying, after_entry, after_kept_entry, after_entries, recovered_state}
 use Rattle.simplex_laws.specs.Events.{Event, IsEvent, after_event, SetFloor, AddNotarization, AddNullification, AddFinalization, Certified, Proposed, Supersede, Replay, in_context, events_of}
 use Rattle.simplex_laws.proofs.frames.Steps.{IsSilent}
 use Rattle.simplex_laws.proofs.frames.CallsOnWork.{is_work}

@@ -2,7 +2,7 @@
 -- The state that a life begins with.
 use Rattle.std.proofs.Common.{◌≡◌, ◌<◌, ℕ, refl}
 use Rattle.simplex_voter.specs.Facts.{StateFacts, new_facts}
-use Rattle.simplex_member.specs.Start.{Setup, new_state}
+use Rattle.simplex_record.specs.Start.{Setup, new_state}
 use Rattle.simplex_laws.specs.TermLengths.{HasTerms}
 
 module _ {K L D : Type 0} where

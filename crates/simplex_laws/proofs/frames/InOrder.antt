@@ -16,7 +16,7 @@ use Rattle.simplex_voter.proofs.Walked.{sorted-changed}
 use Rattle.simplex_member.specs.Calls.{CallFacts}
 use Rattle.simplex_member.specs.Made.{after_call}
 use Rattle.simplex_member.specs.Openings.{Openings}
-use Rattle.simplex_member.specs.Recovery.{recovered_state}
+use Rattle.simplex_record.specs.Recovery.{recovered_state}
 use Rattle.simplex_laws.specs.Events.{Event, after_event}
 use Rattle.simplex_laws.proofs.frames.CallsMake.{call_by_any, recovered_keeps}
 use Rattle.simplex_laws.proofs.frames.Paths.{event_path, asked_of_all}

@@ -37,8 +37,8 @@ use Rattle.simplex_voter.specs.Refusals.{is_started}
 use Rattle.simplex_voter.specs.Replay.{bound_again, restored_binding}
 use Rattle.simplex_voter.proofs.Gaps.{and_parts, not_true}
 use Rattle.simplex_voter.proofs.Rules.{notarize_parts, nullify_parts, finalize_parts}
-use Rattle.simplex_member.specs.Entries.{entry_view}
-use Rattle.simplex_member.specs.Recovery.{after_replaying}
+use Rattle.simplex_record.specs.Entries.{entry_view}
+use Rattle.simplex_record.specs.Recovery.{after_replaying}
 use Rattle.simplex_laws.specs.Events.{Event, after_event, SetFloor, AddNotarization, AddNullification, AddFinalization, Certified, ConstructNotarize, ConstructNullify, ConstructFinalize, SetProposal, TryPropose, Proposed, Supersede, Release, TryVerify, Verified, VerificationFailed, CertifyCandidates, SetCertifyHandle, TriggerTimeout, NextTimeout, BroadcastNotarization, BroadcastNullification, BroadcastFinalization, Prune, Replay}
 use Rattle.simplex_laws.specs.Sums.{finalized_by_event}
 use Rattle.simplex_laws.proofs.frames.Steps as step

@@ -23,10 +23,10 @@ use Rattle.simplex_voter.specs.Serving.{prune_answer}
 use Rattle.simplex_voter.proofs.Gaps.{and_parts}
 use Rattle.simplex_member.specs.Allowed.{is_allowed}
 use Rattle.simplex_member.specs.Calls.{CallFacts, Prune, Dropped}
-use Rattle.simplex_member.specs.Entries.{entry_view}
+use Rattle.simplex_record.specs.Entries.{entry_view}
 use Rattle.simplex_member.specs.Made.{answer, after_call}
 use Rattle.simplex_member.specs.Openings.{Openings}
-use Rattle.simplex_member.specs.Recovery.{as_artifact}
+use Rattle.simplex_record.specs.Recovery.{as_artifact}
 use Rattle.simplex_laws.specs.Events as event
 use Rattle.simplex_laws.specs.Events.{Event, IsEvent, after_event}
 use Rattle.simplex_laws.specs.Sums.{is_prune}

@@ -27,7 +27,7 @@ use Rattle.simplex_laws.specs.Events.{SetFloor, AddNotarization, AddNullificatio
 use Rattle.simplex_laws.specs.Sums.{entered_by, has_view}
 use Rattle.simplex_laws.specs.OwnWork.{contradicts}
 use Rattle.simplex_laws.specs.Shows.{verdict_of}
-use Rattle.simplex_member.proofs.Growing.{round_of-same}
+use Rattle.simplex_record.proofs.Growing.{round_of-same}
 use Rattle.simplex_laws.proofs.histories.Leaving.{Known, known_of, Alike, Leaves, Quiet, quiet, then_quiet, both_quiet, leaves_joined, quiet_where, moment_leaves, entered_leaves, raised_leaves, named_quiet, slid_quiet, triggered_quiet, elected_quiet, woken_quiet}
 use Rattle.simplex_laws.proofs.histories.Following.{adds, Follows, among_noted, nothing_added, put_between, put_follows}
 

@@ -12,7 +12,7 @@ use Rattle.simplex_round.specs.Round.{RoundFacts, certified_round}
 use Rattle.simplex_voter.specs.Facts.{StateFacts, Elect, round_of, with_round}
 use Rattle.simplex_voter.specs.Leaders.{with_next_view_ready}
 use Rattle.simplex_voter.specs.Replay.{TakesReplay, bound_again, restored_binding}
-use Rattle.simplex_member.specs.Recovery.{as_artifact, after_replaying}
+use Rattle.simplex_record.specs.Recovery.{as_artifact, after_replaying}
 use Rattle.simplex_laws.specs.Events.{Event, IsEvent, after_event, SetFloor, AddNotarization, AddNullification, AddFinalization, Certified, ConstructNotarize, ConstructNullify, ConstructFinalize, SetProposal, TryPropose, Proposed, Supersede, Release, TryVerify, Verified, VerificationFailed, CertifyCandidates, SetCertifyHandle, TriggerTimeout, NextTimeout, BroadcastNotarization, BroadcastNullification, BroadcastFinalization, Prune, Replay}
 use Rattle.simplex_laws.specs.Sums.{moment_by}
 use Rattle.simplex_laws.proofs.histories.Leaving.{known_of, Leaves, quiet, prepared_quiet}

@@ -8,30 +8,31 @@ use Rattle.simplex_types.specs.declared.types.fault.Fault.{Fault}
 use Rattle.simplex_voter.specs.Facts.{StateFacts, Elect}
 use Rattle.simplex_voter.specs.Windows.{min_active}
 use Rattle.simplex_voter.specs.Acceptance.{after_set_floor, after_add_notarization, after_add_nullification, after_add_finalization}
-use Rattle.simplex_member.specs.declared.member.error.RecoverError.{RecoverError}
+use Rattle.simplex_record.specs.declared.record.error.RecoverError.{RecoverError}
 use Rattle.simplex_member.specs.Openings.{Openings}
 use Rattle.simplex_member.specs.Calls as calls
 use Rattle.simplex_member.specs.Calls.{CallFacts, Told, Restarted, NotRestarted}
 use Rattle.simplex_member.specs.Allowed.{is_allowed, fault_of}
 use Rattle.simplex_member.specs.Made.{answer, after_call}
-use Rattle.simplex_member.specs.Check.{first_error, recovery_floor_rules, first_broken_after, first_recover_error}
-use Rattle.simplex_member.specs.Entries.{entry_view, entries_of}
+use Rattle.simplex_record.specs.Check.{first_error, recovery_floor_rules, first_broken_after, first_recover_error}
+use Rattle.simplex_record.specs.Entries.{entry_view, entries_of}
 use Rattle.simplex_laws.specs.Events.{History, with_event, SetFloor, AddNotarization, AddNullification, AddFinalization, Certified, Replay, events_of}
 use Rattle.simplex_laws.specs.Histories.{retaken_events, with_events, with_call_events, with_entry_taken, with_entries, recovery, IsShown, LeadsTo}
 use Rattle.simplex_member.specs.Lives.{MemberFacts, without_life, reply_of, left_of, AnswersAlive, IsCall}
-use Rattle.simplex_member.specs.Recovery.{as_artifact, after_replaying, after_entry, after_kept_entry, after_entries, recovered_state, recover_error, TakesEntry, TakesEntries}
+use Rattle.simplex_record.specs.Recovery.{as_artifact, after_replaying, after_entry, after_kept_entry, after_entries, recovered_state, recover_error, TakesEntry, TakesEntries}
 use Rattle.simplex_member.specs.Restarts.{RestartFacts, IsByView, IsRestart, IsRestartWhere, GoesOn, new_life, cut_member, retention_grows}
 use Rattle.simplex_member.specs.Runs.{StepFacts, Calls, Restarts, restart_told, IsRun}
 use Rattle.simplex_laws.specs.Shows.{Shows}
-use Rattle.simplex_member.specs.Start.{Setup, StartFacts, started_member, new_state}
+use Rattle.simplex_record.specs.Start.{Setup, StartFacts, new_state}
+use Rattle.simplex_member.specs.Start.{started_member}
 use Rattle.simplex_laws.specs.Sums.{finalized_by_events}
-use Rattle.simplex_member.proofs.Allowing.{new_bears}
-use Rattle.simplex_member.proofs.Bearing.{BearsAll}
+use Rattle.simplex_record.proofs.Allowing.{new_bears}
+use Rattle.simplex_record.proofs.Bearing.{BearsAll}
 use Rattle.simplex_laws.proofs.frames.CallsMake.{call_by_event}
 use Rattle.simplex_laws.proofs.histories.Events.{event_shown}
 use Rattle.simplex_laws.proofs.records.NewLives.{first_none}
-use Rattle.simplex_member.proofs.Remaking.{set_takes}
-use Rattle.simplex_member.proofs.Start.{good_floor}
+use Rattle.simplex_record.proofs.Remaking.{set_takes}
+use Rattle.simplex_record.proofs.Start.{good_floor}
 
 -- an entry is the artifact whose certificates are their bytes
 entry_back : (K : Type 0) {D : Type 0} (e : ArtifactFacts D) → artifact_facts (λ b. b) (as_artifact {K = K} e) ≡ e

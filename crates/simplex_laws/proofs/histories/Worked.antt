@@ -23,7 +23,7 @@ use Rattle.simplex_laws.specs.Requested.{names, certifies, verifies, asks_to_bui
 use Rattle.simplex_laws.specs.Sums.{or_new, has_view}
 use Rattle.simplex_laws.specs.Timing.{enters, proposes, latches, retries}
 use Rattle.simplex_laws.proofs.histories.Following.{left_from}
-use Rattle.simplex_member.proofs.Growing.{round_of-put, round_of-same}
+use Rattle.simplex_record.proofs.Growing.{round_of-put, round_of-same}
 
 -- what histories say of the work on a view
 pub record Worked (K D : Type 0) : Type 0 where

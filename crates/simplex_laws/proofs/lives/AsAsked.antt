@@ -6,7 +6,7 @@ use Rattle.simplex_types.specs.Certificates.{CertificateFacts, Notarized, Nullif
 use Rattle.simplex_voter.specs.Facts.{StateFacts, Elect}
 use Rattle.simplex_voter.specs.Serving.{broadcast_notarization_answer, broadcast_nullification_answer, broadcast_finalization_answer}
 use Rattle.simplex_member.specs.Calls.{CallFacts, BroadcastNotarization, BroadcastNullification, BroadcastFinalization, GetBestCertificate, Told, Handed}
-use Rattle.simplex_member.specs.Entries.{certificate_round}
+use Rattle.simplex_record.specs.Entries.{certificate_round}
 use Rattle.simplex_member.specs.Made.{answer}
 use Rattle.simplex_member.specs.Openings.{Openings}
 use Rattle.simplex_laws.specs.LifeLaws.{Kind, Notarization, Nullification, Finalization, kind_of, IsAsAsked}

@@ -14,8 +14,8 @@ use Rattle.simplex_member.specs.Calls.{CallFacts, AddNotarization, AddNullificat
 use Rattle.simplex_member.specs.Made.{answer, after_call}
 use Rattle.simplex_laws.specs.LifeLaws.{has_conflict, Kind, Notarization, Finalization, handed_in}
 use Rattle.simplex_member.specs.Openings.{no_openings}
-use Rattle.simplex_member.proofs.Examples.{proposal}
-use Rattle.simplex_member.proofs.RecoveryExamples.{in_turn, settings}
+use Rattle.simplex_record.proofs.Examples.{proposal}
+use Rattle.simplex_record.proofs.RecoveryExamples.{in_turn, settings}
 
 abbrev State : Type 0
 State = StateFacts ℕ ℕ ℕ

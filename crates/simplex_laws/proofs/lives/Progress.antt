@@ -20,7 +20,8 @@ use Rattle.simplex_member.specs.Calls.{Told, AddNullification, AddFinalization, 
 use Rattle.simplex_member.specs.Lives.{MemberFacts}
 use Rattle.simplex_member.specs.Openings.{Openings}
 use Rattle.simplex_member.specs.Runs.{StepFacts, IsRun}
-use Rattle.simplex_member.specs.Start.{StartFacts, started_member, new_state}
+use Rattle.simplex_record.specs.Start.{StartFacts, new_state}
+use Rattle.simplex_member.specs.Start.{started_member}
 use Rattle.simplex_laws.specs.Events as event
 use Rattle.simplex_laws.specs.Events.{Event, after_event}
 use Rattle.simplex_laws.specs.Progress.{GoesPast, CanBeLeft}

@@ -25,7 +25,8 @@ use Rattle.simplex_laws.specs.LifeLaws.{CurrentTimesOut}
 use Rattle.simplex_member.specs.Calls.{Told}
 use Rattle.simplex_member.specs.Lives.{MemberFacts}
 use Rattle.simplex_member.specs.Runs.{StepFacts, IsRun}
-use Rattle.simplex_member.specs.Start.{StartFacts, started_member, new_state}
+use Rattle.simplex_record.specs.Start.{StartFacts, new_state}
+use Rattle.simplex_member.specs.Start.{started_member}
 use Rattle.simplex_laws.proofs.frames.RunsKeep.{HoldsIn, run_induction}
 use Rattle.simplex_laws.proofs.frames.EachRound.{IsGone, step_round, rounds_or_gone, pruned_round, prune_alone}
 use Rattle.simplex_laws.proofs.frames.Paths.{event_path, asked_of_all, armed_timed}

@@ -12,10 +12,10 @@ use Rattle.simplex_voter.specs.Proposing.{propose_answer, proposed_answer}
 use Rattle.simplex_voter.specs.Rules.{may_notarize, may_nullify, may_finalize, is_gated, required_parent}
 use Rattle.simplex_voter.specs.Verifying.{standing}
 use Rattle.simplex_voter.specs.Windows.{is_admitted, in_window}
-use Rattle.simplex_member.specs.Check.{first_recover_error}
-use Rattle.simplex_member.specs.Cuts.{may_drop, pruned_entries}
-use Rattle.simplex_member.specs.Entries.{entry_view}
-use Rattle.simplex_member.specs.Recovery.{recovered_state, after_kept_entry}
+use Rattle.simplex_record.specs.Check.{first_recover_error}
+use Rattle.simplex_record.specs.Cuts.{may_drop, pruned_entries}
+use Rattle.simplex_record.specs.Entries.{entry_view}
+use Rattle.simplex_record.specs.Recovery.{recovered_state, after_kept_entry}
 use Rattle.simplex_laws.specs.DividedNetwork.{rival, deceived, warned, divided, after_conflict, leads_past_conflict, follows_past_conflict, united}
 use Rattle.simplex_laws.specs.Continuations.{and_then, PlacesGoOn, GoesOnToFinalize}
 use Rattle.simplex_laws.specs.Deeds.{Deed, Signs}

@@ -11,7 +11,7 @@ use Rattle.simplex_voter.specs.Proposing.{propose_answer, proposed_answer}
 use Rattle.simplex_voter.specs.Rules.{may_notarize, may_nullify, may_finalize, is_gated, required_parent}
 use Rattle.simplex_voter.specs.Verifying.{standing}
 use Rattle.simplex_voter.specs.Windows.{is_admitted, in_window}
-use Rattle.simplex_member.specs.Check.{first_recover_error}
+use Rattle.simplex_record.specs.Check.{first_recover_error}
 use Rattle.simplex_laws.specs.Continuations.{and_then, HasSignedAs, PlacesGoOn, GoesOnToFinalize}
 use Rattle.simplex_laws.specs.HandoffNetwork.{handed_over, takes_over, can_not_verify, taken_over, leads_past_handoff, follows_past_handoff, gone_on, after_handoff}
 use Rattle.simplex_laws.specs.Deeds.{Signs}

@@ -9,7 +9,7 @@ use Rattle.simplex_voter.specs.Proposing.{propose_answer, proposed_answer}
 use Rattle.simplex_voter.specs.Rules.{may_notarize, may_nullify, may_finalize, is_gated, required_parent}
 use Rattle.simplex_voter.specs.Verifying.{standing}
 use Rattle.simplex_voter.specs.Windows.{is_admitted, in_window}
-use Rattle.simplex_member.specs.Check.{first_recover_error}
+use Rattle.simplex_record.specs.Check.{first_recover_error}
 use Rattle.simplex_laws.specs.Continuations.{and_then, HasAccepted, PlacesGoOn, GoesOnToFinalize}
 use Rattle.simplex_laws.specs.LackingNetwork.{lacks_nullification, skips_two, member_without_notarization, lacking, finishes, has_nullification, has_notarization, supplied, over_two}
 use Rattle.simplex_laws.specs.Places.{FewFaulty, IsNetworkOf}

@@ -12,10 +12,10 @@ use Rattle.simplex_voter.specs.Parents.{spans, payload_for, parent_payload, bind
 use Rattle.simplex_voter.specs.Rules.{may_notarize, may_nullify, may_finalize, is_gated, required_parent}
 use Rattle.simplex_voter.specs.Verifying.{standing}
 use Rattle.simplex_member.specs.Calls.{Told}
-use Rattle.simplex_member.specs.Check.{first_recover_error}
-use Rattle.simplex_member.specs.Cuts.{may_drop, pruned_entries}
-use Rattle.simplex_member.specs.Entries.{entry_view}
-use Rattle.simplex_member.specs.Recovery.{recovered_state, after_kept_entry}
+use Rattle.simplex_record.specs.Check.{first_recover_error}
+use Rattle.simplex_record.specs.Cuts.{may_drop, pruned_entries}
+use Rattle.simplex_record.specs.Entries.{entry_view}
+use Rattle.simplex_record.specs.Recovery.{recovered_state, after_kept_entry}
 use Rattle.simplex_laws.specs.Places.{Honest, Backed, IsNetworkOf}
 use Rattle.simplex_laws.specs.Scripts.{leader, start_at, impatient, patient, forgetful, four, restarting, skipping, five}
 use Rattle.simplex_laws.specs.Turns.{round, proposal, certificate, one, two}

@@ -2,8 +2,8 @@
 -- Members of the networks in which leaders take turns: a story whose replies are computed ran.
 use Rattle.std.proofs.Common.{◌≡◌, refl, ℕ, inl, ◌<◌, [], List, None, nat_eq}
 use Rattle.simplex_member.specs.Calls.{Told}
-use Rattle.simplex_member.specs.Recovery.{recover_error}
-use Rattle.simplex_member.specs.Start.{new_state}
+use Rattle.simplex_record.specs.Recovery.{recover_error}
+use Rattle.simplex_record.specs.Start.{new_state}
 use Rattle.simplex_laws.specs.Stories.{Story, BeginsAs, Ran}
 use Rattle.simplex_laws.specs.Turns.{in_turn, begin_at}
 use Rattle.simplex_laws.proofs.networks.ComputedRuns.{replies_from, Fits, begun, fits_run_from, AllBegin, each_begins}

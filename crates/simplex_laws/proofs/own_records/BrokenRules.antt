@@ -2,8 +2,8 @@
 -- A record is refused for the first of its rules that is broken.
 use Rattle.std.proofs.Common.{◌≡◌, refl, subst, ◌⊎◌, inl, inr, Bool, true, false, List, [], ◌∷◌, ◌++◌, Option, Some, None}
 use Rattle.std.specs.Option.{option_or}
-use Rattle.simplex_member.specs.declared.member.error.RecoverError.{RecoverError}
-use Rattle.simplex_member.specs.Check.{first_error}
+use Rattle.simplex_record.specs.declared.record.error.RecoverError.{RecoverError}
+use Rattle.simplex_record.specs.Check.{first_error}
 
 -- one of two errors
 pub from_either : (o p : Option RecoverError) (found : RecoverError) → option_or o p ≡ Some found → (o ≡ Some found) ⊎ (p ≡ Some found)

@@ -12,18 +12,18 @@ use Rattle.simplex_voter.specs.Facts.{StateFacts, Elect}
 use Rattle.simplex_voter.specs.Refusals.{is_too_large, names_too_large, has_late_deadline}
 use Rattle.simplex_voter.specs.Windows.{min_active}
 use Rattle.simplex_voter.specs.Acceptance.{after_set_floor}
-use Rattle.simplex_member.specs.declared.member.error.RecoverError.{RecoverError}
-use Rattle.simplex_member.specs.declared.member.error.RecoverError.TheVariants as error
+use Rattle.simplex_record.specs.declared.record.error.RecoverError.{RecoverError}
+use Rattle.simplex_record.specs.declared.record.error.RecoverError.TheVariants as error
 use Rattle.simplex_member.specs.Allowed.{is_allowed, fault_of}
 use Rattle.simplex_member.specs.Calls as calls
 use Rattle.simplex_member.specs.Calls.{CallFacts}
-use Rattle.simplex_member.specs.Check.{first_error, beside_rules, own_rules, recovery_floor_rules, entry_rules, first_broken_after, first_recover_error}
-use Rattle.simplex_member.specs.Entries.{entry_view}
+use Rattle.simplex_record.specs.Check.{first_error, beside_rules, own_rules, recovery_floor_rules, entry_rules, first_broken_after, first_recover_error}
+use Rattle.simplex_record.specs.Entries.{entry_view}
 use Rattle.simplex_member.specs.Made.{after_call}
 use Rattle.simplex_member.specs.Openings.{Openings, context_at}
-use Rattle.simplex_member.specs.Recovery.{recover_error, after_replaying, after_entry, after_kept_entry, after_entries, recovered_state}
+use Rattle.simplex_record.specs.Recovery.{recover_error, after_replaying, after_entry, after_kept_entry, after_entries, recovered_state}
 use Rattle.simplex_member.specs.Runs.{StepFacts, Calls}
-use Rattle.simplex_member.specs.Start.{Setup, new_state}
+use Rattle.simplex_record.specs.Start.{Setup, new_state}
 use Rattle.simplex_laws.specs.Events.{Event, after_event, SetFloor, AddNotarization, AddNullification, AddFinalization, Certified, Proposed, Supersede, Replay, in_context, events_of}
 use Rattle.simplex_laws.specs.Outside.{HasBuiltIn, is_floor_too_large}
 use Rattle.simplex_laws.proofs.frames.BuiltProposals.{Brings, AllHeld, event_held}

@@ -10,8 +10,8 @@ use Rattle.simplex_types.specs.Proposal.{same_proposal}
 use Rattle.simplex_types.specs.Certificates.{ProposalFacts, Notarized, ArtifactFacts, NotarizeVote, NullifyVote, FinalizeVote, Verdict, Accepted}
 use Rattle.simplex_types.specs.declared.types.messages.Proposal.{Proposal}
 use Rattle.simplex_types.specs.declared.types.numbers.Round.{Round}
-use Rattle.simplex_member.specs.Check.{stands, agrees, is_notarization, is_verdict, is_nullify_vote, is_finalize_vote, last_view, notarizes_other, finalizes_other, lacks_notarization, contradicts_verdict, meets_opposite, contradicts_vote, lacks_true_verdict}
-use Rattle.simplex_member.specs.Entries.{entry_view}
+use Rattle.simplex_record.specs.Check.{stands, agrees, is_notarization, is_verdict, is_nullify_vote, is_finalize_vote, last_view, notarizes_other, finalizes_other, lacks_notarization, contradicts_verdict, meets_opposite, contradicts_vote, lacks_true_verdict}
+use Rattle.simplex_record.specs.Entries.{entry_view}
 use Rattle.simplex_laws.proofs.own_records.Outside.{Fits, Fit}
 use Rattle.simplex_laws.proofs.lists.Splits.{Contains-cases, Contains-cons_rest}
 use Rattle.simplex_laws.proofs.agreement.VoteOrder.{Contains-middle}

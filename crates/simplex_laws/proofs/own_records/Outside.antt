@@ -6,13 +6,13 @@ use Rattle.simplex_types.specs.Certificates.{ArtifactFacts, NotarizeVote, Nullif
 use Rattle.simplex_types.specs.Config.{FloorFacts, Genesis, Finalized}
 use Rattle.simplex_voter.specs.Facts.{StateFacts}
 use Rattle.simplex_voter.specs.Refusals.{has_late_deadline}
-use Rattle.simplex_member.specs.declared.member.error.RecoverError.{RecoverError}
-use Rattle.simplex_member.specs.declared.member.error.RecoverError.TheVariants as error
-use Rattle.simplex_member.specs.Check.{first_error, last_view, lacks_notarization, contradicts_verdict, meets_opposite, contradicts_vote, lacks_true_verdict, beside_rules, own_rules, recovery_floor_rules, entry_rules, first_broken_after, first_recover_error}
-use Rattle.simplex_member.specs.Entries.{entry_view}
+use Rattle.simplex_record.specs.declared.record.error.RecoverError.{RecoverError}
+use Rattle.simplex_record.specs.declared.record.error.RecoverError.TheVariants as error
+use Rattle.simplex_record.specs.Check.{first_error, last_view, lacks_notarization, contradicts_verdict, meets_opposite, contradicts_vote, lacks_true_verdict, beside_rules, own_rules, recovery_floor_rules, entry_rules, first_broken_after, first_recover_error}
+use Rattle.simplex_record.specs.Entries.{entry_view}
 use Rattle.simplex_laws.specs.Outside.{IsFromOutside}
 use Rattle.simplex_laws.proofs.own_records.BrokenRules.{OfBroken, first_broken, broken_joined, from_either}
-use Rattle.simplex_member.specs.Recovery.{recover_error}
+use Rattle.simplex_record.specs.Recovery.{recover_error}
 
 -- each of the rules that is broken is on what comes from outside
 abbrev pub AreOutside : List (Bool × RecoverError) → Type 0

@@ -11,9 +11,9 @@ use Rattle.simplex_types.specs.declared.types.messages.Subject.{Subject}
 use Rattle.simplex_types.specs.declared.types.messages.Subject.TheVariants as subject
 use Rattle.simplex_types.specs.declared.types.numbers.Round.{Round}
 use Rattle.simplex_member.specs.Made.{if_new}
-use Rattle.simplex_member.specs.Check.{stands}
-use Rattle.simplex_member.specs.Entries.{entry_view}
-use Rattle.simplex_member.specs.Recovery.{is_finalization, with_floor}
+use Rattle.simplex_record.specs.Check.{stands}
+use Rattle.simplex_record.specs.Entries.{entry_view}
+use Rattle.simplex_record.specs.Recovery.{is_finalization, with_floor}
 use Rattle.simplex_laws.specs.Deeds.{Deed}
 use Rattle.simplex_laws.specs.Lawful.{HasSigned, SignsAfter, IsLawful}
 use Rattle.simplex_laws.proofs.lists.Signed.{signed_left}

@@ -8,20 +8,21 @@ use Rattle.simplex_types.specs.Certificates.{Notarized, Finalized, ArtifactFacts
 use Rattle.simplex_types.specs.Config.{FloorFacts, Genesis, Finalized as FinalizedFloor}
 use Rattle.simplex_types.specs.declared.types.fault.Fault.{Fault}
 use Rattle.simplex_voter.specs.Facts.{StateFacts, Elect}
-use Rattle.simplex_member.specs.declared.member.error.RecoverError.{RecoverError}
-use Rattle.simplex_member.specs.declared.member.error.RecoverError.TheVariants as error
+use Rattle.simplex_record.specs.declared.record.error.RecoverError.{RecoverError}
+use Rattle.simplex_record.specs.declared.record.error.RecoverError.TheVariants as error
 use Rattle.simplex_member.specs.Allowed.{is_allowed, fault_of}
 use Rattle.simplex_member.specs.Calls.{CallFacts, Told}
-use Rattle.simplex_member.specs.Check.{stands}
-use Rattle.simplex_member.specs.Cuts.{may_drop, without_last, finalized_in, pruned_entries}
-use Rattle.simplex_member.specs.Entries.{entry_view}
+use Rattle.simplex_record.specs.Check.{stands}
+use Rattle.simplex_record.specs.Cuts.{may_drop, without_last, finalized_in, pruned_entries}
+use Rattle.simplex_record.specs.Entries.{entry_view}
 use Rattle.simplex_member.specs.Lives.{MemberFacts, IsCall, AnswersAlive, reply_of, left_of, without_life}
 use Rattle.simplex_laws.specs.Outside.{AcceptedParentAbove, is_floor_too_large, IsFromOutside, IsExcused, VerdictsFollowNotarizations}
-use Rattle.simplex_member.specs.Recovery.{recover_error, recovered_state, is_finalization, with_floor}
+use Rattle.simplex_record.specs.Recovery.{recover_error, recovered_state, is_finalization, with_floor}
 use Rattle.simplex_member.specs.Restarts.{RestartFacts, IsByView, cut_member, new_life, retention_grows, GoesOn, IsRestart, IsRestartWhere}
 use Rattle.simplex_member.specs.Runs.{StepFacts, Calls, Restarts, restart_told, IsRun, EndsRun, EndsRunFrom}
-use Rattle.simplex_member.specs.Start.{StartFacts, started_member, new_state}
-use Rattle.simplex_member.proofs.Cuts.{none_dropped}
+use Rattle.simplex_record.specs.Start.{StartFacts, new_state}
+use Rattle.simplex_member.specs.Start.{started_member}
+use Rattle.simplex_record.proofs.Cuts.{none_dropped}
 use Rattle.simplex_laws.specs.Deeds.{Deed, of_floor, deeds_of_call, deeds_at, deeds_of_steps}
 use Rattle.simplex_laws.specs.TermLengths.{HasTerms, KeepTerms}
 use Rattle.simplex_laws.proofs.own_records.BrokenParents.{parent_accepted}

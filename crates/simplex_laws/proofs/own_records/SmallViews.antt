@@ -10,18 +10,18 @@ use Rattle.simplex_types.specs.declared.types.messages.Subject.{Subject}
 use Rattle.simplex_types.specs.declared.types.messages.Subject.TheVariants as subject
 use Rattle.simplex_voter.specs.Facts.{StateFacts, Elect}
 use Rattle.simplex_voter.specs.Refusals.{first_fault, is_too_large, names_too_large, has_late_deadline}
-use Rattle.simplex_member.specs.declared.member.error.RecoverError.{RecoverError}
-use Rattle.simplex_member.specs.declared.member.error.RecoverError.TheVariants as error
+use Rattle.simplex_record.specs.declared.record.error.RecoverError.{RecoverError}
+use Rattle.simplex_record.specs.declared.record.error.RecoverError.TheVariants as error
 use Rattle.simplex_member.specs.Allowed.{is_allowed, fault_of}
 use Rattle.simplex_member.specs.Calls as calls
 use Rattle.simplex_member.specs.Calls.{CallFacts, AddNotarization, AddNullification, AddFinalization, Told, Added, AddedNullification, Nullify, Finalize, Notarize}
-use Rattle.simplex_member.specs.Check.{first_error, recovery_floor_rules, first_broken_after, first_recover_error}
+use Rattle.simplex_record.specs.Check.{first_error, recovery_floor_rules, first_broken_after, first_recover_error}
 use Rattle.simplex_member.specs.Lives.{MemberFacts, IsCall, AnswersAlive, reply_of, unless_refused, without_life}
 use Rattle.simplex_member.specs.Made.{answer}
-use Rattle.simplex_member.specs.Recovery.{recover_error}
+use Rattle.simplex_record.specs.Recovery.{recover_error}
 use Rattle.simplex_member.specs.Restarts.{RestartFacts, cut_member, new_life, retention_grows, GoesOn, IsRestart, IsRestartWhere}
 use Rattle.simplex_member.specs.Runs.{StepFacts, Calls, Restarts, restart_told, IsRun}
-use Rattle.simplex_member.specs.Start.{new_state}
+use Rattle.simplex_record.specs.Start.{new_state}
 use Rattle.simplex_laws.specs.Deeds.{Deed, Accepts, handed_in, of_floor, of_vote, signed_in, accepted_by, deeds_of_call, deeds_at, deeds_of_steps}
 use Rattle.simplex_laws.proofs.records.NewLives.{first_none}
 use Rattle.simplex_laws.proofs.records.DeedsShown.{only_one}

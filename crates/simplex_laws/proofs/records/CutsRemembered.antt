@@ -10,10 +10,10 @@ use Rattle.simplex_types.specs.Config.{FloorFacts, Genesis, Finalized as Finaliz
 use Rattle.simplex_types.specs.declared.types.messages.Proposal.{Proposal}
 use Rattle.simplex_types.specs.declared.types.messages.Subject.TheVariants as subject
 use Rattle.simplex_types.specs.declared.types.numbers.Round.{Round}
-use Rattle.simplex_member.specs.Check.{stands}
-use Rattle.simplex_member.specs.Cuts.{is_vote}
-use Rattle.simplex_member.specs.Entries.{entry_view}
-use Rattle.simplex_member.specs.Recovery.{is_finalization, with_floor}
+use Rattle.simplex_record.specs.Check.{stands}
+use Rattle.simplex_record.specs.Cuts.{is_vote}
+use Rattle.simplex_record.specs.Entries.{entry_view}
+use Rattle.simplex_record.specs.Recovery.{is_finalization, with_floor}
 use Rattle.simplex_laws.specs.Deeds.{Deed, Accepts, of_floor}
 use Rattle.simplex_laws.proofs.agreement.VoteOrder.{Contains-middle}
 use Rattle.simplex_laws.proofs.lists.Filters.{filter_split, filter_middle, Contains-filter, Contains-filtered, filtered_passes}

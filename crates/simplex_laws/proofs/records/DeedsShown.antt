@@ -9,7 +9,7 @@ use Rattle.simplex_types.specs.declared.types.messages.Subject.{Subject}
 use Rattle.simplex_types.specs.declared.types.messages.Subject.TheVariants as subject
 use Rattle.simplex_types.specs.declared.types.numbers.Round.{Round}
 use Rattle.simplex_voter.specs.Facts.{StateFacts, Elect}
-use Rattle.simplex_member.specs.Recovery.{after_kept_entry, after_entries}
+use Rattle.simplex_record.specs.Recovery.{after_kept_entry, after_entries}
 use Rattle.simplex_laws.specs.Deeds.{Deed, Accepts, Signs}
 use Rattle.simplex_laws.specs.Lawful.{HasSigned, IsLawful}
 use Rattle.simplex_laws.proofs.lists.Signed.{signed_none, signed_cases, only_signed}

@@ -7,9 +7,9 @@ use Rattle.std.proofs.lemmas.List.{append-nil, length-append}
 use Rattle.std.proofs.lemmas.List.Elements.{Contains-push_cases}
 use Rattle.simplex_types.specs.Certificates.{ProposalFacts, Finalized, ArtifactFacts, Accepted}
 use Rattle.simplex_voter.proofs.Gaps.{and_parts, not_true}
-use Rattle.simplex_member.specs.Cuts.{is_vote, may_drop, without_last, finalized_by, finalized_in, pruned_entries}
-use Rattle.simplex_member.specs.Entries.{entry_view}
-use Rattle.simplex_member.proofs.Cuts.{none_dropped}
+use Rattle.simplex_record.specs.Cuts.{is_vote, may_drop, without_last, finalized_by, finalized_in, pruned_entries}
+use Rattle.simplex_record.specs.Entries.{entry_view}
+use Rattle.simplex_record.proofs.Cuts.{none_dropped}
 use Rattle.simplex_laws.specs.Deeds.{Deed}
 use Rattle.simplex_laws.specs.Lawful.{IsLawful}
 use Rattle.simplex_laws.proofs.lists.Splits.{Contains-cases, Contains-cons_rest}

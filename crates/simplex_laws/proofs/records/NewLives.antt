@@ -11,13 +11,13 @@ use Rattle.simplex_types.specs.Config.{FloorFacts, Genesis, Finalized as Finaliz
 use Rattle.simplex_types.specs.declared.types.messages.Subject.TheVariants as subject
 use Rattle.simplex_types.specs.declared.types.window.Terms.{Terms}
 use Rattle.simplex_voter.specs.Facts.{Settings, StateFacts, Elect, new_facts, round_number}
-use Rattle.simplex_member.specs.declared.member.error.RecoverError.{RecoverError}
+use Rattle.simplex_record.specs.declared.record.error.RecoverError.{RecoverError}
 use Rattle.simplex_member.specs.Allowed.{is_allowed}
 use Rattle.simplex_member.specs.Calls.{CallFacts}
 use Rattle.simplex_member.specs.Made.{answer, after_call, openings_after, recorded_by}
-use Rattle.simplex_member.specs.Check.{first_error, entry_rules, first_broken_after, stands}
-use Rattle.simplex_member.specs.Entries.{entry_round, entry_view}
-use Rattle.simplex_member.specs.Recovery.{recovered_state, with_floor, is_finalization}
+use Rattle.simplex_record.specs.Check.{first_error, entry_rules, first_broken_after, stands}
+use Rattle.simplex_record.specs.Entries.{entry_round, entry_view}
+use Rattle.simplex_record.specs.Recovery.{recovered_state, with_floor, is_finalization}
 use Rattle.simplex_laws.specs.Deeds.{Deed, Accepts, of_floor, deeds_of_call}
 use Rattle.simplex_laws.specs.Lawful.{IsLawful}
 use Rattle.simplex_laws.proofs.agreement.Lawful.{lawful_push}

@@ -18,10 +18,10 @@ use Rattle.simplex_voter.specs.Certification.{is_first_verdict}
 use Rattle.simplex_member.specs.Calls.{CallFacts, AddNotarization, AddNullification, AddFinalization, ConstructNotarize, Certified, ConstructNullify, ConstructFinalize, Nullify, Finalize}
 use Rattle.simplex_member.specs.Made.{if_new, unrepeated_vote, vote_entry, answer, recorded_by}
 use Rattle.simplex_member.specs.Openings.{Openings}
-use Rattle.simplex_member.specs.Check.{stands}
-use Rattle.simplex_member.specs.Cuts.{is_vote}
-use Rattle.simplex_member.specs.Entries.{entry_view}
-use Rattle.simplex_member.specs.Recovery.{is_finalization, with_floor}
+use Rattle.simplex_record.specs.Check.{stands}
+use Rattle.simplex_record.specs.Cuts.{is_vote}
+use Rattle.simplex_record.specs.Entries.{entry_view}
+use Rattle.simplex_record.specs.Recovery.{is_finalization, with_floor}
 use Rattle.simplex_laws.specs.Deeds.{Deed, Accepts, Signs, of_floor, deeds_of_call}
 use Rattle.simplex_laws.specs.Lawful.{HasSigned}
 use Rattle.simplex_laws.proofs.lists.Signed.{signed_none, signed_left, signed_cases, signed_last, only_signed}

@@ -23,9 +23,9 @@ use Rattle.simplex_voter.specs.Leaders.{with_elected_leader, with_next_view_read
 use Rattle.simplex_voter.specs.Replay.{bound_again, restored_binding}
 use Rattle.simplex_voter.specs.Acceptance.{nullified_also, with_nullification_at, after_add_notarization, after_add_finalization, after_set_floor}
 use Rattle.simplex_voter.proofs.Elsewhere.{round_of-with_round}
-use Rattle.simplex_member.specs.Entries.{entry_view}
+use Rattle.simplex_record.specs.Entries.{entry_view}
 use Rattle.simplex_member.specs.Openings.{no_openings}
-use Rattle.simplex_member.specs.Recovery.{after_entry, after_kept_entry, after_entries, recovered_state}
+use Rattle.simplex_record.specs.Recovery.{after_entry, after_kept_entry, after_entries, recovered_state}
 use Rattle.simplex_laws.specs.Deeds.{Deed, Accepts}
 use Rattle.simplex_laws.proofs.frames.Rising.{finalization_passes}
 use Rattle.simplex_laws.proofs.lists.Splits.{Contains-cases, Contains-cons_rest}

@@ -8,21 +8,22 @@ use Rattle.simplex_types.specs.Certificates.{ArtifactFacts}
 use Rattle.simplex_types.specs.Config.{FloorFacts, Genesis, Finalized as FinalizedFloor}
 use Rattle.simplex_types.specs.declared.types.fault.Fault.{Fault}
 use Rattle.simplex_voter.specs.Facts.{StateFacts, Elect}
-use Rattle.simplex_member.specs.declared.member.error.RecoverError.{RecoverError}
+use Rattle.simplex_record.specs.declared.record.error.RecoverError.{RecoverError}
 use Rattle.simplex_member.specs.declared.member.journal.Stored.{Stored}
 use Rattle.simplex_member.specs.declared.member.resume.ResumeError.TheVariants.{Recover}
 use Rattle.simplex_member.specs.Allowed.{is_allowed, fault_of}
 use Rattle.simplex_member.specs.Calls.{CallFacts, Told, Restarted}
 use Rattle.simplex_member.specs.Made.{recorded_by}
-use Rattle.simplex_member.specs.Check.{stands}
-use Rattle.simplex_member.specs.Cuts.{may_drop, without_last}
+use Rattle.simplex_record.specs.Check.{stands}
+use Rattle.simplex_record.specs.Cuts.{may_drop, without_last}
 use Rattle.simplex_member.specs.Journal.{stored_of, stored_facts, whole_restart, IsResumed, IsNotResumed}
 use Rattle.simplex_member.specs.Lives.{MemberFacts, without_life, left_of, AnswersAlive, IsCall}
 use Rattle.simplex_member.specs.Openings.{Openings, no_openings}
-use Rattle.simplex_member.specs.Recovery.{recover_error, is_finalization, with_floor}
+use Rattle.simplex_record.specs.Recovery.{recover_error, is_finalization, with_floor}
 use Rattle.simplex_member.specs.Restarts.{RestartFacts, cut_member, retention_grows, new_life, GoesOn, IsRestartWhere, IsRestart}
 use Rattle.simplex_member.specs.Runs.{StepFacts, Calls, Restarts, IsStep, IsRun, IsRefused}
-use Rattle.simplex_member.specs.Start.{StartFacts, started_member, new_state}
+use Rattle.simplex_record.specs.Start.{StartFacts, new_state}
+use Rattle.simplex_member.specs.Start.{started_member}
 use Rattle.simplex_laws.specs.Resumes.{LosesNothing}
 
 -- all that was closed stands in its record

@@ -8,14 +8,14 @@ use Rattle.simplex_types.specs.Config.{FloorFacts}
 use Rattle.simplex_types.specs.declared.types.fault.Fault.{Fault}
 use Rattle.simplex_types.specs.declared.types.messages.Subject.TheVariants as subject
 use Rattle.simplex_voter.specs.Facts.{StateFacts, Elect}
-use Rattle.simplex_member.specs.declared.member.error.RecoverError.{RecoverError}
+use Rattle.simplex_record.specs.declared.record.error.RecoverError.{RecoverError}
 use Rattle.simplex_member.specs.Allowed.{is_allowed, fault_of}
 use Rattle.simplex_member.specs.Calls.{CallFacts, Told}
-use Rattle.simplex_member.specs.Check.{first_recover_error, first_broken_after, first_error, recovery_floor_rules}
-use Rattle.simplex_member.specs.Cuts.{without_last}
+use Rattle.simplex_record.specs.Check.{first_recover_error, first_broken_after, first_error, recovery_floor_rules}
+use Rattle.simplex_record.specs.Cuts.{without_last}
 use Rattle.simplex_member.specs.Openings.{Openings, no_openings}
 use Rattle.simplex_member.specs.Lives.{MemberFacts, IsCall, AnswersAlive, reply_of, left_of, without_life}
-use Rattle.simplex_member.specs.Recovery.{recover_error, recovered_state, with_floor}
+use Rattle.simplex_record.specs.Recovery.{recover_error, recovered_state, with_floor}
 use Rattle.simplex_member.specs.Restarts.{RestartFacts, IsByView, cut_member, new_life, retention_grows, GoesOn, IsRestart, IsRestartWhere}
 use Rattle.simplex_laws.specs.Deeds.{Deed, of_floor, deeds_of_call, deeds_at, deeds_of_steps}
 use Rattle.simplex_laws.specs.Lawful.{IsLawful}
@@ -24,7 +24,8 @@ use Rattle.simplex_laws.proofs.lists.Signed.{signed_none}
 use Rattle.simplex_laws.proofs.lists.Splits.{Contains-cons_rest}
 use Rattle.simplex_laws.specs.TermLengths.{HasTerms, KeepTerms}
 use Rattle.simplex_member.specs.Runs.{StepFacts, Calls, Restarts, restart_told, IsRun, IsRunFrom}
-use Rattle.simplex_member.specs.Start.{StartFacts, started_member, new_state}
+use Rattle.simplex_record.specs.Start.{StartFacts, new_state}
+use Rattle.simplex_member.specs.Start.{started_member}
 use Rattle.simplex_laws.proofs.agreement.Lawful.{lawful_start}
 use Rattle.simplex_laws.proofs.records.Remembering.{none_split}
 use Rattle.simplex_laws.proofs.records.Lifetimes.{Between, dropped_between, pruned_between}

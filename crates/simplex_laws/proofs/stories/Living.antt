@@ -4,13 +4,14 @@ use Rattle.std.proofs.Common.{◌≡◌, refl, ap, sym, subst, ℕ, zero, suc, i
 use Rattle.std.specs.Prelude.{IfOk}
 use Rattle.std.proofs.lemmas.List.Elements.{Contains-append_cases}
 use Rattle.simplex_voter.specs.Facts.{Elect}
-use Rattle.simplex_member.specs.declared.member.error.RecoverError.{RecoverError}
+use Rattle.simplex_record.specs.declared.record.error.RecoverError.{RecoverError}
 use Rattle.simplex_member.specs.Calls.{CallFacts, Told}
 use Rattle.simplex_member.specs.Lives.{MemberFacts, IsCall}
-use Rattle.simplex_member.specs.Recovery.{recover_error}
+use Rattle.simplex_record.specs.Recovery.{recover_error}
 use Rattle.simplex_member.specs.Restarts.{RestartFacts, IsRestart}
 use Rattle.simplex_member.specs.Runs.{StepFacts, Calls, Restarts, restart_told, IsStep, IsRun, IsRunFrom}
-use Rattle.simplex_member.specs.Start.{StartFacts, started_member, new_state}
+use Rattle.simplex_record.specs.Start.{StartFacts, new_state}
+use Rattle.simplex_member.specs.Start.{started_member}
 use Rattle.std.proofs.lemmas.List.{append-nil}
 use Rattle.simplex_laws.specs.Living.{new_story, with_step, HasStory, HasDone}
 use Rattle.simplex_laws.specs.Deeds.{Deed, of_floor, deeds_at, deeds_of_steps}

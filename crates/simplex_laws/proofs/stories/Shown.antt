@@ -11,13 +11,13 @@ use Rattle.simplex_member.specs.declared.member.calls.Reply.{Reply}
 use Rattle.simplex_member.specs.declared.member.calls.Reply.TheVariants as reply
 use Rattle.simplex_member.specs.declared.member.runs.Step.{Step}
 use Rattle.simplex_member.specs.declared.member.runs.Step.TheVariants as step
-use Rattle.simplex_member.specs.declared.member.start.Start.{Start}
+use Rattle.simplex_record.specs.declared.record.start.Start.{Start}
 use Rattle.simplex_member.specs.Calls.{Told, told, asked, CallFacts, Added, AddedNullification}
 use Rattle.simplex_member.specs.declared.member.restart.Restart.{Restart}
 use Rattle.simplex_member.specs.Restarts.{RestartFacts, restart_facts}
 use Rattle.simplex_member.specs.Runs.{Calls, Restarts, step_facts, steps_of, restart_told}
-use Rattle.simplex_member.specs.Start.{start_facts}
-use Rattle.simplex_member.specs.declared.member.error.RecoverError.{RecoverError}
+use Rattle.simplex_record.specs.Start.{start_facts}
+use Rattle.simplex_record.specs.declared.record.error.RecoverError.{RecoverError}
 use Rattle.std.proofs.lemmas.List.{append-nil}
 use Rattle.simplex_laws.specs.Living.{story_of}
 use Rattle.simplex_laws.specs.Shown.{votes_in, certificates_in, floor_in, taken_by, taken_in, begun_by, shown_by, shown_deeds, IsSetUpAs, AreSetUpAs}

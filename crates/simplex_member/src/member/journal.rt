@@ -19,7 +19,7 @@ pub struct Stored {
 }
 
 impl<S: CertificateScheme, L: Elector<S>, D: Digest> Member<S, L, D> {
-    ghost use Rattle.simplex_member.specs.Entries.{entries_of};
+    ghost use Rattle.simplex_record.specs.Entries.{entries_of};
     ghost use Rattle.simplex_member.specs.Journal.{stored_of};
 
     /// What a journal stores beside the record; also of a member that has failed.

@@ -6,11 +6,11 @@ ghost use Rattle.std.specs.Option.{option_copied};
 use super::call_error::CallError;
 use super::calls::{Call, Reply};
 use super::closing::{Closing, follow, make_room};
-use super::error::RecoverError;
+use simplex_record::record::RecoverError;
 use super::openings::Openings;
 use super::restart::keep_finalization;
 use super::serving::{is_allowed, serve};
-use super::start::{Start, begin, retention_of};
+use simplex_record::record::{Start, begin, retention_of};
 use simplex_types::types::{
     Artifact, CertificateScheme, Digest, Elector, Fault, Scheme, ViewDelta,
 };
@@ -42,7 +42,7 @@ pub struct Member<S: CertificateScheme, L: Elector<S>, D> {
 impl<S: CertificateScheme, L: Elector<S>, D> Model for Member<S, L, D> {
     ghost use Rattle.std.specs.Prelude.{◌≡◌, true, false};
     ghost use Rattle.simplex_voter.specs.Refusals.{is_started};
-    ghost use Rattle.simplex_member.specs.Entries.{entries_of};
+    ghost use Rattle.simplex_record.specs.Entries.{entries_of};
     ghost use Rattle.simplex_member.specs.Lives.{MemberFacts, living, open_while};
 
     ghost Value = { MemberFacts S.PublicKey L D };
@@ -63,13 +63,14 @@ impl<S: CertificateScheme, L: Elector<S>, D> Model for Member<S, L, D> {
 impl<S: CertificateScheme, L: Elector<S>, D: Digest> Member<S, L, D> {
     ghost use Rattle.std.specs.Prelude.{true, false};
     ghost use Rattle.simplex_voter.specs.Refusals.{is_started};
-    ghost use Rattle.simplex_member.specs.Entries.{entries_of};
+    ghost use Rattle.simplex_record.specs.Entries.{entries_of};
     ghost use Rattle.simplex_member.specs.Calls.{told, asked};
     ghost use Rattle.simplex_member.specs.Lives.{IsCall, HasGrown};
     ghost use Rattle.simplex_member.specs.Signed.{IsSignedReply};
     ghost use Rattle.simplex_member.specs.Typed.{is_reply_to, IfAnswered, IfRefused, IsAnswered, Keeps};
-    ghost use Rattle.simplex_member.specs.Recovery.{recover_error};
-    ghost use Rattle.simplex_member.specs.Start.{set_up, started_member, IsErrorDue};
+    ghost use Rattle.simplex_record.specs.Recovery.{recover_error};
+    ghost use Rattle.simplex_record.specs.Start.{set_up, IsErrorDue};
+    ghost use Rattle.simplex_member.specs.Start.{started_member};
     ghost use Rattle.simplex_types.specs.Config.{floor_facts};
 
     /// A member that never voted: its state starts at a floor, with nothing in its record but the floor's finalization. A

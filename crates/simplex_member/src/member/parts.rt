@@ -4,7 +4,7 @@
 
 ghost use Rattle.std.specs.Prelude.{◌≡◌, ◌<◌, ◌++◌, ◌∷◌, [], Option, Some, None, Bool, true, false, IfOk, IfErr, OnOk, OnErr, vec_len, vec_capacity, option_map};
 ghost use Rattle.simplex_types.specs.Certificates.{notarization_facts, nullification_facts, finalization_facts, artifact_facts, signature_in, Notarized, Nullified, Finalized, Verdict, Accepted};
-ghost use Rattle.simplex_member.specs.Entries.{entries_of};
+ghost use Rattle.simplex_record.specs.Entries.{entries_of};
 ghost use Rattle.simplex_voter.specs.Acceptance.{takes_proposal_certificate, takes_nullification, notarization_refusal, nullification_refusal, finalization_refusal, notarization_added, nullification_added, finalization_added, after_add_notarization, after_add_nullification, after_add_finalization};
 ghost use Rattle.simplex_voter.specs.Certification.{takes_verdict, is_first_verdict, certified_refusal, certified_answer, after_certified};
 ghost use Rattle.simplex_voter.specs.Facts.{round_number};

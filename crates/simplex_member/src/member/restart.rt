@@ -5,21 +5,21 @@ ghost use Rattle.simplex_types.specs.Certificates.{artifact_facts, finalization_
 ghost use Rattle.simplex_types.specs.Config.{floor_facts};
 ghost use Rattle.simplex_voter.specs.Acceptance.{floor_answer};
 ghost use Rattle.simplex_voter.specs.Refusals.{is_started};
-ghost use Rattle.simplex_member.specs.Check.{stands};
-ghost use Rattle.simplex_member.specs.Entries.{entries_of, entry_view};
+ghost use Rattle.simplex_record.specs.Check.{stands};
+ghost use Rattle.simplex_record.specs.Entries.{entries_of, entry_view};
 ghost use Rattle.simplex_member.specs.Remade.{IsRemadeBy, IsRefusedBy};
-ghost use Rattle.simplex_member.specs.Recovery.{is_finalization, with_finalization_entry, with_floor};
+ghost use Rattle.simplex_record.specs.Recovery.{is_finalization, with_finalization_entry, with_floor};
 ghost use Rattle.simplex_member.specs.Restarts.{IsByView};
-ghost use Rattle.simplex_member.specs.Start.{start_facts};
-ghost use Rattle.simplex_member.specs.declared.member.error.RecoverError.TheVariants.{OutOfMemory};
+ghost use Rattle.simplex_record.specs.Start.{start_facts};
+ghost use Rattle.simplex_record.specs.declared.record.error.RecoverError.TheVariants.{OutOfMemory};
 
-use super::cuts::{drop_last, prune_record};
-use super::error::RecoverError;
+use simplex_record::record::{drop_last, prune_record};
+use simplex_record::record::RecoverError;
 use super::life::Member;
 use super::openings::Openings;
 use super::parts::keep;
-use super::recovery::remake;
-use super::start::{Start, retention_of};
+use simplex_record::record::remake;
+use simplex_record::record::{Start, retention_of};
 use simplex_types::types::{
     Artifact, CertificateScheme, Digest, Elector, Fault, Finalization, View, ViewDelta, Viewable,
 };

@@ -3,12 +3,12 @@
 ghost use Rattle.std.specs.Prelude.{◌≡◌, ◌&&◌, IfOk, IfErr, length, nat_lt};
 ghost use Rattle.simplex_member.specs.declared.member.resume.ResumeError.TheVariants.{Recover};
 
-use super::error::RecoverError;
+use simplex_record::record::RecoverError;
 use super::journal::Stored;
 use super::life::Member;
 use super::openings::Openings;
 use super::restart::{lesser, renew};
-use super::start::{Start, retention_of};
+use simplex_record::record::{Start, retention_of};
 use simplex_types::types::{Artifact, CertificateScheme, Digest, Elector, ViewDelta};
 use std::alloc::Global;
 use std::error::Error;
@@ -58,7 +58,7 @@ impl<S: CertificateScheme, D: Digest> fmt::Display for NotResumed<S, D> {
 }
 
 impl Stored {
-    ghost use Rattle.simplex_member.specs.Entries.{entries_of};
+    ghost use Rattle.simplex_record.specs.Entries.{entries_of};
     ghost use Rattle.simplex_member.specs.Journal.{has_lost};
 
     /// Whether there are fewer entries than were closed.
@@ -77,9 +77,9 @@ impl Stored {
 }
 
 impl<S: CertificateScheme, L: Elector<S>, D: Digest> Member<S, L, D> {
-    ghost use Rattle.simplex_member.specs.Entries.{entries_of};
+    ghost use Rattle.simplex_record.specs.Entries.{entries_of};
     ghost use Rattle.simplex_member.specs.Journal.{IsResumed, IsNotResumed};
-    ghost use Rattle.simplex_member.specs.Start.{start_facts};
+    ghost use Rattle.simplex_record.specs.Start.{start_facts};
 
     /// A member that goes on from its journal: `entries` is the record as it was stored last, and `stored` what was stored
     /// beside it. It begins a new life just as `restart` does that drops and prunes nothing.

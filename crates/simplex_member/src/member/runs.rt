@@ -3,14 +3,14 @@
 ghost use Rattle.std.specs.Prelude.{◌≡◌, ◌⊎◌, ◌<◌, ◌++◌, ◌∷◌, [], IfOk, IfErr, length, map, vec_len, vec_capacity};
 ghost use Rattle.simplex_member.specs.Calls.{told};
 ghost use Rattle.simplex_member.specs.Runs.{IsSetUp, AreSetUp, step_facts, steps_of, IsStep, IsRefused, IsRun, EndsRun, IsRunFrom, EndsRunFrom};
-ghost use Rattle.simplex_member.specs.Start.{start_facts};
-ghost use Rattle.simplex_member.specs.declared.member.error.RecoverError.TheVariants.{OutOfMemory};
+ghost use Rattle.simplex_record.specs.Start.{start_facts};
+ghost use Rattle.simplex_record.specs.declared.record.error.RecoverError.TheVariants.{OutOfMemory};
 
 use super::calls::{Call, Reply};
-use super::error::RecoverError;
+use simplex_record::record::RecoverError;
 use super::life::Member;
 use super::restart::Restart;
-use super::start::Start;
+use simplex_record::record::Start;
 use simplex_types::types::{CertificateScheme, Digest, Elector, Scheme};
 use std::alloc::Global;
 

@@ -2,7 +2,7 @@
 
 ghost use Rattle.std.specs.Prelude.{◌≡◌, ◌++◌, [], None, Bool, true, false, IfOk, IfErr, OnErr, OnOk};
 ghost use Rattle.simplex_voter.specs.Refusals.{is_started};
-ghost use Rattle.simplex_member.specs.Entries.{entries_of};
+ghost use Rattle.simplex_record.specs.Entries.{entries_of};
 ghost use Rattle.simplex_member.specs.Calls.{told, asked};
 ghost use Rattle.simplex_member.specs.Allowed.{is_allowed, fault_of};
 ghost use Rattle.simplex_member.specs.Made.{answer, after_call, recorded_by};

@@ -5,7 +5,7 @@
 ghost use Rattle.std.specs.Prelude.{◌≡◌, ◌<◌, ◌++◌, Option, Some, None, Bool, true, false, IfOk, IfErr, OnOk, OnErr, IfSome, vec_len, vec_capacity};
 ghost use Rattle.simplex_voter.specs.Refusals.{plain_refusal, is_started};
 ghost use Rattle.simplex_voter.specs.Votes.{after_construct_notarize, after_construct_nullify, after_construct_finalize};
-ghost use Rattle.simplex_member.specs.Entries.{entries_of};
+ghost use Rattle.simplex_record.specs.Entries.{entries_of};
 ghost use Rattle.simplex_member.specs.Calls.{told, told_notarize, told_nullify, told_finalize, asked};
 ghost use Rattle.simplex_member.specs.Allowed.{fault_of};
 ghost use Rattle.simplex_member.specs.Made.{notarize_vote, nullify_vote, finalize_vote, unrepeated_vote, vote_entry, answer, after_call, recorded_by};

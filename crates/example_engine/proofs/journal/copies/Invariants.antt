@@ -1,5 +1,5 @@
 use Rattle.std.proofs.Common.{◌≡◌, take}
-use Rattle.simplex_member.specs.Entries.{entries_of}
+use Rattle.simplex_record.specs.Entries.{entries_of}
 use Rattle.example_engine.specs.Sealing.{seal_bytes}
 use Rattle.example_engine.proofs.journal.copies.Given as goal
 

@@ -22,7 +22,7 @@ use Rattle.simplex_laws.specs.Requested.{names, ends, wakes}
 use Rattle.simplex_laws.specs.Sums.{has_view}
 use Rattle.simplex_laws.proofs.histories.FollowingHanded.{and_false}
 use Rattle.simplex_laws.proofs.histories.Leaving.{known_of, Alike, Leaves, Quiet, leaves_joined, then_quiet, moment_leaves, entered_leaves, raised_leaves, elected_quiet}
-use Rattle.simplex_member.proofs.Seen.{option_or_none}
+use Rattle.simplex_record.proofs.Seen.{option_or_none}
 use Rattle.simplex_laws.proofs.histories.work.Certificates.{with_settled, with_certification, settled_by, notarized_work, nullified_work, finalized_work, raised_work, raised_among}
 use Rattle.simplex_laws.proofs.histories.work.Elections.{without_entry, named_work, woken_work, entered_said, entered_named, proposal_said, proposal_work, entry_said, entry_work}
 use Rattle.simplex_laws.proofs.histories.work.Windows.{slid_only}

@@ -18,7 +18,7 @@ use Rattle.simplex_voter.specs.Windows.{is_notarized, is_open, in_window}
 use Rattle.simplex_laws.specs.Leading.{same_member, elected_leader, leads_after, tracks_after}
 use Rattle.std.proofs.Math.Bool.{and-true}
 use Rattle.simplex_laws.proofs.histories.FollowingHanded.{and_false}
-use Rattle.simplex_member.proofs.Growing.{round_of-put, round_of-same}
+use Rattle.simplex_record.proofs.Growing.{round_of-put, round_of-same}
 use Rattle.simplex_laws.proofs.votes.NullifyVotes.{tied}
 use Rattle.simplex_laws.proofs.histories.Worked.{work_of}
 use Rattle.simplex_laws.proofs.histories.work.Leaders.{OnlyRounds, only_where, with_leader, inherited_only, inherited_work, elected_only, elected_work}

@@ -16,7 +16,7 @@ use Rattle.simplex_voter.specs.Facts.{StateFacts, Elect, round_of, with_round}
 use Rattle.simplex_voter.specs.Leaders.{with_next_view_ready}
 use Rattle.simplex_voter.specs.Windows.{is_notarized}
 use Rattle.simplex_voter.specs.Replay.{bound_again, restored_binding}
-use Rattle.simplex_member.specs.Recovery.{after_replaying}
+use Rattle.simplex_record.specs.Recovery.{after_replaying}
 use Rattle.simplex_laws.specs.Events.{Replay}
 use Rattle.simplex_laws.specs.Leading.{leads_after, tracks_after}
 use Rattle.simplex_laws.specs.Sums.{has_view}

@@ -14,7 +14,7 @@ use Rattle.simplex_laws.specs.Events.{Event, Certified}
 use Rattle.simplex_laws.specs.Requested.{is_at, wakes, names}
 use Rattle.simplex_laws.specs.Sums.{has_view}
 use Rattle.simplex_laws.specs.Timing.{triggers}
-use Rattle.simplex_member.proofs.Growing.{round_of-put}
+use Rattle.simplex_record.proofs.Growing.{round_of-put}
 use Rattle.simplex_laws.proofs.histories.Leaving.{known_of, Alike, entered_leaves}
 use Rattle.simplex_laws.proofs.histories.work.Elections.{woken_work}
 use Rattle.simplex_laws.proofs.histories.work.Puts.{unentered, shared_follows, idle_follows}

@@ -1,9 +1,9 @@
 use Rattle.std.proofs.Common.{true, List, ap, subst, ◌∙◌}
 use Rattle.simplex_types.specs.Certificates.{ArtifactFacts}
 use Rattle.simplex_types.specs.Plain.{terms_of}
-use Rattle.simplex_member.specs.Entries.{entries_of}
+use Rattle.simplex_record.specs.Entries.{entries_of}
 use Rattle.simplex_member.specs.Journal.{IsResumed}
-use Rattle.simplex_member.specs.Start.{start_facts}
+use Rattle.simplex_record.specs.Start.{start_facts}
 use Rattle.example_engine.specs.declared.digest.BlockDigest.{BlockDigest}
 use Rattle.example_engine.specs.Parts.{same_block, leader_of_round}
 use Rattle.example_engine.specs.Sealing.{seal_signer, seal_keys, seal_bytes}

@@ -1,7 +1,7 @@
 use Rattle.std.proofs.Common.{◌≡◌, drop}
-use Rattle.simplex_member.specs.Check.{stands}
-use Rattle.simplex_member.specs.Entries.{entries_of}
-use Rattle.simplex_member.specs.Recovery.{is_finalization}
+use Rattle.simplex_record.specs.Check.{stands}
+use Rattle.simplex_record.specs.Entries.{entries_of}
+use Rattle.simplex_record.specs.Recovery.{is_finalization}
 use Rattle.simplex_member.proofs.member.restart.is_finalized_in.Given as goal
 
 -- none of those that were met is one

@@ -1,8 +1,8 @@
 use Rattle.std.proofs.Common.{◌≡◌, ◌∙◌, sym, ap}
 use Rattle.std.specs.Prelude.{true, false}
-use Rattle.simplex_member.specs.Check.{stands}
-use Rattle.simplex_member.specs.Entries.{entries_of}
-use Rattle.simplex_member.specs.Recovery.{is_finalization}
+use Rattle.simplex_record.specs.Check.{stands}
+use Rattle.simplex_record.specs.Entries.{entries_of}
+use Rattle.simplex_record.specs.Recovery.{is_finalization}
 use Rattle.simplex_member.proofs.Restarts.{recorded_before, recorded_now}
 use Rattle.simplex_member.proofs.member.restart.keep_finalization.Goals as goal
 

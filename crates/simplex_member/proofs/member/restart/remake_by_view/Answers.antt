@@ -1,5 +1,5 @@
-use Rattle.simplex_member.specs.Entries.{entries_of}
-use Rattle.simplex_member.specs.Start.{start_facts}
+use Rattle.simplex_record.specs.Entries.{entries_of}
+use Rattle.simplex_record.specs.Start.{start_facts}
 use Rattle.simplex_member.proofs.Restarts.{refused_by, of_value, of_error}
 use Rattle.simplex_member.proofs.member.restart.remake_by_view.Goals as goal
 

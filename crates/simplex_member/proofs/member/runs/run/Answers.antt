@@ -2,7 +2,7 @@ use Rattle.std.proofs.Common.{map, refl}
 use Rattle.std.proofs.lemmas.Result.{err_from_is_err_and, IfOk-weaker, IfErr-weaker}
 use Rattle.simplex_member.specs.Calls.{told}
 use Rattle.simplex_member.specs.Runs.{steps_of}
-use Rattle.simplex_member.specs.Start.{start_facts}
+use Rattle.simplex_record.specs.Start.{start_facts}
 use Rattle.simplex_member.proofs.Runs.{run_from, ends_later, ends_at_once}
 use Rattle.simplex_member.proofs.member.runs.run.Goals as goal
 

@@ -1,6 +1,6 @@
 use Rattle.std.proofs.Common.{sym, ap, ◌∙◌}
 use Rattle.simplex_member.specs.Calls.{asked}
-use Rattle.simplex_member.specs.Entries.{entries_of}
+use Rattle.simplex_record.specs.Entries.{entries_of}
 use Rattle.simplex_member.proofs.Answering.{allowed_ready}
 use Rattle.simplex_member.proofs.Serving.{is_building, told_alike, after_alike, unsigned_result, nothing_recorded, same_record}
 use Rattle.simplex_member.proofs.member.serving.serve.Goals as goal

@@ -1,8 +1,8 @@
 -- from what `Member::resume` ensures
 use Rattle.std.proofs.Common.{Ok, false}
-use Rattle.simplex_member.specs.Entries.{entries_of}
+use Rattle.simplex_record.specs.Entries.{entries_of}
 use Rattle.simplex_member.specs.Journal.{whole_restart}
-use Rattle.simplex_member.specs.Start.{start_facts}
+use Rattle.simplex_record.specs.Start.{start_facts}
 use Rattle.simplex_member.specs.declared.member.restart.Restart.{Restart}
 use Rattle.simplex_laws.specs.Shown.{floor_in}
 use Rattle.simplex_laws.proofs.stories.Living.{restart_done}

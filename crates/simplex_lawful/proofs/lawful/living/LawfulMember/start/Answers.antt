@@ -1,5 +1,5 @@
 -- from what `Member::start` ensures
-use Rattle.simplex_member.specs.Start.{start_facts}
+use Rattle.simplex_record.specs.Start.{start_facts}
 use Rattle.simplex_laws.specs.Shown.{floor_in}
 use Rattle.simplex_laws.proofs.stories.Living.{start_done}
 use Rattle.simplex_laws.proofs.stories.Shown.{begins_as, start_shown}

@@ -1,7 +1,7 @@
 use Rattle.std.proofs.lemmas.Result.{err_from_is_err_and}
-use Rattle.simplex_member.specs.Entries.{entries_of}
+use Rattle.simplex_record.specs.Entries.{entries_of}
 use Rattle.simplex_member.specs.Lives.{MemberFacts, living, open_while}
-use Rattle.simplex_member.specs.Start.{start_facts}
+use Rattle.simplex_record.specs.Start.{start_facts}
 use Rattle.simplex_member.proofs.Restarts.{not_gone_on, gone_on}
 use Rattle.simplex_member.proofs.member.life.Member.go_on.Goals as goal
 

@@ -2,7 +2,7 @@ use Rattle.std.proofs.Common.{false, refl, sym, subst, ap, ◌∙◌, ◌++◌, 
 use Rattle.std.proofs.lemmas.List.{append-nil}
 use Rattle.simplex_member.specs.Allowed.{fault_of}
 use Rattle.simplex_member.specs.Calls.{told, asked}
-use Rattle.simplex_member.specs.Entries.{entries_of}
+use Rattle.simplex_record.specs.Entries.{entries_of}
 use Rattle.simplex_member.specs.Lives.{MemberFacts, living, open_while}
 use Rattle.simplex_member.specs.Parts.{EndsCall, IsWant, is_offer}
 use Rattle.simplex_member.proofs.Answering.{call_goes_on, offer_loses, work_fills, work_wants, open_then, err_says, ok_says, losing, failed_call, forbidden_call, answered_call, refused_call, lost_call}

@@ -1,0 +1,15 @@
+pub mod Seen
+pub mod Cuts
+pub mod Examples
+pub mod Going
+pub mod Start
+pub mod Recovery
+pub mod RecoveryExamples
+pub mod Taking
+pub mod Growing
+pub mod Keeping
+pub mod EntryRules
+pub mod Bearing
+pub mod Allowing
+pub mod Remaking
+pub mod Settings

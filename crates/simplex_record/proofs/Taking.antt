@@ -1,0 +1,77 @@
+-- What is left of a record while its entries are taken leads to the same state as the whole.
+use Rattle.std.proofs.Common.{◌≡◌, refl, sym, ap, ◌∙◌, ℕ, ◌+◌, ◌<◌, Bool, false, nat_lt, List, [], ◌∷◌, Some, None, drop, length, get_or}
+use Rattle.std.proofs.lemmas.List.{drop_more}
+use Rattle.simplex_types.specs.Certificates.{ArtifactFacts, NotarizeVote, NullifyVote, FinalizeVote, Verdict, Accepted, artifact_facts}
+use Rattle.simplex_types.specs.Config.{FloorFacts, Genesis, Finalized}
+use Rattle.simplex_types.specs.declared.types.messages.Artifact.{Artifact}
+use Rattle.simplex_voter.specs.Facts.{StateFacts, Elect}
+use Rattle.simplex_voter.specs.Windows.{min_active}
+use Rattle.simplex_voter.specs.Entering.{at_moment, with_view_entered}
+use Rattle.simplex_voter.specs.Leaders.{with_elected_leader}
+use Rattle.simplex_voter.specs.Acceptance.{with_finalization_broadcast, after_add_finalization, after_set_floor}
+use Rattle.simplex_voter.specs.Refusals.{has_late_deadline}
+use Rattle.simplex_record.specs.Entries.{entries_of, entry_view}
+use Rattle.simplex_record.specs.Recovery.{after_adding, after_replaying, after_verdict_of, after_entry, after_kept_entry, after_entries, TakesEntries}
+use Rattle.simplex_record.proofs.Going.{Goes, stays, joined, where_so, with_round_goes, entered_goes, elected_goes, finalization_goes, certified_goes, still_in_time}
+use Rattle.simplex_record.proofs.Recovery.{added_goes, replayed_goes}
+
+module _ {K L D : Type 0} (elect : Elect L) where
+  given_goes : (x : StateFacts K L D) (now : ℕ) (e : ArtifactFacts D) → Goes x (after_verdict_of elect x now e)
+  given_goes x now (Verdict round success) = certified_goes elect x round.view success now
+  given_goes x now (NotarizeVote _ _) = stays x
+  given_goes x now (NullifyVote _ _) = stays x
+  given_goes x now (FinalizeVote _ _) = stays x
+  given_goes x now (Accepted _) = stays x
+
+module _ {K L D : Type 0} (same : D → D → Bool) (elect : Elect L) where
+  retaken_goes : (x : StateFacts K L D) (now : ℕ) (e : ArtifactFacts D) → Goes x (after_entry same elect x now e)
+  retaken_goes x now e =
+      let y = after_adding same elect x now e in
+      let z = after_replaying same elect y e in
+      joined x z (after_verdict_of elect z now e) (joined x y z (added_goes same elect x now e) (replayed_goes same elect y e)) (given_goes elect z now e)
+
+  pub taken_goes : (x : StateFacts K L D) (now : ℕ) (e : ArtifactFacts D) → Goes x (after_kept_entry same elect x now e)
+  unfolding after_kept_entry
+  taken_goes x now e = where_so x (nat_lt (entry_view e) (min_active x)) x (after_entry same elect x now e) (stays x) (retaken_goes x now e)
+
+  pub all_taken_goes : (x : StateFacts K L D) (now : ℕ) (entries : List (ArtifactFacts D)) → Goes x (after_entries same elect x now entries)
+  all_taken_goes x now [] = stays x
+  all_taken_goes x now (e ∷ rest) = let y = after_kept_entry same elect x now e in joined x y (after_entries same elect y now rest) (taken_goes x now e) (all_taken_goes y now rest)
+
+module _ {K L D : Type 0} (same : D → D → Bool) (elect : Elect L) where
+  -- a floor that is set changes nothing of how the state was set up
+  pub floor_set_goes : (x : StateFacts K L D) (floor : FloorFacts D) (now : ℕ) → Goes x (after_set_floor same elect x floor now)
+  floor_set_goes x (Genesis payload) now =
+      let noted = record (at_moment x now) { genesis = Some payload } in
+      let known : Goes x noted = record { failed = refl; settings = refl; terms = refl; started = λ h. h } in
+      let y = with_view_entered noted 1 now in
+      joined x y (with_elected_leader elect y 1 None) (joined x noted y known (entered_goes noted 1 now)) (elected_goes elect y 1 None)
+  floor_set_goes x (Finalized c) now =
+      let y = after_add_finalization same elect x c now in
+      joined x y (with_finalization_broadcast y c.proposal.round.view) (finalization_goes same elect x c now) (with_round_goes y c.proposal.round.view _)
+
+module _ {S K L D G C : Type 0} (bytes_of : C → List ℕ) (same : D → D → Bool) (elect : Elect L) (first : StateFacts K L D) (all : List (Artifact S D K G C)) (now : ℕ) where
+  -- the state goes on, allows what is left, and will be what taking all makes of the first one
+  pub record Taking (x : StateFacts K L D) (rest : List (Artifact S D K G C)) : Type 0 where
+    pub failed : x.failed ≡ false
+    pub in_time : has_late_deadline x now ≡ false
+    pub each : TakesEntries bytes_of same elect x now rest
+    pub left : after_entries same elect x now (entries_of bytes_of rest) ≡ after_entries same elect first now (entries_of bytes_of all)
+
+  -- the next entry is taken
+  pub taking_next : (x : StateFacts K L D) (a : Artifact S D K G C) (rest : List (Artifact S D K G C)) → Taking x (a ∷ rest) → Taking (after_kept_entry same elect x now (artifact_facts bytes_of a)) rest
+  taking_next x a rest taking =
+      let e = artifact_facts bytes_of a in
+      let goes = taken_goes same elect x now e in
+      record {
+        failed = goes.failed ∙ taking.failed;
+        in_time = still_in_time x (after_kept_entry same elect x now e) now goes taking.in_time;
+        each = taking.each.1;
+        left = taking.left;
+      }
+
+  -- where something is left, its first is the entry of that place
+  pub taking_at : (x : StateFacts K L D) (i : ℕ) (a : Artifact S D K G C) → a ≡ get_or all i a → i < length all → Taking x (drop i all) → Taking x (a ∷ drop (i + 1) all)
+  taking_at x i a is within taking =
+      let more : drop i all ≡ a ∷ drop (i + 1) all = drop_more all i a within ∙ ap (λ b. b ∷ drop (i + 1) all) (sym is) in
+      rw more at taking

@@ -1,0 +1,216 @@
+//! A state is made from a floor and a whole record, whose entries it takes again one after another.
+
+ghost use Rattle.std.specs.Prelude.{◌≡◌, true, false, None, IfOk, IfErr, OnOk, length, option_map};
+ghost use Rattle.simplex_types.specs.Certificates.{artifact_facts, finalization_facts};
+ghost use Rattle.simplex_types.specs.Config.{floor_facts};
+ghost use Rattle.simplex_types.specs.declared.types.fault.Fault.TheVariants.{OutOfMemory};
+ghost use Rattle.simplex_voter.specs.Acceptance.{floor_answer};
+ghost use Rattle.simplex_voter.specs.Refusals.{is_started, takes_round, has_late_deadline};
+ghost use Rattle.simplex_voter.specs.Replay.{TakesReplay, artifact_round, artifact_too_large};
+ghost use Rattle.simplex_record.specs.Entries.{entries_of};
+ghost use Rattle.simplex_record.specs.Recovery.{after_adding, after_replaying, after_verdict_of, after_entry, after_kept_entry, after_entries, recovered_state, recover_error, GivesVerdict, TakesEntry, TakesNext, TakesEntries};
+ghost use Rattle.simplex_record.specs.Start.{set_up, IsErrorDue};
+
+use super::check::check_record;
+use super::error::RecoverError;
+use super::start::{Start, begin};
+use simplex_types::types::{
+    Artifact, CertificateScheme, Digest, Elector, Fault, Finalization, Viewable,
+};
+use simplex_voter::voter::State;
+use std::alloc::Global;
+
+/// Adds a copy of a certificate.
+fn add<S: CertificateScheme, L: Elector<S>, D: Digest>(
+    alloc: Global,
+    state: &mut State<S, L, D>,
+    artifact: &Artifact<S, D>,
+    now: u64,
+) -> Result<(), Fault>
+    requires going_on { state.old.failed ≡ false }
+    requires in_time { has_late_deadline state.old now ≡ false }
+    requires kept { takes_round state.old (artifact_round artifact.now) ≡ true }
+    requires small { artifact_too_large artifact.now ≡ false }
+    ensures after { OnOk result (state.new ≡ after_adding D.eq L.elect state.old now (artifact_facts S.certificate_bytes artifact.now)) }
+    ensures refused { IfErr result (λ fault. fault ≡ OutOfMemory) }
+{
+    match artifact {
+        Artifact::Notarization(notarization) => {
+            let Ok(copy) = notarization.clone(alloc) else {
+                return Err(Fault::OutOfMemory);
+            };
+            match state.add_notarization(copy) {
+                Ok(_) => Ok(()),
+                Err(fault) => Err(fault),
+            }
+        }
+        Artifact::Nullification(nullification) => {
+            let Ok(copy) = nullification.clone(alloc) else {
+                return Err(Fault::OutOfMemory);
+            };
+            match state.add_nullification(copy, now) {
+                Ok(_) => Ok(()),
+                Err(fault) => Err(fault),
+            }
+        }
+        Artifact::Finalization(finalization) => {
+            let Ok(copy) = finalization.clone(alloc) else {
+                return Err(Fault::OutOfMemory);
+            };
+            match state.add_finalization(copy, now) {
+                Ok(_) => Ok(()),
+                Err(fault) => Err(fault),
+            }
+        }
+        Artifact::Notarize(_)
+        | Artifact::Nullify(_)
+        | Artifact::Finalize(_)
+        | Artifact::Certification(_, _) => Ok(()),
+    }
+}
+
+/// Restores what an entry says.
+fn replay<S: CertificateScheme, L: Elector<S>, D: Digest>(
+    state: &mut State<S, L, D>,
+    artifact: &Artifact<S, D>,
+) -> Result<(), Fault>
+    requires going_on { state.old.failed ≡ false }
+    requires small { artifact_too_large artifact.now ≡ false }
+    requires taken { TakesReplay state.old artifact.now }
+    ensures after { OnOk result (state.new ≡ after_replaying D.eq L.elect state.old (artifact_facts S.certificate_bytes artifact.now)) }
+    ensures refused { IfErr result (λ fault. fault ≡ OutOfMemory) }
+{
+    state.replay(artifact)
+}
+
+/// Gives a verdict that was replayed.
+fn give<S: CertificateScheme, L: Elector<S>, D: Digest>(
+    state: &mut State<S, L, D>,
+    artifact: &Artifact<S, D>,
+    now: u64,
+) -> Result<(), Fault>
+    requires going_on { state.old.failed ≡ false }
+    requires in_time { has_late_deadline state.old now ≡ false }
+    requires allowed { GivesVerdict state.old (artifact_facts S.certificate_bytes artifact.now) }
+    ensures after { OnOk result (state.new ≡ after_verdict_of L.elect state.old now (artifact_facts S.certificate_bytes artifact.now)) }
+    ensures refused { IfErr result (λ fault. fault ≡ OutOfMemory) }
+{
+    if let Artifact::Certification(round, success) = artifact {
+        let _notarization = state.certified(round.view, *success, now)?;
+    }
+    Ok(())
+}
+
+/// Takes an entry of a view that is kept: a certificate is added, each entry is replayed, a verdict is given.
+fn take<S: CertificateScheme, L: Elector<S>, D: Digest>(
+    alloc: Global,
+    state: &mut State<S, L, D>,
+    artifact: &Artifact<S, D>,
+    now: u64,
+) -> Result<(), Fault>
+    requires going_on { state.old.failed ≡ false }
+    requires in_time { has_late_deadline state.old now ≡ false }
+    requires small { artifact_too_large artifact.now ≡ false }
+    requires taken { TakesEntry S.certificate_bytes D.eq L.elect state.old now artifact.now }
+    ensures after { OnOk result (state.new ≡ after_entry D.eq L.elect state.old now (artifact_facts S.certificate_bytes artifact.now)) }
+    ensures refused { IfErr result (λ fault. fault ≡ OutOfMemory) }
+{
+    add(alloc, state, artifact, now)?;
+    replay(state, artifact)?;
+    give(state, artifact, now)
+}
+
+/// Takes an entry, or passes it over where its view is below those that are kept.
+#[tactic(auto, unfolding(crate::specs::Recovery::after_kept_entry))]
+fn take_kept<S: CertificateScheme, L: Elector<S>, D: Digest>(
+    alloc: Global,
+    state: &mut State<S, L, D>,
+    artifact: &Artifact<S, D>,
+    now: u64,
+) -> Result<(), Fault>
+    requires going_on { state.old.failed ≡ false }
+    requires in_time { has_late_deadline state.old now ≡ false }
+    requires next { TakesNext S.certificate_bytes D.eq L.elect state.old now artifact.now }
+    ensures after { OnOk result (state.new ≡ after_kept_entry D.eq L.elect state.old now (artifact_facts S.certificate_bytes artifact.now)) }
+    ensures refused { IfErr result (λ fault. fault ≡ OutOfMemory) }
+{
+    if artifact.view() < state.min_active() {
+        return Ok(());
+    }
+    take(alloc, state, artifact, now)
+}
+
+/// Takes the entries in order.
+fn take_all<S: CertificateScheme, L: Elector<S>, D: Digest>(
+    alloc: Global,
+    state: &mut State<S, L, D>,
+    entries: &[Artifact<S, D>],
+    now: u64,
+) -> Result<(), Fault>
+    requires going_on { state.old.failed ≡ false }
+    requires in_time { has_late_deadline state.old now ≡ false }
+    requires each { TakesEntries S.certificate_bytes D.eq L.elect state.old now entries.now }
+    ensures after { OnOk result (state.new ≡ after_entries D.eq L.elect state.old now (entries_of S.certificate_bytes entries.now)) }
+    ensures refused { IfErr result (λ fault. fault ≡ OutOfMemory) }
+{
+    for artifact in entries {
+        take_kept(alloc, state, artifact, now)?;
+    }
+    Ok(())
+}
+
+/// What `recover` makes, on the heap, with the floor's finalization. Its errors are those of `recover`.
+pub fn remake<S: CertificateScheme, L: Elector<S>, D: Digest>(
+    alloc: Global,
+    start: Start<S, L, D>,
+    entries: &[Artifact<S, D>],
+) -> Result<(Box<State<S, L, D>>, Option<Finalization<S, D>>), RecoverError>
+    requires { L.members start.settings.elector ≡ length (S.participants start.settings.scheme) }
+    ensures recovered { IfOk result (λ made. made.0.value ≡ recovered_state D.eq L.elect (set_up S.me S.participants L.terms L.elects_early start.settings)
+        (floor_facts S.certificate_bytes start.floor) start.now (entries_of S.certificate_bytes entries.now)) }
+    ensures going_on { IfOk result (λ made. (made.0.value.failed ≡ false) × (is_started made.0.value ≡ true)) }
+    ensures floor { IfOk result (λ made. option_map (finalization_facts S.certificate_bytes) made.1
+        ≡ floor_answer (floor_facts S.certificate_bytes start.floor)) }
+    ensures accepted { OnOk result (recover_error D.eq (set_up S.me S.participants L.terms L.elects_early start.settings)
+        (floor_facts S.certificate_bytes start.floor) start.now (entries_of S.certificate_bytes entries.now) ≡ None) }
+    ensures refused { IfErr result (IsErrorDue (recover_error D.eq (set_up S.me S.participants L.terms L.elects_early start.settings)
+        (floor_facts S.certificate_bytes start.floor) start.now (entries_of S.certificate_bytes entries.now))) }
+{
+    let Start {
+        settings,
+        floor,
+        now,
+    } = start;
+    check_record(&settings.scheme, settings.epoch, &floor, entries)?;
+    let (mut state, finalization) = begin(alloc, settings, floor, now)?;
+    match take_all(alloc, &mut state, entries, now) {
+        Ok(()) => Ok((state, finalization)),
+        Err(_) => Err(RecoverError::OutOfMemory),
+    }
+}
+
+/// Makes a state from a floor and a whole record, oldest entry first: the floor is set, and the entries are taken in
+/// order. A certificate is added again, a vote and a verdict stand again, and a verdict has its effects. An entry of a
+/// view that isn't kept any more when its turn comes is passed over. What the state would hand out counts as handed out,
+/// as far as the record says so.
+///
+/// The elector's members are the scheme's participants. The first error that is due, in the order of `RecoverError`: the
+/// first rule that the floor breaks, or else the record, as `check_record` says; then `TimeOverflow`, where a deadline
+/// passes 2^64 - 1 milliseconds. `OutOfMemory` comes only where none is due. There is no state then, and the record is as
+/// it was.
+pub fn recover<S: CertificateScheme, L: Elector<S>, D: Digest>(
+    alloc: Global,
+    start: Start<S, L, D>,
+    entries: &[Artifact<S, D>],
+) -> Result<State<S, L, D>, RecoverError>
+    requires { L.members start.settings.elector ≡ length (S.participants start.settings.scheme) }
+    ensures recovered { IfOk result (λ state. state ≡ recovered_state D.eq L.elect (set_up S.me S.participants L.terms L.elects_early start.settings)
+        (floor_facts S.certificate_bytes start.floor) start.now (entries_of S.certificate_bytes entries.now)) }
+    ensures accepted { OnOk result (recover_error D.eq (set_up S.me S.participants L.terms L.elects_early start.settings)
+        (floor_facts S.certificate_bytes start.floor) start.now (entries_of S.certificate_bytes entries.now) ≡ None) }
+    ensures refused { IfErr result (IsErrorDue (recover_error D.eq (set_up S.me S.participants L.terms L.elects_early start.settings)
+        (floor_facts S.certificate_bytes start.floor) start.now (entries_of S.certificate_bytes entries.now))) }
+{
+    let (state, _finalization) = remake(alloc, start, entries)?;
+    Ok(Box::into_inner(state))
+}
