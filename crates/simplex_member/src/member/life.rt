@@ -6,11 +6,10 @@ ghost use Rattle.std.specs.Option.{option_copied};
 use super::call_error::CallError;
 use super::calls::{Call, Reply};
 use super::closing::{Closing, follow, make_room};
-use simplex_record::record::RecoverError;
 use super::openings::Openings;
 use super::restart::keep_finalization;
 use super::serving::{is_allowed, serve};
-use simplex_record::record::{Start, begin, retention_of};
+use simplex_record::record::{RecoverError, Start, begin, retention_of};
 use simplex_types::types::{
     Artifact, CertificateScheme, Digest, Elector, Fault, Scheme, ViewDelta,
 };

@@ -13,13 +13,10 @@ ghost use Rattle.simplex_member.specs.Restarts.{IsByView};
 ghost use Rattle.simplex_record.specs.Start.{start_facts};
 ghost use Rattle.simplex_record.specs.declared.record.error.RecoverError.TheVariants.{OutOfMemory};
 
-use simplex_record::record::{drop_last, prune_record};
-use simplex_record::record::RecoverError;
 use super::life::Member;
 use super::openings::Openings;
 use super::parts::keep;
-use simplex_record::record::remake;
-use simplex_record::record::{Start, retention_of};
+use simplex_record::record::{RecoverError, Start, drop_last, prune_record, remake, retention_of};
 use simplex_types::types::{
     Artifact, CertificateScheme, Digest, Elector, Fault, Finalization, View, ViewDelta, Viewable,
 };

@@ -3,12 +3,11 @@
 ghost use Rattle.std.specs.Prelude.{◌≡◌, ◌&&◌, IfOk, IfErr, length, nat_lt};
 ghost use Rattle.simplex_member.specs.declared.member.resume.ResumeError.TheVariants.{Recover};
 
-use simplex_record::record::RecoverError;
 use super::journal::Stored;
 use super::life::Member;
 use super::openings::Openings;
 use super::restart::{lesser, renew};
-use simplex_record::record::{Start, retention_of};
+use simplex_record::record::{RecoverError, Start, retention_of};
 use simplex_types::types::{Artifact, CertificateScheme, Digest, Elector, ViewDelta};
 use std::alloc::Global;
 use std::error::Error;

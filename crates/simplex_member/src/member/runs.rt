@@ -7,10 +7,9 @@ ghost use Rattle.simplex_record.specs.Start.{start_facts};
 ghost use Rattle.simplex_record.specs.declared.record.error.RecoverError.TheVariants.{OutOfMemory};
 
 use super::calls::{Call, Reply};
-use simplex_record::record::RecoverError;
 use super::life::Member;
 use super::restart::Restart;
-use simplex_record::record::Start;
+use simplex_record::record::{RecoverError, Start};
 use simplex_types::types::{CertificateScheme, Digest, Elector, Scheme};
 use std::alloc::Global;
 

@@ -27,9 +27,7 @@ pub struct Start<S: CertificateScheme, L: Elector<S>, D> {
 }
 
 /// How many views below the last finalized one are kept.
-pub fn retention_of<S: CertificateScheme, L: Elector<S>>(
-    settings: &Config<S, L>,
-) -> ViewDelta
+pub fn retention_of<S: CertificateScheme, L: Elector<S>>(settings: &Config<S, L>) -> ViewDelta
     ensures { result ≡ settings.now.view_retention }
 {
     settings.view_retention
