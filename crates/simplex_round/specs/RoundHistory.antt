@@ -46,10 +46,10 @@ first_finalization (Finalized c ∷ calls) = Some (unwrap_or (first_finalization
 first_finalization (_ ∷ calls) = first_finalization calls
 
 -- the first entry, and the last own proposal
-abbrev pub first_entry : {D : Type 0} → List (RoundCall D) → Option ℕ
-first_entry [] = None
-first_entry (Entered now ∷ calls) = Some (unwrap_or (first_entry calls) now)
-first_entry (_ ∷ calls) = first_entry calls
+abbrev pub first_entry_moment : {D : Type 0} → List (RoundCall D) → Option ℕ
+first_entry_moment [] = None
+first_entry_moment (Entered now ∷ calls) = Some (unwrap_or (first_entry_moment calls) now)
+first_entry_moment (_ ∷ calls) = first_entry_moment calls
 
 -- the moment of the last own proposal
 abbrev pub last_proposed : {D : Type 0} → List (RoundCall D) → Option ℕ
@@ -119,7 +119,7 @@ pub record ShowsCalls {K D : Type 0} (calls : List (RoundCall D)) (r : RoundFact
   pub finalization : r.finalization ≡ first_finalization calls
   pub decision : r.decision ≡ decision_of calls
   pub stall_deadline : r.stall_deadline ≡ last_stall_deadline calls
-  pub entered_at : r.entered_at ≡ first_entry calls
+  pub entered_at : r.entered_at ≡ first_entry_moment calls
   pub proposed_at : r.proposed_at ≡ last_proposed calls
 
 -- a replayed vote is a vote; other artifacts change none of this
