@@ -3,16 +3,19 @@ use Rattle.std.proofs.Common.{◌≡◌, ℕ, Bool, true, false, cond, ◌||◌,
 use Rattle.std.specs.Cmp.{nat_cmp_total}
 use Rattle.std.specs.FinMap.Entries.{find, find-put}
 use Rattle.std.specs.Ordering.{nat_cmp}
-use Rattle.std.specs.Prelude.{is_some, option_and_then}
-use Rattle.simplex_types.specs.Certificates.{CertificateFacts}
+use Rattle.std.specs.Prelude.{is_some, option_map, option_and_then, IsNone}
+use Rattle.simplex_types.specs.Certificates.{CertificateFacts, Notarized, Nullified, Finalized}
 use Rattle.simplex_sorted.proofs.Maps.{is_eq-nat_cmp}
 use Rattle.simplex_round.specs.Round.{RoundFacts, once}
 use Rattle.simplex_voter.specs.Facts.{StateFacts, Elect, round_at, round_of, with_round, with_tracked}
 use Rattle.simplex_voter.specs.Serving.{broadcast_notarization_answer, after_broadcast_notarization, broadcast_nullification_answer, after_broadcast_nullification, broadcast_finalization_answer, after_broadcast_finalization}
-use Rattle.simplex_member.specs.Calls.{BroadcastNotarization, BroadcastNullification, BroadcastFinalization, Handed}
+use Rattle.simplex_member.specs.Calls.{BroadcastNotarization, BroadcastNullification, BroadcastFinalization, Told, Handed}
 use Rattle.simplex_member.specs.Lives.{MemberFacts}
 use Rattle.simplex_member.specs.Typed.{IsAnswered, HasNoneLeft}
-use Rattle.simplex_member.proofs.Voted.{at_life}
+use Rattle.simplex_member.proofs.Voted.{at_life, from_life}
+
+abbrev handed_told : {K D : Type 0} → Option (CertificateFacts D) → Told K D
+handed_told handed = Handed handed
 
 once_sent : {C : Type 0} (sent : Bool) (certificate : Option C) → once (sent || is_some certificate) certificate ≡ None
 once_sent true certificate = refl
@@ -56,3 +59,20 @@ module _ {K L D : Type 0} (same : D → D → Bool) (elect : Elect L) (m left : 
 
   pub finalization_none_left : IsAnswered same elect m (BroadcastFinalization v) (Handed handed) left → HasNoneLeft broadcast_finalization_answer left v
   finalization_none_left is = at_life (λ (x : StateFacts K L D). broadcast_finalization_answer x v ≡ None) left.life (after_broadcast_finalization is.state v) (ap (λ (l : MemberFacts K L D). l.life) is.left_so) (finalization_once is.state v)
+
+-- where nothing of the view is left, nothing is handed out
+none_handed : {K D C A : Type 0} (facts : C → CertificateFacts D) (wrap : A → CertificateFacts D) (certificate : Option C) (found : Option A) → found ≡ None → handed_told {K = K} (option_map facts certificate) ≡ handed_told (option_map wrap found) → IsNone certificate
+none_handed facts wrap None found none is = refl
+none_handed {K = K} facts wrap (Some c) found none is =
+    let same : handed_told {K = K} (Some (facts c)) ≡ handed_told None = rw none at is in
+    absurd (let no : ⊥ = cc in no)
+
+module _ {K L D C : Type 0} (same : D → D → Bool) (elect : Elect L) (m left : MemberFacts K L D) (v : ℕ) (facts : C → CertificateFacts D) (certificate : Option C) where
+  pub notarization_handed_once : HasNoneLeft broadcast_notarization_answer m v → IsAnswered same elect m (BroadcastNotarization v) (Handed (option_map facts certificate)) left → IsNone certificate
+  notarization_handed_once was is = none_handed facts Notarized certificate (broadcast_notarization_answer is.state v) (from_life (λ (x : StateFacts K L D). broadcast_notarization_answer x v ≡ None) m.life is.state is.alive was) is.told_so
+
+  pub nullification_handed_once : HasNoneLeft broadcast_nullification_answer m v → IsAnswered same elect m (BroadcastNullification v) (Handed (option_map facts certificate)) left → IsNone certificate
+  nullification_handed_once was is = none_handed facts Nullified certificate (broadcast_nullification_answer is.state v) (from_life (λ (x : StateFacts K L D). broadcast_nullification_answer x v ≡ None) m.life is.state is.alive was) is.told_so
+
+  pub finalization_handed_once : HasNoneLeft broadcast_finalization_answer m v → IsAnswered same elect m (BroadcastFinalization v) (Handed (option_map facts certificate)) left → IsNone certificate
+  finalization_handed_once was is = none_handed facts Finalized certificate (broadcast_finalization_answer is.state v) (from_life (λ (x : StateFacts K L D). broadcast_finalization_answer x v ≡ None) m.life is.state is.alive was) is.told_so

@@ -4,8 +4,8 @@ pub mod RestartExamples
 pub mod Runs
 pub mod GoingCalls
 pub mod Answering
-pub mod Serving
 pub mod Typed
+pub mod Parts
 pub mod Voted
 pub mod HandedOut
 pub mod Opening

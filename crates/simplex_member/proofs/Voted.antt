@@ -46,7 +46,7 @@ at_life P (Some y) x is holds = subst P (sym (some_same y x is)) holds
     some_same a b e = cc
 at_life P None x is holds = tt
 
-from_life : {A : Type 0} (P : A → Type 0) (life : Option A) (x : A) → life ≡ Some x → IfSome life P → P x
+pub from_life : {A : Type 0} (P : A → Type 0) (life : Option A) (x : A) → life ≡ Some x → IfSome life P → P x
 from_life P life x is holds = rw is at holds
 
 -- a vote that is answered had its rule, and where the rule forbids it, there is none

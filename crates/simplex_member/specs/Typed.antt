@@ -11,11 +11,15 @@ use Rattle.simplex_member.specs.declared.member.refusal.Refusal.{Refusal}
 use Rattle.simplex_member.specs.declared.member.refusal.Refusal.TheVariants as refusal
 
 module _ {K D : Type 0} where
+  -- what is told of a refusal
+  abbrev pub told_refused : Refusal → Told K D
+  told_refused (refusal.Fault due) = Refused due
+  told_refused refusal.NotAllowed = NotAllowed
+
   -- what is told of a result: its answer, or why there is none
   abbrev pub told_of : {T : Type 0} → (T → Told K D) → Result T Refusal → Told K D
   told_of tell (Ok answered) = tell answered
-  told_of tell (Err (refusal.Fault due)) = Refused due
-  told_of tell (Err refusal.NotAllowed) = NotAllowed
+  told_of tell (Err refused) = told_refused refused
 
   -- whether a call may be told so: an answer of its kind, or refused
   abbrev pub is_reply_to : Told K D → CallFacts D → Bool

@@ -1,10 +1,7 @@
 //! What a member records, what a restart asks of its record and leaves of it.
 
-mod building;
 mod call_error;
 mod calls;
-mod certifying;
-mod closing;
 mod handing;
 mod journal;
 mod life;
@@ -14,9 +11,6 @@ mod refusal;
 mod restart;
 mod resume;
 mod runs;
-mod serving;
-mod timing;
-mod verifying;
 mod votes;
 mod waiting;
 

@@ -1,5 +1,9 @@
 //! What is asked of a member, and what it answers.
 
+ghost use Rattle.std.specs.Prelude.{◌≡◌};
+ghost use Rattle.simplex_member.specs.Calls.{told};
+ghost use Rattle.simplex_member.specs.Typed.{told_refused};
+
 mod certificates;
 mod certifications;
 mod proposals;
@@ -8,6 +12,7 @@ mod timeouts;
 mod verifications;
 mod votes;
 
+use super::refusal::Refusal;
 use simplex_types::reasons::{HandoffAbandonedReason, TimeoutReason};
 use simplex_types::types::{
     Certificate, CertificateScheme, Digest, Fault, Finalization, Finalize, Notarization, Notarize,
@@ -101,4 +106,16 @@ pub enum Reply<S: CertificateScheme, D> {
     Fault(Fault),
     /// The call asks something of its caller that is not so.
     NotAllowed,
+}
+
+impl<S: CertificateScheme, D: Digest> Reply<S, D> {
+    /// A call has no answer.
+    pub(super) fn refused(refusal: Refusal) -> Self
+        ensures { told S.certificate_bytes result ≡ told_refused refusal }
+    {
+        match refusal {
+            Refusal::Fault(fault) => Reply::Fault(fault),
+            Refusal::NotAllowed => Reply::NotAllowed,
+        }
+    }
 }

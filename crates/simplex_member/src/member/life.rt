@@ -3,19 +3,24 @@
 ghost use Rattle.std.specs.Prelude.{◌≡◌, [], None, IfOk, IfErr, IfSome, OnOk, length};
 ghost use Rattle.std.specs.Option.{option_copied};
 
-use super::call_error::CallError;
 use super::calls::{Call, Reply};
-use super::closing::{Closing, follow, make_room};
 use super::openings::Openings;
 use super::restart::keep_finalization;
-use super::serving::{is_allowed, serve};
 use simplex_record::record::{RecoverError, Start, begin, retention_of};
-use simplex_types::types::{
-    Artifact, CertificateScheme, Digest, Elector, Fault, Scheme, ViewDelta,
-};
+use simplex_types::types::{Artifact, CertificateScheme, Digest, Elector, Scheme, ViewDelta};
 use simplex_voter::voter::State;
 use std::alloc::Global;
 use std::marker::Model;
+
+/// What a call is told, by the result of its method.
+macro_rules! told {
+    ($result:expr, $answer:pat => $reply:expr) => {
+        match $result {
+            Ok($answer) => $reply,
+            Err(refusal) => Reply::refused(refusal),
+        }
+    };
+}
 
 /// A voter's state with its record, which holds each vote before it is handed out.
 ///
@@ -148,43 +153,60 @@ impl<S: CertificateScheme, L: Elector<S>, D: Digest> Member<S, L, D> {
         self.make(call)
     }
 
-    /// Makes a call, unless the member has failed or what the call asks is not so.
+    /// Makes a call by its method.
     fn make(&mut self, call: Call<S, D>) -> Reply<S, D>
     where
         S: Scheme<D>,
         ensures made { IsCall D.eq L.elect self.old (asked S.certificate_bytes call) (told S.certificate_bytes result) self.new }
         ensures signed { IfSome self.old.life (IsSignedReply S.IsSignature result) }
     {
-        if self.failed {
-            return Reply::Fault(Fault::Failed);
-        }
-        if !is_allowed(&self.state, &self.openings, &call) {
-            return Reply::NotAllowed;
-        }
-        if let Err(fault) = make_room(&mut self.openings, &call) {
-            return Reply::Fault(fault);
-        }
-        self.failed = true;
-        let closing = Closing::of(&call);
-        match serve(
-            self.alloc,
-            &mut self.state,
-            &self.openings,
-            &mut self.artifacts,
-            call,
-        ) {
-            Ok(reply) => {
-                if follow(&mut self.openings, closing, &reply).is_err() {
-                    return Reply::Fault(Fault::OutOfMemory);
-                }
-                self.failed = false;
-                reply
-            }
-            Err(CallError::Refused(fault)) => {
-                self.failed = false;
-                Reply::Fault(fault)
-            }
-            Err(CallError::Lost) => Reply::Fault(Fault::OutOfMemory),
+        match call {
+            Call::AddNotarization(notarization) =>
+                told!(self.add_notarization(notarization), added => Reply::Added(added.0, added.1)),
+            Call::AddNullification(nullification, now) =>
+                told!(self.add_nullification(nullification, now), is_new => Reply::AddedNullification(is_new)),
+            Call::AddFinalization(finalization, now) =>
+                told!(self.add_finalization(finalization, now), added => Reply::Added(added.0, added.1)),
+            Call::SetProposal(view, proposal) =>
+                told!(self.set_proposal(view, proposal), is_new => Reply::Flag(is_new)),
+            Call::TryPropose => told!(self.try_propose(), request => Reply::Request(request)),
+            Call::Proposed(view, payload, now) =>
+                told!(self.proposed(view, payload, now), is_held => Reply::Flag(is_held)),
+            Call::SupersedeProposalRequest(view) =>
+                told!(self.supersede_proposal_request(view), is_superseded => Reply::Flag(is_superseded)),
+            Call::PendingHandoffAbandonment(view) =>
+                told!(self.pending_handoff_abandonment(view), reason => Reply::Abandoned(reason)),
+            Call::ReleaseProposalRequest(view) =>
+                told!(self.release_proposal_request(view), was_open => Reply::Released(was_open)),
+            Call::TryVerify => told!(self.try_verify(), verify => Reply::Work(verify)),
+            Call::Verified(view) => told!(self.verified(view), is_marked => Reply::Flag(is_marked)),
+            Call::VerificationFailed(view, reason, now) =>
+                told!(self.verification_failed(view, reason, now), () => Reply::Unit),
+            Call::ConstructNotarize(view) =>
+                told!(self.construct_notarize(view), vote => Reply::Notarize(vote)),
+            Call::CertifyCandidates =>
+                told!(self.certify_candidates(), candidates => Reply::Candidates(candidates.0, candidates.1)),
+            Call::SetCertifyHandle(view, token) =>
+                told!(self.set_certify_handle(view, token), () => Reply::Unit),
+            Call::Certified(view, success, now) =>
+                told!(self.certified(view, success, now), notarization => Reply::Certified(success, notarization)),
+            Call::ConstructNullify(view, reason) =>
+                told!(self.construct_nullify(view, reason), vote => Reply::Nullify(vote)),
+            Call::ConstructFinalize(view) =>
+                told!(self.construct_finalize(view), vote => Reply::Finalize(vote)),
+            Call::BroadcastNotarization(view) =>
+                told!(self.broadcast_notarization(view), certificate => Reply::Certificate(certificate)),
+            Call::BroadcastNullification(view) =>
+                told!(self.broadcast_nullification(view), certificate => Reply::Certificate(certificate)),
+            Call::BroadcastFinalization(view) =>
+                told!(self.broadcast_finalization(view), certificate => Reply::Certificate(certificate)),
+            Call::GetBestCertificate =>
+                told!(self.get_best_certificate(), certificate => Reply::Certificate(certificate)),
+            Call::TriggerTimeout(view, reason, now) =>
+                told!(self.trigger_timeout(view, reason, now), latched => Reply::Triggered(latched)),
+            Call::NextTimeout(now) =>
+                told!(self.next_timeout(now), timeout => Reply::Timeout(timeout.0, timeout.1)),
+            Call::Prune => told!(self.prune(), views => Reply::Views(views)),
         }
     }
 }

@@ -6,70 +6,22 @@ ghost use Rattle.std.specs.Prelude.{◌≡◌, ◌<◌, ◌++◌, ◌∷◌, [],
 ghost use Rattle.simplex_types.specs.Certificates.{notarization_facts, nullification_facts, finalization_facts, artifact_facts, signature_in, Notarized, Nullified, Finalized, Verdict, Accepted};
 ghost use Rattle.simplex_record.specs.Entries.{entries_of};
 ghost use Rattle.simplex_voter.specs.Acceptance.{takes_proposal_certificate, takes_nullification, notarization_refusal, nullification_refusal, finalization_refusal, notarization_added, nullification_added, finalization_added, after_add_notarization, after_add_nullification, after_add_finalization};
-ghost use Rattle.simplex_voter.specs.Certification.{takes_verdict, is_first_verdict, certified_refusal, certified_answer, after_certified};
+ghost use Rattle.simplex_voter.specs.Certification.{takes_verdict, is_first_verdict, certified_refusal, certified_answer, after_certified, candidates_answer, after_candidates};
 ghost use Rattle.simplex_voter.specs.Facts.{round_number};
-ghost use Rattle.simplex_voter.specs.Refusals.{is_started};
-ghost use Rattle.simplex_member.specs.Calls.{told, asked};
-ghost use Rattle.simplex_member.specs.Allowed.{fault_of, is_state_ready};
-ghost use Rattle.simplex_member.specs.Made.{if_new, answer, after_call, recorded_by};
-ghost use Rattle.simplex_member.specs.Parts.{EndsBy, family_of, EndsCall};
-ghost use Rattle.simplex_member.specs.Openings.{no_openings};
-ghost use Rattle.simplex_member.specs.Signed.{is_vote_reply, signatures_of};
-ghost use Rattle.simplex_member.specs.declared.member.serving.Family.TheVariants.{Certificates};
+ghost use Rattle.simplex_voter.specs.Refusals.{is_started, plain_refusal};
+ghost use Rattle.simplex_member.specs.Made.{if_new};
+ghost use Rattle.simplex_member.specs.Parts.{EndsBy, KeepsOpen};
+ghost use Rattle.simplex_member.specs.Openings.{without_offer, with_offers};
+ghost use Rattle.simplex_member.specs.Signed.{signatures_of};
 
 use super::call_error::CallError;
-use super::calls::{Call, Reply};
+use super::openings::Openings;
 use simplex_types::types::{
     Artifact, CertificateScheme, Digest, Elector, Fault, Finalization, Notarization, Nullification,
-    Round, View,
+    Proposal, Round, View,
 };
-use simplex_voter::voter::State;
+use simplex_voter::voter::{CertificateFetch, State};
 use std::alloc::Global;
-
-/// Makes a call that hands in a certificate.
-pub(super) fn take<S: CertificateScheme, L: Elector<S>, D: Digest>(
-    alloc: Global,
-    state: &mut State<S, L, D>,
-    artifacts: &mut Vec<Artifact<S, D>>,
-    call: Call<S, D>,
-) -> Result<Reply<S, D>, CallError>
-    requires going_on { state.old.failed ≡ false }
-    requires begun { is_started state.old ≡ true }
-    requires allowed { is_state_ready state.old (asked S.certificate_bytes call) ≡ true }
-    requires family { family_of call ≡ Certificates }
-    ensures due { OnOk result (fault_of state.old (asked S.certificate_bytes call) ≡ None) }
-    ensures answer { IfOk result (λ reply. told S.certificate_bytes reply
-        ≡ answer D.eq L.elect state.old no_openings (asked S.certificate_bytes call)) }
-    ensures unsigned { IfOk result (λ reply. is_vote_reply reply ≡ false) }
-    ensures after { OnOk result (state.new ≡ after_call D.eq L.elect state.old no_openings (asked S.certificate_bytes call)) }
-    ensures recorded { OnOk result (entries_of S.certificate_bytes artifacts.new.items
-        ≡ entries_of S.certificate_bytes artifacts.old.items ++ recorded_by D.eq L.elect state.old (asked S.certificate_bytes call)) }
-    ensures refused { IfErr result (EndsCall (asked S.certificate_bytes call) state.old state.new) }
-    ensures same_record { OnErr result (entries_of S.certificate_bytes artifacts.new.items
-        ≡ entries_of S.certificate_bytes artifacts.old.items) }
-{
-    match call {
-        Call::AddNotarization(notarization) => {
-            match add_notarization(alloc, state, artifacts, notarization) {
-                Ok(added) => Ok(Reply::Added(added.0, added.1)),
-                Err(error) => Err(error),
-            }
-        }
-        Call::AddNullification(nullification, now) => {
-            match add_nullification(alloc, state, artifacts, nullification, now) {
-                Ok(added) => Ok(Reply::AddedNullification(added)),
-                Err(error) => Err(error),
-            }
-        }
-        Call::AddFinalization(finalization, now) => {
-            match add_finalization(alloc, state, artifacts, finalization, now) {
-                Ok(added) => Ok(Reply::Added(added.0, added.1)),
-                Err(error) => Err(error),
-            }
-        }
-        _ => unreachable!(),
-    }
-}
 
 /// Records an artifact for which there is room.
 pub(super) fn keep<S: CertificateScheme, D: Digest>(
@@ -103,7 +55,7 @@ fn keep_new<S: CertificateScheme, D: Digest>(
 }
 
 /// Adds a notarization, and records it where it is the first of its view.
-fn add_notarization<S: CertificateScheme, L: Elector<S>, D: Digest>(
+pub(super) fn add_notarization<S: CertificateScheme, L: Elector<S>, D: Digest>(
     alloc: Global,
     state: &mut State<S, L, D>,
     artifacts: &mut Vec<Artifact<S, D>>,
@@ -135,7 +87,7 @@ fn add_notarization<S: CertificateScheme, L: Elector<S>, D: Digest>(
 }
 
 /// Adds a nullification, and records it where it is the first of its view.
-fn add_nullification<S: CertificateScheme, L: Elector<S>, D: Digest>(
+pub(super) fn add_nullification<S: CertificateScheme, L: Elector<S>, D: Digest>(
     alloc: Global,
     state: &mut State<S, L, D>,
     artifacts: &mut Vec<Artifact<S, D>>,
@@ -168,7 +120,7 @@ fn add_nullification<S: CertificateScheme, L: Elector<S>, D: Digest>(
 }
 
 /// Adds a finalization, and records it where it is the first of its view.
-fn add_finalization<S: CertificateScheme, L: Elector<S>, D: Digest>(
+pub(super) fn add_finalization<S: CertificateScheme, L: Elector<S>, D: Digest>(
     alloc: Global,
     state: &mut State<S, L, D>,
     artifacts: &mut Vec<Artifact<S, D>>,
@@ -203,6 +155,7 @@ fn add_finalization<S: CertificateScheme, L: Elector<S>, D: Digest>(
 /// Gives a verdict, and records it where it is the first of a tracked view.
 pub(super) fn certified<S: CertificateScheme, L: Elector<S>, D: Digest>(
     state: &mut State<S, L, D>,
+    openings: &mut Openings<D, S::PublicKey>,
     artifacts: &mut Vec<Artifact<S, D>>,
     view: View,
     success: bool,
@@ -215,7 +168,9 @@ pub(super) fn certified<S: CertificateScheme, L: Elector<S>, D: Digest>(
     ensures after { OnOk result (state.new ≡ after_certified L.elect state.old view success now) }
     ensures recorded { OnOk result (entries_of S.certificate_bytes artifacts.new.items ≡ entries_of S.certificate_bytes artifacts.old.items
         ++ if_new (is_first_verdict state.old view) (Verdict (round_number state.old view) success)) }
+    ensures closed { OnOk result (openings.new.open_now ≡ without_offer openings.old.open_now view) }
     ensures refused { IfErr result (EndsBy (certified_refusal state.old view success now) state.old state.new) }
+    ensures kept_open { IfErr result (KeepsOpen openings.old.open_now openings.new.open_now) }
     ensures same_record { OnErr result (entries_of S.certificate_bytes artifacts.new.items ≡ entries_of S.certificate_bytes artifacts.old.items) }
 {
     artifacts.reserve(1)?;
@@ -227,8 +182,31 @@ pub(super) fn certified<S: CertificateScheme, L: Elector<S>, D: Digest>(
     match state.certified(view, success, now) {
         Ok(answer) => {
             keep_new(artifacts, is_first, Artifact::Certification(round, success));
+            openings.close_offer(view);
             Ok(answer)
         }
         Err(fault) => Err(CallError::of(fault)),
+    }
+}
+
+/// Offers the proposals that are to be certified next. The state is lost where there is no memory for them.
+pub(super) fn certify_candidates<S: CertificateScheme, L: Elector<S>, D: Digest>(
+    state: &mut State<S, L, D>,
+    openings: &mut Openings<D, S::PublicKey>,
+) -> Result<(Vec<Proposal<D>>, Vec<CertificateFetch>), CallError>
+    requires going_on { state.old.failed ≡ false }
+    requires begun { is_started state.old ≡ true }
+    ensures answer { IfOk result (λ answer. (answer.0.items, answer.1.items) ≡ candidates_answer D.eq L.elect state.old) }
+    ensures after { OnOk result (state.new ≡ after_candidates state.old) }
+    ensures opened { OnOk result (openings.new.open_now ≡ with_offers openings.old.open_now (candidates_answer D.eq L.elect state.old).0) }
+    ensures refused { IfErr result (EndsBy (plain_refusal state.old) state.old state.new) }
+    ensures kept_open { IfErr result (KeepsOpen openings.old.open_now openings.new.open_now) }
+{
+    match state.certify_candidates() {
+        Ok(answer) => match openings.open_offers(&answer.0) {
+            Ok(()) => Ok(answer),
+            Err(_) => Err(CallError::Lost),
+        },
+        Err(_) => Err(CallError::Lost),
     }
 }

@@ -9,10 +9,9 @@ ghost use Rattle.simplex_record.specs.Entries.{entries_of};
 ghost use Rattle.simplex_member.specs.Calls.{told, told_notarize, told_nullify, told_finalize, asked};
 ghost use Rattle.simplex_member.specs.Allowed.{fault_of};
 ghost use Rattle.simplex_member.specs.Made.{notarize_vote, nullify_vote, finalize_vote, unrepeated_vote, vote_entry, answer, after_call, recorded_by};
-ghost use Rattle.simplex_member.specs.Parts.{EndsBy, family_of, EndsCall};
+ghost use Rattle.simplex_member.specs.Parts.{EndsBy};
 ghost use Rattle.simplex_member.specs.Openings.{no_openings};
 ghost use Rattle.simplex_member.specs.declared.member.call_error.CallError.TheVariants.{Lost};
-ghost use Rattle.simplex_member.specs.declared.member.serving.Family.TheVariants.{Votes};
 ghost use Rattle.simplex_member.specs.Signed.{IsSignedReply, signatures_of, notarize_signature, nullify_signature, finalize_signature};
 ghost use Rattle.simplex_types.specs.Signing.{IsSignedAs};
 ghost use Rattle.simplex_types.specs.declared.types.messages.Subject.TheVariants as Subject;
@@ -26,46 +25,6 @@ use simplex_types::types::{
 };
 use simplex_voter::voter::State;
 use std::alloc::Global;
-
-/// Makes a call for a vote.
-pub(super) fn vote<S: Scheme<D>, L: Elector<S>, D: Digest>(
-    alloc: Global,
-    state: &mut State<S, L, D>,
-    artifacts: &mut Vec<Artifact<S, D>>,
-    call: Call<S, D>,
-) -> Result<Reply<S, D>, CallError>
-    requires going_on { state.old.failed ≡ false }
-    requires begun { is_started state.old ≡ true }
-    requires family { family_of call ≡ Votes }
-    ensures due { OnOk result (fault_of state.old (asked S.certificate_bytes call) ≡ None) }
-    ensures answer { IfOk result (λ reply. told S.certificate_bytes reply
-        ≡ answer D.eq L.elect state.old no_openings (asked S.certificate_bytes call)) }
-    ensures signed { IfOk result (λ reply. IsSignedReply S.IsSignature reply state.old) }
-    ensures after { OnOk result (state.new ≡ after_call D.eq L.elect state.old no_openings (asked S.certificate_bytes call)) }
-    ensures recorded { OnOk result (entries_of S.certificate_bytes artifacts.new.items
-        ≡ entries_of S.certificate_bytes artifacts.old.items ++ recorded_by D.eq L.elect state.old (asked S.certificate_bytes call)) }
-    ensures refused { IfErr result (EndsCall (asked S.certificate_bytes call) state.old state.new) }
-    ensures same_record { OnErr result (entries_of S.certificate_bytes artifacts.new.items
-        ≡ entries_of S.certificate_bytes artifacts.old.items) }
-{
-    match call {
-        Call::ConstructNotarize(view) => match construct_notarize(alloc, state, artifacts, view) {
-            Ok(vote) => Ok(Reply::Notarize(vote)),
-            Err(error) => Err(error),
-        },
-        Call::ConstructNullify(view, reason) => {
-            match construct_nullify(alloc, state, artifacts, view, reason) {
-                Ok(vote) => Ok(Reply::Nullify(vote)),
-                Err(error) => Err(error),
-            }
-        }
-        Call::ConstructFinalize(view) => match construct_finalize(alloc, state, artifacts, view) {
-            Ok(vote) => Ok(Reply::Finalize(vote)),
-            Err(error) => Err(error),
-        },
-        _ => unreachable!(),
-    }
-}
 
 /// Records a vote that is no repeat before it is handed out.
 fn keep_nullify<S: CertificateScheme, D: Digest>(
@@ -137,7 +96,7 @@ fn keep_finalize<S: CertificateScheme, D: Digest>(
 }
 
 /// Votes to nullify a view, and records the vote before it is handed out.
-fn construct_nullify<S: Scheme<D>, L: Elector<S>, D: Digest>(
+pub(super) fn construct_nullify<S: Scheme<D>, L: Elector<S>, D: Digest>(
     alloc: Global,
     state: &mut State<S, L, D>,
     artifacts: &mut Vec<Artifact<S, D>>,
@@ -164,7 +123,7 @@ fn construct_nullify<S: Scheme<D>, L: Elector<S>, D: Digest>(
 }
 
 /// Votes to notarize a view, and records the vote before it is handed out.
-fn construct_notarize<S: Scheme<D>, L: Elector<S>, D: Digest>(
+pub(super) fn construct_notarize<S: Scheme<D>, L: Elector<S>, D: Digest>(
     alloc: Global,
     state: &mut State<S, L, D>,
     artifacts: &mut Vec<Artifact<S, D>>,
@@ -190,7 +149,7 @@ fn construct_notarize<S: Scheme<D>, L: Elector<S>, D: Digest>(
 }
 
 /// Votes to finalize a view, and records the vote before it is handed out.
-fn construct_finalize<S: Scheme<D>, L: Elector<S>, D: Digest>(
+pub(super) fn construct_finalize<S: Scheme<D>, L: Elector<S>, D: Digest>(
     alloc: Global,
     state: &mut State<S, L, D>,
     artifacts: &mut Vec<Artifact<S, D>>,

@@ -8,7 +8,7 @@ ghost use Rattle.simplex_voter.specs.Rounds.{largest_tracked};
 use super::leaders::before;
 use super::state::State;
 use simplex_types::types::{
-    CertificateScheme, Digest, Elector, Fault, Notarize, Proposal, Scheme, Subject, View,
+    CertificateScheme, Digest, Elector, Fault, Notarize, Scheme, Subject, View,
 };
 
 impl<S: CertificateScheme, L: Elector<S>, D: Digest> State<S, L, D> {
@@ -61,7 +61,7 @@ impl<S: CertificateScheme, L: Elector<S>, D: Digest> State<S, L, D> {
         ensures refused { IfErr result (λ fault. fault ≡ OutOfMemory) }
         ensures setup { HasSameSetup self.old self.new }
     {
-        let held = self.decide_notarize(view);
+        let held = self.rounds.decide_notarize(view);
         self.prepare(view)?;
         let Some(proposal) = held else {
             return Ok(None);
@@ -75,15 +75,6 @@ impl<S: CertificateScheme, L: Elector<S>, D: Digest> State<S, L, D> {
             Ok(None) => Ok(None),
             Err(fault) => Err(fault),
         }
-    }
-
-    /// Decides the vote to notarize a view, and answers what is voted for.
-    fn decide_notarize(&mut self, view: View) -> Option<Proposal<D>>
-        requires { can_notarize (round_of self.old view) ≡ true }
-        ensures decided { self.new ≡ notarize_cast self.old view }
-        ensures vote { result ≡ (round_of self.old view).slot.held }
-    {
-        self.rounds.decide_notarize(view)
     }
 
     /// Whether this member may vote to notarize the view: once, so that no other proposal is certified there too, and only

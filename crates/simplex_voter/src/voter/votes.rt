@@ -8,8 +8,8 @@ use super::state::State;
 use simplex_round::round::Decision;
 use simplex_types::reasons::TimeoutReason;
 use simplex_types::types::{
-    CertificateScheme, Digest, Elector, Fault, Finalize, Nullify, Participant, Proposal, Scheme,
-    Subject, View,
+    CertificateScheme, Digest, Elector, Fault, Finalize, Nullify, Participant, Scheme, Subject,
+    View,
 };
 
 impl<S: CertificateScheme, L: Elector<S>, D: Digest> State<S, L, D> {
@@ -71,7 +71,7 @@ impl<S: CertificateScheme, L: Elector<S>, D: Digest> State<S, L, D> {
         ensures refused { IfErr result (λ fault. fault ≡ OutOfMemory) }
         ensures setup { HasSameSetup self.old self.new }
     {
-        self.decide_nullify(view)?;
+        self.rounds.decide_nullify(view)?;
         let subject = Subject::Nullify(self.round_number(view));
         let Some((signer, signature)) = self.sign(&subject)? else {
             return Ok(None);
@@ -136,16 +136,6 @@ impl<S: CertificateScheme, L: Elector<S>, D: Digest> State<S, L, D> {
         }
     }
 
-    /// Decides the vote to nullify a view.
-    fn decide_nullify(&mut self, view: View) -> Result<(), Fault>
-        requires { view ≤ largest_tracked }
-        ensures decided { OnOk result (self.new ≡ with_round self.old view (after_nullify (round_of self.old view))) }
-        ensures refused { IfErr result (λ fault. fault ≡ OutOfMemory) }
-        ensures setup { HasSameSetup self.old self.new }
-    {
-        self.rounds.decide_nullify(view)
-    }
-
     /// Votes to finalize a view where the rule allows it: the decision is set, also without a key, and the vote is
     /// answered where the scheme has a key. Else nothing changes, so the vote is cast once.
     ///
@@ -186,7 +176,7 @@ impl<S: CertificateScheme, L: Elector<S>, D: Digest> State<S, L, D> {
         ensures refused { IfErr result (λ fault. fault ≡ OutOfMemory) }
         ensures setup { HasSameSetup self.old self.new }
     {
-        let Some(proposal) = self.decide_finalize(view) else {
+        let Some(proposal) = self.rounds.decide_finalize(view) else {
             return Ok(None);
         };
         match self.sign(&Subject::Finalize(proposal)) {
@@ -198,14 +188,5 @@ impl<S: CertificateScheme, L: Elector<S>, D: Digest> State<S, L, D> {
             Ok(None) => Ok(None),
             Err(fault) => Err(fault),
         }
-    }
-
-    /// Decides the vote to finalize a view, and answers what is voted for.
-    fn decide_finalize(&mut self, view: View) -> Option<Proposal<D>>
-        requires { can_finalize (round_of self.old view) ≡ true }
-        ensures decided { self.new ≡ finalize_cast self.old view }
-        ensures vote { result ≡ (round_of self.old view).slot.held }
-    {
-        self.rounds.decide_finalize(view)
     }
 }

@@ -1,6 +1,4 @@
 //! The calls that hand in certificates, each as a method.
-//!
-//! Each is `Member::call` of its call, with an answer of its own type.
 
 ghost use Rattle.std.specs.Prelude.{◌++◌, ◌≡◌, IfOk, IfErr};
 ghost use Rattle.simplex_types.specs.Certificates.{notarization_facts, nullification_facts, finalization_facts, Accepted, Notarized, Nullified, Finalized};
@@ -9,10 +7,13 @@ ghost use Rattle.simplex_member.specs.Lives.{IsCall};
 ghost use Rattle.simplex_member.specs.Made.{if_new};
 ghost use Rattle.simplex_member.specs.Typed.{told_of, Keeps, IsAnswered};
 
-use super::{Call, Reply};
+use crate::member::call_error::{ended, is_lost};
 use crate::member::life::Member;
+use crate::member::parts::{add_finalization, add_notarization, add_nullification};
 use crate::member::refusal::Refusal;
-use simplex_types::types::{Digest, Elector, Finalization, Notarization, Nullification, Scheme};
+use simplex_types::types::{
+    Digest, Elector, Fault, Finalization, Notarization, Nullification, Scheme,
+};
 
 impl<S: Scheme<D>, L: Elector<S>, D: Digest> Member<S, L, D> {
     /// Takes a notarization: the next view is led by the elector's choice after it, the first of its view is recorded, and its
@@ -20,6 +21,7 @@ impl<S: Scheme<D>, L: Elector<S>, D: Digest> Member<S, L, D> {
     ///
     /// `NotAllowed` where it is of another epoch or of a view that is not kept. `ViewTooLarge` where its view or its parent's is
     /// above 2^63 - 1; `OutOfMemory`.
+    #[tactic(auto, unfolding(crate::specs::Lives::IsCall))]
     pub fn add_notarization(
         &mut self,
         notarization: Notarization<S, D>,
@@ -32,12 +34,20 @@ impl<S: Scheme<D>, L: Elector<S>, D: Digest> Member<S, L, D> {
         ensures recorded { IfOk result (λ added. self.new.entries
             ≡ self.old.entries ++ if_new added.0 (Accepted (Notarized (notarization_facts S.certificate_bytes notarization)))) }
     {
-        match self.call(Call::AddNotarization(notarization)) {
-            Reply::Added(is_new, equivocator) => Ok((is_new, equivocator)),
-            Reply::Fault(fault) => Err(Refusal::Fault(fault)),
-            Reply::NotAllowed => Err(Refusal::NotAllowed),
-            _ => unreachable!(),
+        if self.failed {
+            return Err(Refusal::Fault(Fault::Failed));
         }
+        if !self.state.takes_round(&notarization.proposal.round) {
+            return Err(Refusal::NotAllowed);
+        }
+        let made = add_notarization(
+            self.alloc,
+            &mut self.state,
+            &mut self.artifacts,
+            notarization,
+        );
+        self.failed = is_lost(&made);
+        ended(made)
     }
 
     /// Takes a nullification: the rest of its term is passed over, the next term's start is entered at this moment, in
@@ -45,6 +55,7 @@ impl<S: Scheme<D>, L: Elector<S>, D: Digest> Member<S, L, D> {
     ///
     /// `NotAllowed` where it is of another epoch or of a view that is not kept. `ViewTooLarge` where its view is above 2^63 - 1,
     /// `TimeOverflow` where a deadline of the view that would be entered passes 2^64 - 1 milliseconds; `OutOfMemory`.
+    #[tactic(auto, unfolding(crate::specs::Lives::IsCall))]
     pub fn add_nullification(
         &mut self,
         nullification: Nullification<S>,
@@ -58,12 +69,21 @@ impl<S: Scheme<D>, L: Elector<S>, D: Digest> Member<S, L, D> {
         ensures recorded { IfOk result (λ is_new. self.new.entries
             ≡ self.old.entries ++ if_new is_new (Accepted (Nullified (nullification_facts S.certificate_bytes nullification)))) }
     {
-        match self.call(Call::AddNullification(nullification, now)) {
-            Reply::AddedNullification(is_new) => Ok(is_new),
-            Reply::Fault(fault) => Err(Refusal::Fault(fault)),
-            Reply::NotAllowed => Err(Refusal::NotAllowed),
-            _ => unreachable!(),
+        if self.failed {
+            return Err(Refusal::Fault(Fault::Failed));
         }
+        if !self.state.takes_round(&nullification.round) {
+            return Err(Refusal::NotAllowed);
+        }
+        let made = add_nullification(
+            self.alloc,
+            &mut self.state,
+            &mut self.artifacts,
+            nullification,
+            now,
+        );
+        self.failed = is_lost(&made);
+        ended(made)
     }
 
     /// Takes a finalization: its view is the last finalized one where that is above the one before, the next view is entered at
@@ -73,6 +93,7 @@ impl<S: Scheme<D>, L: Elector<S>, D: Digest> Member<S, L, D> {
     /// `NotAllowed` where it is of another epoch or of a view that is not kept. `ViewTooLarge` where its view or its parent's is
     /// above 2^63 - 1, `TimeOverflow` where a deadline of the view that would be entered passes 2^64 - 1 milliseconds;
     /// `OutOfMemory`.
+    #[tactic(auto, unfolding(crate::specs::Lives::IsCall))]
     pub fn add_finalization(
         &mut self,
         finalization: Finalization<S, D>,
@@ -86,11 +107,20 @@ impl<S: Scheme<D>, L: Elector<S>, D: Digest> Member<S, L, D> {
         ensures recorded { IfOk result (λ added. self.new.entries
             ≡ self.old.entries ++ if_new added.0 (Accepted (Finalized (finalization_facts S.certificate_bytes finalization)))) }
     {
-        match self.call(Call::AddFinalization(finalization, now)) {
-            Reply::Added(is_new, equivocator) => Ok((is_new, equivocator)),
-            Reply::Fault(fault) => Err(Refusal::Fault(fault)),
-            Reply::NotAllowed => Err(Refusal::NotAllowed),
-            _ => unreachable!(),
+        if self.failed {
+            return Err(Refusal::Fault(Fault::Failed));
         }
+        if !self.state.takes_round(&finalization.proposal.round) {
+            return Err(Refusal::NotAllowed);
+        }
+        let made = add_finalization(
+            self.alloc,
+            &mut self.state,
+            &mut self.artifacts,
+            finalization,
+            now,
+        );
+        self.failed = is_lost(&made);
+        ended(made)
     }
 }

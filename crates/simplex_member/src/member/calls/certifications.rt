@@ -1,6 +1,4 @@
 //! The calls on certifications, each as a method.
-//!
-//! Each is `Member::call` of its call, with an answer of its own type.
 
 ghost use Rattle.std.specs.Prelude.{option_map, IfOk, IfErr};
 ghost use Rattle.simplex_types.specs.Certificates.{notarization_facts};
@@ -8,10 +6,11 @@ ghost use Rattle.simplex_member.specs.Calls.{CertifyCandidates, SetCertifyHandle
 ghost use Rattle.simplex_member.specs.Lives.{IsCall};
 ghost use Rattle.simplex_member.specs.Typed.{told_of, Keeps, IsAnswered};
 
-use super::{Call, Reply};
+use crate::member::call_error::{ended, is_lost};
 use crate::member::life::Member;
+use crate::member::parts;
 use crate::member::refusal::Refusal;
-use simplex_types::types::{Digest, Elector, Notarization, Proposal, Scheme, View};
+use simplex_types::types::{Digest, Elector, Fault, Notarization, Proposal, Scheme, View};
 use simplex_voter::voter::CertificateFetch;
 
 impl<S: Scheme<D>, L: Elector<S>, D: Digest> Member<S, L, D> {
@@ -19,6 +18,7 @@ impl<S: Scheme<D>, L: Elector<S>, D: Digest> Member<S, L, D> {
     /// proposal is open until the verdict of its view.
     ///
     /// `OutOfMemory`.
+    #[tactic(auto, unfolding(crate::specs::Lives::IsCall))]
     pub fn certify_candidates(
         &mut self,
     ) -> Result<(Vec<Proposal<D>>, Vec<CertificateFetch>), Refusal>
@@ -28,28 +28,33 @@ impl<S: Scheme<D>, L: Elector<S>, D: Digest> Member<S, L, D> {
             (Candidates candidates.0.items candidates.1.items) self.new) }
         ensures kept { IfErr result (λ refusal. Keeps self.old refusal self.new) }
     {
-        match self.call(Call::CertifyCandidates) {
-            Reply::Candidates(proposals, fetches) => Ok((proposals, fetches)),
-            Reply::Fault(fault) => Err(Refusal::Fault(fault)),
-            Reply::NotAllowed => Err(Refusal::NotAllowed),
-            _ => unreachable!(),
+        if self.failed {
+            return Err(Refusal::Fault(Fault::Failed));
         }
+        let made = parts::certify_candidates(&mut self.state, &mut self.openings);
+        self.failed = is_lost(&made);
+        ended(made)
     }
 
     /// The certification of a view's proposal goes on under a token, in place of an earlier one.
     ///
     /// `NotAllowed` where the view's proposal wasn't offered, or has its verdict; `OutOfMemory`.
+    #[tactic(auto, unfolding(crate::specs::Lives::IsCall))]
     pub fn set_certify_handle(&mut self, view: View, token: u64) -> Result<(), Refusal>
         ensures made { IsCall D.eq L.elect self.old (SetCertifyHandle view token) (told_of (λ _. Done) result) self.new }
         ensures answered { IfOk result (λ _. IsAnswered D.eq L.elect self.old (SetCertifyHandle view token) Done self.new) }
         ensures kept { IfErr result (λ refusal. Keeps self.old refusal self.new) }
     {
-        match self.call(Call::SetCertifyHandle(view, token)) {
-            Reply::Unit => Ok(()),
-            Reply::Fault(fault) => Err(Refusal::Fault(fault)),
-            Reply::NotAllowed => Err(Refusal::NotAllowed),
-            _ => unreachable!(),
+        if self.failed {
+            return Err(Refusal::Fault(Fault::Failed));
         }
+        if !self.openings.is_offered(view) {
+            return Err(Refusal::NotAllowed);
+        }
+        if !self.state.takes_certify_handle(view) {
+            return Err(Refusal::NotAllowed);
+        }
+        Ok(self.state.set_certify_handle(view, token)?)
     }
 
     /// The verdict of a view's certification, at a moment in milliseconds. A true one enters the next view where that is ahead,
@@ -58,6 +63,7 @@ impl<S: Scheme<D>, L: Elector<S>, D: Digest> Member<S, L, D> {
     ///
     /// `NotAllowed` where a tracked view has no notarization or the other verdict. `TimeOverflow` where a deadline of the view
     /// that would be entered passes 2^64 - 1 milliseconds; `OutOfMemory`.
+    #[tactic(auto, unfolding(crate::specs::Lives::IsCall))]
     pub fn certified(
         &mut self,
         view: View,
@@ -70,11 +76,21 @@ impl<S: Scheme<D>, L: Elector<S>, D: Digest> Member<S, L, D> {
             (Judged success (option_map (notarization_facts S.certificate_bytes) notarization)) self.new) }
         ensures kept { IfErr result (λ refusal. Keeps self.old refusal self.new) }
     {
-        match self.call(Call::Certified(view, success, now)) {
-            Reply::Certified(_, notarization) => Ok(notarization),
-            Reply::Fault(fault) => Err(Refusal::Fault(fault)),
-            Reply::NotAllowed => Err(Refusal::NotAllowed),
-            _ => unreachable!(),
+        if self.failed {
+            return Err(Refusal::Fault(Fault::Failed));
         }
+        if !self.state.takes_verdict(view, success) {
+            return Err(Refusal::NotAllowed);
+        }
+        let made = parts::certified(
+            &mut self.state,
+            &mut self.openings,
+            &mut self.artifacts,
+            view,
+            success,
+            now,
+        );
+        self.failed = is_lost(&made);
+        ended(made)
     }
 }

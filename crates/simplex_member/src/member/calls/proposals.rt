@@ -1,17 +1,14 @@
 //! The calls on proposals of this member's own, each as a method.
-//!
-//! Each is `Member::call` of its call, with an answer of its own type.
 
 ghost use Rattle.std.specs.Prelude.{IfOk, IfErr};
 ghost use Rattle.simplex_member.specs.Calls.{TryPropose, Proposed, SupersedeProposalRequest, PendingHandoffAbandonment, ReleaseProposalRequest, Requested, Answered, Abandoned, Released};
 ghost use Rattle.simplex_member.specs.Lives.{IsCall};
 ghost use Rattle.simplex_member.specs.Typed.{told_of, Keeps, IsAnswered};
 
-use super::{Call, Reply};
 use crate::member::life::Member;
 use crate::member::refusal::Refusal;
 use simplex_types::reasons::HandoffAbandonedReason;
-use simplex_types::types::{Digest, Elector, Scheme, View};
+use simplex_types::types::{Digest, Elector, Fault, Scheme, View};
 use simplex_voter::voter::ProposalRequest;
 
 impl<S: Scheme<D>, L: Elector<S>, D: Digest> Member<S, L, D> {
@@ -19,17 +16,19 @@ impl<S: Scheme<D>, L: Elector<S>, D: Digest> Member<S, L, D> {
     /// `supersede_proposal_request`, `release_proposal_request`, or another request there.
     ///
     /// `OutOfMemory`, with nothing changed: room for the request is made before the state is asked.
+    #[tactic(auto, unfolding(crate::specs::Lives::IsCall))]
     pub fn try_propose(&mut self) -> Result<Option<ProposalRequest<D, S::PublicKey>>, Refusal>
         ensures made { IsCall D.eq L.elect self.old TryPropose (told_of (λ request. Requested request) result) self.new }
         ensures answered { IfOk result (λ request. IsAnswered D.eq L.elect self.old TryPropose (Requested request) self.new) }
         ensures kept { IfErr result (λ refusal. Keeps self.old refusal self.new) }
     {
-        match self.call(Call::TryPropose) {
-            Reply::Request(request) => Ok(request),
-            Reply::Fault(fault) => Err(Refusal::Fault(fault)),
-            Reply::NotAllowed => Err(Refusal::NotAllowed),
-            _ => unreachable!(),
+        if self.failed {
+            return Err(Refusal::Fault(Fault::Failed));
         }
+        self.openings.make_room()?;
+        let request = self.state.try_propose()?;
+        self.openings.open_request(&request);
+        Ok(request)
     }
 
     /// The payload that was built on request in a view, at a moment in milliseconds: it is recorded as this member's proposal,
@@ -37,40 +36,51 @@ impl<S: Scheme<D>, L: Elector<S>, D: Digest> Member<S, L, D> {
     /// closed either way.
     ///
     /// `NotAllowed` where no request is open in the view.
+    #[tactic(auto, unfolding(crate::specs::Lives::IsCall))]
     pub fn proposed(&mut self, view: View, payload: D, now: u64) -> Result<bool, Refusal>
         ensures made { IsCall D.eq L.elect self.old (Proposed view payload now) (told_of (λ is_held. Answered is_held) result) self.new }
         ensures answered { IfOk result (λ is_held. IsAnswered D.eq L.elect self.old (Proposed view payload now) (Answered is_held) self.new) }
         ensures kept { IfErr result (λ refusal. Keeps self.old refusal self.new) }
     {
-        match self.call(Call::Proposed(view, payload, now)) {
-            Reply::Flag(is_held) => Ok(is_held),
-            Reply::Fault(fault) => Err(Refusal::Fault(fault)),
-            Reply::NotAllowed => Err(Refusal::NotAllowed),
-            _ => unreachable!(),
+        if self.failed {
+            return Err(Refusal::Fault(Fault::Failed));
         }
+        let Some(context) = self.openings.context(view) else {
+            return Err(Refusal::NotAllowed);
+        };
+        let is_held = self.state.proposed(context, payload, now)?;
+        self.openings.close_context(view);
+        Ok(is_held)
     }
 
     /// Whether another parent can be built on and the captured one no longer: then the request in the view is closed, so that it
     /// can be asked for again.
     ///
     /// `NotAllowed` where no request is open in the view.
+    #[tactic(auto, unfolding(crate::specs::Lives::IsCall))]
     pub fn supersede_proposal_request(&mut self, view: View) -> Result<bool, Refusal>
         ensures made { IsCall D.eq L.elect self.old (SupersedeProposalRequest view)
             (told_of (λ is_superseded. Answered is_superseded) result) self.new }
         ensures answered { IfOk result (λ is_superseded. IsAnswered D.eq L.elect self.old (SupersedeProposalRequest view) (Answered is_superseded) self.new) }
         ensures kept { IfErr result (λ refusal. Keeps self.old refusal self.new) }
     {
-        match self.call(Call::SupersedeProposalRequest(view)) {
-            Reply::Flag(is_superseded) => Ok(is_superseded),
-            Reply::Fault(fault) => Err(Refusal::Fault(fault)),
-            Reply::NotAllowed => Err(Refusal::NotAllowed),
-            _ => unreachable!(),
+        if self.failed {
+            return Err(Refusal::Fault(Fault::Failed));
         }
+        let Some(context) = self.openings.context(view) else {
+            return Err(Refusal::NotAllowed);
+        };
+        let is_superseded = self.state.supersede_proposal_request(context)?;
+        if is_superseded {
+            self.openings.close_context(view);
+        }
+        Ok(is_superseded)
     }
 
     /// Why a handoff that is being built in a view is to be given up, or none where it may go on.
     ///
     /// `NotAllowed` where no request is open in the view.
+    #[tactic(auto, unfolding(crate::specs::Lives::IsCall))]
     pub fn pending_handoff_abandonment(
         &mut self,
         view: View,
@@ -79,26 +89,29 @@ impl<S: Scheme<D>, L: Elector<S>, D: Digest> Member<S, L, D> {
         ensures answered { IfOk result (λ reason. IsAnswered D.eq L.elect self.old (PendingHandoffAbandonment view) (Abandoned reason) self.new) }
         ensures kept { IfErr result (λ refusal. Keeps self.old refusal self.new) }
     {
-        match self.call(Call::PendingHandoffAbandonment(view)) {
-            Reply::Abandoned(reason) => Ok(reason),
-            Reply::Fault(fault) => Err(Refusal::Fault(fault)),
-            Reply::NotAllowed => Err(Refusal::NotAllowed),
-            _ => unreachable!(),
+        if self.failed {
+            return Err(Refusal::Fault(Fault::Failed));
         }
+        let Some(context) = self.openings.context(view) else {
+            return Err(Refusal::NotAllowed);
+        };
+        Ok(self.state.pending_handoff_abandonment(context)?)
     }
 
     /// Closes the request to build in a view, so that it can be asked for again while no proposal is held there. Answers whether
     /// one was open.
+    #[tactic(auto, unfolding(crate::specs::Lives::IsCall))]
     pub fn release_proposal_request(&mut self, view: View) -> Result<bool, Refusal>
         ensures made { IsCall D.eq L.elect self.old (ReleaseProposalRequest view) (told_of (λ was_open. Released was_open) result) self.new }
         ensures answered { IfOk result (λ was_open. IsAnswered D.eq L.elect self.old (ReleaseProposalRequest view) (Released was_open) self.new) }
         ensures kept { IfErr result (λ refusal. Keeps self.old refusal self.new) }
     {
-        match self.call(Call::ReleaseProposalRequest(view)) {
-            Reply::Released(was_open) => Ok(was_open),
-            Reply::Fault(fault) => Err(Refusal::Fault(fault)),
-            Reply::NotAllowed => Err(Refusal::NotAllowed),
-            _ => unreachable!(),
+        if self.failed {
+            return Err(Refusal::Fault(Fault::Failed));
         }
+        self.state.release_proposal_request(view)?;
+        let was_open = self.openings.has_context(view);
+        self.openings.close_context(view);
+        Ok(was_open)
     }
 }

@@ -1,22 +1,20 @@
 //! The calls on timeouts, each as a method.
-//!
-//! Each is `Member::call` of its call, with an answer of its own type.
 
 ghost use Rattle.std.specs.Prelude.{Some, IfOk, IfErr};
 ghost use Rattle.simplex_member.specs.Calls.{TriggerTimeout, NextTimeout, TimesOut, Triggered};
 ghost use Rattle.simplex_member.specs.Lives.{IsCall};
 ghost use Rattle.simplex_member.specs.Typed.{told_of, Keeps, IsAnswered};
 
-use super::{Call, Reply};
 use crate::member::life::Member;
 use crate::member::refusal::Refusal;
 use simplex_types::reasons::TimeoutReason;
-use simplex_types::types::{Digest, Elector, Scheme, View};
+use simplex_types::types::{Digest, Elector, Fault, Scheme, View};
 
 impl<S: Scheme<D>, L: Elector<S>, D: Digest> Member<S, L, D> {
     /// Times a view out at its next poll, for a reason that the state doesn't see by itself and at a moment in milliseconds.
     /// Answers whether this timeout is the one that counts from now on: nothing changes but the last moment where the view is
     /// passed, isn't tracked, has such a timeout, or was voted on, or where a proposal without conflict contradicts `Inactivity`.
+    #[tactic(auto, unfolding(crate::specs::Lives::IsCall))]
     pub fn trigger_timeout(
         &mut self,
         view: View,
@@ -27,27 +25,30 @@ impl<S: Scheme<D>, L: Elector<S>, D: Digest> Member<S, L, D> {
         ensures answered { IfOk result (λ latched. IsAnswered D.eq L.elect self.old (TriggerTimeout view reason now) (Triggered latched) self.new) }
         ensures kept { IfErr result (λ refusal. Keeps self.old refusal self.new) }
     {
-        match self.call(Call::TriggerTimeout(view, reason, now)) {
-            Reply::Triggered(latched) => Ok(latched),
-            Reply::Fault(fault) => Err(Refusal::Fault(fault)),
-            Reply::NotAllowed => Err(Refusal::NotAllowed),
-            _ => unreachable!(),
+        if self.failed {
+            return Err(Refusal::Fault(Fault::Failed));
         }
+        Ok(self.state.trigger_timeout(view, reason, now)?)
     }
 
     /// The moment of the current view's next timeout, in milliseconds, and its reason.
     ///
     /// `NotAllowed` where the current view has no timeout. `TimeOverflow` where the moment of a repeat passes 2^64 - 1.
+    #[tactic(auto, unfolding(crate::specs::Lives::IsCall))]
     pub fn next_timeout(&mut self, now: u64) -> Result<(u64, TimeoutReason), Refusal>
         ensures made { IsCall D.eq L.elect self.old (NextTimeout now) (told_of (λ timeout. TimesOut (Some timeout)) result) self.new }
         ensures answered { IfOk result (λ timeout. IsAnswered D.eq L.elect self.old (NextTimeout now) (TimesOut (Some timeout)) self.new) }
         ensures kept { IfErr result (λ refusal. Keeps self.old refusal self.new) }
     {
-        match self.call(Call::NextTimeout(now)) {
-            Reply::Timeout(at, reason) => Ok((at, reason)),
-            Reply::Fault(fault) => Err(Refusal::Fault(fault)),
-            Reply::NotAllowed => Err(Refusal::NotAllowed),
-            _ => unreachable!(),
+        if self.failed {
+            return Err(Refusal::Fault(Fault::Failed));
+        }
+        if !self.state.has_timeout() {
+            return Err(Refusal::NotAllowed);
+        }
+        match self.state.next_timeout(now) {
+            Ok(timeout) => Ok(timeout),
+            Err(fault) => Err(Refusal::Fault(fault)),
         }
     }
 }

@@ -1,17 +1,15 @@
 //! The calls on proposals of other leaders, each as a method.
-//!
-//! Each is `Member::call` of its call, with an answer of its own type.
 
 ghost use Rattle.std.specs.Prelude.{IfOk, IfErr};
 ghost use Rattle.simplex_member.specs.Calls.{SetProposal, TryVerify, Verified, VerificationFailed, Standing, Answered, Done};
 ghost use Rattle.simplex_member.specs.Lives.{IsCall};
 ghost use Rattle.simplex_member.specs.Typed.{told_of, Keeps, IsAnswered};
 
-use super::{Call, Reply};
+use crate::member::call_error::{ended, is_lost, part_of};
 use crate::member::life::Member;
 use crate::member::refusal::Refusal;
 use simplex_types::reasons::TimeoutReason;
-use simplex_types::types::{Digest, Elector, Proposal, Scheme, View};
+use simplex_types::types::{Digest, Elector, Fault, Proposal, Scheme, View};
 use simplex_voter::voter::Verify;
 
 impl<S: Scheme<D>, L: Elector<S>, D: Digest> Member<S, L, D> {
@@ -20,57 +18,68 @@ impl<S: Scheme<D>, L: Elector<S>, D: Digest> Member<S, L, D> {
     ///
     /// `NotAllowed` where it is of another epoch or view, or of a view that is not kept. `ViewTooLarge` where its view or its
     /// parent's is above 2^63 - 1; `OutOfMemory`.
+    #[tactic(auto, unfolding(crate::specs::Lives::IsCall))]
     pub fn set_proposal(&mut self, view: View, proposal: Proposal<D>) -> Result<bool, Refusal>
         ensures made { IsCall D.eq L.elect self.old (SetProposal view proposal) (told_of (λ is_new. Answered is_new) result) self.new }
         ensures answered { IfOk result (λ is_new. IsAnswered D.eq L.elect self.old (SetProposal view proposal) (Answered is_new) self.new) }
         ensures kept { IfErr result (λ refusal. Keeps self.old refusal self.new) }
     {
-        match self.call(Call::SetProposal(view, proposal)) {
-            Reply::Flag(is_new) => Ok(is_new),
-            Reply::Fault(fault) => Err(Refusal::Fault(fault)),
-            Reply::NotAllowed => Err(Refusal::NotAllowed),
-            _ => unreachable!(),
+        if self.failed {
+            return Err(Refusal::Fault(Fault::Failed));
         }
+        if !self.state.takes_proposal(view, &proposal) {
+            return Err(Refusal::NotAllowed);
+        }
+        let made = part_of(self.state.set_proposal(view, &proposal));
+        self.failed = is_lost(&made);
+        ended(made)
     }
 
     /// What comes next in verifying the proposals of other leaders: a proposal, a certificate that is missing, or nothing. A
     /// proposal is open until `verified` or `verification_failed`.
     ///
     /// `OutOfMemory`, with nothing changed: room for the verification is made before the state is asked.
+    #[tactic(auto, unfolding(crate::specs::Lives::IsCall))]
     pub fn try_verify(&mut self) -> Result<Verify<D, S::PublicKey>, Refusal>
         ensures made { IsCall D.eq L.elect self.old TryVerify (told_of (λ verify. Standing verify) result) self.new }
         ensures answered { IfOk result (λ verify. IsAnswered D.eq L.elect self.old TryVerify (Standing verify) self.new) }
         ensures kept { IfErr result (λ refusal. Keeps self.old refusal self.new) }
     {
-        match self.call(Call::TryVerify) {
-            Reply::Work(verify) => Ok(verify),
-            Reply::Fault(fault) => Err(Refusal::Fault(fault)),
-            Reply::NotAllowed => Err(Refusal::NotAllowed),
-            _ => unreachable!(),
+        if self.failed {
+            return Err(Refusal::Fault(Fault::Failed));
         }
+        self.openings.make_room()?;
+        let verify = self.state.try_verify()?;
+        self.openings.open_verification(&verify);
+        Ok(verify)
     }
 
     /// The application found the view's proposal valid. Answers whether it is marked so: not where nullify was decided, another
     /// proposal was seen, or what it is bound to no longer holds.
     ///
     /// `NotAllowed` where no proposal of the view is being verified.
+    #[tactic(auto, unfolding(crate::specs::Lives::IsCall))]
     pub fn verified(&mut self, view: View) -> Result<bool, Refusal>
         ensures made { IsCall D.eq L.elect self.old (Verified view) (told_of (λ is_marked. Answered is_marked) result) self.new }
         ensures answered { IfOk result (λ is_marked. IsAnswered D.eq L.elect self.old (Verified view) (Answered is_marked) self.new) }
         ensures kept { IfErr result (λ refusal. Keeps self.old refusal self.new) }
     {
-        match self.call(Call::Verified(view)) {
-            Reply::Flag(is_marked) => Ok(is_marked),
-            Reply::Fault(fault) => Err(Refusal::Fault(fault)),
-            Reply::NotAllowed => Err(Refusal::NotAllowed),
-            _ => unreachable!(),
+        if self.failed {
+            return Err(Refusal::Fault(Fault::Failed));
         }
+        if !self.openings.is_verifying(view) {
+            return Err(Refusal::NotAllowed);
+        }
+        let is_marked = self.state.verified(view)?;
+        self.openings.close_verification(view);
+        Ok(is_marked)
     }
 
     /// The application refused the view's proposal, or could not verify it: the view times out at its next poll, for this reason
     /// and at this moment in milliseconds, unless what it is bound to no longer holds.
     ///
     /// `NotAllowed` where no proposal of the view is being verified.
+    #[tactic(auto, unfolding(crate::specs::Lives::IsCall))]
     pub fn verification_failed(
         &mut self,
         view: View,
@@ -81,11 +90,14 @@ impl<S: Scheme<D>, L: Elector<S>, D: Digest> Member<S, L, D> {
         ensures answered { IfOk result (λ _. IsAnswered D.eq L.elect self.old (VerificationFailed view reason now) Done self.new) }
         ensures kept { IfErr result (λ refusal. Keeps self.old refusal self.new) }
     {
-        match self.call(Call::VerificationFailed(view, reason, now)) {
-            Reply::Unit => Ok(()),
-            Reply::Fault(fault) => Err(Refusal::Fault(fault)),
-            Reply::NotAllowed => Err(Refusal::NotAllowed),
-            _ => unreachable!(),
+        if self.failed {
+            return Err(Refusal::Fault(Fault::Failed));
         }
+        if !self.openings.is_verifying(view) {
+            return Err(Refusal::NotAllowed);
+        }
+        self.state.verification_failed(view, reason, now)?;
+        self.openings.close_verification(view);
+        Ok(())
     }
 }

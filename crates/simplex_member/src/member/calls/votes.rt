@@ -1,6 +1,4 @@
 //! The calls for votes, each as a method.
-//!
-//! Each is `Member::call` of its call, with an answer of its own type.
 
 ghost use Rattle.std.specs.Prelude.{◌++◌, ◌≡◌, IsNone, IfOk, IfErr, IfSome};
 ghost use Rattle.simplex_member.specs.Calls.{ConstructNotarize, ConstructNullify, ConstructFinalize, told_notarize, told_nullify, told_finalize};
@@ -11,16 +9,18 @@ ghost use Rattle.simplex_member.specs.Signed.{IsSignedReply};
 ghost use Rattle.simplex_member.specs.Typed.{told_of, Keeps, IsAnswered, HasNotarized, HasNullified, HasFinalized};
 ghost use Rattle.simplex_member.specs.declared.member.calls.Reply.TheVariants as reply;
 
-use super::{Call, Reply};
+use crate::member::call_error::{ended, is_lost};
 use crate::member::life::Member;
 use crate::member::refusal::Refusal;
+use crate::member::votes::{construct_finalize, construct_notarize, construct_nullify};
 use simplex_types::reasons::TimeoutReason;
-use simplex_types::types::{Digest, Elector, Finalize, Notarize, Nullify, Scheme, View};
+use simplex_types::types::{Digest, Elector, Fault, Finalize, Notarize, Nullify, Scheme, View};
 
 impl<S: Scheme<D>, L: Elector<S>, D: Digest> Member<S, L, D> {
     /// The vote to notarize what a view holds, where the rule allows it: recorded before it is answered, and answered once.
     ///
     /// `OutOfMemory`: nothing is answered that the record doesn't hold.
+    #[tactic(auto, unfolding(crate::specs::Lives::IsCall))]
     pub fn construct_notarize(&mut self, view: View) -> Result<Option<Notarize<S, D>>, Refusal>
         ensures made { IsCall D.eq L.elect self.old (ConstructNotarize view) (told_of (λ vote. told.Notarize (told_notarize vote)) result) self.new }
         ensures answered { IfOk result (λ vote. IsAnswered D.eq L.elect self.old (ConstructNotarize view) (told.Notarize (told_notarize vote)) self.new) }
@@ -30,18 +30,19 @@ impl<S: Scheme<D>, L: Elector<S>, D: Digest> Member<S, L, D> {
         ensures decided { IfOk result (λ vote. IfSome vote (λ _. HasNotarized self.new view)) }
         ensures once { HasNotarized self.old view → IfOk result (λ vote. IsNone vote) }
     {
-        match self.call(Call::ConstructNotarize(view)) {
-            Reply::Notarize(vote) => Ok(vote),
-            Reply::Fault(fault) => Err(Refusal::Fault(fault)),
-            Reply::NotAllowed => Err(Refusal::NotAllowed),
-            _ => unreachable!(),
+        if self.failed {
+            return Err(Refusal::Fault(Fault::Failed));
         }
+        let made = construct_notarize(self.alloc, &mut self.state, &mut self.artifacts, view);
+        self.failed = is_lost(&made);
+        ended(made)
     }
 
     /// The vote to nullify the current view, unless it was voted to finalize it, with whether it is a repeat: recorded before it is
     /// first answered. The reason has no effect.
     ///
     /// `OutOfMemory`: nothing is answered that the record doesn't hold.
+    #[tactic(auto, unfolding(crate::specs::Lives::IsCall))]
     pub fn construct_nullify(
         &mut self,
         view: View,
@@ -55,17 +56,24 @@ impl<S: Scheme<D>, L: Elector<S>, D: Digest> Member<S, L, D> {
         ensures decided { IfOk result (λ vote. IfSome vote (λ _. HasNullified self.new view)) }
         ensures barred { HasFinalized self.old view → IfOk result (λ vote. IsNone vote) }
     {
-        match self.call(Call::ConstructNullify(view, reason)) {
-            Reply::Nullify(vote) => Ok(vote),
-            Reply::Fault(fault) => Err(Refusal::Fault(fault)),
-            Reply::NotAllowed => Err(Refusal::NotAllowed),
-            _ => unreachable!(),
+        if self.failed {
+            return Err(Refusal::Fault(Fault::Failed));
         }
+        let made = construct_nullify(
+            self.alloc,
+            &mut self.state,
+            &mut self.artifacts,
+            view,
+            reason,
+        );
+        self.failed = is_lost(&made);
+        ended(made)
     }
 
     /// The vote to finalize a certified view, where the rule allows it: recorded before it is answered, and answered once.
     ///
     /// `OutOfMemory`: nothing is answered that the record doesn't hold.
+    #[tactic(auto, unfolding(crate::specs::Lives::IsCall))]
     pub fn construct_finalize(&mut self, view: View) -> Result<Option<Finalize<S, D>>, Refusal>
         ensures made { IsCall D.eq L.elect self.old (ConstructFinalize view) (told_of (λ vote. told.Finalize (told_finalize vote)) result) self.new }
         ensures answered { IfOk result (λ vote. IsAnswered D.eq L.elect self.old (ConstructFinalize view) (told.Finalize (told_finalize vote)) self.new) }
@@ -76,11 +84,11 @@ impl<S: Scheme<D>, L: Elector<S>, D: Digest> Member<S, L, D> {
         ensures once { HasFinalized self.old view → IfOk result (λ vote. IsNone vote) }
         ensures barred { HasNullified self.old view → IfOk result (λ vote. IsNone vote) }
     {
-        match self.call(Call::ConstructFinalize(view)) {
-            Reply::Finalize(vote) => Ok(vote),
-            Reply::Fault(fault) => Err(Refusal::Fault(fault)),
-            Reply::NotAllowed => Err(Refusal::NotAllowed),
-            _ => unreachable!(),
+        if self.failed {
+            return Err(Refusal::Fault(Fault::Failed));
         }
+        let made = construct_finalize(self.alloc, &mut self.state, &mut self.artifacts, view);
+        self.failed = is_lost(&made);
+        ended(made)
     }
 }

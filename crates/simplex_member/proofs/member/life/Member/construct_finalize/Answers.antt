@@ -1,17 +1,67 @@
-use Rattle.std.proofs.Common.{refl}
+use Rattle.std.proofs.Common.{ap, false, refl, sym, ◌∙◌, ◌≡◌}
+use Rattle.std.proofs.lemmas.Result.{IfOk-weaker}
+use Rattle.simplex_voter.specs.Facts.{StateFacts}
+use Rattle.simplex_member.specs.Made.{finalize_vote}
 use Rattle.simplex_types.specs.Certificates.{FinalizeVote}
-use Rattle.simplex_member.specs.Calls.{told_finalize}
+use Rattle.simplex_member.specs.Made.{vote_entry}
 use Rattle.simplex_member.proofs.Voted.{finalize_decided, finalize_once, finalize_barred}
+use Rattle.simplex_record.specs.Entries.{entries_of}
+use Rattle.simplex_member.specs.Calls.{ConstructFinalize, Finalize, told_finalize}
+use Rattle.simplex_member.specs.Lives.{MemberFacts, living, open_while}
+use Rattle.simplex_member.proofs.Parts.{part_goes_on, part_made, told_answered, told_kept, so_ok, kept_shut, ended_ok, ended_recorded, signed_finalize}
 use Rattle.simplex_member.proofs.member.life.Member.construct_finalize.Goals as goal
 
-pub returns-in-Finalize-clause-decided : goal.returns-in-Finalize-clause-decided
-returns-in-Finalize-clause-decided g c =
-    finalize_decided g.D.PartialEq.eq g.L.Elector.elect c.args.self.now c.call.new.self c.args.view (told_finalize c.in-Finalize.vote) c.in-Finalize.ensures.answered (λ v. FinalizeVote v.proposal v.signer) c.in-Finalize.vote refl
+pub invariant_of-self : goal.invariant_of-self
+invariant_of-self g c =
+    let kept = rw (sym c.deref_mut.ensures.value) at (c.self.invariant c.if-self.false) in
+    let i = c.self.inside in
+    let x = c.deref_mut.result.now in
+    let p = c.construct_finalize-made in
+    λ alive. part_goes_on g.D.PartialEq.eq g.L.Elector.elect x i.openings.open_now (ConstructFinalize c.args.view) p.result p.new.state p.ensures.after p.ensures.refused kept.0 kept.1 (sym c.is_lost-self-inside.ensures ∙ alive)
 
-pub returns-in-Finalize-clause-once : goal.returns-in-Finalize-clause-once
-returns-in-Finalize-clause-once g c =
-    λ was. finalize_once g.D.PartialEq.eq g.L.Elector.elect c.args.self.now c.call.new.self c.args.view (told_finalize c.in-Finalize.vote) c.in-Finalize.ensures.answered was (λ v. FinalizeVote v.proposal v.signer) c.in-Finalize.vote refl
+pub returns-clause-made : goal.returns-clause-made
+returns-clause-made g c =
+    let kept = rw (sym c.deref_mut.ensures.value) at (c.self.invariant c.if-self.false) in
+    let i = c.self.inside in
+    let x = c.deref_mut.result.now in
+    let p = c.construct_finalize-made in
+    let m : MemberFacts _ _ _ = record { life = living false x; openings = open_while false i.openings.open_now; entries = entries_of g.S.CertificateScheme.certificate_bytes i.artifacts.items; closed = i.closed; is_pruned = i.is_pruned; retention = i.retention; least_retention = i.least_retention } in
+    rw (← c.self.view_is, c.if-self.false, c.is_lost-self-inside.ensures, c.ended.ensures, ← c.deref_mut.ensures.value)
+    (part_made g.D.PartialEq.eq g.L.Elector.elect m (ConstructFinalize c.args.view) (λ vote. Finalize (told_finalize vote)) x refl refl p.result p.new.state i.openings.open_now (entries_of g.S.CertificateScheme.certificate_bytes p.new.artifacts.items)
+    (record {
+      due = so_ok p.result (rw kept.0 refl);
+      answer = IfOk-weaker p.result _ _ (λ vote is. ap Finalize is) p.ensures.answer;
+      after = p.ensures.after;
+      opened = so_ok p.result refl;
+      recorded = p.ensures.recorded;
+      refused = p.ensures.refused;
+      kept_open = kept_shut i.openings.open_now p.result;
+      same_record = p.ensures.same_record;
+    }))
 
-pub returns-in-Finalize-clause-barred : goal.returns-in-Finalize-clause-barred
-returns-in-Finalize-clause-barred g c =
-    λ was. finalize_barred g.D.PartialEq.eq g.L.Elector.elect c.args.self.now c.call.new.self c.args.view (told_finalize c.in-Finalize.vote) c.in-Finalize.ensures.answered was (λ v. FinalizeVote v.proposal v.signer) c.in-Finalize.vote refl
+pub returns-clause-answered : goal.returns-clause-answered
+returns-clause-answered g c = told_answered g.D.PartialEq.eq g.L.Elector.elect c.args.self.now (ConstructFinalize c.args.view) (λ vote. Finalize (told_finalize vote)) (λ t A is. is) c.ended.result _ (returns-clause-made g c)
+
+pub returns-clause-kept : goal.returns-clause-kept
+returns-clause-kept g c = told_kept g.D.PartialEq.eq g.L.Elector.elect c.args.self.now (ConstructFinalize c.args.view) (λ vote. Finalize (told_finalize vote)) c.ended.result _ (returns-clause-made g c)
+
+pub returns-clause-signed : goal.returns-clause-signed
+returns-clause-signed g c =
+    let signed = rw (sym c.ended.ensures) at (ended_ok _ c.construct_finalize-made.result c.construct_finalize-made.ensures.signed) in
+    rw (← c.self.view_is, c.if-self.false, ← c.deref_mut.ensures.value) (IfOk-weaker c.ended.result _ _ (signed_finalize g.S.Scheme.IsSignature c.deref_mut.result.now) signed)
+
+pub returns-clause-recorded : goal.returns-clause-recorded
+returns-clause-recorded g c =
+    rw (← c.self.view_is, c.ended.ensures) (ended_recorded told_finalize _ vote_entry _ _ c.construct_finalize-made.result c.construct_finalize-made.ensures.answer c.construct_finalize-made.ensures.recorded)
+
+pub returns-clause-decided : goal.returns-clause-decided
+returns-clause-decided g c =
+    IfOk-weaker c.ended.result _ _ (λ vote is. finalize_decided g.D.PartialEq.eq g.L.Elector.elect c.args.self.now _ c.args.view (told_finalize vote) is (λ v. FinalizeVote v.proposal v.signer) vote refl) (returns-clause-answered g c)
+
+pub returns-clause-once : goal.returns-clause-once
+returns-clause-once g c =
+    λ was. IfOk-weaker c.ended.result _ _ (λ vote is. finalize_once g.D.PartialEq.eq g.L.Elector.elect c.args.self.now _ c.args.view (told_finalize vote) is was (λ v. FinalizeVote v.proposal v.signer) vote refl) (returns-clause-answered g c)
+
+pub returns-clause-barred : goal.returns-clause-barred
+returns-clause-barred g c =
+    λ was. IfOk-weaker c.ended.result _ _ (λ vote is. finalize_barred g.D.PartialEq.eq g.L.Elector.elect c.args.self.now _ c.args.view (told_finalize vote) is was (λ v. FinalizeVote v.proposal v.signer) vote refl) (returns-clause-answered g c)

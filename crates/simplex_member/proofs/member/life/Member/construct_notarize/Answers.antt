@@ -1,13 +1,63 @@
-use Rattle.std.proofs.Common.{refl}
+use Rattle.std.proofs.Common.{ap, false, refl, sym, ◌∙◌, ◌≡◌}
+use Rattle.std.proofs.lemmas.Result.{IfOk-weaker}
+use Rattle.simplex_voter.specs.Facts.{StateFacts}
+use Rattle.simplex_member.specs.Made.{notarize_vote}
 use Rattle.simplex_types.specs.Certificates.{NotarizeVote}
-use Rattle.simplex_member.specs.Calls.{told_notarize}
+use Rattle.simplex_member.specs.Made.{vote_entry}
 use Rattle.simplex_member.proofs.Voted.{notarize_decided, notarize_once}
+use Rattle.simplex_record.specs.Entries.{entries_of}
+use Rattle.simplex_member.specs.Calls.{ConstructNotarize, Notarize, told_notarize}
+use Rattle.simplex_member.specs.Lives.{MemberFacts, living, open_while}
+use Rattle.simplex_member.proofs.Parts.{part_goes_on, part_made, told_answered, told_kept, so_ok, kept_shut, ended_ok, ended_recorded, signed_notarize}
 use Rattle.simplex_member.proofs.member.life.Member.construct_notarize.Goals as goal
 
-pub returns-in-Notarize-clause-decided : goal.returns-in-Notarize-clause-decided
-returns-in-Notarize-clause-decided g c =
-    notarize_decided g.D.PartialEq.eq g.L.Elector.elect c.args.self.now c.call.new.self c.args.view (told_notarize c.in-Notarize.vote) c.in-Notarize.ensures.answered (λ v. NotarizeVote v.proposal v.signer) c.in-Notarize.vote refl
+pub invariant_of-self : goal.invariant_of-self
+invariant_of-self g c =
+    let kept = rw (sym c.deref_mut.ensures.value) at (c.self.invariant c.if-self.false) in
+    let i = c.self.inside in
+    let x = c.deref_mut.result.now in
+    let p = c.construct_notarize-made in
+    λ alive. part_goes_on g.D.PartialEq.eq g.L.Elector.elect x i.openings.open_now (ConstructNotarize c.args.view) p.result p.new.state p.ensures.after p.ensures.refused kept.0 kept.1 (sym c.is_lost-self-inside.ensures ∙ alive)
 
-pub returns-in-Notarize-clause-once : goal.returns-in-Notarize-clause-once
-returns-in-Notarize-clause-once g c =
-    λ was. notarize_once g.D.PartialEq.eq g.L.Elector.elect c.args.self.now c.call.new.self c.args.view (told_notarize c.in-Notarize.vote) c.in-Notarize.ensures.answered was (λ v. NotarizeVote v.proposal v.signer) c.in-Notarize.vote refl
+pub returns-clause-made : goal.returns-clause-made
+returns-clause-made g c =
+    let kept = rw (sym c.deref_mut.ensures.value) at (c.self.invariant c.if-self.false) in
+    let i = c.self.inside in
+    let x = c.deref_mut.result.now in
+    let p = c.construct_notarize-made in
+    let m : MemberFacts _ _ _ = record { life = living false x; openings = open_while false i.openings.open_now; entries = entries_of g.S.CertificateScheme.certificate_bytes i.artifacts.items; closed = i.closed; is_pruned = i.is_pruned; retention = i.retention; least_retention = i.least_retention } in
+    rw (← c.self.view_is, c.if-self.false, c.is_lost-self-inside.ensures, c.ended.ensures, ← c.deref_mut.ensures.value)
+    (part_made g.D.PartialEq.eq g.L.Elector.elect m (ConstructNotarize c.args.view) (λ vote. Notarize (told_notarize vote)) x refl refl p.result p.new.state i.openings.open_now (entries_of g.S.CertificateScheme.certificate_bytes p.new.artifacts.items)
+    (record {
+      due = so_ok p.result (rw kept.0 refl);
+      answer = IfOk-weaker p.result _ _ (λ vote is. ap Notarize is) p.ensures.answer;
+      after = p.ensures.after;
+      opened = so_ok p.result refl;
+      recorded = p.ensures.recorded;
+      refused = p.ensures.refused;
+      kept_open = kept_shut i.openings.open_now p.result;
+      same_record = p.ensures.same_record;
+    }))
+
+pub returns-clause-answered : goal.returns-clause-answered
+returns-clause-answered g c = told_answered g.D.PartialEq.eq g.L.Elector.elect c.args.self.now (ConstructNotarize c.args.view) (λ vote. Notarize (told_notarize vote)) (λ t A is. is) c.ended.result _ (returns-clause-made g c)
+
+pub returns-clause-kept : goal.returns-clause-kept
+returns-clause-kept g c = told_kept g.D.PartialEq.eq g.L.Elector.elect c.args.self.now (ConstructNotarize c.args.view) (λ vote. Notarize (told_notarize vote)) c.ended.result _ (returns-clause-made g c)
+
+pub returns-clause-signed : goal.returns-clause-signed
+returns-clause-signed g c =
+    let signed = rw (sym c.ended.ensures) at (ended_ok _ c.construct_notarize-made.result c.construct_notarize-made.ensures.signed) in
+    rw (← c.self.view_is, c.if-self.false, ← c.deref_mut.ensures.value) (IfOk-weaker c.ended.result _ _ (signed_notarize g.S.Scheme.IsSignature c.deref_mut.result.now) signed)
+
+pub returns-clause-recorded : goal.returns-clause-recorded
+returns-clause-recorded g c =
+    rw (← c.self.view_is, c.ended.ensures) (ended_recorded told_notarize _ vote_entry _ _ c.construct_notarize-made.result c.construct_notarize-made.ensures.answer c.construct_notarize-made.ensures.recorded)
+
+pub returns-clause-decided : goal.returns-clause-decided
+returns-clause-decided g c =
+    IfOk-weaker c.ended.result _ _ (λ vote is. notarize_decided g.D.PartialEq.eq g.L.Elector.elect c.args.self.now _ c.args.view (told_notarize vote) is (λ v. NotarizeVote v.proposal v.signer) vote refl) (returns-clause-answered g c)
+
+pub returns-clause-once : goal.returns-clause-once
+returns-clause-once g c =
+    λ was. IfOk-weaker c.ended.result _ _ (λ vote is. notarize_once g.D.PartialEq.eq g.L.Elector.elect c.args.self.now _ c.args.view (told_notarize vote) is was (λ v. NotarizeVote v.proposal v.signer) vote refl) (returns-clause-answered g c)
