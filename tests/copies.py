@@ -2,7 +2,7 @@
 """That what stands twice in the repository stands there with the same content.
 
 The program is deterministic: the same lines behind the same arguments have the same reply wherever they are written, in the
-tables of `crates/simplex_member_tests/src/program`, in the README, `docs/PROGRAM.md`, the program's own run and the stored schedules. And
+tables of `crates/simplex_program_tests/src/program`, in the README, `docs/PROGRAM.md`, the program's own run and the stored schedules. And
 copies of source, output, numbers and names in the docs are those of what they are copied from. A must-fail edit names a text of
 the source, which still stands there.
 

@@ -1,4 +1,4 @@
-"""The scripts of the repository's tests, read from the tables of `crates/simplex_member_tests/src/program`, and one run of the program."""
+"""The scripts of the repository's tests, read from the tables of `crates/simplex_program_tests/src/program`, and one run of the program."""
 
 import re
 import subprocess
@@ -7,7 +7,7 @@ from typing import NamedTuple
 
 from program import ROOT
 
-TABLES = ROOT / "crates/simplex_member_tests/src/program"
+TABLES = ROOT / "crates/simplex_program_tests/src/program"
 TEXT = r'"((?:[^"\\]|\\.)*)"'
 SCRIPT = re.compile(rf"Script\s*\{{\s*shows:\s*{TEXT},\s*command:\s*{TEXT},\s*lines:\s*{TEXT},\s*\}}", re.DOTALL)
 MISUSE = re.compile(rf"\(\s*{TEXT},\s*{TEXT},?\s*\)", re.DOTALL)

@@ -1,7 +1,5 @@
-//! Tests of members, and of the program's lines, each of which is a call of one.
+//! Tests of members, run on their code: journals, floors, retentions, timeouts, and records that are refused.
 #![tactic(auto)]
 
 #[cfg(test)]
 mod member;
-#[cfg(test)]
-mod program;
