@@ -1,6 +1,5 @@
 -- A call is answered, refused, lost, or not allowed.
-use Rattle.std.proofs.Common.{◌≡◌, ◌⊎◌, refl, sym, ap, ◌∙◌, ℕ, Bool, true, false, ◌&&◌, List, [], ◌++◌, Option, Some, None, Result, Ok, Err, IfSome, IsOk, inl, inr}
-use Rattle.std.specs.Result.{is_err}
+use Rattle.std.proofs.Common.{◌≡◌, ◌⊎◌, refl, ap, ◌∙◌, Bool, true, false, ◌&&◌, List, [], ◌++◌, Option, Some, None, Result, Ok, Err, IfSome, IsOk, inl, inr}
 use Rattle.std.proofs.lemmas.Bool.{false≢true}
 use Rattle.std.proofs.lemmas.List.{append-nil}
 use Rattle.simplex_types.specs.Certificates.{ArtifactFacts}
@@ -8,14 +7,11 @@ use Rattle.simplex_types.specs.declared.types.fault.Fault.{Fault}
 use Rattle.simplex_types.specs.declared.types.fault.Fault.TheVariants as fault
 use Rattle.simplex_voter.specs.Facts.{StateFacts, Elect}
 use Rattle.simplex_voter.specs.Refusals.{is_started}
-use Rattle.simplex_voter.specs.Certification.{takes_certify_handle}
-use Rattle.simplex_member.specs.declared.member.calls.Call.{Call}
-use Rattle.simplex_member.specs.declared.member.calls.Call.TheVariants as call
-use Rattle.simplex_member.specs.Allowed.{is_allowed, fault_of, may_fall, may_want, is_state_ready}
-use Rattle.simplex_member.specs.Calls.{CallFacts, AddNotarization, AddNullification, AddFinalization, SetProposal, TryPropose, TryVerify, CertifyCandidates, SetCertifyHandle, Certified, NextTimeout, Told, Refused, NotAllowed, asked}
+use Rattle.simplex_member.specs.Allowed.{is_allowed, fault_of, may_fall, may_want}
+use Rattle.simplex_member.specs.Calls.{CallFacts, Told, Refused, NotAllowed}
 use Rattle.simplex_member.specs.Lives.{MemberFacts, without_life, with_call, IsCall}
 use Rattle.simplex_member.specs.Made.{answer, after_call, openings_after, recorded_by}
-use Rattle.simplex_member.specs.Openings.{Openings, is_offered}
+use Rattle.simplex_member.specs.Openings.{Openings}
 use Rattle.simplex_member.specs.Parts.{IsWant, IsLoss}
 use Rattle.simplex_member.specs.Typed.{IsAnswered}
 use Rattle.simplex_member.proofs.GoingCalls.{goes}

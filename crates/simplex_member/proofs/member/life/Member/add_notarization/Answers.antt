@@ -1,4 +1,4 @@
-use Rattle.std.proofs.Common.{ap, false, refl, sym, ◌∙◌, ◌≡◌}
+use Rattle.std.proofs.Common.{ap, false, refl, sym, ◌∙◌}
 use Rattle.std.proofs.lemmas.Result.{IfOk-weaker}
 use Rattle.simplex_types.specs.Certificates.{notarization_facts, Accepted, Notarized}
 use Rattle.simplex_member.specs.Made.{if_new}

@@ -1,4 +1,4 @@
-use Rattle.std.proofs.Common.{ap, false, option_map, refl, sym, ◌∙◌, ◌≡◌}
+use Rattle.std.proofs.Common.{ap, false, option_map, refl, sym, ◌∙◌}
 use Rattle.std.proofs.lemmas.List.{append-nil}
 use Rattle.std.proofs.lemmas.Result.{IfOk-weaker}
 use Rattle.simplex_types.specs.Certificates.{certificate_facts}

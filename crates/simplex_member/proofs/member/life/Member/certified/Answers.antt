@@ -1,4 +1,4 @@
-use Rattle.std.proofs.Common.{ap, false, option_map, refl, sym, ◌∙◌, ◌≡◌}
+use Rattle.std.proofs.Common.{ap, false, option_map, refl, sym, ◌∙◌}
 use Rattle.std.proofs.lemmas.Result.{IfOk-weaker}
 use Rattle.simplex_types.specs.Certificates.{notarization_facts}
 use Rattle.simplex_record.specs.Entries.{entries_of}

@@ -1,7 +1,5 @@
-use Rattle.std.proofs.Common.{ap, false, refl, sym, ◌∙◌, ◌≡◌}
+use Rattle.std.proofs.Common.{ap, false, refl, sym, ◌∙◌}
 use Rattle.std.proofs.lemmas.Result.{IfOk-weaker}
-use Rattle.simplex_voter.specs.Facts.{StateFacts}
-use Rattle.simplex_member.specs.Made.{finalize_vote}
 use Rattle.simplex_types.specs.Certificates.{FinalizeVote}
 use Rattle.simplex_member.specs.Made.{vote_entry}
 use Rattle.simplex_member.proofs.Voted.{finalize_decided, finalize_once, finalize_barred}

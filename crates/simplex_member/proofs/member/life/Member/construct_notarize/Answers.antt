@@ -1,7 +1,5 @@
-use Rattle.std.proofs.Common.{ap, false, refl, sym, ◌∙◌, ◌≡◌}
+use Rattle.std.proofs.Common.{ap, false, refl, sym, ◌∙◌}
 use Rattle.std.proofs.lemmas.Result.{IfOk-weaker}
-use Rattle.simplex_voter.specs.Facts.{StateFacts}
-use Rattle.simplex_member.specs.Made.{notarize_vote}
 use Rattle.simplex_types.specs.Certificates.{NotarizeVote}
 use Rattle.simplex_member.specs.Made.{vote_entry}
 use Rattle.simplex_member.proofs.Voted.{notarize_decided, notarize_once}

@@ -1,7 +1,5 @@
-use Rattle.std.proofs.Common.{ap, false, refl, sym, ◌∙◌, ◌≡◌}
+use Rattle.std.proofs.Common.{ap, false, refl, sym, ◌∙◌}
 use Rattle.std.proofs.lemmas.Result.{IfOk-weaker}
-use Rattle.simplex_voter.specs.Facts.{StateFacts}
-use Rattle.simplex_member.specs.Made.{nullify_vote}
 use Rattle.simplex_types.specs.Certificates.{NullifyVote}
 use Rattle.simplex_member.specs.Made.{unrepeated_vote}
 use Rattle.simplex_member.proofs.Voted.{nullify_decided, nullify_barred}

@@ -1,5 +1,4 @@
-use Rattle.std.proofs.Common.{◌≡◌, false, refl, sym, ap, ◌∙◌, Some, inl}
-use Rattle.simplex_voter.specs.Timeouts.{next_timeout_refusal}
+use Rattle.std.proofs.Common.{false, refl, sym, ap, ◌∙◌, Some, inl}
 use Rattle.simplex_record.specs.Entries.{entries_of}
 use Rattle.simplex_member.specs.Calls.{NextTimeout, TimesOut}
 use Rattle.simplex_member.specs.Lives.{MemberFacts, living, open_while}

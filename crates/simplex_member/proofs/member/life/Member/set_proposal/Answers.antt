@@ -1,4 +1,4 @@
-use Rattle.std.proofs.Common.{ap, false, refl, sym, ◌∙◌, ◌≡◌}
+use Rattle.std.proofs.Common.{ap, false, refl, sym, ◌∙◌}
 use Rattle.std.proofs.lemmas.Result.{IfOk-weaker}
 use Rattle.simplex_voter.specs.Refusals.{names_too_large}
 use Rattle.simplex_record.specs.Entries.{entries_of}
