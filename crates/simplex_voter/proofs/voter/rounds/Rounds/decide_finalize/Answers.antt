@@ -24,4 +24,3 @@ returns-clause-decided g c =
     let lent = lent c.args.self.now _ (sym (ap (λ x. x.by_view) c.self.view_is)) _ _ c.in-Some.ensures.value in
     let can = ap can_finalize lent ∙ c.requires in
     changed_there_always c.args.self.now _ c.self.view_is _ refl _ _ _ (λ r. record r { decision = Finalize }) c.in-Some.ensures.value (c.construct_finalize.ensures.facts ∙ rw can refl)
--- x
