@@ -75,7 +75,7 @@ def options():
 def wrong_program(folder, name):
     """Builds the program with a wrong body into a folder, or the second one; its path."""
     root = Path(folder) / "repository"
-    shutil.copytree(ROOT, root, ignore=shutil.ignore_patterns("out", ".git", "__pycache__"))
+    program.copy_crates(ROOT, root)
     edits.make(root, name)
     if name in WRONG_WITHOUT_MEMORY:
         path = program.find_enduring(None, folder, root)
