@@ -87,26 +87,30 @@ fn settles_3(state: &State) -> bool {
         && !state.uncertifiable(View::new(3))
 }
 
+/// The notarization of view 3.
+static NOTARIZED: [u8; 34] = [
+    0, 0, 0, 0, 0, 0, 0, 0, 1, 0, 0, 0, 0, 0, 0, 0, 3, 0, 0, 0, 0, 0, 0, 0, 2, 0, 0, 0, 0, 0, 0, 0,
+    7, 1,
+];
+
 #[test]
 fn a_certified_notarization_is_served(rt: HostRuntime) -> Result<(), Fail> {
     let mut state = begun(rt.alloc())?;
     let effects = state.certified(notarization_of(3), true)?;
     let raised = Effect::Raised(View::new(3));
     assert!(rt; effects.as_slice().last() == Some(&raised) && settles_3(&state));
-    let expected = [
-        0u8, 0, 0, 0, 0, 0, 0, 0, 1, 0, 0, 0, 0, 0, 0, 0, 3, 0, 0, 0, 0, 0, 0, 0, 2, 0, 0, 0, 0, 0,
-        0, 0, 7, 1,
-    ];
-    assert!(rt; serves(&state, 2, expected.as_slice())?);
+    assert!(rt; serves(&state, 2, &NOTARIZED)?);
     Ok(())
 }
+
+/// The nullification of view 4 in epoch 9.
+static NULLIFIED: [u8; 18] = [1, 0, 0, 0, 0, 0, 0, 0, 9, 0, 0, 0, 0, 0, 0, 0, 4, 1];
 
 #[test]
 fn a_nullification_is_served_whole(rt: HostRuntime) -> Result<(), Fail> {
     let mut state = begun(rt.alloc())?;
     state.updated(&nullified(9, 4))?;
-    let expected = [1u8, 0, 0, 0, 0, 0, 0, 0, 9, 0, 0, 0, 0, 0, 0, 0, 4, 1];
-    assert!(rt; serves(&state, 4, expected.as_slice())?);
+    assert!(rt; serves(&state, 4, &NULLIFIED)?);
     Ok(())
 }
 

@@ -13,32 +13,24 @@ fn view(number: u64) -> View
     View::new(number)
 }
 
-#[test]
-fn a_place_is_found_by_few_probes(rt: HostRuntime) -> Result<(), Fail> {
-    let mut tracked = Tracked::new(rt.alloc());
-    for number in [20, 1, 21] {
-        assert_eq!(rt; tracked.insert(view(number), ())?, None);
+/// Whether the value of view 7 stays when another one is put in, which is given back.
+fn keeps_what_stands(tracked: &mut Tracked<u64>) -> Result<bool, Fail> {
+    Ok(tracked.insert(view(7), 2)? == Some(2) && tracked.get(view(7)) == Some(&1))
+}
+
+/// Whether the value of view 7 is changed in place.
+fn changes_what_stands(tracked: &mut Tracked<u64>) -> bool {
+    if let Some(value) = tracked.get_mut(view(7)) {
+        *value = 3;
     }
-    assert_eq!(rt; tracked.len(), 3);
-    for (number, place) in [(1, 0), (10, 1), (20, 1), (30, 3)] {
-        let (found, probes) = tracked.find(view(number));
-        assert_eq!(rt; found, place);
-        assert!(rt; probes <= 2);
-    }
-    Ok(())
+    tracked.get(view(7)) == Some(&3) && tracked.get(view(8)).is_none()
 }
 
 #[test]
 fn a_value_that_stands_stays(rt: HostRuntime) -> Result<(), Fail> {
     let mut tracked = Tracked::new(rt.alloc());
-    assert_eq!(rt; tracked.insert(view(7), 1u64)?, None);
-    assert_eq!(rt; tracked.insert(view(7), 2)?, Some(2));
-    assert_eq!(rt; tracked.get(view(7)), Some(&1));
-    if let Some(value) = tracked.get_mut(view(7)) {
-        *value = 3;
-    }
-    assert_eq!(rt; tracked.get(view(7)), Some(&3));
-    assert_eq!(rt; tracked.get(view(8)), None);
+    assert!(rt; tracked.insert(view(7), 1)?.is_none());
+    assert!(rt; keeps_what_stands(&mut tracked)? && changes_what_stands(&mut tracked));
     Ok(())
 }
 
@@ -51,6 +43,24 @@ fn tracked_of(alloc: Global, numbers: [u64; 3]) -> Result<Tracked<u64>, Fail> {
         }
     }
     Ok(tracked)
+}
+
+/// Views, each with the place at which it stands among 1, 20 and 21, or would stand.
+static PLACES: [(u64, usize); 4] = [(1, 0), (10, 1), (20, 1), (30, 3)];
+
+/// Whether a place is found, by two probes at most.
+fn is_found(tracked: &Tracked<u64>, number: u64, place: usize) -> bool {
+    let (found, probes) = tracked.find(view(number));
+    found == place && probes <= 2
+}
+
+#[test]
+fn a_place_is_found_by_few_probes(rt: HostRuntime) -> Result<(), Fail> {
+    let tracked = tracked_of(rt.alloc(), [20, 1, 21])?;
+    for (number, place) in &PLACES {
+        assert!(rt; is_found(&tracked, *number, *place), "{number}");
+    }
+    Ok(())
 }
 
 /// Whether the nearest of views 5, 2 and 9 are found.
@@ -97,17 +107,12 @@ fn views_are_found_listed_dropped_and_removed(rt: HostRuntime) -> Result<(), Fai
 
 /// Values for views 2, 4 and 8, in terms of five views: each is its view's number.
 fn kept_by_term(alloc: Global) -> Result<ByTerm<u64>, Fail> {
-    let Some(five) = NonZeroU32::new(5) else {
-        unreachable!()
-    };
-    let mut kept = ByTerm::new(alloc, TermLength::new(five));
-    let standing = [
-        kept.insert(view(2), 2)?,
-        kept.insert(view(4), 4)?,
-        kept.insert(view(8), 8)?,
-    ];
-    if standing != [None, None, None] {
-        return Err(Fail::from("a view that was put in stands already"));
+    let five = TermLength::new(NonZeroU32::MIN.saturating_add(4));
+    let mut kept = ByTerm::new(alloc, five);
+    for number in [2, 4, 8] {
+        if kept.insert(view(number), number)?.is_some() {
+            return Err(Fail::from("a view that was put in stands already"));
+        }
     }
     Ok(kept)
 }

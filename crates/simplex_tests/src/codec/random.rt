@@ -1,6 +1,6 @@
 //! Bytes at random, and encodings that were damaged at random.
 
-use super::{PlainArtifact, artifacts};
+use super::{PlainArtifact, artifacts, is_written};
 use simplex_codec::artifact::{decode_artifact, encode_artifact};
 use simplex_codec::certificate::decode_certificate;
 use simplex_codec::error::DecodeError;
@@ -84,34 +84,37 @@ fn encoding(alloc: Global, random: &mut Random, whole: &[PlainArtifact]) -> Resu
     }
 }
 
+/// What was read is written as the bytes that it was read of.
+fn same(is_written: bool) -> Result<bool, Fail> {
+    if is_written {
+        Ok(true)
+    } else {
+        Err(Fail::from("it is written as other bytes"))
+    }
+}
+
+/// Bytes are refused by the name of a fault in them.
+fn refused(error: DecodeError) -> Result<bool, Fail> {
+    match error {
+        DecodeError::OutOfMemory => Err(Fail::from("no memory")),
+        _ => Ok(false),
+    }
+}
+
 /// Whether the bytes are read as an artifact: what is read encodes to them again, and what is not is refused by the name
 /// of a fault in them.
 fn is_artifact(alloc: Global, bytes: &[u8]) -> Result<bool, Fail> {
     match decode_artifact::<PlainScheme, PlainDigest>(alloc, bytes) {
-        Ok(artifact) => {
-            if encode_artifact(alloc, &artifact)?.as_slice() == bytes {
-                Ok(true)
-            } else {
-                Err(Fail::from("an artifact of other bytes"))
-            }
-        }
-        Err(DecodeError::OutOfMemory) => Err(Fail::from("no memory")),
-        Err(_) => Ok(false),
+        Ok(artifact) => same(is_written(alloc, &artifact, bytes)?),
+        Err(error) => refused(error),
     }
 }
 
 /// The same of a certificate.
 fn is_certificate(alloc: Global, bytes: &[u8]) -> Result<bool, Fail> {
     match decode_certificate::<PlainScheme, PlainDigest>(alloc, bytes) {
-        Ok(certificate) => {
-            if certificate.encode(alloc)?.as_slice() == bytes {
-                Ok(true)
-            } else {
-                Err(Fail::from("a certificate of other bytes"))
-            }
-        }
-        Err(DecodeError::OutOfMemory) => Err(Fail::from("no memory")),
-        Err(_) => Ok(false),
+        Ok(certificate) => same(certificate.encode(alloc)?.as_slice() == bytes),
+        Err(error) => refused(error),
     }
 }
 

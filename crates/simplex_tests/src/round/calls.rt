@@ -379,12 +379,16 @@ fn first_unmet(
     Ok(None)
 }
 
+/// The place of the first step that a round of the row does not meet.
+fn first_unmet_of(alloc: Global, row: &Row) -> Result<Option<usize>, Fail> {
+    let mut round = start(alloc, row.me, row.leader)?;
+    Ok(first_unmet(alloc, &mut round, row.steps)?)
+}
+
 #[test]
 fn rows_hold(rt: HostRuntime) -> Result<(), Fail> {
     for row in &ROWS {
-        let mut round = start(rt.alloc(), row.me, row.leader)?;
-        let unmet = first_unmet(rt.alloc(), &mut round, row.steps)?;
-        assert_eq!(rt; unmet, None, "{}", row.name);
+        assert_eq!(rt; first_unmet_of(rt.alloc(), row)?, None, "{}", row.name);
     }
     Ok(())
 }

@@ -1,18 +1,15 @@
 //! Encodings and copies.
 
-use super::{finalization, notarization, nullification, proposal, round};
-use simplex_types::types::plain::{PlainDigest, PlainKey, PlainScheme, PlainSignature};
-use simplex_types::types::{
-    Artifact, Certificate, Finalize, Notarize, Nullify, Participant, Subject, View, Viewable,
-};
+use super::{finalization, notarization, nullification};
+use crate::codec::artifacts;
+use simplex_types::types::plain::{PlainDigest, PlainScheme};
+use simplex_types::types::{Artifact, Certificate, View, Viewable};
 use std::alloc::Global;
 use std::test::Fail;
 
 type PlainArtifact = Artifact<PlainScheme, PlainDigest>;
 
 type PlainCertified = Certificate<PlainScheme, PlainDigest>;
-
-type PlainSubject = Subject<PlainDigest>;
 
 fn encoded(alloc: Global, certificate: &PlainCertified) -> Result<String, Fail> {
     let bytes = certificate.encode(alloc)?;
@@ -61,72 +58,14 @@ fn a_copy_is_encoded_alike(rt: HostRuntime) -> Result<(), Fail> {
     Ok(())
 }
 
-/// This member's signature on a subject.
-fn signature(alloc: Global, subject: &PlainSubject) -> Result<PlainSignature, Fail> {
-    Ok(PlainSignature::new(alloc, PlainKey(2), subject)?)
-}
-
-fn vote_to_notarize(alloc: Global) -> Result<PlainArtifact, Fail> {
-    let proposal = proposal(1, 3, 2, 7);
-    Ok(Artifact::Notarize(Notarize {
-        proposal,
-        signer: Participant::new(2),
-        signature: signature(alloc, &Subject::Notarize(proposal))?,
-    }))
-}
-
-fn vote_to_nullify(alloc: Global) -> Result<PlainArtifact, Fail> {
-    Ok(Artifact::Nullify(Nullify {
-        round: round(1, 3),
-        signer: Participant::new(2),
-        signature: signature(alloc, &Subject::Nullify(round(1, 3)))?,
-    }))
-}
-
-fn vote_to_finalize(alloc: Global) -> Result<PlainArtifact, Fail> {
-    let proposal = proposal(1, 3, 2, 7);
-    Ok(Artifact::Finalize(Finalize {
-        proposal,
-        signer: Participant::new(2),
-        signature: signature(alloc, &Subject::Finalize(proposal))?,
-    }))
-}
-
-/// Whether a copy of an artifact in view 3 is of that view.
+/// Whether a copy of an artifact is of the same view.
 fn is_copied_with_its_view(alloc: Global, artifact: &PlainArtifact) -> Result<bool, Fail> {
-    Ok(artifact.clone(alloc)?.view() == View::new(3))
+    Ok(artifact.clone(alloc)?.view() == artifact.view())
 }
 
 #[test]
-fn a_vote_to_notarize_is_copied_with_its_view(rt: HostRuntime) -> Result<(), Fail> {
-    let vote = vote_to_notarize(rt.alloc())?;
-    assert!(rt; is_copied_with_its_view(rt.alloc(), &vote)?);
-    Ok(())
-}
-
-#[test]
-fn a_vote_to_nullify_is_copied_with_its_view(rt: HostRuntime) -> Result<(), Fail> {
-    let vote = vote_to_nullify(rt.alloc())?;
-    assert!(rt; is_copied_with_its_view(rt.alloc(), &vote)?);
-    Ok(())
-}
-
-#[test]
-fn a_vote_to_finalize_is_copied_with_its_view(rt: HostRuntime) -> Result<(), Fail> {
-    let vote = vote_to_finalize(rt.alloc())?;
-    assert!(rt; is_copied_with_its_view(rt.alloc(), &vote)?);
-    Ok(())
-}
-
-#[test]
-fn certificates_and_verdicts_are_copied_with_their_view(rt: HostRuntime) -> Result<(), Fail> {
-    let artifacts: [PlainArtifact; 4] = [
-        Artifact::Notarization(notarization(3)),
-        Artifact::Certification(round(1, 3), true),
-        Artifact::Nullification(nullification(1, 3)),
-        Artifact::Finalization(finalization(1, 3, true)),
-    ];
-    for artifact in &artifacts {
+fn artifacts_are_copied_with_their_view(rt: HostRuntime) -> Result<(), Fail> {
+    for artifact in &artifacts(rt.alloc())? {
         assert!(rt; is_copied_with_its_view(rt.alloc(), artifact)?);
     }
     Ok(())

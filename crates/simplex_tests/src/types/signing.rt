@@ -57,19 +57,23 @@ fn is_copied(alloc: Global, signature: &PlainSignature) -> Result<bool, Fail> {
     Ok(copy.key == signature.key && copy.text == signature.text)
 }
 
-#[test]
-fn a_signature_is_on_one_subject(rt: HostRuntime) -> Result<(), Fail> {
-    let voted = proposal(1, 3, 2, 7);
-    let others = [
-        Subject::Notarize(voted),
-        Subject::Nullify(voted.round),
+/// Subjects that differ from a vote to finalize proposal 7 of view 3 in one thing each.
+fn others() -> [Subject<PlainDigest>; 5] {
+    [
+        Subject::Notarize(proposal(1, 3, 2, 7)),
+        Subject::Nullify(round(1, 3)),
         Subject::Finalize(proposal(1, 3, 2, 8)),
         Subject::Finalize(proposal(1, 3, 1, 7)),
         Subject::Finalize(proposal(2, 3, 2, 7)),
-    ];
-    let finalize = PlainSignature::new(rt.alloc(), PlainKey(3), &Subject::Finalize(voted))?;
+    ]
+}
+
+#[test]
+fn a_signature_is_on_one_subject(rt: HostRuntime) -> Result<(), Fail> {
+    let voted = Subject::Finalize(proposal(1, 3, 2, 7));
+    let finalize = PlainSignature::new(rt.alloc(), PlainKey(3), &voted)?;
     assert!(rt; is_copied(rt.alloc(), &finalize)?);
-    for other in &others {
+    for other in &others() {
         assert!(rt; !is_text_on(rt.alloc(), &finalize, other)?);
     }
     Ok(())
