@@ -10,9 +10,7 @@ mod timeouts;
 ghost use Rattle.std.specs.Prelude.{◌≡◌, IfOk, length};
 ghost use Rattle.simplex_types.specs.Plain.{members_of, keys_of};
 
-use simplex_member::member::{
-    Call, Member, RecoverError, Reply, Restart, ResumeError, Start, Stored,
-};
+use simplex_member::member::{Member, RecoverError, Refusal, Restart, ResumeError, Start, Stored};
 use simplex_types::config::Floor;
 use simplex_types::reasons::TimeoutReason;
 use simplex_types::types::plain::{PlainCertificate, PlainDigest, PlainElector, PlainScheme};
@@ -100,13 +98,12 @@ fn first_notarization() -> Notarization<PlainScheme, PlainDigest> {
 }
 
 fn finalizes_first(member: &mut PlainMember) -> bool {
-    let reply = member.call(Call::ConstructFinalize(View::new(1)));
-    matches!(reply, Reply::Finalize(Some(_)))
+    matches!(member.construct_finalize(View::new(1)), Ok(Some(_)))
 }
 
 fn nullifies_first(member: &mut PlainMember) -> bool {
-    let reply = member.call(Call::ConstructNullify(View::new(1), TimeoutReason::LeaderTimeout));
-    matches!(reply, Reply::Nullify(Some(_)))
+    let answer = member.construct_nullify(View::new(1), TimeoutReason::LeaderTimeout);
+    matches!(answer, Ok(Some(_)))
 }
 
 /// A member that starts, on the heap.
@@ -131,11 +128,17 @@ fn resumed(
     }
 }
 
+/// View 1 is notarized and certified.
+fn certify_first(member: &mut PlainMember, now: u64) -> Result<(), Refusal> {
+    member.add_notarization(first_notarization())?;
+    member.certified(View::new(1), true, now)?;
+    Ok(())
+}
+
 /// A member that may vote to finalize view 1.
 fn certified(alloc: Global) -> Result<Box<PlainMember>, Fail> {
     let mut member = started(alloc, start(alloc, 10)?)?;
-    member.call(Call::AddNotarization(first_notarization()));
-    member.call(Call::Certified(View::new(1), true, 10));
+    certify_first(&mut member, 10)?;
     Ok(member)
 }
 

@@ -1,7 +1,7 @@
 //! Members of plain parts that begin at a finalization.
 
 use super::{PlainMember, proposal, start, started};
-use simplex_member::member::{Call, Reply, Restart};
+use simplex_member::member::Restart;
 use simplex_types::config::Floor;
 use simplex_types::types::plain::{PlainCertificate, PlainDigest, PlainScheme};
 use simplex_types::types::{Finalization, View, Viewable};
@@ -18,8 +18,8 @@ fn floor(view: u64, parent: u64) -> Floor<PlainScheme, PlainDigest> {
 
 /// The view of the certificate that lets others enter the current view.
 fn best(member: &mut PlainMember) -> Option<View> {
-    match member.call(Call::GetBestCertificate) {
-        Reply::Certificate(Some(certificate)) => Some(certificate.view()),
+    match member.get_best_certificate() {
+        Ok(Some(certificate)) => Some(certificate.view()),
         _ => None,
     }
 }

@@ -1,7 +1,7 @@
 //! Retentions that shrink and grow over the lives of a member of plain parts.
 
 use super::{PlainMember, notarization, proposal, start, started};
-use simplex_member::member::{Call, RecoverError, Reply, Restart};
+use simplex_member::member::{RecoverError, Restart};
 use simplex_types::types::plain::PlainCertificate;
 use simplex_types::types::{Finalization, View};
 use std::alloc::Global;
@@ -28,16 +28,16 @@ fn finalized_at_20(alloc: Global) -> Result<Box<PlainMember>, Fail> {
         proposal: proposal(20, 19, 7),
         certificate: PlainCertificate { good: true },
     };
-    member.call(Call::AddFinalization(finalization, 5));
-    member.call(Call::AddNotarization(notarization(12, 11, 7)));
+    member.add_finalization(finalization, 5)?;
+    member.add_notarization(notarization(12, 11, 7))?;
     Ok(member)
 }
 
 /// Whether a pruning drops just these views.
 fn drops(member: &mut PlainMember, wanted: &[View]) -> bool {
-    match member.call(Call::Prune) {
-        Reply::Views(views) => views.as_slice() == wanted,
-        _ => false,
+    match member.prune() {
+        Ok(views) => views.as_slice() == wanted,
+        Err(_) => false,
     }
 }
 

@@ -1,7 +1,7 @@
 //! Timeouts of a member of plain parts: a skip budget, a stall, and a moment past 64 bits.
 
-use super::{PlainMember, first_notarization, proposal, start, start_in, started};
-use simplex_member::member::{Call, Member, RecoverError, Reply};
+use super::{PlainMember, certify_first, first_notarization, proposal, start, start_in, started};
+use simplex_member::member::{Member, RecoverError, Refusal};
 use simplex_types::reasons::TimeoutReason;
 use simplex_types::types::plain::PlainCertificate;
 use simplex_types::types::{Finalization, TermLength, Terms, View};
@@ -11,20 +11,22 @@ use std::test::Fail;
 
 /// The next timeout with its reason, if there is one.
 fn next_timeout(member: &mut PlainMember, now: u64) -> Option<(u64, TimeoutReason)> {
-    match member.call(Call::NextTimeout(now)) {
-        Reply::Timeout(moment, reason) => Some((moment, reason)),
-        _ => None,
-    }
+    member.next_timeout(now).ok()
 }
 
-/// A member in view 1 with a proposal, whose leader gave the view up at 5 milliseconds.
+/// The leader of view 1 proposes, and gives the view up at 5 milliseconds.
+fn give_up_first(member: &mut PlainMember) -> Result<(), Refusal> {
+    member.set_proposal(View::new(1), first_notarization().proposal)?;
+    member.trigger_timeout(View::new(1), TimeoutReason::LeaderNullify, 5)?;
+    Ok(())
+}
+
+/// A member whose leader gave up view 1.
 fn given_up(alloc: Global, skip_budget: u64) -> Result<Box<PlainMember>, Fail> {
     let mut begun = start(alloc, 10)?;
     begun.settings.skip_budget = skip_budget;
     let mut member = started(alloc, begun)?;
-    let proposal = first_notarization().proposal;
-    member.call(Call::SetProposal(View::new(1), proposal));
-    member.call(Call::TriggerTimeout(View::new(1), TimeoutReason::LeaderNullify, 5));
+    give_up_first(&mut member)?;
     Ok(member)
 }
 
@@ -59,33 +61,30 @@ fn stalling(alloc: Global) -> Result<Box<PlainMember>, Fail> {
     started(alloc, begun)
 }
 
-/// View 1 is notarized and certified.
-fn certify_first(member: &mut PlainMember, now: u64) {
-    member.call(Call::AddNotarization(first_notarization()));
-    member.call(Call::Certified(View::new(1), true, now));
-}
-
 /// View 1 is finalized.
-fn finalize_first(member: &mut PlainMember, now: u64) {
+fn finalize_first(member: &mut PlainMember, now: u64) -> Result<(), Refusal> {
     let finalization = Finalization {
         proposal: proposal(1, 0, 7),
         certificate: PlainCertificate { good: true },
     };
-    member.call(Call::AddFinalization(finalization, now));
+    member.add_finalization(finalization, now)?;
+    Ok(())
 }
 
 /// The timeouts at first, once view 1 is certified, once it is finalized, and when view 2 lasted long.
-fn timeouts_of_a_run(member: &mut PlainMember) -> [Option<(u64, TimeoutReason)>; 4] {
+fn timeouts_of_a_run(
+    member: &mut PlainMember,
+) -> Result<[Option<(u64, TimeoutReason)>; 4], Refusal> {
     let first = next_timeout(member, 10);
-    certify_first(member, 100);
+    certify_first(member, 100)?;
     let certified = next_timeout(member, 100);
-    finalize_first(member, 100);
-    [
+    finalize_first(member, 100)?;
+    Ok([
         first,
         certified,
         next_timeout(member, 100),
         next_timeout(member, 9100),
-    ]
+    ])
 }
 
 #[test]
@@ -97,7 +96,7 @@ fn the_first_view_that_is_not_finalized_stalls(rt: HostRuntime) -> Result<(), Fa
         Some((9100, TimeoutReason::LeaderTimeout)),
     ];
     let mut member = stalling(rt.alloc())?;
-    assert_eq!(rt; timeouts_of_a_run(&mut member), wanted);
+    assert_eq!(rt; timeouts_of_a_run(&mut member)?, wanted);
     Ok(())
 }
 
