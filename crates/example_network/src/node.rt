@@ -26,7 +26,8 @@ const MOST_ANSWERS: u32 = 100_000;
 #[derive(Drop)]
 pub struct Node {
     alloc: Global,
-    driver: Driver,
+    /// On the heap: it holds the member, which is large.
+    driver: Box<Driver>,
     resolver: PeerResolver,
     polls: Polls,
     elector: PlainElector,
@@ -47,7 +48,8 @@ impl Node {
     {
         let member = Member::start(alloc, start_of(alloc, members, me, 0)?)?;
         let journal = Journal::open(alloc, &member)?;
-        Node::begin(alloc, members, me, Driver::new(alloc, member, journal))
+        let driver = Box::new(alloc, Driver::new(alloc, member, journal))?;
+        Node::begin(alloc, members, me, driver)
     }
 
     /// A member that goes on from its journal, in a process that begins now.
@@ -62,18 +64,19 @@ impl Node {
     {
         match journal.resume(start_of(alloc, members, me, now)?) {
             Ok((member, journal)) => {
-                Node::begin(alloc, members, me, Driver::new(alloc, member, journal))
+                let driver = Box::new(alloc, Driver::new(alloc, member, journal))?;
+                Node::begin(alloc, members, me, driver)
             }
             Err(error) => Err(EngineError::NotResumed(error)),
         }
     }
 
     /// The parts round a driver, with the resolver that its member's record begins.
-    fn begin(alloc: Global, members: u8, me: u8, driver: Driver) -> Result<Node, EngineError>
+    fn begin(alloc: Global, members: u8, me: u8, driver: Box<Driver>) -> Result<Node, EngineError>
         requires { me < members }
     {
-        let resolver = PeerResolver::start(alloc, TermLength::ONE, driver.member().record())?;
         let polls = Polls::new(alloc, members, me)?;
+        let resolver = PeerResolver::start(alloc, TermLength::ONE, driver.member().record())?;
         Ok(Node {
             alloc,
             driver,
@@ -99,7 +102,7 @@ impl Node {
 
     /// What is left when the process ends: the disk.
     pub(crate) fn into_journal(self) -> Journal {
-        self.driver.into_journal()
+        Box::into_inner(self.driver).into_journal()
     }
 
     /// The view that was entered last; 0 where the core has failed.
