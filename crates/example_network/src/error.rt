@@ -26,17 +26,26 @@ pub enum EngineError {
 impl fmt::Display for EngineError {
     fn fmt<W: fmt::Write>(&self, f: &mut fmt::Formatter<W>) -> fmt::Result {
         match self {
-            EngineError::Fault(Fault::OutOfMemory) => write!(f, "out of memory"),
-            EngineError::Fault(fault) => write!(f, "a call was refused: {fault}"),
-            EngineError::NotStarted(error) => write!(f, "a member did not start: {error}"),
+            EngineError::Fault(Fault::OutOfMemory) => f.write_str("out of memory"),
+            EngineError::Fault(fault) => write_cause(f, "a call was refused", fault),
+            EngineError::NotStarted(error) => write_cause(f, "a member did not start", error),
             EngineError::NotResumed(error) => {
-                write!(f, "a member did not go on from its journal: {error}")
+                write_cause(f, "a member did not go on from its journal", error)
             }
-            EngineError::NotReplayed(error) => write!(f, "a resolver did not start: {error}"),
-            EngineError::NotPrinted => write!(f, "what is printed could not be written"),
-            EngineError::NotFinalized => write!(f, "the views were not finalized in time"),
+            EngineError::NotReplayed(error) => write_cause(f, "a resolver did not start", error),
+            EngineError::NotPrinted => f.write_str("what is printed could not be written"),
+            EngineError::NotFinalized => f.write_str("the views were not finalized in time"),
         }
     }
+}
+
+/// Writes what could not be done, and why.
+fn write_cause<W: fmt::Write, E: fmt::Display>(
+    f: &mut fmt::Formatter<W>,
+    what: &str,
+    why: &E,
+) -> fmt::Result {
+    write!(f, "{what}: {why}")
 }
 
 impl From<Fault> for EngineError {

@@ -146,6 +146,12 @@ impl Node {
         self.ask(Call::TryVerify)?;
         self.ask(Call::TryPropose)?;
         self.ask(Call::CertifyCandidates)?;
+        self.ask_for_votes(view)?;
+        self.ask_for_certificates(view)
+    }
+
+    /// Asks for the votes in a view that answer proposals and verdicts.
+    fn ask_for_votes(&mut self, view: View) -> Result<(), Fault> {
         self.driver.call(
             Topic::Voted(VoteKind::Notarize, view),
             Call::ConstructNotarize(view),
@@ -153,7 +159,11 @@ impl Node {
         self.driver.call(
             Topic::Voted(VoteKind::Finalize, view),
             Call::ConstructFinalize(view),
-        )?;
+        )
+    }
+
+    /// Asks for the certificates of a view that are to be handed on.
+    fn ask_for_certificates(&mut self, view: View) -> Result<(), Fault> {
         self.ask(Call::BroadcastNotarization(view))?;
         self.ask(Call::BroadcastNullification(view))?;
         self.ask(Call::BroadcastFinalization(view))

@@ -64,18 +64,32 @@ impl World {
 
     /// Goes on until so many views are finalized, and every member knows of the last of them.
     pub(crate) fn run(&mut self, rt: &impl Print, views: u64) -> Result<(), EngineError> {
+        self.set_all_out()?;
+        for _ in 0..views.saturating_mul(MOST_EVENTS) {
+            if self.advance(rt, views)? {
+                return self.summarize(rt);
+            }
+        }
+        Err(EngineError::NotFinalized)
+    }
+
+    /// Every member's process begins.
+    fn set_all_out(&mut self) -> Result<(), Fault> {
         for me in 0..MEMBERS {
             self.set_out(me)?;
         }
-        for _ in 0..views.saturating_mul(MOST_EVENTS) {
-            self.disturb(views)?;
-            self.report.print_lines(rt)?;
-            if self.is_done(views) {
-                return self.summarize(rt);
-            }
-            self.step()?;
+        Ok(())
+    }
+
+    /// Prints what is new, and lets the next thing happen, unless all is done. Answers whether it is.
+    fn advance(&mut self, rt: &impl Print, views: u64) -> Result<bool, EngineError> {
+        self.disturb(views)?;
+        self.report.print_lines(rt)?;
+        if self.is_done(views) {
+            return Ok(true);
         }
-        Err(EngineError::NotFinalized)
+        self.step()?;
+        Ok(false)
     }
 
     /// A member whose process begins goes on, and what it wrote is sent.
