@@ -1,7 +1,7 @@
 #!/usr/bin/env python3
 """Tells what a check of a crate took its time for, function by function, from the folder in which it keeps what it has proved.
 
-    cd crates/NAME && rm -rf out/incremental && rt check        keeps it in out/incremental
+    cd crates/NAME && rm -rf out/incremental && rt check --jobs 1       keeps it in out/incremental
     tests/proof_times.py crates/NAME/out/incremental [--most N]
 
 A check writes what it makes of a function as several modules, one behind another: what its code does, step by step (`Lts`), that

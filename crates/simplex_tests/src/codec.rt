@@ -195,7 +195,7 @@ fn notarized(certificate: &Certificate<PlainScheme, PlainDigest>) -> Option<(u64
     }
 }
 
-/// A notarization in view 0x0200000000000003.
+/// A notarization in view 0x0200000000000003, as it is written.
 static NOTARIZED: [u8; 34] = [
     0, 0, 0, 0, 0, 0, 0, 0, 1, 2, 0, 0, 0, 0, 0, 0, 3, 0, 0, 0, 0, 0, 0, 0, 2, 0, 0, 0, 0, 0, 0, 0,
     7, 1,
@@ -231,10 +231,10 @@ fn artifacts_are_read_back(rt: HostRuntime) -> Result<(), Fail> {
     Ok(())
 }
 
-/// A true verdict on view 3.
+/// A true verdict on view 3, as it is written.
 static VERDICT: [u8; 18] = [6, 0, 0, 0, 0, 0, 0, 0, 1, 0, 0, 0, 0, 0, 0, 0, 3, 1];
 
-/// The vote below.
+/// The vote below, as it is written.
 static VOTE: [u8; 27] = [
     4, 1, 2, 3, 4, 0, 0, 0, 0, 0, 0, 0, 1, 0, 0, 0, 0, 0, 0, 0, 3, 0, 0, 0, 5, 9, 8,
 ];

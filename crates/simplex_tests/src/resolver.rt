@@ -87,7 +87,7 @@ fn settles_3(state: &State) -> bool {
         && !state.uncertifiable(View::new(3))
 }
 
-/// The notarization of view 3.
+/// The notarization of view 3, as it is served.
 static NOTARIZED: [u8; 34] = [
     0, 0, 0, 0, 0, 0, 0, 0, 1, 0, 0, 0, 0, 0, 0, 0, 3, 0, 0, 0, 0, 0, 0, 0, 2, 0, 0, 0, 0, 0, 0, 0,
     7, 1,
@@ -103,7 +103,7 @@ fn a_certified_notarization_is_served(rt: HostRuntime) -> Result<(), Fail> {
     Ok(())
 }
 
-/// The nullification of view 4 in epoch 9.
+/// The nullification of view 4 in epoch 9, as it is served.
 static NULLIFIED: [u8; 18] = [1, 0, 0, 0, 0, 0, 0, 0, 9, 0, 0, 0, 0, 0, 0, 0, 4, 1];
 
 #[test]

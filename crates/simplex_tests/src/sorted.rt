@@ -57,6 +57,7 @@ fn is_found(tracked: &Tracked<u64>, number: u64, place: usize) -> bool {
 #[test]
 fn a_place_is_found_by_few_probes(rt: HostRuntime) -> Result<(), Fail> {
     let tracked = tracked_of(rt.alloc(), [20, 1, 21])?;
+    assert_eq!(rt; tracked.len(), 3);
     for (number, place) in &PLACES {
         assert!(rt; is_found(&tracked, *number, *place), "{number}");
     }

@@ -84,17 +84,17 @@ fn encoding(alloc: Global, random: &mut Random, whole: &[PlainArtifact]) -> Resu
     }
 }
 
-/// What was read is written as the bytes that it was read of.
-fn same(is_written: bool) -> Result<bool, Fail> {
-    if is_written {
+/// That bytes are read, if what was read of them is written as them again.
+fn is_read(is_written_again: bool) -> Result<bool, Fail> {
+    if is_written_again {
         Ok(true)
     } else {
         Err(Fail::from("it is written as other bytes"))
     }
 }
 
-/// Bytes are refused by the name of a fault in them.
-fn refused(error: DecodeError) -> Result<bool, Fail> {
+/// That bytes are not read, for a fault in them.
+fn is_not_read(error: DecodeError) -> Result<bool, Fail> {
     match error {
         DecodeError::OutOfMemory => Err(Fail::from("no memory")),
         _ => Ok(false),
@@ -105,16 +105,16 @@ fn refused(error: DecodeError) -> Result<bool, Fail> {
 /// of a fault in them.
 fn is_artifact(alloc: Global, bytes: &[u8]) -> Result<bool, Fail> {
     match decode_artifact::<PlainScheme, PlainDigest>(alloc, bytes) {
-        Ok(artifact) => same(is_written(alloc, &artifact, bytes)?),
-        Err(error) => refused(error),
+        Ok(artifact) => is_read(is_written(alloc, &artifact, bytes)?),
+        Err(error) => is_not_read(error),
     }
 }
 
 /// The same of a certificate.
 fn is_certificate(alloc: Global, bytes: &[u8]) -> Result<bool, Fail> {
     match decode_certificate::<PlainScheme, PlainDigest>(alloc, bytes) {
-        Ok(certificate) => same(certificate.encode(alloc)?.as_slice() == bytes),
-        Err(error) => refused(error),
+        Ok(certificate) => is_read(certificate.encode(alloc)?.as_slice() == bytes),
+        Err(error) => is_not_read(error),
     }
 }
 

@@ -58,15 +58,32 @@ fn a_copy_is_encoded_alike(rt: HostRuntime) -> Result<(), Fail> {
     Ok(())
 }
 
-/// Whether a copy of an artifact is of the same view.
-fn is_copied_with_its_view(alloc: Global, artifact: &PlainArtifact) -> Result<bool, Fail> {
-    Ok(artifact.clone(alloc)?.view() == artifact.view())
+/// The view of each of the artifacts of `artifacts`.
+static VIEWS: [u64; 8] = [
+    3,
+    0x0102_0304_0506_0708,
+    3,
+    3,
+    3,
+    0x0102_0304_0506_0708,
+    3,
+    0x0102_0304_0506_0708,
+];
+
+/// Whether an artifact is of a view, and a copy of it too.
+fn is_copied_with_its_view(
+    alloc: Global,
+    artifact: &PlainArtifact,
+    view: u64,
+) -> Result<bool, Fail> {
+    let copy = artifact.clone(alloc)?;
+    Ok(artifact.view() == View::new(view) && copy.view() == View::new(view))
 }
 
 #[test]
 fn artifacts_are_copied_with_their_view(rt: HostRuntime) -> Result<(), Fail> {
-    for artifact in &artifacts(rt.alloc())? {
-        assert!(rt; is_copied_with_its_view(rt.alloc(), artifact)?);
+    for (artifact, view) in artifacts(rt.alloc())?.iter().zip(&VIEWS) {
+        assert!(rt; is_copied_with_its_view(rt.alloc(), artifact, *view)?);
     }
     Ok(())
 }
