@@ -1,6 +1,6 @@
 -- Rounds of views that change, and what is kept of them.
 use Rattle.std.proofs.Common.{Bor, ◌≡◌, ◌≢◌, ℕ, ◌<◌, ◌≤◌, ◌^◌, Bool, true, false, cond, List, [], ◌∷◌, length, Option, Some, None, is_some, unwrap_or, refl, ap, sym, subst, ◌∙◌, inl, inr, leb, arith}
-use Rattle.std.specs.Prelude.{max, IfSome, OnSome, slice_get, option_map, option_and_then}
+use Rattle.std.specs.Prelude.{IfSome, OnSome, slice_get, option_map, option_and_then}
 use Rattle.std.specs.Option.{option_copied}
 use Rattle.std.specs.Cmp.{nat_cmp_is}
 use Rattle.std.specs.declared.cmp.Ordering.{Ordering}
@@ -12,14 +12,15 @@ use Rattle.std.specs.FinMap.Entries.{find, put, by_order, find-put}
 use Rattle.std.proofs.lemmas.Bool.{cases_eq, eq-eqb, ne_eqb, false≢true}
 use Rattle.simplex_sorted.proofs.Maps.{is_eq-nat_cmp, get-kept}
 use Rattle.simplex_sorted.specs.Tracked.{at_or_above}
-use Rattle.simplex_round.specs.Round.{RoundFacts, new_round, leader_at, with_recovered, with_notarization, can_finalize}
+use Rattle.simplex_round.specs.Round.{RoundFacts, new_round, leader_at, token_of, is_judged, with_recovered, with_notarization, can_finalize}
 use Rattle.simplex_types.specs.declared.types.messages.Proposal.{Proposal}
 use Rattle.simplex_types.specs.Certificates.{ProposalFacts}
 use Rattle.simplex_round.specs.declared.round.Leader.{Leader}
-use Rattle.simplex_voter.specs.Rounds.{RoundsFacts, round_at, round_of, round_number, is_tracked, with_round, with_change, with_change_in_place, largest_tracked, is_explicit, IsKept, AreKept}
+use Rattle.simplex_voter.specs.Rounds.{RoundsFacts, round_at, round_of, round_number, is_tracked, with_round, with_change, with_change_in_place, largest_tracked, is_explicit, IsKept, AreKept, IsQuietBelow, IsWider}
+use Rattle.simplex_voter.specs.declared.voter.rounds.Bounds.{Bounds}
 use Rattle.simplex_voter.proofs.Containers.{entries-insert}
 use Rattle.simplex_voter.proofs.RoundsKept.{find_entries, insert-same}
-use Rattle.simplex_voter.proofs.Alike.{IsAlike, IsAlikeBut}
+use Rattle.simplex_voter.proofs.Alike.{IsAlike}
 
 module _ {V : Type 0} where
   found_put : (v : ℕ) (x : V) (es : List (ℕ × V)) → find nat_cmp v (put nat_cmp v x es) ≡ Some x
@@ -40,15 +41,6 @@ module _ {V : Type 0} where
 
   pub some_is : (x y : V) → Some x ≡ Some y → x ≡ y
   some_is x y same = ap (λ o. unwrap_or o x) same
-
-raised_above : (may : Bool) (h v : ℕ) → h ≤ cond may (max h v) h
-raised_above true h v = grind arith
-raised_above false h v = omega arith
-
--- where a view may become explicit, the bound is raised to it
-pub raised_to : (may : Bool) (h v new : ℕ) → new ≡ cond may (max h v) h → may ≡ true → v ≤ new
-raised_to true h v new is may = rw is (grind arith)
-raised_to false h v new is never = absurd (false≢true never)
 
 module _ {K D : Type 0} (x : RoundsFacts K D) where
   module _ (m : map.FinMap nat_cmp (RoundFacts K D)) (shown : x.by_view ≡ map.entries m) where
@@ -93,8 +85,8 @@ module _ {K D : Type 0} (x : RoundsFacts K D) where
     pub untouched : (v : ℕ) (change : RoundFacts K D → RoundFacts K D) → None ≡ map.get m v → x ≡ with_change_in_place x v change
     untouched v change none = sym (ap (λ b. cond b (with_change x v change) x) (ap is_some (found_at v ∙ sym none)))
 
-  -- what is kept of each round, as far as some view is explicit
-  pub kept_put : {h : ℕ} → AreKept h x → (v : ℕ) (r : RoundFacts K D) → IsKept h x v r → AreKept h (with_round x v r)
+  -- what is kept of each round, within bounds
+  pub kept_put : {h : Bounds} → AreKept h x → (v : ℕ) (r : RoundFacts K D) → IsKept h x v r → AreKept h (with_round x v r)
   kept_put {h} kept v r here q s found = elim (cases_eq q v) [
     | inl at ↦
         let same : r ≡ s = some_is r s (sym (rw at (found_put v r x.by_view)) ∙ found) in
@@ -103,11 +95,10 @@ module _ {K D : Type 0} (x : RoundsFacts K D) where
   ]
     where
       on : IsKept h x q s → IsKept h (with_round x v r) q s
-      on k = record { me = k.me; members = k.members; round = k.round; in_range = k.in_range; notarized = k.notarized; leader = k.leader; explicit = k.explicit }
+      on k = record { me = k.me; members = k.members; round = k.round; in_range = k.in_range; notarized = k.notarized; leader = k.leader; explicit = k.explicit; under_way = k.under_way; refused = k.refused }
 
-  -- a change that may make the view explicit, where that is not above
-  pub explicit_kept : {h : ℕ} {may : Bool} (v : ℕ) (r s : RoundFacts K D) → IsKept h x v r → (may ≡ true → v ≤ h) → IsAlikeBut may r s → IsKept h x v s
-  explicit_kept v r s k not_above alike = record {
+  pub alike_kept : {h : Bounds} (v : ℕ) (r s : RoundFacts K D) → IsKept h x v r → IsAlike h v r s → IsKept h x v s
+  alike_kept v r s k alike = record {
     me = alike.me ∙ k.me;
     members = alike.members ∙ k.members;
     round = alike.round ∙ k.round;
@@ -116,37 +107,49 @@ module _ {K D : Type 0} (x : RoundsFacts K D) where
     leader = subst (λ l. IfSome l (λ l. l.idx < length x.members)) (sym alike.leader) k.leader;
     explicit = λ is. elim (alike.explicit is) [
       | inl was ↦ k.explicit was
-      | inr may ↦ not_above may
+      | inr may ↦ may
+    ];
+    under_way = λ is. elim (alike.under_way is) [
+      | inl was ↦ k.under_way was
+      | inr may ↦ may
+    ];
+    refused = λ is. elim (alike.refused is) [
+      | inl was ↦ k.refused was
+      | inr may ↦ may
     ];
   }
 
-  pub alike_kept : {h : ℕ} (v : ℕ) (r s : RoundFacts K D) → IsKept h x v r → IsAlike r s → IsKept h x v s
-  alike_kept v r s k alike = explicit_kept v r s k (λ never. absurd (false≢true never)) alike
-
-  -- a higher view may be explicit
-  higher_kept : {h : ℕ} (higher : ℕ) → h ≤ higher → AreKept h x → AreKept higher x
-  higher_kept higher above kept v r found =
+  -- wider bounds allow no less
+  pub wider_kept : {h wide : Bounds} → IsWider h wide → AreKept h x → AreKept wide x
+  wider_kept wider kept v r found =
       let k = kept v r found in
-      record { me = k.me; members = k.members; round = k.round; in_range = k.in_range; notarized = k.notarized; leader = k.leader; explicit = λ is. omega (arith, k.explicit is, above) }
+      record {
+        me = k.me;
+        members = k.members;
+        round = k.round;
+        in_range = k.in_range;
+        notarized = k.notarized;
+        leader = k.leader;
+        explicit = λ is. omega (arith, k.explicit is, wider.explicit);
+        under_way = λ is. omega (arith, k.under_way is, wider.under_way);
+        refused = λ is. let may = k.refused is in record { from = omega (arith, may.from, wider.refused_from); to = omega (arith, may.to, wider.refused_to) };
+      }
 
-  pub raised_kept : {h : ℕ} (may : Bool) (v new : ℕ) → new ≡ cond may (max h v) h → AreKept h x → AreKept new x
-  raised_kept {h} may v new is kept = higher_kept new (rw is (raised_above may h v)) kept
-
-  pub none_explicit_above : {h : ℕ} → AreKept h x → (v : ℕ) (r : RoundFacts K D) → h < v → round_at x v ≡ Some r → is_explicit r ≡ false
+  pub none_explicit_above : {h : Bounds} → AreKept h x → (v : ℕ) (r : RoundFacts K D) → h.explicit < v → round_at x v ≡ Some r → is_explicit r ≡ false
   none_explicit_above {h} kept v r above found = by_test (is_explicit r) refl
     where
       by_test : (b : Bool) → is_explicit r ≡ b → b ≡ false
       by_test true is = absurd (omega (arith, (kept v r found).explicit is, above))
       by_test false is = refl
 
-  pub fresh_kept : {h : ℕ} (v : ℕ) → v ≤ largest_tracked → IsKept h x v (new_round x.me x.members (round_number x v))
-  fresh_kept v within = record { me = refl; members = refl; round = refl; in_range = within; notarized = λ some. absurd (false≢true some); leader = tt; explicit = λ some. absurd (false≢true some) }
+  pub fresh_kept : {h : Bounds} (v : ℕ) → v ≤ largest_tracked → IsKept h x v (new_round x.me x.members (round_number x v))
+  fresh_kept v within = record { me = refl; members = refl; round = refl; in_range = within; notarized = λ some. absurd (false≢true some); leader = tt; explicit = λ some. absurd (false≢true some); under_way = λ some. absurd (false≢true some); refused = λ some. absurd (false≢true some) }
 
   -- a leader is a member
-  pub leader_member : {h : ℕ} → AreKept h x → (v : ℕ) (r : RoundFacts K D) (l : Leader K) → Some r ≡ round_at x v → Some l ≡ r.leader → l.idx < length x.members
+  pub leader_member : {h : Bounds} → AreKept h x → (v : ℕ) (r : RoundFacts K D) (l : Leader K) → Some r ≡ round_at x v → Some l ≡ r.leader → l.idx < length x.members
   leader_member kept v r l here is = subst (λ o. IfSome o (λ l. l.idx < length x.members)) (sym is) (kept v r (sym here)).leader
 
-  module _ (m : map.FinMap nat_cmp (RoundFacts K D)) (shown : x.by_view ≡ map.entries m) {h : ℕ} (kept : AreKept h x) where
+  module _ (m : map.FinMap nat_cmp (RoundFacts K D)) (shown : x.by_view ≡ map.entries m) {h : Bounds} (kept : AreKept h x) where
     pub in_range_at : (v : ℕ) (found : Option (Bor (RoundFacts K D))) → option_copied found ≡ map.get m v → OnSome found (v ≤ largest_tracked)
     in_range_at v None is = tt
     in_range_at v (Some r) is = (kept v r.now (found_at m shown v ∙ sym is)).in_range
@@ -163,12 +166,12 @@ module _ {K D : Type 0} (x : RoundsFacts K D) where
       where
         by_kept : (b : Bool) → IsKept h x v (cond b r (record (with_recovered same r c.proposal) { notarization = Some c }))
         by_kept true = kept_at v r here
-        by_kept false = let k = kept_at v r here in record { me = k.me; members = k.members; round = k.round; in_range = k.in_range; notarized = λ some. votable; leader = k.leader; explicit = k.explicit }
+        by_kept false = let k = kept_at v r here in record { me = k.me; members = k.members; round = k.round; in_range = k.in_range; notarized = λ some. votable; leader = k.leader; explicit = k.explicit; under_way = k.under_way; refused = k.refused }
 
     pub kept_led : (v member : ℕ) (r s : RoundFacts K D) → member < length x.members → Some r ≡ map.get m v → s ≡ record r { leader = leader_at r.members member } → AreKept h (record x { by_view = map.entries (map.insert m v s) })
     kept_led v member r s within here is =
         let k = kept_at v r here in
-        kept_insert v s (rw is (record { me = k.me; members = k.members; round = k.round; in_range = k.in_range; notarized = k.notarized; leader = by_key (slice_get r.members member); explicit = k.explicit }))
+        kept_insert v s (rw is (record { me = k.me; members = k.members; round = k.round; in_range = k.in_range; notarized = k.notarized; leader = by_key (slice_get r.members member); explicit = k.explicit; under_way = k.under_way; refused = k.refused }))
       where
         by_key : (key : Option K) → IfSome (option_map (λ k. record { idx = member; key = k }) key) (λ (l : Leader K). l.idx < length x.members)
         by_key None = tt
@@ -179,12 +182,16 @@ module _ {K D : Type 0} (x : RoundsFacts K D) where
         subst (λ n. AreKept h (record x { by_view = map.entries n })) (sym is) (kept_insert v fresh (rw nothing (fresh_kept v within)))
 
     -- a tracked round is changed
-    pub kept_changed : (v : ℕ) (r s : RoundFacts K D) → Some r ≡ map.get m v → IsAlike r s → AreKept h (record x { by_view = map.entries (map.insert m v s) })
+    pub kept_changed : (v : ℕ) (r s : RoundFacts K D) → Some r ≡ map.get m v → IsAlike h v r s → AreKept h (record x { by_view = map.entries (map.insert m v s) })
     kept_changed v r s here alike = kept_insert v s (alike_kept v r s (kept_at v r here) alike)
 
-    -- and may make it explicit
-    pub kept_explicit : {may : Bool} (v : ℕ) (r s : RoundFacts K D) → (may ≡ true → v ≤ h) → Some r ≡ map.get m v → IsAlikeBut may r s → AreKept h (record x { by_view = map.entries (map.insert m v s) })
-    kept_explicit v r s not_above here alike = kept_insert v s (explicit_kept v r s (kept_at v r here) not_above alike)
+    -- below the bound no certification is under way
+    pub quiet_below : IsQuietBelow m h.under_way
+    quiet_below v r found below = by_test (is_some (token_of r.certification)) refl
+      where
+        by_test : (b : Bool) → is_some (token_of r.certification) ≡ b → b ≡ false
+        by_test true is = absurd (omega (arith, (kept_at v r (sym found)).under_way is, below))
+        by_test false is = refl
 
 -- after a view is tracked: y is what is known then
 module _ {K D : Type 0} (x y : RoundsFacts K D) (v : ℕ) (tracked : y ≡ with_round x v (round_of x v)) (m : map.FinMap nat_cmp (RoundFacts K D)) (shown : y.by_view ≡ map.entries m) where
@@ -204,7 +211,7 @@ module _ {K D : Type 0} (x y : RoundsFacts K D) (v : ℕ) (tracked : y ≡ with_
       ∙ ap (with_round x v) (is ∙ ap change (lent_tracked r here))
 
 -- no round is known
-pub none_kept : {K D : Type 0} {h : ℕ} (x : RoundsFacts K D) → x.by_view ≡ [] → AreKept h x
+pub none_kept : {K D : Type 0} {h : Bounds} (x : RoundsFacts K D) → x.by_view ≡ [] → AreKept h x
 none_kept x none v r found = let bad : None ≡ Some r = sym (ap (find nat_cmp v) none) ∙ found in cc
 
 -- a view with a notarization is tracked
@@ -221,11 +228,11 @@ changed_there_always x y is m shown v r s change here same =
     put_shown y m shown v s ∙ ap (with_round y v) (same ∙ ap change (lent y m shown v r here)) ∙ ap (λ z. with_change z v change) is
 
 -- what is left of the rounds
-pub left_kept : {K D : Type 0} {h : ℕ} (x : RoundsFacts K D) (m : map.FinMap nat_cmp (RoundFacts K D)) → x.by_view ≡ map.entries m → (v : ℕ) (n : map.FinMap nat_cmp (RoundFacts K D)) → n ≡ at_or_above m v → AreKept h x → AreKept h (record x { by_view = map.entries n })
+pub left_kept : {K D : Type 0} {h : Bounds} (x : RoundsFacts K D) (m : map.FinMap nat_cmp (RoundFacts K D)) → x.by_view ≡ map.entries m → (v : ℕ) (n : map.FinMap nat_cmp (RoundFacts K D)) → n ≡ at_or_above m v → AreKept h x → AreKept h (record x { by_view = map.entries n })
 left_kept {K} {D} {h} x m shown v n is kept q r found = on (by_test (leb v q) (sym (get-kept m (λ u. leb v u) q) ∙ ap (λ k. map.get k q) (sym is) ∙ sym (find_entries n q) ∙ found))
   where
     on : IsKept h x q r → IsKept h (record x { by_view = map.entries n }) q r
-    on k = record { me = k.me; members = k.members; round = k.round; in_range = k.in_range; notarized = k.notarized; leader = k.leader; explicit = k.explicit }
+    on k = record { me = k.me; members = k.members; round = k.round; in_range = k.in_range; notarized = k.notarized; leader = k.leader; explicit = k.explicit; under_way = k.under_way; refused = k.refused }
 
     by_test : (b : Bool) → cond b (map.get m q) None ≡ Some r → IsKept h x q r
     by_test true here = kept q r (found_at x m shown q ∙ here)

@@ -1,4 +1,5 @@
 pub mod RoundsKept
+pub mod Ahead
 pub mod Alike
 pub mod Changed
 pub mod Shown
@@ -22,6 +23,7 @@ pub mod Accepting
 pub mod Entering
 pub mod Judging
 pub mod Recalled
+pub mod Refused
 pub mod Proposals
 pub mod Requests
 pub mod Stalls

@@ -1,19 +1,21 @@
 -- A raised finalized view, as a change of a state's facts.
-use Rattle.std.proofs.Common.{◌≡◌, ℕ, ◌+◌, Bool, true, false, cond, ltb, leb, filter, List, Option, Some, None, refl, ap, sym, subst, ◌∙◌, arith}
-use Rattle.std.specs.Prelude.{map as map_list, option_map}
+use Rattle.std.proofs.Common.{◌≡◌, ℕ, ◌+◌, ◌<◌, ◌≤◌, Bool, true, false, cond, ltb, leb, filter, List, Option, Some, None, refl, ap, sym, subst, ◌∙◌, inl, inr, arith}
+use Rattle.std.specs.Prelude.{max, is_some, map as map_list, option_map}
 use Rattle.std.specs.Ordering.{nat_cmp}
 use Rattle.std.specs.FinMap as map
 use Rattle.std.proofs.lemmas.Bool.Decides.{nat_tests}
+use Rattle.std.proofs.lemmas.Bool.{cases_lt, lt-leb, le-leb, false≢true}
 use Rattle.simplex_sorted.specs.Tracked.{at_or_above}
-use Rattle.simplex_round.specs.Round.{RoundFacts}
+use Rattle.simplex_round.specs.Round.{RoundFacts, token_of, after_abort}
 use Rattle.simplex_voter.specs.Facts.{StateFacts}
 use Rattle.simplex_voter.specs.Certification.{without_token, with_finalized_view}
-use Rattle.simplex_voter.specs.Rounds.{RoundsFacts, round_at, IsKept, AreKept}
+use Rattle.simplex_voter.specs.Rounds.{RoundsFacts, round_at, IsKept, AreKept, IsQuietBelow}
+use Rattle.simplex_voter.specs.declared.voter.rounds.Bounds.{Bounds}
 use Rattle.simplex_voter.proofs.Shown.{with_rounds}
 use Rattle.simplex_voter.proofs.RoundsKept.{keys-kept}
-use Rattle.simplex_voter.proofs.Alike.{token_alike}
+use Rattle.simplex_voter.proofs.Alike.{token_alike, none_after_abort}
 use Rattle.simplex_voter.proofs.Changed.{some_is, alike_kept}
-use Rattle.simplex_voter.proofs.Walked.{find-changed}
+use Rattle.simplex_voter.proofs.Walked.{Walked, walk_begins, find-changed}
 
 next_below : (v w : ℕ) → leb (v + 1) w ≡ ltb v w
 next_below v w = grind (arith, nat_tests)
@@ -32,17 +34,45 @@ module _ {K L D : Type 0} where
       ∙ ap (λ (m : map.FinMap nat_cmp (Unit {0})). record y { finalized = v; named = map.keys m; rounds = map_list (λ e. (e.0, cond (leb e.0 v) (without_token e.1) e.1)) y.rounds }) (drops ∙ ap (at_or_above n) after)
       ∙ raised_shown y n _ v shown above refl
 
--- certifications that end change nothing that is kept of rounds
-pub ended_kept : {K D : Type 0} {h : ℕ} (x : RoundsFacts K D) (v : ℕ) (es : List (ℕ × RoundFacts K D)) → es ≡ map_list (λ e. (e.0, cond (leb e.0 v) (without_token e.1) e.1)) x.by_view → AreKept h x → AreKept h (record x { by_view = es })
-ended_kept {K} {D} {h} x v es is kept = subst (λ (fs : List (ℕ × RoundFacts K D)). AreKept h (record x { by_view = fs })) (sym is) (λ q r found. on q r (by_value q (round_at x q) refl r (sym (find-changed (λ u (s : RoundFacts K D). cond (leb u v) (without_token s) s) q x.by_view) ∙ found)))
+module _ {K D : Type 0} where
+  none_to_end : (r : RoundFacts K D) → is_some (token_of r.certification) ≡ false → without_token r ≡ r
+  none_to_end r none = rw none refl
+
+  -- a walk that ends certifications may begin where none is under way below
+  pub ends_begin : (m : map.FinMap nat_cmp (RoundFacts K D)) (from n : ℕ) → IsQuietBelow m from → n ≤ from → Walked m m without_token n
+  ends_begin m from n quiet within = walk_begins m without_token n (λ q r found below. none_to_end r (quiet q r found (omega (arith, below, within))))
+
+  none_under_way : (r : RoundFacts K D) → is_some (token_of (without_token r).certification) ≡ false
+  none_under_way r = by_test (is_some (token_of r.certification)) refl
+    where
+      by_test : (b : Bool) → is_some (token_of r.certification) ≡ b → is_some (token_of (cond b (record r { certification = after_abort r.certification }) r).certification) ≡ false
+      by_test true is = none_after_abort r.certification
+      by_test false is = is
+
+-- where certifications at or below a view end, none is under way there
+pub ended_kept : {K D : Type 0} {h : Bounds} (x : RoundsFacts K D) (v : ℕ) (es : List (ℕ × RoundFacts K D)) (after : Bounds) → after ≡ record h { under_way = max h.under_way (v + 1) } → es ≡ map_list (λ e. (e.0, cond (leb e.0 v) (without_token e.1) e.1)) x.by_view → AreKept h x → AreKept after (record x { by_view = es })
+ended_kept {K} {D} {h} x v es after is' is kept = rw is' (subst (λ (fs : List (ℕ × RoundFacts K D)). AreKept ended (record x { by_view = fs })) (sym is) (λ q r found. by_value q (round_at x q) refl r (sym (find-changed (λ u (s : RoundFacts K D). cond (leb u v) (without_token s) s) q x.by_view) ∙ found)))
   where
-    on : (q : ℕ) (r : RoundFacts K D) → IsKept h x q r → IsKept h (record x { by_view = map_list (λ e. (e.0, cond (leb e.0 v) (without_token e.1) e.1)) x.by_view }) q r
-    on q r k = record { me = k.me; members = k.members; round = k.round; in_range = k.in_range; notarized = k.notarized; leader = k.leader; explicit = k.explicit }
+    ended : Bounds
+    ended = record h { under_way = max h.under_way (v + 1) }
 
-    by_test : (b : Bool) (q : ℕ) (s : RoundFacts K D) → IsKept h x q s → IsKept h x q (cond b (without_token s) s)
-    by_test true q s k = alike_kept x q s (without_token s) k (token_alike s)
-    by_test false q s k = k
+    changed : RoundsFacts K D
+    changed = record x { by_view = map_list (λ e. (e.0, cond (leb e.0 v) (without_token e.1) e.1)) x.by_view }
 
-    by_value : (q : ℕ) (s : Option (RoundFacts K D)) → round_at x q ≡ s → (r : RoundFacts K D) → option_map (λ (t : RoundFacts K D). cond (leb q v) (without_token t) t) s ≡ Some r → IsKept h x q r
+    at_or_below : (q : ℕ) (s : RoundFacts K D) → IsKept h x q s → IsKept ended changed q (without_token s)
+    at_or_below q s was =
+        let k = alike_kept x q s (without_token s) was (token_alike s) in
+        record { me = k.me; members = k.members; round = k.round; in_range = k.in_range; notarized = k.notarized; leader = k.leader; explicit = k.explicit; under_way = λ is. absurd (false≢true (sym (none_under_way s) ∙ is)); refused = λ is. let may = k.refused is in record { from = may.from; to = may.to } }
+
+    above : (q : ℕ) (s : RoundFacts K D) → v < q → IsKept h x q s → IsKept ended changed q s
+    above q s higher k = record { me = k.me; members = k.members; round = k.round; in_range = k.in_range; notarized = k.notarized; leader = k.leader; explicit = k.explicit; under_way = λ is. let low = k.under_way is in grind (arith, low, higher); refused = λ is. let may = k.refused is in record { from = may.from; to = may.to } }
+
+    by_test : (q : ℕ) (s : RoundFacts K D) → IsKept h x q s → IsKept ended changed q (cond (leb q v) (without_token s) s)
+    by_test q s k = elim (cases_lt v q) [
+      | inl higher ↦ rw (lt-leb q v higher) (above q s higher k)
+      | inr lower ↦ rw (le-leb q v lower) (at_or_below q s k)
+    ]
+
+    by_value : (q : ℕ) (s : Option (RoundFacts K D)) → round_at x q ≡ s → (r : RoundFacts K D) → option_map (λ (t : RoundFacts K D). cond (leb q v) (without_token t) t) s ≡ Some r → IsKept ended changed q r
     by_value q None is r e = let bad : None ≡ Some r = e in cc
-    by_value q (Some s) is r e = rw (← some_is _ r e) (by_test (leb q v) q s (kept q s is))
+    by_value q (Some s) is r e = rw (← some_is _ r e) (by_test q s (kept q s is))

@@ -1,17 +1,17 @@
 -- The scan for a proposal to verify, step by step.
-use Rattle.std.proofs.Common.{◌≡◌, ◌≢◌, ℕ, ◌+◌, ◌<◌, ◌≤◌, Bool, true, false, ◌&&◌, not, ltb, leb, eqb, cond, List, filter, Option, Some, None, slice_get, is_some, unwrap_or, T, refl, ap, sym, ◌∙◌, subst, inl, inr, arith}
-use Rattle.std.specs.Prelude.{map as map_list, option_map, option_and_then}
+use Rattle.std.proofs.Common.{◌≡◌, ◌≢◌, ℕ, ◌+◌, ◌<◌, ◌≤◌, Bool, true, false, ◌&&◌, not, ◌||◌, ◌⊎◌, ◌-◌, ◌^◌, ltb, leb, eqb, cond, List, filter, Option, Some, None, slice_get, is_some, unwrap_or, T, refl, ap, sym, ◌∙◌, subst, inl, inr, arith}
+use Rattle.std.specs.Prelude.{max, min, map as map_list, option_map, option_and_then}
 use Rattle.std.specs.Option.{option_map_or}
 use Rattle.std.specs.List.{list_any}
 use Rattle.std.specs.Ordering.{nat_cmp}
 use Rattle.std.specs.Cmp.{nat_cmp_total}
 use Rattle.std.specs.FinMap as map
 use Rattle.std.specs.FinMap.Entries.{find, put, find-put, is_sorted}
-use Rattle.std.proofs.lemmas.Bool.{cases_eq, cases_lt, cases_order, eq-eqb, ne_eqb, lt-ltb, le-ltb, false≢true}
+use Rattle.std.proofs.lemmas.Bool.{cases_eq, cases_lt, cases_order, eq-eqb, ne_eqb, lt-ltb, le-ltb, lt-leb, false≢true}
 use Rattle.std.proofs.lemmas.Bool.Decides.{nat_tests}
 use Rattle.simplex_sorted.proofs.RisingEntries.{Rises, rises}
 use Rattle.simplex_sorted.proofs.Maps.{is_eq-nat_cmp, same_maps}
-use Rattle.simplex_types.specs.Terms.{next_term_start}
+use Rattle.simplex_types.specs.Terms.{next_term_start, term_end}
 use Rattle.simplex_types.specs.declared.types.messages.Proposal.{Proposal}
 use Rattle.simplex_round.specs.declared.round.Leader.{Leader}
 use Rattle.simplex_round.specs.Round.{RoundFacts, new_round, pending_proposal}
@@ -114,6 +114,36 @@ module _ {V : Type 0} where
       by_first None is = refl
       by_first (Some e) is = absurd (false≢true (ap is_some is))
 
+none_admits : (a c d e : Bool) → ((a && false) || (c && d && false) || (false && e)) ≡ false
+none_admits true true true true = refl
+none_admits true true true false = refl
+none_admits true true false true = refl
+none_admits true true false false = refl
+none_admits true false d true = refl
+none_admits true false d false = refl
+none_admits false true true true = refl
+none_admits false true true false = refl
+none_admits false true false true = refl
+none_admits false true false false = refl
+none_admits false false d true = refl
+none_admits false false d false = refl
+
+-- from a view the scan goes on there, or past the near views to the last
+pub onward_cases : (near next last from : ℕ) → from ≡ cond (ltb near next && ltb next last) last next → (from ≡ next) ⊎ ((near < next) × (next < last) × (from ≡ last))
+onward_cases near next last from is = elim (cases_lt near next) [
+  | inl past ↦ elim (cases_lt next last) [
+    | inl short ↦ inr (past, short, rw (lt-ltb near next past, lt-ltb next last short) at is)
+    | inr over ↦ inl (rw (lt-ltb near next past, le-ltb next last over) at is)
+  ]
+  | inr near' ↦ inl (rw (le-ltb near next near') at is)
+]
+
+pub onward_within : (near next last from v : ℕ) → from ≡ cond (ltb near next && ltb next last) last next → next ≡ v + 1 → v ≤ last → (next ≤ from) × (from ≤ last + 1)
+onward_within near next last from v is after within = elim (onward_cases near next last from is) [
+  | inl same ↦ (omega (arith, same), omega (arith, same, after, within))
+  | inr skips ↦ (omega (arith, skips.1, skips.2), omega (arith, skips.2))
+]
+
 either : {A : Type 0} (b : Bool) (a : A) → cond b a a ≡ a
 either true a = refl
 either false a = refl
@@ -201,6 +231,50 @@ module _ {K L D : Type 0} (same : D → D → Bool) (elect : Elect L) where
         by_value : (q : ℕ) (b : Bool) → b ≡ false → (o : Option (RoundFacts K D)) → o ≡ option_map (λ r. cond b (round_left r x.moment (stands q r)) r) o
         by_value q b none None = refl
         by_value q b none (Some r) = rw none refl
+
+    -- past the views near the current one none is admitted up to the next term's start
+    pub far_off : (near q : ℕ) → near ≡ min (x.current + x.terms.optimistic_views) (2 ^ 64 - 1) → near < q → q < 2 ^ 64 → q < next_term_start x.terms.term_length x.current → is_admitted x q ≡ false
+    unfolding is_admitted
+    far_off near q is past room short =
+        let over : x.current < q = grind (arith, is, past, room) in
+        let wide : x.terms.optimistic_views < q - x.current = grind (arith, is, past, room) in
+        rw (lt-leb q x.current over, lt-leb (q - x.current) x.terms.optimistic_views wide, ne_eqb q (next_term_start x.terms.term_length x.current) (omega (arith, short)))
+        (none_admits (leb 1 q) (ltb x.current q) (leb q (term_end x.terms.term_length x.current)) (leb (q - x.current) (max 1 x.terms.optimistic_views)))
+
+    -- views where this member may not work are passed
+    pub passes_on : (y : StateFacts K L D) (n m : ℕ) → n ≤ m → IsScanned y n → ((q : ℕ) → n ≤ q → q < m → is_admitted x q ≡ false) → IsScanned y m
+    unfolding standing
+    passes_on y n m up passed far = record {
+      others = passed.others;
+      each = λ q. passed.each q ∙ by_value q (round_at x q);
+      silent = λ q r above below here. elim (cases_lt q n) [
+        | inl early ↦ passed.silent q r above early here
+        | inr late ↦ ap is_answered (passes q r (far q late below))
+      ];
+    }
+      where
+        passes : (q : ℕ) (r : RoundFacts K D) → is_admitted x q ≡ false → stands q r ≡ Passed
+        passes q r not_admitted = rw not_admitted refl
+
+        left_alike : (q : ℕ) (r : RoundFacts K D) → left_until n q r ≡ left_until m q r
+        left_alike q r = elim (cases_lt q n) [
+          | inl early ↦ rw (lt-ltb q n early, lt-ltb q m (omega (arith, early, up))) refl
+          | inr late ↦ elim (cases_lt q m) [
+            | inl below ↦ rw (passes q r (far q late below)) (either (leb x.current q && ltb q n) r ∙ sym (either (leb x.current q && ltb q m) r))
+            | inr beyond ↦ rw (le-ltb q n late, le-ltb q m beyond) refl
+          ]
+        ]
+
+        by_value : (q : ℕ) (o : Option (RoundFacts K D)) → option_map (left_until n q) o ≡ option_map (left_until m q) o
+        by_value q None = refl
+        by_value q (Some r) = ap Some (left_alike q r)
+
+    -- the scan goes on where it may
+    pub goes_onward : (y : StateFacts K L D) (next near last from : ℕ) → near ≡ min (x.current + x.terms.optimistic_views) (2 ^ 64 - 1) → last ≡ next_term_start x.terms.term_length x.current → last < 2 ^ 64 → from ≡ cond (ltb near next && ltb next last) last next → IsScanned y next → IsScanned y from
+    goes_onward y next near last from is top room on passed = elim (onward_cases near next last from on) [
+      | inl same ↦ subst (IsScanned y) (sym same) passed
+      | inr skips ↦ subst (IsScanned y) (sym skips.2) (passes_on y next last (omega (arith, skips.1)) passed (λ q late short. far_off near q is (omega (arith, skips.0, late)) (omega (arith, short, room)) (omega (arith, short, top))))
+    ]
 
     -- which views the scan comes to
     module _ (ordered : is_sorted nat_cmp x.rounds ≡ true) where

@@ -1,5 +1,5 @@
 -- A walk over the tracked views that changes each value up to a view.
-use Rattle.std.proofs.Common.{◌≡◌, ℕ, ◌+◌, ◌<◌, ◌≤◌, Bool, true, false, cond, ◌&&◌, ltb, leb, List, [], ◌∷◌, Option, Some, None, slice_get, refl, ap, sym, ◌∙◌, subst, T, inl, inr, arith}
+use Rattle.std.proofs.Common.{◌≡◌, ℕ, ◌+◌, ◌<◌, ◌≤◌, Bool, true, false, cond, ◌&&◌, ltb, leb, List, [], ◌∷◌, Option, Some, None, slice_get, refl, ap, sym, ◌∙◌, subst, T, ◌⊎◌, inl, inr, arith}
 use Rattle.std.specs.Prelude.{map as map_list, option_map}
 use Rattle.std.specs.Ordering.{nat_cmp, is_lt}
 use Rattle.std.proofs.lemmas.Bool.Decides.{nat_tests}
@@ -59,6 +59,18 @@ module _ {V : Type 0} (o m : FinMap nat_cmp V) (f : V → V) where
           rw (lt-ltb q v lower, empty) (none q late lower)
     ]
   ]
+
+-- a walk begins where no value below is changed
+pub walk_begins : {V : Type 0} (o : FinMap nat_cmp V) (f : V → V) (n : ℕ) → ((q : ℕ) (r : V) → map.get o q ≡ Some r → q < n → f r ≡ r) → Walked o o f n
+walk_begins o f n quiet q = by_test (cases_lt q n)
+  where
+    by_value : (r : Option _) → map.get o q ≡ r → q < n → r ≡ option_map f r
+    by_value None is below = refl
+    by_value (Some r) is below = ap Some (sym (quiet q r is below))
+
+    by_test : (q < n) ⊎ (n ≤ q) → map.get o q ≡ cond (ltb q n) (option_map f (map.get o q)) (map.get o q)
+    by_test (inl below) = rw (lt-ltb q n below) (by_value (map.get o q) refl below)
+    by_test (inr above) = rw (le-ltb q n above) refl
 
 -- the first value at or above n is changed
 pub walked_step : {V : Type 0} (o m : FinMap nat_cmp V) (f : V → V) (n : ℕ) (e : ℕ × V) → Some e ≡ first_entry (at_or_above m n) → Walked o m f n → Walked o (map.insert m e.0 (f e.1)) f (e.0 + 1)

@@ -12,6 +12,7 @@ use Rattle.simplex_round.specs.Slot.{after_mark, after_own}
 use Rattle.simplex_round.specs.Round.{RoundFacts, new_round, is_nullify, should_verify, pending_proposal, can_notarize}
 use Rattle.simplex_voter.specs.Verifying.{with_mark, verifying_round}
 use Rattle.simplex_voter.specs.Proposing.{proposal_of, proposed_round}
+use Rattle.simplex_voter.specs.declared.voter.rounds.Bounds.{Bounds}
 use Rattle.simplex_voter.specs.Rounds.{RoundsFacts, round_of, round_number, with_round}
 use Rattle.simplex_voter.proofs.Alike.{IsAlike, unchanged}
 use Rattle.simplex_voter.proofs.Changed.{found_at, lent, put_shown, stays}
@@ -21,18 +22,18 @@ either_true true = refl
 either_true false = refl
 
 module _ {K D : Type 0} where
-  pub marked_alike : (r s : RoundFacts K D) → s ≡ with_mark r → IsAlike r s
-  marked_alike r s is = rw is (by_test (is_nullify r.decision))
+  pub marked_alike : {h : Bounds} {v : ℕ} (r s : RoundFacts K D) → s ≡ with_mark r → IsAlike h v r s
+  marked_alike {h} {v} r s is = rw is (by_test (is_nullify r.decision))
     where
-      by_test : (b : Bool) → IsAlike r (cond b r (record r { slot = after_mark r.slot }))
+      by_test : (b : Bool) → IsAlike h v r (cond b r (record r { slot = after_mark r.slot }))
       by_test true = unchanged r
-      by_test false = record { me = refl; members = refl; round = refl; notarization = refl; leader = refl; explicit = inl }
+      by_test false = record { me = refl; members = refl; round = refl; notarization = refl; leader = refl; explicit = inl; under_way = inl; refused = inl }
 
-  pub notarized_alike : (r s : RoundFacts K D) (b : Bool) → s ≡ record r { notarize_decided = b } → IsAlike r s
-  notarized_alike r s b is = rw is (record { me = refl; members = refl; round = refl; notarization = refl; leader = refl; explicit = inl })
+  pub notarized_alike : {h : Bounds} {v : ℕ} (r s : RoundFacts K D) (b : Bool) → s ≡ record r { notarize_decided = b } → IsAlike h v r s
+  notarized_alike r s b is = rw is (record { me = refl; members = refl; round = refl; notarization = refl; leader = refl; explicit = inl; under_way = inl; refused = inl })
 
-  pub verifying_alike : (r s : RoundFacts K D) (d : D) → s ≡ verifying_round r d → IsAlike r s
-  verifying_alike r s d is = rw is (record { me = refl; members = refl; round = refl; notarization = refl; leader = refl; explicit = inl })
+  pub verifying_alike : {h : Bounds} {v : ℕ} (r s : RoundFacts K D) (d : D) → s ≡ verifying_round r d → IsAlike h v r s
+  verifying_alike r s d is = rw is (record { me = refl; members = refl; round = refl; notarization = refl; leader = refl; explicit = inl; under_way = inl; refused = inl })
 
   pub notarizable_there : (x : RoundsFacts K D) (m : map.FinMap nat_cmp (RoundFacts K D)) → x.by_view ≡ map.entries m → (v : ℕ) → can_notarize (round_of x v) ≡ true → None ≡ map.get m v → ⊥
   notarizable_there x m shown v can none = false≢true (ap (λ found. can_notarize (unwrap_or found (new_round x.me x.members (round_number x v)))) (none ∙ sym (found_at x m shown v)) ∙ can)
@@ -64,5 +65,5 @@ module _ {K D : Type 0} where
       let bound : RoundFacts K D → Proposal D → RoundFacts K D = λ u p. record u { binding = Some (p, context.parent.1) } in
       then' ∙ ap (λ u. bound u p) first ∙ ap (λ p. bound (own p) p) is
 
-  pub own_alike : (same : D → D → Bool) (r s : RoundFacts K D) (context : Context D K) (payload : D) (now : ℕ) → s ≡ proposed_round same r context payload now → IsAlike r s
-  own_alike same r s context payload now is = rw is (record { me = refl; members = refl; round = refl; notarization = refl; leader = refl; explicit = inl })
+  pub own_alike : {h : Bounds} {v : ℕ} (same : D → D → Bool) (r s : RoundFacts K D) (context : Context D K) (payload : D) (now : ℕ) → s ≡ proposed_round same r context payload now → IsAlike h v r s
+  own_alike same r s context payload now is = rw is (record { me = refl; members = refl; round = refl; notarization = refl; leader = refl; explicit = inl; under_way = inl; refused = inl })

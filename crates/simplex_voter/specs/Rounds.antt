@@ -3,16 +3,35 @@ use Rattle.std.specs.Prelude.{◌≡◌, ◌<◌, ◌≤◌, ◌+◌, ◌^◌, �
 use Rattle.std.specs.Option.{option_map_or}
 use Rattle.std.specs.FinMap.Entries.{find, put}
 use Rattle.std.specs.Ordering.{nat_cmp}
+use Rattle.std.specs.FinMap as map
 use Rattle.simplex_types.specs.declared.types.numbers.Round.{Round}
 use Rattle.simplex_types.specs.declared.types.messages.Artifact.{Artifact}
 use Rattle.simplex_types.specs.declared.types.messages.Artifact.TheVariants as artifact
-use Rattle.simplex_round.specs.Round.{RoundFacts, new_round, leader_at, with_deadlines, is_judged, is_certified}
+use Rattle.simplex_round.specs.Round.{RoundFacts, new_round, leader_at, with_deadlines, is_judged, is_certified, token_of}
 use Rattle.simplex_voter.specs.declared.voter.rounds.Deadlines.{Deadlines}
+use Rattle.simplex_voter.specs.declared.voter.rounds.Bounds.{Bounds}
 
 -- no view above this one is ever tracked: what a certificate names is below 2 ^ 63, what one enters or elects for at most a
 -- term above that, and a vote is cast at most a term above the current view, and readies the next one
 abbrev pub largest_tracked : ℕ
 largest_tracked = 2 ^ 63 + 2 ^ 33
+
+-- a view may have been certified false
+pub record MayBeRefused (b : Bounds) (v : ℕ) : Type 0 where
+  pub from : b.refused_from ≤ v
+  pub to : v ≤ b.refused_to
+
+-- a view may have this verdict
+pub record MayBeJudged (b : Bounds) (v : ℕ) (success : Bool) : Type 0 where
+  pub explicit : success ≡ true → v ≤ b.explicit
+  pub refused : success ≡ false → MayBeRefused b v
+
+-- what may be by the first bounds may be by the second ones
+pub record IsWider (b c : Bounds) : Type 0 where
+  pub explicit : b.explicit ≤ c.explicit
+  pub under_way : c.under_way ≤ b.under_way
+  pub refused_from : c.refused_from ≤ b.refused_from
+  pub refused_to : b.refused_to ≤ c.refused_to
 
 -- the rounds, as contracts see them
 pub record RoundsFacts (K D : Type 0) : Type 0 where
@@ -76,19 +95,26 @@ module _ {K D : Type 0} where
   is_explicit r = is_some r.finalization || is_certified r.certification
 
   -- the round of a tracked view is this member's, among its members and in its epoch; only a view that a certificate may
-  -- name is notarized; its leader is a member; and no view above `highest` is explicit
-  pub record IsKept (highest : ℕ) (x : RoundsFacts K D) (v : ℕ) (r : RoundFacts K D) : Type 0 where
+  -- name is notarized; its leader is a member; and it is explicit, its certification is under way or was answered by false
+  -- only where the bounds allow it
+  pub record IsKept (bounds : Bounds) (x : RoundsFacts K D) (v : ℕ) (r : RoundFacts K D) : Type 0 where
     pub me : r.me ≡ x.me
     pub members : r.members ≡ x.members
     pub round : r.round ≡ round_number x v
     pub in_range : v ≤ largest_tracked
     pub notarized : is_some r.notarization ≡ true → v < 2 ^ 63
     pub leader : IfSome r.leader (λ l. l.idx < length x.members)
-    pub explicit : is_explicit r ≡ true → v ≤ highest
+    pub explicit : is_explicit r ≡ true → v ≤ bounds.explicit
+    pub under_way : is_some (token_of r.certification) ≡ true → bounds.under_way ≤ v
+    pub refused : is_judged false r.certification ≡ true → MayBeRefused bounds v
 
   -- each tracked round is so
-  abbrev pub AreKept : ℕ → RoundsFacts K D → Type 0
-  AreKept highest x = (v : ℕ) (r : RoundFacts K D) → round_at x v ≡ Some r → IsKept highest x v r
+  abbrev pub AreKept : Bounds → RoundsFacts K D → Type 0
+  AreKept bounds x = (v : ℕ) (r : RoundFacts K D) → round_at x v ≡ Some r → IsKept bounds x v r
+
+  -- no certification is under way below a view
+  abbrev pub IsQuietBelow : map.FinMap nat_cmp (RoundFacts K D) → ℕ → Type 0
+  IsQuietBelow m v = (q : ℕ) (r : RoundFacts K D) → map.get m q ≡ Some r → q < v → is_some (token_of r.certification) ≡ false
 
   -- the tracked views below v, with their rounds, but for some above genesis that are not explicit
   pub record AreDownFrom (x : RoundsFacts K D) (v : ℕ) (es : List (ℕ × RoundFacts K D)) : Type 0 where
@@ -98,15 +124,15 @@ module _ {K D : Type 0} where
     pub above : (w : ℕ) → end ≤ w → w < v → 0 < w
     pub rest : (w : ℕ) (r : RoundFacts K D) → end ≤ w → w < v → round_at x w ≡ Some r → is_explicit r ≡ false
 
--- the entry of the record makes the payload of its view explicit
-abbrev pub makes_explicit : {S D P G C : Type 0} → Artifact S D P G C → Bool
-makes_explicit (artifact.Certification _ success) = success
-makes_explicit (artifact.Notarize _) = false
-makes_explicit (artifact.Notarization _) = false
-makes_explicit (artifact.Nullify _) = false
-makes_explicit (artifact.Nullification _) = false
-makes_explicit (artifact.Finalize _) = false
-makes_explicit (artifact.Finalization _) = false
+-- a view may have the verdict that the entry of the record is
+abbrev pub MayBeRecalled : {S D P G C : Type 0} → Bounds → ℕ → Artifact S D P G C → Type 0
+MayBeRecalled b v (artifact.Certification _ success) = MayBeJudged b v success
+MayBeRecalled b v (artifact.Notarize _) = Unit {0}
+MayBeRecalled b v (artifact.Notarization _) = Unit {0}
+MayBeRecalled b v (artifact.Nullify _) = Unit {0}
+MayBeRecalled b v (artifact.Nullification _) = Unit {0}
+MayBeRecalled b v (artifact.Finalize _) = Unit {0}
+MayBeRecalled b v (artifact.Finalization _) = Unit {0}
 
 -- the first entry of a view is noted, and its deadlines count
 abbrev pub with_entry : {K D : Type 0} → RoundFacts K D → ℕ → Deadlines → RoundFacts K D

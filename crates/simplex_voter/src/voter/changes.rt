@@ -10,7 +10,7 @@ ghost use Rattle.std.specs.Option.{option_map_or};
 ghost use Rattle.simplex_round.specs.declared.round.Certification.TheVariants.{Outstanding};
 ghost use Rattle.simplex_round.specs.declared.round.Decision.TheVariants.{Finalize};
 
-use super::rounds::{Rounds, higher_where};
+use super::rounds::Rounds;
 use simplex_types::reasons::TimeoutReason;
 use simplex_types::types::{
     CertificateScheme, Digest, Fault, Finalization, Notarization, Nullification, Proposal, View,
@@ -79,7 +79,7 @@ impl<S: CertificateScheme, D: Digest> Rounds<S, D> {
         ensures origin { HasSameOrigin self.old self.new }
     {
         self.track(view)?;
-        self.explicit_bound = higher_where(true, self.explicit_bound, view);
+        self.bounds = self.bounds.with_finalized(view);
         let Some(round) = self.by_view.get_mut(view) else {
             unreachable!()
         };
@@ -187,7 +187,7 @@ impl<S: CertificateScheme, D: Digest> Rounds<S, D> {
         ensures judged { self.new ≡ with_change_in_place self.old view (λ r. certified_round r success) }
         ensures origin { HasSameOrigin self.old self.new }
     {
-        self.explicit_bound = higher_where(success, self.explicit_bound, view);
+        self.bounds = self.bounds.with_verdict(view, success);
         let Some(round) = self.by_view.get_mut(view) else {
             return;
         };
@@ -237,6 +237,7 @@ impl<S: CertificateScheme, D: Digest> Rounds<S, D> {
             return;
         };
         round.set_certify_handle(token);
+        self.bounds = self.bounds.with_certification(view);
     }
 
     /// Clears the request to build a proposal in a view.

@@ -150,7 +150,15 @@ impl<S: CertificateScheme, L: Elector<S>, D: Digest> State<S, L, D> {
         ensures answer { result ≡ propose_answer D.eq L.elect self.now }
         ensures ready { IfSome result (λ request. should_propose (round_of self.now (request_context request).round.view) ≡ true) }
     {
-        self.first_request(self.views_within(self.current, self.last_ahead()))
+        let near = self.last_near();
+        let last = self.last_ahead();
+        if near < last {
+            return match self.first_request(self.views_within(self.current, near)) {
+                Some(request) => Some(request),
+                None => self.first_request(self.views_within(last, last)),
+            };
+        }
+        self.first_request(self.views_within(self.current, last))
     }
 
     /// The tracked views from one view to another, by rising view.

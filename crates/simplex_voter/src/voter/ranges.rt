@@ -8,6 +8,7 @@ ghost use Rattle.simplex_types.specs.declared.types.fault.Fault.TheVariants.{Out
 ghost use Rattle.simplex_round.specs.Round.{is_judged};
 ghost use Rattle.simplex_voter.specs.Windows.{is_notarized};
 ghost use Rattle.simplex_voter.specs.Certification.{without_token};
+ghost use Rattle.simplex_voter.specs.Rounds.{IsQuietBelow};
 
 use super::rounds::Rounds;
 use simplex_round::round::{Certification, Round};
@@ -63,15 +64,17 @@ fn has_refused<S: CertificateScheme, D: Digest>(
     false
 }
 
-/// Ends the certifications that are under way at or below a view.
+/// Ends the certifications that are under way at or below a view. None is below another one.
 fn end_certifications<S: CertificateScheme, D: Digest>(
     rounds: &mut Tracked<Round<S, D>>,
+    from: View,
     view: View,
 )
-    requires { view < 2 ^ 63 }
+    requires in_range { view < 2 ^ 63 }
+    requires quiet { IsQuietBelow rounds.old from }
     ensures { map.entries rounds.new ≡ map_list (λ e. (e.0, if nat_le e.0 view then without_token e.1 else e.1)) (map.entries rounds.old) }
 {
-    let mut next = View::zero();
+    let mut next = from.min(view);
     while let Some(entry) = rounds.first_at(next) {
         let at = entry.0;
         if at > view {
@@ -105,8 +108,8 @@ impl<S: CertificateScheme, D: Digest> Rounds<S, D> {
     pub(super) fn down_from(&self, view: View) -> Entries<'_, Round<S, D>>
         ensures { AreDownFrom self.now view result }
     {
-        if self.explicit_bound < view {
-            self.by_view.up_to(self.explicit_bound)
+        if self.bounds.explicit < view {
+            self.by_view.up_to(self.bounds.explicit)
         } else {
             self.by_view.below(view)
         }
@@ -141,7 +144,12 @@ impl<S: CertificateScheme, D: Digest> Rounds<S, D> {
         requires { from ≤ last + 1 }
         ensures { result ≡ list_any (is_refused_between above from last) self.now.by_view }
     {
-        has_refused(self.by_view.from_to(from, last), above)
+        let low = self.bounds.first_refused(above, from);
+        let high = self.bounds.last_refused(last);
+        if high < low {
+            return false;
+        }
+        has_refused(self.by_view.from_to(low, high), above)
     }
 
     /// Ends the certifications that are under way at or below a view.
@@ -149,7 +157,8 @@ impl<S: CertificateScheme, D: Digest> Rounds<S, D> {
         requires { view < 2 ^ 63 }
         ensures { self.new ≡ record self.old { by_view = map_list (λ e. (e.0, if nat_le e.0 view then without_token e.1 else e.1)) self.old.by_view } }
     {
-        end_certifications(&mut self.by_view, view);
+        end_certifications(&mut self.by_view, self.bounds.under_way, view);
+        self.bounds = self.bounds.ended(view);
     }
 
     /// The tracked views below a view, rising.

@@ -5,23 +5,31 @@ ghost use Rattle.simplex_types.specs.Proposal.{same_proposal};
 ghost use Rattle.simplex_types.specs.declared.types.fault.Fault.TheVariants.{OutOfMemory};
 ghost use Rattle.simplex_round.specs.Round.{TakesArtifact, after_replay};
 ghost use Rattle.simplex_voter.specs.Replay.{bound_again, artifact_too_large, voted_proposal};
-ghost use Rattle.simplex_voter.specs.Rounds.{makes_explicit};
+ghost use Rattle.simplex_voter.specs.Rounds.{IsWider, MayBeRecalled};
 ghost use Rattle.simplex_types.specs.Terms.{IsVotable};
 ghost use Rattle.simplex_types.specs.Viewed.{artifact_view};
 
 use super::conditions::names_too_large;
-use super::rounds::{Rounds, higher_where};
+use super::rounds::{Bounds, Rounds};
 use super::state::{LARGEST_VIEW, State};
 use simplex_round::round::Round;
 use simplex_types::types::{
     Artifact, CertificateScheme, Digest, Elector, Fault, Proposal, View, Viewable,
 };
 
-/// Whether the entry of the record is a true verdict.
-fn makes_explicit<S: CertificateScheme, D: Digest>(artifact: &Artifact<S, D>) -> bool
-    ensures { result ≡ makes_explicit artifact.now }
+/// The view may have the verdict that the entry of the record is.
+fn with_recalled<S: CertificateScheme, D: Digest>(
+    bounds: Bounds,
+    view: View,
+    artifact: &Artifact<S, D>,
+) -> Bounds
+    ensures wider { IsWider bounds result }
+    ensures recalled { MayBeRecalled result view artifact.now }
 {
-    matches!(artifact, Artifact::Certification(_, true))
+    match artifact {
+        Artifact::Certification(_, success) => bounds.with_verdict(view, *success),
+        _ => bounds,
+    }
 }
 
 /// A round takes an entry of the record: a vote is decided again, a certificate counts as handed out, and a verdict
@@ -74,7 +82,7 @@ impl<S: CertificateScheme, D: Digest> Rounds<S, D> {
         ensures origin { HasSameOrigin self.old self.new }
     {
         self.track(view)?;
-        self.explicit_bound = higher_where(makes_explicit(artifact), self.explicit_bound, view);
+        self.bounds = with_recalled(self.bounds, view, artifact);
         let Some(round) = self.by_view.get_mut(view) else {
             unreachable!()
         };

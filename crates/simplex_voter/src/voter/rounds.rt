@@ -1,6 +1,6 @@
 //! The rounds of the tracked views.
 
-ghost use Rattle.std.specs.Prelude.{◌≡◌, ◌<◌, ◌≤◌, ◌+◌, ◌^◌, IfErr, IfSome, OnOk, OnSome, true, max, is_some, if◌then◌else◌, option_map, option_and_then, length};
+ghost use Rattle.std.specs.Prelude.{◌≡◌, ◌<◌, ◌≤◌, ◌+◌, ◌^◌, IfErr, IfSome, OnOk, OnSome, true, max, min, is_some, option_map, option_and_then, length};
 ghost use Rattle.simplex_round.specs.Round.{after_nullify};
 ghost use Rattle.std.specs.Option.{option_copied};
 ghost use Rattle.simplex_types.specs.declared.types.fault.Fault.TheVariants.{OutOfMemory};
@@ -33,11 +33,105 @@ impl Deadlines {
     }
 }
 
+/// Where tracked views may stand that are searched for. So a search needn't go over the others.
+#[derive(Clone, Copy)]
+pub struct Bounds {
+    // no view above it is finalized or was certified true
+    pub explicit: View,
+    // no certification is under way below it
+    pub under_way: View,
+    // no view below the one or above the other was certified false
+    pub refused_from: View,
+    pub refused_to: View,
+}
+
+impl Bounds {
+    ghost use Rattle.simplex_voter.specs.Rounds.{IsWider, MayBeJudged};
+
+    /// Nothing is there to be searched for.
+    pub(super) fn none() -> Bounds {
+        Bounds {
+            explicit: View::zero(),
+            under_way: View::zero(),
+            refused_from: View::new(u64::MAX),
+            refused_to: View::zero(),
+        }
+    }
+
+    /// The view may be finalized.
+    pub(super) fn with_finalized(self, view: View) -> Bounds
+        ensures wider { IsWider self result }
+        ensures explicit { view ≤ result.explicit }
+    {
+        Bounds {
+            explicit: self.explicit.max(view),
+            under_way: self.under_way,
+            refused_from: self.refused_from,
+            refused_to: self.refused_to,
+        }
+    }
+
+    /// The view may have this verdict.
+    pub(super) fn with_verdict(self, view: View, success: bool) -> Bounds
+        ensures wider { IsWider self result }
+        ensures judged { MayBeJudged result view success }
+    {
+        if success {
+            return self.with_finalized(view);
+        }
+        Bounds {
+            explicit: self.explicit,
+            under_way: self.under_way,
+            refused_from: self.refused_from.min(view),
+            refused_to: self.refused_to.max(view),
+        }
+    }
+
+    /// A certification may be under way at the view.
+    pub(super) fn with_certification(self, view: View) -> Bounds
+        ensures wider { IsWider self result }
+        ensures under_way { result.under_way ≤ view }
+    {
+        Bounds {
+            explicit: self.explicit,
+            under_way: self.under_way.min(view),
+            refused_from: self.refused_from,
+            refused_to: self.refused_to,
+        }
+    }
+
+    /// The lowest view from two on that may have been certified false.
+    pub(super) fn first_refused(self, above: View, from: View) -> View
+        ensures { result ≡ max (max from above) self.refused_from }
+    {
+        from.max(above).max(self.refused_from)
+    }
+
+    /// The highest view up to one that may have been certified false.
+    pub(super) fn last_refused(self, last: View) -> View
+        ensures { result ≡ min last self.refused_to }
+    {
+        last.min(self.refused_to)
+    }
+
+    /// No certification is under way at or below the view.
+    pub(super) fn ended(self, view: View) -> Bounds
+        requires { view < 2 ^ 63 }
+        ensures { result ≡ record self { under_way = max self.under_way (view + 1) } }
+    {
+        Bounds {
+            explicit: self.explicit,
+            under_way: self.under_way.max(view.next()),
+            refused_from: self.refused_from,
+            refused_to: self.refused_to,
+        }
+    }
+}
+
 /// The rounds of the tracked views, each of this member, among its members and in its epoch.
 ///
 /// Contracts see them as the record `RoundsFacts`. No view above 2^63 + 2^33 is tracked, only views up to 2^63 - 1 are
-/// notarized, and each leader is a member. So that a search needn't go over views that wait, the highest view is kept that
-/// was ever finalized or certified true.
+/// notarized, and each leader is a member. So that a search needn't go over all of them, bounds are kept of what it may find.
 #[derive(Drop)]
 pub struct Rounds<S: CertificateScheme, D> {
     pub(super) alloc: Global,
@@ -45,8 +139,7 @@ pub struct Rounds<S: CertificateScheme, D> {
     scheme: S,
     epoch: Epoch,
     pub(super) by_view: Tracked<Round<S, D>>,
-    // no tracked view above it is finalized or was certified true
-    pub(super) explicit_bound: View,
+    pub(super) bounds: Bounds,
 }
 
 impl<S: CertificateScheme, D> Model for Rounds<S, D> {
@@ -58,14 +151,7 @@ impl<S: CertificateScheme, D> Model for Rounds<S, D> {
 
     ghost view = { rounds_view S.me S.participants };
 
-    ghost invariant = { λ r. AreKept r.explicit_bound (rounds_view S.me S.participants r) };
-}
-
-/// The higher of two views, where the second one counts.
-pub(super) fn higher_where(counts: bool, view: View, other: View) -> View
-    ensures { result ≡ (if counts then max view other else view) }
-{
-    if counts { view.max(other) } else { view }
+    ghost invariant = { λ r. AreKept r.bounds (rounds_view S.me S.participants r) };
 }
 
 impl<S: CertificateScheme, D: Digest> Rounds<S, D> {
@@ -80,7 +166,7 @@ impl<S: CertificateScheme, D: Digest> Rounds<S, D> {
             scheme,
             epoch,
             by_view: Tracked::new(alloc),
-            explicit_bound: View::zero(),
+            bounds: Bounds::none(),
         }
     }
 

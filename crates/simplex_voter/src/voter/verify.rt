@@ -1,7 +1,7 @@
 //! The proposals of other leaders: how each stands, which one is verified next or what is lacking, and what came of those that
 //! were given out.
 
-ghost use Rattle.std.specs.Prelude.{◌≡◌, ◌≤◌, ◌+◌, ◌<◌, ◌^◌, IfSome, IfOk, OnOk, Err, None, true, is_some, option_map, slice_get, if◌then◌else◌};
+ghost use Rattle.std.specs.Prelude.{◌≡◌, ◌≤◌, ◌+◌, ◌<◌, ◌^◌, IfSome, IfOk, OnOk, Err, None, true, is_some, option_map, slice_get, if◌then◌else◌, ◌-◌, ◌&&◌, min, nat_lt};
 ghost use Rattle.simplex_voter.specs.Verifying.{unless_asked, with_request, verifying_round};
 ghost use Rattle.std.specs.Result.{IsOk};
 ghost use Rattle.simplex_round.specs.Round.{pending_proposal};
@@ -86,6 +86,17 @@ fn unless_asked<S: CertificateScheme, D: Digest>(
     }
 }
 
+/// Where a search for work goes on: from a view past the near ones at once with the last one.
+fn onward(next: View, near: View, last: View) -> View
+    ensures { result ≡ (if nat_lt near next && nat_lt next last then last else next) }
+{
+    if next > near && next < last {
+        last
+    } else {
+        next
+    }
+}
+
 impl<S: CertificateScheme, L: Elector<S>, D: Digest> State<S, L, D> {
     ghost use Rattle.simplex_voter.specs.Verifying.{payload_standing, parent_standing, standing, answer_in, left_at, verify_answer, after_try_verify, without_binding, verified_answer, after_verified, after_verification_failed};
     ghost use Rattle.std.specs.Ordering.{nat_cmp};
@@ -164,6 +175,7 @@ impl<S: CertificateScheme, L: Elector<S>, D: Digest> State<S, L, D> {
         ensures answer { result ≡ verify_answer D.eq L.elect self.old }
         ensures after { self.new ≡ after_try_verify D.eq L.elect self.old }
     {
+        let near = self.last_near();
         let last = self.last_ahead();
         // brings that the rounds stand in order
         let _ahead = self.views_within(self.current, last);
@@ -172,9 +184,17 @@ impl<S: CertificateScheme, L: Elector<S>, D: Digest> State<S, L, D> {
             if let Some(answer) = self.visit(view) {
                 return answer;
             }
-            from = view.next();
+            from = onward(view.next(), near, last);
         }
         Verify::Wait
+    }
+
+    /// The last view that stands so near to the current one that this member may work there inside the term.
+    pub(super) fn last_near(&self) -> View
+        ensures { result ≡ min (self.now.current + self.now.terms.optimistic_views) (2 ^ 64 - 1) }
+    {
+        let terms = self.elector.terms();
+        View::new(self.current.get().saturating_add(terms.optimistic_views))
     }
 
     /// The lowest tracked view from one view to another.

@@ -3,7 +3,14 @@ use Rattle.std.specs.FinMap as map
 use Rattle.simplex_sorted.proofs.Gaps.{gt_no, gt_yes}
 use Rattle.simplex_voter.specs.Certification.{without_token}
 use Rattle.simplex_voter.proofs.Walked.{at_first, at_none, walked_on, walked_step, walked_entries}
+use Rattle.simplex_voter.proofs.Raising.{ends_begin}
 use Rattle.simplex_voter.proofs.voter.ranges.end_certifications.Goals as goal
+
+pub loop-entry-init : goal.loop-entry-init
+loop-entry-init g c = record {
+  in_range = grind (arith, c.min-next.ensures);
+  ended = ends_begin _ c.args.from _ c.requires.quiet (grind (arith, c.min-next.ensures));
+}
 
 pub loop-entry-smaller : goal.loop-entry-smaller
 loop-entry-smaller g c =

@@ -11,7 +11,7 @@ pub invariant_of-self : goal.invariant_of-self
 invariant_of-self g c =
     let lent = lent c.args.self.now _ (sym (ap (λ x. x.by_view) c.self.view_is)) _ _ c.in-Some.ensures.value in
     let can = ap can_finalize lent ∙ c.requires in
-    kept_changed _ _ refl c.self.invariant _ _ _ c.in-Some.ensures.value (rw (c.construct_finalize.ensures.facts, can) (record { me = refl; members = refl; round = refl; notarization = refl; leader = refl; explicit = inl }))
+    kept_changed _ _ refl c.self.invariant _ _ _ c.in-Some.ensures.value (rw (c.construct_finalize.ensures.facts, can) (record { me = refl; members = refl; round = refl; notarization = refl; leader = refl; explicit = inl; under_way = inl; refused = inl }))
 
 pub returns-clause-vote : goal.returns-clause-vote
 returns-clause-vote g c =

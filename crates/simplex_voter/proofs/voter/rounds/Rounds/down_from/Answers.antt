@@ -7,8 +7,8 @@ use Rattle.simplex_voter.proofs.voter.rounds.Rounds.down_from.Goals as goal
 
 pub returns-then-lt : goal.returns-then-lt
 returns-then-lt g c =
-    let above : c.self.inside.explicit_bound < c.args.view = lt_yes c.self.inside.explicit_bound c.args.view c.if-lt.ensures in
-    let end = c.self.inside.explicit_bound + 1 in
+    let above : c.self.inside.bounds.explicit < c.args.view = lt_yes c.self.inside.bounds.explicit c.args.view c.if-lt.ensures in
+    let end = c.self.inside.bounds.explicit + 1 in
     record {
       end = end;
       entries = c.up_to.ensures ∙ entries-retain_keys c.self.inside.by_view (λ u. nat_lt u end) ∙ ap (λ x. filter (λ e. nat_lt e.0 end) x.by_view) c.self.view_is;

@@ -9,7 +9,7 @@ use Rattle.simplex_voter.proofs.voter.rounds.Rounds.hand_out_finalization.Goals 
 pub invariant_of-self-2 : goal.invariant_of-self-2
 invariant_of-self-2 g c =
     kept_changed _ _ refl c.self.invariant _ _ _ c.in-Some.ensures.value
-    (handed_out_alike c.broadcast_finalization.result _ _ _ (record { me = refl; members = refl; round = refl; notarization = refl; leader = refl; explicit = inl }) c.broadcast_finalization.ensures.unchanged c.broadcast_finalization.ensures.facts)
+    (handed_out_alike c.broadcast_finalization.result _ _ _ (record { me = refl; members = refl; round = refl; notarization = refl; leader = refl; explicit = inl; under_way = inl; refused = inl }) c.broadcast_finalization.ensures.unchanged c.broadcast_finalization.ensures.facts)
 
 pub returns-in_default-clause-answer : goal.returns-in_default-clause-answer
 returns-in_default-clause-answer g c = ap (option_and_then (λ r. once r.finalization_broadcast r.finalization)) (c.in_default.ensures.value ∙ sym (found_at c.args.self.now _ (sym (ap (λ x. x.by_view) c.self.view_is)) c.args.view))

@@ -1,14 +1,14 @@
 use Rattle.std.proofs.Common.{ap, sym, refl, ◌∙◌}
 use Rattle.simplex_round.specs.Round.{certified_round}
 use Rattle.simplex_voter.proofs.Alike.{judged_alike}
-use Rattle.simplex_voter.proofs.Changed.{found_at, kept_explicit, raised_kept, raised_to, changed_there, untouched}
+use Rattle.simplex_voter.proofs.Changed.{found_at, wider_kept, kept_changed, changed_there, untouched}
 use Rattle.simplex_voter.proofs.voter.rounds.Rounds.judge.Goals as goal
 
 pub invariant_of-self : goal.invariant_of-self
-invariant_of-self g c = raised_kept _ c.args.success c.args.view _ c.higher_where-self-inside.ensures c.self.invariant
+invariant_of-self g c = wider_kept _ c.with_verdict-self-inside.ensures.wider c.self.invariant
 
 pub invariant_of-self-2 : goal.invariant_of-self-2
-invariant_of-self-2 g c = kept_explicit _ _ refl (raised_kept _ c.args.success c.args.view _ c.higher_where-self-inside.ensures c.self.invariant) _ _ _ (raised_to _ _ _ _ c.higher_where-self-inside.ensures) c.in-Some.ensures.value (judged_alike _ _ c.args.success c.certified.ensures)
+invariant_of-self-2 g c = kept_changed _ _ refl (wider_kept _ c.with_verdict-self-inside.ensures.wider c.self.invariant) _ _ _ c.in-Some.ensures.value (judged_alike _ _ c.args.success c.with_verdict-self-inside.ensures.judged c.certified.ensures)
 
 pub returns-in_default-clause-judged : goal.returns-in_default-clause-judged
 returns-in_default-clause-judged g c = rw (← c.self.view_is) (untouched _ _ refl _ (λ r. certified_round r c.args.success) c.in_default.ensures.value)

@@ -6,7 +6,7 @@ use Rattle.simplex_voter.proofs.Changed.{found_at, kept_changed, changed_there, 
 use Rattle.simplex_voter.proofs.voter.rounds.Rounds.latch.Goals as goal
 
 pub invariant_of-self-2 : goal.invariant_of-self-2
-invariant_of-self-2 g c = kept_changed _ _ refl c.self.invariant _ _ _ c.in-Some.ensures.value (rw c.latch_timeout.ensures.latched (record { me = refl; members = refl; round = refl; notarization = refl; leader = refl; explicit = inl }))
+invariant_of-self-2 g c = kept_changed _ _ refl c.self.invariant _ _ _ c.in-Some.ensures.value (rw c.latch_timeout.ensures.latched (record { me = refl; members = refl; round = refl; notarization = refl; leader = refl; explicit = inl; under_way = inl; refused = inl }))
 
 pub returns-in_default-clause-latched : goal.returns-in_default-clause-latched
 returns-in_default-clause-latched g c = rw (← c.self.view_is) (untouched _ _ refl _ (λ r. with_latch r c.args.now c.args.reason) c.in_default.ensures.value)

@@ -3,7 +3,7 @@ use Rattle.simplex_types.specs.Proposal.{same_proposal}
 use Rattle.simplex_round.specs.Round.{TakesArtifact, after_replay}
 use Rattle.simplex_voter.specs.Replay.{bound_again}
 use Rattle.simplex_voter.proofs.Alike.{recalled_alike}
-use Rattle.simplex_voter.proofs.Changed.{never_none, lent_tracked, kept_explicit, raised_kept, raised_to, changed_tracked}
+use Rattle.simplex_voter.proofs.Changed.{never_none, lent_tracked, wider_kept, kept_changed, changed_tracked}
 use Rattle.simplex_voter.proofs.voter.rounds.Rounds.recall.Goals as goal
 
 pub unreachable-requires : goal.unreachable-requires
@@ -11,8 +11,7 @@ unreachable-requires g c = never_none _ _ _ (c.self.view_is ∙ c.in_ok-track.en
 
 pub invariant_of-self : goal.invariant_of-self
 invariant_of-self g c =
-    let raised = rw c.makes_explicit.ensures at c.higher_where-self-inside.ensures in
-    kept_explicit _ _ refl (raised_kept _ _ c.args.view _ raised c.self.invariant) _ _ _ (raised_to _ _ _ _ raised) c.in-Some.ensures.value (recalled_alike (same_proposal g.D.PartialEq.eq) _ _ c.args.artifact.now c.args.binding c.recall_round.ensures)
+    kept_changed _ _ refl (wider_kept _ c.with_recalled-self-inside.ensures.wider c.self.invariant) _ _ _ c.in-Some.ensures.value (recalled_alike (same_proposal g.D.PartialEq.eq) _ _ c.args.artifact.now c.args.binding c.with_recalled-self-inside.ensures.recalled c.recall_round.ensures)
 
 pub returns-clause-recalled : goal.returns-clause-recalled
 returns-clause-recalled g c =

@@ -4,7 +4,7 @@ use Rattle.simplex_voter.proofs.Changed.{kept_changed, changed_there, untouched}
 use Rattle.simplex_voter.proofs.voter.rounds.Rounds.unbind.Goals as goal
 
 pub invariant_of-self-2 : goal.invariant_of-self-2
-invariant_of-self-2 g c = kept_changed _ _ refl c.self.invariant _ _ _ c.in-Some.ensures.value (rw c.clear_verifying.ensures (record { me = refl; members = refl; round = refl; notarization = refl; leader = refl; explicit = inl }))
+invariant_of-self-2 g c = kept_changed _ _ refl c.self.invariant _ _ _ c.in-Some.ensures.value (rw c.clear_verifying.ensures (record { me = refl; members = refl; round = refl; notarization = refl; leader = refl; explicit = inl; under_way = inl; refused = inl }))
 
 pub returns-in_default-clause-unbound : goal.returns-in_default-clause-unbound
 returns-in_default-clause-unbound g c = rw (← c.self.view_is) (untouched _ _ refl _ with_nothing_bound c.in_default.ensures.value)
