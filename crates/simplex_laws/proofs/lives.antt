@@ -6,4 +6,5 @@ pub mod AsAsked
 pub mod Examples
 pub mod WithinRuns
 pub mod TimingOut
+pub mod Polls
 pub mod Progress

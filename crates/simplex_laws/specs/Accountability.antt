@@ -1,12 +1,16 @@
 -- Who answers for two certificates that contradict each other: for any number of faulty members, by what is known of each.
-use Rattle.std.specs.Prelude.{◌≡◌, ◌≢◌, ℕ, ◌-◌, ◌*◌, ◌<◌, ◌⊎◌, ⊤, true, List, length, Option, Some, None, Contains}
+use Rattle.std.specs.Prelude.{◌≡◌, ◌≢◌, ℕ, ◌+◌, ◌-◌, ◌*◌, ◌<◌, ◌≤◌, ◌⊎◌, ⊤, Bool, true, List, length, slice_get, Option, Some, None, Contains, is_some, not}
+use Rattle.std.specs.List.{count_by}
 use Rattle.simplex_types.specs.Terms.{covers}
 use Rattle.simplex_types.specs.declared.types.messages.Proposal.{Proposal}
 use Rattle.simplex_types.specs.declared.types.messages.Subject.{Subject}
 use Rattle.simplex_types.specs.declared.types.messages.Subject.TheVariants.{Notarize, Nullify, Finalize}
+use Rattle.simplex_types.specs.declared.types.numbers.Round.{Round}
+use Rattle.simplex_voter.specs.Facts.{Elect}
 use Rattle.simplex_laws.specs.Deeds.{Deed, Accepts, Signs}
-use Rattle.simplex_laws.specs.Lawful.{HasSigned, IsLawful}
-use Rattle.simplex_laws.specs.Places.{AtLeastFrom, max_faults, quorum}
+use Rattle.simplex_laws.specs.Lawful.{HasSigned, SignsAfter, HasCover, HasFinalizedBetween, IsLawful}
+use Rattle.simplex_laws.specs.Places.{AtLeastFrom, Place, Honest, faults, Backed, max_faults, quorum}
+use Rattle.simplex_laws.specs.Stories.{Story, deeds_of, Ran}
 
 module _ {D : Type 0} where
   -- two proposals of one view
@@ -32,7 +36,86 @@ module _ {D : Type 0} where
   IsEvidence (Notarize p) (Notarize q) = AreRivals p q
   IsEvidence (Finalize p) (Finalize q) = AreRivals p q
   IsEvidence (Nullify round) (Finalize p) = round.view ≡ p.round.view
+  IsEvidence (Finalize p) (Nullify round) = round.view ≡ p.round.view
   IsEvidence a b = ⊥
+
+  -- how far two certificates that contradict are from such evidence. A nullification and a finalization: by how much the
+  -- finalized view lies above the nullified one; a notarization and a finalization: farther than each nullification that
+  -- covers the finalized view
+  abbrev pub distance : Subject D → Subject D → ℕ
+  distance (Notarize p) (Finalize final) = final.round.view + 1
+  distance (Finalize final) (Notarize p) = final.round.view + 1
+  distance (Nullify round) (Finalize final) = final.round.view - round.view
+  distance (Finalize final) (Nullify round) = final.round.view - round.view
+  distance a b = 0
+
+  -- rules that a member breaks by a vote, each the negation of a rule of `IsLawful`
+
+  -- it voted to finalize a proposal, and had accepted no notarization of it
+  abbrev pub FinalizesUnnotarized : List (Deed D) → Proposal D → Type 0
+  FinalizesUnnotarized deeds p =
+      (before : List (Deed D)) × SignsAfter deeds before (Finalize p) × (Contains before (Accepts (Notarize p)) → ⊥)
+
+  -- it voted for a proposal that skips a view, and had accepted no nullification that covers it
+  abbrev pub SkipsUncovered : ℕ → List (Deed D) → Proposal D → ℕ → Type 0
+  SkipsUncovered term_length deeds p skipped =
+      (before : List (Deed D))
+      × SignsAfter deeds before (Notarize p)
+      × (p.parent < skipped)
+      × (skipped < p.round.view)
+      × (HasCover term_length before skipped → ⊥)
+
+  -- it voted to nullify a view after it had voted to finalize one that this covers
+  abbrev pub NullifiesFinalized : ℕ → List (Deed D) → Round → Proposal D → Type 0
+  NullifiesFinalized term_length deeds round p =
+      (before : List (Deed D))
+      × SignsAfter deeds before (Nullify round)
+      × HasSigned before (Finalize p)
+      × (covers term_length round.view p.round.view ≡ true)
+
+  -- it voted to finalize a view after it had voted to nullify an earlier one of the term, and had accepted no finalization of
+  -- a view between
+  abbrev pub FinalizesPastNullify : ℕ → List (Deed D) → Round → Proposal D → Type 0
+  FinalizesPastNullify term_length deeds round p =
+      (before : List (Deed D))
+      × SignsAfter deeds before (Finalize p)
+      × HasSigned before (Nullify round)
+      × (round.view < p.round.view)
+      × (covers term_length round.view p.round.view ≡ true)
+      × (HasFinalizedBetween before round.view p.round.view → ⊥)
+
+  -- which rule is broken by a vote for a proposal and one to finalize another, and by a vote to nullify and one to finalize
+
+  abbrev pub BreaksByFinal : ℕ → List (Deed D) → Proposal D → Proposal D → Type 0
+  BreaksByFinal term_length deeds p final = FinalizesUnnotarized deeds final ⊎ SkipsUncovered term_length deeds p final.round.view
+
+  abbrev pub BreaksByNullify : ℕ → List (Deed D) → Round → Proposal D → Type 0
+  BreaksByNullify term_length deeds round final =
+      (round.view ≡ final.round.view)
+      ⊎ NullifiesFinalized term_length deeds round final
+      ⊎ FinalizesPastNullify term_length deeds round final
+
+  -- a member that signed the votes of both of two certificates that contradict broke a rule by these: as evidence shows, or
+  -- by what it had done and accepted before one of them
+  abbrev pub BreaksBy : ℕ → List (Deed D) → Subject D → Subject D → Type 0
+  BreaksBy term_length deeds (Notarize p) (Finalize final) = BreaksByFinal term_length deeds p final
+  BreaksBy term_length deeds (Finalize final) (Notarize p) = BreaksByFinal term_length deeds p final
+  BreaksBy term_length deeds (Nullify round) (Finalize final) = BreaksByNullify term_length deeds round final
+  BreaksBy term_length deeds (Finalize final) (Nullify round) = BreaksByNullify term_length deeds round final
+  BreaksBy term_length deeds a b = IsEvidence a b
+
+-- before it signed one of the two votes it accepted a third certificate, which contradicts one of the two and is nearer to it
+-- than they are to each other
+pub record HasAcceptedNearer {D : Type 0} (term_length : ℕ) (a b : Subject D) (deeds : List (Deed D)) : Type 0 where
+  pub third : Subject D
+  pub before : List (Deed D)
+  pub signs : SignsAfter deeds before a ⊎ SignsAfter deeds before b
+  pub accepted : Contains before (Accepts third)
+  pub nearer : (Contradicts term_length third a × (distance third a < distance a b))
+      ⊎ (Contradicts term_length third b × (distance third b < distance a b))
+
+module _ {D : Type 0} where
+  -- of a member nothing is known, as of a faulty one; or all that it did
 
   -- this vote may be of the member at place `i`: nothing is known of it, or the vote is among its deeds
   abbrev pub MayHaveVoted : Subject D → ℕ → Option (List (Deed D)) → Type 0
@@ -43,21 +126,56 @@ module _ {D : Type 0} where
   abbrev pub MayBeCertified : List (Option (List (Deed D))) → Subject D → Type 0
   MayBeCertified members vote = AtLeastFrom 0 (quorum (length members)) (MayHaveVoted vote) members
 
-  -- a certificate was accepted that contradicts one of the two in its turn
-  abbrev pub HasAcceptedContradiction : ℕ → Subject D → Subject D → List (Deed D) → Type 0
-  HasAcceptedContradiction term_length a b deeds =
-      (certificate : Subject D)
-      × Contains deeds (Accepts certificate)
-      × (Contradicts term_length certificate a ⊎ Contradicts term_length certificate b)
+  -- so it is of each certificate that a member accepted of which something is known
+  abbrev pub AcceptCertified : List (Option (List (Deed D))) → Type 0
+  AcceptCertified members =
+      (i : ℕ) (deeds : List (Deed D)) (certificate : Subject D)
+      → slice_get members i ≡ Some (Some deeds)
+      → Contains deeds (Accepts certificate)
+      → MayBeCertified members certificate
 
-  -- the member at place `i` answers for both: nothing is known of it; or it signed both votes, and if it kept the voting rules
-  -- it accepted a certificate that contradicts one of the two
+  -- the member at place `i` answers for both: nothing is known of it; or it signed both votes, and broke a rule by these or
+  -- was misled by a third certificate
   abbrev pub AnswersFor : ℕ → Subject D → Subject D → ℕ → Option (List (Deed D)) → Type 0
   AnswersFor term_length a b i None = ⊤
   AnswersFor term_length a b i (Some deeds) =
       Contains deeds (Signs i a)
       × Contains deeds (Signs i b)
-      × (IsLawful term_length deeds → HasAcceptedContradiction term_length a b deeds)
+      × (BreaksBy term_length deeds a b ⊎ HasAcceptedNearer term_length a b deeds)
+
+  -- the member at place `i` signed both votes, and broke a rule by these
+  abbrev pub IsGuilty : ℕ → Subject D → Subject D → ℕ → Option (List (Deed D)) → Type 0
+  IsGuilty term_length a b i None = ⊥
+  IsGuilty term_length a b i (Some deeds) =
+      Contains deeds (Signs i a) × Contains deeds (Signs i b) × BreaksBy term_length deeds a b
+
+  -- it did, or nothing is known of it
+  abbrev pub IsSuspect : ℕ → Subject D → Subject D → ℕ → Option (List (Deed D)) → Type 0
+  IsSuspect term_length a b i None = ⊤
+  IsSuspect term_length a b i (Some deeds) = IsGuilty term_length a b i (Some deeds)
+
+  -- of so many nothing is known
+  abbrev pub unknowns : List (Option (List (Deed D))) → ℕ
+  unknowns members = count_by (λ member. not (is_some member)) members
+
+-- two certificates that contradict, no farther apart than two others, at which n - 2f members are unknown or broke a rule: of
+-- those whose deeds are known so many fewer as nothing is known of
+pub record IsTraced {D : Type 0} (term_length : ℕ) (members : List (Option (List (Deed D)))) (a b : Subject D) : Type 0 where
+  pub first : Subject D
+  pub second : Subject D
+  pub contradict : Contradicts term_length first second
+  pub near : distance first second ≤ distance a b
+  pub first_certified : MayBeCertified members first
+  pub second_certified : MayBeCertified members second
+  pub suspects : AtLeastFrom 0 (length members - 2 * max_faults (length members)) (IsSuspect term_length first second) members
+  pub guilty : AtLeastFrom 0 (length members - 2 * max_faults (length members) - unknowns members) (IsGuilty term_length first second) members
+
+-- the third certificate is none of the two
+abbrev pub ThirdIsAnother : (D : Type 0) → Type 0
+ThirdIsAnother D =
+    (term_length : ℕ) (deeds : List (Deed D)) (a b : Subject D)
+    → (nearer : HasAcceptedNearer term_length a b deeds)
+    → (nearer.third ≢ a) × (nearer.third ≢ b)
 
 -- who signed both votes of such evidence has broken a rule
 abbrev pub EvidenceHolds : (D : Type 0) → Type 0
@@ -65,9 +183,41 @@ EvidenceHolds D =
     (term_length : ℕ) (deeds : List (Deed D)) (a b : Subject D)
     → IsEvidence a b → HasSigned deeds a → HasSigned deeds b → IsLawful term_length deeds → ⊥
 
+-- certificates that contradict at no distance are evidence
+abbrev pub NearestIsEvidence : (D : Type 0) → Type 0
+NearestIsEvidence D = (term_length : ℕ) (a b : Subject D) → Contradicts term_length a b → distance a b ≡ 0 → IsEvidence a b
+
+-- what is called a broken rule is one
+abbrev pub BrokenRulesAreRules : (D : Type 0) → Type 0
+BrokenRulesAreRules D =
+    (term_length : ℕ) (deeds : List (Deed D)) (a b : Subject D)
+    → BreaksBy term_length deeds a b → HasSigned deeds a → HasSigned deeds b → IsLawful term_length deeds → ⊥
+
 -- n - 2f members answer for two certificates that contradict
 abbrev pub ContradictionsAreAnsweredFor : (D : Type 0) → Type 0
 ContradictionsAreAnsweredFor D =
     (term_length : ℕ) (members : List (Option (List (Deed D)))) (a b : Subject D)
     → Contradicts term_length a b → MayBeCertified members a → MayBeCertified members b
     → AtLeastFrom 0 (length members - 2 * max_faults (length members)) (AnswersFor term_length a b) members
+
+-- and where each certificate that is known to be accepted may be there, broken rules are found
+abbrev pub ContradictionsAreTraced : (D : Type 0) → Type 0
+ContradictionsAreTraced D =
+    (term_length : ℕ) (members : List (Option (List (Deed D)))) (a b : Subject D)
+    → AcceptCertified members → Contradicts term_length a b → MayBeCertified members a → MayBeCertified members b
+    → IsTraced term_length members a b
+
+module _ {K L D : Type 0} (same : D → D → Bool) (elect : Elect L) where
+  -- however many are faulty: each other place runs as it says, and each certificate that one of these accepted is backed
+  pub record IsBackedNetwork (term_length : ℕ) (network : List (Place K L D)) : Type 0 where
+    pub honest : (i : ℕ) (s : Story K L D) → slice_get network i ≡ Some (Honest s) → Ran same elect term_length i s
+    pub backed : (i : ℕ) (s : Story K L D) (certificate : Subject D) → slice_get network i ≡ Some (Honest s)
+        → Contains (deeds_of s) (Accepts certificate) → Backed network certificate
+
+module _ (K : Type 0) {L D : Type 0} (same : D → D → Bool) (elect : Elect L) where
+  -- where two backed certificates contradict, n - 2f places are faulty
+  abbrev pub ContradictionsNeedFaults : Type 0
+  ContradictionsNeedFaults =
+      (term_length : ℕ) (network : List (Place K L D)) (a b : Subject D)
+      → IsBackedNetwork same elect term_length network → Contradicts term_length a b → Backed network a → Backed network b
+      → length network - 2 * max_faults (length network) ≤ faults network

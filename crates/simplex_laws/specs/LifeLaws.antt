@@ -2,11 +2,12 @@
 use Rattle.std.specs.Prelude.{◌≡◌, ◌⊎◌, ℕ, ◌<◌, ◌≤◌, Bool, true, false, List, [], ◌∷◌, ◌++◌, map, length, nat_eq, Contains, Option, Some, None, MatchOption}
 use Rattle.std.specs.List.{IsDistinct}
 use Rattle.simplex_types.specs.Certificates.{CertificateFacts, Notarized, Nullified, Finalized}
-use Rattle.simplex_round.specs.Round.{is_certified, is_finalize}
+use Rattle.simplex_types.specs.declared.types.fault.Fault.TheVariants.{Failed, TimeOverflow}
+use Rattle.simplex_types.specs.declared.reasons.TimeoutReason.{TimeoutReason}
 use Rattle.simplex_voter.specs.Facts.{StateFacts, Elect, round_of, is_tracked}
 use Rattle.simplex_voter.specs.Timeouts.{has_timeout}
 use Rattle.simplex_voter.specs.Windows.{min_active}
-use Rattle.simplex_member.specs.Calls.{CallFacts, BroadcastNotarization, BroadcastNullification, BroadcastFinalization, Told, Handed, Dropped}
+use Rattle.simplex_member.specs.Calls.{CallFacts, BroadcastNotarization, BroadcastNullification, BroadcastFinalization, NextTimeout, Told, Handed, Dropped, TimesOut, Refused}
 use Rattle.simplex_record.specs.Entries.{certificate_round}
 use Rattle.simplex_member.specs.Lives.{MemberFacts}
 use Rattle.simplex_record.specs.Recovery.{recover_error}
@@ -37,12 +38,24 @@ pub record NeverFalls {K L D : Type 0} (first last : StateFacts K L D) : Type 0 
   pub current : first.current ≤ last.current
   pub finalized : first.finalized ≤ last.finalized
 
--- the current view lies above the last finalized one, and times out, unless it is certified or decided to be finalized
+-- the current view lies above the last finalized one, and has a timeout
 pub record CurrentTimesOut {K L D : Type 0} (x : StateFacts K L D) : Type 0 where
   pub ahead : x.finalized < x.current
-  pub timeout : (has_timeout x ≡ true)
-      ⊎ (is_certified (round_of x x.current).certification ≡ true)
-      ⊎ (is_finalize (round_of x x.current).decision ≡ true)
+  pub timeout : has_timeout x ≡ true
+
+module _ {K L D : Type 0} where
+  -- a poll is told a moment to wait for and why; or its member has failed, or its next retry passes the numbers of 64 bits
+  abbrev pub IsPolled : StepFacts K L D → Told K D → Type 0
+  IsPolled (Calls (NextTimeout _)) told =
+      ((moment : ℕ × TimeoutReason) × (told ≡ TimesOut (Some moment)))
+      ⊎ (told ≡ Refused Failed)
+      ⊎ (told ≡ Refused TimeOverflow)
+  IsPolled _ told = Unit {0}
+
+  -- so is each poll among these steps
+  abbrev pub PollsAreAnswered : List (StepFacts K L D) → List (Told K D) → Type 0
+  PollsAreAnswered (step ∷ steps) (told ∷ replies) = IsPolled step told × PollsAreAnswered steps replies
+  PollsAreAnswered _ _ = Unit {0}
 
 -- a proposal of the view was seen that contradicts another
 abbrev pub has_conflict : {K L D : Type 0} → StateFacts K L D → ℕ → Bool
@@ -136,6 +149,15 @@ module _ (K : Type 0) {L D : Type 0} (same : D → D → Bool) (elect : Elect L)
       → KeepTerms term_length steps
       → IsRun same elect (started_member same elect (new_state start.setup) start.floor start.now) steps replies end
       → MatchOption end.life (Unit {0}) Holds
+
+  -- of the steps of each run and their replies, whose lives share a length of terms
+  abbrev pub OfEachRun : (List (StepFacts K L D) → List (Told K D) → Type 0) → Type 0
+  OfEachRun Holds =
+      (term_length : ℕ) (start : StartFacts K L D) (steps : List (StepFacts K L D)) (replies : List (Told K D)) (end : MemberFacts K L D)
+      → HasTerms term_length start.setup
+      → KeepTerms term_length steps
+      → IsRun same elect (started_member same elect (new_state start.setup) start.floor start.now) steps replies end
+      → Holds steps replies
 
   -- calls of a run with no restart among them are such a stretch
   abbrev pub StretchesAreLives : Type 0

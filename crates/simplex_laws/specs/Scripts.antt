@@ -1,14 +1,16 @@
 -- Networks in which much happens, step by step.
-use Rattle.std.specs.Prelude.{ℕ, Bool, true, false, List, [], ◌∷◌, ◌++◌}
+use Rattle.std.specs.Prelude.{ℕ, Bool, true, false, List, [], ◌∷◌, ◌++◌, Option, Some, None}
 use Rattle.simplex_types.specs.Config.{FloorFacts, Genesis, Finalized}
 use Rattle.simplex_types.specs.declared.types.messages.Proposal.{Proposal}
+use Rattle.simplex_types.specs.declared.types.messages.Subject.TheVariants as subject
 use Rattle.simplex_voter.specs.Facts.{Elect}
 use Rattle.simplex_member.specs.Calls.{Told, Restarted}
 use Rattle.simplex_member.specs.Runs.{StepFacts, Restarts}
 use Rattle.simplex_record.specs.Start.{StartFacts}
+use Rattle.simplex_laws.specs.Deeds.{Deed, Signs}
 use Rattle.simplex_laws.specs.Places.{Place, Faulty, Honest}
-use Rattle.simplex_laws.specs.Stories.{Story}
-use Rattle.simplex_laws.specs.Turns.{set_up_as, proposal, certificate, one, two, story_from, hears, verifies, accepts_notarization, accepts, votes_for, may_not_finalize, accepts_finalization, votes_against, skips}
+use Rattle.simplex_laws.specs.Stories.{Story, deeds_of}
+use Rattle.simplex_laws.specs.Turns.{set_up_as, round, proposal, certificate, one, two, story_from, hears, verifies, accepts_notarization, accepts, votes_for, may_not_finalize, accepts_finalization, votes_against, skips}
 
 -- member 3 leads each view
 abbrev pub leader : Elect ℕ
@@ -57,6 +59,24 @@ forgetful = story_from (start_at 5 (Genesis 0) 2) (
 -- four members, of which the leader is faulty
 abbrev pub four : List (Place ℕ ℕ ℕ)
 four = Honest impatient ∷ Honest (patient 1) ∷ Honest forgetful ∷ Faulty ∷ []
+
+-- the same with two of four faulty: more than f = 1, and not fewer than n - 2f = 2
+abbrev pub overrun : List (Place ℕ ℕ ℕ)
+overrun = Honest impatient ∷ Honest (patient 1) ∷ Faulty ∷ Faulty ∷ []
+
+-- a member that votes to nullify view 1 and to finalize it
+abbrev pub two_faced : ℕ → List (Deed ℕ)
+two_faced me =
+    Signs me (subject.Nullify (round 1))
+    ∷ Signs me (subject.Notarize one)
+    ∷ Signs me (subject.Finalize one)
+    ∷ Signs me (subject.Notarize two)
+    ∷ Signs me (subject.Finalize two)
+    ∷ []
+
+-- what is known of these four, where one of the faulty ones is this member, and of the other one nothing is
+abbrev pub known_of_overrun : List (Option (List (Deed ℕ)))
+known_of_overrun = Some (deeds_of impatient) ∷ Some (deeds_of (patient 1)) ∷ Some (two_faced 2) ∷ None ∷ []
 
 -- a member restarts three times: first the notarization that came after its last vote is dropped, so that it is new again,
 -- but not the vote; then its record is pruned; then it starts at a finalized floor

@@ -12,9 +12,12 @@ mod progress;
 mod resumes;
 
 pub use continuations::{conflicts_are_left, gaps_are_closed, nullified_handoffs_are_left};
-pub use contradictions::accountability;
+pub use contradictions::{accountability, contradictions_need_faults};
 pub use histories::histories_are_shown;
-pub use instances::{restarts_are_runs, skipped_views_are_agreed_on, terms_are_agreed_on};
+pub use instances::{
+    contradictions_are_answered_for, restarts_are_runs, skipped_views_are_agreed_on,
+    terms_are_agreed_on,
+};
 pub use lives::{current_views_time_out, lives_keep_order, runs_keep_order};
 pub use network::{agreement, votes_are_lawful};
 pub use own_record::own_record_is_taken;

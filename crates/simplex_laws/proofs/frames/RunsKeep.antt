@@ -36,7 +36,7 @@ module _ {K L D : Type 0} (same : D → D → Bool) (elect : Elect L) (term_leng
       by_error None (_, leaves) = rw leaves (floor_then_all_keep same elect P keeps start.now (new_state start.setup) start.floor copy (begins (new_state start.setup) start.floor start.now (fresh_state term_length start.setup fresh)))
       by_error (Some e) (_, leaves) = rw leaves tt
 
-  restart_keeps : (m : MemberFacts K L D) (r : RestartFacts K L D) (result : Result (Unit {0}) RecoverError) (left : MemberFacts K L D) → HasTerms term_length r.start.setup → HoldsIn P m.life → IsRestart same elect m r result left → HoldsIn P left.life
+  pub restart_keeps : (m : MemberFacts K L D) (r : RestartFacts K L D) (result : Result (Unit {0}) RecoverError) (left : MemberFacts K L D) → HasTerms term_length r.start.setup → HoldsIn P m.life → IsRestart same elect m r result left → HoldsIn P left.life
   unfolding IsRestart
   restart_keeps m r result left fresh sound restarts = by_test (retention_grows m r.prune r.start.setup.settings.view_retention) restarts
     where
@@ -44,7 +44,7 @@ module _ {K L D : Type 0} (same : D → D → Bool) (elect : Elect L) (term_leng
       by_test true (_, leaves) = rw leaves sound
       by_test false goes = from_copy (cut_member m r.drop r.prune) r.start result left fresh goes
 
-  told_keeps : (m : MemberFacts K L D) (call : CallFacts D) (told : Told K D) (left : MemberFacts K L D) → IsCall same elect m call told left → HoldsIn P m.life → HoldsIn P left.life
+  pub told_keeps : (m : MemberFacts K L D) (call : CallFacts D) (told : Told K D) (left : MemberFacts K L D) → IsCall same elect m call told left → HoldsIn P m.life → HoldsIn P left.life
   told_keeps m call told left is_step sound =
       elim (call_outcome same elect (λ c t x y. P x → P y) (λ c f x s. s) (λ c x s. s)
       (λ c x o allowed s. call_by_any same elect x o P s (λ e. keeps x e s) c) m call told left is_step) [

@@ -1,6 +1,6 @@
 -- For `views_are_left`.
 -- The current view of each state of a run can be left.
-use Rattle.std.proofs.Common.{◌≡◌, refl, ap, sym, ◌∙◌, subst, ℕ, ◌+◌, ◌-◌, ◌<◌, max, Bool, true, false, ◌&&◌, not, nat_lt, nat_le, if◌then◌else◌, inl, inr, List, Option, Some, None, is_some, unwrap_or, arith}
+use Rattle.std.proofs.Common.{◌≡◌, refl, ap, sym, ◌∙◌, subst, ℕ, ◌+◌, ◌<◌, max, Bool, true, false, ◌&&◌, not, nat_lt, nat_le, if◌then◌else◌, inl, inr, List, Option, Some, None, is_some, unwrap_or, arith}
 use Rattle.std.specs.Prelude.{◌==◌, MatchOption}
 use Rattle.std.specs.Option.{option_map_or}
 use Rattle.std.proofs.Math.Nat.{le-max_right}

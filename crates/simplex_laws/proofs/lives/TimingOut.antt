@@ -2,7 +2,7 @@
 -- The current view lies above the last finalized one, no finalization stands from it on, and it times out.
 use Rattle.std.proofs.Common.{◌≡◌, refl, ap, sym, ◌∙◌, subst, ℕ, ◌+◌, ◌<◌, ◌≤◌, ◌⊎◌, inl, inr, Bool, true, false, ◌||◌, ◌&&◌, not, List, Option, Some, None, is_some, unwrap_or, arith}
 use Rattle.std.specs.Option.{option_map_or}
-use Rattle.std.specs.Prelude.{if◌then◌else◌, MatchOption}
+use Rattle.std.specs.Prelude.{if◌then◌else◌}
 use Rattle.std.proofs.lemmas.Bool.{false≢true, true≢false}
 use Rattle.simplex_types.specs.Certificates.{ProposalFacts}
 use Rattle.simplex_types.specs.Config.{FloorFacts, Finalized as FinalizedFloor}
@@ -19,15 +19,7 @@ use Rattle.simplex_voter.specs.Acceptance.{after_set_floor}
 use Rattle.simplex_laws.specs.Events as event
 use Rattle.simplex_laws.specs.Events.{Event, after_event}
 use Rattle.simplex_laws.specs.Sums.{finalized_by_event, is_prune}
-use Rattle.simplex_laws.specs.TermLengths.{HasTerms, KeepTerms}
 use Rattle.simplex_laws.proofs.frames.Fresh.{IsFresh}
-use Rattle.simplex_laws.specs.LifeLaws.{CurrentTimesOut}
-use Rattle.simplex_member.specs.Calls.{Told}
-use Rattle.simplex_member.specs.Lives.{MemberFacts}
-use Rattle.simplex_member.specs.Runs.{StepFacts, IsRun}
-use Rattle.simplex_record.specs.Start.{StartFacts, new_state}
-use Rattle.simplex_member.specs.Start.{started_member}
-use Rattle.simplex_laws.proofs.frames.RunsKeep.{HoldsIn, run_induction}
 use Rattle.simplex_laws.proofs.frames.EachRound.{IsGone, step_round, rounds_or_gone, pruned_round, prune_alone}
 use Rattle.simplex_laws.proofs.frames.Paths.{event_path, asked_of_all, armed_timed}
 use Rattle.simplex_laws.proofs.frames.Rising.{event_goes}
@@ -186,15 +178,3 @@ module _ {K L D : Type 0} (x : StateFacts K L D) where
           subst (λ o. (option_map_or (λ q. awaits_retry q || is_some (round_timeout q (has_skip_budget x))) o false ≡ true) ⊎ (is_certified r.certification ≡ true) ⊎ (is_finalize r.decision ≡ true)) (sym there)
           (subst (λ (q : RoundFacts K D). ((awaits_retry q || is_some (round_timeout q (has_skip_budget x))) ≡ true) ⊎ (is_certified r.certification ≡ true) ⊎ (is_finalize r.decision ≡ true)) one
           (by_decision r.decision r.finalization (has_skip_budget x) (is_some r.slot.held) (is_certified r.certification) unfinalized timed))
-
--- of each state of a run
-
-module _ {K L D : Type 0} (same : D → D → Bool) (elect : Elect L) where
-  pub states_time_out : (term_length : ℕ) (start : StartFacts K L D) (steps : List (StepFacts K L D)) (replies : List (Told K D)) (end : MemberFacts K L D) → HasTerms term_length start.setup → KeepTerms term_length steps
-      → IsRun same elect (started_member same elect (new_state start.setup) start.floor start.now) steps replies end → MatchOption end.life (Unit {0}) CurrentTimesOut
-  states_time_out term_length start steps replies end begins fresh run =
-      by_life end.life (run_induction same elect term_length TimesOut (floor_times_out same elect term_length) (event_times_out same elect) start steps replies end begins fresh run)
-    where
-      by_life : (life : Option (StateFacts K L D)) → HoldsIn TimesOut life → MatchOption life (Unit {0}) CurrentTimesOut
-      by_life None holds = tt
-      by_life (Some x) holds = record { ahead = holds.ahead; timeout = says_timeout x holds }

@@ -1,4 +1,4 @@
--- For `restarts_are_runs`, `skipped_views_are_agreed_on`, `terms_are_agreed_on`.
+-- For `contradictions_are_answered_for`, `restarts_are_runs`, `skipped_views_are_agreed_on`, `terms_are_agreed_on`.
 -- The scripts are runs.
 use Rattle.std.proofs.Common.{◌≡◌, refl, subst, ℕ, zero, suc, ◌<◌, inl, inr, true, List, [], ◌∷◌, Contains, Some, slice_get, nat_eq, arith}
 use Rattle.simplex_types.specs.Certificates.{ArtifactFacts, NotarizeVote, FinalizeVote, Verdict, Accepted, Notarized, Finalized as CertifiedFinal}
@@ -17,9 +17,10 @@ use Rattle.simplex_record.specs.Cuts.{may_drop, pruned_entries}
 use Rattle.simplex_record.specs.Entries.{entry_view}
 use Rattle.simplex_record.specs.Recovery.{recovered_state, after_kept_entry}
 use Rattle.simplex_laws.specs.Places.{Honest, Backed, IsNetworkOf}
-use Rattle.simplex_laws.specs.Scripts.{leader, start_at, impatient, patient, forgetful, four, restarting, skipping, five}
+use Rattle.simplex_laws.specs.Accountability.{AcceptCertified, MayBeCertified, HasAcceptedNearer, IsBackedNetwork}
+use Rattle.simplex_laws.specs.Scripts.{leader, start_at, impatient, patient, forgetful, four, overrun, two_faced, known_of_overrun, restarting, skipping, five}
 use Rattle.simplex_laws.specs.Turns.{round, proposal, certificate, one, two}
-use Rattle.simplex_laws.specs.Deeds.{Accepts}
+use Rattle.simplex_laws.specs.Deeds.{Accepts, Signs}
 use Rattle.simplex_laws.specs.Stories.{Story, deeds_of, BeginsAs, Ran}
 use Rattle.simplex_laws.proofs.networks.ComputedRuns.{replies_from, Fits, begun, fits_run_from, rises, each_begins}
 
@@ -144,22 +145,24 @@ module _ where
   abbrev FourBack : Subject ℕ → Type 0
   FourBack c = Backed four c
 
-  impatient_accepts : (c : Subject ℕ) → Contains (deeds_of impatient) (Accepts c) → FourBack c
-  impatient_accepts c (zero, less, same) = absurd (cc)
-  impatient_accepts c (suc zero, less, same) = (let e : subject.Notarize one ≡ c = cc in subst FourBack e notarized_one)
-  impatient_accepts c (suc (suc zero), less, same) = (let e : subject.Notarize two ≡ c = cc in subst FourBack e notarized_two)
-  impatient_accepts c (suc (suc (suc zero)), less, same) = (let e : subject.Finalize one ≡ c = cc in subst FourBack e finalized_one)
-  impatient_accepts c (suc (suc (suc (suc zero))), less, same) = absurd (cc)
-  impatient_accepts c (suc (suc (suc (suc (suc k)))), less, same) = absurd (omega arith)
+  -- what holds of each certificate that one accepts
 
-  patient_accepts : (me : ℕ) (c : Subject ℕ) → Contains (deeds_of (patient me)) (Accepts c) → FourBack c
-  patient_accepts me c (zero, less, same) = absurd (cc)
-  patient_accepts me c (suc zero, less, same) = (let e : subject.Notarize one ≡ c = cc in subst FourBack e notarized_one)
-  patient_accepts me c (suc (suc zero), less, same) = absurd (cc)
-  patient_accepts me c (suc (suc (suc zero)), less, same) = absurd (cc)
-  patient_accepts me c (suc (suc (suc (suc zero))), less, same) = (let e : subject.Notarize two ≡ c = cc in subst FourBack e notarized_two)
-  patient_accepts me c (suc (suc (suc (suc (suc zero)))), less, same) = absurd (cc)
-  patient_accepts me c (suc (suc (suc (suc (suc (suc k))))), less, same) = absurd (omega arith)
+  impatient_accepts : (P : Subject ℕ → Type 0) → P (subject.Notarize one) → P (subject.Notarize two) → P (subject.Finalize one) → (c : Subject ℕ) → Contains (deeds_of impatient) (Accepts c) → P c
+  impatient_accepts P n m f c (zero, less, same) = absurd (cc)
+  impatient_accepts P n m f c (suc zero, less, same) = (let e : subject.Notarize one ≡ c = cc in subst P e n)
+  impatient_accepts P n m f c (suc (suc zero), less, same) = (let e : subject.Notarize two ≡ c = cc in subst P e m)
+  impatient_accepts P n m f c (suc (suc (suc zero)), less, same) = (let e : subject.Finalize one ≡ c = cc in subst P e f)
+  impatient_accepts P n m f c (suc (suc (suc (suc zero))), less, same) = absurd (cc)
+  impatient_accepts P n m f c (suc (suc (suc (suc (suc k)))), less, same) = absurd (omega arith)
+
+  patient_accepts : (me : ℕ) (P : Subject ℕ → Type 0) → P (subject.Notarize one) → P (subject.Notarize two) → (c : Subject ℕ) → Contains (deeds_of (patient me)) (Accepts c) → P c
+  patient_accepts me P n m c (zero, less, same) = absurd (cc)
+  patient_accepts me P n m c (suc zero, less, same) = (let e : subject.Notarize one ≡ c = cc in subst P e n)
+  patient_accepts me P n m c (suc (suc zero), less, same) = absurd (cc)
+  patient_accepts me P n m c (suc (suc (suc zero)), less, same) = absurd (cc)
+  patient_accepts me P n m c (suc (suc (suc (suc zero))), less, same) = (let e : subject.Notarize two ≡ c = cc in subst P e m)
+  patient_accepts me P n m c (suc (suc (suc (suc (suc zero)))), less, same) = absurd (cc)
+  patient_accepts me P n m c (suc (suc (suc (suc (suc (suc k))))), less, same) = absurd (omega arith)
 
   forgetful_accepts : (c : Subject ℕ) → Contains (deeds_of (forgetful)) (Accepts c) → FourBack c
   forgetful_accepts c (zero, less, same) = absurd (cc)
@@ -184,8 +187,89 @@ module _ where
   four_network = record {
     few_faulty = inl (omega arith, omega arith);
     honest = four_places (λ i s. Ran nat_eq leader 5 i s) impatient_ran (patient_ran 1 patient_told_1) forgetful_ran;
-    backed = λ i s c at h. four_places (λ j t. (d : Subject ℕ) → Contains (deeds_of t) (Accepts d) → FourBack d) impatient_accepts (patient_accepts 1) forgetful_accepts i s at c h;
+    backed = λ i s c at h. four_places (λ j t. (d : Subject ℕ) → Contains (deeds_of t) (Accepts d) → FourBack d) (impatient_accepts FourBack notarized_one notarized_two finalized_one) (patient_accepts 1 FourBack notarized_one notarized_two) forgetful_accepts i s at c h;
   }
+
+  -- with two faulty members
+
+  abbrev OverrunBack : Subject ℕ → Type 0
+  OverrunBack c = Backed overrun c
+
+  pub overrun_nullified : OverrunBack (subject.Nullify (round 1))
+  overrun_nullified = inl ((0, omega arith, refl), inr (inl (tt, inl (tt, tt))))
+
+  pub overrun_finalized : OverrunBack (subject.Finalize two)
+  overrun_finalized = inl ((4, omega arith, refl), inl ((5, omega arith, refl), inl (tt, tt)))
+
+  overrun_one : OverrunBack (subject.Notarize one)
+  overrun_one = inr (inl ((0, omega arith, refl), inl (tt, inl (tt, tt))))
+
+  overrun_two : OverrunBack (subject.Notarize two)
+  overrun_two = inr (inl ((3, omega arith, refl), inl (tt, inl (tt, tt))))
+
+  overrun_final : OverrunBack (subject.Finalize one)
+  overrun_final = inr (inl ((2, omega arith, refl), inl (tt, inl (tt, tt))))
+
+  overrun_places : (P : ℕ → Story ℕ ℕ ℕ → Type 0) → P 0 impatient → P 1 (patient 1) → (i : ℕ) (s : Story ℕ ℕ ℕ) → slice_get overrun i ≡ Some (Honest s) → P i s
+  overrun_places P a b zero s is = (let e : impatient ≡ s = cc in subst (λ t. P 0 t) e a)
+  overrun_places P a b (suc zero) s is = (let e : patient 1 ≡ s = cc in subst (λ t. P 1 t) e b)
+  overrun_places P a b (suc (suc zero)) s is = absurd (cc)
+  overrun_places P a b (suc (suc (suc zero))) s is = absurd (cc)
+  overrun_places P a b (suc (suc (suc (suc k)))) s is = absurd (cc)
+
+  pub overrun_network : IsBackedNetwork nat_eq leader 5 overrun
+  overrun_network = record {
+    honest = overrun_places (λ i s. Ran nat_eq leader 5 i s) impatient_ran (patient_ran 1 patient_told_1);
+    backed = λ i s c at h. overrun_places (λ j t. (d : Subject ℕ) → Contains (deeds_of t) (Accepts d) → OverrunBack d) (impatient_accepts OverrunBack overrun_one overrun_two overrun_final) (patient_accepts 1 OverrunBack overrun_one overrun_two) i s at c h;
+  }
+
+  -- what is known of them
+
+  abbrev KnownBack : Subject ℕ → Type 0
+  KnownBack c = MayBeCertified known_of_overrun c
+
+  pub known_nullified : KnownBack (subject.Nullify (round 1))
+  known_nullified = inl ((0, omega arith, refl), inr (inl ((0, omega arith, refl), inl (tt, tt))))
+
+  pub known_finalized : KnownBack (subject.Finalize two)
+  known_finalized = inl ((4, omega arith, refl), inl ((5, omega arith, refl), inl ((4, omega arith, refl), tt)))
+
+  known_one : KnownBack (subject.Notarize one)
+  known_one = inr (inl ((0, omega arith, refl), inl ((1, omega arith, refl), inl (tt, tt))))
+
+  known_two : KnownBack (subject.Notarize two)
+  known_two = inr (inl ((3, omega arith, refl), inl ((3, omega arith, refl), inl (tt, tt))))
+
+  known_final : KnownBack (subject.Finalize one)
+  known_final = inr (inl ((2, omega arith, refl), inl ((2, omega arith, refl), inl (tt, tt))))
+
+  two_faced_accepts : (me : ℕ) (c : Subject ℕ) → Contains (two_faced me) (Accepts c) → ⊥
+  two_faced_accepts me c (zero, less, same) = cc
+  two_faced_accepts me c (suc zero, less, same) = cc
+  two_faced_accepts me c (suc (suc zero), less, same) = cc
+  two_faced_accepts me c (suc (suc (suc zero)), less, same) = cc
+  two_faced_accepts me c (suc (suc (suc (suc zero))), less, same) = cc
+  two_faced_accepts me c (suc (suc (suc (suc (suc k)))), less, same) = omega arith
+
+  pub known_accept : AcceptCertified known_of_overrun
+  known_accept zero deeds c at h = (let e : deeds ≡ deeds_of impatient = cc in impatient_accepts KnownBack known_one known_two known_final c (subst (λ ds. Contains ds (Accepts c)) e h))
+  known_accept (suc zero) deeds c at h = (let e : deeds ≡ deeds_of (patient 1) = cc in patient_accepts 1 KnownBack known_one known_two c (subst (λ ds. Contains ds (Accepts c)) e h))
+  known_accept (suc (suc zero)) deeds c at h = (let e : deeds ≡ two_faced 2 = cc in absurd (two_faced_accepts 2 c (subst (λ ds. Contains ds (Accepts c)) e h)))
+  known_accept (suc (suc (suc zero))) deeds c at h = absurd (cc)
+  known_accept (suc (suc (suc (suc k)))) deeds c at h = absurd (cc)
+
+  -- the first member finalized view 2 past its vote to nullify view 1, by the finalization of view 1
+  pub misled_by_final : (nearer : HasAcceptedNearer 5 (subject.Nullify (round 1)) (subject.Finalize two) (deeds_of impatient)) × (nearer.third ≡ subject.Finalize one)
+  misled_by_final = (
+    record {
+      third = subject.Finalize one;
+      before = Signs 0 (subject.Nullify (round 1)) ∷ Accepts (subject.Notarize one) ∷ Accepts (subject.Notarize two) ∷ Accepts (subject.Finalize one) ∷ [];
+      signs = inr (0, [], refl);
+      accepted = (3, omega arith, refl);
+      nearer = inl (refl, omega arith);
+    },
+    refl,
+  )
 
   abbrev FiveBack : Subject ℕ → Type 0
   FiveBack c = Backed five c

@@ -98,6 +98,7 @@ module _ {K L D : Type 0} (term_length : ℕ) (a b : List (Deed D)) (x : StateFa
             notarized = λ c is. ((old.notarized c is).0, accepts (subject.Notarize c.proposal) (old.notarized c is).1);
             held = old.held;
             entered = old.entered;
+            left = old.left;
             nullify_decided = λ round h at. elim (nullifies round h).1 [ inl there ↦ old.nullify_decided round there at | inr below ↦ inr (omega arith) ];
             finalize_decided = λ p h at. elim (finalizes p h) [ inl there ↦ old.finalize_decided p there at | inr below ↦ inr (omega arith) ];
           });

@@ -82,6 +82,7 @@ module _ {K L D : Type 0} (same : D → D → Bool) (decides : (d e : D) → sam
           notarized = λ c says. absurd (cc);
           finalized = inl refl;
           enters = λ w says. absurd (cc);
+          leaves = λ w says. absurd (cc);
           nullifies = λ w says. inr (λ p h at. (let here : v ≡ w = cc in may.1 p h (here ∙ at)));
           finalizes = λ w says. absurd (cc);
         } in
@@ -96,6 +97,7 @@ module _ {K L D : Type 0} (same : D → D → Bool) (decides : (d e : D) → sam
           notarized = λ c says. absurd (cc);
           finalized = inl refl;
           enters = λ w says. absurd (cc);
+          leaves = λ w says. (let here : v ≡ w = cc in omega (arith, may.0, here));
           nullifies = λ w says. absurd (cc);
           finalizes = λ w says. inr (λ round h at. (let here : v ≡ w = cc in may.1 round h (at ∙ sym here)));
         } in

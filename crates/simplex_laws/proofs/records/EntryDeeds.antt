@@ -50,6 +50,7 @@ module _ {K L D : Type 0} (term_length : ℕ) (deeds : List (Deed D)) (x : State
                 notarized = λ c is. ((old.notarized c is).0, still deeds new (Accepts (subject.Notarize c.proposal)) (old.notarized c is).1);
                 held = old.held;
                 entered = old.entered;
+                left = old.left;
                 nullify_decided = λ round h at. elim (signed_push deeds new (subject.Nullify round) h) [ inl before ↦ old.nullify_decided round before at | inr now ↦ absurd (cc) ];
                 finalize_decided = λ q h at. elim (signed_push deeds new (subject.Finalize q) h) [ inl before ↦ old.finalize_decided q before at | inr now ↦ absurd (cc) ];
               });

@@ -23,7 +23,7 @@ use Rattle.simplex_laws.specs.Stories.{Story, deeds_of, BeginsAs, Ran}
 use Rattle.simplex_laws.proofs.lists.Signed.{signed_none}
 use Rattle.simplex_laws.proofs.lists.Splits.{Contains-cons_rest}
 use Rattle.simplex_laws.specs.TermLengths.{HasTerms, KeepTerms}
-use Rattle.simplex_member.specs.Runs.{StepFacts, Calls, Restarts, restart_told, IsRun, IsRunFrom}
+use Rattle.simplex_member.specs.Runs.{StepFacts, Calls, Restarts, restart_told, IsStep, IsRun, IsRunFrom}
 use Rattle.simplex_record.specs.Start.{StartFacts, new_state}
 use Rattle.simplex_member.specs.Start.{started_member}
 use Rattle.simplex_laws.proofs.agreement.Lawful.{lawful_start}
@@ -121,17 +121,30 @@ module _ {K L D : Type 0} (same : D → D → Bool) (decides : (d e : D) → sam
           goes_on (cut_member m r.drop r.prune) r result left between.0 fresh between.1 goes
 
 module _ {K L D : Type 0} (same : D → D → Bool) (decides : (d e : D) → same d e ≡ true → d ≡ e) (elect : Elect L) (term_length : ℕ) (some : 0 < term_length) where
+  keep_parts : (step : StepFacts K L D) (steps : List (StepFacts K L D)) → KeepTerms term_length (step ∷ steps) → KeepTerms term_length (step ∷ []) × KeepTerms term_length steps
+  keep_parts (Calls call) steps keep = (tt, keep)
+  keep_parts (Restarts r) steps keep = ((keep.0, tt), keep.1)
+
+  -- a step, and what is left of the terms that later steps keep
+  pub step_lives : (step : StepFacts K L D) (steps : List (StepFacts K L D)) (told : Told K D) (deeds : List (Deed D)) (m next : MemberFacts K L D) → KeepTerms term_length (step ∷ steps) → MemberLives term_length deeds m → IsStep same elect m step told next → KeepTerms term_length steps × MemberLives term_length (deeds ++ deeds_at step told) next
+  step_lives step steps told deeds m next keep lives is_step = let parts = keep_parts step steps keep in (parts.1, by_kind step parts.0 is_step)
+    where
+      by_kind : (s : StepFacts K L D) → KeepTerms term_length (s ∷ []) → IsStep same elect m s told next → MemberLives term_length (deeds ++ deeds_at s told) next
+      by_kind (Calls call) fresh is = call_lives_on same decides elect term_length some deeds m call told next lives is
+      by_kind (Restarts r) fresh is = rw is.2 (restart_lives_on same decides elect term_length some deeds m r is.0 next fresh.0 lives is.1)
+
+  pub run_lives : (steps : List (StepFacts K L D)) (replies : List (Told K D)) (deeds : List (Deed D)) (m end : MemberFacts K L D) → KeepTerms term_length steps → MemberLives term_length deeds m → IsRun same elect m steps replies end → MemberLives term_length (deeds ++ deeds_of_steps steps replies) end
+  run_lives [] [] deeds m end keep lives run = subst (MemberLives term_length (deeds ++ [])) run (quiet term_length deeds m lives)
+  run_lives [] (told ∷ replies) deeds m end keep lives run = absurd run
+  run_lives (step ∷ steps) [] deeds m end keep lives run = absurd run
+  run_lives (step ∷ steps) (told ∷ replies) deeds m end keep lives (next, is_step, rest) =
+      let kept = step_lives step steps told deeds m next keep lives is_step in
+      subst (λ a. MemberLives term_length a end) (append_assoc deeds (deeds_at step told) (deeds_of_steps steps replies)) (run_lives steps replies (deeds ++ deeds_at step told) next end kept.0 kept.1 rest)
+
   pub run_lawful : (steps : List (StepFacts K L D)) (replies : List (Told K D)) (deeds : List (Deed D)) (m end : MemberFacts K L D) → KeepTerms term_length steps → MemberLives term_length deeds m → IsRun same elect m steps replies end → IsLawful term_length (deeds ++ deeds_of_steps steps replies)
-  run_lawful [] [] deeds m end fresh lives run = subst (IsLawful term_length) (sym (append-nil deeds)) (between_of term_length deeds m.closed lives.0 m.entries m.openings m.life lives.1).lawful
-  run_lawful [] (told ∷ replies) deeds m end fresh lives run = absurd run
-  run_lawful (step ∷ steps) [] deeds m end fresh lives run = absurd run
-  run_lawful (Calls call ∷ steps) (told ∷ replies) deeds m end fresh lives (next, is_step, rest) =
-      let kept = call_lives_on same decides elect term_length some deeds m call told next lives is_step in
-      subst (IsLawful term_length) (append_assoc deeds (deeds_of_call call told) (deeds_of_steps steps replies)) (run_lawful steps replies (deeds ++ deeds_of_call call told) next end fresh kept rest)
-  run_lawful (Restarts r ∷ steps) (told ∷ replies) deeds m end fresh lives (next, is_step, rest) =
-      let kept = restart_lives_on same decides elect term_length some deeds m r is_step.0 next fresh.0 lives is_step.1 in
-      let so_told : MemberLives term_length (deeds ++ deeds_at (Restarts r) told) next = rw is_step.2 kept in
-      subst (IsLawful term_length) (append_assoc deeds (deeds_at (Restarts r) told) (deeds_of_steps steps replies)) (run_lawful steps replies (deeds ++ deeds_at (Restarts r) told) next end fresh.1 so_told rest)
+  run_lawful steps replies deeds m end fresh lives run =
+      let last = run_lives steps replies deeds m end fresh lives run in
+      (between_of term_length (deeds ++ deeds_of_steps steps replies) end.closed last.0 end.entries end.openings end.life last.1).lawful
 
 -- nothing was done and nothing is recorded
 nothing_between : {D : Type 0} (term_length : ℕ) → Between {D = D} term_length [] 0 0 []

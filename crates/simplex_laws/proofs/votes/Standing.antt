@@ -22,8 +22,9 @@ pub record RoundStands {K D : Type 0} (deeds : List (Deed D)) (reached finalized
   pub notarized : (c : ProposalFacts D) → r.notarization ≡ Some c → (c.proposal.round.view ≡ v) × Contains deeds (Accepts (subject.Notarize c.proposal))
   -- it is of the held proposal, unless another was seen
   pub held : (c : ProposalFacts D) → r.notarization ≡ Some c → (r.slot.conflict ≡ true) ⊎ (r.slot.held ≡ Some c.proposal)
-  -- a true verdict enters a later view
+  -- a true verdict enters a later view, and only a view behind the current one is decided to be finalized
   pub entered : is_certified r.certification ≡ true → v < reached
+  pub left : is_finalize r.decision ≡ true → v < reached
   -- each vote of the view that was cast is decided, or a finalization is no lower
   pub nullify_decided : (round : Round) → HasSigned deeds (subject.Nullify round) → round.view ≡ v → (is_nullify r.decision ≡ true) ⊎ (v ≤ finalized)
   pub finalize_decided : (p : Proposal D) → HasSigned deeds (subject.Finalize p) → p.round.view ≡ v → (is_finalize r.decision ≡ true) ⊎ (v ≤ finalized)
@@ -65,6 +66,7 @@ module _ {K D : Type 0} (deeds : List (Deed D)) where
     notarized = stands.notarized;
     held = stands.held;
     entered = λ is. omega (arith, stands.entered is);
+    left = λ is. omega (arith, stands.left is);
     nullify_decided = λ round h at. elim (stands.nullify_decided round h at) [ inl is ↦ inl is | inr below ↦ inr (omega arith) ];
     finalize_decided = λ p h at. elim (stands.finalize_decided p h at) [ inl is ↦ inl is | inr below ↦ inr (omega arith) ];
   }
@@ -74,6 +76,7 @@ module _ {K D : Type 0} (deeds : List (Deed D)) where
     notarized = λ c is. ((stands.notarized c is).0, still deeds (Accepts certificate) (Accepts (subject.Notarize c.proposal)) (stands.notarized c is).1);
     held = stands.held;
     entered = stands.entered;
+    left = stands.left;
     nullify_decided = λ round h. stands.nullify_decided round (not_vote deeds certificate (subject.Nullify round) h);
     finalize_decided = λ p h. stands.finalize_decided p (not_vote deeds certificate (subject.Finalize p) h);
   }

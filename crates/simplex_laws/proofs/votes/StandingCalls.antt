@@ -59,6 +59,7 @@ module _ {K L D : Type 0} (same : D → D → Bool) (decides : (d e : D) → sam
         notarized = λ d says. (let alike : c ≡ d = cc in subst (λ (f : ProposalFacts D). Contains a (Accepts (subject.Notarize f.proposal))) alike (latest deeds (Accepts (subject.Notarize c.proposal))));
         finalized = inl refl;
         enters = λ w says. absurd (cc);
+        leaves = λ w says. absurd (cc);
         nullifies = λ w says. absurd (cc);
         finalizes = λ w says. absurd (cc);
       } in
@@ -78,6 +79,7 @@ module _ {K L D : Type 0} (same : D → D → Bool) (decides : (d e : D) → sam
         notarized = λ d says. absurd (cc);
         finalized = inr (c.proposal, latest deeds (Accepts (subject.Finalize c.proposal)), refl);
         enters = λ w says. absurd (cc);
+        leaves = λ w says. absurd (cc);
         nullifies = λ w says. absurd (cc);
         finalizes = λ w says. absurd (cc);
       } in

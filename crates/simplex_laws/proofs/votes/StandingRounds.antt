@@ -77,6 +77,7 @@ fresh_stands deeds reached finalized v me members round below = record {
   notarized = λ c is. absurd (cc);
   held = λ c is. absurd (cc);
   entered = λ is. absurd (false≢true is);
+  left = λ is. absurd (false≢true is);
   nullify_decided = λ round h at. inr below;
   finalize_decided = λ p h at. inr below;
 }

@@ -1,6 +1,6 @@
 -- For `votes_are_lawful`.
 -- What stands of the votes stands after each event: by the changes of one round.
-use Rattle.std.proofs.Common.{◌≡◌, ◌≢◌, refl, ap, sym, ◌∙◌, subst, ℕ, ◌<◌, ◌≤◌, ◌⊎◌, inl, inr, Bool, true, false, nat_le, List, Contains, Some, None, unwrap_or, arith}
+use Rattle.std.proofs.Common.{◌≡◌, ◌≢◌, refl, ap, sym, ◌∙◌, subst, ℕ, ◌+◌, ◌<◌, ◌≤◌, ◌⊎◌, inl, inr, Bool, true, false, nat_le, List, Contains, Some, None, unwrap_or, arith}
 use Rattle.std.proofs.lemmas.Bool.{cases_Bool, false≢true, leb-false}
 use Rattle.simplex_types.specs.Proposal.{same_proposal}
 use Rattle.simplex_types.specs.Certificates.{ProposalFacts}
@@ -29,12 +29,13 @@ use Rattle.simplex_laws.proofs.frames.Sound.{IsAhead, event_ahead}
 use Rattle.simplex_laws.proofs.frames.Steps as step
 use Rattle.simplex_laws.proofs.frames.Steps.{RoundStep, Step, Puts, Notes, Raises, Scans, Prunes, along, IsSilent, notarization_by, verdict_by, nullify_by, finalize_by}
 
--- what has to be known of an event: what it brings was accepted, a view that it judges to be true is passed, and a vote that
--- it decides is allowed, or stands against no vote of the other kind
+-- what has to be known of an event: what it brings was accepted, a view that it judges to be true or decides to finalize is
+-- passed, and a vote that it decides is allowed, or stands against no vote of the other kind
 pub record Suits {K L D : Type 0} (deeds : List (Deed D)) (reached : ℕ) (x : StateFacts K L D) (e : Event K D) : Type 0 where
   pub notarized : (c : ProposalFacts D) → notarization_by e ≡ Some c → Contains deeds (Accepts (subject.Notarize c.proposal))
   pub finalized : HasFinal deeds (finalized_by_event e)
   pub enters : (v : ℕ) → verdict_by e ≡ Some (v, true) → v < reached
+  pub leaves : (v : ℕ) → finalize_by e ≡ Some v → v < reached
   pub nullifies : (v : ℕ) → nullify_by e ≡ Some v → IsEvent x e ⊎ ((p : Proposal D) → HasSigned deeds (subject.Finalize p) → v ≢ p.round.view)
   pub finalizes : (v : ℕ) → finalize_by e ≡ Some v → IsEvent x e ⊎ ((round : Round) → HasSigned deeds (subject.Nullify round) → round.view ≢ v)
 
@@ -45,6 +46,7 @@ module _ {K L D : Type 0} (deeds : List (Deed D)) (reached : ℕ) (x : StateFact
     notarized = λ c says. absurd (cc);
     finalized = inl final;
     enters = enters;
+    leaves = λ v says. absurd (cc);
     nullifies = λ v says. absurd (cc);
     finalizes = λ v says. absurd (cc);
   }
@@ -67,23 +69,24 @@ module _ {K L D : Type 0} (same : D → D → Bool) (decides : (d e : D) → sam
     notarized = λ d is. (let alike : c ≡ d = cc in subst (λ (f : ProposalFacts D). (f.proposal.round.view ≡ v) × Contains deeds (Accepts (subject.Notarize f.proposal))) alike (at, suits.notarized c says));
     held = λ d is. (let alike : c ≡ d = cc in subst (λ (f : ProposalFacts D). Holds (after_certificate (same_proposal same) r.slot c.proposal) f.proposal) alike (holds_new same decides r.slot c.proposal));
     entered = p.entered;
+    left = p.left;
     nullify_decided = p.nullify_decided;
     finalize_decided = p.finalize_decided;
   }
-  change_stands finalized y v r s (step.Finalized c says at none) p = record { notarized = p.notarized; held = λ d is. holds_old same decides r.slot c.proposal d.proposal (p.held d is); entered = p.entered; nullify_decided = p.nullify_decided; finalize_decided = p.finalize_decided }
-  change_stands finalized y v r s (step.Judged true says fits) p = record { notarized = p.notarized; held = p.held; entered = λ is. suits.enters v says; nullify_decided = p.nullify_decided; finalize_decided = p.finalize_decided }
-  change_stands finalized y v r s (step.Judged false says fits) p = record { notarized = p.notarized; held = p.held; entered = λ is. absurd (false≢true is); nullify_decided = p.nullify_decided; finalize_decided = p.finalize_decided }
-  change_stands finalized y v r s (step.Certifying token says fits) p = record { notarized = p.notarized; held = p.held; entered = λ is. absurd (false≢true is); nullify_decided = p.nullify_decided; finalize_decided = p.finalize_decided }
-  change_stands finalized y v r s (step.Ended under_way) p = record { notarized = p.notarized; held = p.held; entered = λ is. p.entered (sym (aborted_certified r.certification) ∙ is); nullify_decided = p.nullify_decided; finalize_decided = p.finalize_decided }
-  change_stands finalized y v r s (step.NullifyDecided says fits) p = record { notarized = p.notarized; held = p.held; entered = p.entered; nullify_decided = λ round h at. inl refl; finalize_decided = λ q h at. elim (suits.nullifies v says) [ inl takes ↦ passed_by (is_finalize r.decision) (v ≤ finalized) (fits takes) (p.finalize_decided q h at) false | inr apart ↦ absurd (apart q h (sym at)) ] }
-  change_stands finalized y v r s (step.FinalizeDecided says fits) p = record { notarized = p.notarized; held = p.held; entered = p.entered; nullify_decided = λ round h at. elim (suits.finalizes v says) [ inl takes ↦ passed_by (is_nullify r.decision) (v ≤ finalized) (fits takes) (p.nullify_decided round h at) false | inr apart ↦ absurd (apart round h at) ]; finalize_decided = λ q h at. inl refl }
-  change_stands finalized y v r s (step.Entered now) p = record { notarized = p.notarized; held = p.held; entered = p.entered; nullify_decided = λ round h at. elim (p.nullify_decided round h at) [ inl is ↦ inl (armed_nullify r.decision _ _ ∙ is) | inr below ↦ inr below ]; finalize_decided = λ q h at. elim (p.finalize_decided q h at) [ inl is ↦ inl (armed_finalize r.decision _ _ ∙ is) | inr below ↦ inr below ] }
-  change_stands finalized y v r s (step.Latched now reason) p = record { notarized = p.notarized; held = p.held; entered = p.entered; nullify_decided = λ round h at. elim (p.nullify_decided round h at) [ inl is ↦ inl (latched_nullify r.decision (now, reason) ∙ is) | inr below ↦ inr below ]; finalize_decided = λ q h at. elim (p.finalize_decided q h at) [ inl is ↦ inl (latched_finalize r.decision (now, reason) ∙ is) | inr below ↦ inr below ] }
-  change_stands finalized y v r s (step.Retried now interval says awaits) p = record { notarized = p.notarized; held = p.held; entered = p.entered; nullify_decided = λ round h at. inl refl; finalize_decided = λ q h at. passed_by (is_finalize r.decision) (v ≤ finalized) (awaited_nullify r awaits).1 (p.finalize_decided q h at) false }
-  change_stands finalized y v r s (step.Heard q says free) p = record { notarized = p.notarized; held = λ d is. holds_voted same r.slot q d.proposal (p.held d is); entered = p.entered; nullify_decided = p.nullify_decided; finalize_decided = p.finalize_decided }
-  change_stands finalized y v r s (step.Built context payload now says is at) p = record { notarized = p.notarized; held = λ d is. holds_own same decides r.slot (proposal_of context payload) d.proposal (p.held d is); entered = p.entered; nullify_decided = p.nullify_decided; finalize_decided = p.finalize_decided }
-  change_stands finalized y v r s (step.VotedAgain q binding says at is) p = record { notarized = p.notarized; held = λ d is. holds_own same decides r.slot q d.proposal (p.held d is); entered = p.entered; nullify_decided = p.nullify_decided; finalize_decided = p.finalize_decided }
-  change_stands finalized y v r s _ p = record { notarized = p.notarized; held = p.held; entered = p.entered; nullify_decided = p.nullify_decided; finalize_decided = p.finalize_decided }
+  change_stands finalized y v r s (step.Finalized c says at none) p = record { notarized = p.notarized; held = λ d is. holds_old same decides r.slot c.proposal d.proposal (p.held d is); entered = p.entered; left = p.left; nullify_decided = p.nullify_decided; finalize_decided = p.finalize_decided }
+  change_stands finalized y v r s (step.Judged true says fits) p = record { notarized = p.notarized; held = p.held; entered = λ is. suits.enters v says; left = p.left; nullify_decided = p.nullify_decided; finalize_decided = p.finalize_decided }
+  change_stands finalized y v r s (step.Judged false says fits) p = record { notarized = p.notarized; held = p.held; entered = λ is. absurd (false≢true is); left = p.left; nullify_decided = p.nullify_decided; finalize_decided = p.finalize_decided }
+  change_stands finalized y v r s (step.Certifying token says fits) p = record { notarized = p.notarized; held = p.held; entered = λ is. absurd (false≢true is); left = p.left; nullify_decided = p.nullify_decided; finalize_decided = p.finalize_decided }
+  change_stands finalized y v r s (step.Ended under_way) p = record { notarized = p.notarized; held = p.held; entered = λ is. p.entered (sym (aborted_certified r.certification) ∙ is); left = p.left; nullify_decided = p.nullify_decided; finalize_decided = p.finalize_decided }
+  change_stands finalized y v r s (step.NullifyDecided says fits) p = record { notarized = p.notarized; held = p.held; entered = p.entered; left = λ is. absurd (false≢true is); nullify_decided = λ round h at. inl refl; finalize_decided = λ q h at. elim (suits.nullifies v says) [ inl takes ↦ passed_by (is_finalize r.decision) (v ≤ finalized) (fits takes) (p.finalize_decided q h at) false | inr apart ↦ absurd (apart q h (sym at)) ] }
+  change_stands finalized y v r s (step.FinalizeDecided says fits) p = record { notarized = p.notarized; held = p.held; entered = p.entered; left = λ is. suits.leaves v says; nullify_decided = λ round h at. elim (suits.finalizes v says) [ inl takes ↦ passed_by (is_nullify r.decision) (v ≤ finalized) (fits takes) (p.nullify_decided round h at) false | inr apart ↦ absurd (apart round h at) ]; finalize_decided = λ q h at. inl refl }
+  change_stands finalized y v r s (step.Entered now) p = record { notarized = p.notarized; held = p.held; entered = p.entered; left = λ is. p.left (sym (armed_finalize r.decision (now + y.settings.leader_timeout) (now + y.settings.certification_timeout)) ∙ is); nullify_decided = λ round h at. elim (p.nullify_decided round h at) [ inl is ↦ inl (armed_nullify r.decision _ _ ∙ is) | inr below ↦ inr below ]; finalize_decided = λ q h at. elim (p.finalize_decided q h at) [ inl is ↦ inl (armed_finalize r.decision _ _ ∙ is) | inr below ↦ inr below ] }
+  change_stands finalized y v r s (step.Latched now reason) p = record { notarized = p.notarized; held = p.held; entered = p.entered; left = λ is. p.left (sym (latched_finalize r.decision (now, reason)) ∙ is); nullify_decided = λ round h at. elim (p.nullify_decided round h at) [ inl is ↦ inl (latched_nullify r.decision (now, reason) ∙ is) | inr below ↦ inr below ]; finalize_decided = λ q h at. elim (p.finalize_decided q h at) [ inl is ↦ inl (latched_finalize r.decision (now, reason) ∙ is) | inr below ↦ inr below ] }
+  change_stands finalized y v r s (step.Retried now interval says awaits) p = record { notarized = p.notarized; held = p.held; entered = p.entered; left = λ is. absurd (false≢true is); nullify_decided = λ round h at. inl refl; finalize_decided = λ q h at. passed_by (is_finalize r.decision) (v ≤ finalized) (awaited_nullify r awaits).1 (p.finalize_decided q h at) false }
+  change_stands finalized y v r s (step.Heard q says free) p = record { notarized = p.notarized; held = λ d is. holds_voted same r.slot q d.proposal (p.held d is); entered = p.entered; left = p.left; nullify_decided = p.nullify_decided; finalize_decided = p.finalize_decided }
+  change_stands finalized y v r s (step.Built context payload now says is at) p = record { notarized = p.notarized; held = λ d is. holds_own same decides r.slot (proposal_of context payload) d.proposal (p.held d is); entered = p.entered; left = p.left; nullify_decided = p.nullify_decided; finalize_decided = p.finalize_decided }
+  change_stands finalized y v r s (step.VotedAgain q binding says at is) p = record { notarized = p.notarized; held = λ d is. holds_own same decides r.slot q d.proposal (p.held d is); entered = p.entered; left = p.left; nullify_decided = p.nullify_decided; finalize_decided = p.finalize_decided }
+  change_stands finalized y v r s _ p = record { notarized = p.notarized; held = p.held; entered = p.entered; left = p.left; nullify_decided = p.nullify_decided; finalize_decided = p.finalize_decided }
 
   step_stands : (y z : StateFacts K L D) → Step same elect x e 0 y z → Stands term_length deeds reached y → Stands term_length deeds reached z
   step_stands y z (Puts v r may change) p = stands_put term_length deeds reached y v r (change_stands y.finalized y v (round_of y v) r change (p.rounds v)) p

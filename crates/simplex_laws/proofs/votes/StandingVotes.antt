@@ -48,15 +48,17 @@ module _ {K D : Type 0} (deeds : List (Deed D)) (reached finalized v : ℕ) (r :
         notarized = stands.notarized;
         held = stands.held;
         entered = stands.entered;
+        left = λ is. absurd (false≢true is);
         nullify_decided = λ round h at. inl refl;
         finalize_decided = λ p h at. elim (stands.finalize_decided p h at) [ inl is ↦ absurd (false≢true (sym undecided ∙ is)) | inr below ↦ inr below ];
       })
 
-  finalize_round : is_pending r.decision ≡ true → RoundStands deeds reached finalized v (record r { decision = decision.Finalize })
-  finalize_round pending = record {
+  finalize_round : is_pending r.decision ≡ true → v < reached → RoundStands deeds reached finalized v (record r { decision = decision.Finalize })
+  finalize_round pending passed = record {
     notarized = stands.notarized;
     held = stands.held;
     entered = stands.entered;
+    left = λ is. passed;
     nullify_decided = λ round h at. elim (stands.nullify_decided round h at) [ inl is ↦ absurd (false≢true (sym (not_nullified r.decision pending) ∙ is)) | inr below ↦ inr below ];
     finalize_decided = λ p h at. inl refl;
   }
@@ -85,6 +87,7 @@ module _ {K L D : Type 0} (term_length : ℕ) (deeds : List (Deed D)) where
               notarized = λ c is. ((old.notarized c is).0, still deeds new (Accepts (subject.Notarize c.proposal)) (old.notarized c is).1);
               held = old.held;
               entered = old.entered;
+              left = old.left;
               nullify_decided = λ other h at. elim (signed_push deeds new (subject.Nullify other) h) [
                 | inl before ↦ old.nullify_decided other before at
                 | inr now ↦ (let same : round ≡ other = cc in subst (λ u. (is_nullify (round_of x u).decision ≡ true) ⊎ (u ≤ x.finalized)) (ap (λ (r : Round). r.view) same ∙ at) decided)
@@ -111,6 +114,7 @@ module _ {K L D : Type 0} (term_length : ℕ) (deeds : List (Deed D)) where
               notarized = λ c is. ((old.notarized c is).0, still deeds new (Accepts (subject.Notarize c.proposal)) (old.notarized c is).1);
               held = old.held;
               entered = old.entered;
+              left = old.left;
               nullify_decided = λ other h at. elim (signed_push deeds new (subject.Nullify other) h) [
                 | inl before ↦ old.nullify_decided other before at
                 | inr now ↦ absurd (cc)
@@ -196,7 +200,7 @@ module _ {K L D : Type 0} (term_length : ℕ) (deeds : List (Deed D)) (x : State
 
   pub finalize_decided : (elect : Elect L) → FinalizeRule elect x v → Stays term_length deeds (with_round x v (record (round_of x v) { decision = decision.Finalize }))
   finalize_decided elect rule = record {
-    stands = stands_put term_length deeds x.current x v (record (round_of x v) { decision = decision.Finalize }) (finalize_round deeds x.current x.finalized v (round_of x v) (keeps.stands.rounds v) rule.undecided) keeps.stands;
+    stands = stands_put term_length deeds x.current x v (record (round_of x v) { decision = decision.Finalize }) (finalize_round deeds x.current x.finalized v (round_of x v) (keeps.stands.rounds v) rule.undecided ((keeps.stands.rounds v).entered rule.certified)) keeps.stands;
     ahead = keeps.ahead;
     final = keeps.final;
   }

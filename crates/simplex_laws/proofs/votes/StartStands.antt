@@ -30,6 +30,7 @@ module _ {K L D : Type 0} (same : D → D → Bool) (decides : (d e : D) → sam
     notarized = λ c is. absurd (cc);
     held = λ c is. absurd (cc);
     entered = λ is. absurd (false≢true is);
+    left = λ is. absurd (false≢true is);
     nullify_decided = λ round h at. absurd (floor_unsigned floor (subject.Nullify round) h);
     finalize_decided = λ p h at. absurd (floor_unsigned floor (subject.Finalize p) h);
   }
@@ -58,6 +59,7 @@ module _ {K L D : Type 0} (same : D → D → Bool) (decides : (d e : D) → sam
         notarized = λ c says. absurd (cc);
         finalized = floor_final now;
         enters = λ v says. absurd (cc);
+        leaves = λ v says. absurd (cc);
         nullifies = λ v says. absurd (cc);
         finalizes = λ v says. absurd (cc);
       } in

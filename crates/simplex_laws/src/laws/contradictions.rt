@@ -1,20 +1,43 @@
 //! Who answers for certificates that contradict, where more members are faulty than agreement bears.
 
-ghost use Rattle.simplex_laws.specs.Accountability.{ContradictionsAreAnsweredFor, EvidenceHolds};
+ghost use Rattle.simplex_laws.specs.Accountability.{ContradictionsAreAnsweredFor, ContradictionsAreTraced, NearestIsEvidence};
+ghost use Rattle.simplex_laws.specs.Accountability.{BrokenRulesAreRules, EvidenceHolds, ThirdIsAnother, ContradictionsNeedFaults};
+
+use simplex_types::types::{Digest, Elector, Scheme};
 
 /// Accountability, over payloads `D`: for any number of faulty members, two certificates that contradict are answered for.
 /// It does nothing: its contract is the law.
 ///
-/// Of each member it is known what it did, its deeds, or nothing. Two certificates contradict (`Contradicts`) where they are of
-/// two proposals of a view, where a finalization's view is covered by a nullification, or where a notarized proposal above a
-/// finalized view names a parent below that view. Each may be there: n - f members are unknown or gave its vote.
+/// Of each member it is known what it did, its deeds, or nothing, as of a faulty one. Two certificates contradict
+/// (`Contradicts`) where they are of two proposals of a view, where a finalization's view is covered by a nullification, or
+/// where a notarized proposal above a finalized view names a parent below that view. Each may be there: n - f members are
+/// unknown or gave its vote.
 ///
-/// - `answered`: then at least n - 2f members, with f = (n - 1) / 3, are unknown or gave both votes; and each of these that kept
-///   the voting rules, `IsLawful`, accepted a certificate that contradicts one of the two, for which others answer in their
-///   turn.
+/// - `answered`: then at least n - 2f members, with f = (n - 1) / 3, are unknown or gave both votes; and each of these that is
+///   known broke a rule by the two, which one says (`BreaksBy`), or accepted before one of them a third certificate that
+///   contradicts one of the two from nearer (`HasAcceptedNearer`). The distance of two certificates is a number, so this ends.
+/// - `third`: it is indeed another one than the two, so to have accepted one of these is no excuse.
+/// - `traced`: where each certificate that a known member accepted may be there too, there are two certificates that
+///   contradict at which at least n - 2f members are unknown or gave both votes and broke a rule by these: so of the known
+///   members at least n - 2f - u, where u are unknown.
+/// - `broken`: who broke a rule as `BreaksBy` says did not keep the voting rules, `IsLawful`.
 /// - `evidence`: two votes alone show that their signer broke a rule where both are to notarize one view or both to finalize
 ///   it, on two proposals, or where one is to nullify and one to finalize the same view.
-pub fn accountability<D>()
+/// - `nearest`: certificates that contradict at distance 0 are of such votes.
+pub fn accountability<D: Digest>()
     ensures answered { ContradictionsAreAnsweredFor D }
+    ensures third { ThirdIsAnother D }
+    ensures traced { ContradictionsAreTraced D }
+    ensures broken { BrokenRulesAreRules D }
     ensures evidence { EvidenceHolds D }
+    ensures nearest { NearestIsEvidence D }
+{}
+
+/// Of members that run this code, for any number of faulty ones: where two backed certificates contradict, at least n - 2f
+/// places are faulty, with f = (n - 1) / 3. So with fewer no two contradict. It does nothing: its contract is the law.
+///
+/// As in `agreement`, each place that isn't faulty does what `Ran` says, and each certificate that it accepted is backed
+/// (`IsBackedNetwork`).
+pub fn contradictions_need_faults<S: Scheme<D>, L: Elector<S>, D: Digest>()
+    ensures { ContradictionsNeedFaults S.PublicKey D.eq L.elect }
 {}

@@ -1,10 +1,13 @@
 //! Networks that keep the premises of `agreement`, in which much happens.
 
-ghost use Rattle.std.specs.Prelude.{◌≡◌, ℕ, nat_eq, false, true, List, [], ◌∷◌, length, Contains};
+ghost use Rattle.std.specs.Prelude.{◌≡◌, ℕ, nat_eq, false, true, List, [], ◌∷◌, length, Contains, Some};
 ghost use Rattle.simplex_types.specs.Terms.{covers};
 ghost use Rattle.simplex_types.specs.declared.types.messages.Subject.TheVariants.{Notarize, Nullify, Finalize};
-ghost use Rattle.simplex_laws.specs.Places.{faults, IsNetworkOf, Backed};
+ghost use Rattle.simplex_laws.specs.Places.{faults, AtLeastFrom, IsNetworkOf, Backed};
+ghost use Rattle.simplex_laws.specs.Accountability.{Contradicts, distance, IsEvidence, HasAcceptedNearer, IsBackedNetwork};
+ghost use Rattle.simplex_laws.specs.Accountability.{AcceptCertified, MayBeCertified, IsGuilty, IsSuspect};
 ghost use Rattle.simplex_laws.specs.Scripts.{leader, impatient, patient, four, restarting, skipping, five};
+ghost use Rattle.simplex_laws.specs.Scripts.{overrun, two_faced, known_of_overrun};
 ghost use Rattle.simplex_laws.specs.Turns.{round, proposal, one, two};
 ghost use Rattle.simplex_laws.specs.Deeds.{Accepts, Signs};
 ghost use Rattle.simplex_laws.specs.Stories.{deeds_of, Ran};
@@ -56,4 +59,33 @@ pub fn skipped_views_are_agreed_on()
     ensures backs { Backed five (Notarize one)
         × Backed five (Nullify (round 2))
         × Backed five (Finalize (proposal 3 1)) }
+{}
+
+/// A network of four in terms of five views, of which two are faulty: as many as two quorums share, so that certificates may
+/// contradict. View 1 is nullified, and view 2, which this covers, is finalized. It does nothing: its contract is the law.
+///
+/// - `network`, `many`: the other two do what they do in `terms_are_agreed_on`, and accept what is backed; two are faulty.
+/// - `contradict`: both certificates are backed, and contradict at distance 1.
+/// - `misled`: the first member signed both votes and kept the rules. It had accepted the finalization of view 1 between them,
+///   which contradicts the nullification at distance 0.
+/// - `evidence`: at that distance the two votes are evidence.
+/// - `known`: so what is known of the four, with the deeds of one of the faulty members, is as `accountability` asks.
+/// - `suspects`, `guilty`: at the nearer pair two are suspects, of which the known one is guilty.
+pub fn contradictions_are_answered_for()
+    ensures network { IsBackedNetwork nat_eq leader 5 overrun }
+    ensures many { (length overrun ≡ 4) × (faults overrun ≡ 2) }
+    ensures contradict { Contradicts 5 (Nullify (round 1)) (Finalize two)
+        × (distance (Nullify (round 1)) (Finalize two) ≡ 1)
+        × Backed overrun (Nullify (round 1))
+        × Backed overrun (Finalize two) }
+    ensures misled { (nearer : HasAcceptedNearer 5 (Nullify (round 1)) (Finalize two) (deeds_of impatient))
+        × (nearer.third ≡ Finalize one) }
+    ensures evidence { Contradicts 5 (Nullify (round 1)) (Finalize one)
+        × (distance (Nullify (round 1)) (Finalize one) ≡ 0)
+        × IsEvidence (Nullify (round 1)) (Finalize one) }
+    ensures known { AcceptCertified known_of_overrun
+        × MayBeCertified known_of_overrun (Nullify (round 1))
+        × MayBeCertified known_of_overrun (Finalize two) }
+    ensures suspects { AtLeastFrom 0 2 (IsSuspect 5 (Nullify (round 1)) (Finalize one)) known_of_overrun }
+    ensures guilty { IsGuilty 5 (Nullify (round 1)) (Finalize one) 2 (Some (two_faced 2)) }
 {}

@@ -1,7 +1,8 @@
 //! What each life of a member keeps, between a start or a restart and the next one.
 
 ghost use Rattle.simplex_laws.specs.LifeLaws.{OfEachLife, OfEachStretch, StretchesAreLives, WhileAlive, NeverFalls};
-ghost use Rattle.simplex_laws.specs.LifeLaws.{OfEachState, CurrentTimesOut, ConflictsStay, DroppedForGood, HandedOnce, HandedAsAsked};
+ghost use Rattle.simplex_laws.specs.LifeLaws.{OfEachState, CurrentTimesOut, OfEachRun, PollsAreAnswered};
+ghost use Rattle.simplex_laws.specs.LifeLaws.{ConflictsStay, DroppedForGood, HandedOnce, HandedAsAsked};
 
 use simplex_types::types::{Digest, Elector, Scheme};
 
@@ -34,8 +35,10 @@ pub fn runs_keep_order<S: Scheme<D>, L: Elector<S>, D: Digest>()
 /// Each state that a run leads to while its member lives, whatever the calls, restarts and records. It does nothing: its
 /// contract is the law.
 ///
-/// - `times_out`: the current view lies above the last finalized one, and has a timeout, unless it is certified or this member
-///   has decided to finalize it. So `NextTimeout` has a moment to wait for.
+/// - `times_out`: the current view lies above the last finalized one, and has a timeout. So `NextTimeout` is allowed.
+/// - `polls`: each `NextTimeout` of a run is told a moment to wait for and why. It is refused only where the member has failed,
+///   or where its next retry passes the numbers of 64 bits.
 pub fn current_views_time_out<S: Scheme<D>, L: Elector<S>, D: Digest>()
     ensures times_out { OfEachState S.PublicKey D.eq L.elect CurrentTimesOut }
+    ensures polls { OfEachRun S.PublicKey D.eq L.elect PollsAreAnswered }
 {}

@@ -1,5 +1,8 @@
-use Rattle.simplex_laws.proofs.lives.TimingOut.{states_time_out}
+use Rattle.simplex_laws.proofs.lives.Polls.{states_time_out, polls_answered}
 use Rattle.simplex_laws.proofs.laws.lives.current_views_time_out.Goals as goal
 
 pub returns : goal.returns
-returns g c = record { times_out = states_time_out g.D.PartialEq.eq g.L.Elector.elect }
+returns g c = record {
+  times_out = states_time_out g.D.PartialEq.eq g.met.D.Digest.equal_is_same g.L.Elector.elect;
+  polls = polls_answered g.D.PartialEq.eq g.met.D.Digest.equal_is_same g.L.Elector.elect;
+}
