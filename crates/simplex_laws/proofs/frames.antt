@@ -1,11 +1,8 @@
 pub mod Fresh
-pub mod Rounds
 pub mod InOrder
 pub mod Rising
 pub mod Untracked
 pub mod DroppedViews
-pub mod Steps
-pub mod Paths
 pub mod CallsOnWork
 pub mod CallsMake
 pub mod EachRound

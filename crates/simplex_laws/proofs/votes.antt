@@ -7,7 +7,6 @@ pub mod LifeCalls
 pub mod StartStands
 pub mod UnchangedRounds
 pub mod UnchangedProposals
-pub mod UnchangedByCalls
 pub mod Proposals
 pub mod VotedParents
 pub mod Openings

@@ -5,6 +5,7 @@ use Rattle.std.specs.Option.{option_or}
 use Rattle.simplex_types.specs.Terms.{next_term_start}
 use Rattle.simplex_types.specs.Certificates.{ProposalFacts, NullificationFacts, Verdict, Accepted, Nullified}
 use Rattle.simplex_types.specs.Config.{Genesis, Finalized}
+pub use Rattle.simplex_record.specs.Events.{covers_from, finalized_by_event, is_prune}
 use Rattle.simplex_laws.specs.Events.{Event, SetFloor, AddNotarization, AddNullification, AddFinalization, Certified, Proposed, VerificationFailed, TriggerTimeout, NextTimeout, Prune, Replay}
 
 -- what was there, or else what is new
@@ -62,24 +63,12 @@ module _ {K D : Type 0} where
   verdict_of_event is_notarized v (Replay (Verdict round success)) = at v round.view success
   verdict_of_event is_notarized v _ = None
 
-  -- a nullification of the view is handed in or replayed
-  abbrev pub covers_from : ℕ → Event K D → Bool
-  covers_from v (AddNullification c _) = v == c.round.view
-  covers_from v (Replay (Accepted (Nullified c))) = v == c.round.view
-  covers_from v _ = false
-
   -- of the state
 
   -- the payload of genesis that a floor sets
   abbrev pub sets_genesis : Event K D → Option D
   sets_genesis (SetFloor (Genesis payload) _) = Some payload
   sets_genesis _ = None
-
-  -- the view that it finalizes, or 0
-  abbrev pub finalized_by_event : Event K D → ℕ
-  finalized_by_event (AddFinalization c _) = c.proposal.round.view
-  finalized_by_event (SetFloor (Finalized c) _) = c.proposal.round.view
-  finalized_by_event _ = 0
 
   -- a true verdict enters the next view, unless it is given for a view without a notarization
   abbrev pub entered_by : ℕ → (ℕ → Bool) → Event K D → ℕ
@@ -101,11 +90,6 @@ module _ {K D : Type 0} where
   moment_by (TriggerTimeout _ _ now) = Some now
   moment_by (NextTimeout now) = Some now
   moment_by _ = None
-
-  -- it drops the views below those that are kept
-  abbrev pub is_prune : Event K D → Bool
-  is_prune Prune = true
-  is_prune _ = false
 
 -- what the list says
 

@@ -2,6 +2,7 @@ pub mod Restarts
 pub mod Journal
 pub mod RestartExamples
 pub mod Runs
+pub mod EventsMake
 pub mod GoingCalls
 pub mod Answering
 pub mod Typed

@@ -13,3 +13,4 @@ pub mod Journal
 pub mod Remade
 pub mod Runs
 pub mod Parts
+pub mod Events

@@ -20,7 +20,7 @@ use Rattle.simplex_record.proofs.Recovery.{added_goes}
 use Rattle.simplex_record.proofs.Taking.{taken_goes}
 use Rattle.simplex_record.proofs.Seen.{view_of_entry, from_not_false, none_left}
 use Rattle.simplex_record.proofs.Growing.{round_of-same}
-use Rattle.simplex_record.proofs.Keeping.{added_kept, replayed_me, given_me}
+use Rattle.simplex_record.proofs.Keeping.{added_kept}
 use Rattle.simplex_record.proofs.EntryRules.{GoodRound, Allowed, entry_parent, allowed, round_of_entry, small_entry, none_first}
 use Rattle.simplex_record.proofs.Bearing.{Bears, BearsAll, bears_kept, bears_on, added_bears, replayed_bears, given_bears}
 
@@ -118,15 +118,7 @@ module _ {K L D : Type 0} (same : D → D → Bool) (elect : Elect L) where
   taken_bears before x now e bears =
       cond_both (nat_lt (entry_view e) (min_active x)) x (after_entry same elect x now e) (BearsAll (e ∷ before))
       (λ below. bears_on before e x (λ kept _. absurd (left_out (entry_view e) (min_active x) below kept)) bears)
-      (λ _. let y = after_adding same elect x now e in given_bears elect before (after_replaying same elect y e) now e (replayed_bears same elect before y e (added_bears same elect before x now e bears)))
-
-  taken_me : (x : StateFacts K L D) (now : ℕ) (e : ArtifactFacts D) → (after_kept_entry same elect x now e).me ≡ x.me
-  unfolding after_kept_entry
-  taken_me x now e =
-      let y = after_adding same elect x now e in
-      cond_both (nat_lt (entry_view e) (min_active x)) x (after_entry same elect x now e) (λ (z : StateFacts K L D). z.me ≡ x.me)
-      (λ _. refl)
-      (λ _. given_me elect (after_replaying same elect y e) now e ∙ replayed_me same elect y e ∙ (added_kept same elect x now e).me)
+      (λ _. let y = after_adding same elect x now e in given_bears same elect before (after_replaying same elect y e) now e (replayed_bears same elect before y e (added_bears same elect before x now e bears)))
 
 module _ {S K L D G C : Type 0} (bytes_of : C → List ℕ) (same : D → D → Bool) (elect : Elect L) (now : ℕ) where
   -- entries that break no rule behind those that were taken
@@ -138,7 +130,7 @@ module _ {S K L D G C : Type 0} (bytes_of : C → List ℕ) (same : D → D → 
       let goes = taken_goes same elect x now e in
       let first = first_error (entry_rules same x.settings.epoch x.me before e) in
       let others = first_broken_after same x.settings.epoch x.me (e ∷ before) (entries_of bytes_of rest) in
-      let next : first_broken_after same y.settings.epoch y.me (e ∷ before) (entries_of bytes_of rest) ≡ None = rw (goes.settings, taken_me same elect x now e) (none_left first others unbroken) in (
+      let next : first_broken_after same y.settings.epoch y.me (e ∷ before) (entries_of bytes_of rest) ≡ None = rw (goes.settings, goes.me) (none_left first others unbroken) in (
         takes_next bytes_of same elect now before x a started bears (allowed same x.settings.epoch x.me before e (none_first first others unbroken)),
         takes_entries rest (e ∷ before) y (goes.started started) (taken_bears same elect before x now e bears) next,
       )

@@ -20,8 +20,11 @@ use Rattle.simplex_voter.specs.Replay.{replayed_sets, replayed_round, restored_b
 use Rattle.simplex_record.specs.Entries.{entry_view}
 use Rattle.simplex_record.specs.Check.{stands, is_notarization, is_verdict, is_nullify_vote as nullifies, is_finalize_vote as finalizes}
 use Rattle.simplex_record.specs.Recovery.{as_artifact, after_adding, after_replaying, after_verdict_of}
-use Rattle.simplex_record.proofs.Growing.{Grows, bound_grows, round_of-put, round_of-same, notarization_stands}
-use Rattle.simplex_record.proofs.Keeping.{Keeps, kept_on, put_kept, entered_kept, woken_kept, triggered_kept, prepared_kept, notarized_kept, added_kept}
+use Rattle.simplex_record.proofs.Growing.{Grows, round_of-put, round_of-same, notarization_stands}
+use Rattle.simplex_record.proofs.Keeping.{Keeps, kept_along, event_kept, added_kept}
+use Rattle.simplex_record.specs.Events.{TryPropose, Replay}
+use Rattle.simplex_record.proofs.Steps.{Still}
+use Rattle.simplex_record.proofs.Paths.{from_notarized, from_judged}
 
 both_true : (a b : Bool) → (a && b) ≡ true → (a ≡ true) × (b ≡ true)
 both_true true b h = (refl, h)
@@ -118,7 +121,7 @@ module _ {K L D : Type 0} (same : D → D → Bool) (elect : Elect L) where
       let y = with_elected_leader elect x (v + 1) (Some c.bytes) in
       let z = with_notarization_at same elect y c in
       let here : is_some (round_of z v).notarization ≡ true = rw (round_of-same y v _) (notarization_stands (same_proposal same) (round_of y v) c) in
-      ((notarized_kept same elect v x z c).rounds v).notarized here
+      ((kept_along v same elect x TryPropose (record { verdict = refl; nullify = refl; finalize = refl; other = refl }) (omega arith) z _ (from_notarized c (omega arith) Still)).rounds v).notarized here
   added_notarized x now (Accepted (Nullified c)) is = absurd cc
   added_notarized x now (Accepted (Finalized c)) is = absurd cc
   added_notarized x now (NotarizeVote p m) is = absurd cc
@@ -132,12 +135,8 @@ module _ {K L D : Type 0} (same : D → D → Bool) (elect : Elect L) where
 
   pub replayed_bears : (before : List (ArtifactFacts D)) (x : StateFacts K L D) (e : ArtifactFacts D) → BearsAll (e ∷ before) x → BearsAll (e ∷ before) (after_replaying same elect x e)
   replayed_bears before x (NotarizeVote p m) bears =
-      let e : ArtifactFacts D = NotarizeVote p m in
-      let a : Artifact (Unit {0}) D K (Unit {0}) (List ℕ) = as_artifact e in
       let v = p.round.view in
-      let y = with_round x v (replayed_round same x a) in
-      let voted : Grows (round_of x v) (after_replay (same_proposal same) (round_of x v) a) = record { me = refl; notarized = λ h. h; judged = λ b. refl; nullified = refl; finalized = refl } in
-      bears_kept v (e ∷ before) x (with_next_view_ready elect y v) (kept_on v x y (with_next_view_ready elect y v) (put_kept v x v (replayed_round same x a) (bound_grows (round_of x v) (option_and_then (restored_binding x) (Some p)) voted)) (prepared_kept v elect y v)) bears
+      bears_kept v (NotarizeVote p m ∷ before) x _ (event_kept same elect v x (Replay (NotarizeVote p m)) (record { verdict = refl; nullify = refl; finalize = refl; other = refl }) (omega arith)) bears
   replayed_bears before x (NullifyVote r m) bears =
       let e : ArtifactFacts D = NullifyVote r m in
       let b = bears r.view in
@@ -161,20 +160,13 @@ module _ {K L D : Type 0} (same : D → D → Bool) (elect : Elect L) where
       let b = bears c.proposal.round.view in
       bears_put (Accepted (Finalized c) ∷ before) x c.proposal.round.view _ bears (record { me = b.me; notarized = b.notarized; judged = b.judged; nullified = b.nullified; finalized = b.finalized })
 
-module _ {K L D : Type 0} (elect : Elect L) where
-  given_verdict : (before : List (ArtifactFacts D)) (x : StateFacts K L D) (now : ℕ) (r : Round) (success : Bool) → BearsAll (Verdict r success ∷ before) (with_verdict x r.view success) → BearsAll (Verdict r success ∷ before) (verdict_taken elect x r.view success now)
-  given_verdict before x now r true bears =
-      let v = r.view in
-      let y = with_verdict x v true in
-      let z = with_view_entered y (v + 1) now in
-      bears_kept v (Verdict r true ∷ before) y (with_waiting_candidate elect z v) (kept_on v y z (with_waiting_candidate elect z v) (entered_kept v y (v + 1) now) (woken_kept v elect z v)) bears
-  given_verdict before x now r false bears =
-      let y = with_verdict x r.view false in
-      bears_kept r.view (Verdict r false ∷ before) y (with_timeout y r.view FailedCertification now) (triggered_kept r.view y r.view FailedCertification now) bears
+module _ {K L D : Type 0} (same : D → D → Bool) (elect : Elect L) where
+  given_verdict : (before : List (ArtifactFacts D)) (x : StateFacts K L D) (now : ℕ) (r : Round) (success : Bool) → BearsAll (Verdict r success ∷ before) (with_verdict (at_moment x now) r.view success) → BearsAll (Verdict r success ∷ before) (verdict_taken elect (at_moment x now) r.view success now)
+  given_verdict before x now r success bears = bears_kept r.view (Verdict r success ∷ before) _ _ (kept_along r.view same elect x TryPropose (record { verdict = refl; nullify = refl; finalize = refl; other = refl }) (omega arith) _ _ (from_judged r.view success now)) bears
 
   pub given_bears : (before : List (ArtifactFacts D)) (x : StateFacts K L D) (now : ℕ) (e : ArtifactFacts D) → BearsAll (e ∷ before) x → BearsAll (e ∷ before) (after_verdict_of elect x now e)
   given_bears before x now (Verdict r success) bears = elim (is_tracked x r.view) as (λ t. BearsAll (Verdict r success ∷ before) (cond t (verdict_taken elect (at_moment x now) r.view success now) (at_moment x now))) [
-    | true ↦ given_verdict before (at_moment x now) now r success (bears_put (Verdict r success ∷ before) (at_moment x now) r.view (certified_round (round_of x r.view) success) bears (verdict_borne x.me (min_active x) before r success (round_of x r.view) (bears r.view)))
+    | true ↦ given_verdict before x now r success (bears_put (Verdict r success ∷ before) (at_moment x now) r.view (certified_round (round_of x r.view) success) bears (verdict_borne x.me (min_active x) before r success (round_of x r.view) (bears r.view)))
     | false ↦ bears
   ]
   given_bears before x now (NotarizeVote p m) bears = bears

@@ -1,5 +1,5 @@
 -- What a round keeps while its state changes: a notarization, the verdict, and the kind of the decision.
-use Rattle.std.proofs.Common.{◌≡◌, refl, ap, ◌∙◌, ℕ, ◌+◌, Bool, true, false, cond, eqb, if◌then◌else◌, Option, Some, None, is_some, unwrap_or, inl, inr}
+use Rattle.std.proofs.Common.{◌≡◌, refl, sym, ap, ◌∙◌, ℕ, ◌+◌, Bool, true, false, cond, eqb, if◌then◌else◌, Option, Some, None, is_some, unwrap_or, inl, inr}
 use Rattle.std.specs.Prelude.{nat_le, map as map_list, option_map}
 use Rattle.std.specs.Ordering.{nat_cmp}
 use Rattle.std.specs.Cmp.{nat_cmp_total}
@@ -13,12 +13,12 @@ use Rattle.simplex_round.specs.declared.round.Decision.{Decision}
 use Rattle.simplex_round.specs.declared.round.Decision.TheVariants.{Pending, Nullify, Finalize}
 use Rattle.simplex_round.specs.declared.round.Certification.{Certification}
 use Rattle.simplex_round.specs.declared.round.Certification.TheVariants.{Ready, Outstanding, Judged, Aborted}
-use Rattle.simplex_round.specs.Round.{RoundFacts, new_round, is_judged, is_nullify, is_finalize, with_decision_deadlines, with_first_timeout, with_latch, after_abort, token_of, with_recovered, with_notarization, with_nullification, with_finalization}
+use Rattle.simplex_round.specs.Round.{RoundFacts, new_round, is_judged, is_nullify, is_finalize, with_decision_deadlines, with_first_timeout, with_latch, after_abort, awaits_retry, token_of, with_recovered, with_notarization, with_nullification, with_finalization}
 use Rattle.simplex_voter.specs.Facts.{StateFacts, round_of, round_number, with_round}
 use Rattle.simplex_voter.specs.Entering.{entered_round}
 use Rattle.simplex_voter.specs.Certification.{without_token}
 use Rattle.simplex_voter.specs.Replay.{bound_again}
-use Rattle.simplex_voter.proofs.Walked.{find-changed}
+use Rattle.simplex_record.proofs.Rounds.{armed_nullify, armed_finalize, latched_nullify, latched_finalize, awaited_nullify, round_changed}
 
 module _ {K D : Type 0} where
   -- the verdict and the kind of the decision stay, a notarization stays
@@ -45,29 +45,6 @@ module _ {K D : Type 0} where
   grows_where r true s t p q = p
   grows_where r false s t p q = q
 
--- a decision keeps its kind where only its timeouts change
-armed_nullify : (d : Decision) (l c : ℕ) → is_nullify (with_decision_deadlines d l c) ≡ is_nullify d
-armed_nullify (Pending _ _ _) l c = refl
-armed_nullify (Nullify _) l c = refl
-armed_nullify Finalize l c = refl
-
-armed_finalize : (d : Decision) (l c : ℕ) → is_finalize (with_decision_deadlines d l c) ≡ is_finalize d
-armed_finalize (Pending _ _ _) l c = refl
-armed_finalize (Nullify _) l c = refl
-armed_finalize Finalize l c = refl
-
-latched_nullify : (d : Decision) (t : ℕ × TimeoutReason) → is_nullify (with_first_timeout d t) ≡ is_nullify d
-latched_nullify (Pending _ _ None) t = refl
-latched_nullify (Pending _ _ (Some _)) t = refl
-latched_nullify (Nullify _) t = refl
-latched_nullify Finalize t = refl
-
-latched_finalize : (d : Decision) (t : ℕ × TimeoutReason) → is_finalize (with_first_timeout d t) ≡ is_finalize d
-latched_finalize (Pending _ _ None) t = refl
-latched_finalize (Pending _ _ (Some _)) t = refl
-latched_finalize (Nullify _) t = refl
-latched_finalize Finalize t = refl
-
 -- a verdict is not taken back, and none comes, where a certification ends
 aborted_judged : (c : Certification) (b : Bool) → is_judged b (after_abort c) ≡ is_judged b c
 aborted_judged Ready b = refl
@@ -79,25 +56,13 @@ module _ {K D : Type 0} where
   pub latch_grows : (r : RoundFacts K D) (now : ℕ) (reason : TimeoutReason) → Grows r (with_latch r now reason)
   latch_grows r now reason = record { me = refl; notarized = λ h. h; judged = λ b. refl; nullified = latched_nullify r.decision (now, reason); finalized = latched_finalize r.decision (now, reason) }
 
+  pub ended_grows : (r : RoundFacts K D) → Grows r (record r { certification = after_abort r.certification })
+  ended_grows r = record { me = refl; notarized = λ h. h; judged = aborted_judged r.certification; nullified = refl; finalized = refl }
+
   token_grows : (r : RoundFacts K D) → Grows r (without_token r)
-  token_grows r =
-      grows_where r (is_some (token_of r.certification)) (record r { certification = after_abort r.certification }) r
-      (record { me = refl; notarized = λ h. h; judged = aborted_judged r.certification; nullified = refl; finalized = refl })
-      (alike r)
+  token_grows r = grows_where r (is_some (token_of r.certification)) _ r (ended_grows r) (alike r)
 
   module _ (same : Proposal D → Proposal D → Bool) where
-    pub notarization_grows : (r : RoundFacts K D) (c : ProposalFacts D) → Grows r (with_notarization same r c)
-    notarization_grows r c =
-        grows_where r (is_some r.notarization) r (record (with_recovered same r c.proposal) { notarization = Some c })
-        (alike r)
-        (record { me = refl; notarized = λ h. refl; judged = λ b. refl; nullified = refl; finalized = refl })
-
-    pub finalization_grows : (r : RoundFacts K D) (c : ProposalFacts D) → Grows r (with_finalization same r c)
-    finalization_grows r c =
-        grows_where r (is_some r.finalization) r (record (with_recovered same r c.proposal) { finalization = Some c })
-        (alike r)
-        (record { me = refl; notarized = λ h. h; judged = λ b. refl; nullified = refl; finalized = refl })
-
     -- a notarization that is added stands
     pub notarization_stands : (r : RoundFacts K D) (c : ProposalFacts D) → is_some (with_notarization same r c).notarization ≡ true
     notarization_stands r c = stands (is_some r.notarization) refl
@@ -105,17 +70,6 @@ module _ {K D : Type 0} where
         stands : (b : Bool) → is_some r.notarization ≡ b → is_some (with_notarization same r c).notarization ≡ true
         stands true is = rw is is
         stands false is = rw is refl
-
-  pub nullification_grows : (r : RoundFacts K D) (c : NullificationFacts) → Grows r (with_nullification r c)
-  nullification_grows r c =
-      grows_where r (is_some r.nullification) r (record r { nullification = Some c })
-      (alike r)
-      (record { me = refl; notarized = λ h. h; judged = λ b. refl; nullified = refl; finalized = refl })
-
-  -- a binding changes nothing of it
-  pub bound_grows : (r : RoundFacts K D) {s : RoundFacts K D} (binding : Option (Proposal D × D)) → Grows r s → Grows r (bound_again s binding)
-  bound_grows r None g = g
-  bound_grows r (Some b) g = record { me = g.me; notarized = g.notarized; judged = g.judged; nullified = g.nullified; finalized = g.finalized }
 
 module _ {K L D : Type 0} where
   -- the round of a view after another one stands there
@@ -139,15 +93,15 @@ module _ {K L D : Type 0} where
   ]
 
   -- each round changed by one that grows
-  raised_round : (x : StateFacts K L D) (u : ℕ) (found : Option (RoundFacts K D)) (v : ℕ) → Grows (unwrap_or found (new_round x.me x.members (round_number x v))) (unwrap_or (option_map (λ r. if nat_le v u then without_token r else r) found) (new_round x.me x.members (round_number x v)))
-  raised_round x u None v = alike (new_round x.me x.members (round_number x v))
-  raised_round x u (Some r) v = grows_where r (nat_le v u) (without_token r) r (token_grows r) (alike r)
-
   pub ended_grow : (x : StateFacts K L D) (u v : ℕ) → Grows (round_of x v) (round_of (record x { rounds = map_list (λ e. (e.0, if nat_le e.0 u then without_token e.1 else e.1)) x.rounds }) v)
-  ended_grow x u v = rw (find-changed (λ w r. if nat_le w u then without_token r else r) v x.rounds) (raised_round x u (find nat_cmp v x.rounds) v)
+  ended_grow x u v = round_changed (λ w r. if nat_le w u then without_token r else r) x v Grows alike (λ r. grows_where r (nat_le v u) (without_token r) r (token_grows r) (alike r))
 
   pub entered_grows : (x : StateFacts K L D) (r : RoundFacts K D) (now : ℕ) → Grows r (entered_round x r now)
   entered_grows x r now =
       let l = now + x.settings.leader_timeout in
       let c = now + x.settings.certification_timeout in
       record { me = refl; notarized = λ h. h; judged = λ b. refl; nullified = armed_nullify r.decision l c; finalized = armed_finalize r.decision l c }
+
+module _ {K D : Type 0} where
+  pub retry_grows : (r : RoundFacts K D) (until : ℕ) → awaits_retry r ≡ true → Grows r (record r { decision = Nullify (Some until) })
+  retry_grows r until awaits = let kind = awaited_nullify r awaits in record { me = refl; notarized = λ h. h; judged = λ b. refl; nullified = sym kind.0; finalized = sym kind.1 }

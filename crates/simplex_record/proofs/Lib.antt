@@ -1,6 +1,9 @@
 pub mod Seen
 pub mod Cuts
 pub mod Examples
+pub mod Rounds
+pub mod Steps
+pub mod Paths
 pub mod Going
 pub mod Start
 pub mod Recovery

@@ -10,7 +10,8 @@ use Rattle.simplex_voter.specs.Leaders.{with_leader_of, with_elected_leader, wit
 use Rattle.simplex_voter.specs.Replay.{after_replayed, replayed_round}
 use Rattle.simplex_record.specs.Entries.{entry_view}
 use Rattle.simplex_record.specs.Recovery.{as_artifact, after_adding, after_replaying, after_entry, after_kept_entry}
-use Rattle.simplex_record.proofs.Going.{Goes, stays, joined, where_so, with_round_goes, inherited_goes, elected_goes, notarization_goes, nullification_goes, finalization_goes}
+use Rattle.simplex_record.specs.Events.{AddNotarization, AddNullification, AddFinalization}
+use Rattle.simplex_record.proofs.Going.{Goes, stays, event_goes}
 
 pub replayed_entry : {S K L D G C : Type 0} (bytes_of : C → List ℕ) (same : D → D → Bool) (elect : Elect L) (x : StateFacts K L D) (a : Artifact S D K G C) → after_replayed same elect x a ≡ after_replaying same elect x (artifact_facts bytes_of a)
 replayed_entry bytes_of same elect x (artifact.Notarize _) = refl
@@ -21,31 +22,12 @@ replayed_entry bytes_of same elect x (artifact.Nullification _) = refl
 replayed_entry bytes_of same elect x (artifact.Finalize _) = refl
 replayed_entry bytes_of same elect x (artifact.Finalization _) = refl
 
-module _ {K L D : Type 0} (elect : Elect L) where
-  pub prepared_goes : (x : StateFacts K L D) (v : ℕ) → Goes x (with_next_view_ready elect x v)
-  prepared_goes x v =
-      let later = with_elected_leader elect x (v + 1) None in
-      let own = (round_of x v).notarize_decided && is_elected_early elect x (v + 1) in
-      where_so x (in_window x (v + 1)) (with_leader_of x v (v + 1)) _ (inherited_goes x v (v + 1)) (where_so x own later x (elected_goes elect x (v + 1) None) (stays x))
-
 module _ {K L D : Type 0} (same : D → D → Bool) (elect : Elect L) where
   pub added_goes : (x : StateFacts K L D) (now : ℕ) (e : ArtifactFacts D) → Goes x (after_adding same elect x now e)
-  added_goes x now (Accepted (Notarized c)) = notarization_goes same elect x c
-  added_goes x now (Accepted (Nullified c)) = nullification_goes elect x c now
-  added_goes x now (Accepted (Finalized c)) = finalization_goes same elect x c now
+  added_goes x now (Accepted (Notarized c)) = event_goes same elect x (AddNotarization c)
+  added_goes x now (Accepted (Nullified c)) = event_goes same elect x (AddNullification c now)
+  added_goes x now (Accepted (Finalized c)) = event_goes same elect x (AddFinalization c now)
   added_goes x now _ = stays x
-
-  pub replayed_goes : (x : StateFacts K L D) (e : ArtifactFacts D) → Goes x (after_replaying same elect x e)
-  replayed_goes x (NotarizeVote p m) =
-      let a : Artifact (Unit {0}) D K (Unit {0}) (List ℕ) = as_artifact (NotarizeVote p m) in
-      let y = with_round x p.round.view (replayed_round same x a) in
-      joined x y (with_next_view_ready elect y p.round.view) (with_round_goes x p.round.view _) (prepared_goes elect y p.round.view)
-  replayed_goes x (NullifyVote _ _) = record { failed = refl; settings = refl; terms = refl; started = λ h. h }
-  replayed_goes x (FinalizeVote _ _) = record { failed = refl; settings = refl; terms = refl; started = λ h. h }
-  replayed_goes x (Verdict _ _) = record { failed = refl; settings = refl; terms = refl; started = λ h. h }
-  replayed_goes x (Accepted (Notarized _)) = record { failed = refl; settings = refl; terms = refl; started = λ h. h }
-  replayed_goes x (Accepted (Nullified _)) = record { failed = refl; settings = refl; terms = refl; started = λ h. h }
-  replayed_goes x (Accepted (Finalized _)) = record { failed = refl; settings = refl; terms = refl; started = λ h. h }
 
   -- an entry of a view that is kept is taken, and another is passed over
   pub kept_taken : (x : StateFacts K L D) (now : ℕ) (e : ArtifactFacts D) → nat_lt (entry_view e) (min_active x) ≡ false → after_kept_entry same elect x now e ≡ after_entry same elect x now e

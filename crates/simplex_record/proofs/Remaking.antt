@@ -13,9 +13,10 @@ use Rattle.simplex_record.specs.Entries.{entries_of}
 use Rattle.simplex_record.specs.Check.{first_error, recovery_floor_rules, first_broken_after, first_recover_error}
 use Rattle.simplex_record.specs.Recovery.{after_entries, recovered_state, recover_error, TakesEntries}
 use Rattle.simplex_record.specs.Start.{IsErrorDue}
-use Rattle.simplex_record.proofs.Going.{floor_goes, still_in_time}
+use Rattle.simplex_record.proofs.Going.{event_goes, floor_goes, still_in_time}
+use Rattle.simplex_record.specs.Events.{SetFloor}
 use Rattle.simplex_record.proofs.Seen.{none_left}
-use Rattle.simplex_record.proofs.Taking.{all_taken_goes, floor_set_goes}
+use Rattle.simplex_record.proofs.Taking.{all_taken_goes}
 use Rattle.simplex_record.proofs.Keeping.{floor_view, floor_kept}
 use Rattle.simplex_record.proofs.EntryRules.{none_first}
 use Rattle.simplex_record.proofs.Bearing.{BearsAll, bears_kept}
@@ -61,7 +62,7 @@ module _ {K L D : Type 0} (same : D → D → Bool) (x : StateFacts K L D) (floo
 
 module _ {K L D : Type 0} (same : D → D → Bool) (elect : Elect L) (x : StateFacts K L D) (floor : FloorFacts D) (now : ℕ) where
   pub set_in_time : has_late_deadline x now ≡ false → has_late_deadline (after_set_floor same elect x floor now) now ≡ false
-  set_in_time in_time = still_in_time x (after_set_floor same elect x floor now) now (floor_set_goes same elect x floor now) in_time
+  set_in_time in_time = still_in_time x (after_set_floor same elect x floor now) now (event_goes same elect x (SetFloor floor now)) in_time
 
   -- the state of a recovery goes on
   pub recovered_goes_on : (entries : List (ArtifactFacts D)) → x.failed ≡ false → ((after_entries same elect (after_set_floor same elect x floor now) now entries).failed ≡ false) × (is_started (after_entries same elect (after_set_floor same elect x floor now) now entries) ≡ true)
@@ -79,5 +80,5 @@ module _ {K L D : Type 0} (same : D → D → Bool) (elect : Elect L) (x : State
   set_takes bytes_of entries going bears kept =
       let y = after_set_floor same elect x floor now in
       let keeps = floor_kept same elect x floor now in
-      let rest : first_broken_after same y.settings.epoch y.me [] (entries_of bytes_of entries) ≡ None = rw ((floor_set_goes same elect x floor now).settings, keeps.me) (entries_unbroken same x floor now (entries_of bytes_of entries) kept) in
+      let rest : first_broken_after same y.settings.epoch y.me [] (entries_of bytes_of entries) ≡ None = rw ((event_goes same elect x (SetFloor floor now)).settings, keeps.me) (entries_unbroken same x floor now (entries_of bytes_of entries) kept) in
       takes_entries bytes_of same elect now entries [] y (floor_goes same elect x floor now going).1 (bears_kept (floor_view floor) [] x y keeps bears) rest

@@ -12,43 +12,32 @@ use Rattle.simplex_voter.specs.Acceptance.{with_finalization_broadcast, after_ad
 use Rattle.simplex_voter.specs.Refusals.{has_late_deadline}
 use Rattle.simplex_record.specs.Entries.{entries_of, entry_view}
 use Rattle.simplex_record.specs.Recovery.{after_adding, after_replaying, after_verdict_of, after_entry, after_kept_entry, after_entries, TakesEntries}
-use Rattle.simplex_record.proofs.Going.{Goes, stays, joined, where_so, with_round_goes, entered_goes, elected_goes, finalization_goes, certified_goes, still_in_time}
-use Rattle.simplex_record.proofs.Recovery.{added_goes, replayed_goes}
+use Rattle.std.proofs.lemmas.Bool.{cond_both}
+use Rattle.simplex_record.specs.Events.{Certified, Replay}
+use Rattle.simplex_record.proofs.Going.{Goes, stays, joined, event_goes, still_in_time}
+use Rattle.simplex_record.proofs.Recovery.{added_goes}
 
-module _ {K L D : Type 0} (elect : Elect L) where
+module _ {K L D : Type 0} (same : D → D → Bool) (elect : Elect L) where
   given_goes : (x : StateFacts K L D) (now : ℕ) (e : ArtifactFacts D) → Goes x (after_verdict_of elect x now e)
-  given_goes x now (Verdict round success) = certified_goes elect x round.view success now
+  given_goes x now (Verdict round success) = event_goes same elect x (Certified round.view success now)
   given_goes x now (NotarizeVote _ _) = stays x
   given_goes x now (NullifyVote _ _) = stays x
   given_goes x now (FinalizeVote _ _) = stays x
   given_goes x now (Accepted _) = stays x
 
-module _ {K L D : Type 0} (same : D → D → Bool) (elect : Elect L) where
   retaken_goes : (x : StateFacts K L D) (now : ℕ) (e : ArtifactFacts D) → Goes x (after_entry same elect x now e)
   retaken_goes x now e =
       let y = after_adding same elect x now e in
       let z = after_replaying same elect y e in
-      joined x z (after_verdict_of elect z now e) (joined x y z (added_goes same elect x now e) (replayed_goes same elect y e)) (given_goes elect z now e)
+      joined x z (after_verdict_of elect z now e) (joined x y z (added_goes same elect x now e) (event_goes same elect y (Replay e))) (given_goes z now e)
 
   pub taken_goes : (x : StateFacts K L D) (now : ℕ) (e : ArtifactFacts D) → Goes x (after_kept_entry same elect x now e)
   unfolding after_kept_entry
-  taken_goes x now e = where_so x (nat_lt (entry_view e) (min_active x)) x (after_entry same elect x now e) (stays x) (retaken_goes x now e)
+  taken_goes x now e = cond_both (nat_lt (entry_view e) (min_active x)) x (after_entry same elect x now e) (Goes x) (λ _. stays x) (λ _. retaken_goes x now e)
 
   pub all_taken_goes : (x : StateFacts K L D) (now : ℕ) (entries : List (ArtifactFacts D)) → Goes x (after_entries same elect x now entries)
   all_taken_goes x now [] = stays x
   all_taken_goes x now (e ∷ rest) = let y = after_kept_entry same elect x now e in joined x y (after_entries same elect y now rest) (taken_goes x now e) (all_taken_goes y now rest)
-
-module _ {K L D : Type 0} (same : D → D → Bool) (elect : Elect L) where
-  -- a floor that is set changes nothing of how the state was set up
-  pub floor_set_goes : (x : StateFacts K L D) (floor : FloorFacts D) (now : ℕ) → Goes x (after_set_floor same elect x floor now)
-  floor_set_goes x (Genesis payload) now =
-      let noted = record (at_moment x now) { genesis = Some payload } in
-      let known : Goes x noted = record { failed = refl; settings = refl; terms = refl; started = λ h. h } in
-      let y = with_view_entered noted 1 now in
-      joined x y (with_elected_leader elect y 1 None) (joined x noted y known (entered_goes noted 1 now)) (elected_goes elect y 1 None)
-  floor_set_goes x (Finalized c) now =
-      let y = after_add_finalization same elect x c now in
-      joined x y (with_finalization_broadcast y c.proposal.round.view) (finalization_goes same elect x c now) (with_round_goes y c.proposal.round.view _)
 
 module _ {S K L D G C : Type 0} (bytes_of : C → List ℕ) (same : D → D → Bool) (elect : Elect L) (first : StateFacts K L D) (all : List (Artifact S D K G C)) (now : ℕ) where
   -- the state goes on, allows what is left, and will be what taking all makes of the first one

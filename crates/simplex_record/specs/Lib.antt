@@ -6,3 +6,4 @@ pub mod Cuts
 pub mod Recovery
 pub mod Start
 pub mod Settings
+pub mod Events

@@ -12,9 +12,9 @@ use Rattle.simplex_laws.specs.Sums.{or_new}
 use Rattle.simplex_laws.proofs.frames.EachRound.{rounds_or_gone}
 use Rattle.simplex_laws.proofs.histories.FollowingHanded.{settled_held}
 use Rattle.simplex_laws.proofs.histories.FollowingVotes.{own_held, heard_held}
-use Rattle.simplex_laws.proofs.frames.Paths.{event_path, asked_of_all}
-use Rattle.simplex_laws.proofs.frames.Steps as step
-use Rattle.simplex_laws.proofs.frames.Steps.{RoundStep, notarization_by, finalization_by, proposal_by, note_by}
+use Rattle.simplex_record.proofs.Paths.{event_path, asked_of_all}
+use Rattle.simplex_record.proofs.Steps as step
+use Rattle.simplex_record.proofs.Steps.{RoundStep, notarization_by, finalization_by, proposal_by, note_by}
 
 module _ {K D : Type 0} (Q : Proposal D → Type 0) where
   -- each proposal that an event brings has the property

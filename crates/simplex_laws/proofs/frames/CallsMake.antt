@@ -20,7 +20,8 @@ use Rattle.simplex_member.specs.Made.{after_call}
 use Rattle.simplex_member.specs.Openings.{Openings, context_at, is_offered}
 use Rattle.simplex_record.specs.Recovery.{after_replaying, after_entry, after_kept_entry, after_entries, recovered_state}
 use Rattle.simplex_laws.specs.Events.{Event, IsEvent, after_event, SetFloor, AddNotarization, AddNullification, AddFinalization, Certified, Proposed, Supersede, Replay, in_context, events_of}
-use Rattle.simplex_laws.proofs.frames.Steps.{IsSilent}
+use Rattle.simplex_record.proofs.Steps.{IsSilent}
+use Rattle.simplex_member.proofs.EventsMake.{after_one, call_is}
 use Rattle.simplex_laws.proofs.frames.CallsOnWork.{is_work}
 
 -- how a life begins
@@ -29,31 +30,13 @@ is_floor (SetFloor _ _) = true
 is_floor _ = false
 
 module _ {K L D : Type 0} (same : D → D → Bool) (elect : Elect L) (x : StateFacts K L D) where
-  -- a call is at most one event
-  abbrev pub after_one : List (Event K D) → StateFacts K L D
-  after_one [] = x
-  after_one (e ∷ _) = after_event same elect x e
-
   abbrev pub IsOneTaken : List (Event K D) → Type 0
   IsOneTaken [] = Unit {0}
   IsOneTaken (e ∷ rest) = IsEvent x e × (is_floor e ≡ false) × (rest ≡ [])
 
-  by_one : (P : List (Event K D) → StateFacts K L D → Type 0) → P [] x → ((e : Event K D) → IsEvent x e → is_floor e ≡ false → P (e ∷ []) (after_event same elect x e)) → (es : List (Event K D)) → IsOneTaken es → P es (after_one es)
+  by_one : (P : List (Event K D) → StateFacts K L D → Type 0) → P [] x → ((e : Event K D) → IsEvent x e → is_floor e ≡ false → P (e ∷ []) (after_event same elect x e)) → (es : List (Event K D)) → IsOneTaken es → P es (after_one same elect x es)
   by_one P still each [] taken = still
   by_one P still each (e ∷ rest) taken = subst (λ es. P (e ∷ es) (after_event same elect x e)) (sym taken.2) (each e taken.0 taken.1)
-
-  by_any : (P : StateFacts K L D → Type 0) → P x → ((e : Event K D) → P (after_event same elect x e)) → (es : List (Event K D)) → P (after_one es)
-  by_any P still each [] = still
-  by_any P still each (e ∷ rest) = each e
-
-  in_context_is : (f : Context D K → StateFacts K L D) (event : Context D K → Event K D) → ((c : Context D K) → f c ≡ after_event same elect x (event c)) → (context : Option (Context D K)) → option_map_or f context x ≡ after_one (in_context event context)
-  in_context_is f event is None = refl
-  in_context_is f event is (Some c) = is c
-
-  call_is : (o : Openings K D) (call : CallFacts D) → after_call same elect x o call ≡ after_one (events_of o call)
-  call_is o (calls.Proposed v payload now) = in_context_is _ (λ c. Proposed c payload now) (λ c. refl) (context_at o v)
-  call_is o (calls.SupersedeProposalRequest v) = in_context_is _ Supersede (λ c. refl) (context_at o v)
-  call_is o _ = refl
 
   in_context_taken : (event : Context D K → Event K D) → ((c : Context D K) → IsEvent x (event c) × (is_floor (event c) ≡ false)) → (context : Option (Context D K)) → IsOneTaken (in_context event context)
   in_context_taken event taken None = tt
@@ -74,11 +57,7 @@ module _ {K L D : Type 0} (same : D → D → Bool) (elect : Elect L) (x : State
 
   -- what holds of no change and of each event that is taken holds of a call that is allowed
   pub call_by_event : (o : Openings K D) (P : List (Event K D) → StateFacts K L D → Type 0) → P [] x → ((e : Event K D) → IsEvent x e → is_floor e ≡ false → P (e ∷ []) (after_event same elect x e)) → (call : CallFacts D) → is_allowed x o call ≡ true → P (events_of o call) (after_call same elect x o call)
-  call_by_event o P still each call allowed = subst (P (events_of o call)) (sym (call_is o call)) (by_one P still each (events_of o call) (call_taken o call allowed))
-
-  -- and what holds of each event in any case, of each call
-  pub call_by_any : (o : Openings K D) (P : StateFacts K L D → Type 0) → P x → ((e : Event K D) → P (after_event same elect x e)) → (call : CallFacts D) → P (after_call same elect x o call)
-  call_by_any o P still each call = subst P (sym (call_is o call)) (by_any P still each (events_of o call))
+  call_by_event o P still each call allowed = subst (P (events_of o call)) (sym (call_is same elect x o call)) (by_one P still each (events_of o call) (call_taken o call allowed))
 
 -- calls on the work of a view are silent
 

@@ -16,10 +16,10 @@ use Rattle.simplex_types.specs.declared.reasons.TimeoutReason.TheVariants.{Inval
 use Rattle.simplex_voter.proofs.Elsewhere.{round_of-with_round}
 use Rattle.simplex_laws.specs.Events.{Event, after_event, TryVerify, Prune}
 use Rattle.simplex_laws.specs.Sums.{is_prune}
-use Rattle.simplex_laws.proofs.frames.Rounds.{round_put, round_changed}
+use Rattle.simplex_record.proofs.Rounds.{round_put, round_changed}
 use Rattle.simplex_laws.proofs.votes.NullifyVotes.{tied}
-use Rattle.simplex_laws.proofs.frames.Steps as step
-use Rattle.simplex_laws.proofs.frames.Steps.{RoundStep, Step, Path, Puts, Raises, Scans, Prunes, Still, Then}
+use Rattle.simplex_record.proofs.Steps as step
+use Rattle.simplex_record.proofs.Steps.{RoundStep, Step, Path, Puts, Raises, Scans, Prunes, Still, Then}
 
 -- the view lay below what is kept, and isn't tracked
 pub record IsGone {K L D : Type 0} (x y : StateFacts K L D) (v : ℕ) : Type 0 where

@@ -18,9 +18,10 @@ use Rattle.simplex_member.specs.Made.{after_call}
 use Rattle.simplex_member.specs.Openings.{Openings}
 use Rattle.simplex_record.specs.Recovery.{recovered_state}
 use Rattle.simplex_laws.specs.Events.{Event, after_event}
-use Rattle.simplex_laws.proofs.frames.CallsMake.{call_by_any, recovered_keeps}
-use Rattle.simplex_laws.proofs.frames.Paths.{event_path, asked_of_all}
-use Rattle.simplex_laws.proofs.frames.Steps.{Step, Puts, Raises, Scans, Prunes, along}
+use Rattle.simplex_member.proofs.EventsMake.{call_by_any}
+use Rattle.simplex_laws.proofs.frames.CallsMake.{recovered_keeps}
+use Rattle.simplex_record.proofs.Paths.{event_path, asked_of_all}
+use Rattle.simplex_record.proofs.Steps.{Step, Puts, Raises, Scans, Prunes, along}
 
 -- the tracked views rise
 abbrev pub InOrder : {K L D : Type 0} → StateFacts K L D → Type 0

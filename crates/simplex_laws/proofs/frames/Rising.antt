@@ -14,9 +14,9 @@ use Rattle.simplex_member.specs.Openings.{Openings}
 use Rattle.simplex_laws.specs.Events.{Event, AddFinalization, after_event}
 use Rattle.simplex_laws.specs.LifeLaws.{NeverFalls}
 use Rattle.simplex_laws.specs.Sums.{finalized_by_event}
-use Rattle.simplex_laws.proofs.frames.CallsMake.{call_by_any}
-use Rattle.simplex_laws.proofs.frames.Paths.{event_path, asked_of_all, from_raised}
-use Rattle.simplex_laws.proofs.frames.Steps.{Step, Path, Reaches, Raises, Still, along}
+use Rattle.simplex_member.proofs.EventsMake.{call_by_any}
+use Rattle.simplex_record.proofs.Paths.{event_path, asked_of_all, from_raised}
+use Rattle.simplex_record.proofs.Steps.{Step, Path, Reaches, Raises, Still, along}
 
 -- the set-up is as it was, and neither the current view nor the last finalized one is lower
 pub record GoesOn {K L D : Type 0} (x y : StateFacts K L D) : Type 0 where
@@ -50,7 +50,7 @@ module _ {K L D : Type 0} where
       omega (arith, goes.finalized, retention)
 
 module _ {K L D : Type 0} (same : D → D → Bool) (elect : Elect L) (begun : StateFacts K L D) (e : Event K D) (low : ℕ) where
-  step_goes : (x y z : StateFacts K L D) → Step same elect begun e low y z → GoesOn x y → GoesOn x z
+  pub step_goes : (x y z : StateFacts K L D) → Step same elect begun e low y z → GoesOn x y → GoesOn x z
   step_goes x y z (Reaches v above timed) p = record { failed = p.failed; settings = p.settings; me = p.me; members = p.members; elector = p.elector; terms = p.terms; elects_early = p.elects_early; current = omega (arith, p.current); finalized = p.finalized }
   step_goes x y z (Raises v says above) p = record { failed = p.failed; settings = p.settings; me = p.me; members = p.members; elector = p.elector; terms = p.terms; elects_early = p.elects_early; current = p.current; finalized = omega (arith, p.finalized) }
   step_goes x y z _ p = record { failed = p.failed; settings = p.settings; me = p.me; members = p.members; elector = p.elector; terms = p.terms; elects_early = p.elects_early; current = p.current; finalized = p.finalized }

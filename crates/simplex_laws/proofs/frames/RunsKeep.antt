@@ -16,7 +16,8 @@ use Rattle.simplex_record.specs.Start.{StartFacts, new_state}
 use Rattle.simplex_member.specs.Start.{started_member}
 use Rattle.simplex_laws.specs.TermLengths.{HasTerms, KeepTerms}
 use Rattle.simplex_laws.proofs.frames.Fresh.{IsFresh, fresh_state}
-use Rattle.simplex_laws.proofs.frames.CallsMake.{call_by_any, floor_then_all_keep}
+use Rattle.simplex_member.proofs.EventsMake.{call_by_any}
+use Rattle.simplex_laws.proofs.frames.CallsMake.{floor_then_all_keep}
 use Rattle.simplex_laws.proofs.lives.WithinLives.{call_outcome}
 
 -- while the member lives

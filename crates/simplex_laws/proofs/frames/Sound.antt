@@ -19,8 +19,8 @@ use Rattle.simplex_laws.specs.Sums.{finalized_by_event, is_prune}
 use Rattle.simplex_laws.proofs.frames.Fresh.{IsFresh}
 use Rattle.simplex_laws.proofs.frames.CallsMake.{is_floor}
 use Rattle.simplex_laws.proofs.frames.EachRound.{IsGone}
-use Rattle.simplex_laws.proofs.frames.Paths.{from_entry, from_first_entry}
-use Rattle.simplex_laws.proofs.frames.Steps.{Still, finalization_by}
+use Rattle.simplex_record.proofs.Paths.{from_entry, from_first_entry}
+use Rattle.simplex_record.proofs.Steps.{Still, finalization_by}
 use Rattle.simplex_laws.proofs.lives.Lasting.{RoundLasts, standing_view, certificates, brings_any, event_lasts}
 use Rattle.simplex_laws.proofs.frames.Rising.{event_goes, goes_along, event_finalizes}
 

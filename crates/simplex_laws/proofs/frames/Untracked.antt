@@ -32,10 +32,10 @@ use Rattle.simplex_laws.specs.Events.{Event, IsEvent, after_event}
 use Rattle.simplex_laws.specs.Sums.{is_prune}
 use Rattle.simplex_laws.proofs.frames.CallsMake.{call_by_event}
 use Rattle.simplex_laws.proofs.frames.EachRound.{pruned_view}
-use Rattle.simplex_laws.proofs.frames.Paths.{AskedFrom, event_path}
-use Rattle.simplex_laws.proofs.frames.Rounds.{tracked_changed}
+use Rattle.simplex_record.proofs.Paths.{AskedFrom, event_path}
+use Rattle.simplex_record.proofs.Rounds.{tracked_changed}
 use Rattle.simplex_laws.proofs.lists.Splits.{Contains-cases}
-use Rattle.simplex_laws.proofs.frames.Steps.{Step, Puts, Raises, Scans, Prunes, along}
+use Rattle.simplex_record.proofs.Steps.{Step, Puts, Raises, Scans, Prunes, along}
 
 -- no view below this one is tracked
 pub record IsClear {K L D : Type 0} (low : ℕ) (x : StateFacts K L D) : Type 0 where
@@ -46,7 +46,7 @@ module _ {K L D : Type 0} (same : D → D → Bool) (elect : Elect L) (low : ℕ
   put_out y u r v apart gone = ap is_some (find-put nat_cmp nat_cmp_total v u r y.rounds ∙ ap (λ b. cond b (Some r) (find nat_cmp v y.rounds)) (is_eq-nat_cmp v u ∙ ne_eqb v u apart)) ∙ gone
 
   -- a view below `low` that isn't tracked stays so
-  step_out : (y z : StateFacts K L D) → Step same elect x e low y z → (v : ℕ) → v < low → is_tracked y v ≡ false → is_tracked z v ≡ false
+  pub step_out : (y z : StateFacts K L D) → Step same elect x e low y z → (v : ℕ) → v < low → is_tracked y v ≡ false → is_tracked z v ≡ false
   step_out y z (Puts u r may s) v below gone = elim (cases_eq v u) [
     | inl at ↦ elim may [ inl over ↦ absurd (omega arith) | inr there ↦ absurd (false≢true (sym gone ∙ ap (is_tracked y) at ∙ there)) ]
     | inr apart ↦ put_out y u r v apart gone

@@ -24,7 +24,7 @@ use Rattle.simplex_voter.specs.Parents.{binding_matches}
 use Rattle.simplex_voter.specs.Verifying.{round_left, standing, was_scanned, scan_left, without_binding, with_mark, after_try_verify, after_verified, after_verification_failed}
 use Rattle.simplex_voter.proofs.Gaps.{and_parts}
 use Rattle.simplex_laws.specs.Shows.{verdict_of}
-use Rattle.simplex_laws.proofs.frames.Rounds.{round_changed}
+use Rattle.simplex_record.proofs.Rounds.{round_changed}
 use Rattle.simplex_laws.proofs.histories.Leaving.{known_of, decided_alike, Alike, Leaves, Quiet, alike, latch_alike, alike_where, quiet, then_quiet, quiet_where, tracked_quiet, moment_leaves, triggered_quiet}
 
 retry_nullify : (d : Decision) → has_no_retry d ≡ true → true ≡ is_nullify d

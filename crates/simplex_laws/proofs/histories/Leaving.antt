@@ -22,7 +22,7 @@ use Rattle.simplex_voter.specs.Timeouts.{with_timeout, is_contradicted}
 use Rattle.simplex_voter.specs.Certification.{named_also, waits_for, with_waiting_candidate, without_token, with_finalized_view}
 use Rattle.simplex_laws.specs.Shows.{verdict_of}
 use Rattle.simplex_record.proofs.Growing.{round_of-put, round_of-same}
-use Rattle.simplex_laws.proofs.frames.Rounds.{armed_nullify, armed_finalize, latched_nullify, latched_finalize, round_changed}
+use Rattle.simplex_record.proofs.Rounds.{armed_nullify, armed_finalize, latched_nullify, latched_finalize, round_changed}
 
 -- what histories say of a view
 pub record Known (D : Type 0) : Type 0 where

@@ -13,7 +13,7 @@ use Rattle.simplex_member.specs.Openings.{Openings}
 use Rattle.simplex_laws.proofs.lists.Splits.{Contains-cons_rest}
 use Rattle.simplex_laws.proofs.frames.Rising.{floor_goes, call_goes}
 use Rattle.simplex_laws.proofs.lives.Lasting.{call_lasts}
-use Rattle.simplex_laws.proofs.frames.Paths.{tracked_by}
+use Rattle.simplex_record.proofs.Paths.{tracked_by}
 use Rattle.simplex_laws.proofs.lives.WithinLives.{alive_still, alive_joined, each_call}
 
 -- conflicts stay, and what is kept does not begin lower

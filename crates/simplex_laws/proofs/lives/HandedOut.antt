@@ -21,7 +21,7 @@ use Rattle.simplex_laws.proofs.frames.CallsMake.{is_floor, call_by_event}
 use Rattle.simplex_laws.proofs.frames.Rising.{floor_goes, event_goes}
 use Rattle.simplex_laws.proofs.frames.Sound.{nothing_stands}
 use Rattle.simplex_laws.specs.Events.{Event, IsEvent, after_event}
-use Rattle.simplex_laws.proofs.frames.Rounds.{round_put}
+use Rattle.simplex_record.proofs.Rounds.{round_put}
 use Rattle.simplex_laws.proofs.lives.WithinLives.{call_outcome}
 
 -- the view's certificate is not to be handed out any more: it was, or none stands there and none comes

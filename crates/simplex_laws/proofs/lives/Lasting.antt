@@ -29,9 +29,9 @@ use Rattle.simplex_laws.specs.Sums.{is_prune}
 use Rattle.simplex_laws.proofs.frames.CallsMake.{is_floor, call_by_event}
 use Rattle.simplex_laws.proofs.lists.Splits.{Contains-cons_rest}
 use Rattle.simplex_laws.proofs.frames.EachRound.{IsGone, rounds_or_gone}
-use Rattle.simplex_laws.proofs.frames.Paths.{event_path, asked_of_all}
-use Rattle.simplex_laws.proofs.frames.Steps as step
-use Rattle.simplex_laws.proofs.frames.Steps.{RoundStep, notarization_by, nullification_by, finalization_by}
+use Rattle.simplex_record.proofs.Paths.{event_path, asked_of_all}
+use Rattle.simplex_record.proofs.Steps as step
+use Rattle.simplex_record.proofs.Steps.{RoundStep, notarization_by, nullification_by, finalization_by}
 use Rattle.simplex_laws.proofs.frames.Untracked.{kept_view}
 
 module _ {K D : Type 0} where

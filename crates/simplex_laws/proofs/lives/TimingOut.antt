@@ -21,11 +21,11 @@ use Rattle.simplex_laws.specs.Events.{Event, after_event}
 use Rattle.simplex_laws.specs.Sums.{finalized_by_event, is_prune}
 use Rattle.simplex_laws.proofs.frames.Fresh.{IsFresh}
 use Rattle.simplex_laws.proofs.frames.EachRound.{IsGone, step_round, rounds_or_gone, pruned_round, prune_alone}
-use Rattle.simplex_laws.proofs.frames.Paths.{event_path, asked_of_all, armed_timed}
+use Rattle.simplex_record.proofs.Paths.{event_path, asked_of_all, armed_timed}
 use Rattle.simplex_laws.proofs.frames.Rising.{event_goes}
 use Rattle.simplex_laws.proofs.frames.Sound.{IsAhead, event_ahead, event_passes}
-use Rattle.simplex_laws.proofs.frames.Steps as step
-use Rattle.simplex_laws.proofs.frames.Steps.{is_timed, RoundStep, Step, Path, Reaches, along, finalization_by}
+use Rattle.simplex_record.proofs.Steps as step
+use Rattle.simplex_record.proofs.Steps.{is_timed, RoundStep, Step, Path, Reaches, along, finalization_by}
 
 pub record TimesOut {K L D : Type 0} (x : StateFacts K L D) : Type 0 where
   pub ahead : IsAhead x

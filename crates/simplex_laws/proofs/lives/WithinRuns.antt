@@ -21,7 +21,7 @@ use Rattle.simplex_laws.proofs.lives.AsAsked.{call_as_asked}
 use Rattle.simplex_laws.proofs.records.DeedsShown.{only_one}
 use Rattle.simplex_laws.proofs.lists.Splits.{Contains-cases}
 use Rattle.simplex_laws.proofs.frames.Untracked.{IsClear, call_clear, call_drops}
-use Rattle.simplex_laws.proofs.frames.CallsMake.{call_by_any}
+use Rattle.simplex_member.proofs.EventsMake.{call_by_any}
 use Rattle.simplex_laws.proofs.frames.Rising.{floor_goes, call_goes}
 use Rattle.simplex_laws.proofs.frames.Sound.{IsSound, event_sound, floor_sound}
 use Rattle.simplex_laws.proofs.frames.RunsKeep.{HoldsIn, run_induction}

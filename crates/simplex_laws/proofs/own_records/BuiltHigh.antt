@@ -32,7 +32,7 @@ use Rattle.simplex_laws.proofs.own_records.HighViews.{entry_too_large}
 use Rattle.simplex_laws.proofs.records.NewLives.{first_none}
 use Rattle.simplex_laws.proofs.votes.Openings.{ArePlaced}
 use Rattle.simplex_laws.proofs.own_records.SmallViews.{no_fault}
-use Rattle.simplex_laws.proofs.frames.Steps.{notarization_by, finalization_by, proposal_by, note_by}
+use Rattle.simplex_record.proofs.Steps.{notarization_by, finalization_by, proposal_by, note_by}
 
 module _ {K L D : Type 0} where
   -- where its view is too large, the proposal was built in these steps

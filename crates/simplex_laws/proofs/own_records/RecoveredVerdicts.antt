@@ -24,9 +24,9 @@ use Rattle.simplex_laws.proofs.own_records.EntriesFit.{Rises, rises_from}
 use Rattle.simplex_laws.specs.Events as event
 use Rattle.simplex_laws.specs.Events.{Event, IsEvent, after_event}
 use Rattle.simplex_laws.specs.Sums.{finalized_by_event}
-use Rattle.simplex_laws.proofs.frames.Rounds.{round_put}
+use Rattle.simplex_record.proofs.Rounds.{round_put}
 use Rattle.simplex_laws.proofs.frames.Rising.{event_goes, event_finalizes}
-use Rattle.simplex_laws.proofs.frames.Steps.{notarization_by, verdict_by}
+use Rattle.simplex_record.proofs.Steps.{notarization_by, verdict_by}
 use Rattle.simplex_laws.proofs.own_records.Verdicts.{Shows, judged_so, event_shows}
 
 -- in the midst of a recovery: the state shows the entries that were taken, and what is kept begins at the base, or else no

@@ -27,7 +27,7 @@ use Rattle.simplex_laws.proofs.frames.CallsOnWork.{is_work}
 use Rattle.simplex_laws.specs.Events as event
 use Rattle.simplex_laws.specs.Events.{Event, IsEvent, after_event}
 use Rattle.simplex_laws.proofs.lives.Lasting.{brings_kept}
-use Rattle.simplex_laws.proofs.frames.Steps.{notarization_by, verdict_by}
+use Rattle.simplex_record.proofs.Steps.{notarization_by, verdict_by}
 use Rattle.simplex_laws.proofs.own_records.Verdicts.{Shows, given_so, event_shows, verdict_stands}
 
 module _ {K L D : Type 0} (entries : List (ArtifactFacts D)) where

@@ -15,11 +15,11 @@ use Rattle.simplex_laws.specs.Events as event
 use Rattle.simplex_laws.specs.Events.{Event, IsEvent, after_event}
 use Rattle.simplex_laws.specs.Sums.{is_prune}
 use Rattle.simplex_laws.proofs.frames.EachRound.{IsGone, rounds_along, rounds_or_gone}
-use Rattle.simplex_laws.proofs.frames.Rounds.{round_put}
-use Rattle.simplex_laws.proofs.frames.Paths.{event_path, asked_of_all, from_judged}
+use Rattle.simplex_record.proofs.Rounds.{round_put}
+use Rattle.simplex_record.proofs.Paths.{event_path, asked_of_all, from_judged}
 use Rattle.simplex_laws.proofs.frames.Rising.{event_goes, floor_goes}
-use Rattle.simplex_laws.proofs.frames.Steps as step
-use Rattle.simplex_laws.proofs.frames.Steps.{RoundStep, notarization_by, verdict_by}
+use Rattle.simplex_record.proofs.Steps as step
+use Rattle.simplex_record.proofs.Steps.{RoundStep, notarization_by, verdict_by}
 
 -- a notarization that is held stands in the record, and a verdict in the record stands in each view that is kept or holds its
 -- notarization

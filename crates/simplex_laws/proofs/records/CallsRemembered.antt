@@ -30,7 +30,7 @@ use Rattle.simplex_laws.proofs.votes.LifeCalls.{nullify_silent, nullify_told, fi
 use Rattle.simplex_laws.proofs.records.DeedsShown.{Remembers}
 use Rattle.simplex_laws.proofs.records.RecordedVotes.{Marked, marked_more, event_marked, quiet_marked}
 use Rattle.simplex_laws.proofs.records.EntryDeeds.{subject_of}
-use Rattle.simplex_laws.proofs.frames.Steps.{verdict_by, nullify_by}
+use Rattle.simplex_record.proofs.Steps.{verdict_by, nullify_by}
 use Rattle.simplex_laws.specs.Events as event
 use Rattle.simplex_laws.specs.Events.{Event, after_event}
 use Rattle.simplex_laws.proofs.records.Remembering.{remembers_more, grows_nothing, grows_verdict, grows_certificate, grows_again, grows_nullify, grows_finalize}

@@ -22,7 +22,7 @@ use Rattle.simplex_laws.proofs.frames.CallsMake.{retaken_keeps}
 use Rattle.simplex_laws.proofs.votes.NullifyVotes.{noted_new}
 use Rattle.simplex_laws.proofs.records.EntryDeeds.{entry_deeds, MayRetake, notarize_cast_stays, nullify_cast_stays, finalize_cast_stays, passed_over}
 use Rattle.simplex_laws.proofs.frames.Rising.{event_goes}
-use Rattle.simplex_laws.proofs.frames.Rounds.{round_put, tracked_put}
+use Rattle.simplex_record.proofs.Rounds.{round_put, tracked_put}
 use Rattle.simplex_laws.proofs.votes.Standing.{Stays, stands_later}
 use Rattle.simplex_laws.proofs.votes.StandingCalls.{certified_passes, certified_suits, notarization_stays, nullification_stays, finalization_stays}
 use Rattle.simplex_laws.proofs.votes.StandingSteps.{Suits, plain_suits, event_stands, event_stays, stays_on}

@@ -10,11 +10,11 @@ use Rattle.simplex_voter.specs.Facts.{StateFacts, Elect, round_at, round_of, rou
 use Rattle.simplex_laws.specs.Events.{Event, after_event}
 use Rattle.simplex_laws.specs.Sums.{is_prune}
 use Rattle.simplex_laws.proofs.frames.EachRound.{IsGone, rounds_or_gone}
-use Rattle.simplex_laws.proofs.frames.Paths.{event_path, asked_of_all}
+use Rattle.simplex_record.proofs.Paths.{event_path, asked_of_all}
 use Rattle.simplex_laws.proofs.frames.Rising.{event_goes}
-use Rattle.simplex_laws.proofs.frames.Rounds.{armed_nullify, latched_nullify, aborted_certified, awaited_nullify}
-use Rattle.simplex_laws.proofs.frames.Steps as step
-use Rattle.simplex_laws.proofs.frames.Steps.{RoundStep, verdict_by, nullify_by}
+use Rattle.simplex_record.proofs.Rounds.{armed_nullify, latched_nullify, aborted_certified, awaited_nullify}
+use Rattle.simplex_record.proofs.Steps as step
+use Rattle.simplex_record.proofs.Steps.{RoundStep, verdict_by, nullify_by}
 
 -- what is shown is recorded; a vote to nullify, where there is a key
 pub record Marked {K L D : Type 0} (entries : List (ArtifactFacts D)) (x : StateFacts K L D) : Type 0 where

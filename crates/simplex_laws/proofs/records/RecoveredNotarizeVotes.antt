@@ -1,38 +1,35 @@
 -- For `votes_are_lawful`.
 -- A state that is made again from a record shows its votes to notarize, and nothing else is open.
-use Rattle.std.proofs.Common.{◌≡◌, refl, ap, sym, ◌∙◌, subst, ℕ, ◌+◌, ◌≤◌, ◌<◌, ◌⊎◌, inl, inr, Bool, true, false, not, if◌then◌else◌, nat_lt, List, [], ◌∷◌, Contains, Ordering, Less, Equal, Greater, Option, Some, None, arith, is_some}
-use Rattle.std.specs.Prelude.{option_and_then}
-use Rattle.std.specs.Ordering.{nat_cmp, match_ordering}
-use Rattle.std.specs.BTreeSet.{insert_key}
-use Rattle.std.proofs.lemmas.Bool.{cases_eq, false≢true, ltb-true}
-use Rattle.simplex_types.specs.Terms.{next_term_start}
+use Rattle.std.proofs.Common.{◌≡◌, refl, ap, sym, ◌∙◌, subst, ℕ, ◌+◌, ◌≤◌, ◌<◌, ◌⊎◌, inl, inr, Bool, true, false, not, if◌then◌else◌, nat_lt, List, [], ◌∷◌, Contains, Option, Some, None, arith, is_some}
+use Rattle.std.specs.Prelude.{option_and_then, ◌==◌}
+use Rattle.std.proofs.lemmas.Bool.{cases_eq, eqb-true, false≢true, ltb-true}
 use Rattle.simplex_types.specs.Proposal.{same_proposal}
 use Rattle.simplex_types.specs.Certificates.{ProposalFacts, NullificationFacts, Notarized, Nullified, Finalized, ArtifactFacts, NotarizeVote, NullifyVote, FinalizeVote, Verdict, Accepted}
 use Rattle.simplex_types.specs.Config.{FloorFacts, Genesis, Finalized as FinalizedFloor}
 use Rattle.simplex_types.specs.declared.types.messages.Proposal.{Proposal}
 use Rattle.simplex_types.specs.declared.types.messages.Subject.TheVariants as subject
-use Rattle.simplex_types.specs.declared.types.numbers.Round.{Round}
 use Rattle.simplex_types.specs.declared.types.window.Terms.{Terms}
-use Rattle.simplex_round.specs.declared.round.Decision.TheVariants as decision
 use Rattle.simplex_round.specs.Slot.{SlotFacts, holds_or_empty, after_own}
-use Rattle.simplex_round.specs.Round.{RoundFacts, certified_round}
+use Rattle.simplex_round.specs.Round.{RoundFacts}
 use Rattle.simplex_voter.specs.Facts.{Settings, StateFacts, Elect, new_facts, round_of, with_round}
 use Rattle.simplex_voter.specs.Windows.{min_active}
-use Rattle.simplex_voter.specs.Entering.{at_moment, with_view_entered}
-use Rattle.simplex_voter.specs.Leaders.{with_elected_leader, with_next_view_ready}
+use Rattle.simplex_voter.specs.Leaders.{with_next_view_ready}
 use Rattle.simplex_voter.specs.Replay.{bound_again, restored_binding}
-use Rattle.simplex_voter.specs.Acceptance.{nullified_also, with_nullification_at, after_add_notarization, after_add_finalization, after_set_floor}
+use Rattle.simplex_voter.specs.Acceptance.{after_add_notarization, after_add_nullification, after_add_finalization, after_set_floor}
 use Rattle.simplex_voter.proofs.Elsewhere.{round_of-with_round}
 use Rattle.simplex_record.specs.Entries.{entry_view}
 use Rattle.simplex_member.specs.Openings.{no_openings}
-use Rattle.simplex_record.specs.Recovery.{after_entry, after_kept_entry, after_entries, recovered_state}
+use Rattle.simplex_record.specs.Recovery.{after_replaying, after_entry, after_kept_entry, after_entries, recovered_state}
 use Rattle.simplex_laws.specs.Deeds.{Deed, Accepts}
 use Rattle.simplex_laws.proofs.frames.Rising.{finalization_passes}
 use Rattle.simplex_laws.proofs.lists.Splits.{Contains-cases, Contains-cons_rest}
-use Rattle.simplex_laws.proofs.frames.Rounds.{round_put}
-use Rattle.simplex_laws.proofs.votes.UnchangedRounds.{calm, calm_alike}
-use Rattle.simplex_laws.proofs.votes.UnchangedProposals.{CalmOn, on_joined, on_put, on_elected, on_prepared, on_entered, on_floor}
-use Rattle.simplex_laws.proofs.votes.UnchangedByCalls.{on_add_notarization, on_nullification_kept, on_add_finalization, on_certified}
+use Rattle.simplex_record.proofs.Rounds.{round_put}
+use Rattle.simplex_laws.proofs.votes.UnchangedProposals.{CalmOn, LeavesWork, calm_along, event_calm, leaves}
+use Rattle.simplex_laws.specs.Events as event
+use Rattle.simplex_laws.specs.Events.{Event, after_event}
+use Rattle.simplex_laws.specs.Sums.{covers_from}
+use Rattle.simplex_record.proofs.Steps.{Still}
+use Rattle.simplex_record.proofs.Paths.{asked_of_all, to_prepared}
 use Rattle.simplex_laws.proofs.votes.Proposals.{Tidy, tidy_calm, opposite}
 use Rattle.simplex_laws.proofs.votes.NotarizeVotesShown.{NotesStand, RemembersNotes}
 
@@ -52,18 +49,6 @@ pub record Remakes {K L D : Type 0} (copy : List (ArtifactFacts D)) (x y : State
   pub finalized : x.finalized ≤ y.finalized
   pub decided : (v : ℕ) → (round_of x v).notarize_decided ≡ true → (round_of y v).notarize_decided ≡ true
   pub made : Remade copy x → Remade copy y
-
--- what is newly in a set of views
-inserted : (k u : ℕ) (ks : List ℕ) → Contains (insert_key nat_cmp ks k) u → (k ≡ u) ⊎ Contains ks u
-inserted k u [] h = elim (Contains-cases k [] u h) [ inl at ↦ inl at | inr none ↦ inr none ]
-inserted k u (x ∷ xs) h = (elim (nat_cmp k x) as (λ (o : Ordering). Contains (match_ordering o (k ∷ x ∷ xs) (x ∷ xs) (x ∷ insert_key nat_cmp xs k)) u → (k ≡ u) ⊎ Contains (x ∷ xs) u) [
-  | Less ↦ λ there. Contains-cases k (x ∷ xs) u there
-  | Equal ↦ λ there. inr there
-  | Greater ↦ λ there. elim (Contains-cases x (insert_key nat_cmp xs k) u there) [
-    | inl at ↦ inr (0, omega arith, at)
-    | inr later ↦ elim (inserted k u xs later) [ inl new ↦ inl new | inr old ↦ inr (Contains-cons_rest x xs u old) ]
-  ]
-]) h
 
 -- a vote that is taken again
 
@@ -125,9 +110,9 @@ module _ {K L D : Type 0} (copy : List (ArtifactFacts D)) where
   remakes_same : (x : StateFacts K L D) → Remakes copy x x
   remakes_same x = record { finalized = omega arith; decided = λ v is. is; made = λ m. m }
 
-  remakes_calm : (x y : StateFacts K L D) → CalmOn 0 x y → Remakes copy x y
-  remakes_calm x y left = record {
-    finalized = left.finalized;
+  remakes_calm : (e : Event K D) (x y : StateFacts K L D) → ((u : ℕ) → covers_from u e ≡ true → (c : NullificationFacts) × Contains copy (Accepted (Nullified c)) × (c.round.view ≡ u)) → CalmOn 0 e x y → Remakes copy x y
+  remakes_calm e x y recorded left = record {
+    finalized = left.goes.finalized;
     decided = λ v. (left.rounds v).grown.decided;
     made = λ m. record {
       rounds = λ v. record {
@@ -135,7 +120,7 @@ module _ {K L D : Type 0} (copy : List (ArtifactFacts D)) where
         placed = λ p is. elim ((left.rounds v).grown.placed p is) [ inl before ↦ (m.rounds v).placed p before | inr here ↦ here ];
         worked = λ is. (left.rounds v).grown.decided ((m.rounds v).worked ((left.rounds v).verified is));
       };
-      covered = λ u h. m.covered u (subst (λ us. Contains us u) left.nullified h);
+      covered = λ u h. elim (left.covered u h) [ inl new ↦ recorded u new | inr old ↦ m.covered u old ];
     };
   }
 
@@ -152,16 +137,6 @@ module _ {K L D : Type 0} (copy : List (ArtifactFacts D)) where
         | inr apart ↦ subst (λ s. RoundRemade w s) (sym (round_of-with_round x w v apart r)) (m.rounds w)
       ];
       covered = m.covered;
-    };
-  }
-
-  remakes_nullified : (x : StateFacts K L D) (c : NullificationFacts) → Contains copy (Accepted (Nullified c)) → Remakes copy x (nullified_also x c.round.view)
-  remakes_nullified x c here = record {
-    finalized = omega arith;
-    decided = λ v is. is;
-    made = λ m. record {
-      rounds = m.rounds;
-      covered = λ u h. elim (inserted c.round.view u x.nullified h) [ inl new ↦ (c, here, new) | inr old ↦ m.covered u old ];
     };
   }
 
@@ -182,64 +157,34 @@ module _ {K L D : Type 0} (same : D → D → Bool) (elect : Elect L) (now : ℕ
         let y = with_round x v (own_round_again p) in
         remakes_joined copy x y (with_next_view_ready elect y v)
         (remakes_put copy x v (own_round_again p) (voted_again p) (own_remade same (round_of x v) p (option_and_then (restored_binding x) (Some p))))
-        (remakes_calm copy y (with_next_view_ready elect y v) (on_prepared 0 elect y v (omega arith)))
+        (remakes_calm copy event.CertifyCandidates y (with_next_view_ready elect y v) (λ u is. absurd (false≢true is)) (calm_along same elect y event.CertifyCandidates 0 (leaves refl) y (with_next_view_ready elect y v) (to_prepared v (omega arith) Still)))
 
     noted_again : (p : Proposal D) (m : ℕ) → (round_of (after_entry same elect x now (NotarizeVote p m)) p.round.view).notarize_decided ≡ true
     noted_again p m =
         let v = p.round.view in
         let y = with_round x v (own_round_again p) in
-        ((on_prepared 0 elect y v (omega arith)).rounds v).grown.decided (ap (λ (s : RoundFacts K D). s.notarize_decided) (round_put x v (own_round_again p)) ∙ voted_again p)
+        ((calm_along same elect y event.CertifyCandidates 0 (leaves refl) y (with_next_view_ready elect y v) (to_prepared v (omega arith) Still)).rounds v).grown.decided (ap (λ (s : RoundFacts K D). s.notarize_decided) (round_put x v (own_round_again p)) ∙ voted_again p)
 
-    remakes_verdict : (round : Round) (success : Bool) → Remakes copy x (after_entry same elect x now (Verdict round success))
-    remakes_verdict round success =
-        let v = round.view in
-        let r = certified_round (round_of x v) success in
-        let j = with_round x v r in
-        remakes_calm copy x _ (on_joined 0 x j _ (on_put 0 x v r (omega arith) (calm_alike v (round_of x v) r refl refl refl refl refl)) (on_certified 0 elect j v success now (λ tracked. omega arith)))
-
-    remakes_notarization : (c : ProposalFacts D) → Remakes copy x (after_entry same elect x now (Accepted (Notarized c)))
-    remakes_notarization c =
-        let v = c.proposal.round.view in
-        let y = after_add_notarization same elect x c in
-        let r : RoundFacts K D = record (round_of y v) { notarization_broadcast = true } in
-        remakes_calm copy x (with_round y v r) (on_joined 0 x y (with_round y v r) (on_add_notarization 0 same elect x c (omega arith)) (on_put 0 y v r (omega arith) (calm_alike v (round_of y v) r refl refl refl refl refl)))
-
-    remakes_finalization : (c : ProposalFacts D) → Remakes copy x (after_entry same elect x now (Accepted (Finalized c)))
-    remakes_finalization c =
-        let v = c.proposal.round.view in
-        let y = after_add_finalization same elect x c now in
-        let r : RoundFacts K D = record (round_of y v) { finalization_broadcast = true } in
-        remakes_calm copy x (with_round y v r) (on_joined 0 x y (with_round y v r) (on_add_finalization 0 same elect x c now (omega arith)) (on_put 0 y v r (omega arith) (calm_alike v (round_of y v) r refl refl refl refl refl)))
-
-    remakes_nullification : (c : NullificationFacts) → Contains copy (Accepted (Nullified c)) → Remakes copy x (after_entry same elect x now (Accepted (Nullified c)))
-    remakes_nullification c here =
-        let v = c.round.view in
-        let next = next_term_start x.terms.term_length v in
-        let k = with_nullification_at (with_elected_leader elect (with_view_entered (at_moment x now) next now) next (Some c.bytes)) c in
-        let y = nullified_also k v in
-        let n = nullified_also y v in
-        let r : RoundFacts K D = record (round_of n v) { nullification_broadcast = true } in
-        remakes_joined copy x k (with_round n v r) (remakes_calm copy x k (on_nullification_kept 0 same elect x c now (omega arith) (omega arith)))
-        (remakes_joined copy k y (with_round n v r) (remakes_nullified copy k c here)
-        (remakes_joined copy y n (with_round n v r) (remakes_nullified copy y c here)
-        (remakes_calm copy n (with_round n v r) (on_put 0 n v r (omega arith) (calm_alike v (round_of n v) r refl refl refl refl refl)))))
+    remakes_event : (y : StateFacts K L D) (e : Event K D) → LeavesWork e → ((u : ℕ) → covers_from u e ≡ true → (c : NullificationFacts) × Contains copy (Accepted (Nullified c)) × (c.round.view ≡ u)) → Remakes copy y (after_event same elect y e)
+    remakes_event y e leaves recorded = remakes_calm copy e y (after_event same elect y e) recorded (event_calm same elect 0 y e leaves (omega arith) (asked_of_all y e))
 
     retaken_remakes : (e : ArtifactFacts D) → Contains copy e → Remakes copy x (after_entry same elect x now e)
     retaken_remakes (NotarizeVote p m) here = remakes_vote p m
-    retaken_remakes (NullifyVote round m) here =
-        let v = round.view in
-        let y : StateFacts K L D = record x { nullify_votes = insert_key nat_cmp x.nullify_votes v } in
-        let r : RoundFacts K D = record (round_of y v) { decision = decision.Nullify None } in
-        let same_so_far : CalmOn 0 x y = record { settings = refl; current = omega arith; finalized = omega arith; nullified = refl; above = λ above. above; rounds = λ w. calm w (round_of x w) } in
-        remakes_calm copy x (with_round y v r) (on_joined 0 x y (with_round y v r) same_so_far (on_put 0 y v r (omega arith) (calm_alike v (round_of y v) r refl refl refl refl refl)))
-    retaken_remakes (FinalizeVote p m) here =
-        let v = p.round.view in
-        let r : RoundFacts K D = record (round_of x v) { decision = decision.Finalize } in
-        remakes_calm copy x (with_round x v r) (on_put 0 x v r (omega arith) (calm_alike v (round_of x v) r refl refl refl refl refl))
-    retaken_remakes (Verdict round success) here = remakes_verdict round success
-    retaken_remakes (Accepted (Notarized c)) here = remakes_notarization c
-    retaken_remakes (Accepted (Nullified c)) here = remakes_nullification c here
-    retaken_remakes (Accepted (Finalized c)) here = remakes_finalization c
+    retaken_remakes (NullifyVote round m) here = remakes_event x (event.Replay (NullifyVote round m)) (leaves refl) (λ u is. absurd (false≢true is))
+    retaken_remakes (FinalizeVote p m) here = remakes_event x (event.Replay (FinalizeVote p m)) (leaves refl) (λ u is. absurd (false≢true is))
+    retaken_remakes (Verdict round success) here =
+        let y = after_replaying same elect x (Verdict round success) in
+        remakes_joined copy x y _ (remakes_event x (event.Replay (Verdict round success)) (leaves refl) (λ u is. absurd (false≢true is))) (remakes_event y (event.Certified round.view success now) (leaves refl) (λ u is. absurd (false≢true is)))
+    retaken_remakes (Accepted (Notarized c)) here =
+        let y = after_add_notarization same elect x c in
+        remakes_joined copy x y _ (remakes_event x (event.AddNotarization c) (leaves refl) (λ u is. absurd (false≢true is))) (remakes_event y (event.Replay (Accepted (Notarized c))) (leaves refl) (λ u is. absurd (false≢true is)))
+    retaken_remakes (Accepted (Nullified c)) here =
+        let y = after_add_nullification elect x c now in
+        let recorded : (u : ℕ) → (u == c.round.view) ≡ true → (d : NullificationFacts) × Contains copy (Accepted (Nullified d)) × (d.round.view ≡ u) = λ u is. (c, here, sym (eqb-true u c.round.view is)) in
+        remakes_joined copy x y _ (remakes_event x (event.AddNullification c now) (leaves refl) recorded) (remakes_event y (event.Replay (Accepted (Nullified c))) (leaves refl) recorded)
+    retaken_remakes (Accepted (Finalized c)) here =
+        let y = after_add_finalization same elect x c now in
+        remakes_joined copy x y _ (remakes_event x (event.AddFinalization c now) (leaves refl) (λ u is. absurd (false≢true is))) (remakes_event y (event.Replay (Accepted (Finalized c))) (leaves refl) (λ u is. absurd (false≢true is)))
 
   -- an entry is taken again, or passed over
 
@@ -302,14 +247,8 @@ module _ {K L D : Type 0} (same : D → D → Bool) (elect : Elect L) (now : ℕ
   -- the floor
 
   floor_remakes : (x : StateFacts K L D) (floor : FloorFacts D) → Remakes copy x (after_set_floor same elect x floor now)
-  floor_remakes x (Genesis payload) =
-      let g : StateFacts K L D = record (at_moment x now) { genesis = Some payload } in
-      let e = with_view_entered g 1 now in
-      let same_so_far : CalmOn 0 x g = record { settings = refl; current = omega arith; finalized = omega arith; nullified = refl; above = λ above. above; rounds = λ w. calm w (round_of x w) } in
-      remakes_calm copy x (with_elected_leader elect e 1 None) (on_joined 0 x g (with_elected_leader elect e 1 None) same_so_far (on_joined 0 g e (with_elected_leader elect e 1 None) (on_entered 0 g 1 now (omega arith)) (on_elected 0 elect e 1 None (omega arith))))
-  floor_remakes x (FinalizedFloor c) =
-      let y = after_add_finalization same elect x c now in
-      remakes_calm copy x _ (on_joined 0 x y _ (on_add_finalization 0 same elect x c now (omega arith)) (on_floor 0 y c.proposal.round.view (omega arith)))
+  floor_remakes x (Genesis payload) = remakes_event x x (event.SetFloor (Genesis payload) now) (leaves refl) (λ u is. absurd (false≢true is))
+  floor_remakes x (FinalizedFloor c) = remakes_event x x (event.SetFloor (FinalizedFloor c) now) (leaves refl) (λ u is. absurd (false≢true is))
 
 module _ {K L D : Type 0} (same : D → D → Bool) (elect : Elect L) (settings : Settings) (me : Option ℕ) (members : List K) (elector : L) (terms : Terms) (early : Bool) where
   abbrev pub made_again : FloorFacts D → ℕ → List (ArtifactFacts D) → StateFacts K L D

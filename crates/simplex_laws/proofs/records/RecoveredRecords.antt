@@ -15,7 +15,7 @@ use Rattle.simplex_laws.proofs.records.RecordedVotes.{Marked, event_marked, quie
 use Rattle.simplex_laws.proofs.records.EntriesStand.{taken_if, taken_keeps}
 use Rattle.simplex_laws.proofs.frames.Rising.{event_goes}
 use Rattle.simplex_laws.proofs.lists.Splits.{Contains-cons_rest}
-use Rattle.simplex_laws.proofs.frames.Steps.{verdict_by, nullify_by}
+use Rattle.simplex_record.proofs.Steps.{verdict_by, nullify_by}
 
 module _ {K L D : Type 0} (same : D → D → Bool) (elect : Elect L) (entries : List (ArtifactFacts D)) (now : ℕ) where
   quiet_on : (x : StateFacts K L D) (e : Event K D) → verdict_by e ≡ None → nullify_by e ≡ None → Marked entries x → Marked entries (after_event same elect x e)

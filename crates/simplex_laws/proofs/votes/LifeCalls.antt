@@ -24,7 +24,7 @@ use Rattle.simplex_laws.proofs.frames.CallsOnWork.{is_work}
 use Rattle.simplex_laws.proofs.agreement.Lawful.{lawful_push}
 use Rattle.simplex_laws.proofs.votes.StandingCalls.{certified_stays, notarization_stays, nullification_stays, finalization_stays}
 use Rattle.simplex_laws.proofs.votes.StandingSteps.{plain_suits, stays_on}
-use Rattle.simplex_laws.proofs.frames.Steps.{notarization_by, verdict_by, nullify_by, finalize_by}
+use Rattle.simplex_record.proofs.Steps.{notarization_by, verdict_by, nullify_by, finalize_by}
 use Rattle.simplex_laws.specs.Events as event
 use Rattle.simplex_laws.specs.Events.{Event, after_event}
 use Rattle.simplex_laws.specs.Sums.{finalized_by_event}

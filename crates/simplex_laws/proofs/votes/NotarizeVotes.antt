@@ -24,11 +24,14 @@ use Rattle.simplex_laws.specs.Deeds.{Deed, Accepts, Signs}
 use Rattle.simplex_laws.proofs.lists.Signed.{signed_push}
 use Rattle.simplex_laws.proofs.votes.LifeCalls.{none_follows}
 use Rattle.simplex_laws.proofs.agreement.Lawful.{AllowsNotarize}
-use Rattle.simplex_laws.proofs.votes.UnchangedProposals.{on_prepared}
+use Rattle.simplex_laws.proofs.votes.UnchangedProposals.{calm_along, leaves}
+use Rattle.simplex_laws.specs.Events as event
+use Rattle.simplex_record.proofs.Steps.{Still}
+use Rattle.simplex_record.proofs.Paths.{to_prepared}
 use Rattle.simplex_laws.proofs.votes.Proposals.{opposite}
 use Rattle.simplex_laws.proofs.votes.NotarizeVotesShown.{NotesStand}
 use Rattle.simplex_laws.proofs.votes.VotedParents.{any_of, bound_reaches}
-use Rattle.simplex_laws.proofs.frames.Rounds.{round_put}
+use Rattle.simplex_record.proofs.Rounds.{round_put}
 use Rattle.simplex_laws.proofs.votes.NotarizeVotesByWork.{decided_notes}
 
 -- what is told of a vote
@@ -99,7 +102,7 @@ module _ {K L D : Type 0} (same : D → D → Bool) (decides : (d e : D) → sam
       let z = with_next_view_ready elect y v in
       let kept = decided_notes same decides elect base low deeds o x notes v may voted_tracked in
       let at : p.round.view ≡ v = notes.placed v p holds in
-      let decided : (round_of z v).notarize_decided ≡ true = ((on_prepared base elect y v (notes.above v voted_tracked)).rounds v).grown.decided (ap (λ (r : RoundFacts K D). r.notarize_decided) (round_put x v (record (round_of x v) { notarize_decided = true }))) in
+      let decided : (round_of z v).notarize_decided ≡ true = ((calm_along same elect y event.CertifyCandidates base (leaves refl) y _ (to_prepared v (notes.above v voted_tracked) Still)).rounds v).grown.decided (ap (λ (r : RoundFacts K D). r.notarize_decided) (round_put x v (record (round_of x v) { notarize_decided = true }))) in
       record {
         above = kept.above;
         active = kept.active;

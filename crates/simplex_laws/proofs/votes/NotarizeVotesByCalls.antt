@@ -1,17 +1,12 @@
 -- For `votes_are_lawful`.
 -- Each call of a life keeps what its facts show of the votes to notarize.
-use Rattle.std.proofs.Common.{◌≡◌, refl, ap, sym, ◌∙◌, subst, ℕ, ◌≤◌, ◌<◌, ◌⊎◌, inl, inr, Bool, true, false, ◌&&◌, ◌==◌, cond, nat_le, List, [], ◌∷◌, ◌++◌, Contains, Some, None, is_some, unwrap_or, arith}
-use Rattle.std.specs.Ordering.{nat_cmp, match_ordering}
-use Rattle.std.specs.declared.cmp.Ordering.{Ordering}
-use Rattle.std.specs.declared.cmp.Ordering.TheVariants.{Less, Equal, Greater}
-use Rattle.std.specs.BTreeSet.{insert_key}
+use Rattle.std.proofs.Common.{◌≡◌, refl, ap, sym, ◌∙◌, subst, ℕ, ◌≤◌, ◌<◌, Bool, true, false, ◌&&◌, ◌==◌, cond, nat_le, List, [], ◌∷◌, ◌++◌, Contains, Some, None, is_some, unwrap_or, arith}
+use Rattle.std.specs.Ordering.{nat_cmp}
 use Rattle.std.specs.FinMap.Entries.{find, find-where_key}
-use Rattle.std.proofs.lemmas.Bool.{false≢true, true≢false, le-leb}
+use Rattle.std.proofs.lemmas.Bool.{false≢true, true≢false, eqb-true, le-leb}
 use Rattle.std.proofs.lemmas.Bool.Decides.{nat_tests}
 use Rattle.std.proofs.lemmas.List.Elements.{Contains-append_right}
-use Rattle.simplex_types.specs.Terms.{next_term_start}
 use Rattle.simplex_sorted.proofs.Gaps.{next_above}
-use Rattle.simplex_types.specs.Certificates.{NullificationFacts}
 use Rattle.simplex_types.specs.declared.types.messages.Proposal.{Proposal}
 use Rattle.simplex_types.specs.declared.types.messages.Subject.TheVariants as subject
 use Rattle.simplex_types.specs.declared.types.numbers.Round.{Round}
@@ -27,30 +22,19 @@ use Rattle.simplex_member.specs.Made.{answer, after_call, openings_after}
 use Rattle.simplex_member.specs.Openings.{Openings, is_verifying, context_at, without_offer}
 use Rattle.simplex_laws.specs.Deeds.{Deed, Accepts, deeds_of_call}
 use Rattle.simplex_laws.proofs.lists.Signed.{signed_none}
-use Rattle.simplex_laws.proofs.lists.Splits.{Contains-cases, Contains-cons_rest}
 use Rattle.simplex_laws.proofs.lists.Filters.{Contains-filtered}
 use Rattle.simplex_laws.proofs.votes.NullifyVotes.{tied}
-use Rattle.simplex_laws.proofs.votes.UnchangedRounds.{calm_alike}
-use Rattle.simplex_laws.proofs.votes.UnchangedProposals.{CalmOn, on_same, on_tracked}
-use Rattle.simplex_laws.proofs.votes.UnchangedByCalls.{on_add_notarization, on_nullification_kept, on_add_finalization, on_certified, on_nullify, on_finalize}
+use Rattle.simplex_laws.proofs.votes.UnchangedProposals.{CalmOn, calm_along, event_calm, leaves}
+use Rattle.simplex_record.proofs.Steps.{Still}
+use Rattle.simplex_laws.specs.Events as event
+use Rattle.simplex_laws.specs.Events.{Event}
+use Rattle.simplex_laws.specs.Sums.{covers_from}
 use Rattle.simplex_laws.proofs.votes.Proposals.{Tidy}
 use Rattle.simplex_laws.proofs.frames.CallsOnWork.{is_work}
 use Rattle.simplex_laws.proofs.votes.NotarizeVotesShown.{NotesStand, notes_acted, notes_calm}
 use Rattle.simplex_laws.proofs.records.NotarizeVotesRemembered.{calls_cast_none}
 
 -- a view among those and one more
-pub among_more : (k u : ℕ) (ks : List ℕ) → Contains (insert_key nat_cmp ks k) u → (k ≡ u) ⊎ Contains ks u
-among_more k u [] h = elim (Contains-cases k [] u h) [ inl at ↦ inl at | inr none ↦ absurd (omega (arith, none.1)) ]
-among_more k u (x ∷ xs) h = by_order (nat_cmp k x) (among_more k u xs) h
-  where
-    by_order : (o : Ordering) → (Contains (insert_key nat_cmp xs k) u → (k ≡ u) ⊎ Contains xs u) → Contains (match_ordering o (k ∷ x ∷ xs) (x ∷ xs) (x ∷ insert_key nat_cmp xs k)) u → (k ≡ u) ⊎ Contains (x ∷ xs) u
-    by_order Less behind h = Contains-cases k (x ∷ xs) u h
-    by_order Equal behind h = inr h
-    by_order Greater behind h = elim (Contains-cases x (insert_key nat_cmp xs k) u h) [
-      | inl at ↦ inr (0, omega arith, at)
-      | inr rest ↦ elim (behind rest) [ inl at ↦ inl at | inr old ↦ inr (Contains-cons_rest x xs u old) ]
-    ]
-
 -- what is offered says nothing of votes to notarize
 other_offers : {K L D : Type 0} (base low : ℕ) (deeds : List (Deed D)) (o : Openings K D) (v : ℕ) (y : StateFacts K L D) → NotesStand base low deeds o y → NotesStand base low deeds (without_offer o v) y
 other_offers base low deeds o v y notes = record {
@@ -68,43 +52,17 @@ other_offers base low deeds o v y notes = record {
 }
 
 module _ {K L D : Type 0} (same : D → D → Bool) (elect : Elect L) (base low : ℕ) (deeds : List (Deed D)) (o : Openings K D) (x : StateFacts K L D) (notes : NotesStand base low deeds o x) where
-  -- the deeds of the call, and a change that leaves the work on each view
-  acted : (call : CallFacts D) → is_work call ≡ false → CalmOn base x (after_call same elect x o call) → NotesStand base low (deeds ++ deeds_of_call {K = K} call (answer same elect x o call)) o (after_call same elect x o call)
-  acted call plain left =
-      let y = after_call same elect x o call in
+  -- the deeds of the call, and an event that leaves the work on each view
+  acted : (call : CallFacts D) (e : Event K D) → is_work call ≡ false → CalmOn base e x (after_call same elect x o call) → ((u : ℕ) → covers_from u e ≡ true → (round : Round) × Contains (deeds ++ deeds_of_call {K = K} call (answer same elect x o call)) (Accepts (subject.Nullify round)) × (round.view ≡ u)) → NotesStand base low (deeds ++ deeds_of_call {K = K} call (answer same elect x o call)) o (after_call same elect x o call)
+  acted call e plain left accepted =
       let more = deeds_of_call {K = K} call (answer same elect x o call) in
-      notes_calm base low (deeds ++ more) o o x y left (λ v is. is) (λ v c is. is) (notes_acted base low deeds more o x (calls_cast_none same elect x o call plain) notes)
+      notes_calm base low (deeds ++ more) e o o x (after_call same elect x o call) left accepted (λ v is. is) (λ v c is. is) (notes_acted base low deeds more o x (calls_cast_none same elect x o call plain) notes)
 
   active_view : (round : Round) → takes_round x round ≡ true → (1 ≤ round.view) × (base ≤ round.view)
   active_view round takes =
       let admitted = (and_parts (is_started x && round.epoch == x.settings.epoch) _ takes).1 in
       let parts = and_parts (nat_le 1 round.view) (nat_le (min_active x) round.view) admitted in
       (grind (arith, nat_tests, parts.0), (let over : min_active x ≤ round.view = grind (arith, nat_tests, parts.1) in omega (arith, over, notes.active)))
-
-  nullification_notes : (c : NullificationFacts) (now : ℕ) → 0 < x.terms.term_length → takes_round x c.round ≡ true → NotesStand base low (deeds ++ Accepts (subject.Nullify c.round) ∷ []) o (after_call same elect x o (AddNullification c now))
-  nullification_notes c now some takes =
-      let view = active_view c.round takes in
-      let more = Accepts (subject.Nullify c.round) ∷ [] in
-      let next : c.round.view < next_term_start x.terms.term_length c.round.view = next_above x.terms.term_length c.round.view some view.0 in
-      let left = on_nullification_kept base same elect x c now view.1 (omega (arith, next, view.1)) in
-      let acted_notes = notes_acted base low deeds more o x (calls_cast_none same elect x o (AddNullification c now) refl) notes in
-      let kept = notes_calm base low (deeds ++ more) o o x _ left (λ v is. is) (λ v c is. is) acted_notes in
-      record {
-        above = kept.above;
-        active = kept.active;
-        reached = kept.reached;
-        tidy = kept.tidy;
-        placed = kept.placed;
-        worked = kept.worked;
-        verifying_low = kept.verifying_low;
-        context_low = kept.context_low;
-        contexts_placed = kept.contexts_placed;
-        voted = kept.voted;
-        covered = λ u h. elim (among_more c.round.view u _ h) [
-          | inl at ↦ (c.round, Contains-append_right deeds more (Accepts (subject.Nullify c.round)) (0, omega arith, refl), at)
-          | inr old ↦ kept.covered u old
-        ];
-      }
 
   -- a prune: what is left begins with the lowest view that is kept
   pruned_notes : NotesStand (min_active x) low deeds o (after_prune x)
@@ -145,16 +103,22 @@ module _ {K L D : Type 0} (same : D → D → Bool) (elect : Elect L) (base low 
 
   -- a call that is allowed, and not on the work of a view
   pub call_notes : (call : CallFacts D) → is_work call ≡ false → 0 < x.terms.term_length → x.finalized < x.current → is_allowed x o call ≡ true → (b : ℕ) × NotesStand b low (deeds ++ deeds_of_call {K = K} call (answer same elect x o call)) (openings_after same elect x o call) (after_call same elect x o call)
-  call_notes (AddNotarization c) plain some ahead allowed = (base, acted (AddNotarization c) refl (on_add_notarization base same elect x c (active_view c.proposal.round allowed).1))
-  call_notes (AddNullification c now) plain some ahead allowed = (base, nullification_notes c now some allowed)
-  call_notes (AddFinalization c now) plain some ahead allowed = (base, acted (AddFinalization c now) refl (on_add_finalization base same elect x c now (active_view c.proposal.round allowed).1))
-  call_notes (Certified v success now) plain some ahead allowed = (base, other_offers base low (deeds ++ []) o v _ (acted (Certified v success now) refl (on_certified base elect x v success now (λ tracked. notes.above v tracked))))
-  call_notes (ConstructNullify v) plain some ahead allowed = (base, acted (ConstructNullify v) refl (on_nullify base elect x v (omega (arith, notes.active, ahead))))
-  call_notes (ConstructFinalize v) plain some ahead allowed = (base, acted (ConstructFinalize v) refl (on_finalize base elect x v (omega (arith, notes.active))))
-  call_notes (BroadcastNotarization v) plain some ahead allowed = (base, acted (BroadcastNotarization v) refl (on_tracked base x v _ (calm_alike v (round_of x v) _ refl refl refl refl refl)))
-  call_notes (BroadcastNullification v) plain some ahead allowed = (base, acted (BroadcastNullification v) refl (on_tracked base x v _ (calm_alike v (round_of x v) _ refl refl refl refl refl)))
-  call_notes (BroadcastFinalization v) plain some ahead allowed = (base, acted (BroadcastFinalization v) refl (on_tracked base x v _ (calm_alike v (round_of x v) _ refl refl refl refl refl)))
-  call_notes GetBestCertificate plain some ahead allowed = (base, acted GetBestCertificate refl (on_same base x))
+  call_notes (AddNotarization c) plain some ahead allowed = (base, acted (AddNotarization c) (event.AddNotarization c) refl (event_calm same elect base x (event.AddNotarization c) (leaves refl) (omega (arith, notes.active, ahead)) (active_view c.proposal.round allowed).1) (λ u is. absurd cc))
+  call_notes (AddNullification c now) plain some ahead allowed =
+      let view = active_view c.round allowed in
+      let next = next_above x.terms.term_length c.round.view some view.0 in (
+        base,
+        acted (AddNullification c now) (event.AddNullification c now) refl (event_calm same elect base x (event.AddNullification c now) (leaves refl) (omega (arith, notes.active, ahead)) (view.1, omega (arith, next, view.1)))
+            (λ u is. (c.round, Contains-append_right deeds (Accepts (subject.Nullify c.round) ∷ []) (Accepts (subject.Nullify c.round)) (0, omega arith, refl), sym (eqb-true u c.round.view is))),
+      )
+  call_notes (AddFinalization c now) plain some ahead allowed = (base, acted (AddFinalization c now) (event.AddFinalization c now) refl (event_calm same elect base x (event.AddFinalization c now) (leaves refl) (omega (arith, notes.active, ahead)) (active_view c.proposal.round allowed).1) (λ u is. absurd cc))
+  call_notes (Certified v success now) plain some ahead allowed = (base, other_offers base low (deeds ++ []) o v _ (acted (Certified v success now) (event.Certified v success now) refl (event_calm same elect base x (event.Certified v success now) (leaves refl) (omega (arith, notes.active, ahead)) tt) (λ u is. absurd cc)))
+  call_notes (ConstructNullify v) plain some ahead allowed = (base, acted (ConstructNullify v) (event.ConstructNullify v) refl (event_calm same elect base x (event.ConstructNullify v) (leaves refl) (omega (arith, notes.active, ahead)) tt) (λ u is. absurd cc))
+  call_notes (ConstructFinalize v) plain some ahead allowed = (base, acted (ConstructFinalize v) (event.ConstructFinalize v) refl (event_calm same elect base x (event.ConstructFinalize v) (leaves refl) (omega (arith, notes.active, ahead)) tt) (λ u is. absurd cc))
+  call_notes (BroadcastNotarization v) plain some ahead allowed = (base, acted (BroadcastNotarization v) (event.BroadcastNotarization v) refl (event_calm same elect base x (event.BroadcastNotarization v) (leaves refl) (omega (arith, notes.active, ahead)) tt) (λ u is. absurd cc))
+  call_notes (BroadcastNullification v) plain some ahead allowed = (base, acted (BroadcastNullification v) (event.BroadcastNullification v) refl (event_calm same elect base x (event.BroadcastNullification v) (leaves refl) (omega (arith, notes.active, ahead)) tt) (λ u is. absurd cc))
+  call_notes (BroadcastFinalization v) plain some ahead allowed = (base, acted (BroadcastFinalization v) (event.BroadcastFinalization v) refl (event_calm same elect base x (event.BroadcastFinalization v) (leaves refl) (omega (arith, notes.active, ahead)) tt) (λ u is. absurd cc))
+  call_notes GetBestCertificate plain some ahead allowed = (base, acted GetBestCertificate event.CertifyCandidates refl (calm_along same elect x event.CertifyCandidates base (leaves refl) x x Still) (λ u is. absurd cc))
   call_notes Prune plain some ahead allowed = (min_active x, notes_nothing)
     where
       notes_nothing : NotesStand (min_active x) low (deeds ++ []) o (after_prune x)

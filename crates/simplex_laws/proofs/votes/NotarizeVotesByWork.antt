@@ -28,9 +28,9 @@ use Rattle.simplex_voter.specs.declared.voter.verify.Standing.{Standing}
 use Rattle.simplex_voter.specs.declared.voter.verify.Standing.TheVariants.{Passed, Invalid, Lacks, Ready}
 use Rattle.simplex_voter.specs.declared.voter.verify.Verify.{Verify}
 use Rattle.simplex_voter.specs.declared.voter.verify.Verify.TheVariants as verify
-use Rattle.simplex_voter.specs.Proposing.{request_context, request_on, request_in, context_on, propose_answer, proposed_answer, supersede_answer, context_stands, with_build, build_requested, proposed_round, proposal_of, views_ahead, voted_nullify, parent_certified, after_proposed, after_supersede, after_release}
+use Rattle.simplex_voter.specs.Proposing.{request_context, request_on, request_in, context_on, propose_answer, proposed_answer, supersede_answer, context_stands, with_build, proposed_round, proposal_of, views_ahead, voted_nullify, parent_certified, after_proposed, after_supersede, after_release}
 use Rattle.simplex_voter.specs.Verifying.{standing, parent_standing, is_answered, through, answer_at, answer_in, verify_answer, verifying_round, round_left, was_scanned, scan_left, with_mark, without_binding, takes_proposal, after_set_proposal, after_try_verify, after_verified, after_verification_failed}
-use Rattle.simplex_voter.specs.Timeouts.{with_timeout, after_next_timeout}
+use Rattle.simplex_voter.specs.Timeouts.{with_timeout}
 use Rattle.simplex_voter.specs.Certification.{after_candidates}
 use Rattle.simplex_voter.proofs.Elsewhere.{round_of-with_round}
 use Rattle.simplex_voter.proofs.Gaps.{and_parts, not_true}
@@ -40,9 +40,15 @@ use Rattle.simplex_member.specs.Calls.{CallFacts, SetProposal, TryPropose, Propo
 use Rattle.simplex_member.specs.Made.{after_call, openings_after}
 use Rattle.simplex_laws.specs.Deeds.{Deed}
 use Rattle.simplex_laws.specs.Requested.{is_given_out}
-use Rattle.simplex_laws.proofs.frames.Rounds.{round_put}
-use Rattle.simplex_laws.proofs.votes.UnchangedRounds.{leads_round, Grown, Calm, calm, calm_alike, calm_decided, calm_retry, calm_proposal, slot_in_round}
-use Rattle.simplex_laws.proofs.votes.UnchangedProposals.{CalmOn, above_put, on_joined, on_same, on_if, on_put, on_there, on_tracked, on_moment, on_prepared, on_triggered}
+use Rattle.simplex_record.proofs.Rounds.{round_put}
+use Rattle.simplex_laws.proofs.votes.UnchangedRounds.{leads_round, Grown, Calm, calm, calm_alike}
+use Rattle.simplex_laws.proofs.votes.UnchangedProposals.{CalmOn, LeavesWork, above_put, calm_along, leaves}
+use Rattle.simplex_laws.specs.Events as event
+use Rattle.simplex_laws.specs.Events.{Event}
+use Rattle.simplex_laws.specs.Sums.{covers_from}
+use Rattle.simplex_record.proofs.Steps as step
+use Rattle.simplex_record.proofs.Steps.{Path, Still, Then, Moves, Unnames}
+use Rattle.simplex_record.proofs.Paths.{either, put, to_prepared, to_triggered, build_path, proposal_path, handle_path, polled_path}
 use Rattle.simplex_laws.proofs.frames.CallsOnWork.{is_silent}
 use Rattle.simplex_laws.proofs.votes.Proposals.{Tidy, contrary, opposite, answered, given_out, proposes, reopened, tidy_calm}
 use Rattle.simplex_laws.proofs.votes.NotarizeVotesShown.{NotesStand, notes_calm}
@@ -183,14 +189,24 @@ module _ {K L D : Type 0} (x : StateFacts K L D) where
 module _ {K L D : Type 0} (same : D → D → Bool) (decides : (d e : D) → same d e ≡ true → d ≡ e) (elect : Elect L) (base low : ℕ) (deeds : List (Deed D)) (o : Openings K D) (x : StateFacts K L D) (notes : NotesStand base low deeds o x) where
   -- with nothing more open
 
-  left_notes : (y : StateFacts K L D) → CalmOn base x y → NotesStand base low deeds o y
-  left_notes y left = notes_calm base low deeds o o x y left (λ v is. is) (λ v c is. is) notes
+  left_notes : (e : Event K D) (y : StateFacts K L D) → ((u : ℕ) → covers_from u e ≡ false) → CalmOn base e x y → NotesStand base low deeds o y
+  left_notes e y none left = notes_calm base low deeds e o o x y left (λ u is. absurd (false≢true (sym (none u) ∙ is))) (λ v is. is) (λ v c is. is) notes
 
-  closed_notes : (v : ℕ) (y : StateFacts K L D) → CalmOn base x y → NotesStand base low deeds (without_context o v) y
-  closed_notes v y left = notes_calm base low deeds o (without_context o v) x y left (λ w is. is) (λ w c is. got_others o.contexts v w c is) notes
+  closed_notes : (v : ℕ) (e : Event K D) (y : StateFacts K L D) → ((u : ℕ) → covers_from u e ≡ false) → CalmOn base e x y → NotesStand base low deeds (without_context o v) y
+  closed_notes v e y none left = notes_calm base low deeds e o (without_context o v) x y left (λ u is. absurd (false≢true (sym (none u) ∙ is))) (λ w is. is) (λ w c is. got_others o.contexts v w c is) notes
 
-  answered_notes : (v : ℕ) (y : StateFacts K L D) → CalmOn base x y → NotesStand base low deeds (without_verification o v) y
-  answered_notes v y left = notes_calm base low deeds o (without_verification o v) x y left (λ w is. (among_others v w o.verifying is).0) (λ w c is. is) notes
+  answered_notes : (v : ℕ) (e : Event K D) (y : StateFacts K L D) → ((u : ℕ) → covers_from u e ≡ false) → CalmOn base e x y → NotesStand base low deeds (without_verification o v) y
+  answered_notes v e y none left = notes_calm base low deeds e o (without_verification o v) x y left (λ u is. absurd (false≢true (sym (none u) ∙ is))) (λ w is. (among_others v w o.verifying is).0) (λ w c is. is) notes
+
+  -- a path of an event that leaves the work on each view
+  calm_by : (e : Event K D) → LeavesWork e → (y : StateFacts K L D) → Path same elect x e base x y → CalmOn base e x y
+  calm_by e leaves y path = calm_along same elect x e base leaves x y path
+
+  moment_calm : (now : ℕ) → CalmOn base event.CertifyCandidates x (at_moment x now)
+  moment_calm now = calm_by event.CertifyCandidates (leaves refl) _ (Then Still (Moves now))
+
+  still_calm : CalmOn base event.CertifyCandidates x x
+  still_calm = calm_by event.CertifyCandidates (leaves refl) x Still
 
   kept_view : (v : ℕ) → min_active x ≤ v → base ≤ v
   kept_view v over = omega (arith, over, notes.active)
@@ -202,11 +218,15 @@ module _ {K L D : Type 0} (same : D → D → Bool) (decides : (d e : D) → sam
       let at : p.round.view ≡ v = eqb-true p.round.view v parts.1 in
       let active = (and_parts (nat_le 1 p.round.view) (nat_le (min_active x) p.round.view) (and_parts (is_started x && p.round.epoch == x.settings.epoch) _ parts.0).1).1 in
       let over : base ≤ v = kept_view v (grind (arith, nat_tests, active, at)) in
-      let y = with_next_view_ready elect x v in
-      left_notes (after_set_proposal same elect x v p) (on_joined base x y (after_set_proposal same elect x v p) (on_prepared base elect x v over) (on_put base y v _ over (calm_proposal same v (round_of y v) p at)))
+      let e : Event K D = event.SetProposal v p in
+      left_notes e (after_set_proposal same elect x v p) (λ u. refl)
+      (calm_by e (record { note = refl; answer = refl; other = refl; prune = refl; placed = λ w q is. placed_here w q is at }) _ (proposal_path same elect base x v p over))
+    where
+      placed_here : (w : ℕ) (q : Proposal D) → ◌≡◌ {A = Option (ℕ × Proposal D)} (Some (v, p)) (Some (w, q)) → p.round.view ≡ v → q.round.view ≡ w
+      placed_here w q is at = let pair : (v, p) ≡ (w, q) = cc in ap (λ (t : ℕ × Proposal D). t.1.round.view) (sym pair) ∙ at ∙ ap (λ (t : ℕ × Proposal D). t.0) pair
 
-  build_calm : (v : ℕ) (requested : Bool) → CalmOn base x (with_build x v requested)
-  build_calm v requested = on_tracked base x v _ (slot_in_round v (round_of x v) (build_requested requested (round_of x v).slot) (record { holding = λ p is clear. is; empty = λ is. is; placed = λ p is. inl is; clear = λ is. is; requested = λ is. is; verified = λ is. is }))
+  build_calm : (v : ℕ) (requested : Bool) → CalmOn base (event.Release v) x (with_build x v requested)
+  build_calm v requested = calm_by (event.Release v) (leaves refl) _ (build_path same elect base x (event.Release v) v requested)
 
   -- a context is opened of a view that this member leads
   opened_notes : (context : Context D K) → leads_round (round_of x context.round.view) ≡ true → low ≤ context.round.view → NotesStand base low deeds (with_context o context) x
@@ -237,7 +257,7 @@ module _ {K L D : Type 0} (same : D → D → Bool) (decides : (d e : D) → sam
       let there : round_of x e.0 ≡ e.1 = round_in_order x e ordered (Contains-filtered _ x.rounds e among) in
       let leads : leads_round (round_of x context.round.view) ≡ true = subst (λ v. leads_round (round_of x v) ≡ true) (sym parts.1) (ap leads_round there ∙ proposer_leads e.1 parts.0) in
       let over : low ≤ context.round.view = (let ahead = ahead_now x e among in omega (arith, notes.reached, ahead, parts.1)) in
-      notes_calm base low deeds (with_context o context) (with_context o context) x (with_build x context.round.view true) (build_calm context.round.view true) (λ v is'. is') (λ v c is'. is') (opened_notes context leads over)
+      notes_calm base low deeds (event.Release context.round.view) (with_context o context) (with_context o context) x (with_build x context.round.view true) (build_calm context.round.view true) (λ u is'. absurd (false≢true is')) (λ v is'. is') (λ v c is'. is') (opened_notes context leads over)
 
   -- an own proposal
 
@@ -246,7 +266,7 @@ module _ {K L D : Type 0} (same : D → D → Bool) (decides : (d e : D) → sam
 
   proposed_notes : (v : ℕ) (context : Option (Context D K)) (payload : D) (now : ℕ) → context_at o v ≡ context → NotesStand base low deeds (without_context o v) (option_map_or (λ c. after_proposed same elect x c payload now) context x)
   unfolding proposed_answer
-  proposed_notes v None payload now is = closed_notes v x (on_same base x)
+  proposed_notes v None payload now is = closed_notes v event.CertifyCandidates x (λ u. refl) still_calm
   proposed_notes v (Some c) payload now is = by_answer (proposed_answer same elect x c payload) refl
     where
       at : c.round.view ≡ v
@@ -283,7 +303,7 @@ module _ {K L D : Type 0} (same : D → D → Bool) (decides : (d e : D) → sam
             leader = λ l. refl;
           } in
           let opened : is_some (context_at o v) ≡ true = ap is_some is in
-          let old = left_notes m (on_moment base x now) in
+          let old = left_notes event.CertifyCandidates m (λ u. refl) (moment_calm now) in
           notes_put base low deeds o (without_context o v) m v s old tracked grown
           (proposes v (is_verifying o v) (is_some (context_at o v)) (is_verifying o v) (is_some (context_at (without_context o v) v)) r s grown (λ q. still_open o v v q) (notes.tidy v (notes.above v tracked)) built c.parent.1 refl (ap (λ (t : SlotFacts D). t.held) slot) (ap (λ (t : SlotFacts D). t.verify_requested) slot) opened (λ q. q))
           (λ q un. notes.context_low v opened)
@@ -292,7 +312,7 @@ module _ {K L D : Type 0} (same : D → D → Bool) (decides : (d e : D) → sam
           (λ q. notes.context_low v opened)
 
       by_answer : (b : Bool) → proposed_answer same elect x c payload ≡ b → NotesStand base low deeds (without_context o v) (if b then with_round m c.round.view (proposed_round same (round_of x c.round.view) c payload now) else m)
-      by_answer false refused = closed_notes v m (on_moment base x now)
+      by_answer false refused = closed_notes v event.CertifyCandidates m (λ u. refl) (moment_calm now)
       by_answer true answer =
           let parts = and_parts (context_stands same elect x c) _ answer in
           let there = found (round_at x c.round.view) refl parts.1 in
@@ -300,17 +320,17 @@ module _ {K L D : Type 0} (same : D → D → Bool) (decides : (d e : D) → sam
 
   -- answers to a verification
 
-  unbound_notes : (now : ℕ) (v : ℕ) → is_verifying o v ≡ true → (m : StateFacts K L D) → CalmOn base x m → NotesStand base low deeds (without_verification o v) (without_binding m v)
+  unbound_notes : (now : ℕ) (v : ℕ) → is_verifying o v ≡ true → (m : StateFacts K L D) → CalmOn base event.CertifyCandidates x m → NotesStand base low deeds (without_verification o v) (without_binding m v)
   unbound_notes now v open_now m left = by_tracked (is_tracked m v) refl
     where
       old : NotesStand base low deeds o m
-      old = left_notes m left
+      old = left_notes event.CertifyCandidates m (λ u. refl) left
 
       r : RoundFacts K D
       r = round_of m v
 
       by_tracked : (b : Bool) → is_tracked m v ≡ b → NotesStand base low deeds (without_verification o v) (if b then with_round m v (record r { binding = None }) else m)
-      by_tracked false is = answered_notes v m left
+      by_tracked false is = answered_notes v event.CertifyCandidates m (λ u. refl) left
       by_tracked true is =
           let s : RoundFacts K D = record r { binding = None } in
           let tidy = old.tidy v (old.above v is) in
@@ -331,7 +351,7 @@ module _ {K L D : Type 0} (same : D → D → Bool) (decides : (d e : D) → sam
   verified_notes : (v : ℕ) → is_verifying o v ≡ true → NotesStand base low deeds (without_verification o v) (after_verified same elect x v)
   verified_notes v open_now = elim (binding_matches same elect x v) as (λ b. NotesStand base low deeds (without_verification o v) (if b then with_tracked x v (with_mark (round_of x v)) else without_binding x v)) [
     | true ↦ by_tracked (is_tracked x v) refl
-    | false ↦ unbound_notes 0 v open_now x (on_same base x)
+    | false ↦ unbound_notes 0 v open_now x still_calm
   ]
     where
       r : RoundFacts K D
@@ -342,7 +362,7 @@ module _ {K L D : Type 0} (same : D → D → Bool) (decides : (d e : D) → sam
       not_open true flag = absurd ((among_others v v o.verifying flag).1 refl)
 
       by_tracked : (b : Bool) → is_tracked x v ≡ b → NotesStand base low deeds (without_verification o v) (if b then with_round x v (with_mark r) else x)
-      by_tracked false is = answered_notes v x (on_same base x)
+      by_tracked false is = answered_notes v event.CertifyCandidates x (λ u. refl) still_calm
       by_tracked true is =
           notes_put base low deeds o (without_verification o v) x v (with_mark r) notes is (mark_grown v r)
           (answered v (is_verifying o v) (is_some (context_at o v)) (is_verifying (without_verification o v) v) (is_some (context_at o v)) r (with_mark r) (mark_grown v r) (λ q. q) (notes.tidy v (notes.above v is)) (λ q un. mark_bound v r) open_now (not_open (is_verifying (without_verification o v) v) refl))
@@ -355,8 +375,8 @@ module _ {K L D : Type 0} (same : D → D → Bool) (decides : (d e : D) → sam
   failed_notes v reason now open_now =
       let m = at_moment x now in
       elim (binding_matches same elect x v) as (λ b. NotesStand base low deeds (without_verification o v) (if b then with_timeout m v reason now else without_binding m v)) [
-        | true ↦ answered_notes v (with_timeout m v reason now) (on_joined base x m (with_timeout m v reason now) (on_moment base x now) (on_triggered base m v reason now))
-        | false ↦ unbound_notes now v open_now m (on_moment base x now)
+        | true ↦ answered_notes v (event.TriggerTimeout v reason now) (with_timeout m v reason now) (λ u. refl) (calm_by (event.TriggerTimeout v reason now) (leaves refl) _ (to_triggered v reason now (Then Still (Moves now))))
+        | false ↦ unbound_notes now v open_now m (moment_calm now)
       ]
 
 -- the scan for a proposal to verify
@@ -516,18 +536,17 @@ module _ {K L D : Type 0} (same : D → D → Bool) (elect : Elect L) (base low 
 module _ {K L D : Type 0} (same : D → D → Bool) (decides : (d e : D) → same d e ≡ true → d ≡ e) (elect : Elect L) (base low : ℕ) (deeds : List (Deed D)) (o : Openings K D) (x : StateFacts K L D) (notes : NotesStand base low deeds o x) where
   pub decided_notes : (v : ℕ) → may_notarize same elect x v ≡ true → is_tracked x v ≡ true → NotesStand base low deeds o (with_next_view_ready elect (with_round x v (record (round_of x v) { notarize_decided = true })) v)
   decided_notes v may tracked =
-      let y = with_round x v (record (round_of x v) { notarize_decided = true }) in
-      left_notes same decides elect base low deeds o x notes (with_next_view_ready elect y v)
-      (on_joined base x y (with_next_view_ready elect y v) (on_there base x v _ tracked (calm_decided v (round_of x v))) (on_prepared base elect y v (notes.above v tracked)))
+      left_notes same decides elect base low deeds o x notes (event.ConstructNotarize v) _ (λ u. refl)
+      (calm_by same decides elect base low deeds o x notes (event.ConstructNotarize v) (leaves refl) _ (to_prepared v (notes.above v tracked) (put v _ (inr tracked) (step.NotarizeDecided refl may) Still)))
 
   superseded_notes : (v : ℕ) (context : Option (Context D K)) (b : Bool) → NotesStand base low deeds (if b then without_context o v else o) (option_map_or (λ c. after_supersede same elect x c) context x)
-  superseded_notes v None true = closed_notes same decides elect base low deeds o x notes v x (on_same base x)
+  superseded_notes v None true = closed_notes same decides elect base low deeds o x notes v event.CertifyCandidates x (λ u. refl) (still_calm same decides elect base low deeds o x notes)
   superseded_notes v None false = notes
-  superseded_notes v (Some c) b = closes b (on_if base x (supersede_answer same elect x c) (after_release x c.round.view) x (build_calm same decides elect base low deeds o x notes c.round.view false) (on_same base x))
+  superseded_notes v (Some c) b = closes b (calm_by same decides elect base low deeds o x notes (event.Supersede c) (leaves refl) _ (either (supersede_answer same elect x c) _ x (λ other. build_path same elect base x (event.Supersede c) c.round.view false) (λ stands. Still)))
     where
-      closes : (b : Bool) → CalmOn base x (after_supersede same elect x c) → NotesStand base low deeds (if b then without_context o v else o) (after_supersede same elect x c)
-      closes true left = closed_notes same decides elect base low deeds o x notes v (after_supersede same elect x c) left
-      closes false left = left_notes same decides elect base low deeds o x notes (after_supersede same elect x c) left
+      closes : (b : Bool) → CalmOn base (event.Supersede c) x (after_supersede same elect x c) → NotesStand base low deeds (if b then without_context o v else o) (after_supersede same elect x c)
+      closes true left = closed_notes same decides elect base low deeds o x notes v (event.Supersede c) (after_supersede same elect x c) (λ u. refl) left
+      closes false left = left_notes same decides elect base low deeds o x notes (event.Supersede c) (after_supersede same elect x c) (λ u. refl) left
 
   pub work_notes : (call : CallFacts D) → InOrder x → is_allowed x o call ≡ true → is_silent call ≡ true → NotesStand base low deeds (openings_after same elect x o call) (after_call same elect x o call)
   work_notes (SetProposal v p) ordered allowed silent = proposal_notes same decides elect base low deeds o x notes v p allowed
@@ -535,16 +554,12 @@ module _ {K L D : Type 0} (same : D → D → Bool) (decides : (d e : D) → sam
   work_notes (Proposed v payload now) ordered allowed silent = proposed_notes same decides elect base low deeds o x notes v (context_at o v) payload now refl
   work_notes (SupersedeProposalRequest v) ordered allowed silent = superseded_notes v (context_at o v) (option_map_or (λ c. supersede_answer same elect x c) (context_at o v) false)
   work_notes (PendingHandoffAbandonment v) ordered allowed silent = notes
-  work_notes (ReleaseProposalRequest v) ordered allowed silent = closed_notes same decides elect base low deeds o x notes v (after_release x v) (build_calm same decides elect base low deeds o x notes v false)
+  work_notes (ReleaseProposalRequest v) ordered allowed silent = closed_notes same decides elect base low deeds o x notes v (event.Release v) (after_release x v) (λ u. refl) (build_calm same decides elect base low deeds o x notes v false)
   work_notes TryVerify ordered allowed silent = try_verify_notes same elect base low deeds o x ordered notes
   work_notes (Verified v) ordered allowed silent = verified_notes same decides elect base low deeds o x notes v allowed
   work_notes (VerificationFailed v reason now) ordered allowed silent = failed_notes same decides elect base low deeds o x notes v reason now allowed
-  work_notes CertifyCandidates ordered allowed silent = notes_calm base low deeds o (openings_after same elect x o CertifyCandidates) x (after_candidates x) (record { settings = refl; current = omega arith; finalized = omega arith; nullified = refl; above = λ above. above; rounds = λ v. calm v (round_of x v) }) (λ v is. is) (λ v c is. is) notes
-  work_notes (SetCertifyHandle v token) ordered allowed silent = left_notes same decides elect base low deeds o x notes _ (on_tracked base x v _ (calm_alike v (round_of x v) _ refl refl refl refl refl))
-  work_notes (TriggerTimeout v reason now) ordered allowed silent =
-      let m = at_moment x now in
-      left_notes same decides elect base low deeds o x notes (with_timeout m v reason now) (on_joined base x m (with_timeout m v reason now) (on_moment base x now) (on_triggered base m v reason now))
-  work_notes (NextTimeout now) ordered allowed silent =
-      let m = at_moment x now in
-      left_notes same decides elect base low deeds o x notes (after_next_timeout x now) (on_joined base x m (after_next_timeout x now) (on_moment base x now) (on_tracked base m x.current _ (calm_retry x.current (round_of x x.current) now x.settings.timeout_retry)))
+  work_notes CertifyCandidates ordered allowed silent = notes_calm base low deeds event.CertifyCandidates o (openings_after same elect x o CertifyCandidates) x (after_candidates x) (calm_by same decides elect base low deeds o x notes event.CertifyCandidates (leaves refl) _ (Then Still Unnames)) (λ u is. absurd (false≢true is)) (λ v is. is) (λ v c is. is) notes
+  work_notes (SetCertifyHandle v token) ordered allowed silent = left_notes same decides elect base low deeds o x notes (event.SetCertifyHandle v token) _ (λ u. refl) (calm_by same decides elect base low deeds o x notes (event.SetCertifyHandle v token) (leaves refl) _ (handle_path same elect base x v token))
+  work_notes (TriggerTimeout v reason now) ordered allowed silent = left_notes same decides elect base low deeds o x notes (event.TriggerTimeout v reason now) _ (λ u. refl) (calm_by same decides elect base low deeds o x notes (event.TriggerTimeout v reason now) (leaves refl) _ (to_triggered v reason now (Then Still (Moves now))))
+  work_notes (NextTimeout now) ordered allowed silent = left_notes same decides elect base low deeds o x notes (event.NextTimeout now) _ (λ u. refl) (calm_by same decides elect base low deeds o x notes (event.NextTimeout now) (leaves refl) _ (polled_path same elect base x now))
   work_notes _ ordered allowed silent = absurd (false≢true silent)

@@ -1,6 +1,6 @@
 -- For `votes_are_lawful`.
 -- What a state's facts show of the votes to notarize that led to it, and what a record remembers of them.
-use Rattle.std.proofs.Common.{◌≡◌, ap, subst, ℕ, ◌≤◌, ◌<◌, ◌⊎◌, inl, inr, true, false, List, ◌++◌, Contains, Some, is_some, arith}
+use Rattle.std.proofs.Common.{◌≡◌, ap, ℕ, ◌≤◌, ◌<◌, ◌⊎◌, inl, inr, true, false, List, ◌++◌, Contains, Some, is_some, arith}
 use Rattle.std.proofs.lemmas.List.Elements.{Contains-append_left}
 use Rattle.simplex_types.specs.Certificates.{ArtifactFacts, NotarizeVote}
 use Rattle.simplex_types.specs.declared.types.messages.Proposal.{Proposal}
@@ -10,7 +10,9 @@ use Rattle.simplex_voter.specs.Facts.{Settings, StateFacts, round_of}
 use Rattle.simplex_voter.specs.Windows.{min_active}
 use Rattle.simplex_member.specs.Openings.{Openings, is_verifying, context_at}
 use Rattle.simplex_laws.specs.Deeds.{Deed, Accepts}
+use Rattle.simplex_laws.specs.Events.{Event}
 use Rattle.simplex_laws.specs.Lawful.{HasSigned}
+use Rattle.simplex_laws.specs.Sums.{covers_from}
 use Rattle.simplex_laws.proofs.lists.Signed.{signed_cases}
 use Rattle.simplex_laws.proofs.votes.Openings.{ArePlaced, NoMoreContexts, some_still}
 use Rattle.simplex_laws.proofs.votes.UnchangedProposals.{Above, CalmOn}
@@ -61,11 +63,11 @@ module _ {K L D : Type 0} (base low : ℕ) (deeds : List (Deed D)) where
   }
 
   -- a change that leaves the work on each view, with nothing more open
-  pub notes_calm : (o o' : Openings K D) (x y : StateFacts K L D) → CalmOn base x y → ((v : ℕ) → is_verifying o' v ≡ true → is_verifying o v ≡ true) → NoMoreContexts o o' → NotesStand base low deeds o x → NotesStand base low deeds o' y
-  notes_calm o o' x y left verifying opened notes = record {
+  pub notes_calm : (e : Event K D) (o o' : Openings K D) (x y : StateFacts K L D) → CalmOn base e x y → ((u : ℕ) → covers_from u e ≡ true → (round : Round) × Contains deeds (Accepts (subject.Nullify round)) × (round.view ≡ u)) → ((v : ℕ) → is_verifying o' v ≡ true → is_verifying o v ≡ true) → NoMoreContexts o o' → NotesStand base low deeds o x → NotesStand base low deeds o' y
+  notes_calm e o o' x y left accepted verifying opened notes = record {
     above = left.above notes.above;
-    active = omega (arith, notes.active, left.finalized, ap (λ (s : Settings). s.view_retention) left.settings);
-    reached = omega (arith, notes.reached, left.current);
+    active = omega (arith, notes.active, left.goes.finalized, ap (λ (s : Settings). s.view_retention) left.goes.settings);
+    reached = omega (arith, notes.reached, left.goes.current);
     tidy = λ v over. tidy_calm v (is_verifying o v) (is_some (context_at o v)) (is_verifying o' v) (is_some (context_at o' v)) (round_of x v) (round_of y v) (left.rounds v) (verifying v) (some_still (context_at o' v) (context_at o v) (opened v)) (notes.tidy v over);
     placed = λ v p is. elim ((left.rounds v).grown.placed p is) [ inl before ↦ notes.placed v p before | inr here ↦ here ];
     worked = λ v is un. notes.worked v ((left.rounds v).verified is) (contrary (round_of y v).notarize_decided (round_of x v).notarize_decided (left.rounds v).grown.decided un);
@@ -73,5 +75,5 @@ module _ {K L D : Type 0} (base low : ℕ) (deeds : List (Deed D)) where
     context_low = λ v is. notes.context_low v (some_still (context_at o' v) (context_at o v) (opened v) is);
     contexts_placed = λ v c is. notes.contexts_placed v c (opened v c is);
     voted = λ p h above over. (left.rounds p.round.view).grown.decided (notes.voted p h above over);
-    covered = λ u h. notes.covered u (subst (λ us. Contains us u) left.nullified h);
+    covered = λ u h. elim (left.covered u h) [ inl new ↦ accepted u new | inr old ↦ notes.covered u old ];
   }

@@ -14,7 +14,7 @@ use Rattle.simplex_voter.proofs.Elsewhere.{round_of-with_round}
 use Rattle.simplex_laws.specs.Deeds.{Deed, Accepts}
 use Rattle.simplex_laws.specs.Lawful.{HasSigned}
 use Rattle.simplex_laws.proofs.lists.Signed.{signed_push}
-use Rattle.simplex_laws.proofs.frames.Rounds.{round_put}
+use Rattle.simplex_record.proofs.Rounds.{round_put}
 
 -- a round of view v, where the current view is to be `reached`
 pub record RoundStands {K D : Type 0} (deeds : List (Deed D)) (reached finalized v : ℕ) (r : RoundFacts K D) : Type 0 where

@@ -10,12 +10,12 @@ use Rattle.simplex_voter.specs.Certification.{with_verdict, verdict_taken, after
 use Rattle.simplex_laws.specs.Deeds.{Deed, Accepts}
 use Rattle.simplex_laws.specs.Events as event
 use Rattle.simplex_laws.specs.Events.{Event, after_event}
-use Rattle.simplex_laws.proofs.frames.Paths.{to_woken}
+use Rattle.simplex_record.proofs.Paths.{to_woken}
 use Rattle.simplex_laws.proofs.frames.Rising.{goes_along}
 use Rattle.simplex_laws.proofs.frames.Sound.{entered_reaches}
 use Rattle.simplex_laws.proofs.votes.Standing.{Stays, latest, stays_accepted}
 use Rattle.simplex_laws.proofs.votes.StandingSteps.{Suits, plain_suits, stays_on}
-use Rattle.simplex_laws.proofs.frames.Steps.{Still, verdict_by}
+use Rattle.simplex_record.proofs.Steps.{Still, verdict_by}
 
 module _ {K L D : Type 0} (same : D → D → Bool) (elect : Elect L) (x : StateFacts K L D) (v now : ℕ) where
   -- a true verdict enters a later view

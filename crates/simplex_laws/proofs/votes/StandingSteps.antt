@@ -18,16 +18,16 @@ use Rattle.simplex_laws.specs.Sums.{is_prune, finalized_by_event}
 use Rattle.simplex_laws.specs.Deeds.{Deed, Accepts}
 use Rattle.simplex_laws.specs.Lawful.{HasSigned}
 use Rattle.simplex_laws.proofs.frames.EachRound.{step_round, pruned_round}
-use Rattle.simplex_laws.proofs.frames.Rounds.{armed_nullify, armed_finalize, latched_nullify, latched_finalize, aborted_certified, awaited_nullify}
+use Rattle.simplex_record.proofs.Rounds.{armed_nullify, armed_finalize, latched_nullify, latched_finalize, aborted_certified, awaited_nullify}
 use Rattle.simplex_laws.proofs.votes.NullifyVotes.{noted_old, noted_kept}
-use Rattle.simplex_laws.proofs.frames.Paths.{event_path, asked_of_all}
+use Rattle.simplex_record.proofs.Paths.{event_path, asked_of_all}
 use Rattle.simplex_laws.proofs.votes.Standing.{RoundStands, Stands, HasFinal, Stays, round_later, stands_later, stands_put}
 use Rattle.simplex_laws.proofs.votes.StandingRounds.{Holds, holds_new, holds_old, holds_own, holds_voted, fresh_stands}
 use Rattle.simplex_laws.proofs.frames.CallsMake.{is_floor}
 use Rattle.simplex_laws.proofs.frames.Rising.{event_goes}
 use Rattle.simplex_laws.proofs.frames.Sound.{IsAhead, event_ahead}
-use Rattle.simplex_laws.proofs.frames.Steps as step
-use Rattle.simplex_laws.proofs.frames.Steps.{RoundStep, Step, Puts, Notes, Raises, Scans, Prunes, along, IsSilent, notarization_by, verdict_by, nullify_by, finalize_by}
+use Rattle.simplex_record.proofs.Steps as step
+use Rattle.simplex_record.proofs.Steps.{RoundStep, Step, Puts, Notes, Raises, Scans, Prunes, along, IsSilent, notarization_by, verdict_by, nullify_by, finalize_by}
 
 -- what has to be known of an event: what it brings was accepted, a view that it judges to be true or decides to finalize is
 -- passed, and a vote that it decides is allowed, or stands against no vote of the other kind

@@ -20,7 +20,7 @@ use Rattle.simplex_laws.specs.Deeds.{Deed, Accepts, Signs}
 use Rattle.simplex_laws.specs.Lawful.{HasSigned, HasFinalizedBetween}
 use Rattle.simplex_laws.proofs.lists.Signed.{signed_push}
 use Rattle.simplex_laws.proofs.agreement.Lawful.{AllowsNullify, AllowsFinalize}
-use Rattle.simplex_laws.proofs.frames.Rounds.{round_put}
+use Rattle.simplex_record.proofs.Rounds.{round_put}
 use Rattle.simplex_laws.proofs.votes.Standing.{RoundStands, Stands, Stays, still, final_still, stands_put}
 use Rattle.simplex_laws.proofs.votes.NullifyVotes.{noted_old, noted_new, gate_passed}
 

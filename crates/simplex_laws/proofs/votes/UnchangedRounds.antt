@@ -1,17 +1,13 @@
 -- For `votes_are_lawful`.
 -- Changes of a view's round that leave a proposal's verification and binding as they are.
-use Rattle.std.proofs.Common.{◌≡◌, refl, ap, sym, ◌∙◌, subst, ℕ, ◌+◌, ◌⊎◌, inl, inr, Bool, true, false, ◌&&◌, ◌||◌, not, cond, if◌then◌else◌, Option, Some, None, is_some}
+use Rattle.std.proofs.Common.{◌≡◌, refl, ap, sym, ◌∙◌, subst, ℕ, ◌⊎◌, inl, inr, Bool, true, false, ◌&&◌, ◌||◌, not, if◌then◌else◌, Option, Some, None, is_some}
 use Rattle.std.specs.Option.{option_map_or}
 use Rattle.std.proofs.lemmas.Bool.{false≢true}
 use Rattle.simplex_types.specs.Proposal.{same_proposal}
-use Rattle.simplex_types.specs.Certificates.{ProposalFacts, NullificationFacts}
 use Rattle.simplex_types.specs.declared.types.messages.Proposal.{Proposal}
 use Rattle.simplex_round.specs.declared.round.Leader.{Leader}
-use Rattle.simplex_round.specs.declared.round.Decision.TheVariants as decision
 use Rattle.simplex_round.specs.Slot.{SlotFacts, after_vote, after_certificate}
-use Rattle.simplex_round.specs.Round.{RoundFacts, is_finalize, signs_as, with_notarization, with_nullification, with_finalization, with_recovered, after_nullify, awaits_retry, with_retry, token_of, after_abort, is_nullify}
-use Rattle.simplex_voter.specs.Certification.{without_token}
-use Rattle.simplex_voter.specs.Verifying.{with_proposal}
+use Rattle.simplex_round.specs.Round.{RoundFacts, signs_as}
 
 -- this member leads the view
 abbrev pub leads_round : {K D : Type 0} → RoundFacts K D → Bool
@@ -105,30 +101,6 @@ module _ {K D : Type 0} (v : ℕ) where
     binding = refl;
   }
 
-  pub calm_token : (r : RoundFacts K D) → Calm v r (without_token r)
-  calm_token r = elim (is_some (token_of r.certification)) as (λ b. Calm v r (cond b (record r { certification = after_abort r.certification }) r)) [
-    | true ↦ calm_alike r _ refl refl refl refl refl
-    | false ↦ calm r
-  ]
-
-  pub calm_nullification : (r : RoundFacts K D) (c : NullificationFacts) → Calm v r (with_nullification r c)
-  calm_nullification r c = elim (is_some r.nullification) as (λ b. Calm v r (if b then r else record r { nullification = Some c })) [
-    | true ↦ calm r
-    | false ↦ calm_alike r _ refl refl refl refl refl
-  ]
-
-  pub calm_nullify : (r : RoundFacts K D) → Calm v r (after_nullify r)
-  calm_nullify r = elim (is_finalize r.decision) as (λ b. Calm v r (if b then r else record r { decision = decision.Nullify None })) [
-    | true ↦ calm r
-    | false ↦ calm_alike r _ refl refl refl refl refl
-  ]
-
-  pub calm_retry : (r : RoundFacts K D) (now interval : ℕ) → Calm v r (with_retry r now interval)
-  calm_retry r now interval = elim (awaits_retry r) as (λ b. Calm v r (if b then record r { decision = decision.Nullify (Some (now + interval)) } else r)) [
-    | true ↦ calm_alike r _ refl refl refl refl refl
-    | false ↦ calm r
-  ]
-
 -- slots
 
 pub record CalmSlot {D : Type 0} (v : ℕ) (s t : SlotFacts D) : Type 0 where
@@ -215,28 +187,3 @@ module _ {D : Type 0} (v : ℕ) where
           verified = λ is. is;
         }
         by_held (Some h) some = other (same_proposal same h p) h some
-
--- certificates and proposals
-
-module _ {K D : Type 0} (same : D → D → Bool) (v : ℕ) (r : RoundFacts K D) where
-  pub calm_notarization : (c : ProposalFacts D) → c.proposal.round.view ≡ v → Calm v r (with_notarization (same_proposal same) r c)
-  calm_notarization c at =
-      let s = after_certificate (same_proposal same) r.slot c.proposal in
-      elim (is_some r.notarization) as (λ b. Calm v r (if b then r else record (with_recovered (same_proposal same) r c.proposal) { notarization = Some c })) [
-        | true ↦ calm v r
-        | false ↦ calm_joined v r (record r { slot = s }) (record r { slot = s; notarization = Some c }) (slot_in_round v r s (certificate_calm v same r.slot c.proposal at)) (calm_alike v (record r { slot = s }) _ refl refl refl refl refl)
-      ]
-
-  pub calm_finalization : (c : ProposalFacts D) → c.proposal.round.view ≡ v → Calm v r (with_finalization (same_proposal same) r c)
-  calm_finalization c at =
-      let s = after_certificate (same_proposal same) r.slot c.proposal in
-      elim (is_some r.finalization) as (λ b. Calm v r (if b then r else record (with_recovered (same_proposal same) r c.proposal) { finalization = Some c })) [
-        | true ↦ calm v r
-        | false ↦ calm_joined v r (record r { slot = s }) (record r { slot = s; finalization = Some c }) (slot_in_round v r s (certificate_calm v same r.slot c.proposal at)) (calm_alike v (record r { slot = s }) _ refl refl refl refl refl)
-      ]
-
-  pub calm_proposal : (p : Proposal D) → p.round.view ≡ v → Calm v r (with_proposal same r p)
-  calm_proposal p at = elim (is_nullify r.decision) as (λ b. Calm v r (if b then r else record r { slot = after_vote (same_proposal same) r.slot p })) [
-    | true ↦ calm v r
-    | false ↦ slot_in_round v r (after_vote (same_proposal same) r.slot p) (voted_calm v same r.slot p at)
-  ]

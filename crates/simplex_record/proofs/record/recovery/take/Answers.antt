@@ -3,8 +3,9 @@ use Rattle.simplex_types.specs.Certificates.{artifact_facts}
 use Rattle.simplex_voter.specs.Facts.{StateFacts}
 use Rattle.simplex_voter.specs.Refusals.{has_late_deadline}
 use Rattle.simplex_record.specs.Recovery.{after_adding, after_replaying, after_verdict_of, GivesVerdict}
-use Rattle.simplex_record.proofs.Going.{still_in_time}
-use Rattle.simplex_record.proofs.Recovery.{added_goes, replayed_goes}
+use Rattle.simplex_record.proofs.Going.{event_goes, still_in_time}
+use Rattle.simplex_record.specs.Events.{Replay}
+use Rattle.simplex_record.proofs.Recovery.{added_goes}
 use Rattle.simplex_record.proofs.record.recovery.take.Goals as goal
 
 pub replay-requires-clause-going_on : goal.replay-requires-clause-going_on
@@ -19,7 +20,7 @@ give-requires-clause-going_on g c =
     let same = g.D.PartialEq.eq in
     let elect = g.L.Elector.elect in
     let goes = added_goes same elect c.args.state.now c.args.now e in
-    let next = replayed_goes same elect (after_adding same elect c.args.state.now c.args.now e) e in
+    let next = event_goes same elect (after_adding same elect c.args.state.now c.args.now e) (Replay e) in
     let is = c.in_ok-replay.ensures.after ∙ ap (λ (y : StateFacts _ _ _). after_replaying same elect y e) c.in_ok-add.ensures.after in
     subst (λ (y : StateFacts _ _ _). y.failed ≡ false) (sym is) (next.failed ∙ goes.failed ∙ c.requires.going_on)
 
@@ -31,7 +32,7 @@ give-requires-clause-in_time g c =
     let y = after_adding same elect c.args.state.now c.args.now e in
     let is = c.in_ok-replay.ensures.after ∙ ap (λ (y : StateFacts _ _ _). after_replaying same elect y e) c.in_ok-add.ensures.after in
     subst (λ (y : StateFacts _ _ _). has_late_deadline y c.args.now ≡ false) (sym is)
-    (still_in_time y (after_replaying same elect y e) c.args.now (replayed_goes same elect y e)
+    (still_in_time y (after_replaying same elect y e) c.args.now (event_goes same elect y (Replay e))
     (still_in_time c.args.state.now y c.args.now (added_goes same elect c.args.state.now c.args.now e) c.requires.in_time))
 
 pub give-requires-clause-allowed : goal.give-requires-clause-allowed

@@ -39,11 +39,11 @@ use Rattle.simplex_voter.proofs.Gaps.{and_parts, not_true}
 use Rattle.simplex_voter.proofs.Rules.{notarize_parts, nullify_parts, finalize_parts}
 use Rattle.simplex_record.specs.Entries.{entry_view}
 use Rattle.simplex_record.specs.Recovery.{after_replaying}
-use Rattle.simplex_laws.specs.Events.{Event, after_event, SetFloor, AddNotarization, AddNullification, AddFinalization, Certified, ConstructNotarize, ConstructNullify, ConstructFinalize, SetProposal, TryPropose, Proposed, Supersede, Release, TryVerify, Verified, VerificationFailed, CertifyCandidates, SetCertifyHandle, TriggerTimeout, NextTimeout, BroadcastNotarization, BroadcastNullification, BroadcastFinalization, Prune, Replay}
-use Rattle.simplex_laws.specs.Sums.{finalized_by_event}
-use Rattle.simplex_laws.proofs.frames.Steps as step
-use Rattle.simplex_laws.proofs.frames.Rounds.{round_put}
-use Rattle.simplex_laws.proofs.frames.Steps.{is_timed, RoundStep, Path, Still, Then, Puts, Moves, Founds, Names, Unnames, Covers, Notes, Reaches, Raises, Scans, Prunes, notarization_by, nullification_by, finalization_by, nullify_by}
+use Rattle.simplex_record.specs.Events.{Event, after_event, SetFloor, AddNotarization, AddNullification, AddFinalization, Certified, ConstructNotarize, ConstructNullify, ConstructFinalize, SetProposal, TryPropose, Proposed, Supersede, Release, TryVerify, Verified, VerificationFailed, CertifyCandidates, SetCertifyHandle, TriggerTimeout, NextTimeout, BroadcastNotarization, BroadcastNullification, BroadcastFinalization, Prune, Replay}
+use Rattle.simplex_record.specs.Events.{finalized_by_event}
+use Rattle.simplex_record.proofs.Steps as step
+use Rattle.simplex_record.proofs.Rounds.{round_put}
+use Rattle.simplex_record.proofs.Steps.{is_timed, RoundStep, Path, Still, Then, Puts, Moves, Founds, Names, Unnames, Covers, Notes, Reaches, Raises, Scans, Prunes, notarization_by, nullification_by, finalization_by, nullify_by}
 
 -- what holds of a view's round and of no new one is of a tracked view
 pub tracked_by : {K L D : Type 0} (x : StateFacts K L D) (v : ℕ) (test : RoundFacts K D → Bool) → test (new_round x.me x.members (round_number x v)) ≡ false → test (round_of x v) ≡ true → is_tracked x v ≡ true
@@ -65,13 +65,13 @@ entered_timed y v now =
     ∙ armed_timed (round_of y v).decision (now + y.settings.leader_timeout) (now + y.settings.certification_timeout)
 
 module _ {K L D : Type 0} {same : D → D → Bool} {elect : Elect L} {low : ℕ} {x : StateFacts K L D} {e : Event K D} {from : StateFacts K L D} where
-  either : (b : Bool) (y z : StateFacts K L D) → (b ≡ true → Path same elect x e low from y) → (b ≡ false → Path same elect x e low from z) → Path same elect x e low from (if b then y else z)
+  pub either : (b : Bool) (y z : StateFacts K L D) → (b ≡ true → Path same elect x e low from y) → (b ≡ false → Path same elect x e low from z) → Path same elect x e low from (if b then y else z)
   either true y z p q = p refl
   either false y z p q = q refl
 
   -- rounds
 
-  put : {y : StateFacts K L D} (v : ℕ) (r : RoundFacts K D) → (low ≤ v) ⊎ (is_tracked y v ≡ true) → RoundStep same elect x e y v (round_of y v) r → Path same elect x e low from y → Path same elect x e low from (with_round y v r)
+  pub put : {y : StateFacts K L D} (v : ℕ) (r : RoundFacts K D) → (low ≤ v) ⊎ (is_tracked y v ≡ true) → RoundStep same elect x e y v (round_of y v) r → Path same elect x e low from y → Path same elect x e low from (with_round y v r)
   put v r may s path = Then path (Puts v r may s)
 
   put_either : {y : StateFacts K L D} (v : ℕ) (b : Bool) (r s : RoundFacts K D) → (low ≤ v) ⊎ (is_tracked y v ≡ true) → (b ≡ true → RoundStep same elect x e y v (round_of y v) r) → (b ≡ false → RoundStep same elect x e y v (round_of y v) s) → Path same elect x e low from y → Path same elect x e low from (with_round y v (if b then r else s))
@@ -113,7 +113,7 @@ module _ {K L D : Type 0} {same : D → D → Bool} {elect : Elect L} {low : ℕ
   to_elected : {y : StateFacts K L D} (v : ℕ) (seed : Option (List ℕ)) → low ≤ v → Path same elect x e low from y → Path same elect x e low from (with_elected_leader elect y v seed)
   to_elected {y} v seed over path = to_led v (elect y.elector (round_number y v) seed) over path
 
-  to_prepared : {y : StateFacts K L D} (v : ℕ) → low ≤ v → Path same elect x e low from y → Path same elect x e low from (with_next_view_ready elect y v)
+  pub to_prepared : {y : StateFacts K L D} (v : ℕ) → low ≤ v → Path same elect x e low from y → Path same elect x e low from (with_next_view_ready elect y v)
   to_prepared {y} v over path =
       let later = with_elected_leader elect y (v + 1) None in
       let own = (round_of y v).notarize_decided && is_elected_early elect y (v + 1) in
@@ -129,7 +129,7 @@ module _ {K L D : Type 0} {same : D → D → Bool} {elect : Elect L} {low : ℕ
       (λ is. (let above : y.current < v = grind (arith, nat_tests) in Then (put v r (inl (over above)) (step.Entered now) path) (Reaches v above (entered_timed y v now))))
       (λ passed. path)
 
-  to_triggered : {y : StateFacts K L D} (v : ℕ) (reason : TimeoutReason) (now : ℕ) → Path same elect x e low from y → Path same elect x e low from (with_timeout y v reason now)
+  pub to_triggered : {y : StateFacts K L D} (v : ℕ) (reason : TimeoutReason) (now : ℕ) → Path same elect x e low from y → Path same elect x e low from (with_timeout y v reason now)
   to_triggered {y} v reason now path =
       let r = with_latch (round_of y v) now reason in
       either (nat_le y.current v && is_tracked y v && not (is_contradicted reason (round_of y v))) (with_round y v r) y
@@ -175,6 +175,10 @@ module _ {K L D : Type 0} {same : D → D → Bool} {elect : Elect L} {low : ℕ
       let v = c.proposal.round.view in
       let r = round_of y v in
       put_either v (is_some r.finalization) r (record (with_recovered (same_proposal same) r c.proposal) { finalization = Some c }) (inl over) (λ set. step.Kept) (λ none. step.Finalized c says refl none) path
+
+  -- from a notarization that stands on
+  pub from_notarized : (c : ProposalFacts D) → low ≤ c.proposal.round.view → Path same elect x e low from (with_notarization_at same elect (with_elected_leader elect x (c.proposal.round.view + 1) (Some c.bytes)) c) → Path same elect x e low from (after_add_notarization same elect x c)
+  from_notarized c over path = either (is_some (round_of x c.proposal.round.view).notarization) _ _ (λ old. path) (λ new. to_slid c.proposal.round.view over (to_named c.proposal.round.view path))
 
   -- from the entry of the next view on
   pub from_entry : (c : ProposalFacts D) (now : ℕ) → finalization_by e ≡ Some c → low ≤ c.proposal.round.view → Path same elect x e low from (with_view_entered (with_finalized_view (at_moment x now) c.proposal.round.view) (c.proposal.round.view + 1) now) → Path same elect x e low from (after_add_finalization same elect x c now)
@@ -235,7 +239,7 @@ module _ {K L D : Type 0} (same : D → D → Bool) (elect : Elect L) (low : ℕ
   abbrev To : Event K D → StateFacts K L D → Type 0
   To e y = Path same elect x e low x y
 
-  moved : (e : Event K D) (now : ℕ) → To e (at_moment x now)
+  pub moved : (e : Event K D) (now : ℕ) → To e (at_moment x now)
   moved e now = Then Still (Moves now)
 
   floor_path : (floor : FloorFacts D) (now : ℕ) → AskedFrom low x (SetFloor floor now) → To (SetFloor floor now) (after_set_floor same elect x floor now)
@@ -243,10 +247,7 @@ module _ {K L D : Type 0} (same : D → D → Bool) (elect : Elect L) (low : ℕ
   floor_path (FinalizedFloor c) now over = put c.proposal.round.view _ (inl over) step.SentFinalization (to_finalization c now refl refl over Still)
 
   notarization_path : (c : ProposalFacts D) → low ≤ c.proposal.round.view → To (AddNotarization c) (after_add_notarization same elect x c)
-  notarization_path c over =
-      let v = c.proposal.round.view in
-      let kept : To (AddNotarization c) (with_notarization_at same elect (with_elected_leader elect x (v + 1) (Some c.bytes)) c) = to_notarized c refl over (to_elected (v + 1) (Some c.bytes) (omega arith) Still) in
-      either (is_some (round_of x v).notarization) _ _ (λ old. kept) (λ new. to_slid v over (to_named v kept))
+  notarization_path c over = from_notarized c over (to_notarized c refl over (to_elected (c.proposal.round.view + 1) (Some c.bytes) (omega arith) Still))
 
   nullification_path : (c : NullificationFacts) (now : ℕ) → low ≤ c.round.view → low ≤ next_term_start x.terms.term_length c.round.view → To (AddNullification c now) (after_add_nullification elect x c now)
   nullification_path c now over above =
@@ -280,19 +281,19 @@ module _ {K L D : Type 0} (same : D → D → Bool) (elect : Elect L) (low : ℕ
       decides : is_some (round_of x v).notarization ≡ true → is_pending (round_of x v).decision ≡ true → To (ConstructFinalize v) (finalize_cast x v)
       decides notarized pending = put v _ (inr (tracked_by x v (λ r. is_some r.notarization) refl notarized)) (step.FinalizeDecided refl (λ _. no_nullify (round_of x v).decision pending)) Still
 
-  notarize_path : (v : ℕ) → (is_tracked x v ≡ true → low ≤ v) → To (ConstructNotarize v) (after_construct_notarize same elect x v)
+  pub notarize_path : (v : ℕ) → (is_tracked x v ≡ true → low ≤ v) → To (ConstructNotarize v) (after_construct_notarize same elect x v)
   notarize_path v known = either (may_notarize same elect x v) _ x (λ may. decides may (tracked_by x v (λ r. is_verified_slot r.slot) refl (notarize_parts same elect x v may).verified)) (λ barred. Still)
     where
       decides : may_notarize same elect x v ≡ true → is_tracked x v ≡ true → To (ConstructNotarize v) (with_next_view_ready elect (with_round x v (record (round_of x v) { notarize_decided = true })) v)
       decides may there = to_prepared v (known there) (put v _ (inr there) (step.NotarizeDecided refl may) Still)
 
-  proposal_path : (v : ℕ) (p : Proposal D) → low ≤ v → To (SetProposal v p) (after_set_proposal same elect x v p)
+  pub proposal_path : (v : ℕ) (p : Proposal D) → low ≤ v → To (SetProposal v p) (after_set_proposal same elect x v p)
   proposal_path v p over =
       let y = with_next_view_ready elect x v in
       let r = round_of y v in
       put_either v (is_nullify r.decision) r (record r { slot = after_vote (same_proposal same) r.slot p }) (inl over) (λ given_up. step.Kept) (λ free. step.Heard p refl free) (to_prepared v over Still)
 
-  build_path : (e : Event K D) (v : ℕ) (requested : Bool) → To e (with_build x v requested)
+  pub build_path : (e : Event K D) (v : ℕ) (requested : Bool) → To e (with_build x v requested)
   build_path e v requested = put_tracked v _ (step.Asked requested) Still
 
   propose_path : (request : Option (ProposalRequest D K)) → To TryPropose (option_map_or (λ r. with_build x (request_context r).round.view true) request x)
@@ -322,10 +323,10 @@ module _ {K L D : Type 0} (same : D → D → Bool) (elect : Elect L) (low : ℕ
       let m = moved (VerificationFailed v reason now) now in
       either (binding_matches same elect x v) (with_timeout (at_moment x now) v reason now) (without_binding (at_moment x now) v) (λ bound. to_triggered v reason now m) (λ loose. put_tracked v _ (step.Unbound refl) m)
 
-  handle_path : (v token : ℕ) → To (SetCertifyHandle v token) (after_set_certify_handle x v token)
+  pub handle_path : (v token : ℕ) → To (SetCertifyHandle v token) (after_set_certify_handle x v token)
   handle_path v token = put_tracked v _ (step.Certifying token refl (λ takes. handle_fits x v takes)) Still
 
-  polled_path : (now : ℕ) → To (NextTimeout now) (with_tracked (at_moment x now) x.current (round_with_retry x now))
+  pub polled_path : (now : ℕ) → To (NextTimeout now) (with_tracked (at_moment x now) x.current (round_with_retry x now))
   polled_path now =
       let r = round_of x x.current in
       put_tracked_either x.current (awaits_retry r) (record r { decision = decision.Nullify (Some (now + x.settings.timeout_retry)) }) r (λ awaits. step.Retried now x.settings.timeout_retry refl awaits) (λ none. step.Kept) (moved (NextTimeout now) now)

@@ -27,8 +27,8 @@ use Rattle.simplex_voter.specs.Verifying.{standing, verifying_round, with_reques
 use Rattle.simplex_voter.specs.declared.voter.verify.Standing.TheVariants.{Ready}
 use Rattle.simplex_voter.specs.Serving.{after_prune}
 use Rattle.simplex_voter.specs.Replay.{restored_binding}
-use Rattle.simplex_laws.specs.Events.{Event, IsEvent, SetFloor, AddNotarization, AddNullification, AddFinalization, Certified, ConstructNotarize, ConstructNullify, ConstructFinalize, SetProposal, Proposed, TryVerify, Verified, VerificationFailed, SetCertifyHandle, NextTimeout, Replay}
-use Rattle.simplex_laws.specs.Sums.{covers_from, finalized_by_event, is_prune}
+use Rattle.simplex_record.specs.Events.{Event, IsEvent, SetFloor, AddNotarization, AddNullification, AddFinalization, Certified, ConstructNotarize, ConstructNullify, ConstructFinalize, SetProposal, Proposed, TryVerify, Verified, VerificationFailed, SetCertifyHandle, NextTimeout, Replay}
+use Rattle.simplex_record.specs.Events.{covers_from, finalized_by_event, is_prune}
 
 -- what an event brings
 
