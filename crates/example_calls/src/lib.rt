@@ -1,6 +1,7 @@
 //! Callers of a member, proved by its contracts alone: what one answered call says of the next.
 #![tactic(auto)]
 
+pub mod failed;
 pub mod lawful;
 
 ghost use Rattle.std.specs.Prelude.{◌≡◌, ◌++◌, OnOk, IfOk, IfSome, IsNone};

@@ -174,5 +174,5 @@ impl<C: Copy + PartialEq> Batcher<C> {
 fn is_admitted(state: &CoreState, view: View) -> bool
     ensures { IsTrue result ↔ IsTrue (is_started state.now && admits_vote state.now view) }
 {
-    !state.current_view().is_zero() && state.admits_vote(view)
+    state.admits_vote(view)
 }

@@ -1,5 +1,5 @@
 -- The rules that an engine's settings keep, in the order in which they are tested.
-use Rattle.std.specs.Prelude.{ℕ, Bool, false, not, ◌==◌, nat_le, if◌then◌else◌, List, [], ◌∷◌, Option, Some, None, codes}
+use Rattle.std.specs.Prelude.{ℕ, Bool, true, false, not, ◌==◌, nat_le, if◌then◌else◌, List, [], ◌∷◌, Option, Some, None, codes}
 use Rattle.simplex_types.specs.declared.types.messages.Subject.{Subject}
 use Rattle.simplex_types.specs.declared.types.messages.Subject.TheVariants as subject
 use Rattle.simplex_types.specs.declared.config.SkipBudget.{SkipBudget}
@@ -27,6 +27,11 @@ is_at_or_below (skip.Enabled skip_timeout _) timeout = nat_le skip_timeout timeo
 abbrev pub floor_view : {S D K G C : Type 0} → Floor S D K G C → ℕ
 floor_view (floor.Genesis _) = 0
 floor_view (floor.Finalized f) = f.proposal.round.view
+
+-- the floor is a finalization, not genesis
+abbrev pub is_finalization : {S D K G C : Type 0} → Floor S D K G C → Bool
+is_finalization (floor.Genesis _) = false
+is_finalization (floor.Finalized _) = true
 
 -- what contracts know of a floor
 pub data FloorFacts (D : Type 0) : Type 0 where

@@ -1,7 +1,7 @@
 //! The policies of an engine, the point that it starts from, and the check of its settings.
 
-ghost use Rattle.std.specs.Prelude.{◌≡◌, ◌≢◌, ◌↔◌, ◌<◌, ◌^◌, IsTrue, IfOk, IsOkUnless, MatchOption, Ok, Err, length};
-ghost use Rattle.simplex_types.specs.Config.{skip_budget, floor_view, floor_facts, is_at_or_below, first_broken_rule, first_broken_floor_rule, config_error_name};
+ghost use Rattle.std.specs.Prelude.{◌≡◌, ◌≢◌, ◌↔◌, ◌<◌, ◌^◌, true, IsTrue, IfOk, OnErr, IsOkUnless, MatchOption, Ok, Err, length};
+ghost use Rattle.simplex_types.specs.Config.{skip_budget, floor_view, is_finalization, floor_facts, is_at_or_below, first_broken_rule, first_broken_floor_rule, config_error_name};
 ghost use Rattle.simplex_types.specs.declared.config.ForwardPolicy.TheVariants.{Disabled as ForwardDisabled};
 
 use crate::types::{
@@ -105,10 +105,12 @@ impl<S: CertificateScheme, D: Digest> Floor<S, D> {
         }
     }
 
-    /// A copy, with the same payload or proposal and the same certificate bytes. The only fault is `OutOfMemory`.
+    /// A copy, with the same payload or proposal and the same certificate bytes. The only fault is `OutOfMemory`, and a
+    /// copy of genesis takes none.
     pub fn clone(&self, alloc: Global) -> Result<Self, Fault>
         ensures same { IfOk result (λ floor. floor_facts S.certificate_bytes floor ≡ floor_facts S.certificate_bytes self.now) }
         ensures refused { IsOkUnless result Fault.OutOfMemory }
+        ensures refused_only_a_finalization { OnErr result (is_finalization self.now ≡ true) }
     {
         Ok(match self {
             Floor::Genesis(payload) => Floor::Genesis(*payload),

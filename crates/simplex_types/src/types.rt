@@ -14,7 +14,7 @@ pub use messages::{
     Artifact, Certificate, Context, Finalization, Finalize, Notarization, Notarize, Nullification,
     Nullify, Proposal, Subject,
 };
-pub use numbers::{Epoch, Participant, Round, TermLength, View, ViewDelta};
+pub use numbers::{Epoch, LARGEST_VIEW, Participant, Round, TermLength, View, ViewDelta};
 pub use scheme::{CertificateScheme, Digest, Elector, PublicKey, Scheme};
 pub use viewable::Viewable;
 pub use window::{Lookahead, Terms, Viewport};

@@ -1,5 +1,5 @@
 -- Changes of a round that keep for whom it was made, its notarization and its leader, and mostly make nothing of it that is searched for.
-use Rattle.std.proofs.Common.{◌≡◌, ℕ, ◌+◌, ◌≤◌, Bool, true, false, cond, Option, Some, None, Result, Ok, Err, OnOk, OnErr, is_some, ◌||◌, ◌⊎◌, inl, inr, refl, sym}
+use Rattle.std.proofs.Common.{◌≡◌, ℕ, ◌+◌, ◌≤◌, Bool, true, false, cond, Option, Some, None, Result, Ok, Err, OnOk, OnErr, is_some, ◌||◌, ◌⊎◌, inl, inr, refl}
 use Rattle.std.proofs.lemmas.Bool.{false≢true}
 use Rattle.simplex_types.specs.Proposal.{same_proposal}
 use Rattle.simplex_types.specs.declared.types.messages.Proposal.{Proposal}

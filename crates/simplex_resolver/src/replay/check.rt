@@ -8,11 +8,8 @@ ghost use Rattle.simplex_resolver.specs.RecordRules.{view_error, proposal_error,
 
 use super::error::ReplayError;
 use simplex_types::types::{
-    Artifact, CertificateScheme, Digest, Notarization, Proposal, View, Viewable,
+    Artifact, CertificateScheme, Digest, LARGEST_VIEW, Notarization, Proposal, View, Viewable,
 };
-
-/// The largest view that a certificate names.
-const LARGEST_VIEW: u64 = (1 << 63) - 1;
 
 /// Tests the entries one after another.
 pub(super) fn check_entries<S: CertificateScheme, D: Digest>(

@@ -16,14 +16,11 @@ use bytes::Bytes;
 use simplex_sorted::by_term::ByTerm;
 use simplex_sorted::tracked::Tracked;
 use simplex_types::types::{
-    Certificate, CertificateScheme, Digest, Fault, Notarization, Proposal, TermLength, View,
-    Viewable,
+    Certificate, CertificateScheme, Digest, Fault, LARGEST_VIEW, Notarization, Proposal,
+    TermLength, View, Viewable,
 };
 use std::alloc::Global;
 use std::marker::Model;
-
-/// The largest view that a certificate names.
-const LARGEST_VIEW: u64 = 0x7fff_ffff_ffff_ffff;
 
 /// The certificates that a resolver keeps and serves, and how far their repair has come.
 #[derive(Drop)]

@@ -9,6 +9,9 @@ use std::marker::Model;
 use std::num::NonZeroU32;
 use std::ops::RangeInclusive;
 
+/// No certificate, proposal or artifact may name a view above this one.
+pub const LARGEST_VIEW: u64 = (1 << 63) - 1;
+
 /// A view: 0 is genesis, and the views from 1 on stand in terms.
 #[derive(Clone, Copy, PartialEq, Eq, PartialOrd, Ord, Debug)]
 pub struct View {

@@ -1,6 +1,6 @@
 //! Certificates that are handed out: each once to be broadcast, and the one that helps others into the current view.
 
-ghost use Rattle.std.specs.Prelude.{◌≡◌, IfSome, IfOk, IfErr, Err, None, true, option_map, OnOk, OnErr, is_some};
+ghost use Rattle.std.specs.Prelude.{◌≡◌, ◌||◌, IfSome, IfOk, IfErr, Err, None, true, option_map, OnOk, OnErr, is_some};
 ghost use Rattle.std.specs.Option.{option_copied};
 ghost use Rattle.simplex_types.specs.Certificates.{certificate_facts, nullification_facts, notarization_facts, finalization_facts};
 ghost use Rattle.simplex_types.specs.declared.types.fault.Fault.TheVariants.{OutOfMemory};
@@ -19,12 +19,13 @@ impl<S: CertificateScheme, L: Elector<S>, D: Digest> State<S, L, D> {
     /// A copy of the certificate that helps others into the current view: of the view before the finalization, else at a
     /// term's start the last term's highest nullification where it is held there, else the notarization. None in view 1.
     ///
-    /// The state has a floor. Nothing changes, so a call that finds no memory can be asked again.
+    /// The state has a floor. Memory is taken for a copy alone. Nothing changes, so a call that finds none can be asked again.
     pub fn get_best_certificate(&self) -> Result<Option<Certificate<S, D>>, Fault>
-        requires { is_started self.now ≡ true }
+        requires { (self.now.failed || is_started self.now) ≡ true }
         ensures refused { IfSome (plain_refusal self.now) (λ fault. result ≡ Err fault) }
         ensures answer { IfOk result (λ answer. option_map (certificate_facts S.certificate_bytes) answer ≡ best_certificate self.now) }
         ensures out_of_memory { plain_refusal self.now ≡ None → IfErr result (λ fault. fault ≡ OutOfMemory) }
+        ensures refused_only_a_copy { plain_refusal self.now ≡ None → OnErr result (is_some (best_certificate self.now) ≡ true) }
     {
         if self.is_failed() {
             return Err(Fault::Failed);
@@ -39,6 +40,7 @@ impl<S: CertificateScheme, L: Elector<S>, D: Digest> State<S, L, D> {
     fn entry_certificate(&self, view: View) -> Result<Option<Certificate<S, D>>, Fault>
         ensures answer { IfOk result (λ answer. option_map (certificate_facts S.certificate_bytes) answer ≡ entry_certificate self.now view) }
         ensures refused { IfErr result (λ fault. fault ≡ OutOfMemory) }
+        ensures refused_only_a_copy { OnErr result (is_some (entry_certificate self.now view) ≡ true) }
     {
         if let Some(finalization) = self.finalization(view) {
             let copy = finalization.clone(self.alloc)?;
@@ -84,7 +86,7 @@ impl<S: CertificateScheme, L: Elector<S>, D: Digest> State<S, L, D> {
         &mut self,
         view: View,
     ) -> Result<Option<Notarization<S, D>>, Fault>
-        requires { is_started self.old ≡ true }
+        requires { (self.old.failed || is_started self.old) ≡ true }
         ensures refused { IfSome (plain_refusal self.old) (λ fault. (result ≡ Err fault) × (self.new ≡ self.old)) }
         ensures answer { IfOk result (λ c. option_map (notarization_facts S.certificate_bytes) c ≡ broadcast_notarization_answer self.old view) }
         ensures after { OnOk result (self.new ≡ after_broadcast_notarization self.old view) }
@@ -107,7 +109,7 @@ impl<S: CertificateScheme, L: Elector<S>, D: Digest> State<S, L, D> {
     ///
     /// The state has a floor. Memory is taken for a copy alone, so nothing that is not handed out finds none.
     pub fn broadcast_nullification(&mut self, view: View) -> Result<Option<Nullification<S>>, Fault>
-        requires { is_started self.old ≡ true }
+        requires { (self.old.failed || is_started self.old) ≡ true }
         ensures refused { IfSome (plain_refusal self.old) (λ fault. (result ≡ Err fault) × (self.new ≡ self.old)) }
         ensures answer { IfOk result (λ c. option_map (nullification_facts S.certificate_bytes) c ≡ broadcast_nullification_answer self.old view) }
         ensures after { OnOk result (self.new ≡ after_broadcast_nullification self.old view) }
@@ -133,7 +135,7 @@ impl<S: CertificateScheme, L: Elector<S>, D: Digest> State<S, L, D> {
         &mut self,
         view: View,
     ) -> Result<Option<Finalization<S, D>>, Fault>
-        requires { is_started self.old ≡ true }
+        requires { (self.old.failed || is_started self.old) ≡ true }
         ensures refused { IfSome (plain_refusal self.old) (λ fault. (result ≡ Err fault) × (self.new ≡ self.old)) }
         ensures answer { IfOk result (λ c. option_map (finalization_facts S.certificate_bytes) c ≡ broadcast_finalization_answer self.old view) }
         ensures after { OnOk result (self.new ≡ after_broadcast_finalization self.old view) }

@@ -1,7 +1,7 @@
 //! The views that wait for certification: what each waits for, what is offered of them and what they have to fetch, and the
 //! certifications that are under way, each known by the token of its request.
 
-ghost use Rattle.std.specs.Prelude.{◌≡◌, ◌≤◌, IfErr, OnOk, ◌&&◌, is_none, ◌++◌, [], IfSome, IfOk, Err, None, true, false, not};
+ghost use Rattle.std.specs.Prelude.{◌≡◌, ◌||◌, ◌≤◌, IfErr, OnOk, ◌&&◌, is_none, ◌++◌, [], IfSome, IfOk, Err, None, true, false, not};
 ghost use Rattle.std.specs.FinMap as map;
 ghost use Rattle.simplex_types.specs.declared.types.fault.Fault.TheVariants.{OutOfMemory};
 ghost use Rattle.std.specs.List.{filter_map, cons_option};
@@ -153,7 +153,7 @@ impl<S: CertificateScheme, L: Elector<S>, D: Digest> State<S, L, D> {
     /// or given up, once what it requires is certified. A notarization is fetched where what a held proposal requires is
     /// neither certified nor notarized, and its parent may still be built on. The state has a floor.
     pub fn certify_candidates(&mut self) -> Result<(Vec<Proposal<D>>, Vec<CertificateFetch>), Fault>
-        requires { is_started self.old ≡ true }
+        requires { (self.old.failed || is_started self.old) ≡ true }
         ensures refused { IfSome (plain_refusal self.old) (λ fault. (result ≡ Err fault) × (self.new ≡ self.old)) }
         ensures answer { IfOk result (λ answer. (answer.0.items, answer.1.items) ≡ candidates_answer D.eq L.elect self.old) }
         ensures after { OnOk result (self.new ≡ after_candidates self.old) }
@@ -210,7 +210,7 @@ impl<S: CertificateScheme, L: Elector<S>, D: Digest> State<S, L, D> {
     ///
     /// The state has a floor, and the view has no verdict.
     pub fn set_certify_handle(&mut self, view: View, token: u64) -> Result<(), Fault>
-        requires { takes_certify_handle self.old view ≡ true }
+        requires { (self.old.failed || takes_certify_handle self.old view) ≡ true }
         ensures refused { IfSome (plain_refusal self.old) (λ fault. (result ≡ Err fault) × (self.new ≡ self.old)) }
         ensures after { OnOk result (self.new ≡ after_set_certify_handle self.old view token) }
         ensures taken { plain_refusal self.old ≡ None → IsOk result }

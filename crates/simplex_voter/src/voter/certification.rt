@@ -1,6 +1,6 @@
 //! Verdicts of certifications, and the views that wait for them.
 
-ghost use Rattle.std.specs.Prelude.{◌≡◌, ◌↔◌, ◌+◌, ◌<◌, ◌^◌, ◌&&◌, IsTrue, IsNone, IfSome, IfOk, IfErr, OnOk, Err, None, true, false, is_some, nat_lt, option_map};
+ghost use Rattle.std.specs.Prelude.{◌≡◌, ◌||◌, ◌↔◌, ◌+◌, ◌<◌, ◌^◌, ◌&&◌, IsTrue, IsNone, IfSome, IfOk, IfErr, OnOk, Err, None, true, false, is_some, nat_lt, option_map};
 ghost use Rattle.std.specs.Option.{option_map_or};
 ghost use Rattle.simplex_types.specs.Certificates.{notarization_facts};
 ghost use Rattle.simplex_types.specs.declared.types.fault.Fault.TheVariants.{OutOfMemory};
@@ -29,7 +29,7 @@ impl<S: CertificateScheme, L: Elector<S>, D: Digest> State<S, L, D> {
         success: bool,
         now: u64,
     ) -> Result<Option<Notarization<S, D>>, Fault>
-        requires { takes_verdict self.old view success ≡ true }
+        requires { (self.old.failed || takes_verdict self.old view success) ≡ true }
         ensures refused { IfSome (certified_refusal self.old view success now) (λ fault. (result ≡ Err fault) × (self.new ≡ self.old)) }
         ensures answer { IfOk result (λ answer. option_map (notarization_facts S.certificate_bytes) answer ≡ certified_answer self.old view) }
         ensures after { OnOk result (self.new ≡ after_certified L.elect self.old view success now) }

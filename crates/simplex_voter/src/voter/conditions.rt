@@ -7,11 +7,11 @@ ghost use Rattle.simplex_types.specs.Viewed.{artifact_view};
 ghost use Rattle.simplex_round.specs.Round.{is_judged, TakesArtifact};
 ghost use Rattle.simplex_voter.specs.Replay.{artifact_round};
 
-use super::state::{LARGEST_VIEW, State};
+use super::state::State;
 use simplex_round::round::{Certification, Decision, Round};
 use simplex_types::types;
 use simplex_types::types::{
-    Artifact, CertificateScheme, Digest, Elector, Proposal, View, Viewable,
+    Artifact, CertificateScheme, Digest, Elector, LARGEST_VIEW, Proposal, View, Viewable,
 };
 
 /// Whether a proposal's view or its parent's is above 2^63 - 1.

@@ -1,6 +1,6 @@
 //! Finalizations of proposals, and what each ends: the work at its view and below.
 
-ghost use Rattle.std.specs.Prelude.{◌≡◌, ◌<◌, ◌^◌, ◌+◌, IfSome, IfOk, IfErr, OnOk, Err, Some, None, true, nat_lt};
+ghost use Rattle.std.specs.Prelude.{◌≡◌, ◌||◌, ◌<◌, ◌^◌, ◌+◌, IfSome, IfOk, IfErr, OnOk, Err, Some, None, true, nat_lt};
 ghost use Rattle.simplex_types.specs.Terms.{IsVotable};
 ghost use Rattle.simplex_types.specs.Certificates.{finalization_facts};
 ghost use Rattle.simplex_types.specs.declared.types.fault.Fault.TheVariants.{OutOfMemory};
@@ -45,7 +45,7 @@ impl<S: CertificateScheme, L: Elector<S>, D: Digest> State<S, L, D> {
         finalization: Finalization<S, D>,
         now: u64,
     ) -> Result<(bool, Option<S::PublicKey>), Fault>
-        requires { takes_proposal_certificate self.old (finalization_facts S.certificate_bytes finalization) ≡ true }
+        requires { (self.old.failed || takes_proposal_certificate self.old (finalization_facts S.certificate_bytes finalization)) ≡ true }
         ensures refused { IfSome (finalization_refusal self.old finalization.proposal now) (λ fault. (result ≡ Err fault) × (self.new ≡ self.old)) }
         ensures added { IfOk result (λ added. added ≡ finalization_added D.eq L.elect self.old (finalization_facts S.certificate_bytes finalization)) }
         ensures after { OnOk result (self.new ≡ after_add_finalization D.eq L.elect self.old (finalization_facts S.certificate_bytes finalization) now) }

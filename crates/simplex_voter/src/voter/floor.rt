@@ -1,6 +1,6 @@
 //! Where a state starts: at genesis, or above a finalization.
 
-ghost use Rattle.std.specs.Prelude.{◌≡◌, ◌≤◌, ◌+◌, IfSome, IfOk, IfErr, OnOk, Err, Some, None, true, nat_lt, option_map};
+ghost use Rattle.std.specs.Prelude.{◌≡◌, ◌||◌, ◌==◌, nat_le, ◌+◌, IfSome, IfOk, IfErr, OnOk, Err, Some, None, true, nat_lt, option_map};
 ghost use Rattle.simplex_types.specs.Terms.{IsVotable};
 ghost use Rattle.simplex_types.specs.Certificates.{finalization_facts};
 ghost use Rattle.simplex_voter.specs.Replay.{artifact_finalization};
@@ -22,9 +22,10 @@ impl<S: CertificateScheme, L: Elector<S>, D: Digest> State<S, L, D> {
     /// Starts at genesis: its payload is known, and view 1 is entered at the moment `now`, in milliseconds, and led by
     /// the elector's choice.
     ///
-    /// It is for a state without a floor. `TimeOverflow` where a deadline of view 1 passes 2^64 - 1.
+    /// It is for a state without a floor, or one that has failed. `TimeOverflow` where a deadline of view 1 passes
+    /// 2^64 - 1.
     pub fn set_genesis(&mut self, payload: D, now: u64) -> Result<(), Fault>
-        requires { self.old.current ≡ 0 }
+        requires { (self.old.failed || self.old.current == 0) ≡ true }
         ensures refused { IfSome (floor_refusal self.old (Genesis payload) now) (λ fault. (result ≡ Err fault) × (self.new ≡ self.old)) }
         ensures after { OnOk result (self.new ≡ after_set_genesis L.elect self.old payload now) }
         ensures out_of_memory { floor_refusal self.old (Genesis payload) now ≡ None
@@ -62,15 +63,15 @@ impl<S: CertificateScheme, L: Elector<S>, D: Digest> State<S, L, D> {
     /// Starts at a floor: at genesis as `set_genesis` does; above a finalization as `add_finalization` takes it, where it
     /// counts as handed out. Answers that finalization; none for genesis.
     ///
-    /// It is for a state without a floor. A finalization is of this epoch, and not of view 0. `ViewTooLarge` where its
-    /// view or its parent's is above 2^63 - 1, `TimeOverflow` where a deadline of the view that would be entered passes
-    /// 2^64 - 1 milliseconds.
+    /// It is for a state without a floor, or one that has failed. A finalization is of this epoch, and not of view 0.
+    /// `ViewTooLarge` where its view or its parent's is above 2^63 - 1, `TimeOverflow` where a deadline of the view that
+    /// would be entered passes 2^64 - 1 milliseconds.
     pub fn set_floor(
         &mut self,
         floor: Floor<S, D>,
         now: u64,
     ) -> Result<Option<Finalization<S, D>>, Fault>
-        requires { takes_floor self.old (floor_facts S.certificate_bytes floor) ≡ true }
+        requires { (self.old.failed || takes_floor self.old (floor_facts S.certificate_bytes floor)) ≡ true }
         ensures refused { IfSome (floor_refusal self.old (floor_facts S.certificate_bytes floor) now)
             (λ fault. (result ≡ Err fault) × (self.new ≡ self.old)) }
         ensures answer { IfOk result (λ answer.
@@ -93,7 +94,7 @@ impl<S: CertificateScheme, L: Elector<S>, D: Digest> State<S, L, D> {
         finalization: Finalization<S, D>,
         now: u64,
     ) -> Result<Option<Finalization<S, D>>, Fault>
-        requires { 1 ≤ finalization.proposal.round.view }
+        requires { (self.old.failed || nat_le 1 finalization.proposal.round.view) ≡ true }
         ensures refused { IfSome (finalization_refusal self.old finalization.proposal now) (λ fault. (result ≡ Err fault) × (self.new ≡ self.old)) }
         ensures answer { IfOk result (λ answer.
             option_map (finalization_facts S.certificate_bytes) answer ≡ Some (finalization_facts S.certificate_bytes finalization)) }

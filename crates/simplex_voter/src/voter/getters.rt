@@ -58,13 +58,14 @@ impl<S: CertificateScheme, L: Elector<S>, D: Digest> State<S, L, D> {
         self.viewport().admits_certificate(view)
     }
 
-    /// Whether a vote of the view is taken: the view is not genesis, is kept, and is not above the next term's start.
-    ///
-    /// The state has a floor.
+    /// Whether a vote of the view is taken: a floor was set, and the view is not genesis, is kept, and is not above the
+    /// next term's start.
     pub fn admits_vote(&self, view: View) -> bool
-        requires { is_started self.now ≡ true }
-        ensures { IsTrue result ↔ IsTrue (admits_vote self.now view) }
+        ensures { IsTrue result ↔ IsTrue (is_started self.now && admits_vote self.now view) }
     {
+        if self.current.is_zero() {
+            return false;
+        }
         let next = self
             .current
             .next_term_start(self.elector.terms().term_length);

@@ -1,6 +1,6 @@
 //! Notarizations of proposals.
 
-ghost use Rattle.std.specs.Prelude.{◌≡◌, IfSome, IfOk, IfErr, OnOk, Err, None, true};
+ghost use Rattle.std.specs.Prelude.{◌≡◌, ◌||◌, IfSome, IfOk, IfErr, OnOk, Err, None, true};
 ghost use Rattle.simplex_types.specs.Terms.{IsVotable};
 ghost use Rattle.simplex_types.specs.Certificates.{notarization_facts};
 ghost use Rattle.simplex_types.specs.declared.types.fault.Fault.TheVariants.{OutOfMemory};
@@ -23,7 +23,7 @@ impl<S: CertificateScheme, L: Elector<S>, D: Digest> State<S, L, D> {
         &mut self,
         notarization: Notarization<S, D>,
     ) -> Result<(bool, Option<S::PublicKey>), Fault>
-        requires { takes_proposal_certificate self.old (notarization_facts S.certificate_bytes notarization) ≡ true }
+        requires { (self.old.failed || takes_proposal_certificate self.old (notarization_facts S.certificate_bytes notarization)) ≡ true }
         ensures refused { IfSome (notarization_refusal self.old (notarization_facts S.certificate_bytes notarization))
             (λ fault. (result ≡ Err fault) × (self.new ≡ self.old)) }
         ensures added { IfOk result (λ added. added ≡ notarization_added D.eq L.elect self.old (notarization_facts S.certificate_bytes notarization)) }

@@ -1,6 +1,6 @@
 //! This member's votes to notarize.
 
-ghost use Rattle.std.specs.Prelude.{◌≡◌, ◌≤◌, ◌<◌, IfSome, IfOk, IfErr, OnOk, Err, None, true, option_map};
+ghost use Rattle.std.specs.Prelude.{◌≡◌, ◌||◌, ◌≤◌, ◌<◌, IfSome, IfOk, IfErr, OnOk, Err, None, true, option_map};
 ghost use Rattle.simplex_types.specs.declared.types.fault.Fault.TheVariants.{OutOfMemory};
 ghost use Rattle.simplex_round.specs.Round.{can_notarize};
 ghost use Rattle.simplex_voter.specs.Rounds.{largest_tracked};
@@ -27,7 +27,7 @@ impl<S: CertificateScheme, L: Elector<S>, D: Digest> State<S, L, D> {
     pub fn construct_notarize(&mut self, view: View) -> Result<Option<Notarize<S, D>>, Fault>
     where
         S: Scheme<D>,
-        requires { is_started self.old ≡ true }
+        requires { (self.old.failed || is_started self.old) ≡ true }
         ensures refused { IfSome (plain_refusal self.old) (λ fault. (result ≡ Err fault) × (self.new ≡ self.old)) }
         ensures vote { IfOk result (λ vote. option_map (λ v. v.proposal) vote ≡ notarize_answer D.eq L.elect self.old view) }
         ensures signed { IfOk result (λ vote. IfSome vote (IsSignedNotarize S.IsSignature self.old)) }

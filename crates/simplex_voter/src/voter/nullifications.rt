@@ -1,15 +1,15 @@
 //! Nullifications of views.
 
-ghost use Rattle.std.specs.Prelude.{◌≡◌, ◌≤◌, IfSome, IfOk, IfErr, OnOk, Err, None, true, nat_lt};
+ghost use Rattle.std.specs.Prelude.{◌≡◌, ◌||◌, ◌≤◌, IfSome, IfOk, IfErr, OnOk, Err, None, true, nat_lt};
 ghost use Rattle.simplex_types.specs.Terms.{IsVotable, next_term_start};
 ghost use Rattle.simplex_types.specs.Certificates.{nullification_facts};
 ghost use Rattle.simplex_types.specs.declared.types.fault.Fault.TheVariants.{OutOfMemory};
 
 use super::candidates::note_view;
 use super::rounds::Deadlines;
-use super::state::{LARGEST_VIEW, State};
+use super::state::State;
 use simplex_types::types::{
-    CertificateScheme, Digest, Elector, Fault, Nullification, View, Viewable,
+    CertificateScheme, Digest, Elector, Fault, LARGEST_VIEW, Nullification, View, Viewable,
 };
 
 impl<S: CertificateScheme, L: Elector<S>, D: Digest> State<S, L, D> {
@@ -28,7 +28,7 @@ impl<S: CertificateScheme, L: Elector<S>, D: Digest> State<S, L, D> {
         nullification: Nullification<S>,
         now: u64,
     ) -> Result<bool, Fault>
-        requires { takes_nullification self.old (nullification_facts S.certificate_bytes nullification) ≡ true }
+        requires { (self.old.failed || takes_nullification self.old (nullification_facts S.certificate_bytes nullification)) ≡ true }
         ensures refused { IfSome (nullification_refusal self.old (nullification_facts S.certificate_bytes nullification) now)
             (λ fault. (result ≡ Err fault) × (self.new ≡ self.old)) }
         ensures added { IfOk result (λ added. added ≡ nullification_added self.old (nullification_facts S.certificate_bytes nullification)) }

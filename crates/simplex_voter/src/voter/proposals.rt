@@ -1,6 +1,6 @@
 //! Proposals, as their views take them: of leaders, and those that this member builds, recorded, superseded or given up.
 
-ghost use Rattle.std.specs.Prelude.{◌≡◌, ◌≤◌, IfSome, IfOk, IfErr, OnOk, Err, None, true, ◌&&◌, not, false, if◌then◌else◌};
+ghost use Rattle.std.specs.Prelude.{◌≡◌, ◌||◌, ◌≤◌, IfSome, IfOk, IfErr, OnOk, Err, None, true, ◌&&◌, not, false, if◌then◌else◌};
 ghost use Rattle.simplex_types.specs.Terms.{IsVotable};
 ghost use Rattle.simplex_types.specs.declared.types.fault.Fault.TheVariants.{OutOfMemory};
 ghost use Rattle.std.specs.Option.{option_map_or};
@@ -38,7 +38,7 @@ impl<S: CertificateScheme, L: Elector<S>, D: Digest> State<S, L, D> {
     /// It is of this epoch and of this view, which is kept. `ViewTooLarge` where its view or its parent's is above
     /// 2^63 - 1.
     pub fn set_proposal(&mut self, view: View, proposal: &Proposal<D>) -> Result<bool, Fault>
-        requires { takes_proposal self.old view proposal.now ≡ true }
+        requires { (self.old.failed || takes_proposal self.old view proposal.now) ≡ true }
         ensures refused { IfSome (proposal_refusal self.old proposal.now) (λ fault. (result ≡ Err fault) × (self.new ≡ self.old)) }
         ensures answer { IfOk result (λ answer. answer ≡ set_proposal_answer self.old view) }
         ensures after { OnOk result (self.new ≡ after_set_proposal D.eq L.elect self.old view proposal.now) }
@@ -94,7 +94,7 @@ impl<S: CertificateScheme, L: Elector<S>, D: Digest> State<S, L, D> {
         payload: D,
         now: u64,
     ) -> Result<bool, Fault>
-        requires { is_started self.old ≡ true }
+        requires { (self.old.failed || is_started self.old) ≡ true }
         ensures refused { IfSome (plain_refusal self.old) (λ fault. (result ≡ Err fault) × (self.new ≡ self.old)) }
         ensures answer { IfOk result (λ recorded. recorded ≡ proposed_answer D.eq L.elect self.old context.now payload) }
         ensures after { OnOk result (self.new ≡ after_proposed D.eq L.elect self.old context.now payload now) }
@@ -139,7 +139,7 @@ impl<S: CertificateScheme, L: Elector<S>, D: Digest> State<S, L, D> {
         &mut self,
         context: &Context<D, S::PublicKey>,
     ) -> Result<bool, Fault>
-        requires { is_started self.old ≡ true }
+        requires { (self.old.failed || is_started self.old) ≡ true }
         ensures refused { IfSome (plain_refusal self.old) (λ fault. (result ≡ Err fault) × (self.new ≡ self.old)) }
         ensures answer { IfOk result (λ superseded. superseded ≡ supersede_answer D.eq L.elect self.old context.now) }
         ensures after { OnOk result (self.new ≡ after_supersede D.eq L.elect self.old context.now) }
@@ -170,7 +170,7 @@ impl<S: CertificateScheme, L: Elector<S>, D: Digest> State<S, L, D> {
         &self,
         context: &Context<D, S::PublicKey>,
     ) -> Result<Option<HandoffAbandonedReason>, Fault>
-        requires { is_started self.now ≡ true }
+        requires { (self.now.failed || is_started self.now) ≡ true }
         ensures refused { IfSome (plain_refusal self.now) (λ fault. result ≡ Err fault) }
         ensures answer { IfOk result (λ reason. reason ≡ abandonment_answer D.eq L.elect self.now context.now) }
         ensures taken { plain_refusal self.now ≡ None → IsOk result }

@@ -1,6 +1,6 @@
 //! When this member builds a proposal, and on what; what it is asked to build.
 
-ghost use Rattle.std.specs.Prelude.{◌≡◌, IfSome, OnOk, Err, None, true, IsOk, ◌≤◌, ◌<◌, ◌+◌, ◌^◌, IfOk, slice_get, if◌then◌else◌};
+ghost use Rattle.std.specs.Prelude.{◌≡◌, ◌||◌, IfSome, OnOk, Err, None, true, IsOk, ◌≤◌, ◌<◌, ◌+◌, ◌^◌, IfOk, slice_get, if◌then◌else◌};
 ghost use Rattle.simplex_voter.specs.Proposing.{is_handoff, request_context};
 ghost use Rattle.std.specs.List.{filter_map};
 ghost use Rattle.std.specs.Result.{IsOk};
@@ -85,7 +85,7 @@ impl<S: CertificateScheme, L: Elector<S>, D: Digest> State<S, L, D> {
     ///
     /// The state has a floor.
     pub fn release_proposal_request(&mut self, view: View) -> Result<(), Fault>
-        requires { is_started self.old ≡ true }
+        requires { (self.old.failed || is_started self.old) ≡ true }
         ensures refused { IfSome (plain_refusal self.old) (λ fault. (result ≡ Err fault) × (self.new ≡ self.old)) }
         ensures after { OnOk result (self.new ≡ after_release self.old view) }
         ensures answers { plain_refusal self.old ≡ None → IsOk result }
@@ -128,7 +128,7 @@ impl<S: CertificateScheme, L: Elector<S>, D: Digest> State<S, L, D> {
     ///
     /// The state has a floor.
     pub fn try_propose(&mut self) -> Result<Option<ProposalRequest<D, S::PublicKey>>, Fault>
-        requires { is_started self.old ≡ true }
+        requires { (self.old.failed || is_started self.old) ≡ true }
         ensures refused { IfSome (plain_refusal self.old) (λ fault. (result ≡ Err fault) × (self.new ≡ self.old)) }
         ensures answer { IfOk result (λ request. request ≡ propose_answer D.eq L.elect self.old) }
         ensures after { OnOk result (self.new ≡ after_try_propose D.eq L.elect self.old) }

@@ -1,6 +1,6 @@
 //! What the entries of this member's record restore after a restart.
 
-ghost use Rattle.std.specs.Prelude.{◌≡◌, ◌≤◌, IfErr, OnOk, IfSome, Err, None, option_and_then};
+ghost use Rattle.std.specs.Prelude.{◌≡◌, ◌≤◌, IfErr, OnOk, IfSome, Err, None, option_and_then, false};
 ghost use Rattle.simplex_types.specs.Proposal.{same_proposal};
 ghost use Rattle.simplex_types.specs.declared.types.fault.Fault.TheVariants.{OutOfMemory};
 ghost use Rattle.simplex_round.specs.Round.{TakesArtifact, after_replay};
@@ -11,10 +11,10 @@ ghost use Rattle.simplex_types.specs.Viewed.{artifact_view};
 
 use super::conditions::names_too_large;
 use super::rounds::{Bounds, Rounds};
-use super::state::{LARGEST_VIEW, State};
+use super::state::State;
 use simplex_round::round::Round;
 use simplex_types::types::{
-    Artifact, CertificateScheme, Digest, Elector, Fault, Proposal, View, Viewable,
+    Artifact, CertificateScheme, Digest, Elector, Fault, LARGEST_VIEW, Proposal, View, Viewable,
 };
 
 /// The view may have the verdict that the entry of the record is.
@@ -122,7 +122,7 @@ impl<S: CertificateScheme, L: Elector<S>, D: Digest> State<S, L, D> {
     /// doesn't meet its opposite, and no verdict contradicts another. `ViewTooLarge` where its view or its proposal's
     /// parent is above 2^63 - 1.
     pub fn replay(&mut self, artifact: &Artifact<S, D>) -> Result<(), Fault>
-        requires { TakesReplay self.old artifact.now }
+        requires { self.old.failed ≡ false → TakesReplay self.old artifact.now }
         ensures refused { IfSome (replay_refusal self.old artifact.now) (λ fault. (result ≡ Err fault) × (self.new ≡ self.old)) }
         ensures after { OnOk result (self.new ≡ after_replayed D.eq L.elect self.old artifact.now) }
         ensures out_of_memory { replay_refusal self.old artifact.now ≡ None

@@ -15,9 +15,6 @@ use simplex_types::types::{
 use std::alloc::Global;
 use std::marker::Model;
 
-/// No certificate, proposal or artifact may name a view above this one.
-pub(super) const LARGEST_VIEW: u64 = (1 << 63) - 1;
-
 /// How a state is set up. Times are milliseconds.
 #[derive(Drop)]
 pub struct Config<S: CertificateScheme, L: Elector<S>> {
@@ -41,8 +38,8 @@ pub struct Config<S: CertificateScheme, L: Elector<S>> {
 
 /// A member's state over all views.
 ///
-/// Contracts see it as the record `Facts`. After a call that found no memory it has failed: no vote is answered, and
-/// each later call with a result answers `Failed`.
+/// Contracts see it as the record `StateFacts`. After a call that found no memory it has failed: whatever a call asks of a
+/// state that has not, it may be made then, and each one with a result answers `Failed`. So no vote is answered.
 #[derive(Drop)]
 pub struct State<S: CertificateScheme, L: Elector<S>, D> {
     pub(super) alloc: Global,

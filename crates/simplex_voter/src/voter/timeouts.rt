@@ -117,7 +117,7 @@ impl<S: CertificateScheme, L: Elector<S>, D: Digest> State<S, L, D> {
         reason: TimeoutReason,
         now: u64,
     ) -> Result<bool, Fault>
-        requires { is_started self.old ≡ true }
+        requires { (self.old.failed || is_started self.old) ≡ true }
         ensures refused { IfSome (plain_refusal self.old) (λ fault. (result ≡ Err fault) × (self.new ≡ self.old)) }
         ensures answer { IfOk result (λ latched. latched ≡ trigger_answer self.old view reason) }
         ensures after { OnOk result (self.new ≡ after_trigger_timeout self.old view reason now) }
@@ -204,8 +204,8 @@ impl<S: CertificateScheme, L: Elector<S>, D: Digest> State<S, L, D> {
     ///
     /// The state has a floor and `has_timeout`. `TimeOverflow` where the moment of a repeat passes 2^64 - 1.
     pub fn next_timeout(&mut self, now: u64) -> Result<(u64, TimeoutReason), Fault>
-        requires started { is_started self.old ≡ true }
-        requires timeout { has_timeout self.old ≡ true }
+        requires started { (self.old.failed || is_started self.old) ≡ true }
+        requires timeout { (self.old.failed || has_timeout self.old) ≡ true }
         ensures refused { IfSome (next_timeout_refusal self.old now) (λ fault. (result ≡ Err fault) × (self.new ≡ self.old)) }
         ensures answer { IfOk result (λ timeout. next_timeout_answer self.old now ≡ Some timeout) }
         ensures after { OnOk result (self.new ≡ after_next_timeout self.old now) }

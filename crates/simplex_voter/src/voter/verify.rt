@@ -1,7 +1,7 @@
 //! The proposals of other leaders: how each stands, which one is verified next or what is lacking, and what came of those that
 //! were given out.
 
-ghost use Rattle.std.specs.Prelude.{◌≡◌, ◌≤◌, ◌+◌, ◌<◌, ◌^◌, IfSome, IfOk, OnOk, Err, None, true, is_some, option_map, slice_get, if◌then◌else◌, ◌-◌, ◌&&◌, min, nat_lt};
+ghost use Rattle.std.specs.Prelude.{◌≡◌, ◌||◌, ◌≤◌, ◌+◌, ◌<◌, ◌^◌, IfSome, IfOk, OnOk, Err, None, true, is_some, option_map, slice_get, if◌then◌else◌, ◌-◌, ◌&&◌, min, nat_lt};
 ghost use Rattle.simplex_voter.specs.Verifying.{unless_asked, with_request, verifying_round};
 ghost use Rattle.std.specs.Result.{IsOk};
 ghost use Rattle.simplex_round.specs.Round.{pending_proposal};
@@ -157,7 +157,7 @@ impl<S: CertificateScheme, L: Elector<S>, D: Digest> State<S, L, D> {
     ///
     /// The state has a floor.
     pub fn try_verify(&mut self) -> Result<Verify<D, S::PublicKey>, Fault>
-        requires { is_started self.old ≡ true }
+        requires { (self.old.failed || is_started self.old) ≡ true }
         ensures refused { IfSome (plain_refusal self.old) (λ fault. (result ≡ Err fault) × (self.new ≡ self.old)) }
         ensures answer { IfOk result (λ answer. answer ≡ verify_answer D.eq L.elect self.old) }
         ensures after { OnOk result (self.new ≡ after_try_verify D.eq L.elect self.old) }
@@ -264,7 +264,7 @@ impl<S: CertificateScheme, L: Elector<S>, D: Digest> State<S, L, D> {
     ///
     /// The state has a floor.
     pub fn verified(&mut self, view: View) -> Result<bool, Fault>
-        requires { is_started self.old ≡ true }
+        requires { (self.old.failed || is_started self.old) ≡ true }
         ensures refused { IfSome (plain_refusal self.old) (λ fault. (result ≡ Err fault) × (self.new ≡ self.old)) }
         ensures answer { IfOk result (λ marked. marked ≡ verified_answer D.eq L.elect self.old view) }
         ensures after { OnOk result (self.new ≡ after_verified D.eq L.elect self.old view) }
@@ -291,7 +291,7 @@ impl<S: CertificateScheme, L: Elector<S>, D: Digest> State<S, L, D> {
         reason: TimeoutReason,
         now: u64,
     ) -> Result<(), Fault>
-        requires { is_started self.old ≡ true }
+        requires { (self.old.failed || is_started self.old) ≡ true }
         ensures refused { IfSome (plain_refusal self.old) (λ fault. (result ≡ Err fault) × (self.new ≡ self.old)) }
         ensures after { OnOk result (self.new ≡ after_verification_failed D.eq L.elect self.old view reason now) }
         ensures taken { plain_refusal self.old ≡ None → IsOk result }

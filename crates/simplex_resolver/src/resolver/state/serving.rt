@@ -1,6 +1,6 @@
 //! What a resolver answers from what it holds.
 
-ghost use Rattle.std.specs.Prelude.{◌≡◌, ◌&&◌, IfOk, IfErr, true, false};
+ghost use Rattle.std.specs.Prelude.{◌≡◌, ◌&&◌, IfOk, IfErr, OnErr, true, false, is_some};
 ghost use Rattle.std.specs.Option.{option_copied};
 ghost use Rattle.std.specs.FinMap as map;
 ghost use Rattle.simplex_types.specs.declared.types.fault.Fault.TheVariants.{OutOfMemory, Failed};
@@ -51,11 +51,12 @@ impl State {
     ///
     /// # Errors
     ///
-    /// `Failed` on a failed state, and `OutOfMemory`, which does not fail the state.
+    /// `Failed` on a failed state, and `OutOfMemory`, which does not fail the state, and never comes where nothing is served.
     pub fn produce(&self, view: View) -> Result<Option<Bytes>, Fault>
         ensures served { IfOk result (λ bytes. bytes ≡ served_encoding self.now view) }
         ensures failed { self.now.is_failed ≡ true → result ≡ Err Failed }
         ensures live { self.now.is_failed ≡ false → IfErr result (λ fault. fault ≡ OutOfMemory) }
+        ensures refused_only_a_copy { self.now.is_failed ≡ false → OnErr result (is_some (served_encoding self.now view) ≡ true) }
     {
         if self.failed {
             return Err(Fault::Failed);

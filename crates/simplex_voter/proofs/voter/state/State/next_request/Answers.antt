@@ -1,4 +1,4 @@
-use Rattle.std.proofs.Common.{◌≡◌, ◌<◌, None, slice_get, ap, sym, ◌∙◌, arith}
+use Rattle.std.proofs.Common.{◌<◌, slice_get, ap, ◌∙◌, arith}
 use Rattle.std.specs.List.{filter_map}
 use Rattle.simplex_sorted.proofs.Gaps.{lt_yes}
 use Rattle.simplex_voter.specs.Proposing.{views_within, request_in}
