@@ -1,5 +1,5 @@
 -- A call is answered, refused, lost, or not allowed.
-use Rattle.std.proofs.Common.{◌≡◌, ◌⊎◌, refl, ap, ◌∙◌, Bool, true, false, ◌&&◌, List, [], ◌++◌, Option, Some, None, Result, Ok, Err, IfSome, IsOk, inl, inr}
+use Rattle.std.proofs.Common.{◌≡◌, ◌⊎◌, refl, ap, ◌∙◌, Bool, true, false, List, [], ◌++◌, Option, Some, None, Result, Ok, Err, IfSome, IsOk, inl, inr}
 use Rattle.std.proofs.lemmas.Bool.{false≢true}
 use Rattle.std.proofs.lemmas.List.{append-nil}
 use Rattle.simplex_types.specs.Certificates.{ArtifactFacts}
@@ -7,7 +7,7 @@ use Rattle.simplex_types.specs.declared.types.fault.Fault.{Fault}
 use Rattle.simplex_types.specs.declared.types.fault.Fault.TheVariants as fault
 use Rattle.simplex_voter.specs.Facts.{StateFacts, Elect}
 use Rattle.simplex_voter.specs.Refusals.{is_started}
-use Rattle.simplex_member.specs.Allowed.{is_allowed, fault_of, may_fall, may_want}
+use Rattle.simplex_member.specs.Allowed.{is_allowed, fault_of, needs_room, may_fall}
 use Rattle.simplex_member.specs.Calls.{CallFacts, Told, Refused, NotAllowed}
 use Rattle.simplex_member.specs.Lives.{MemberFacts, without_life, with_call, IsCall}
 use Rattle.simplex_member.specs.Made.{answer, after_call, openings_after, recorded_by}
@@ -22,13 +22,12 @@ module _ {K L D : Type 0} (same : D → D → Bool) (elect : Elect L) (x : State
   call_goes_on o call y is going started = let g = goes same elect x o call in rw is (g.failed ∙ going, g.started started)
 
 -- the state is lost only by a call that may find no memory
-pub losing : {K L D : Type 0} (x : StateFacts K L D) (call : CallFacts D) (due : Option Fault) → IsLoss (may_fall call && may_want x call) due → (due ≡ None) × (may_want x call ≡ true) × (may_fall call ≡ true)
-losing x call due is = by_loss (may_fall call) (may_want x call) is
+pub losing : {K L D : Type 0} (x : StateFacts K L D) (call : CallFacts D) (due : Option Fault) → IsLoss (may_fall x call) due → (due ≡ None) × (may_fall x call ≡ true)
+losing x call due is = by_loss (may_fall x call) is
   where
-    by_loss : (falls wants : Bool) → IsLoss (falls && wants) due → (due ≡ None) × (wants ≡ true) × (falls ≡ true)
-    by_loss true true lost = (lost, refl, refl)
-    by_loss true false lost = absurd lost
-    by_loss false wants lost = absurd lost
+    by_loss : (falls : Bool) → IsLoss falls due → (due ≡ None) × (falls ≡ true)
+    by_loss true lost = (lost, refl)
+    by_loss false lost = absurd lost
 
 -- a call of the state that gives no answer was refused for what was due, and changed nothing
 pub refused_only : {T A : Type 0} (due : Option Fault) (found : Fault) (r : Result T Fault) (x y : A) → r ≡ Err found → IfSome due (λ is. (r ≡ Err is) × (y ≡ x)) → (due ≡ None → IsOk r) → (due ≡ Some found) × (y ≡ x)
@@ -59,19 +58,19 @@ module _ {K L D : Type 0} (same : D → D → Bool) (elect : Elect L) (m : Membe
     answered_call told y p entries allowed no_fault is after open_now recorded = rw (alive, allowed, no_fault, is, after, open_now, recorded) (inl (refl, refl))
 
     -- a fault that was due, or want of memory, with nothing changed
-    pub refused_call : (found : Fault) → is_allowed x m.openings call ≡ true → (fault_of x call ≡ Some found) ⊎ IsWant (may_want x call) found → IsCall same elect m call (Refused found) m
+    pub refused_call : (found : Fault) → is_allowed x m.openings call ≡ true → (fault_of x call ≡ Some found) ⊎ IsWant (needs_room x call) found → IsCall same elect m call (Refused found) m
     unfolding IsCall
     refused_call found allowed (inl due) = rw (alive, allowed, due) (inl (refl, refl))
-    refused_call found allowed (inr want) = wanting (may_want x call) refl want
+    refused_call found allowed (inr want) = wanting (needs_room x call) refl want
       where
-        wanting : (b : Bool) → may_want x call ≡ b → IsWant b found → IsCall same elect m call (Refused found) m
-        wanting true wants memory = rw alive (inr (rw (wants, allowed) refl, ap Refused memory, inl refl))
-        wanting false wants memory = absurd memory
+        wanting : (b : Bool) → needs_room x call ≡ b → IsWant b found → IsCall same elect m call (Refused found) m
+        wanting true needs memory = rw alive (inr (allowed, ap Refused memory, inl (needs, refl)))
+        wanting false needs memory = absurd memory
 
     -- the state is lost for want of memory
-    pub lost_call : is_allowed x m.openings call ≡ true → fault_of x call ≡ None → may_want x call ≡ true → may_fall call ≡ true → IsCall same elect m call (Refused fault.OutOfMemory) (without_life m)
+    pub lost_call : is_allowed x m.openings call ≡ true → fault_of x call ≡ None → may_fall x call ≡ true → IsCall same elect m call (Refused fault.OutOfMemory) (without_life m)
     unfolding IsCall
-    lost_call allowed no_fault wants falls = rw alive (inr (rw (wants, allowed) refl, refl, inr (no_fault, falls, refl)))
+    lost_call allowed no_fault falls = rw alive (inr (allowed, refl, inr (no_fault, falls, refl)))
 
     -- an answer, as a caller reads it
     pub answered_so : (told : Told K D) (left : MemberFacts K L D) → is_allowed x m.openings call ≡ true → fault_of x call ≡ None

@@ -1,6 +1,7 @@
 pub mod Restarts
 pub mod Journal
 pub mod RestartExamples
+pub mod CallExamples
 pub mod Runs
 pub mod EventsMake
 pub mod GoingCalls

@@ -1,5 +1,5 @@
 -- What a part of a call ensures says what the member answers, and what is left of it.
-use Rattle.std.proofs.Common.{◌≡◌, refl, sym, Bool, true, false, ◌&&◌, List, [], ◌++◌, Option, Some, None, Result, Ok, Err, OnOk, OnErr, IfOk, IfErr, IfSome, inl}
+use Rattle.std.proofs.Common.{◌≡◌, refl, sym, Bool, true, false, List, [], ◌++◌, Option, Some, None, Result, Ok, Err, OnOk, OnErr, IfOk, IfErr, IfSome, inl}
 use Rattle.std.proofs.lemmas.List.{append-nil}
 use Rattle.simplex_types.specs.Certificates.{ArtifactFacts}
 use Rattle.simplex_types.specs.declared.types.fault.Fault.{Fault}
@@ -14,7 +14,7 @@ use Rattle.simplex_member.specs.Signed.{IsSignedReply}
 use Rattle.simplex_member.specs.declared.member.calls.Reply.TheVariants as reply
 use Rattle.simplex_voter.specs.Facts.{StateFacts, Elect}
 use Rattle.simplex_voter.specs.Refusals.{is_started, first_fault, HasFailed}
-use Rattle.simplex_member.specs.Allowed.{is_allowed, fault_of, may_fall, may_want}
+use Rattle.simplex_member.specs.Allowed.{is_allowed, fault_of, may_fall}
 use Rattle.simplex_member.specs.Calls.{CallFacts, Told, Refused, NotAllowed}
 use Rattle.simplex_member.specs.Lives.{MemberFacts, living, open_while, IsCall}
 use Rattle.simplex_member.specs.Made.{answer, after_call, openings_after, recorded_by}
@@ -100,14 +100,14 @@ module _ {K L D T : Type 0} (same : D → D → Bool) (elect : Elect L) (m : Mem
         → IsCall same elect m call (told_of tell (ended r)) (record m { life = living (is_lost r) y; openings = open_while (is_lost r) o; entries = entries })
     part_made alive allowed (Ok t) y o entries p = answered_call same elect m call x alive (tell t) y o entries allowed p.due p.answer p.after p.opened p.recorded
     part_made alive allowed (Err (error.Refused due)) y o entries p = rw (p.refused.1, p.same_record, p.kept_open, ← alive) (refused_call same elect m call x alive due allowed p.refused.0)
-    part_made alive allowed (Err error.Lost) y o entries p = let l = losing x call (fault_of x call) p.refused in rw p.same_record (lost_call same elect m call x alive allowed l.0 l.1 l.2)
+    part_made alive allowed (Err error.Lost) y o entries p = let l = losing x call (fault_of x call) p.refused in rw p.same_record (lost_call same elect m call x alive allowed l.0 l.1)
 
     -- a call of the state is such a part, where it opens and records nothing
     pub part_of_state : (r : Result T Fault) (y : StateFacts K L D) (failed too_large late : Bool) → fault_of x call ≡ first_fault failed too_large late
         → IfSome (first_fault failed too_large late) (λ due. (r ≡ Err due) × (y ≡ x))
         → IfOk r (λ t. tell t ≡ answer same elect x m.openings call) → OnOk r (y ≡ after_call same elect x m.openings call)
         → (first_fault failed too_large late ≡ None → IfErr r (λ found. (found ≡ fault.OutOfMemory) × HasFailed x y))
-        → may_fall call && may_want x call ≡ true → openings_after same elect x m.openings call ≡ m.openings → recorded_by same elect x call ≡ [] → Part (part_of r) y m.openings m.entries
+        → may_fall x call ≡ true → openings_after same elect x m.openings call ≡ m.openings → recorded_by same elect x call ≡ [] → Part (part_of r) y m.openings m.entries
     part_of_state r y true _ _ is refused told after falls loses shut none = rw refused.0 (record { due = tt; answer = tt; after = tt; opened = tt; recorded = tt; refused = (inl is, refused.1); kept_open = refl; same_record = refl })
     part_of_state r y false true _ is refused told after falls loses shut none = rw refused.0 (record { due = tt; answer = tt; after = tt; opened = tt; recorded = tt; refused = (inl is, refused.1); kept_open = refl; same_record = refl })
     part_of_state r y false false true is refused told after falls loses shut none = rw refused.0 (record { due = tt; answer = tt; after = tt; opened = tt; recorded = tt; refused = (inl is, refused.1); kept_open = refl; same_record = refl })

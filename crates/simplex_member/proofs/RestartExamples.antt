@@ -6,6 +6,7 @@ use Rattle.simplex_voter.specs.Windows.{min_active}
 use Rattle.simplex_voter.specs.Serving.{notarization_of, prune_answer}
 use Rattle.simplex_member.specs.Openings.{no_openings}
 use Rattle.simplex_record.specs.Cuts.{may_drop, pruned_entries}
+use Rattle.simplex_member.specs.Journal.{has_lost}
 use Rattle.simplex_member.specs.Lives.{MemberFacts}
 use Rattle.simplex_record.specs.Recovery.{after_kept_entry, recovered_state}
 use Rattle.simplex_member.specs.Restarts.{retention_grows, cut_member}
@@ -76,3 +77,14 @@ less_after_a_pruning = refl
 
 more_without_a_pruning : retention_grows (member []) false 11 ≡ false
 more_without_a_pruning = refl
+
+-- the least of all lives counts, and not the last one alone
+least_of_all_lives : retention_grows (record (member []) { is_pruned = true; least_retention = 5 }) false 7 ≡ true
+least_of_all_lives = refl
+
+-- a journal that holds fewer entries than were closed has lost some
+lost : has_lost (record { closed = 2; is_pruned = true; retention = 10; least_retention = 10 }) (finalization 20 ∷ []) ≡ true
+lost = refl
+
+not_lost : has_lost (record { closed = 1; is_pruned = true; retention = 10; least_retention = 10 }) (finalization 20 ∷ []) ≡ false
+not_lost = refl

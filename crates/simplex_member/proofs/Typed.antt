@@ -95,8 +95,8 @@ module _ {K L D : Type 0} (same : D → D → Bool) (elect : Elect L) where
 
       by_answers : (told : Told K D) (left : MemberFacts K L D) → Answers same elect x m call told left → Typed told left
       by_answers told left (inl (told_so, left_so)) = rw (told_so, left_so) (by_definition (is_allowed x m.openings call) refl (fault_of x call) refl)
-      by_answers told left (inr (wants, told_so, inl same_left)) = rw told_so (refused_so fault.OutOfMemory left (inl same_left))
-      by_answers told left (inr (wants, told_so, inr (not_due, falls, lost))) = rw told_so (refused_so fault.OutOfMemory left (inr lost))
+      by_answers told left (inr (allowed, told_so, inl (needs, same_left))) = rw told_so (refused_so fault.OutOfMemory left (inl same_left))
+      by_answers told left (inr (allowed, told_so, inr (not_due, falls, lost))) = rw told_so (refused_so fault.OutOfMemory left (inr lost))
 
     by_life : (life : Option (StateFacts K L D)) → m.life ≡ life → (told : Told K D) (left : MemberFacts K L D) → AnswersAlive same elect life m call told left → Typed told left
     by_life None dead told left (told_so, left_so) = rw (told_so, left_so) (refused_so fault.Failed m refl)

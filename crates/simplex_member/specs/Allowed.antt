@@ -5,10 +5,10 @@ use Rattle.simplex_voter.specs.Facts.{StateFacts}
 use Rattle.simplex_voter.specs.Refusals.{plain_refusal, proposal_refusal}
 use Rattle.simplex_voter.specs.Acceptance.{takes_proposal_certificate, takes_nullification, notarization_refusal, nullification_refusal, finalization_refusal}
 use Rattle.simplex_voter.specs.Certification.{takes_verdict, takes_certify_handle, certified_refusal}
-use Rattle.simplex_voter.specs.Serving.{broadcast_notarization_answer, broadcast_nullification_answer, broadcast_finalization_answer}
+use Rattle.simplex_voter.specs.Serving.{best_certificate, broadcast_notarization_answer, broadcast_nullification_answer, broadcast_finalization_answer}
 use Rattle.simplex_voter.specs.Timeouts.{has_timeout, next_timeout_refusal}
 use Rattle.simplex_voter.specs.Verifying.{takes_proposal}
-use Rattle.simplex_member.specs.Calls.{CallFacts, AddNotarization, AddNullification, AddFinalization, SetProposal, TryPropose, Proposed, SupersedeProposalRequest, PendingHandoffAbandonment, ReleaseProposalRequest, TryVerify, Verified, VerificationFailed, SetCertifyHandle, Certified, BroadcastNotarization, BroadcastNullification, BroadcastFinalization, GetBestCertificate, TriggerTimeout, NextTimeout}
+use Rattle.simplex_member.specs.Calls.{CallFacts, AddNotarization, AddNullification, AddFinalization, SetProposal, TryPropose, Proposed, SupersedeProposalRequest, PendingHandoffAbandonment, TryVerify, Verified, VerificationFailed, ConstructNotarize, CertifyCandidates, SetCertifyHandle, Certified, ConstructNullify, ConstructFinalize, BroadcastNotarization, BroadcastNullification, BroadcastFinalization, GetBestCertificate, NextTimeout, Prune}
 use Rattle.simplex_member.specs.Openings.{Openings, context_at, is_verifying, is_offered}
 
 module _ {K L D : Type 0} where
@@ -45,27 +45,35 @@ module _ {K L D : Type 0} where
   fault_of x (NextTimeout now) = next_timeout_refusal x now
   fault_of x _ = plain_refusal x
 
-  -- a growth or a copy may be refused, of the state's rounds and lists, of the record, or of what is open: there is none
-  -- where a request to build is answered or given up, a verification is answered or a view times out, nor where a broadcast
-  -- has nothing to hand out
-  abbrev pub may_want : StateFacts K L D → CallFacts D → Bool
-  may_want x (Proposed _ _ _) = false
-  may_want x (SupersedeProposalRequest _) = false
-  may_want x (PendingHandoffAbandonment _) = false
-  may_want x (ReleaseProposalRequest _) = false
-  may_want x (Verified _) = false
-  may_want x (VerificationFailed _ _ _) = false
-  may_want x (BroadcastNotarization v) = is_some (broadcast_notarization_answer x v)
-  may_want x (BroadcastNullification v) = is_some (broadcast_nullification_answer x v)
-  may_want x (BroadcastFinalization v) = is_some (broadcast_finalization_answer x v)
-  may_want x (TriggerTimeout _ _ _) = false
-  may_want x (NextTimeout _) = false
-  may_want x _ = true
+  -- there has to be room before the state is called: in the record, for a copy of what is handed in, or for what the answer
+  -- opens; or all that is answered is a copy. Where there is none, nothing has changed
+  abbrev pub needs_room : StateFacts K L D → CallFacts D → Bool
+  needs_room x (AddNotarization _) = true
+  needs_room x (AddNullification _ _) = true
+  needs_room x (AddFinalization _ _) = true
+  needs_room x TryPropose = true
+  needs_room x TryVerify = true
+  needs_room x (ConstructNotarize _) = true
+  needs_room x (Certified _ _ _) = true
+  needs_room x (ConstructNullify _) = true
+  needs_room x (ConstructFinalize _) = true
+  needs_room x GetBestCertificate = is_some (best_certificate x)
+  needs_room x _ = false
 
--- the state may be lost where memory is wanted: it never is by what it only shows, nor by a call for work, since there is room
--- for what that opens before it is made
-abbrev pub may_fall : {D : Type 0} → CallFacts D → Bool
-may_fall TryPropose = false
-may_fall TryVerify = false
-may_fall GetBestCertificate = false
-may_fall _ = true
+  -- the state may find no memory in the midst of the call, or there may be none for a copy of its vote, of what it offers or of
+  -- what it hands out: then it is lost
+  abbrev pub may_fall : StateFacts K L D → CallFacts D → Bool
+  may_fall x (AddNotarization _) = true
+  may_fall x (AddNullification _ _) = true
+  may_fall x (AddFinalization _ _) = true
+  may_fall x (SetProposal _ _) = true
+  may_fall x (ConstructNotarize _) = true
+  may_fall x CertifyCandidates = true
+  may_fall x (Certified _ _ _) = true
+  may_fall x (ConstructNullify _) = true
+  may_fall x (ConstructFinalize _) = true
+  may_fall x (BroadcastNotarization v) = is_some (broadcast_notarization_answer x v)
+  may_fall x (BroadcastNullification v) = is_some (broadcast_nullification_answer x v)
+  may_fall x (BroadcastFinalization v) = is_some (broadcast_finalization_answer x v)
+  may_fall x Prune = true
+  may_fall x _ = false

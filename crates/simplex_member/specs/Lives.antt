@@ -1,10 +1,10 @@
 -- What is known of a member, and what a call makes of it.
-use Rattle.std.specs.Prelude.{ℕ, Bool, true, ◌&&◌, ◌≡◌, ◌⊎◌, if◌then◌else◌, List, ◌++◌, Option, Some, None}
+use Rattle.std.specs.Prelude.{ℕ, Bool, true, ◌≡◌, ◌⊎◌, if◌then◌else◌, List, ◌++◌, Option, Some, None}
 use Rattle.simplex_types.specs.Certificates.{ArtifactFacts}
 use Rattle.simplex_types.specs.declared.types.fault.Fault.{Fault}
 use Rattle.simplex_types.specs.declared.types.fault.Fault.TheVariants as fault
 use Rattle.simplex_voter.specs.Facts.{StateFacts, Elect}
-use Rattle.simplex_member.specs.Allowed.{is_allowed, fault_of, may_fall, may_want}
+use Rattle.simplex_member.specs.Allowed.{is_allowed, fault_of, needs_room, may_fall}
 use Rattle.simplex_member.specs.Calls.{CallFacts, Told, Refused, NotAllowed}
 use Rattle.simplex_member.specs.Made.{answer, after_call, openings_after, recorded_by}
 use Rattle.simplex_member.specs.Openings.{Openings, no_openings}
@@ -70,12 +70,18 @@ module _ {K L D : Type 0} (same : D → D → Bool) (elect : Elect L) where
   abbrev pub left_of : StateFacts K L D → MemberFacts K L D → CallFacts D → MemberFacts K L D
   left_of x m call = if is_allowed x m.openings call then unless_kept (fault_of x call) m (with_call x m call) else m
 
-  -- a living member answers by the definitions; or a growth was refused, and nothing has changed or the member has failed
+  -- what want of memory leaves: there was no room before the state was called, and nothing has changed; or no fault was due,
+  -- and the member has failed
+  abbrev pub IsLeftWanting : StateFacts K L D → MemberFacts K L D → CallFacts D → MemberFacts K L D → Type 0
+  IsLeftWanting x m call left =
+      ((needs_room x call ≡ true) × (left ≡ m))
+      ⊎ ((fault_of x call ≡ None) × (may_fall x call ≡ true) × (left ≡ without_life m))
+
+  -- a living member answers by the definitions, or memory was wanting of a call that is allowed
   abbrev pub Answers : StateFacts K L D → MemberFacts K L D → CallFacts D → Told K D → MemberFacts K L D → Type 0
   Answers x m call told left =
       ((told ≡ reply_of x m.openings call) × (left ≡ left_of x m call))
-      ⊎ ((may_want x call && is_allowed x m.openings call ≡ true) × (told ≡ Refused fault.OutOfMemory)
-      × ((left ≡ m) ⊎ ((fault_of x call ≡ None) × (may_fall call ≡ true) × (left ≡ without_life m))))
+      ⊎ ((is_allowed x m.openings call ≡ true) × (told ≡ Refused fault.OutOfMemory) × IsLeftWanting x m call left)
 
   -- a member that has failed refuses each call, and stays as it was
   abbrev pub AnswersAlive : Option (StateFacts K L D) → MemberFacts K L D → CallFacts D → Told K D → MemberFacts K L D → Type 0

@@ -1,9 +1,9 @@
 -- How a part of a call ends without an answer. No public clause names this.
-use Rattle.std.specs.Prelude.{◌≡◌, ◌⊎◌, Bool, true, false, ◌&&◌, Option, Some, None, Result, Ok, Err}
+use Rattle.std.specs.Prelude.{◌≡◌, ◌⊎◌, Bool, true, false, Option, Some, None, Result, Ok, Err}
 use Rattle.simplex_types.specs.declared.types.fault.Fault.{Fault}
 use Rattle.simplex_types.specs.declared.types.fault.Fault.TheVariants.{OutOfMemory}
 use Rattle.simplex_voter.specs.Facts.{StateFacts}
-use Rattle.simplex_member.specs.Allowed.{fault_of, may_fall, may_want}
+use Rattle.simplex_member.specs.Allowed.{fault_of, needs_room, may_fall}
 use Rattle.simplex_member.specs.Calls.{CallFacts}
 use Rattle.simplex_member.specs.Openings.{Openings}
 use Rattle.simplex_member.specs.declared.member.refusal.Refusal.{Refusal}
@@ -47,19 +47,19 @@ IsLoss true due = due ≡ None
 IsLoss false due = ⊥
 
 module _ {K L D : Type 0} where
-  -- refused for the fault that was due or, where it may want memory, for that, with all as it was; or the state is lost,
+  -- refused for the fault that was due or, where it needs room, for want of memory, with all as it was; or the state is lost,
   -- where it may be and no fault was due
   abbrev pub Ends : (wants loses : Bool) → Option Fault → StateFacts K L D → StateFacts K L D → CallError → Type 0
   Ends wants loses due x y (Refused fault) = ((due ≡ Some fault) ⊎ IsWant wants fault) × (y ≡ x)
   Ends wants loses due x y Lost = IsLoss loses due
 
-  -- a call that may want memory, by the fault that is due
+  -- a call that needs room and may lose the state, by the fault that is due
   abbrev pub EndsBy : Option Fault → StateFacts K L D → StateFacts K L D → CallError → Type 0
   EndsBy due x y error = Ends true true due x y error
 
-  -- a call, by what it may want and what is due
+  -- a call, by what it needs and what is due
   abbrev pub EndsCall : CallFacts D → StateFacts K L D → StateFacts K L D → CallError → Type 0
-  EndsCall call x y error = Ends (may_want x call) (may_fall call && may_want x call) (fault_of x call) x y error
+  EndsCall call x y error = Ends (needs_room x call) (may_fall x call) (fault_of x call) x y error
 
 -- what is open stays so, unless the state is lost
 abbrev pub KeepsOpen : {K D : Type 0} → Openings K D → Openings K D → CallError → Type 0

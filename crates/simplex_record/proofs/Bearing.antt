@@ -1,22 +1,18 @@
 -- What a state holds of its views stands in the entries that it took, and their notarizations stand in the state.
 use Rattle.std.proofs.Common.{◌≡◌, ◌⊎◌, refl, sym, ◌∙◌, ℕ, ◌+◌, ◌≤◌, Bool, true, false, ◌&&◌, ◌==◌, cond, List, ◌∷◌, Option, Some, None, is_some, arith, inl, inr}
 use Rattle.std.proofs.lemmas.Bool.{cases_eq, eq-eqb, ne_eqb, eqb-true, or_cases, or_right}
-use Rattle.std.specs.Prelude.{option_and_then}
 use Rattle.simplex_types.specs.Proposal.{same_proposal}
 use Rattle.simplex_types.specs.Certificates.{ArtifactFacts, NotarizeVote, NullifyVote, FinalizeVote, Verdict, Accepted, Notarized, Nullified, Finalized}
 use Rattle.simplex_types.specs.declared.types.numbers.Round.{Round}
-use Rattle.simplex_types.specs.declared.types.messages.Artifact.{Artifact}
-use Rattle.simplex_types.specs.declared.reasons.TimeoutReason.TheVariants.{FailedCertification}
-use Rattle.simplex_round.specs.Round.{RoundFacts, certified_round, after_replay, is_judged, is_nullify, is_finalize}
+use Rattle.simplex_round.specs.Round.{RoundFacts, certified_round, is_judged, is_nullify, is_finalize}
 use Rattle.simplex_round.specs.declared.round.Decision.TheVariants.{Nullify, Finalize}
 use Rattle.simplex_voter.specs.Facts.{StateFacts, Elect, round_of, is_tracked, with_round}
 use Rattle.simplex_voter.specs.Windows.{min_active}
-use Rattle.simplex_voter.specs.Entering.{at_moment, with_view_entered}
-use Rattle.simplex_voter.specs.Leaders.{with_elected_leader, with_next_view_ready}
-use Rattle.simplex_voter.specs.Timeouts.{with_timeout}
-use Rattle.simplex_voter.specs.Certification.{with_waiting_candidate, with_verdict, verdict_taken}
+use Rattle.simplex_voter.specs.Entering.{at_moment}
+use Rattle.simplex_voter.specs.Leaders.{with_elected_leader}
+use Rattle.simplex_voter.specs.Certification.{with_verdict, verdict_taken}
 use Rattle.simplex_voter.specs.Acceptance.{with_notarization_at}
-use Rattle.simplex_voter.specs.Replay.{replayed_sets, replayed_round, restored_binding}
+use Rattle.simplex_voter.specs.Replay.{replayed_sets}
 use Rattle.simplex_record.specs.Entries.{entry_view}
 use Rattle.simplex_record.specs.Check.{stands, is_notarization, is_verdict, is_nullify_vote as nullifies, is_finalize_vote as finalizes}
 use Rattle.simplex_record.specs.Recovery.{as_artifact, after_adding, after_replaying, after_verdict_of}

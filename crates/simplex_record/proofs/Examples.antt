@@ -2,11 +2,14 @@
 use Rattle.std.proofs.Common.{◌≡◌, refl, ℕ, ◌-◌, ◌^◌, Bool, true, false, List, [], ◌∷◌, Option, Some, None, nat_eq}
 use Rattle.simplex_types.specs.Certificates.{Notarized, Nullified, Finalized, ArtifactFacts, NotarizeVote, NullifyVote, FinalizeVote, Verdict, Accepted}
 use Rattle.simplex_types.specs.Config.{FloorFacts, Genesis, Finalized as FinalizedFloor}
+use Rattle.simplex_types.specs.declared.config.SkipBudget.TheVariants as budget
+use Rattle.simplex_types.specs.declared.config.SkipPolicy.TheVariants as skip
 use Rattle.simplex_types.specs.declared.types.messages.Proposal.{Proposal}
 use Rattle.simplex_types.specs.declared.types.numbers.Round.{Round}
 use Rattle.simplex_record.specs.declared.record.error.RecoverError.{RecoverError}
 use Rattle.simplex_record.specs.declared.record.error.RecoverError.TheVariants as error
 use Rattle.simplex_record.specs.Check.{first_recover_error}
+use Rattle.simplex_record.specs.Settings.{skip_budget_of}
 use Rattle.simplex_record.specs.Cuts.{may_drop, without_last, pruned_entries}
 
 abbrev pub Entry : Type 0
@@ -107,6 +110,10 @@ contradicting_votes : broken (notarize 3 2 7 ∷ notarize 3 2 8 ∷ []) ≡ Some
 unfolding first_recover_error
 contradicting_votes = refl
 
+contradicting_votes_to_finalize : broken (notarization 3 ∷ verdict 3 true ∷ finalize 3 ∷ FinalizeVote (proposal 3 2 8) 0 ∷ []) ≡ Some error.ContradictingVotes
+unfolding first_recover_error
+contradicting_votes_to_finalize = refl
+
 finalize_without_verdict : broken (notarization 3 ∷ finalize 3 ∷ verdict 3 true ∷ []) ≡ Some error.FinalizeWithoutVerdict
 unfolding first_recover_error
 finalize_without_verdict = refl
@@ -162,3 +169,11 @@ pruned_below_the_retention = refl
 pruned_without_a_finalization : pruned_entries 0 (nullify 1 ∷ notarization 9 ∷ []) ≡ nullify 1 ∷ notarization 9 ∷ []
 unfolding pruned_entries
 pruned_without_a_finalization = refl
+
+-- the terms that a start's settings let it skip
+
+never_skips : skip_budget_of skip.Disabled 4 ≡ 0
+never_skips = refl
+
+skips_as_many : skip_budget_of (skip.Enabled 5000 budget.Participants) 4 ≡ 4
+skips_as_many = refl

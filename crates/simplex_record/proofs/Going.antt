@@ -1,5 +1,5 @@
 -- What is made of a state leaves one that goes on: it has not failed, and its current view is no genesis.
-use Rattle.std.proofs.Common.{◌≡◌, refl, ◌∙◌, ℕ, ◌+◌, ◌≤◌, Bool, true, false, if◌then◌else◌, nat_lt, Some, arith}
+use Rattle.std.proofs.Common.{◌≡◌, refl, ◌∙◌, ℕ, ◌+◌, ◌≤◌, Bool, true, false, nat_lt, Some, arith}
 use Rattle.std.proofs.lemmas.Bool.Decides.{nat_tests}
 use Rattle.simplex_types.specs.Config.{FloorFacts, Genesis, Finalized}
 use Rattle.simplex_voter.specs.Facts.{StateFacts, Elect}

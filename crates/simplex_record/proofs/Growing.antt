@@ -1,6 +1,6 @@
 -- What a round keeps while its state changes: a notarization, the verdict, and the kind of the decision.
-use Rattle.std.proofs.Common.{◌≡◌, refl, sym, ap, ◌∙◌, ℕ, ◌+◌, Bool, true, false, cond, eqb, if◌then◌else◌, Option, Some, None, is_some, unwrap_or, inl, inr}
-use Rattle.std.specs.Prelude.{nat_le, map as map_list, option_map}
+use Rattle.std.proofs.Common.{◌≡◌, refl, sym, ap, ◌∙◌, ℕ, ◌+◌, Bool, true, false, cond, eqb, if◌then◌else◌, Some, is_some, unwrap_or, inl, inr}
+use Rattle.std.specs.Prelude.{nat_le, map as map_list}
 use Rattle.std.specs.Ordering.{nat_cmp}
 use Rattle.std.specs.Cmp.{nat_cmp_total}
 use Rattle.std.specs.FinMap.Entries.{find, find-put}
@@ -8,16 +8,14 @@ use Rattle.std.proofs.lemmas.Bool.{cases_eq, eq-eqb, ne_eqb}
 use Rattle.simplex_sorted.proofs.Maps.{is_eq-nat_cmp}
 use Rattle.simplex_types.specs.declared.types.messages.Proposal.{Proposal}
 use Rattle.simplex_types.specs.declared.reasons.TimeoutReason.{TimeoutReason}
-use Rattle.simplex_types.specs.Certificates.{ProposalFacts, NullificationFacts}
-use Rattle.simplex_round.specs.declared.round.Decision.{Decision}
-use Rattle.simplex_round.specs.declared.round.Decision.TheVariants.{Pending, Nullify, Finalize}
+use Rattle.simplex_types.specs.Certificates.{ProposalFacts}
+use Rattle.simplex_round.specs.declared.round.Decision.TheVariants.{Nullify}
 use Rattle.simplex_round.specs.declared.round.Certification.{Certification}
 use Rattle.simplex_round.specs.declared.round.Certification.TheVariants.{Ready, Outstanding, Judged, Aborted}
-use Rattle.simplex_round.specs.Round.{RoundFacts, new_round, is_judged, is_nullify, is_finalize, with_decision_deadlines, with_first_timeout, with_latch, after_abort, awaits_retry, token_of, with_recovered, with_notarization, with_nullification, with_finalization}
+use Rattle.simplex_round.specs.Round.{RoundFacts, new_round, is_judged, is_nullify, is_finalize, with_latch, after_abort, awaits_retry, token_of, with_notarization}
 use Rattle.simplex_voter.specs.Facts.{StateFacts, round_of, round_number, with_round}
 use Rattle.simplex_voter.specs.Entering.{entered_round}
 use Rattle.simplex_voter.specs.Certification.{without_token}
-use Rattle.simplex_voter.specs.Replay.{bound_again}
 use Rattle.simplex_record.proofs.Rounds.{armed_nullify, armed_finalize, latched_nullify, latched_finalize, awaited_nullify, round_changed}
 
 module _ {K D : Type 0} where

@@ -1,15 +1,13 @@
 -- An artifact is replayed as its entry is, and taking an entry leaves a state that goes on.
-use Rattle.std.proofs.Common.{◌≡◌, refl, ℕ, ◌+◌, nat_lt, Bool, true, false, ◌&&◌, List, None}
-use Rattle.simplex_types.specs.Certificates.{ArtifactFacts, NotarizeVote, NullifyVote, FinalizeVote, Verdict, Accepted, Notarized, Nullified, Finalized, artifact_facts}
+use Rattle.std.proofs.Common.{◌≡◌, refl, ℕ, nat_lt, Bool, true, false, List}
+use Rattle.simplex_types.specs.Certificates.{ArtifactFacts, Accepted, Notarized, Nullified, Finalized, artifact_facts}
 use Rattle.simplex_types.specs.declared.types.messages.Artifact.{Artifact}
 use Rattle.simplex_types.specs.declared.types.messages.Artifact.TheVariants as artifact
-use Rattle.simplex_voter.specs.Facts.{StateFacts, Elect, round_of, with_round}
-use Rattle.simplex_voter.specs.Windows.{in_window, min_active}
-use Rattle.simplex_voter.specs.Payloads.{is_elected_early}
-use Rattle.simplex_voter.specs.Leaders.{with_leader_of, with_elected_leader, with_next_view_ready}
-use Rattle.simplex_voter.specs.Replay.{after_replayed, replayed_round}
+use Rattle.simplex_voter.specs.Facts.{StateFacts, Elect}
+use Rattle.simplex_voter.specs.Windows.{min_active}
+use Rattle.simplex_voter.specs.Replay.{after_replayed}
 use Rattle.simplex_record.specs.Entries.{entry_view}
-use Rattle.simplex_record.specs.Recovery.{as_artifact, after_adding, after_replaying, after_entry, after_kept_entry}
+use Rattle.simplex_record.specs.Recovery.{after_adding, after_replaying, after_entry, after_kept_entry}
 use Rattle.simplex_record.specs.Events.{AddNotarization, AddNullification, AddFinalization}
 use Rattle.simplex_record.proofs.Going.{Goes, stays, event_goes}
 

@@ -171,7 +171,7 @@ module _ {K L D : Type 0} (same : D → D → Bool) (decides : (d e : D) → sam
       by_life : (o : Option (StateFacts K L D)) → m.life ≡ o → AnswersAlive same elect o m call told left → IsShown same elect (with_call_events history m.openings call told) left
       by_life None dead (tells, leaves) = rw (tells, leaves) shown
       by_life (Some x) alive (inl (tells, leaves)) = rw (tells, leaves) (answered history call x shown (subst (λ o. MatchOption o (Unit {0}) (Shows same elect history)) alive shown))
-      by_life (Some x) alive (inr (_, tells, inl leaves)) = rw (tells, leaves) shown
+      by_life (Some x) alive (inr (_, tells, inl (_, leaves))) = rw (tells, leaves) shown
       by_life (Some x) alive (inr (_, tells, inr (_, _, leaves))) = rw (tells, leaves) tt
 
   -- a restart that is refused leaves a member that has failed, or the one that it was

@@ -71,7 +71,8 @@ module _ {K L D : Type 0} (same : D → D → Bool) (elect : Elect L) where
     where
       by_life : (o : Option (StateFacts K L D)) → m.life ≡ o → AnswersAlive same elect o m (NextTimeout now) told next → IsPolled {L = L} (Calls (NextTimeout now)) told
       by_life None dead (tells, leaves) = inr (inl tells)
-      by_life (Some x) alive (inr (wanted, _, _)) = absurd (false≢true wanted)
+      by_life (Some x) alive (inr (_, _, inl (needs, _))) = absurd (false≢true needs)
+      by_life (Some x) alive (inr (_, _, inr (_, falls, _))) = absurd (false≢true falls)
       by_life (Some x) alive (inl (tells, leaves)) = by_fault x.failed (awaits_retry (round_of x x.current) && is_past_u64 (now + x.settings.timeout_retry)) (tells ∙ rw due refl)
         where
           due : has_timeout x ≡ true

@@ -56,7 +56,7 @@ module _ {K L D : Type 0} (same : D → D → Bool) (elect : Elect L) where
         by_life (Some x) alive (inl (tells, leaves)) =
             let goes = living_call m call x alive in
             inr (x, goes.0, alive, ap (λ n. n.life) leaves ∙ goes.1, subst (λ t. Holds call t x goes.0) (sym tells) goes.2)
-        by_life (Some x) alive (inr (_, tells, inl leaves)) = inr (x, x, alive, ap (λ n. n.life) leaves ∙ alive, subst (λ t. Holds call t x x) (sym tells) (refused call _ x))
+        by_life (Some x) alive (inr (_, tells, inl (_, leaves))) = inr (x, x, alive, ap (λ n. n.life) leaves ∙ alive, subst (λ t. Holds call t x x) (sym tells) (refused call _ x))
         by_life (Some x) alive (inr (_, tells, inr (_, _, leaves))) = inl (_, tells, ap (λ n. n.life) leaves)
 
     pub each_call : (m : MemberFacts K L D) (call : CallFacts D) (told : Told K D) (left : MemberFacts K L D) → IsCall same elect m call told left → WhileAlive (Holds call told) m.life left.life

@@ -118,8 +118,8 @@ module _ {K L D : Type 0} (same : D → D → Bool) (decides : (d e : D) → sam
       by_life : (o : Option (StateFacts K L D)) → m.life ≡ o → AnswersAlive same elect o m call told next → HoldsBuilt (past ++ Calls call ∷ []) next.life
       by_life None dead (tells, leaves) = rw leaves (holds_still past (Calls call ∷ []) m.life votes.holds)
       by_life (Some x) alive (inl (tells, leaves)) = rw leaves (answered call x alive)
-      by_life (Some x) alive (inr (wants, tells, inl leaves)) = rw leaves (holds_still past (Calls call ∷ []) m.life votes.holds)
-      by_life (Some x) alive (inr (wants, tells, inr (no_fault, falls, leaves))) = rw leaves tt
+      by_life (Some x) alive (inr (allowed, tells, inl (_, leaves))) = rw leaves (holds_still past (Calls call ∷ []) m.life votes.holds)
+      by_life (Some x) alive (inr (allowed, tells, inr (no_fault, falls, leaves))) = rw leaves tt
 
   new_vote : (call : CallFacts D) (told : Told K D) (i : ℕ) (p : Proposal D) (o : Option (StateFacts K L D)) → HoldsBuilt past o → ExactAt same elect o (Calls call) told → Contains (signed_in told) (Signs i (subject.Notarize p)) → IsBuilt past p
   new_vote call told i p None holds exact h = absurd (let none = subst (λ ds. Contains ds (Signs i (subject.Notarize p))) exact h in omega (arith, none.1))

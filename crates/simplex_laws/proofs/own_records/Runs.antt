@@ -122,7 +122,7 @@ module _ {K L D : Type 0} (same : D → D → Bool) (elect : Elect L) (term_leng
       by_life : (o : Option (StateFacts K L D)) → m.life ≡ o → AnswersAlive same elect o m call told left → MemberTells (deeds ++ deeds_of_call call told) left
       by_life None dead (tell, leaves) = rw (tell, leaves) (untold deeds m tells)
       by_life (Some x) alive (inl (tell, leaves)) = rw (tell, leaves) (answered call x alive tells)
-      by_life (Some x) alive (inr (_, tell, inl leaves)) = rw (tell, leaves) (untold deeds m tells)
+      by_life (Some x) alive (inr (_, tell, inl (_, leaves))) = rw (tell, leaves) (untold deeds m tells)
       by_life (Some x) alive (inr (_, tell, inr (_, _, leaves))) = rw (tell, leaves) (untold deeds (without_life m) (own_of deeds m.entries m.life tells))
 
   -- a restart

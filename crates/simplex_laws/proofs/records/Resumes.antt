@@ -85,7 +85,7 @@ module _ {K L D : Type 0} (same : D → D → Bool) (elect : Elect L) (m : Membe
       by_life : (o : Option (StateFacts K L D)) → AnswersAlive same elect o m call told left → Within left
       by_life None (tell, leaves) = rw leaves within
       by_life (Some x) (inl (tell, leaves)) = rw leaves (by_allowed x (is_allowed x m.openings call) refl)
-      by_life (Some x) (inr (_, tell, inl leaves)) = rw leaves within
+      by_life (Some x) (inr (_, tell, inl (_, leaves))) = rw leaves within
       by_life (Some x) (inr (_, tell, inr (_, _, leaves))) = rw leaves within
 
 module _ {K L D : Type 0} (same : D → D → Bool) (elect : Elect L) where

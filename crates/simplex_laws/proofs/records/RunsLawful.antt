@@ -82,7 +82,7 @@ module _ {K L D : Type 0} (same : D → D → Bool) (decides : (d e : D) → sam
       by_life : (o : Option (StateFacts K L D)) → m.life ≡ o → AnswersAlive same elect o m call told left → MemberLives term_length (deeds ++ deeds_of_call call told) left
       by_life None dead (tells, leaves) = rw (tells, leaves) (quiet term_length deeds m lives)
       by_life (Some x) alive (inl (tells, leaves)) = rw (tells, leaves) (answered call x alive lives)
-      by_life (Some x) alive (inr (_, tells, inl leaves)) = rw (tells, leaves) (quiet term_length deeds m lives)
+      by_life (Some x) alive (inr (_, tells, inl (_, leaves))) = rw (tells, leaves) (quiet term_length deeds m lives)
       by_life (Some x) alive (inr (_, tells, inr (_, _, leaves))) = rw (tells, leaves) (quiet term_length deeds (without_life m) (lives.0, between_of term_length deeds m.closed lives.0 m.entries m.openings m.life lives.1))
 
   -- a restart

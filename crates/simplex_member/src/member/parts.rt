@@ -10,7 +10,7 @@ ghost use Rattle.simplex_voter.specs.Certification.{takes_verdict, is_first_verd
 ghost use Rattle.simplex_voter.specs.Facts.{round_number};
 ghost use Rattle.simplex_voter.specs.Refusals.{is_started, plain_refusal};
 ghost use Rattle.simplex_member.specs.Made.{if_new};
-ghost use Rattle.simplex_member.specs.Parts.{EndsBy, KeepsOpen};
+ghost use Rattle.simplex_member.specs.Parts.{Ends, EndsBy, KeepsOpen};
 ghost use Rattle.simplex_member.specs.Openings.{without_offer, with_offers};
 ghost use Rattle.simplex_member.specs.Signed.{signatures_of};
 
@@ -199,7 +199,7 @@ pub(super) fn certify_candidates<S: CertificateScheme, L: Elector<S>, D: Digest>
     ensures answer { IfOk result (λ answer. (answer.0.items, answer.1.items) ≡ candidates_answer D.eq L.elect state.old) }
     ensures after { OnOk result (state.new ≡ after_candidates state.old) }
     ensures opened { OnOk result (openings.new.open_now ≡ with_offers openings.old.open_now (candidates_answer D.eq L.elect state.old).0) }
-    ensures refused { IfErr result (EndsBy (plain_refusal state.old) state.old state.new) }
+    ensures refused { IfErr result (Ends false true (plain_refusal state.old) state.old state.new) }
     ensures kept_open { IfErr result (KeepsOpen openings.old.open_now openings.new.open_now) }
 {
     match state.certify_candidates() {

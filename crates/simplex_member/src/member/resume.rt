@@ -56,6 +56,18 @@ impl<S: CertificateScheme, D: Digest> fmt::Display for NotResumed<S, D> {
     }
 }
 
+/// Without the entries, which are as many as a life has left.
+impl<S: CertificateScheme, D: Digest> fmt::Debug for NotResumed<S, D> {
+    fn fmt<W: fmt::Write>(&self, f: &mut fmt::Formatter<W>) -> fmt::Result {
+        f.debug_struct("NotResumed")
+            .field("error", &self.error)
+            .field("entries", &self.entries.len())
+            .finish()
+    }
+}
+
+impl<S: CertificateScheme, D: Digest> Error for NotResumed<S, D> {}
+
 impl Stored {
     ghost use Rattle.simplex_record.specs.Entries.{entries_of};
     ghost use Rattle.simplex_member.specs.Journal.{has_lost};

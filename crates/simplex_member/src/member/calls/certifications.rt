@@ -38,7 +38,7 @@ impl<S: Scheme<D>, L: Elector<S>, D: Digest> Member<S, L, D> {
 
     /// The certification of a view's proposal goes on under a token, in place of an earlier one.
     ///
-    /// `NotAllowed` where the view's proposal wasn't offered, or has its verdict; `OutOfMemory`.
+    /// `NotAllowed` where the view's proposal wasn't offered, or has its verdict.
     #[tactic(auto, unfolding(crate::specs::Lives::IsCall))]
     pub fn set_certify_handle(&mut self, view: View, token: u64) -> Result<(), Refusal>
         ensures made { IsCall D.eq L.elect self.old (SetCertifyHandle view token) (told_of (λ _. Done) result) self.new }

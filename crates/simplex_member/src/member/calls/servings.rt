@@ -90,7 +90,7 @@ impl<S: Scheme<D>, L: Elector<S>, D: Digest> Member<S, L, D> {
 
     /// A copy of the certificate that helps others into the current view; none in view 1.
     ///
-    /// `OutOfMemory`, with nothing changed.
+    /// `OutOfMemory`, with nothing changed, and never where there is none.
     #[tactic(auto, unfolding(crate::specs::Lives::IsCall))]
     pub fn get_best_certificate(&mut self) -> Result<Option<Certificate<S, D>>, Refusal>
         ensures made { IsCall D.eq L.elect self.old GetBestCertificate
