@@ -7,4 +7,5 @@ pub mod Examples
 pub mod WithinRuns
 pub mod TimingOut
 pub mod Polls
+pub mod Gapless
 pub mod Progress

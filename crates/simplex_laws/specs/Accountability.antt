@@ -1,5 +1,5 @@
 -- Who answers for two certificates that contradict each other: for any number of faulty members, by what is known of each.
-use Rattle.std.specs.Prelude.{◌≡◌, ◌≢◌, ℕ, ◌+◌, ◌-◌, ◌*◌, ◌<◌, ◌≤◌, ◌⊎◌, ⊤, Bool, true, List, length, slice_get, Option, Some, None, Contains, is_some, not}
+use Rattle.std.specs.Prelude.{◌≡◌, ◌≢◌, ℕ, ◌+◌, ◌-◌, ◌*◌, ◌<◌, ◌≤◌, ◌⊎◌, ⊤, Bool, true, List, map, length, slice_get, Option, Some, None, Contains, is_some, not}
 use Rattle.std.specs.List.{count_by}
 use Rattle.simplex_types.specs.Terms.{covers}
 use Rattle.simplex_types.specs.declared.types.messages.Proposal.{Proposal}
@@ -9,7 +9,7 @@ use Rattle.simplex_types.specs.declared.types.numbers.Round.{Round}
 use Rattle.simplex_voter.specs.Facts.{Elect}
 use Rattle.simplex_laws.specs.Deeds.{Deed, Accepts, Signs}
 use Rattle.simplex_laws.specs.Lawful.{HasSigned, SignsAfter, HasCover, HasFinalizedBetween, IsLawful}
-use Rattle.simplex_laws.specs.Places.{AtLeastFrom, Place, Honest, faults, Backed, max_faults, quorum}
+use Rattle.simplex_laws.specs.Places.{AtLeastFrom, Place, Faulty, Honest, faults, Backed, max_faults, quorum}
 use Rattle.simplex_laws.specs.Stories.{Story, deeds_of, Ran}
 
 module _ {D : Type 0} where
@@ -207,6 +207,12 @@ ContradictionsAreTraced D =
     → AcceptCertified members → Contradicts term_length a b → MayBeCertified members a → MayBeCertified members b
     → IsTraced term_length members a b
 
+module _ {K L D : Type 0} where
+  -- what is known of a place: all that its member did, or of a faulty one nothing
+  abbrev pub known_of : Place K L D → Option (List (Deed D))
+  known_of Faulty = None
+  known_of (Honest s) = Some (deeds_of s)
+
 module _ {K L D : Type 0} (same : D → D → Bool) (elect : Elect L) where
   -- however many are faulty: each other place runs as it says, and each certificate that one of these accepted is backed
   pub record IsBackedNetwork (term_length : ℕ) (network : List (Place K L D)) : Type 0 where
@@ -221,3 +227,10 @@ module _ (K : Type 0) {L D : Type 0} (same : D → D → Bool) (elect : Elect L)
       (term_length : ℕ) (network : List (Place K L D)) (a b : Subject D)
       → IsBackedNetwork same elect term_length network → Contradicts term_length a b → Backed network a → Backed network b
       → length network - 2 * max_faults (length network) ≤ faults network
+
+  -- and two are found that contradict, no farther apart, whose votes n - 2f places gave that are faulty or broke a rule by these
+  abbrev pub ContradictionsAreTracedInNetworks : Type 0
+  ContradictionsAreTracedInNetworks =
+      (term_length : ℕ) (network : List (Place K L D)) (a b : Subject D)
+      → IsBackedNetwork same elect term_length network → Contradicts term_length a b → Backed network a → Backed network b
+      → IsTraced term_length (map known_of network) a b

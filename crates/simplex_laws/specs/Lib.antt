@@ -27,3 +27,7 @@ pub mod Turns
 pub mod DividedNetwork
 pub mod LackingNetwork
 pub mod HandoffNetwork
+pub mod ChangingLives
+pub mod AheadNetwork
+pub mod Rivals
+pub mod PlainNetwork

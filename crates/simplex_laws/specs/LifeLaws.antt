@@ -3,8 +3,11 @@ use Rattle.std.specs.Prelude.{◌≡◌, ◌⊎◌, ℕ, ◌<◌, ◌≤◌, Boo
 use Rattle.std.specs.List.{IsDistinct}
 use Rattle.simplex_types.specs.Certificates.{CertificateFacts, Notarized, Nullified, Finalized}
 use Rattle.simplex_types.specs.declared.types.fault.Fault.TheVariants.{Failed, TimeOverflow}
+use Rattle.simplex_types.specs.declared.types.messages.Proposal.{Proposal}
 use Rattle.simplex_types.specs.declared.reasons.TimeoutReason.{TimeoutReason}
 use Rattle.simplex_voter.specs.Facts.{StateFacts, Elect, round_of, is_tracked}
+use Rattle.simplex_voter.specs.Gaps.{IsGapless}
+use Rattle.simplex_voter.specs.Rules.{NotarizeRule}
 use Rattle.simplex_voter.specs.Timeouts.{has_timeout}
 use Rattle.simplex_voter.specs.Windows.{min_active}
 use Rattle.simplex_member.specs.Calls.{CallFacts, BroadcastNotarization, BroadcastNullification, BroadcastFinalization, NextTimeout, Told, Handed, Dropped, TimesOut, Refused}
@@ -14,6 +17,7 @@ use Rattle.simplex_record.specs.Recovery.{recover_error}
 use Rattle.simplex_member.specs.Runs.{StepFacts, Calls, IsRun, IsRunFrom}
 use Rattle.simplex_record.specs.Start.{StartFacts, new_state}
 use Rattle.simplex_member.specs.Start.{started_member}
+use Rattle.simplex_laws.specs.Exactly.{proposal_at}
 use Rattle.simplex_laws.specs.TermLengths.{HasTerms, KeepTerms}
 
 module _ {K L D : Type 0} (same : D → D → Bool) (elect : Elect L) where
@@ -42,6 +46,12 @@ pub record NeverFalls {K L D : Type 0} (first last : StateFacts K L D) : Type 0 
 pub record CurrentTimesOut {K L D : Type 0} (x : StateFacts K L D) : Type 0 where
   pub ahead : x.finalized < x.current
   pub timeout : has_timeout x ≡ true
+
+-- wherever the rule of votes to notarize holds, the parent of the proposal that is held lies below the view, and nullifications
+-- that the state knows at that moment cover each view between
+abbrev pub NotarizesGapless : {K L D : Type 0} → (D → D → Bool) → Elect L → StateFacts K L D → Type 0
+NotarizesGapless same elect x =
+    (v : ℕ) (p : Proposal _) → NotarizeRule same elect x v → proposal_at x v ≡ Some p → (p.parent < v) × IsGapless x p.parent v
 
 module _ {K L D : Type 0} where
   -- a poll is told a moment to wait for and why; or its member has failed, or its next retry passes the numbers of 64 bits

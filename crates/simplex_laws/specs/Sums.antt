@@ -1,12 +1,12 @@
 -- What a list of events says: numbers, and what was handed in for each view. The latest event stands first.
-use Rattle.std.specs.Prelude.{ℕ, ◌+◌, ◌-◌, max, Bool, true, false, ◌&&◌, ◌==◌, List, [], ◌∷◌, Option, Some, None, is_some, unwrap_or, if◌then◌else◌}
+use Rattle.std.specs.Prelude.{ℕ, ◌+◌, ◌-◌, max, Bool, true, ◌&&◌, ◌==◌, List, [], ◌∷◌, Option, Some, None, is_some, unwrap_or, if◌then◌else◌}
 use Rattle.std.specs.List.{list_any}
 use Rattle.std.specs.Option.{option_or}
 use Rattle.simplex_types.specs.Terms.{next_term_start}
-use Rattle.simplex_types.specs.Certificates.{ProposalFacts, NullificationFacts, Verdict, Accepted, Nullified}
+use Rattle.simplex_types.specs.Certificates.{ProposalFacts, NullificationFacts, Verdict}
 use Rattle.simplex_types.specs.Config.{Genesis, Finalized}
 pub use Rattle.simplex_record.specs.Events.{covers_from, finalized_by_event, is_prune}
-use Rattle.simplex_laws.specs.Events.{Event, SetFloor, AddNotarization, AddNullification, AddFinalization, Certified, Proposed, VerificationFailed, TriggerTimeout, NextTimeout, Prune, Replay}
+use Rattle.simplex_laws.specs.Events.{Event, SetFloor, AddNotarization, AddNullification, AddFinalization, Certified, Proposed, VerificationFailed, TriggerTimeout, NextTimeout, Replay}
 
 -- what was there, or else what is new
 abbrev pub or_new : {A : Type 0} → Option A → Option A → Option A

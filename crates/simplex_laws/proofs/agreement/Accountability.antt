@@ -1,9 +1,11 @@
 -- For `accountability`, `contradictions_need_faults`.
 -- Two quorums share n - 2f members. One that gave both votes broke a rule or accepted a nearer contradiction; so by induction on
 -- the distance there is a contradiction at which each of these broke a rule.
-use Rattle.std.proofs.Common.{◌≡◌, ℕ, zero, suc, ◌+◌, ◌-◌, ◌*◌, ◌<◌, ◌≤◌, ◌⊎◌, inl, inr, Bool, true, false, List, [], ◌∷◌, length, slice_get, Contains, Option, Some, None, is_some, not, cond, arith, refl, ap, sym, ◌∙◌, subst}
+use Rattle.std.proofs.Common.{◌≡◌, ℕ, zero, suc, ◌+◌, ◌-◌, ◌*◌, ◌<◌, ◌≤◌, ◌⊎◌, inl, inr, Bool, true, false, List, [], ◌∷◌, map, length, slice_get, Contains, Option, Some, None, is_some, unwrap_or, option_map, not, cond, arith, refl, ap, sym, ◌∙◌, subst}
 use Rattle.std.proofs.lemmas.Bool.{false≢true, cases_Bool, cases_eq, cases_lt}
+use Rattle.std.proofs.lemmas.List.{length-map}
 use Rattle.std.proofs.lemmas.List.Sums.{sum_by-cons}
+use Rattle.std.proofs.lemmas.Option.{slice_get-map}
 use Rattle.simplex_types.specs.declared.types.messages.Proposal.{Proposal}
 use Rattle.simplex_types.specs.declared.types.messages.Subject.{Subject}
 use Rattle.simplex_types.specs.declared.types.messages.Subject.TheVariants as subject
@@ -13,10 +15,10 @@ use Rattle.simplex_types.specs.Terms.{covers}
 use Rattle.simplex_types.proofs.Covers.{covers_parts}
 use Rattle.simplex_types.proofs.Proposal.{same_proposal-true, same_proposal-refl}
 use Rattle.simplex_voter.specs.Facts.{Elect}
-use Rattle.simplex_laws.specs.Accountability.{AreRivals, Contradicts, distance, BreaksBy, BreaksByFinal, BreaksByNullify, HasAcceptedNearer, MayHaveVoted, MayBeCertified, AcceptCertified, AnswersFor, IsGuilty, IsSuspect, unknowns, IsTraced, IsBackedNetwork, ContradictionsAreAnsweredFor, ContradictionsAreTraced, BrokenRulesAreRules, EvidenceHolds, NearestIsEvidence, ThirdIsAnother, ContradictionsNeedFaults}
+use Rattle.simplex_laws.specs.Accountability.{AreRivals, Contradicts, distance, BreaksBy, BreaksByFinal, BreaksByNullify, HasAcceptedNearer, MayHaveVoted, MayBeCertified, AcceptCertified, AnswersFor, IsGuilty, IsSuspect, unknowns, IsTraced, known_of, IsBackedNetwork, ContradictionsAreAnsweredFor, ContradictionsAreTraced, BrokenRulesAreRules, EvidenceHolds, NearestIsEvidence, ThirdIsAnother, ContradictionsNeedFaults, ContradictionsAreTracedInNetworks}
 use Rattle.simplex_laws.specs.Deeds.{Deed, Accepts, Signs}
 use Rattle.simplex_laws.specs.Lawful.{HasSigned, HasCover, HasFinalizedBetween, IsLawful}
-use Rattle.simplex_laws.specs.Places.{Place, Honest, faults, AtLeastFrom, Backed, max_faults, quorum}
+use Rattle.simplex_laws.specs.Places.{Place, Faulty, Honest, faults, AtLeastFrom, MayHaveSigned, Backed, max_faults, quorum}
 use Rattle.simplex_laws.specs.Stories.{Story, deeds_of}
 use Rattle.simplex_laws.proofs.lists.Splits.{Contains-cons_rest, Contains-cases}
 use Rattle.simplex_laws.proofs.agreement.TwoVotes.{covers_between, one_notarized, one_finalized}
@@ -470,3 +472,32 @@ module _ {K L D : Type 0} (same : D → D → Bool) (decides : (d e : D) → sam
         | inl few ↦ absurd (none_contradict same decides itself elect term_length network good few (suc (distance a b)) a b (omega arith) against has_a has_b)
         | inr enough ↦ enough
       ]
+
+-- in a network the members of which are known as far as they are honest, each accepted certificate is backed
+
+module _ {K L D : Type 0} where
+  known_signed : (vote : Subject D) (network : List (Place K L D)) (i count : ℕ) → AtLeastFrom i count (MayHaveSigned vote) network → AtLeastFrom i count (MayHaveVoted vote) (map known_of network)
+  known_signed vote network i zero h = tt
+  known_signed vote [] i (suc count) h = absurd h
+  known_signed vote (Faulty ∷ network) i (suc count) (inl h) = inl (tt, known_signed vote network (suc i) count h.1)
+  known_signed vote (Honest s ∷ network) i (suc count) (inl h) = inl (h.0, known_signed vote network (suc i) count h.1)
+  known_signed vote (place ∷ network) i (suc count) (inr h) = inr (known_signed vote network (suc i) (suc count) h)
+
+  backed_certified : (vote : Subject D) (network : List (Place K L D)) → Backed network vote → MayBeCertified (map known_of network) vote
+  backed_certified vote network backed = rw (length-map network known_of) (known_signed vote network 0 (quorum (length network)) backed)
+
+  known_honest : (place : Option (Place K L D)) (deeds : List (Deed D)) → option_map known_of place ≡ Some (Some deeds) → (s : Story K L D) × (place ≡ Some (Honest s)) × (deeds_of s ≡ deeds)
+  known_honest None deeds is = absurd (let no : ⊥ = cc in no)
+  known_honest (Some Faulty) deeds is = absurd (let no : ⊥ = cc in no)
+  known_honest (Some (Honest s)) deeds is = (s, refl, ap (λ o. unwrap_or (unwrap_or o None) deeds) is)
+
+module _ {K L D : Type 0} (same : D → D → Bool) (elect : Elect L) where
+  accept_certified : (term_length : ℕ) (network : List (Place K L D)) → IsBackedNetwork same elect term_length network → AcceptCertified (map known_of network)
+  accept_certified term_length network good i deeds certificate at accepted =
+      let found = known_honest (slice_get network i) deeds (sym (slice_get-map known_of network i) ∙ at) in
+      backed_certified certificate network (good.backed i found.0 certificate found.1 (subst (λ d. Contains d (Accepts certificate)) (sym found.2) accepted))
+
+module _ {K L D : Type 0} (same : D → D → Bool) (decides : (d e : D) → same d e ≡ true → d ≡ e) (itself : (d : D) → same d d ≡ true) (elect : Elect L) where
+  pub traced_in_networks : ContradictionsAreTracedInNetworks K same elect
+  traced_in_networks term_length network a b good against has_a has_b =
+      traced_to_guilt same decides itself term_length (map known_of network) a b (accept_certified same elect term_length network good) against (backed_certified a network has_a) (backed_certified b network has_b)

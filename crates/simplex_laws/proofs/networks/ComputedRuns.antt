@@ -1,6 +1,6 @@
 -- For the worked networks.
 -- A run that is computed: what each step of a list is told where no memory is wanted, and that this is a run.
-use Rattle.std.proofs.Common.{◌≡◌, refl, sym, subst, ℕ, zero, suc, ◌≤◌, ◌<◌, inl, inr, Bool, true, false, List, [], ◌∷◌, length, Contains, Option, Some, None, Ok, arith}
+use Rattle.std.proofs.Common.{◌≡◌, refl, subst, ℕ, zero, suc, ◌≤◌, ◌<◌, inl, inr, Bool, true, false, List, [], ◌∷◌, length, Contains, Option, Some, None, Result, Ok, Err, arith}
 use Rattle.std.specs.Prelude.{◌&&◌, nat_le}
 use Rattle.std.specs.List.{slice_index_or}
 use Rattle.std.specs.List.Sorted.{IsNonDecreasingBy}
@@ -8,27 +8,55 @@ use Rattle.std.proofs.lemmas.Bool.{leb-true}
 use Rattle.simplex_types.specs.declared.types.fault.Fault.TheVariants as fault
 use Rattle.simplex_voter.specs.Facts.{StateFacts, Elect}
 use Rattle.simplex_voter.proofs.Gaps.{and_parts}
-use Rattle.simplex_member.specs.Calls.{CallFacts, Told, Refused, Restarted}
+use Rattle.simplex_member.specs.Calls.{CallFacts, Told, Refused, Restarted, NotRestarted}
 use Rattle.simplex_record.specs.Entries.{entry_view}
-use Rattle.simplex_member.specs.Lives.{MemberFacts, AnswersAlive, IsCall, reply_of, left_of}
+use Rattle.simplex_member.specs.Lives.{MemberFacts, AnswersAlive, IsCall, reply_of, left_of, without_life}
 use Rattle.simplex_record.specs.Recovery.{recover_error}
-use Rattle.simplex_member.specs.Restarts.{RestartFacts, cut_member, new_life, retention_grows, GoesOnFrom, IsRestart, IsRestartWhere}
-use Rattle.simplex_member.specs.Runs.{StepFacts, Calls, Restarts, IsRun, IsRunFrom}
+use Rattle.simplex_record.specs.declared.record.error.RecoverError.{RecoverError}
+use Rattle.simplex_record.specs.declared.record.error.RecoverError.TheVariants as error
+use Rattle.simplex_member.specs.Restarts.{RestartFacts, cut_member, new_life, retention_grows, IsRestart, IsRestartWhere}
+use Rattle.simplex_member.specs.Runs.{StepFacts, Calls, Restarts, restart_told, IsRun, IsRunFrom}
 use Rattle.simplex_record.specs.Start.{StartFacts, new_state}
 use Rattle.simplex_member.specs.Start.{started_member}
 use Rattle.simplex_laws.specs.Stories.{Story, BeginsAs}
 use Rattle.simplex_laws.proofs.lists.Splits.{Contains-cases}
 
+-- what a restart answers, by whether the retention grows and the error that is due
+abbrev result_then : Bool → Option RecoverError → Result (Unit {0}) RecoverError
+result_then true due = Err error.RetentionGrown
+result_then false None = Ok tt
+result_then false (Some e) = Err e
+
 module _ {K L D : Type 0} (same : D → D → Bool) (elect : Elect L) where
-  -- what is told, where no growth is refused and each restart finds its record in order
+  -- the error that is due of what a restart leaves of the record, in the order of the record
+  abbrev due_error : MemberFacts K L D → RestartFacts K L D → Option RecoverError
+  due_error m r = recover_error same (new_state r.start.setup) r.start.floor r.start.now (cut_member m r.drop r.prune).entries
+
+  -- more views are to be kept than before
+  abbrev grows_at : MemberFacts K L D → RestartFacts K L D → Bool
+  grows_at m r = retention_grows m r.prune r.start.setup.settings.view_retention
+
+  -- what a restart is told, by whether the retention grows and the error that is due
+  abbrev pub told_restart : Bool → Option RecoverError → Told K D
+  told_restart true due = NotRestarted error.RetentionGrown
+  told_restart false None = Restarted
+  told_restart false (Some e) = NotRestarted e
+
+  -- and what it leaves
+  abbrev pub left_restart : Bool → Option RecoverError → MemberFacts K L D → RestartFacts K L D → MemberFacts K L D
+  left_restart true due m r = m
+  left_restart false None m r = new_life same elect (cut_member m r.drop r.prune) r.start (cut_member m r.drop r.prune).entries
+  left_restart false (Some e) m r = without_life (cut_member m r.drop r.prune)
+
+  -- what is told, where no growth is refused
   abbrev pub reply_then : Option (StateFacts K L D) → MemberFacts K L D → StepFacts K L D → Told K D
-  reply_then life m (Restarts r) = Restarted
+  reply_then life m (Restarts r) = told_restart (grows_at m r) (due_error m r)
   reply_then None m (Calls call) = Refused fault.Failed
   reply_then (Some x) m (Calls call) = reply_of same elect x m.openings call
 
   -- and what is left
   abbrev pub next_then : Option (StateFacts K L D) → MemberFacts K L D → StepFacts K L D → MemberFacts K L D
-  next_then life m (Restarts r) = new_life same elect (cut_member m r.drop r.prune) r.start (cut_member m r.drop r.prune).entries
+  next_then life m (Restarts r) = left_restart (grows_at m r) (due_error m r) m r
   next_then None m (Calls call) = m
   next_then (Some x) m (Calls call) = left_of same elect x m call
 
@@ -40,14 +68,11 @@ module _ {K L D : Type 0} (same : D → D → Bool) (elect : Elect L) where
   end_from m [] = m
   end_from m (step ∷ steps) = end_from (next_then m.life m step) steps
 
-  -- each restart is taken
+  -- each restart finds its record by rising view
   abbrev pub Fits : MemberFacts K L D → List (StepFacts K L D) → Type 0
   Fits m [] = Unit {0}
   Fits m (Restarts r ∷ steps) =
-      (retention_grows m r.prune r.start.setup.settings.view_retention ≡ false)
-      × IsNonDecreasingBy entry_view (cut_member m r.drop r.prune).entries
-      × (recover_error same (new_state r.start.setup) r.start.floor r.start.now (cut_member m r.drop r.prune).entries ≡ None)
-      × Fits (next_then m.life m (Restarts r)) steps
+      IsNonDecreasingBy entry_view (cut_member m r.drop r.prune).entries × Fits (next_then m.life m (Restarts r)) steps
   Fits m (Calls call ∷ steps) = Fits (next_then m.life m (Calls call)) steps
 
   call_answered : (life : Option (StateFacts K L D)) (m : MemberFacts K L D) (call : CallFacts D) → AnswersAlive same elect life m call (reply_then life m (Calls call)) (next_then life m (Calls call))
@@ -58,20 +83,27 @@ module _ {K L D : Type 0} (same : D → D → Bool) (elect : Elect L) where
   unfolding IsCall
   call_made m call = call_answered m.life m call
 
-  goes_on : (m : MemberFacts K L D) (start : StartFacts K L D) → recover_error same (new_state start.setup) start.floor start.now m.entries ≡ None → GoesOnFrom same elect m start m.entries (Ok tt) (new_life same elect m start m.entries)
-  goes_on m start none = rw none (refl, refl)
+  told_so : (grows : Bool) (due : Option RecoverError) → told_restart grows due ≡ restart_told (result_then grows due)
+  told_so true due = refl
+  told_so false None = refl
+  told_so false (Some e) = refl
 
-  restart_made : (m : MemberFacts K L D) (r : RestartFacts K L D) → retention_grows m r.prune r.start.setup.settings.view_retention ≡ false → IsNonDecreasingBy entry_view (cut_member m r.drop r.prune).entries → recover_error same (new_state r.start.setup) r.start.floor r.start.now (cut_member m r.drop r.prune).entries ≡ None → IsRestart same elect m r (Ok tt) (next_then m.life m (Restarts r))
+  restart_by : (grows : Bool) (due : Option RecoverError) (m : MemberFacts K L D) (r : RestartFacts K L D) → due_error m r ≡ due → IsNonDecreasingBy entry_view (cut_member m r.drop r.prune).entries → IsRestartWhere same elect grows m r (result_then grows due) (left_restart grows due m r)
+  restart_by true due m r is rising = (refl, refl)
+  restart_by false None m r is rising = inr ((cut_member m r.drop r.prune).entries, record { rising = rising; of_each_view = λ v. refl }, rw is (refl, refl))
+  restart_by false (Some e) m r is rising = inr ((cut_member m r.drop r.prune).entries, record { rising = rising; of_each_view = λ v. refl }, rw is (refl, refl))
+
+  restart_made : (m : MemberFacts K L D) (r : RestartFacts K L D) → IsNonDecreasingBy entry_view (cut_member m r.drop r.prune).entries → IsRestart same elect m r (result_then (grows_at m r) (due_error m r)) (next_then m.life m (Restarts r))
   unfolding IsRestart
-  restart_made m r grows rising none =
-      let n = cut_member m r.drop r.prune in
-      subst (λ (b : Bool). IsRestartWhere same elect b m r (Ok tt) (new_life same elect n r.start n.entries)) (sym grows)
-      (inr (n.entries, record { rising = rising; of_each_view = λ v. refl }, goes_on n r.start none))
+  restart_made m r rising = restart_by (grows_at m r) (due_error m r) m r refl rising
 
   pub fits_run : (m : MemberFacts K L D) (steps : List (StepFacts K L D)) → Fits m steps → IsRun same elect m steps (replies_from m steps) (end_from m steps)
   fits_run m [] fits = refl
   fits_run m (Calls call ∷ steps) fits = (next_then m.life m (Calls call), call_made m call, fits_run (next_then m.life m (Calls call)) steps fits)
-  fits_run m (Restarts r ∷ steps) fits = (next_then m.life m (Restarts r), (Ok tt, restart_made m r fits.0 fits.1 fits.2, refl), fits_run (next_then m.life m (Restarts r)) steps fits.3)
+  fits_run m (Restarts r ∷ steps) fits =
+      let grows = grows_at m r in
+      let due = due_error m r in
+      (next_then m.life m (Restarts r), (result_then grows due, restart_made m r fits.0, told_so grows due), fits_run (next_then m.life m (Restarts r)) steps fits.1)
 
   abbrev pub begun : StartFacts K L D → MemberFacts K L D
   begun start = started_member same elect (new_state start.setup) start.floor start.now

@@ -1,4 +1,5 @@
--- For `conflicts_are_left`, `gaps_are_closed`, `nullified_handoffs_are_left`.
+-- For `conflicts_are_left`, `gaps_are_closed`, `nullified_handoffs_are_left`, `rivals_are_answered_for`,
+-- `skipped_finalizations_are_answered_for`, `views_ahead_are_agreed_on`.
 -- Tests by which it is computed that a network goes on as another, and what each of them shows. Payloads are numbers.
 use Rattle.std.proofs.Common.{◌≡◌, refl, ap, sym, ◌∙◌, subst, ℕ, zero, suc, ◌+◌, ◌<◌, ◌⊎◌, inl, inr, Bool, true, false, ◌&&◌, ◌||◌, not, if◌then◌else◌, List, [], ◌∷◌, map, length, slice_get, Contains, Some, nat_eq, nat_lt, arith}
 use Rattle.std.specs.Prelude.{◌==◌}
@@ -16,6 +17,7 @@ use Rattle.simplex_voter.specs.Facts.{Elect}
 use Rattle.simplex_voter.proofs.Gaps.{and_parts}
 use Rattle.simplex_member.specs.Calls.{SetProposal, Proposed, Told}
 use Rattle.simplex_member.specs.Runs.{StepFacts, Calls, Restarts}
+use Rattle.simplex_laws.specs.Accountability.{IsBackedNetwork}
 use Rattle.simplex_laws.specs.Continuations.{and_then, PlacesGoOn, EachHonest, SomeHonest, HasSignedAs, HasAccepted, HasHeard, HasBuilt, IsHonestlySigned, HonestlyBacked, GoesOnToFinalize}
 use Rattle.simplex_laws.specs.Deeds.{Deed, Accepts, Signs}
 use Rattle.simplex_laws.specs.Places.{Place, Faulty, Honest, FewFaulty, AtLeastFrom, quorum, MayHaveSigned, Backed, IsNetworkOf}
@@ -52,12 +54,12 @@ same_subject-true (Nullify r) (Nullify s) is = ap Nullify (same_round-true r s i
 same_subject-true (Finalize p) (Finalize q) is = ap Finalize (one_proposal p q is)
 same_subject-true _ _ is = absurd (false≢true is)
 
-abbrev same_deed : Deed ℕ → Deed ℕ → Bool
+abbrev pub same_deed : Deed ℕ → Deed ℕ → Bool
 same_deed (Accepts c) (Accepts d) = same_subject c d
 same_deed (Signs i vote) (Signs j other) = i == j && same_subject vote other
 same_deed _ _ = false
 
-same_deed-true : (d e : Deed ℕ) → same_deed d e ≡ true → d ≡ e
+pub same_deed-true : (d e : Deed ℕ) → same_deed d e ≡ true → d ≡ e
 same_deed-true (Accepts c) (Accepts d) is = ap Accepts (same_subject-true c d is)
 same_deed-true (Signs i vote) (Signs j other) is =
     let parts = and_parts (i == j) (same_subject vote other) is in
@@ -112,7 +114,7 @@ module _ {X : Type 0} where
       let parts = and_parts (test y) (each_one test xs) is in
       elim (Contains-cases y xs x h) [ inl here ↦ subst (λ z. test z ≡ true) here parts.0 | inr later ↦ each_one-true test xs parts.1 x later ]
 
-  abbrev enough : ℕ → ℕ → (ℕ → X → Bool) → List X → Bool
+  abbrev pub enough : ℕ → ℕ → (ℕ → X → Bool) → List X → Bool
   enough i zero test xs = true
   enough i (suc count) test [] = false
   enough i (suc count) test (x ∷ xs) = if test i x then enough (suc i) count test xs else enough (suc i) (suc count) test xs
@@ -121,7 +123,7 @@ module _ {X : Type 0} where
   by_first P i count x xs true fewer more here rest none is = inl (here refl, rest is)
   by_first P i count x xs false fewer more here rest none is = inr (none is)
 
-  enough-true : (P : ℕ → X → Type 0) (test : ℕ → X → Bool) → ((i : ℕ) (x : X) → test i x ≡ true → P i x) → (i count : ℕ) (xs : List X) → enough i count test xs ≡ true → AtLeastFrom i count P xs
+  pub enough-true : (P : ℕ → X → Type 0) (test : ℕ → X → Bool) → ((i : ℕ) (x : X) → test i x ≡ true → P i x) → (i count : ℕ) (xs : List X) → enough i count test xs ≡ true → AtLeastFrom i count P xs
   enough-true P test shows i zero xs is = tt
   enough-true P test shows i (suc count) [] is = absurd (false≢true is)
   enough-true P test shows i (suc count) (x ∷ xs) is =
@@ -204,14 +206,14 @@ not_accepted c s itself others h = false≢true (sym (ap not itself) ∙ each_on
 
 -- each certificate that honest members accept passes a test
 
-abbrev passes : (Subject ℕ → Bool) → Deed ℕ → Bool
+abbrev pub passes : (Subject ℕ → Bool) → Deed ℕ → Bool
 passes test (Accepts c) = test c
 passes test (Signs i vote) = true
 
 abbrev pub each_accepted : (Subject ℕ → Bool) → List (Place ℕ ℕ ℕ) → Bool
 each_accepted test network = each_honest (λ i s. each_one (passes test) (deeds_of s)) 0 network
 
-accepted_so : (test : Subject ℕ → Bool) (network : List (Place ℕ ℕ ℕ)) → each_accepted test network ≡ true → EachHonest network (λ i s. (c : Subject ℕ) → HasAccepted c i s → test c ≡ true)
+pub accepted_so : (test : Subject ℕ → Bool) (network : List (Place ℕ ℕ ℕ)) → each_accepted test network ≡ true → EachHonest network (λ i s. (c : Subject ℕ) → HasAccepted c i s → test c ≡ true)
 accepted_so test network is i s at c h =
     each_one-true (passes test) (deeds_of s) (each_honest-true (λ j t. each_one (passes test) (deeds_of t)) 0 network is i s at) (Accepts c) h
 
@@ -260,6 +262,13 @@ module _ (elect : Elect ℕ) (term_length : ℕ) where
   pub network_of : (network : List (Place ℕ ℕ ℕ)) → FewFaulty network → AllRan 0 network → each_accepted (is_backed network) network ≡ true → IsNetworkOf nat_eq elect term_length network
   network_of network few all backed = record {
     few_faulty = few;
+    honest = λ i s at. subst (λ k. Ran nat_eq elect term_length k s) (omega arith) (each_ran 0 network all i s at);
+    backed = λ i s c at h. backed_so network c (accepted_so (is_backed network) network backed i s at c h);
+  }
+
+  -- the same, however many are faulty
+  pub backed_network_of : (network : List (Place ℕ ℕ ℕ)) → AllRan 0 network → each_accepted (is_backed network) network ≡ true → IsBackedNetwork nat_eq elect term_length network
+  backed_network_of network all backed = record {
     honest = λ i s at. subst (λ k. Ran nat_eq elect term_length k s) (omega arith) (each_ran 0 network all i s at);
     backed = λ i s c at h. backed_so network c (accepted_so (is_backed network) network backed i s at c h);
   }

@@ -37,15 +37,15 @@ abbrev forgetting : Story ℕ ℕ ℕ
 forgetting = and_then (warned 2) (follows_past_conflict 2 1000 LeaderTimeout)
 
 leading_told : told_in leading ≡ leading.replies
-unfolding recovered_state after_kept_entry may_drop pruned_entries standing propose_answer proposed_answer preferred_parent may_stand spans payload_for first_gap explicit_payload in_window is_admitted binding_matches parent_payload may_notarize may_nullify may_finalize is_gated required_parent
+unfolding first_recover_error recovered_state after_kept_entry may_drop pruned_entries standing propose_answer proposed_answer preferred_parent may_stand spans payload_for first_gap explicit_payload in_window is_admitted binding_matches parent_payload may_notarize may_nullify may_finalize is_gated required_parent
 leading_told = refl
 
 following_told : told_in following ≡ following.replies
-unfolding recovered_state after_kept_entry may_drop pruned_entries standing spans payload_for first_gap explicit_payload in_window is_admitted binding_matches parent_payload may_notarize may_nullify may_finalize is_gated required_parent
+unfolding first_recover_error recovered_state after_kept_entry may_drop pruned_entries standing spans payload_for first_gap explicit_payload in_window is_admitted binding_matches parent_payload may_notarize may_nullify may_finalize is_gated required_parent
 following_told = refl
 
 forgetting_told : told_in forgetting ≡ forgetting.replies
-unfolding recovered_state after_kept_entry may_drop pruned_entries standing spans payload_for first_gap explicit_payload in_window is_admitted binding_matches parent_payload may_notarize may_nullify may_finalize is_gated required_parent
+unfolding first_recover_error recovered_state after_kept_entry may_drop pruned_entries standing spans payload_for first_gap explicit_payload in_window is_admitted binding_matches parent_payload may_notarize may_nullify may_finalize is_gated required_parent
 forgetting_told = refl
 
 -- the record that is left at a restart: a vote, or nothing
@@ -60,15 +60,15 @@ with_none = []
 
 leading_fits : FitsIn leading
 unfolding first_recover_error recovered_state after_kept_entry may_drop pruned_entries standing propose_answer proposed_answer preferred_parent may_stand spans payload_for first_gap explicit_payload in_window is_admitted binding_matches parent_payload may_notarize may_nullify may_finalize is_gated required_parent
-leading_fits = (refl, rises entry_view 0 with_vote refl, refl, tt)
+leading_fits = (rises entry_view 0 with_vote refl, tt)
 
 following_fits : FitsIn following
 unfolding first_recover_error recovered_state after_kept_entry may_drop pruned_entries standing spans payload_for first_gap explicit_payload in_window is_admitted binding_matches parent_payload may_notarize may_nullify may_finalize is_gated required_parent
-following_fits = (refl, rises entry_view 0 with_other_vote refl, refl, tt)
+following_fits = (rises entry_view 0 with_other_vote refl, tt)
 
 forgetting_fits : FitsIn forgetting
 unfolding first_recover_error recovered_state after_kept_entry may_drop pruned_entries standing spans payload_for first_gap explicit_payload in_window is_admitted binding_matches parent_payload may_notarize may_nullify may_finalize is_gated required_parent
-forgetting_fits = (refl, rises entry_view 0 with_none refl, refl, tt)
+forgetting_fits = (rises entry_view 0 with_none refl, tt)
 
 leading_ran : Ran nat_eq in_turn 1 0 leading
 unfolding first_recover_error

@@ -24,7 +24,7 @@ use Rattle.simplex_laws.specs.Deeds.{Accepts, Signs}
 use Rattle.simplex_laws.specs.Stories.{Story, deeds_of, BeginsAs, Ran}
 use Rattle.simplex_laws.proofs.networks.ComputedRuns.{replies_from, Fits, begun, fits_run_from, rises, each_begins}
 
-begins : (term_length me : ℕ) (floor : FloorFacts ℕ) → 0 < term_length → BeginsAs term_length me (start_at term_length floor me).setup
+pub begins : (term_length me : ℕ) (floor : FloorFacts ℕ) → 0 < term_length → BeginsAs term_length me (start_at term_length floor me).setup
 begins term_length me floor some = record { terms = record { terms = refl; some = some }; signs_as = inl refl }
 
 module _ where
@@ -44,12 +44,12 @@ module _ where
   kept = NotarizeVote one 2 ∷ Accepted (Notarized (certificate one)) ∷ Verdict (round 1) true ∷ FinalizeVote one 2 ∷ []
 
   forgetful_told : from_start (forgetful) ≡ (forgetful).replies
-  unfolding recovered_state after_kept_entry may_drop pruned_entries standing spans payload_for first_gap explicit_payload in_window is_admitted binding_matches parent_payload may_notarize may_nullify may_finalize is_gated required_parent
+  unfolding first_recover_error recovered_state after_kept_entry may_drop pruned_entries standing spans payload_for first_gap explicit_payload in_window is_admitted binding_matches parent_payload may_notarize may_nullify may_finalize is_gated required_parent
   forgetful_told = refl
 
   forgetful_fits : Fits nat_eq leader (begun nat_eq leader (forgetful).start) (forgetful).steps
   unfolding first_recover_error recovered_state after_kept_entry may_drop pruned_entries standing spans payload_for first_gap explicit_payload in_window is_admitted binding_matches parent_payload may_notarize may_nullify may_finalize is_gated required_parent
-  forgetful_fits = (refl, rises entry_view 0 kept refl, refl, tt)
+  forgetful_fits = (rises entry_view 0 kept refl, tt)
 
   pub forgetful_ran : Ran nat_eq leader 5 2 (forgetful)
   unfolding first_recover_error
@@ -78,27 +78,12 @@ module _ where
   twice = Accepted (Notarized (certificate two)) ∷ Verdict (round 2) true ∷ FinalizeVote two 1 ∷ Accepted (CertifiedFinal (certificate (proposal 3 2))) ∷ []
 
   restarting_told : from_start restarting ≡ restarting.replies
-  unfolding recovered_state after_kept_entry may_drop pruned_entries standing spans payload_for first_gap explicit_payload in_window is_admitted binding_matches parent_payload may_notarize may_nullify may_finalize is_gated required_parent
+  unfolding first_recover_error recovered_state after_kept_entry may_drop pruned_entries standing spans payload_for first_gap explicit_payload in_window is_admitted binding_matches parent_payload may_notarize may_nullify may_finalize is_gated required_parent
   restarting_told = refl
 
   restarting_fits : Fits nat_eq leader (begun nat_eq leader restarting.start) restarting.steps
   unfolding first_recover_error recovered_state after_kept_entry may_drop pruned_entries standing spans payload_for first_gap explicit_payload in_window is_admitted binding_matches parent_payload may_notarize may_nullify may_finalize is_gated required_parent
-  restarting_fits = (
-    refl,
-    rises entry_view 0 once refl,
-    refl,
-    (
-      refl,
-      rises entry_view 0 twice refl,
-      refl,
-      (
-        refl,
-        rises entry_view 0 twice refl,
-        refl,
-        tt,
-      ),
-    ),
-  )
+  restarting_fits = (rises entry_view 0 once refl, (rises entry_view 0 twice refl, (rises entry_view 0 twice refl, tt)))
 
   pub impatient_ran : Ran nat_eq leader 5 0 impatient
   unfolding first_recover_error
@@ -107,7 +92,7 @@ module _ where
     run = fits_run_from nat_eq leader impatient refl tt impatient_told;
   }
 
-  patient_ran : (me : ℕ) → from_start (patient me) ≡ (patient me).replies → Ran nat_eq leader 5 me (patient me)
+  pub patient_ran : (me : ℕ) → from_start (patient me) ≡ (patient me).replies → Ran nat_eq leader 5 me (patient me)
   unfolding first_recover_error
   patient_ran me told = record {
     lives = record { first = begins 5 me (Genesis 0) (omega arith); later = each_begins 5 me (patient me).steps tt };
@@ -120,6 +105,9 @@ module _ where
     lives = record { first = begins 1 me (Genesis 0) (omega arith); later = each_begins 1 me (skipping me).steps tt };
     run = fits_run_from nat_eq leader (skipping me) refl tt told;
   }
+
+  pub skipping_ran_1 : Ran nat_eq leader 1 1 (skipping 1)
+  skipping_ran_1 = skipping_ran 1 skipping_told_1
 
   pub restarting_ran : Ran nat_eq leader 5 1 restarting
   unfolding first_recover_error
@@ -307,6 +295,6 @@ module _ where
   pub five_network : IsNetworkOf nat_eq leader 1 five
   five_network = record {
     few_faulty = inr (omega arith);
-    honest = five_places (λ i s. Ran nat_eq leader 1 i s) (skipping_ran 0 skipping_told_0) (skipping_ran 1 skipping_told_1) (skipping_ran 2 skipping_told_2);
+    honest = five_places (λ i s. Ran nat_eq leader 1 i s) (skipping_ran 0 skipping_told_0) skipping_ran_1 (skipping_ran 2 skipping_told_2);
     backed = λ i s c at h. five_places (λ j t. (d : Subject ℕ) → Contains (deeds_of t) (Accepts d) → FiveBack d) (skipping_accepts 0) (skipping_accepts 1) (skipping_accepts 2) i s at c h;
   }

@@ -1,4 +1,4 @@
--- For `conflicts_are_left`, `gaps_are_closed`, `nullified_handoffs_are_left`.
+-- For `conflicts_are_left`, `gaps_are_closed`, `nullified_handoffs_are_left`, `views_ahead_are_agreed_on`.
 -- Members of the networks in which leaders take turns: a story whose replies are computed ran.
 use Rattle.std.proofs.Common.{◌≡◌, refl, ℕ, inl, ◌<◌, [], List, None, nat_eq}
 use Rattle.simplex_member.specs.Calls.{Told}

@@ -16,6 +16,7 @@ use Rattle.simplex_voter.specs.Windows.{is_admitted}
 use Rattle.simplex_voter.specs.Leaders.{with_next_view_ready}
 use Rattle.simplex_voter.specs.Rules.{may_notarize, NotarizeRule}
 use Rattle.simplex_voter.specs.Votes.{notarize_answer}
+use Rattle.simplex_voter.specs.Gaps.{IsGapless}
 use Rattle.simplex_voter.proofs.Gaps.{and_parts, not_true}
 use Rattle.simplex_voter.proofs.Rules.{notarize_parts}
 use Rattle.simplex_member.specs.Openings.{Openings}
@@ -73,15 +74,20 @@ module _ {K L D : Type 0} (same : D → D → Bool) (decides : (d e : D) → sam
   pub voted_tracked : is_tracked x v ≡ true
   voted_tracked = tracked_held x v held_parts.0
 
+  -- the parent lies below, and the state knows nullifications that cover each view between
+  pub held_reaches : (p : Proposal D) → (round_of x v).slot.held ≡ Some p → (p.parent < v) × IsGapless x p.parent v
+  held_reaches p holds =
+      let bound = (notes.tidy v (notes.above v voted_tracked)).bound slot_parts.1 held_parts.1 rule.first_vote in
+      let one : bound.0 ≡ p = ap (λ f. unwrap_or f p) (sym bound.2 ∙ holds) in
+      let binding : (round_of x v).binding ≡ Some (p, bound.1) = subst (λ q. (round_of x v).binding ≡ Some (q, bound.1)) one bound.3 in
+      bound_reaches same decides elect x v some (admitted_above x v rule.admitted) rule.bound p bound.1 holds binding
+
   -- the rules allow it
   pub notarize_allowed : (p : Proposal D) → (round_of x v).slot.held ≡ Some p → AllowsNotarize term_length deeds p
   notarize_allowed p holds =
       let over = notes.above v voted_tracked in
       let at : p.round.view ≡ v = notes.placed v p holds in
-      let bound = (notes.tidy v over).bound slot_parts.1 held_parts.1 rule.first_vote in
-      let one : bound.0 ≡ p = ap (λ f. unwrap_or f p) (sym bound.2 ∙ holds) in
-      let binding : (round_of x v).binding ≡ Some (p, bound.1) = subst (λ q. (round_of x v).binding ≡ Some (q, bound.1)) one bound.3 in
-      let reaches = bound_reaches same decides elect x v some (admitted_above x v rule.admitted) rule.bound p bound.1 holds binding in
+      let reaches = held_reaches p holds in
       record {
         only = λ q h is.
             (let here : q.round.view ≡ v = is ∙ at in

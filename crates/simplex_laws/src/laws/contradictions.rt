@@ -1,7 +1,7 @@
 //! Who answers for certificates that contradict, where more members are faulty than agreement bears.
 
 ghost use Rattle.simplex_laws.specs.Accountability.{ContradictionsAreAnsweredFor, ContradictionsAreTraced, NearestIsEvidence};
-ghost use Rattle.simplex_laws.specs.Accountability.{BrokenRulesAreRules, EvidenceHolds, ThirdIsAnother, ContradictionsNeedFaults};
+ghost use Rattle.simplex_laws.specs.Accountability.{BrokenRulesAreRules, EvidenceHolds, ThirdIsAnother, ContradictionsNeedFaults, ContradictionsAreTracedInNetworks};
 
 use simplex_types::types::{Digest, Elector, Scheme};
 
@@ -33,11 +33,16 @@ pub fn accountability<D: Digest>()
     ensures nearest { NearestIsEvidence D }
 {}
 
-/// Of members that run this code, for any number of faulty ones: where two backed certificates contradict, at least n - 2f
-/// places are faulty, with f = (n - 1) / 3. So with fewer no two contradict. It does nothing: its contract is the law.
+/// Of members that run this code, for any number of faulty ones. It does nothing: its contract is the law.
 ///
 /// As in `agreement`, each place that isn't faulty does what `Ran` says, and each certificate that it accepted is backed
 /// (`IsBackedNetwork`).
+///
+/// - `faulty`: where two backed certificates contradict, at least n - 2f places are faulty, with f = (n - 1) / 3. So with fewer
+///   no two contradict.
+/// - `traced`: and two are found, each of votes that n - f places may have given, at which n - 2f places are faulty or broke a
+///   rule by both votes; what misled a member on the way was backed.
 pub fn contradictions_need_faults<S: Scheme<D>, L: Elector<S>, D: Digest>()
-    ensures { ContradictionsNeedFaults S.PublicKey D.eq L.elect }
+    ensures faulty { ContradictionsNeedFaults S.PublicKey D.eq L.elect }
+    ensures traced { ContradictionsAreTracedInNetworks S.PublicKey D.eq L.elect }
 {}

@@ -8,7 +8,9 @@ ghost use Rattle.simplex_laws.specs.Accountability.{Contradicts, distance, IsEvi
 ghost use Rattle.simplex_laws.specs.Accountability.{AcceptCertified, MayBeCertified, IsGuilty, IsSuspect};
 ghost use Rattle.simplex_laws.specs.Scripts.{leader, impatient, patient, four, restarting, skipping, five};
 ghost use Rattle.simplex_laws.specs.Scripts.{overrun, two_faced, known_of_overrun};
-ghost use Rattle.simplex_laws.specs.Turns.{round, proposal, one, two};
+ghost use Rattle.simplex_laws.specs.ChangingLives.{refusing, changing, with_refusing, with_changing};
+ghost use Rattle.simplex_laws.specs.AheadNetwork.{early, joining, voted_ahead, three};
+ghost use Rattle.simplex_laws.specs.Turns.{round, proposal, one, two, in_turn};
 ghost use Rattle.simplex_laws.specs.Deeds.{Accepts, Signs};
 ghost use Rattle.simplex_laws.specs.Stories.{deeds_of, Ran};
 
@@ -88,4 +90,55 @@ pub fn contradictions_are_answered_for()
         × MayBeCertified known_of_overrun (Finalize two) }
     ensures suspects { AtLeastFrom 0 2 (IsSuspect 5 (Nullify (round 1)) (Finalize one)) known_of_overrun }
     ensures guilty { IsGuilty 5 (Nullify (round 1)) (Finalize one) 2 (Some (two_faced 2)) }
+{}
+
+/// A member of whom much is refused: certificates that name views that are too large, that come too late or are of another epoch;
+/// a restart that would keep more views of its pruned record, by which it stays as it was; and one at a floor of another epoch,
+/// after which it refuses all until it restarts. It does nothing: its contract is the law.
+///
+/// - `ran`, `network`: it is what member 1 of a network does, and with two more and a faulty leader it keeps the premises of
+///   `agreement`.
+/// - `does`: what it refuses is no deed of its: it accepts neither these certificates nor these floors.
+pub fn refusals_accept_nothing()
+    ensures ran { Ran nat_eq leader 5 1 refusing }
+    ensures network { IsNetworkOf nat_eq leader 5 with_refusing }
+    ensures does { deeds_of refusing ≡
+        Accepts (Notarize one) ∷ Signs 1 (Finalize one) ∷ Accepts (Finalize one)
+        ∷ Accepts (Notarize two) ∷ Signs 1 (Finalize two) ∷ [] }
+{}
+
+/// A member whose lives differ. The first one has no key: it certifies view 1, and no vote is signed. The second one has a key,
+/// other times, views ahead and a stall timeout, and starts at a finalized floor; view 2 is certified false there, given up and
+/// nullified. A restart without a key is refused then, since the record has a vote, and one as at first, with the key, succeeds.
+/// It does nothing: its contract is the law.
+///
+/// - `ran`, `network`: it is what member 1 of a network does, and with two more and a faulty leader it keeps the premises of
+///   `agreement`.
+/// - `does`: what it accepts and signs.
+pub fn lives_may_differ()
+    ensures ran { Ran nat_eq leader 5 1 changing }
+    ensures network { IsNetworkOf nat_eq leader 5 with_changing }
+    ensures does { deeds_of changing ≡
+        Accepts (Notarize one) ∷ Accepts (Finalize one) ∷ Signs 1 (Nullify (round 2)) ∷ Accepts (Notarize two)
+        ∷ Accepts (Nullify (round 2)) ∷ Signs 1 (Nullify (round 6)) ∷ [] }
+{}
+
+/// A network of four in terms of two views, of which one is voted for ahead, with a faulty leader. Two members vote for views 1
+/// and 2 before either has a certificate, and the leader of view 3 builds on view 2 before that is certified. A third member
+/// starts at the finalization of view 2. It does nothing: its contract is the law.
+///
+/// - `network`, `few`: it keeps the premises of `agreement`; one of four is faulty.
+/// - `does`: what the next leader accepts and signs, and what the late member does.
+/// - `finalizes`: the finalization of view 3 has votes enough.
+pub fn views_ahead_are_agreed_on()
+    ensures network { IsNetworkOf nat_eq in_turn 2 voted_ahead }
+    ensures few { (length voted_ahead ≡ 4) × (faults voted_ahead ≡ 1) }
+    ensures does { (deeds_of early ≡
+        Signs 0 (Notarize one) ∷ Signs 0 (Notarize two) ∷ Accepts (Notarize one) ∷ Signs 0 (Finalize one)
+        ∷ Signs 0 (Notarize three) ∷ Accepts (Notarize two) ∷ Signs 0 (Finalize two)
+        ∷ Accepts (Notarize three) ∷ Signs 0 (Finalize three) ∷ Accepts (Finalize three) ∷ [])
+        × (deeds_of joining ≡
+        Accepts (Finalize two) ∷ Signs 2 (Notarize three) ∷ Accepts (Notarize three) ∷ Signs 2 (Finalize three)
+        ∷ Accepts (Finalize three) ∷ []) }
+    ensures finalizes { Backed voted_ahead (Finalize three) }
 {}

@@ -3,6 +3,7 @@
 ghost use Rattle.simplex_laws.specs.Agreement.{OneProposal, FinalizedUncovered, ParentBefore, ParentNotBelow, FinalizedNotarized, ChainHoldsFinalized};
 ghost use Rattle.simplex_laws.specs.Exactly.{SignsExactly};
 ghost use Rattle.simplex_laws.specs.Lawful.{IsLawful};
+ghost use Rattle.simplex_laws.specs.LifeLaws.{OfEachState, NotarizesGapless};
 ghost use Rattle.simplex_laws.specs.Places.{OfEachNetwork};
 ghost use Rattle.simplex_laws.specs.Stories.{OfEachMember, RunsAreLawful, deeds_of};
 
@@ -51,6 +52,12 @@ pub fn agreement<S: Scheme<D>, L: Elector<S>, D: Digest>()
 /// It says more than the clause `lawful` of `agreement`: a restart may have other settings, another scheme, another key and
 /// another floor, may drop the last entries of the record and may prune it. Only the length of the terms, which is not 0, is
 /// the same in each life (`HasTerms`, `KeepTerms`).
+///
+/// - `lawful`: all that a run signed and accepted keeps the rules.
+/// - `gapless`: in each state that a run leads to, where the rule of votes to notarize holds, the parent lies below and the
+///   nullifications that this very state knows cover each view between. So a nullification that only an earlier life knew, or
+///   that was pruned since, lets no vote skip a view.
 pub fn votes_are_lawful<S: Scheme<D>, L: Elector<S>, D: Digest>()
-    ensures { RunsAreLawful S.PublicKey D.eq L.elect }
+    ensures lawful { RunsAreLawful S.PublicKey D.eq L.elect }
+    ensures gapless { OfEachState S.PublicKey D.eq L.elect (NotarizesGapless D.eq L.elect) }
 {}

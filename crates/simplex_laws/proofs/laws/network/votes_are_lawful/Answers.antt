@@ -1,7 +1,10 @@
 -- from the start on, step by step
+use Rattle.simplex_laws.proofs.lives.Gapless.{states_reach}
 use Rattle.simplex_laws.proofs.records.RunsLawful.{run_from_lawful}
 use Rattle.simplex_laws.proofs.laws.network.votes_are_lawful.Goals as goal
 
 pub returns : goal.returns
-returns g c term_length s begins fresh run =
-    run_from_lawful g.D.PartialEq.eq g.met.D.Digest.equal_is_same g.L.Elector.elect term_length s.start begins s.steps s.replies fresh run
+returns g c = record {
+  lawful = λ term_length s begins fresh run. run_from_lawful g.D.PartialEq.eq g.met.D.Digest.equal_is_same g.L.Elector.elect term_length s.start begins s.steps s.replies fresh run;
+  gapless = states_reach g.D.PartialEq.eq g.met.D.Digest.equal_is_same g.L.Elector.elect;
+}

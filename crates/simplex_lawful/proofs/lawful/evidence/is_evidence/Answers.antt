@@ -1,0 +1,6 @@
+use Rattle.simplex_lawful.proofs.Evidence.{evidence_shows}
+use Rattle.simplex_lawful.specs.Evidence.{vote_in}
+use Rattle.simplex_lawful.proofs.lawful.evidence.is_evidence.Goals as goal
+
+pub returns-clause-broken : goal.returns-clause-broken
+returns-clause-broken g c = λ yes. evidence_shows (vote_in c.args.first.now) (vote_in c.args.second.now) (c.contradict.ensures.0 yes)
