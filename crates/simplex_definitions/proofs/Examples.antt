@@ -7,4 +7,5 @@ pub mod Windows
 pub mod Timing
 pub mod Hostile
 pub mod Definitions
+pub mod Configurations
 pub mod Mixed

@@ -9,6 +9,7 @@ pub mod RepairLaw
 pub mod Kept
 pub mod Last
 pub mod AnswersLaw
+pub mod Examples
 pub mod Again
 pub mod Ranges
 pub mod Newest

@@ -2,6 +2,7 @@
 use Rattle.std.specs.Prelude.{◌≡◌, ℕ, true, false, [], ◌∷◌, Some, None, map, fold}
 use Rattle.std.proofs.Common.{refl}
 use Rattle.simplex_round.specs.declared.round.Certification.TheVariants.{Outstanding, Aborted}
+use Rattle.simplex_round.specs.declared.round.Decision.TheVariants as decision
 use Rattle.simplex_voter.specs.Windows.{in_window}
 use Rattle.simplex_types.specs.Config.{Genesis, Finalized}
 use Rattle.simplex_voter.specs.Refusals.{takes_round}
@@ -15,8 +16,8 @@ use Rattle.simplex_types.specs.declared.reasons.TimeoutReason.TheVariants.{Missi
 use Rattle.simplex_voter.specs.Entering.{with_view_entered}
 use Rattle.simplex_voter.specs.Leaders.{with_elected_leader, opened_views}
 use Rattle.simplex_voter.specs.Serving.{leader_of}
-use Rattle.simplex_definitions.proofs.Examples.Scripts.{State, context, same, fresh, proposal, certificate, in_turn, voter, recovered, replies_of, after_call, voted_notarize}
-use Rattle.simplex_definitions.proofs.Examples.Scripts.Call.{Candidates, Certified, AddNotarization, AddNullification, Trigger, AddFinalization, SetProposal, TryPropose, Proposed, TryVerify, Verified, SetCertifyHandle, Notarize}
+use Rattle.simplex_definitions.proofs.Examples.Scripts.{State, context, same, fresh, proposal, certificate, in_turn, voter, keyless, recovered, replies_of, after_call, voted_notarize}
+use Rattle.simplex_definitions.proofs.Examples.Scripts.Call.{Candidates, Certified, AddNotarization, AddNullification, Trigger, AddFinalization, SetProposal, TryPropose, Proposed, TryVerify, Verified, SetCertifyHandle, Notarize, Finalize}
 
 -- without a window two replayed votes are no chain, though the second ends a term that this member takes over
 no_chain_without_window : optimistic_payload same in_turn (recovered (voter 1 2 0) 0 (voted_notarize 1 1 0 7 ∷ voted_notarize 1 2 1 9 ∷ [])) 2 ≡ None
@@ -92,6 +93,11 @@ not_named : (fold after_call (voter 0 5 0) (AddNotarization 1 0 7 ∷ Candidates
 unfolding replies_of
 not_named = refl
 
+-- a member without a key decides a vote to finalize all the same
+decided_without_key : (round_of (fold after_call (keyless 1 0) (AddNotarization 1 0 7 ∷ Certified 1 true 5 ∷ Finalize 1 ∷ [])) 1).decision ≡ decision.Finalize
+unfolding replies_of
+decided_without_key = refl
+
 -- a finalization ends the certification that is under way, and leaves one above it alone
 aborted : map (λ v. (round_of (after_call (after_call (after_call (after_call (after_call (voter 0 1 0) (AddNotarization 1 0 7)) (AddNotarization 3 2 4)) (SetCertifyHandle 1 5)) (SetCertifyHandle 3 6)) (AddFinalization 2 1 9 7)) v).certification) (1 ∷ 3 ∷ []) ≡ Aborted ∷ Outstanding 6 ∷ []
 unfolding replies_of
@@ -101,6 +107,11 @@ aborted = refl
 notarized_windows : map (in_window (after_call (voter 0 5 1) (AddNotarization 3 2 4))) (3 ∷ 4 ∷ 5 ∷ []) ≡ false ∷ true ∷ true ∷ []
 unfolding replies_of
 notarized_windows = refl
+
+-- no window reaches below the term's start, however many views are voted for ahead
+no_window_below_the_term : map (in_window (after_call (voter 0 5 2) (AddNotarization 4 3 2))) (5 ∷ 6 ∷ 7 ∷ []) ≡ true ∷ false ∷ false ∷ []
+unfolding replies_of
+no_window_below_the_term = refl
 
 -- a finalization opens them too
 finalized_windows : map (in_window (after_call (voter 0 5 1) (AddFinalization 3 2 4 5))) (3 ∷ 4 ∷ 5 ∷ []) ≡ false ∷ true ∷ true ∷ []

@@ -79,3 +79,16 @@ zeros :
     Certificate None ∷ Done ∷ Now 1 0 0 ∷ []
 unfolding replies_of
 zeros = refl
+
+-- a first proposal that comes again hides no second one, so that no vote finalizes it
+hides_no_second :
+    replies_of
+    (voter 1 1 0)
+    (
+    SetProposal 1 0 7 ∷ SetProposal 1 0 8 ∷ SetProposal 1 0 7 ∷ AddNotarization 1 0 7 ∷ Certified 1 true 5 ∷
+    Finalize 1 ∷ []
+    )
+    ≡
+    Flag true ∷ Flag false ∷ Flag false ∷ Added true None ∷ Judged (Some (proposal 1 0 7)) ∷ Vote None ∷ []
+unfolding replies_of
+hides_no_second = refl

@@ -309,3 +309,17 @@ lower_parent_stands :
     Flag false ∷ Flag true ∷ []
 unfolding replies_of
 lower_parent_stands = refl
+
+-- a bound parent under a view that was finalized since matches no more, whatever its payload
+bound_under_finalized :
+    replies_of
+    (voter 3 1 0)
+    (
+    AddNotarization 1 0 7 ∷ Certified 1 true 5 ∷ AddNullification 2 6 ∷ SetProposal 3 1 8 ∷ TryVerify ∷
+    AddFinalization 2 1 5 7 ∷ Verified 3 ∷ []
+    )
+    ≡
+    Added true None ∷ Judged (Some (proposal 1 0 7)) ∷ Flag true ∷ Flag true ∷
+    Work (Ready (context 3 2 1 7) (proposal 3 1 8)) ∷ Added true None ∷ Flag false ∷ []
+unfolding replies_of
+bound_under_finalized = refl

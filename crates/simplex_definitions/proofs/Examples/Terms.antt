@@ -43,6 +43,18 @@ replaced_proposal :
 unfolding replies_of
 replaced_proposal = refl
 
+-- one with the same payload on another parent is another proposal
+replaced_parent :
+    replies_of
+    (voter 1 1 0)
+    (
+    AddNotarization 1 0 7 ∷ AddFinalization 1 5 7 10 ∷ []
+    )
+    ≡
+    Added true None ∷ Added true (Some 0) ∷ []
+unfolding replies_of
+replaced_parent = refl
+
 -- a finalization at the nullified view opens the gate
 healed_by_finalization :
     replies_of
@@ -188,6 +200,18 @@ entry_at_a_start :
     Added true None ∷ Flag true ∷ Certificate (Some (Nullified (nullification 3))) ∷ []
 unfolding replies_of
 entry_at_a_start = refl
+
+-- of several nullifications of a term the highest helps into the next one
+highest_of_the_term :
+    replies_of
+    (voter 0 5 0)
+    (
+    AddNullification 2 10 ∷ AddNullification 4 11 ∷ Best ∷ []
+    )
+    ≡
+    Flag true ∷ Flag true ∷ Certificate (Some (Nullified (nullification 4))) ∷ []
+unfolding replies_of
+highest_of_the_term = refl
 
 -- above a finalized floor its certificate counts as handed out
 floor :
@@ -370,3 +394,17 @@ led_in_turn :
     Added true None ∷ Member None ∷ Member (Some 0) ∷ []
 unfolding replies_of
 led_in_turn = refl
+
+-- where no view is voted for ahead, the next term's start is worked on from the last view of the term on
+next_start :
+    replies_of
+    (voter 0 5 0)
+    (
+    AddNotarization 3 2 7 ∷ Certified 3 true 5 ∷ AddNotarization 5 4 9 ∷ SetProposal 6 5 8 ∷ TryVerify ∷
+    AddNotarization 4 3 2 ∷ Certified 4 true 6 ∷ TryVerify ∷ []
+    )
+    ≡
+    Added true None ∷ Judged (Some (proposal 3 2 7)) ∷ Added true None ∷ Flag true ∷ Work Wait ∷ Added true None ∷
+    Judged (Some (proposal 4 3 2)) ∷ Work (Resolve 6 5 Notarization 1) ∷ []
+unfolding replies_of
+next_start = refl

@@ -412,3 +412,27 @@ not_handed_over :
     Added true None ∷ Offered (proposal 2 1 8 ∷ []) [] ∷ []
 unfolding replies_of
 not_handed_over = refl
+
+-- a required parent that is notarized is not fetched, only waited for
+notarized_parent :
+    replies_of
+    (voter 0 5 0)
+    (
+    AddNotarization 1 0 7 ∷ AddNotarization 2 1 9 ∷ Candidates ∷ []
+    )
+    ≡
+    Added true None ∷ Added true None ∷ Offered (proposal 1 0 7 ∷ []) [] ∷ []
+unfolding replies_of
+notarized_parent = refl
+
+-- a stall deadline at the very moment of the round's own timeout comes first
+stall_beside_a_timeout :
+    replies_of
+    (member (Some 0) (record { term_length = 5; optimistic_views = 0; stall_timeout = Some 1000 }) usual 0)
+    (
+    NextTimeout 400 ∷ []
+    )
+    ≡
+    Timeout (Some (1000, StallTimeout)) ∷ []
+unfolding replies_of
+stall_beside_a_timeout = refl

@@ -589,3 +589,19 @@ leaders_binding_taken_away :
     Vote (Some (proposal 2 1 8)) ∷ []
 unfolding replies_of
 leaders_binding_taken_away = refl
+
+-- a request whose parent fell away is not superseded while no other parent can be built on
+superseded_by_nothing :
+    replies_of
+    (voter 0 5 1)
+    (
+    TryPropose ∷ Proposed (context 1 0 0 0) 7 3 ∷ Notarize 1 ∷ TryPropose ∷ SetProposal 1 0 8 ∷
+    Abandonment (context 2 0 1 7) ∷ Supersede (context 2 0 1 7) ∷ AddNotarization 1 0 8 ∷
+    Supersede (context 2 0 1 7) ∷ []
+    )
+    ≡
+    Asked (Some (Propose (context 1 0 0 0))) ∷ Flag true ∷ Vote (Some (proposal 1 0 7)) ∷
+    Asked (Some (Propose (context 2 0 1 7))) ∷ Flag false ∷ Abandoned (Some AncestryInvalidated) ∷ Flag false ∷
+    Added true (Some 0) ∷ Flag true ∷ []
+unfolding replies_of
+superseded_by_nothing = refl
