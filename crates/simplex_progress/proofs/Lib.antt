@@ -1,0 +1,4 @@
+pub mod states
+pub mod runs
+pub mod networks
+pub mod instances

@@ -1,0 +1,8 @@
+pub mod FreshNetwork
+pub mod WaitingNetwork
+pub mod Worked
+pub mod DividedNetwork
+pub mod LackingNetwork
+pub mod HandoffNetwork
+pub mod InTurn
+pub mod OverrunNetwork

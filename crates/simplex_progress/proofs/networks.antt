@@ -1,0 +1,17 @@
+pub mod Followed
+pub mod Places
+pub mod Continued
+pub mod FreshStarts
+pub mod Together
+pub mod Passed
+pub mod Joined
+pub mod Meeting
+pub mod Tops
+pub mod Covers
+pub mod Chosen
+pub mod Met
+pub mod Going
+pub mod Parts
+pub mod Plan
+pub mod Soon
+pub mod InTurn

@@ -1,0 +1,13 @@
+pub mod Owned
+pub mod Ends
+pub mod Starts
+pub mod Onward
+pub mod Members
+pub mod Brought
+pub mod Led
+pub mod LedCalls
+pub mod LedLives
+pub mod Ordered
+pub mod Nearing
+pub mod Coming
+pub mod Explicit

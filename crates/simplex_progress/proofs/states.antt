@@ -1,0 +1,10 @@
+pub mod Standing
+pub mod Words
+pub mod Calls
+pub mod Scan
+pub mod Building
+pub mod Sequences
+pub mod Waiting
+pub mod Highest
+pub mod Skipping
+pub mod Passing

@@ -1,0 +1,13 @@
+pub mod Living
+pub mod Standing
+pub mod FreshStarts
+pub mod Together
+pub mod Meeting
+pub mod Undecided
+pub mod Reaching
+pub mod Going
+pub mod Soon
+pub mod Worked
+pub mod Started
+pub mod Continued
+pub mod Overrun
