@@ -1,0 +1,4 @@
+use Rattle.simplex_flat.proofs.held.Held.proposal_at.Goals as goal
+
+pub returns : goal.returns
+returns c = (c.in_ok-proposal.proposal.now, c.in_ok-proposal.ensures, c.flat_proposal.ensures)

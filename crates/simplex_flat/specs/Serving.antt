@@ -1,0 +1,91 @@
+-- How a call through a handle is served, and what is read of the last reply.
+use Rattle.std.specs.Prelude.{◌≡◌, ◌⊎◌, ℕ, Bool, List, [], Option, Some, IfSome, slice_get}
+use Rattle.std.specs.Str.{bytes_eq}
+use Rattle.simplex_types.specs.declared.types.numbers.Round.{Round}
+use Rattle.simplex_types.specs.declared.types.messages.Proposal.{Proposal}
+use Rattle.simplex_types.specs.declared.types.messages.Certificate.TheVariants as certificate
+use Rattle.simplex_voter.specs.declared.voter.candidates.CertificateFetch.{CertificateFetch}
+use Rattle.simplex_codec.specs.declared.digest.BytesDigest.{BytesDigest}
+use Rattle.simplex_codec.specs.Digests.{digest_bytes}
+use Rattle.simplex_host.specs.declared.elector.HostElector.{HostElector}
+use Rattle.simplex_host.specs.declared.scheme.HostCertificate.{HostCertificate}
+use Rattle.simplex_host.specs.declared.scheme.HostKey.{HostKey}
+use Rattle.simplex_host.specs.declared.scheme.HostScheme.{HostScheme}
+use Rattle.simplex_host.specs.declared.scheme.Order.{Order}
+use Rattle.simplex_host.specs.Electing.{leader_of}
+use Rattle.simplex_host.specs.Host.{IsOrder, certificate_bytes}
+use Rattle.simplex_member.specs.declared.member.calls.Reply.{Reply}
+use Rattle.simplex_member.specs.declared.member.calls.Reply.TheVariants as reply
+use Rattle.simplex_member.specs.Calls.{told}
+use Rattle.simplex_member.specs.Lives.{IsCall}
+use Rattle.simplex_member.specs.Signed.{IsSignedReply}
+use Rattle.simplex_flat.specs.declared.flat.FlatCall.{FlatCall}
+use Rattle.simplex_flat.specs.declared.flat.FlatFetch.{FlatFetch}
+use Rattle.simplex_flat.specs.declared.flat.FlatProposal.{FlatProposal}
+use Rattle.simplex_flat.specs.declared.flat.FlatReply.{FlatReply}
+use Rattle.simplex_flat.specs.declared.held.Held.{Held}
+use Rattle.simplex_flat.specs.Calls.{HasCertificate, HostCallFacts, IsAskedBy, IsNoCall, IsProposal}
+use Rattle.simplex_flat.specs.Replies.{Tells}
+
+-- two payloads have the same bytes
+abbrev pub same_payload : BytesDigest 32 → BytesDigest 32 → Bool
+same_payload d e = bytes_eq (digest_bytes d) (digest_bytes e)
+
+-- the leader of a round, after a certificate of these bytes
+abbrev pub host_leader : HostElector → Round → Option (List ℕ) → ℕ
+host_leader e round seed = leader_of e round.view seed
+
+-- no call was made: one of its numbers is none of a call, or there was no memory for its certificate
+abbrev pub IsNotMade : FlatCall → FlatReply → Type 0
+IsNotMade f r = ((r.status ≡ 6) × IsNoCall f) ⊎ ((r.status ≡ 7) × HasCertificate f)
+
+-- the call that the flat one stands for was made
+pub record IsMade (old : Held) (f : FlatCall) (bytes : List ℕ) (r : FlatReply) (new : Held) : Type 0 where
+  pub call : HostCallFacts
+  pub is_asked : IsAskedBy f bytes call
+  -- the member answered it, by its contract; its reply is kept
+  pub made : IsCall same_payload host_leader old.member call (told certificate_bytes new.last) new.member
+  -- the flat reply tells what it tells
+  pub tells : Tells r (told certificate_bytes new.last)
+  -- a vote in it is ordered, for just its own bytes
+  pub ordered : IfSome old.member.life (IsSignedReply (IsOrder digest_bytes) new.last)
+
+-- a flat call is served: nothing was done, or the call was made
+abbrev pub IsServed : Held → FlatCall → List ℕ → FlatReply → Held → Type 0
+IsServed old f bytes r new = (IsNotMade f r × (new ≡ old)) ⊎ IsMade old f bytes r new
+
+-- a reply of a member of the host
+abbrev pub HostReply : Type 0
+HostReply = Reply HostScheme (BytesDigest 32) HostKey Order HostCertificate
+
+-- the text of a vote's order, or the bytes of a certificate
+abbrev pub reply_bytes : HostReply → List ℕ
+reply_bytes (reply.Notarize (Some vote)) = vote.signature.text
+reply_bytes (reply.Nullify (Some (_, vote))) = vote.signature.text
+reply_bytes (reply.Finalize (Some vote)) = vote.signature.text
+reply_bytes (reply.Certified _ (Some it)) = certificate_bytes it.certificate
+reply_bytes (reply.Certificate (Some (certificate.Notarization it))) = certificate_bytes it.certificate
+reply_bytes (reply.Certificate (Some (certificate.Nullification it))) = certificate_bytes it.certificate
+reply_bytes (reply.Certificate (Some (certificate.Finalization it))) = certificate_bytes it.certificate
+reply_bytes _ = []
+
+-- the proposals that a reply offers, the certificates that it asks to be fetched, and the views that it dropped
+abbrev pub proposals_in : HostReply → List (Proposal (BytesDigest 32))
+proposals_in (reply.Candidates proposals _) = proposals.items
+proposals_in _ = []
+
+abbrev pub fetches_in : HostReply → List CertificateFetch
+fetches_in (reply.Candidates _ fetches) = fetches.items
+fetches_in _ = []
+
+abbrev pub dropped_in : HostReply → List ℕ
+dropped_in (reply.Views views) = views.items
+dropped_in _ = []
+
+-- the proposal at an index of a list
+abbrev pub IsProposalAt : List (Proposal (BytesDigest 32)) → ℕ → FlatProposal → Type 0
+IsProposalAt proposals index f = (q : Proposal (BytesDigest 32)) × (slice_get proposals index ≡ Some q) × IsProposal f q
+
+-- the fetch at an index of a list
+abbrev pub IsFetchAt : List CertificateFetch → ℕ → FlatFetch → Type 0
+IsFetchAt fetches index f = slice_get fetches index ≡ Some (record { proposal = f.proposal; view = f.view })

@@ -1,0 +1,37 @@
+-- How a member starts by flat settings.
+use Rattle.std.specs.Prelude.{◌≡◌, ℕ, List, [], Option, None}
+use Rattle.simplex_types.specs.Config.{floor_facts}
+use Rattle.simplex_codec.specs.declared.digest.BytesDigest.{BytesDigest}
+use Rattle.simplex_host.specs.declared.elector.HostElector.{HostElector}
+use Rattle.simplex_host.specs.declared.scheme.HostKey.{HostKey}
+use Rattle.simplex_host.specs.Electing.{terms_of, is_early}
+use Rattle.simplex_host.specs.Host.{certificate_bytes, signer_of, keys_of}
+use Rattle.simplex_record.specs.declared.record.error.RecoverError.{RecoverError}
+use Rattle.simplex_record.specs.Recovery.{recover_error}
+use Rattle.simplex_record.specs.Start.{set_up, IsErrorDue}
+use Rattle.simplex_member.specs.Lives.{MemberFacts}
+use Rattle.simplex_member.specs.Start.{started_member}
+use Rattle.simplex_flat.specs.declared.flat.FlatSettings.{FlatSettings}
+use Rattle.simplex_flat.specs.Serving.{same_payload, host_leader}
+use Rattle.simplex_flat.specs.declared.held.NotStarted.{NotStarted}
+use Rattle.simplex_flat.specs.declared.held.NotStarted.TheVariants as not_started
+use Rattle.simplex_flat.specs.Settings.{HostStart, IsNoStart, IsStart}
+
+-- the member that a start begins
+abbrev pub begun : HostStart → MemberFacts HostKey HostElector (BytesDigest 32)
+begun start =
+    started_member same_payload host_leader (set_up signer_of keys_of terms_of is_early start.settings) (floor_facts certificate_bytes start.floor) start.now
+
+-- the error in which a start ends, with no record
+abbrev pub begin_error : HostStart → Option RecoverError
+begin_error start =
+    recover_error same_payload (set_up signer_of keys_of terms_of is_early start.settings) (floor_facts certificate_bytes start.floor) start.now []
+
+-- a member is begun by these settings, with this table, floor and moment
+abbrev pub IsStarted : FlatSettings → List ℕ → List ℕ → ℕ → MemberFacts HostKey HostElector (BytesDigest 32) → Type 0
+IsStarted f leaders bytes now member = (start : HostStart) × IsStart f leaders bytes now start × (begin_error start ≡ None) × (member ≡ begun start)
+
+-- why none is begun: by its settings, or by what is due of the start that they make
+abbrev pub IsNotStarted : FlatSettings → List ℕ → List ℕ → ℕ → NotStarted → Type 0
+IsNotStarted f leaders bytes now (not_started.Settings e) = IsNoStart f leaders bytes e
+IsNotStarted f leaders bytes now (not_started.Recover e) = (start : HostStart) × IsStart f leaders bytes now start × IsErrorDue (begin_error start) e

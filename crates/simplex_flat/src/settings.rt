@@ -1,0 +1,194 @@
+//! How a member starts, by flat settings.
+
+ghost use Rattle.std.specs.Prelude.{◌≡◌, ◌<◌, Some, None, IfOk, IfErr, OnOk, MatchOption, length};
+ghost use Rattle.std.specs.Option.{ForSome};
+ghost use Rattle.simplex_host.specs.Electing.{members_of, terms_of};
+ghost use Rattle.simplex_host.specs.Host.{certificate_bytes, signer_of, keys_of, keys_below};
+ghost use Rattle.simplex_flat.specs.Calls.{IsProposal};
+ghost use Rattle.simplex_flat.specs.Settings.{IsConfig, IsDue, IsElector, IsFloor, IsNoStart, IsSigner, IsSkip, IsStart, IsTerms};
+ghost use Rattle.simplex_flat.specs.Settings.{config_error, elector_error, flag_error, signer_error, terms_error};
+
+use crate::asking::finalization_of;
+use crate::flat::FlatSettings;
+use crate::numbers::flag_of;
+use simplex_host::elector::HostElector;
+use simplex_host::scheme::{HostDigest, HostScheme};
+use simplex_record::record::{Start, StartError};
+use simplex_types::config::{Config, Floor, ForwardPolicy, SkipBudget, SkipPolicy};
+use simplex_types::types::{Epoch, Participant, TermLength, Terms, ViewDelta};
+use std::alloc::{AllocError, Global};
+use std::num::{NonZeroU32, NonZeroU64};
+
+/// The settings of a member of the host.
+pub type HostConfig = Config<HostScheme, HostDigest>;
+
+/// Why flat settings are none of a member.
+#[derive(Clone, Copy, PartialEq, Eq, Debug)]
+pub enum SettingsError {
+    OutOfMemory,
+    /// There is no member, or the one that signs is none of them.
+    NoSuchMember,
+    /// A term has no view, or the table of leaders no entry.
+    NothingLeads,
+    /// A number that has to be 0 or 1 is another.
+    NoFlag,
+    /// They break a rule of an engine's settings.
+    Refused(StartError),
+}
+
+impl From<AllocError> for SettingsError {
+    ghost use Rattle.std.specs.Prelude.{◌≡◌};
+    ghost use Rattle.simplex_flat.specs.declared.settings.SettingsError.TheVariants.{OutOfMemory};
+
+    ghost from_gives = { λ _ error. error ≡ OutOfMemory };
+
+    fn from(_refused: AllocError) -> SettingsError {
+        SettingsError::OutOfMemory
+    }
+}
+
+/// How a member of the host starts.
+pub type HostStart = Start<HostScheme, HostElector, HostDigest>;
+
+/// How a member starts by flat settings, which are tested: with a table of leaders and the bytes of the floor's certificate, at a
+/// moment in milliseconds.
+pub fn start_of(
+    alloc: Global,
+    flat: &FlatSettings,
+    leaders: &[u32],
+    certificate: &[u8],
+    now: u64,
+) -> Result<HostStart, SettingsError>
+    ensures made { IfOk result (IsStart flat.now leaders.now certificate.now now) }
+    ensures refused { IfErr result (IsNoStart flat.now leaders.now certificate.now) }
+    ensures fits { IfOk result (λ start. members_of start.settings.elector ≡ length (keys_of start.settings.scheme)) }
+{
+    let config = config_of(alloc, flat, certificate)?;
+    let elector = elector_of(alloc, flat, leaders)?;
+    match Start::of(config, elector, now) {
+        Ok(start) => Ok(start),
+        Err(error) => Err(SettingsError::Refused(error)),
+    }
+}
+
+/// The settings that flat ones are, with the bytes of the floor's certificate.
+pub fn config_of(
+    alloc: Global,
+    flat: &FlatSettings,
+    certificate: &[u8],
+) -> Result<HostConfig, SettingsError>
+    ensures config { IfOk result (IsConfig flat.now certificate.now) }
+    ensures accepted { OnOk result (config_error flat.now ≡ None) }
+    ensures refused { IfErr result (IsDue (config_error flat.now)) }
+{
+    let signer = signer_in(flat)?;
+    let floor = floor_of(alloc, flat, certificate)?;
+    Ok(Config {
+        scheme: HostScheme::new(alloc, flat.members, signer)?,
+        epoch: Epoch::new(flat.epoch),
+        floor,
+        leader_timeout: flat.leader_timeout,
+        certification_timeout: flat.certification_timeout,
+        timeout_retry: flat.timeout_retry,
+        view_retention: ViewDelta::new(flat.view_retention),
+        skip: skip_of(flat),
+        forward: ForwardPolicy::Disabled,
+    })
+}
+
+/// The elector that flat settings name, with a table of leaders.
+pub fn elector_of(
+    alloc: Global,
+    flat: &FlatSettings,
+    leaders: &[u32],
+) -> Result<HostElector, SettingsError>
+    ensures elector { IfOk result (IsElector flat.now leaders.now) }
+    ensures accepted { OnOk result (elector_error flat.now leaders.now ≡ None) }
+    ensures refused { IfErr result (IsDue (elector_error flat.now leaders.now)) }
+{
+    if flat.members == 0 {
+        return Err(SettingsError::NoSuchMember);
+    }
+    if leaders.is_empty() {
+        return Err(SettingsError::NothingLeads);
+    }
+    let terms = terms_in(flat)?;
+    let Some(draws) = flag_of(flat.draws) else {
+        return Err(SettingsError::NoFlag);
+    };
+    let table = Vec::from_slice(alloc, leaders)?;
+    Ok(if draws {
+        HostElector::drawn(table, flat.members, terms)
+    } else {
+        HostElector::by_table(table, flat.members, terms)
+    })
+}
+
+fn signer_in(flat: &FlatSettings) -> Result<Option<Participant>, SettingsError>
+    ensures signer { IfOk result (IsSigner flat.now) }
+    ensures member { IfOk result (λ signer. ForSome signer (λ m. m < flat.now.members)) }
+    ensures accepted { OnOk result (signer_error flat.now ≡ None) }
+    ensures refused { IfErr result (λ error. signer_error flat.now ≡ Some error) }
+{
+    if flat.signer == u32::MAX {
+        return Ok(None);
+    }
+    if flat.signer < flat.members {
+        return Ok(Some(Participant::new(flat.signer)));
+    }
+    Err(SettingsError::NoSuchMember)
+}
+
+fn terms_in(flat: &FlatSettings) -> Result<Terms, SettingsError>
+    ensures terms { IfOk result (IsTerms flat.now) }
+    ensures accepted { OnOk result (terms_error flat.now ≡ None) }
+    ensures refused { IfErr result (λ error. terms_error flat.now ≡ Some error) }
+{
+    let Some(length) = NonZeroU32::new(flat.term_length) else {
+        return Err(SettingsError::NothingLeads);
+    };
+    let stall_timeout = match flag_of(flat.stalls) {
+        Some(true) => Some(flat.stall_timeout),
+        Some(false) => None,
+        None => return Err(SettingsError::NoFlag),
+    };
+    Ok(Terms {
+        term_length: TermLength::new(length),
+        optimistic_views: flat.optimistic_views,
+        stall_timeout,
+    })
+}
+
+fn skip_of(flat: &FlatSettings) -> SkipPolicy
+    ensures { IsSkip flat.now result }
+{
+    if flat.skip_timeout == 0 {
+        return SkipPolicy::Disabled;
+    }
+    SkipPolicy::Enabled {
+        timeout: flat.skip_timeout,
+        budget: match NonZeroU64::new(flat.skip_budget) {
+            Some(budget) => SkipBudget::Fixed(budget),
+            None => SkipBudget::Participants,
+        },
+    }
+}
+
+fn floor_of(
+    alloc: Global,
+    flat: &FlatSettings,
+    certificate: &[u8],
+) -> Result<Floor<HostScheme, HostDigest>, SettingsError>
+    ensures floor { IfOk result (IsFloor flat.now certificate.now) }
+    ensures accepted { OnOk result (flag_error flat.now.is_finalized ≡ None) }
+    ensures refused { IfErr result (IsDue (flag_error flat.now.is_finalized)) }
+{
+    match flag_of(flat.is_finalized) {
+        Some(true) => {
+            let finalization = finalization_of(alloc, &flat.floor, certificate)?;
+            Ok(Floor::Finalized(finalization))
+        }
+        Some(false) => Ok(Floor::Genesis(HostDigest::from(flat.floor.payload))),
+        None => Err(SettingsError::NoFlag),
+    }
+}
