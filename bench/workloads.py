@@ -2,6 +2,7 @@
 
 from typing import Callable, NamedTuple
 
+import finalized_views
 import healthy_views
 import nullified_views
 import orders
@@ -10,6 +11,7 @@ import tracked_views
 
 VOTER = ("voter", "4", "0", "1", "0")
 VOTER_AHEAD = ("voter", "4", "0", "5", "4")
+LONG_TERM = ("voter", "4", "1", str(finalized_views.LONG_TERM), "8")
 RESOLVER = ("resolver", "5")
 
 
@@ -26,6 +28,7 @@ def all_workloads():
     yield from of_each_order("voter", VOTER, orders.ALL, tracked_views.notarized)
     yield from of_tracked_views()
     yield from of_nullified_views()
+    yield from of_finalized_views()
     yield Workload("restarts", VOTER, tracked_views.restarted)
     yield from of_each_order("resolver", RESOLVER, orders.ALL[:2], resolver_calls.notarized)
     yield from of_each_order("repair", RESOLVER, orders.ALL[:2], resolver_calls.repaired)
@@ -50,3 +53,11 @@ def of_nullified_views():
     yield Workload("nullified, gap searches", VOTER, nullified_views.with_proposals)
     yield Workload("nullified, out of order", VOTER, nullified_views.out_of_order)
     yield Workload("nullified, own proposals", VOTER, nullified_views.with_own_proposals)
+
+
+def of_finalized_views():
+    yield Workload("finalized, none dropped", VOTER, finalized_views.none_dropped)
+    yield Workload("finalized, behind all", VOTER, finalized_views.behind_all)
+    yield Workload("finalized, one restart", VOTER, finalized_views.restarted_once)
+    yield Workload("one term", LONG_TERM, finalized_views.one_term)
+    yield Workload("one term, far proposals", LONG_TERM, finalized_views.far_proposals)

@@ -14,13 +14,42 @@ class Broken(Exception):
     """A law that does not hold."""
 
 
+class Record:
+    """The nullifications that a member's record may hold at a moment, and so those that its state may know: told by its lines and
+    replies. A verdict counts as an entry, also where it was there before, so that no drop takes more here than there."""
+
+    def __init__(self):
+        self.entries = []
+        self.closed = 0
+
+    def add(self, is_vote=False, nullified=None):
+        self.entries.append((is_vote, nullified))
+
+    def restart(self, line):
+        """What a restart that succeeds leaves: it drops last entries, but no vote and nothing before one."""
+        words = line.split(" ")
+        if words[0] == "crash":
+            return
+        left = int(words[1])
+        while left and len(self.entries) > self.closed and not self.entries[-1][0]:
+            self.entries.pop()
+            left -= 1
+        if words[0] == "restart-pruned":
+            self.closed = len(self.entries)
+
+    def covers(self, terms, view):
+        """Whether one of them covers a view."""
+        return any(nullified is not None and terms.covers(nullified, view) for _, nullified in self.entries)
+
+
 class MemberLaws:
     """The laws of one member, fed with each line and its reply."""
 
     def __init__(self, terms, name="the member"):
         self.terms = terms
         self.name = name
-        self.accepted = {NOTARIZATION: set(), NULLIFICATION: set(), FINALIZATION: set()}
+        self.accepted = {NOTARIZATION: set(), FINALIZATION: set()}
+        self.record = Record()
         self.votes = {NOTARIZATION: {}, NULLIFICATION: {}, FINALIZATION: {}}
         self.begin_life()
 
@@ -34,7 +63,9 @@ class MemberLaws:
         if vote is not None:
             self._take_vote(vote, reply)
         elif reply.startswith("added "):
-            self._accept(certificate_in(line))
+            self._accept(certificate_in(line), reply.startswith("added true"))
+        elif reply.startswith("certified "):
+            self.record.add()
         elif is_restart(line):
             self._take_restart(line, reply)
         elif line == "view" and reply.startswith("view "):
@@ -46,11 +77,14 @@ class MemberLaws:
     def _broken(self, what):
         raise Broken(f"{self.name}: {what}")
 
-    def _accept(self, certificate):
+    def _accept(self, certificate, is_new):
+        is_nullification = certificate.kind == NULLIFICATION
+        if is_new:
+            self.record.add(nullified=certificate.view if is_nullification else None)
         if certificate.kind == NOTARIZATION:
             self.accepted[NOTARIZATION].add(certificate.proposal())
-        else:
-            self.accepted[certificate.kind].add(certificate.view)
+        elif certificate.kind == FINALIZATION:
+            self.accepted[FINALIZATION].add(certificate.view)
 
     def _take_vote(self, vote, reply):
         if vote.kind == NULLIFICATION:
@@ -61,14 +95,16 @@ class MemberLaws:
             self._notarize(vote)
         else:
             self._finalize(vote)
+        if not (vote.kind == NULLIFICATION and reply.endswith("true")):
+            self.record.add(is_vote=True)
         self.votes[vote.kind][vote.view] = vote
 
     def _notarize(self, vote):
         if vote.parent >= vote.view:
             self._broken(f"a vote for the {vote}, whose parent is not below it")
         for view in range(vote.parent + 1, vote.view):
-            if not any(self.terms.covers(nullified, view) for nullified in self.accepted[NULLIFICATION]):
-                self._broken(f"a vote for the {vote}, while view {view} was not nullified")
+            if not self.record.covers(self.terms, view):
+                self._broken(f"a vote for the {vote}, while no nullification of view {view} was known")
 
     def _nullify(self, view, reply):
         for finalized in self.votes[FINALIZATION]:
@@ -91,6 +127,7 @@ class MemberLaws:
     def _take_restart(self, line, reply):
         words = reply.split(" ")
         if reply == "ok":
+            self.record.restart(line)
             self.begin_life()
         elif words[0] == "refused" and words[2] not in EXCUSES:
             self._broken(f"its own record was refused: {reply}")

@@ -8,7 +8,7 @@ the source, which still stands there.
 
     tests/copies.py [--program PATH]       with a built program, the picture in docs/TESTED.md too
 
-It ends with status 1 where two copies differ."""
+It ends with status 1 where two copies differ, or where fewer were found than are asked for."""
 
 import argparse
 import re
@@ -19,6 +19,7 @@ import schedules
 import scripts
 import wrong_bodies
 from draw import drawn
+from floors import lacking
 from member import Served
 from network import Network
 from program import ROOT
@@ -27,6 +28,7 @@ from scripts import ANY
 
 SAMPLE = "crates/simplex_member_tests/src/member/sample.rt"
 DRAWN = "skipped-by-one"
+LEAST = {"lines with replies": 2500, "wrong bodies": 15, "must-fail edits": 120}
 
 
 def text_of(path):
@@ -116,14 +118,14 @@ def listed_names():
     listed = {line.partition(":")[0].split(" ")[0] for line in text_of("crates.txt").splitlines()}
     told = {first.strip("`") for first, _ in table_rows("README.md") if first.strip("`") in crates | listed}
     yield from (f"{what} has other crates than stand: {names ^ crates}" for what, names in (("crates.txt", listed), ("README.md", told)) if names != crates)
-    for name in wrong_bodies.WRONG_BODIES + wrong_bodies.WRONG_WITHOUT_MEMORY:
+    for name in wrong_bodies.ALL_WRONG:
         if name.split("/")[1] not in text_of("docs/TESTED.md"):
             yield f"docs/TESTED.md does not tell of the wrong body {name}"
 
 
 def edits_not_made():
     """The must-fail edits that can't be made, and wrong bodies that are no edit."""
-    yield from (f"no edit {name}" for name in wrong_bodies.WRONG_BODIES + wrong_bodies.WRONG_WITHOUT_MEMORY if name not in edits.all_edits())
+    yield from (f"no edit {name}" for name in wrong_bodies.ALL_WRONG if name not in edits.all_edits())
     for name in edits.all_edits():
         try:
             edits.edited(ROOT, name)
@@ -147,8 +149,13 @@ def main():
     checks = (differing_replies, doubled_names, source_copies, numbered_names, listed_names, edits_not_made)
     faults = [fault for check in checks for fault in check()]
     faults += picture(given.program) if given.program else []
-    count = sum(len(list(pairs)) for _, _, pairs in told_texts())
-    print(f"copies: {count} lines with replies, {len(faults)} copies that differ")
+    seen = {
+        "lines with replies": sum(len(list(pairs)) for _, _, pairs in told_texts()),
+        "wrong bodies": len(wrong_bodies.ALL_WRONG),
+        "must-fail edits": len(edits.all_edits()),
+    }
+    faults += lacking(seen, LEAST)
+    print(f"copies: {', '.join(f'{count} {what}' for what, count in seen.items())}; {len(faults)} copies that differ")
     print("".join(f"  {fault}\n" for fault in faults), end="")
     return 1 if faults else 0
 

@@ -1,15 +1,26 @@
 #!/usr/bin/env python3
-"""The must-fail edits: wrong bodies that the contracts refuse, where they stand, and how one is made.
+"""The must-fail edits: wrong bodies that the contracts refuse, where they stand, how one is made, and what was told of their tries.
 
 `rt ci` tries those of `crates/NAME/must-fail`: one for four or five public functions. The others stand
-in `tests/more_edits/NAME`, and `tests/more_edits.py` tries them."""
+in `tests/more_edits/NAME`, and `tests/more_edits.py` tries them.
 
+    tests/edits.py FILE        looks at what `rt ci` told, in a file
+
+It ends with status 1 where an edit says nothing of a contract, or wasn't refused: `rt ci` passes over one that can't be made,
+compiled or read, and over one that is refused only since a proof names what it takes away."""
+
+import re
+import sys
 from pathlib import Path
 
+from floors import lacking
 from program import ROOT
 
 IN_GATE = "crates/{crate}/must-fail"
 BESIDE = "tests/more_edits/{crate}"
+LEAST = {"edits": 60}
+REFUSED = re.compile(r"must-fail (\S+)/(\S+)\.edit: refused, as it must be")
+SAYS_NOTHING = ("BAD EDIT", "only because a proof file names")
 
 
 class NotMade(Exception):
@@ -66,3 +77,24 @@ def make(root, name):
     """Makes an edit in a copy of the repository."""
     for file, text in edited(root, name).items():
         file.write_text(text)
+
+
+def faults_in(told, names):
+    """What is wrong with the tries of some edits, by the text that was told of them."""
+    refused = {f"{crate}/{edit}" for crate, edit in REFUSED.findall(told)}
+    yield from (f"{name} was not refused" for name in names if name not in refused)
+    yield from (line for line in told.splitlines() if any(words in line for words in SAYS_NOTHING))
+
+
+def main(file):
+    names = edits_in(IN_GATE)
+    faults = [*faults_in(Path(file).read_text(), names), *lacking({"edits": len(names)}, LEAST)]
+    print(f"must-fail edits: {len(names)}, {len(faults)} not as asked")
+    print("".join(f"  {fault}\n" for fault in faults), end="")
+    return 1 if faults else 0
+
+
+if __name__ == "__main__":
+    if len(sys.argv) != 2:
+        sys.exit(__doc__)
+    sys.exit(main(sys.argv[1]))

@@ -105,9 +105,13 @@ class HostileRun:
             if self.chance.random() < self.temper.delivery:
                 act(index)
 
+    def backed(self):
+        """The certificates that may come to a member."""
+        return self.network.backed()
+
     def certificates(self, index):
         """Some of the certificates that the votes back, the later ones more likely, and verdicts on what they offer."""
-        backed = self.network.backed()
+        backed = self.backed()
         recent = backed[-8:] if self.chance.random() < 0.9 else backed
         told = [it for it in recent if self.chance.random() < 0.5]
         self.chance.shuffle(told)

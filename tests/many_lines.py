@@ -6,7 +6,8 @@ Each part is run with a tenth of the lines and with all of them, and the peaks o
   shown        a voter is asked what leaves nothing behind, over and over: each round has the replies of the first
   told         a resolver is told certificates that it has, and finalizations that rise
   pruned       a voter finalizes view after view, and begins a new life from a pruned record now and then
-  recorded     the same without restarts, with a tenth of the lines: each entry of the record may take so many bytes
+  recorded     the same without restarts, with a tenth of the lines: each entry of the record may take so many bytes, and the
+               record has as many as the lines add
 
     tests/many_lines.py                       200,000 lines a part
     tests/many_lines.py --lines 10000000
@@ -122,10 +123,20 @@ def peak(path, part, count):
             raise NotBounded(f"{replies} replies to {count} lines, and status {running.wait()}")
         reached = peak_of(running.pid)
         writer.join()
+        entries = entries_of(running) if part.entries_a_line else 0
         running.stdin.close()
         if running.wait() != 0:
             raise NotBounded(f"it ended with status {running.returncode}")
+    if entries < int(count * part.entries_a_line):
+        raise NotBounded(f"{count} lines left {entries} entries alone")
     return reached
+
+
+def entries_of(running):
+    """How many entries the record of a voter has, which is asked for it."""
+    running.stdin.write(b"record\n")
+    running.stdin.flush()
+    return int(running.stdout.readline().split()[1])
 
 
 def of_rounds(replies):

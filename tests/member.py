@@ -1,5 +1,6 @@
 """One member: a process of a built program, asked line by line."""
 
+import signal
 import subprocess
 from dataclasses import dataclass
 
@@ -21,10 +22,12 @@ class Served:
     refuses_one_in: int = 0
     preload: str = ""
     seed: int = 0
+    keyless: frozenset = frozenset()
 
     def command(self, members, index, terms):
         kind = ["member"] if self.is_enduring else []
-        return [self.path, *kind, "voter", str(members), str(index), str(terms.length), str(terms.optimistic)]
+        me = "-" if index in self.keyless else str(index)
+        return [self.path, *kind, "voter", str(members), me, str(terms.length), str(terms.optimistic)]
 
     def environment(self, index):
         if not self.refuses_one_in:
@@ -38,6 +41,7 @@ class Member:
 
     def __init__(self, served, members, index, terms):
         self.index = index
+        self.is_refused = bool(served.refuses_one_in)
         self.process = subprocess.Popen(
             served.command(members, index, terms), stdin=subprocess.PIPE, stdout=subprocess.PIPE,
             stderr=subprocess.DEVNULL if served.is_enduring else None, env=served.environment(index),
@@ -61,6 +65,11 @@ class Member:
         if not reply.endswith("\n"):
             raise ProgramEnded(f"member {self.index} answered {reply!r} to {line!r}, with status {self.process.wait()}")
         return reply[:-1]
+
+    def refuse_no_more(self):
+        """From now on the member is refused no memory."""
+        if self.is_refused:
+            self.process.send_signal(signal.SIGUSR1)
 
     def end(self):
         """Ends the input; the status of the process."""

@@ -16,7 +16,7 @@ A run that meets no refusal answers as the script has it.
     tests/memory.py [--enduring PATH] [--every N]
     tests/memory.py --schedules          what the stored schedules of networks ask each member besides
 
-It ends with status 1 where something is not as asked. It takes a C compiler, `cc`."""
+It ends with status 1 where something is not as asked, or where less was refused than is asked for. It takes a C compiler, `cc`."""
 
 import argparse
 import os
@@ -31,11 +31,19 @@ import program
 import refused_fetches
 import refused_members
 import refused_states
+import rows
 import schedules
 import scripts
+from floors import lacking
 from preload import compiled, limited
 
 FAULTS_SHOWN = 10
+LEAST = {
+    "requests refused to a state": 1200, "requests refused to a member": 2900, "requests refused to a run": 1100,
+    "requests refused to a resolver's state": 1200, "requests refused to a kept resolver": 1200, "members restarted": 550,
+    "calls asked again": 130, "restarts begun again": 330, "resumes begun again": 700, "recoveries begun again": 600,
+    "resolvers begun again": 470, "best asked again": 130, "sets of a beginning of the effects": 1200,
+}
 
 
 class Enduring:
@@ -57,11 +65,19 @@ class Enduring:
         return ended.output.decode().split("\n")[:-1], os.fstat(fd).st_size > 0
 
 
+def sweeps_of(script):
+    """What a script is asked of: a state, a member and a run; a member alone where settings change; or a resolver."""
+    if not script.is_voter:
+        return refused_fetches.SWEEPS
+    if any(line.startswith("settings ") for line in script.lines):
+        return (refused_members.Sweep,)
+    return (refused_states.Sweep, refused_members.Sweep, refused_members.RunSweep)
+
+
 def swept_script(path, preload, every, script):
     """All refusals of one script: what was seen, and what is not as asked."""
     program_, seen, faults = Enduring(path, preload), Counter(), []
-    sweeps = (refused_states.Sweep, refused_members.Sweep, refused_members.RunSweep) if script.is_voter else refused_fetches.SWEEPS
-    for kind in sweeps:
+    for kind in sweeps_of(script):
         sweep = kind(program_, script)
         try:
             sweep.without_refusal()
@@ -87,7 +103,7 @@ def schedule_scripts():
 def sweep_all(pool, path, preload, every, others=()):
     """All refusals of all scripts: what was seen, and what is not as asked."""
     seen, faults = Counter(), []
-    for saw, wrong in pool.map(partial(swept_script, path, preload, every), [*scripts.all_scripts(), *others]):
+    for saw, wrong in pool.map(partial(swept_script, path, preload, every), [*scripts.all_scripts(), *rows.all_rows(), *others]):
         seen += saw
         faults += wrong
     return seen, faults
@@ -108,6 +124,7 @@ def main():
         path, preload = program.find_enduring(given.enduring, folder), compiled(folder)
         start = time.monotonic()
         seen, faults = sweep_all(pool, path, preload, given.every, schedule_scripts() if given.schedules else ())
+    faults = lacking(seen, LEAST, 1 / given.every) + faults
     figures = ", ".join(f"{count} {what}" for what, count in seen.items())
     print(f"refused memory: {figures}; {len(faults)} not as asked; {time.monotonic() - start:.1f} s")
     print("".join(f"  {fault}\n" for fault in faults[:FAULTS_SHOWN]), end="")

@@ -8,7 +8,8 @@ their places in a copy of the repository and runs `rt must-fail` there, which pr
     tests/more_edits.py simplex_round            those of one crate, or of several
     tests/more_edits.py --only verdict           those whose name holds a word
 
-It ends with status 1 where an edit is proved, can't be made, or wasn't tried."""
+It ends with status 1 where an edit is proved, can't be made, wasn't tried, or was refused only since a proof names what it takes
+away."""
 
 import argparse
 import shutil
@@ -39,6 +40,16 @@ def put(names, root):
         shutil.copy(edits.path_of(name), folder / f"{edit}.edit")
 
 
+def tried(crates, root):
+    """The status of `rt must-fail` for some crates, and what it tells, which is printed as it comes."""
+    told = []
+    with subprocess.Popen(["rt", "must-fail", *crates], cwd=root, stdout=subprocess.PIPE, stderr=subprocess.STDOUT, text=True) as running:
+        for line in running.stdout:
+            print(line, end="", flush=True)
+            told.append(line)
+    return running.returncode, "".join(told)
+
+
 def main():
     given = options()
     names = [name for name in edits.edits_in(edits.BESIDE)
@@ -51,7 +62,11 @@ def main():
         shutil.copytree(ROOT, root, ignore=shutil.ignore_patterns("out", ".git", "__pycache__"))
         put(names, root)
         crates = sorted({name.split("/")[0] for name in names})
-        return subprocess.run(["rt", "must-fail", *crates], cwd=root, check=False).returncode
+        status, told = tried(crates, root)
+    faults = [*edits.faults_in(told, names)]
+    print(f"more edits: {len(names)}, {len(faults)} not as asked")
+    print("".join(f"  {fault}\n" for fault in faults), end="")
+    return 1 if status or faults else 0
 
 
 if __name__ == "__main__":

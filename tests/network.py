@@ -3,6 +3,8 @@
 After every reply the bench takes all certificates that the votes back, whether anybody makes them or not, and checks
 the laws of `checks.py`. A certificate is handed in only where the votes back it."""
 
+from collections import Counter
+
 from checks import Broken, MemberLaws, NetworkLaws
 from member import Member, ProgramEnded
 from protocol import certificate_in, is_restart, vote_in
@@ -10,6 +12,7 @@ from protocol import certificate_in, is_restart, vote_in
 
 OUT_OF_MEMORY = ("fault 1 OutOfMemory", "refused 13 OutOfMemory")
 FAILED = "fault 2 Failed"
+CRASH = "crash "
 MOST_TRIES = 1000
 
 
@@ -34,7 +37,9 @@ class Network:
         self.member_laws = {index: MemberLaws(terms, f"member {index}") for index in self.correct}
         self.log = []
         self.restarts = 0
+        self.crashes = 0
         self.refusals = 0
+        self.saw = Counter()
         self.members = {index: Member(served, members, index, terms) for index in self.correct}
 
     def leader(self, view):
@@ -75,6 +80,7 @@ class Network:
     def _take(self, index, line, reply):
         self.log.append((index, line, reply))
         self.restarts += is_restart(line)
+        self.crashes += line.startswith(CRASH)
         vote = self.member_laws[index].take(line, reply) if self.watches_votes else vote_in(line, reply)
         if self.watches_votes and is_restart(line) and reply != "ok" and reply not in OUT_OF_MEMORY:
             raise Broken(f"member {index}: {line!r} was refused: {reply}")

@@ -10,7 +10,7 @@ the status and the text on standard error that `docs/PROGRAM.md` has; never a si
     tests/refusals.py --program PATH
 
 Besides: lines at the limits of length and of numbers, arguments, closed and full files. It ends with status 1 where something
-is not as asked. A refusal that the program can do without may change nothing at all; such requests are counted apart. Each run
+is not as asked, or where less was tried than is asked for. A refusal that the program can do without may change nothing at all; such requests are counted apart. Each run
 has 400 MiB, so that a resolver that fetches views far ahead is refused memory too. It takes a C compiler, `cc`, and a program
 without checks of its own memory."""
 
@@ -29,6 +29,7 @@ from pathlib import Path
 import inputs
 import program
 import scripts
+from floors import lacking
 from preload import compiled, limited
 from scripts import ANY, run
 
@@ -37,6 +38,12 @@ MEMORY, READ, WRITE = (4, "out of memory\n"), (5, "read failed\n"), (5, "write f
 INTERRUPTED, NO_SPACE, NOTHING_TAKEN = 4, 28, 0
 REPLY = re.compile(r"[a-zA-Z][A-Za-z-]*( [A-Za-z0-9_:;-]+)*|-|[0-9a-f]+")
 FAULTS_SHOWN = 10
+REFUSED, SHORTENED = b"x", b"s"
+LEAST_REFUSED = {
+    "transcripts": 115, "requests for memory": 3700, "reads": 1300, "writes": 4200, "writes that take nothing": 580,
+    "short reads and writes": 320, "interrupted reads": 110, "interrupted writes": 90,
+}
+LEAST_ASKED = {"inputs": 3400, "misused commands": 20, "closed, full and other files": 10}
 
 
 def options():
@@ -61,18 +68,19 @@ class Refusing:
         self.faults.append(f"{self.script.shows}: {what}: {ended}")
 
     def run(self, settings):
-        """A run with some calls refused, and whether one was."""
+        """A run with some calls refused or cut short, and the marks of these."""
         fd = self.mark.fileno()
         self.mark.truncate(0)
         environment = {"LD_PRELOAD": self.preload, "REFUSED_FD": str(fd), **{key: str(value) for key, value in settings.items()}}
         ended = run(self.path, self.script.arguments, self.script.input, environment, (fd,))
-        return ended, os.fstat(fd).st_size > 0
+        return ended, os.pread(fd, os.fstat(fd).st_size, 0)
 
     def sweep(self, name, refused, wanted, may_be_cut=False, **settings):
         """Refuses the Nth call, for each N until none is refused."""
         number = 1
         while True:
-            ended, is_met = self.run({refused: number, **settings})
+            ended, marks = self.run({refused: number, **settings})
+            is_met = REFUSED in marks
             self.seen[name] += is_met
             if not is_met:
                 break
@@ -90,10 +98,10 @@ class Refusing:
         if (ended.status, ended.error.decode()) != wanted or not is_beginning or not is_whole:
             self.fault(name, ended)
 
-    def unchanged(self, name, **settings):
-        """What must not change how the program ends."""
-        ended, _ = self.run(settings)
-        self.seen[name] += 1
+    def unchanged(self, name, mark, **settings):
+        """What must not change how the program ends. It is counted where it came to pass."""
+        ended, marks = self.run(settings)
+        self.seen[name] += mark in marks
         if ended != self.right:
             self.fault(name, ended)
 
@@ -117,9 +125,9 @@ def refused_script(path, preload, every, script):
     it.sweep("writes", "REFUSE_WRITE", WRITE, may_be_cut=True, REFUSE_BY=NO_SPACE, SHORT_WRITE=3)
     it.sweep("writes that take nothing", "REFUSE_WRITE", WRITE, may_be_cut=True, REFUSE_BY=NOTHING_TAKEN)
     for size in (1, 2, 13):
-        it.unchanged("short reads and writes", SHORT_READ=size, SHORT_WRITE=size)
-    it.unchanged("interrupted reads", REFUSE_READ=1, REFUSE_BY=INTERRUPTED)
-    it.unchanged("interrupted writes", REFUSE_WRITE=1, REFUSE_BY=INTERRUPTED)
+        it.unchanged("short reads and writes", SHORTENED, SHORT_READ=size, SHORT_WRITE=size)
+    it.unchanged("interrupted reads", REFUSED, REFUSE_READ=1, REFUSE_BY=INTERRUPTED)
+    it.unchanged("interrupted writes", REFUSED, REFUSE_WRITE=1, REFUSE_BY=INTERRUPTED)
     return it.seen, it.faults
 
 
@@ -201,7 +209,7 @@ def refuse_all(pool, path, preload, every):
     for saw, wrong in pool.map(partial(refused_script, path, preload, every), scripts.all_scripts()):
         seen += saw
         faults += wrong
-    return told("refused calls", seen, faults, start)
+    return told("refused calls", seen, lacking(seen, LEAST_REFUSED, 1 / every) + faults, start)
 
 
 def ask_all(pool, path, folder):
@@ -211,7 +219,7 @@ def ask_all(pool, path, folder):
     usage = [*usage_faults(path)]
     closed = [*file_faults(path, folder), *unread_faults(path)]
     seen = {"inputs": len(cases), "misused commands": len(misused_commands()), "closed, full and other files": len([*files()]) + 1}
-    return told("hostile inputs", seen, faults + usage + closed, start)
+    return told("hostile inputs", seen, lacking(seen, LEAST_ASKED) + faults + usage + closed, start)
 
 
 def main():

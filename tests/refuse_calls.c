@@ -2,15 +2,17 @@
  *
  *   REFUSE_MEMORY=N    the Nth request for memory fails
  *   REFUSE_ONE_IN=N    each request fails with a chance of one in N, drawn from REFUSE_SEED
- *   REFUSE_WITHIN=1    only requests between the marks < and > on standard error count, which are not written then
+ *   REFUSE_WITHIN=1    only requests between the marks < and > on standard error count, which are not written then; and the
+ *                      signal SIGUSR1 has none refused any more
  *   REFUSE_READ=N      the Nth read fails; REFUSE_WRITE=N, the Nth write
  *   REFUSE_BY=E        with this errno (EIO if unset; with 0 a write answers that it took no byte)
  *   SHORT_READ=K       no read gives more than K bytes; SHORT_WRITE=K, no write takes more
- *   REFUSED_FD=F       a byte is written there at each refusal
+ *   REFUSED_FD=F       a byte is written there at each refusal, x, and at each short read or write, s
  */
 #define _GNU_SOURCE
 #include <dlfcn.h>
 #include <errno.h>
+#include <signal.h>
 #include <stddef.h>
 #include <stdlib.h>
 #include <sys/syscall.h>
@@ -21,19 +23,31 @@ static long setting(const char *name) {
   return text ? atol(text) : -1;
 }
 
-static void refused(void) {
+static void note(const char *what) {
   long to = setting("REFUSED_FD");
-  if (to >= 0) syscall(SYS_write, to, "x", 1);
+  if (to >= 0) syscall(SYS_write, to, what, 1);
 }
 
 /* Whether this is the call whose number the setting has; *count counts them. */
 static int is_refused(const char *name, long *count) {
   if (++*count != setting(name)) return 0;
-  refused();
+  note("x");
   return 1;
 }
 
 static int is_within;
+
+static volatile sig_atomic_t is_over;
+
+static void end_refusals(int number) {
+  (void)number;
+  is_over = 1;
+}
+
+__attribute__((constructor)) static void watch(void) {
+  struct sigaction action = {.sa_handler = end_refusals, .sa_flags = SA_RESTART};
+  if (setting("REFUSE_WITHIN") > 0) sigaction(SIGUSR1, &action, NULL);
+}
 
 /* Whether a number that is drawn anew is the one in so many. */
 static int is_drawn(long one_in) {
@@ -48,9 +62,9 @@ static int is_drawn(long one_in) {
 static int memory_is_refused(void) {
   static long count;
   long one_in = setting("REFUSE_ONE_IN");
-  if (setting("REFUSE_WITHIN") > 0 && !is_within) return 0;
+  if (is_over || (setting("REFUSE_WITHIN") > 0 && !is_within)) return 0;
   if (one_in > 0 && is_drawn(one_in)) {
-    refused();
+    note("x");
   } else if (!is_refused("REFUSE_MEMORY", &count)) {
     return 0;
   }
@@ -96,7 +110,9 @@ static ssize_t refusal(void) {
 
 static size_t cut(size_t size, const char *name) {
   long most = setting(name);
-  return most > 0 && size > (size_t)most ? (size_t)most : size;
+  if (most <= 0 || size <= (size_t)most) return size;
+  note("s");
+  return (size_t)most;
 }
 
 ssize_t read(int from, void *to, size_t size) {

@@ -8,6 +8,7 @@ from refused_states import FAILED, OUT_OF_MEMORY, SHOWS, word_of
 from scripts import ANY, NotAsAsked, wants
 
 NOT_RESTARTED = "refused 13 OutOfMemory"
+NO_CALLS = ("record", "settings")
 LIVES = {"restart": "restarts", "restart-pruned": "restarts", "crash": "resumes", "recover": "recoveries", "replay": "resolvers"}
 FAR_AHEAD = 1000
 
@@ -95,7 +96,7 @@ class Sweep:
         for line, reply in zip(self.lines[place + 1:], told[place + 1:]):
             if word_of(line) in LIVES:
                 break
-            wants(reply == FAILED or word_of(line) == "record", f"request {number}, then {line!r} of a failed member", reply)
+            wants(reply == FAILED or word_of(line) in NO_CALLS, f"request {number}, then {line!r} of a failed member", reply)
         taken = [line for line, reply in zip(self.lines[:place + 1], self.right) if not reply.startswith(("refused", "fault"))]
         restart = [f"restart 0 {max(map(moment_of, taken), default=0)}", "view", "entries"]
         wanted, _ = self.program.ask(self.kind, self.script, self.lines[:place] + restart)
@@ -104,11 +105,17 @@ class Sweep:
         wants(replies[place + 1:place + 4] == wanted[place:], f"request {number}, restarted, not {wanted[place:]}", replies)
         self.keeps_laws(f"request {number}, over both lives", lines, replies)
 
+    def cut_record(self, place):
+        """The record once it was cut for a new life; a life that begins at a floor puts the floor's finalization behind it."""
+        entries, earlier = self.shown[place][1].split(" "), self.before(place)[1].split(" ") if place else []
+        is_of_floor = entries[-1].startswith("finalization:") and entries[-1] not in earlier
+        return " ".join(entries[:-1] if is_of_floor else entries)
+
     def begins_later(self, number, place, shown):
         """A life or a resolver that did not begin leaves the record, as it was cut, and begins when it is asked for again."""
         word = word_of(self.lines[place])
         self.seen[f"{LIVES[word]} begun again"] += 1
-        wants(shown[place][1] == self.shown[place][1], f"request {number}: {self.lines[place]!r} left another record", shown[place])
+        wants(shown[place][1] == self.cut_record(place), f"request {number}: {self.lines[place]!r} left another record", shown[place])
         is_cut = word.startswith("restart")
         again = f"restart 0 {self.lines[place].split(' ')[2]}" if is_cut else self.lines[place]
         lines = self.watched(self.lines[:place + 1] + [again] + self.lines[place + 1:])

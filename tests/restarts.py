@@ -3,27 +3,31 @@
 
 For each script of the repository's tests that asks a voter: a new life after every call, and after each call alone; with
 nothing dropped, with one entry dropped, with the record pruned, and from the journal after a crash, which `enduring` can do.
-Replies are not compared with the script's, since a new life may answer otherwise. What is checked stands in `checks.py`
-(`MemberLaws`).
+Those of `rows.py`, whose settings change, are asked of `enduring` alone. Replies are not compared with the script's, since a new
+life may answer otherwise. What is checked stands in `checks.py` (`MemberLaws`).
 
     tests/restarts.py [--program PATH] [--enduring PATH]
 
-It ends with status 1 where a law does not hold."""
+It ends with status 1 where a law does not hold, or where fewer lives began than are asked for."""
 
 import argparse
 import sys
 import tempfile
 import time
+from collections import Counter
 from concurrent.futures import ProcessPoolExecutor
 from functools import partial
 
 import program
+import rows
 import scripts
 from checks import Broken, MemberLaws
-from protocol import Terms, moment_of
+from floors import lacking
+from protocol import Terms, is_restart, moment_of
 
 RESTARTS = ("restart 0", "restart 1", "restart-pruned 0")
 CRASH = "crash"
+LEAST = {"scripts": 82, "runs": 2100, "lives begun": 4500}
 
 
 def with_restarts(lines, restart, places):
@@ -46,7 +50,7 @@ def variants(lines, lives):
 
 
 def broken(command, arguments, lines):
-    """What law does not hold in a run of these lines, or None."""
+    """How many lives began in a run of these lines, and what law does not hold in it, or None."""
     ended = scripts.run(command[0], (*command[1:], *arguments), "".join(f"{line}\n" for line in lines).encode())
     replies = ended.output.decode().split("\n")[:-1]
     laws = MemberLaws(Terms(int(arguments[3]), int(arguments[4])))
@@ -56,16 +60,17 @@ def broken(command, arguments, lines):
         for line, reply in zip(lines, replies):
             laws.take(line, reply)
     except Broken as law:
-        return f"{law}; {' '.join(arguments)}: {lines}"
-    return None
+        return 0, f"{law}; {' '.join(arguments)}: {lines}"
+    return sum(is_restart(line) and reply == "ok" for line, reply in zip(lines, replies)), None
 
 
-def try_script(path, enduring, script):
-    """How many runs of a script there were, and what was broken."""
+def try_script(enduring, path, script):
+    """What was done with a script, and what was broken. Without the path of `viewstate` all of it is asked of `enduring`."""
     lines = script.lines[:len(script.replies)]
-    tried = [broken((path,), script.arguments, it) for it in variants(lines, RESTARTS)]
+    tried = [broken((path,) if path else (enduring, "member"), script.arguments, it) for it in variants(lines, RESTARTS)]
     tried += [broken((enduring, "member"), script.arguments, it) for it in variants(lines, (CRASH,))]
-    return len(tried), [f"{script.shows}: {it}" for it in tried if it]
+    seen = Counter({"scripts": 1, "runs": len(tried), "lives begun": sum(begun for begun, _ in tried)})
+    return seen, [f"{script.shows}: {it}" for _, it in tried if it]
 
 
 def main():
@@ -74,14 +79,17 @@ def main():
     program.add_enduring_option(parser)
     parser.add_argument("--jobs", type=int, default=2, help="how many scripts go side by side")
     given = parser.parse_args()
-    start, runs, faults = time.monotonic(), 0, []
+    start, seen, faults = time.monotonic(), Counter(), []
     with tempfile.TemporaryDirectory() as folder, ProcessPoolExecutor(given.jobs) as pool:
         path, enduring = program.find(given.program, folder), program.find_enduring(given.enduring, folder)
         voters = [it for it in scripts.all_scripts() if it.is_voter]
-        for count, broke in pool.map(partial(try_script, path, enduring), voters):
-            runs += count
-            faults += broke
-    print(f"restarts: {len(voters)} scripts, {runs} runs, {len(faults)} broken; {time.monotonic() - start:.1f} s")
+        tried = [*pool.map(partial(try_script, enduring, path), voters), *pool.map(partial(try_script, enduring, None), rows.all_rows())]
+    for saw, broke in tried:
+        seen += saw
+        faults += broke
+    faults += lacking(seen, LEAST)
+    figures = ", ".join(f"{count} {what}" for what, count in seen.items())
+    print(f"restarts: {figures}; {len(faults)} broken; {time.monotonic() - start:.1f} s")
     print("".join(f"  {fault}\n" for fault in faults), end="")
     return 1 if faults else 0
 

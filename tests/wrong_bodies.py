@@ -1,9 +1,10 @@
 #!/usr/bin/env python3
 """That the sweeps can fail: wrong bodies, each built unproved, and the schedule or the refusal of memory that finds each.
 
-A wrong body is a must-fail edit, made in a copy of the repository and built by `rt try`, which proves nothing. The stored schedules come first, then random ones. A law of one member's votes is mostly what breaks first; with
-`--agreement` random networks go on besides, with these laws left alone, until the members disagree. Bodies that go wrong where
-memory is refused are found by `tests/memory.py`.
+A wrong body is a must-fail edit, made in a copy of the repository and built by `rt try`, which proves nothing. The stored schedules
+come first, then random ones. A law of one member's votes is mostly what breaks first; with `--agreement` random networks go on
+besides, with these laws left alone, until the members disagree. Bodies that do too little keep all laws, and leave a network stuck
+that is driven on. Bodies that go wrong where memory is refused are found by `tests/memory.py`.
 
     tests/wrong_bodies.py                              all of those below; half a minute each
     tests/wrong_bodies.py --only without_the_gate --agreement --draw
@@ -24,9 +25,11 @@ import edits
 import hostile_runs
 import memory
 import program
+import progress_runs
 import schedules
 from checks import Broken
 from draw import drawn
+from going_on import Stuck
 from member import ProgramEnded, Served
 from network import Network, NotBacked
 from preload import compiled, limited
@@ -42,6 +45,14 @@ WRONG_BODIES = (
     "simplex_round/finalize_without_certification",
     "simplex_record/a_pruning_that_takes_later_votes_to_nullify",
     "simplex_record/a_drop_that_takes_votes",
+    "simplex_record/a_recovery_that_leaves_out_the_record",
+    "simplex_member/a_vote_to_notarize_that_is_answered_and_not_recorded",
+    "simplex_voter/nullify_away_from_the_current_view",
+)
+WRONG_AND_STUCK = (
+    "simplex_voter/a_true_verdict_enters_nothing",
+    "simplex_voter/never_votes_to_notarize",
+    "simplex_voter/never_votes_to_nullify",
 )
 WRONG_WITHOUT_MEMORY = (
     "simplex_member/a_best_certificate_that_fails_the_member",
@@ -49,6 +60,7 @@ WRONG_WITHOUT_MEMORY = (
     "simplex_resolver/goes_on_without_memory_for_its_effects",
     "simplex_voter/a_state_that_always_fails",
 )
+ALL_WRONG = WRONG_BODIES + WRONG_AND_STUCK + WRONG_WITHOUT_MEMORY
 RUNS_AT_ONCE = 16
 
 
@@ -116,14 +128,33 @@ def random_run(path, steps, watches_votes, seed):
     return None
 
 
-def first_random(pool, path, given, watches_votes):
-    """The first random run that breaks a law of the wrong body, or None."""
-    for start in range(1, given.count + 1, RUNS_AT_ONCE):
-        seeds = range(start, start + RUNS_AT_ONCE)
-        found = next((it for it in pool.map(partial(random_run, path, given.steps, watches_votes), seeds) if it), None)
+def driven_run(path, seed):
+    """Plays a random run and drives it on; what left it stuck, or None."""
+    try:
+        progress_runs.play(Served(path), seed)
+    except Stuck as stuck:
+        return Found(f"progress --seed {seed}", str(stuck), seed, drawn(stuck.network))
+    except (Broken, ProgramEnded):
+        pass
+    return None
+
+
+def first_random(pool, play, count):
+    """The first of some random runs that finds the wrong body, or None."""
+    for start in range(1, count + 1, RUNS_AT_ONCE):
+        found = next((it for it in pool.map(play, range(start, start + RUNS_AT_ONCE)) if it), None)
         if found:
             return found
     return None
+
+
+def first_found(pool, path, name, given):
+    """What finds a wrong body first, or None."""
+    if name in WRONG_WITHOUT_MEMORY:
+        return first_refusal(path, Path(path).parent, given.jobs)
+    if name in WRONG_AND_STUCK:
+        return first_random(pool, partial(driven_run, path), given.count)
+    return stored_runs(path) or first_random(pool, partial(random_run, path, given.steps, True), given.count)
 
 
 def show(name, found, is_drawn):
@@ -139,20 +170,17 @@ def try_one(pool, name, given):
     with tempfile.TemporaryDirectory() as folder:
         path = wrong_program(folder, name)
         built = time.monotonic()
-        if name in WRONG_WITHOUT_MEMORY:
-            found = first_refusal(path, folder, given.jobs)
-        else:
-            found = stored_runs(path) or first_random(pool, path, given, watches_votes=True)
+        found = first_found(pool, path, name, given)
         show(name, found, given.draw)
-        if given.agreement and name not in WRONG_WITHOUT_MEMORY:
-            show(f"{name}, disagreement", first_random(pool, path, given, watches_votes=False), given.draw)
+        if given.agreement and name in WRONG_BODIES:
+            show(f"{name}, disagreement", first_random(pool, partial(random_run, path, given.steps, False), given.count), given.draw)
     print(f"  built in {built - start:.0f} s, tried for {time.monotonic() - built:.1f} s", flush=True)
     return found is not None
 
 
 def main():
     given = options()
-    names = [it for it in WRONG_BODIES + WRONG_WITHOUT_MEMORY if given.only in it]
+    names = [it for it in ALL_WRONG if given.only in it]
     with ProcessPoolExecutor(given.jobs) as pool:
         missed = [name for name in names if not try_one(pool, name, given)]
     print(f"wrong bodies: {len(names) - len(missed)} found, {len(missed)} not found")

@@ -6,7 +6,7 @@ ghost use Rattle.simplex_program.specs.Transcript.{Transcribes, Continues, Advan
 
 use crate::line_reader::{LONGEST_LINE, line_text, read_line};
 use crate::line_writer::write_line;
-use crate::mode::Mode;
+pub use crate::mode::Mode;
 pub use crate::serve_error::ServeError;
 use crate::session::Session;
 use std::alloc::Global;

@@ -9,6 +9,7 @@ mod misuses;
 mod offers;
 mod proposals;
 mod refused;
+mod repair;
 mod resolver;
 mod script;
 mod settings;
@@ -145,6 +146,7 @@ fn scripts(alloc: Global) -> Result<Vec<Script>, AllocError> {
     scripts.extend_from_slice(&lives::LIVES)?;
     scripts.extend_from_slice(&settings::SETTINGS)?;
     scripts.extend_from_slice(&resolver::RESOLVER)?;
+    scripts.extend_from_slice(&repair::REPAIR)?;
     scripts.extend_from_slice(&refused::REFUSED)?;
     Ok(scripts)
 }
@@ -170,18 +172,37 @@ fn each_line_has_its_reply(rt: HostRuntime) -> Result<(), Fail> {
     Ok(())
 }
 
-/// Command lines that ask for a mode.
-static MODES: [&str; 4] = [
-    "viewstate resolver 1",
-    "viewstate resolver 4294967295",
-    "viewstate voter 4 - 5 18446744073709551615",
-    "viewstate voter 1000 999 4294967295 0",
+/// Command lines that ask for a mode, each with lines and replies that tell its settings: the length of terms, and whether there
+/// is a key.
+static MODES: [(&str, &str, &str); 4] = [
+    (
+        "viewstate resolver 1",
+        "replayed\nnullification 2\n",
+        "-\nsettled nullification 2 2; fetch 1 2 missing_nullification\n",
+    ),
+    (
+        "viewstate resolver 4294967295",
+        "nullification 4294967296\n",
+        "settled nullification 4294967296 8589934590\n",
+    ),
+    (
+        "viewstate voter 4 - 5 18446744073709551615",
+        "nullify 1\nnullification 1 5\nview\n",
+        "none\nadded true\nview 6 0 0\n",
+    ),
+    (
+        "viewstate voter 1000 999 4294967295 0",
+        "nullify 1\nnullification 1 5\nview\n",
+        "nullify 1 false\nadded true\nview 4294967296 0 0\n",
+    ),
 ];
 
 #[test]
 fn modes(rt: HostRuntime) -> Result<(), Fail> {
-    for command in &MODES {
-        assert!(rt; mode_of(rt.alloc(), command)?.is_some(), "{command}");
+    for (command, lines, replies) in &MODES {
+        let mode = mode_of(rt.alloc(), command)?.ok_or(*command)?;
+        let are_given = is_answered(rt.alloc(), mode, lines, replies, Ok(()))?;
+        assert!(rt; are_given, "{command}");
     }
     Ok(())
 }

@@ -7,6 +7,33 @@ use simplex_types::types::{Finalization, View};
 use std::alloc::Global;
 use std::test::Fail;
 
+/// A life that is asked for: whether the record is pruned first, and how many views are kept; whether it begins, and the record's
+/// entries and the lowest view that is kept then.
+type Life = (bool, u64, Result<(), RecoverError>, usize, u64);
+
+/// Lives of a member that keeps ten views, and accepted a finalization of view 20 and notarizations of views 4 and 12. What is pruned
+/// is below the views that the life before kept, whatever the next one keeps; and once a record is pruned, no more may be kept than
+/// in any life before.
+static LIVES: [&[Life]; 7] = [
+    &[(true, 5, Ok(()), 2, 15), (true, 5, Ok(()), 1, 15)],
+    &[(false, 5, Ok(()), 3, 15), (true, 5, Ok(()), 1, 15)],
+    &[(true, 20, Err(RecoverError::RetentionGrown), 3, 10)],
+    &[
+        (true, 11, Err(RecoverError::RetentionGrown), 3, 10),
+        (true, 10, Ok(()), 2, 10),
+        (false, 11, Err(RecoverError::RetentionGrown), 2, 10),
+        (false, 5, Ok(()), 2, 15),
+        (false, 10, Err(RecoverError::RetentionGrown), 2, 15),
+        (true, 5, Ok(()), 1, 15),
+    ],
+    &[
+        (false, 20, Ok(()), 3, 0),
+        (true, 20, Err(RecoverError::RetentionGrown), 3, 0),
+    ],
+    &[(false, 5, Ok(()), 3, 15), (false, 10, Ok(()), 3, 10)],
+    &[(true, 0, Ok(()), 2, 20), (true, 0, Ok(()), 1, 20)],
+];
+
 /// Another life that keeps so many views.
 fn restart(
     alloc: Global,
@@ -21,9 +48,10 @@ fn restart(
     }))
 }
 
-/// A member that keeps ten views, and accepted a finalization of view 20 and a notarization of view 12.
+/// A member that keeps ten views, and accepted a finalization of view 20 and notarizations of views 4 and 12.
 fn finalized_at_20(alloc: Global) -> Result<Box<PlainMember>, Fail> {
     let mut member = started(alloc, start(alloc, 10)?)?;
+    member.add_notarization(notarization(4, 3, 7))?;
     let finalization = Finalization {
         proposal: proposal(20, 19, 7),
         certificate: PlainCertificate { good: true },
@@ -31,6 +59,38 @@ fn finalized_at_20(alloc: Global) -> Result<Box<PlainMember>, Fail> {
     member.add_finalization(finalization, 5)?;
     member.add_notarization(notarization(12, 11, 7))?;
     Ok(member)
+}
+
+/// Whether the member has so many entries, and keeps the views from one on.
+fn keeps(member: &PlainMember, entries: usize, lowest: u64) -> bool {
+    let Some(state) = member.state() else {
+        return false;
+    };
+    member.record().len() == entries && state.min_active() == View::new(lowest)
+}
+
+/// How many of the lives came as they are told, up to the first that did not.
+fn lives_as_told(alloc: Global, member: &mut PlainMember, lives: &[Life]) -> Result<usize, Fail> {
+    let mut count: usize = 0;
+    for (prune, retention, wanted, entries, lowest) in lives {
+        let begins = restart(alloc, member, *prune, *retention)?;
+        if begins != *wanted || !keeps(member, *entries, *lowest) {
+            break;
+        }
+        count = count.saturating_add(1);
+    }
+    Ok(count)
+}
+
+#[test]
+fn a_record_is_pruned_by_the_last_life_and_a_retention_grows_only_before(
+    rt: HostRuntime,
+) -> Result<(), Fail> {
+    for lives in &LIVES {
+        let mut member = finalized_at_20(rt.alloc())?;
+        assert_eq!(rt; lives_as_told(rt.alloc(), &mut member, lives)?, lives.len());
+    }
+    Ok(())
 }
 
 /// Whether a pruning drops just these views.
@@ -41,47 +101,24 @@ fn drops(member: &mut PlainMember, wanted: &[View]) -> bool {
     }
 }
 
-/// Whether the member has two entries, keeps the views from 15 on, and has the notarization of view 12 or not.
-fn keeps_from_15(member: &PlainMember, has_notarization: bool) -> bool {
-    let Some(state) = member.state() else {
-        return false;
-    };
-    member.record().len() == 2
-        && state.min_active() == View::new(15)
-        && state.notarization(View::new(12)).is_some() == has_notarization
+/// Whether the member's state has the notarization of view 12.
+fn has_notarization(member: &PlainMember) -> bool {
+    match member.state() {
+        Some(state) => state.notarization(View::new(12)).is_some(),
+        None => false,
+    }
 }
 
 #[test]
-fn a_shrunk_retention_leaves_the_record_as_the_last_life_kept_it(
+fn a_shrunk_retention_leaves_the_state_as_the_last_life_kept_it(
     rt: HostRuntime,
 ) -> Result<(), Fail> {
     let mut member = finalized_at_20(rt.alloc())?;
     assert_eq!(rt; restart(rt.alloc(), &mut member, true, 5)?, Ok(()));
     assert!(rt;
-        keeps_from_15(&member, true)
+        has_notarization(&member)
             && drops(&mut member, &[View::new(1), View::new(12), View::new(13)])
-            && keeps_from_15(&member, false)
+            && !has_notarization(&member)
     );
-    Ok(())
-}
-
-/// Whether a larger retention is refused and leaves the member as it was, and the same and a smaller one are taken.
-fn grows_only_unpruned(alloc: Global, member: &mut PlainMember) -> Result<bool, Fail> {
-    let grown = Err(RecoverError::RetentionGrown);
-    let refused = restart(alloc, member, true, 11)? == grown;
-    let stands = member.record().len() == 2 && member.state().is_some();
-    Ok(
-        refused
-            && stands
-            && restart(alloc, member, true, 10)? == Ok(())
-            && restart(alloc, member, false, 11)? == grown
-            && restart(alloc, member, false, 5)? == Ok(()),
-    )
-}
-
-#[test]
-fn a_retention_grows_only_while_nothing_was_pruned(rt: HostRuntime) -> Result<(), Fail> {
-    let mut member = finalized_at_20(rt.alloc())?;
-    assert!(rt; grows_only_unpruned(rt.alloc(), &mut member)?);
     Ok(())
 }

@@ -1,102 +1,262 @@
-//! Timeouts of a member of plain parts: a skip budget, a stall, and a moment past 64 bits.
+//! Timeouts of members of plain parts: skip budgets, stalls, and a moment past 64 bits.
 
-use super::{PlainMember, certify_first, first_notarization, proposal, start, start_in, started};
-use simplex_member::member::{Member, RecoverError, Refusal};
+ghost use Rattle.std.specs.Prelude.{◌≡◌, IfOk, length};
+ghost use Rattle.simplex_types.specs.Plain.{members_of, keys_of};
+
+use super::{PlainMember, notarization, proposal, start, start_in, started};
+use Event::{Certified, Finalized, GivenUp, Nullified, Proposed};
+use simplex_member::member::{Member, RecoverError, Refusal, Start};
 use simplex_types::reasons::TimeoutReason;
-use simplex_types::types::plain::PlainCertificate;
-use simplex_types::types::{Finalization, TermLength, Terms, View};
-use std::alloc::Global;
+use simplex_types::types::plain::{PlainCertificate, PlainDigest, PlainElector, PlainScheme};
+use simplex_types::types::{Finalization, Nullification, TermLength, Terms, View};
+use std::alloc::{AllocError, Global};
 use std::num::NonZeroU32;
 use std::test::Fail;
 
-/// The next timeout with its reason, if there is one.
-fn next_timeout(member: &mut PlainMember, now: u64) -> Option<(u64, TimeoutReason)> {
-    member.next_timeout(now).ok()
+type PlainStart = Start<PlainScheme, PlainElector, PlainDigest>;
+
+/// What comes to a member: a view, on the view before where it has a parent, and a moment in milliseconds.
+#[derive(Clone, Copy)]
+enum Event {
+    /// The leader's proposal comes.
+    Proposed(u64),
+    /// The view is notarized, and certified at the moment.
+    Certified(u64, u64),
+    /// The view is finalized.
+    Finalized(u64, u64),
+    /// The view is nullified.
+    Nullified(u64, u64),
+    /// Its leader gives the view up.
+    GivenUp(u64, u64),
 }
 
-/// The leader of view 1 proposes, and gives the view up at 5 milliseconds.
-fn give_up_first(member: &mut PlainMember) -> Result<(), Refusal> {
-    member.set_proposal(View::new(1), first_notarization().proposal)?;
-    member.trigger_timeout(View::new(1), TimeoutReason::LeaderNullify, 5)?;
+/// A poll at a moment, and the timeout that it answers, if it answers one.
+type Poll = (u64, Option<(u64, TimeoutReason)>);
+
+/// The view before.
+fn below(view: u64) -> u64 {
+    view.saturating_sub(1)
+}
+
+/// What comes to a member is handed in.
+fn hand_in(member: &mut PlainMember, event: Event) -> Result<(), Refusal> {
+    match event {
+        Event::Proposed(view) => {
+            member.set_proposal(View::new(view), proposal(view, below(view), 7))?;
+        }
+        Event::Certified(view, now) => {
+            member.add_notarization(notarization(view, below(view), 7))?;
+            member.certified(View::new(view), true, now)?;
+        }
+        Event::Finalized(view, now) => {
+            let finalization = Finalization {
+                proposal: proposal(view, below(view), 7),
+                certificate: PlainCertificate { good: true },
+            };
+            member.add_finalization(finalization, now)?;
+        }
+        Event::Nullified(view, now) => {
+            let nullification = Nullification {
+                round: super::round(view),
+                certificate: PlainCertificate { good: true },
+            };
+            member.add_nullification(nullification, now)?;
+        }
+        Event::GivenUp(view, now) => {
+            member.trigger_timeout(View::new(view), TimeoutReason::LeaderNullify, now)?;
+        }
+    }
     Ok(())
 }
 
-/// A member whose leader gave up view 1.
-fn given_up(alloc: Global, skip_budget: u64) -> Result<Box<PlainMember>, Fail> {
-    let mut begun = start(alloc, 10)?;
-    begun.settings.skip_budget = skip_budget;
-    let mut member = started(alloc, begun)?;
-    give_up_first(&mut member)?;
-    Ok(member)
+/// The next timeout with its reason, if there is one, once all of this has come.
+fn timeout_behind(
+    member: &mut PlainMember,
+    events: &[Event],
+    now: u64,
+) -> Result<Option<(u64, TimeoutReason)>, Refusal> {
+    for event in events {
+        hand_in(member, *event)?;
+    }
+    Ok(member.next_timeout(now).ok())
 }
 
-/// The next timeout of a member that was given up in view 1.
-fn timeout_of_given_up(
-    alloc: Global,
-    skip_budget: u64,
-) -> Result<Option<(u64, TimeoutReason)>, Fail> {
-    let mut member = given_up(alloc, skip_budget)?;
-    Ok(next_timeout(&mut member, 5))
+/// Terms of one view or of five, that stall after so many milliseconds or never.
+fn terms(are_of_five: bool, stall_timeout: Option<u64>) -> Terms {
+    let term_length = if are_of_five {
+        NonZeroU32::MIN.saturating_add(4)
+    } else {
+        NonZeroU32::MIN
+    };
+    Terms {
+        term_length: TermLength::new(term_length),
+        optimistic_views: 0,
+        stall_timeout,
+    }
+}
+
+/// Skip budgets, whether terms have five views, what comes, and a poll behind it. A view that was given up times out at once only
+/// where the budget is above the number of terms since the last finalized view's next one.
+static BUDGETS: [(u64, bool, &[Event], Poll); 11] = [
+    (
+        0,
+        false,
+        &[Proposed(1), GivenUp(1, 5)],
+        (5, Some((2000, TimeoutReason::CertificationTimeout))),
+    ),
+    (
+        0,
+        false,
+        &[GivenUp(1, 5)],
+        (5, Some((1000, TimeoutReason::LeaderTimeout))),
+    ),
+    (
+        1,
+        false,
+        &[Proposed(1), GivenUp(1, 5)],
+        (5, Some((5, TimeoutReason::LeaderNullify))),
+    ),
+    (
+        3,
+        false,
+        &[Nullified(3, 10), GivenUp(4, 20)],
+        (30, Some((1010, TimeoutReason::LeaderTimeout))),
+    ),
+    (
+        4,
+        false,
+        &[Nullified(3, 10), GivenUp(4, 20)],
+        (30, Some((20, TimeoutReason::LeaderNullify))),
+    ),
+    (
+        1,
+        false,
+        &[Finalized(3, 10), GivenUp(4, 20)],
+        (30, Some((20, TimeoutReason::LeaderNullify))),
+    ),
+    (
+        1,
+        true,
+        &[Nullified(1, 10), GivenUp(6, 20)],
+        (30, Some((1010, TimeoutReason::LeaderTimeout))),
+    ),
+    (
+        2,
+        true,
+        &[Nullified(1, 10), GivenUp(6, 20)],
+        (30, Some((20, TimeoutReason::LeaderNullify))),
+    ),
+    (
+        1,
+        true,
+        &[Certified(1, 10), GivenUp(2, 20)],
+        (30, Some((20, TimeoutReason::LeaderNullify))),
+    ),
+    (
+        2,
+        true,
+        &[Finalized(4, 5), Nullified(6, 10), GivenUp(11, 20)],
+        (30, Some((1010, TimeoutReason::LeaderTimeout))),
+    ),
+    (
+        3,
+        true,
+        &[Finalized(4, 5), Nullified(6, 10), GivenUp(11, 20)],
+        (30, Some((20, TimeoutReason::LeaderNullify))),
+    ),
+];
+
+/// How a member starts that has a skip budget.
+fn with_budget(alloc: Global, budget: u64, are_of_five: bool) -> Result<PlainStart, AllocError>
+    ensures { IfOk result (λ start. members_of start.settings.elector ≡ length (keys_of start.settings.scheme)) }
+{
+    let mut begun = start_in(alloc, 10, terms(are_of_five, None))?;
+    begun.settings.skip_budget = budget;
+    Ok(begun)
 }
 
 #[test]
-fn a_latched_timeout_counts_within_the_skip_budget(rt: HostRuntime) -> Result<(), Fail> {
-    let waits = Some((2000, TimeoutReason::CertificationTimeout));
-    assert_eq!(rt; timeout_of_given_up(rt.alloc(), 0)?, waits);
-    let skips = Some((5, TimeoutReason::LeaderNullify));
-    assert_eq!(rt; timeout_of_given_up(rt.alloc(), 1)?, skips);
+fn a_view_that_was_given_up_is_skipped_within_the_budget(rt: HostRuntime) -> Result<(), Fail> {
+    for (budget, are_of_five, events, (now, wanted)) in &BUDGETS {
+        let start = with_budget(rt.alloc(), *budget, *are_of_five)?;
+        let mut member = started(rt.alloc(), start)?;
+        assert_eq!(rt; timeout_behind(&mut member, events, *now)?, *wanted);
+    }
     Ok(())
 }
 
-/// A member in terms of five views that stall after 5 seconds, with longer timeouts of a view.
-fn stalling(alloc: Global) -> Result<Box<PlainMember>, Fail> {
-    let terms = Terms {
-        term_length: TermLength::new(NonZeroU32::MIN.saturating_add(4)),
-        optimistic_views: 0,
-        stall_timeout: Some(5000),
-    };
-    let mut begun = start_in(alloc, 10, terms)?;
+/// Stall timeouts in terms of five views, what comes, and a poll behind it. What stalls is the first view entered above the last
+/// finalized one, however many of its term are certified.
+static STALLS: [(Option<u64>, &[Event], Poll); 11] = [
+    (None, &[], (10, Some((9000, TimeoutReason::LeaderTimeout)))),
+    (
+        Some(5000),
+        &[],
+        (10, Some((5000, TimeoutReason::StallTimeout))),
+    ),
+    (
+        Some(5000),
+        &[Certified(1, 100)],
+        (100, Some((5000, TimeoutReason::StallTimeout))),
+    ),
+    (
+        Some(5000),
+        &[Certified(1, 100)],
+        (5001, Some((5000, TimeoutReason::StallTimeout))),
+    ),
+    (
+        Some(5000),
+        &[Certified(1, 100), Finalized(1, 100)],
+        (100, Some((5100, TimeoutReason::StallTimeout))),
+    ),
+    (
+        Some(5000),
+        &[Certified(1, 100), Finalized(1, 100)],
+        (9100, Some((9100, TimeoutReason::LeaderTimeout))),
+    ),
+    (
+        Some(5000),
+        &[Certified(1, 100), Certified(2, 200), Finalized(1, 300)],
+        (300, Some((5100, TimeoutReason::StallTimeout))),
+    ),
+    (
+        Some(5000),
+        &[Certified(1, 100), Certified(2, 200), Finalized(2, 300)],
+        (300, Some((5200, TimeoutReason::StallTimeout))),
+    ),
+    (
+        Some(5000),
+        &[Nullified(3, 70)],
+        (70, Some((5070, TimeoutReason::StallTimeout))),
+    ),
+    (
+        Some(5000),
+        &[Certified(1, 100), GivenUp(2, 150)],
+        (150, Some((150, TimeoutReason::LeaderNullify))),
+    ),
+    (
+        Some(1),
+        &[Certified(1, 100)],
+        (100, Some((1, TimeoutReason::StallTimeout))),
+    ),
+];
+
+/// How a member starts that may stall, with longer timeouts of a view.
+fn with_stall(alloc: Global, stall_timeout: Option<u64>) -> Result<PlainStart, AllocError>
+    ensures { IfOk result (λ start. members_of start.settings.elector ≡ length (keys_of start.settings.scheme)) }
+{
+    let mut begun = start_in(alloc, 10, terms(true, stall_timeout))?;
     begun.settings.leader_timeout = 9000;
     begun.settings.certification_timeout = 10000;
-    started(alloc, begun)
-}
-
-/// View 1 is finalized.
-fn finalize_first(member: &mut PlainMember, now: u64) -> Result<(), Refusal> {
-    let finalization = Finalization {
-        proposal: proposal(1, 0, 7),
-        certificate: PlainCertificate { good: true },
-    };
-    member.add_finalization(finalization, now)?;
-    Ok(())
-}
-
-/// The timeouts at first, once view 1 is certified, once it is finalized, and when view 2 lasted long.
-fn timeouts_of_a_run(
-    member: &mut PlainMember,
-) -> Result<[Option<(u64, TimeoutReason)>; 4], Refusal> {
-    let first = next_timeout(member, 10);
-    certify_first(member, 100)?;
-    let certified = next_timeout(member, 100);
-    finalize_first(member, 100)?;
-    Ok([
-        first,
-        certified,
-        next_timeout(member, 100),
-        next_timeout(member, 9100),
-    ])
+    Ok(begun)
 }
 
 #[test]
 fn the_first_view_that_is_not_finalized_stalls(rt: HostRuntime) -> Result<(), Fail> {
-    let wanted = [
-        Some((5000, TimeoutReason::StallTimeout)),
-        Some((5000, TimeoutReason::StallTimeout)),
-        Some((5100, TimeoutReason::StallTimeout)),
-        Some((9100, TimeoutReason::LeaderTimeout)),
-    ];
-    let mut member = stalling(rt.alloc())?;
-    assert_eq!(rt; timeouts_of_a_run(&mut member)?, wanted);
+    for (stall_timeout, events, (now, wanted)) in &STALLS {
+        let mut member = started(rt.alloc(), with_stall(rt.alloc(), *stall_timeout)?)?;
+        assert_eq!(rt; timeout_behind(&mut member, events, *now)?, *wanted);
+    }
     Ok(())
 }
 

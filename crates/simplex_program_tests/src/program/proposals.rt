@@ -2,7 +2,7 @@
 
 use super::script::Script;
 
-pub static PROPOSALS: [Script; 17] = [
+pub static PROPOSALS: [Script; 18] = [
     Script {
         shows: "the proposals of a window are verified one after another, each on the one before",
         command: "viewstate voter 4 1 5 4",
@@ -40,12 +40,20 @@ pub static PROPOSALS: [Script; 17] = [
             verify => ready 3 2 1 7 8\n",
     },
     Script {
-        shows: "a view that was pruned is not voted for",
-        command: "viewstate voter 4 1 1 0",
+        shows: "an own proposal in a view that was finalized past is voted for, as long as the view is tracked",
+        command: "viewstate voter 4 0 1 0",
         lines: "\
-            proposal 1 0 7 => true\n\
-            verify => ready 1 0 0 0 7\n\
-            verified 1 => true\n\
+            propose => propose 1 0 0 0\n\
+            proposed 1 7 5 => true\n\
+            finalization 20 19 9 10 => added true -\n\
+            notarize 1 => notarize 1 0 7\n",
+    },
+    Script {
+        shows: "a view that was pruned is not voted for",
+        command: "viewstate voter 4 0 1 0",
+        lines: "\
+            propose => propose 1 0 0 0\n\
+            proposed 1 7 5 => true\n\
             finalization 20 19 9 10 => added true -\n\
             prune => pruned 1\n\
             notarize 1 => none\n",
