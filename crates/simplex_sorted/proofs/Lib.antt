@@ -1,7 +1,7 @@
 pub mod RisingEntries
 pub mod Maps
 pub mod Unboxed
-pub mod Joined
+pub mod Terms
 pub mod Gaps
 pub mod Runs
 pub mod CutRows

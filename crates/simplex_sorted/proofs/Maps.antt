@@ -1,16 +1,17 @@
 -- A finite map from views, by its entries.
-use Rattle.std.proofs.Common.{◌≡◌, ◌⊎◌, ℕ, ◌+◌, ◌<◌, ◌≤◌, Bool, true, false, cond, ltb, leb, not, List, [], length, get_or, take, drop, set, Option, Some, None, slice_get, is_some, filter, T, eqb, refl, ap, sym, ◌∙◌, subst, inl, inr, arith}
+use Rattle.std.proofs.Common.{◌≡◌, ◌⊎◌, ℕ, ◌+◌, ◌-◌, ◌^◌, ◌<◌, ◌≤◌, Bool, true, false, cond, ltb, leb, not, List, [], ◌∷◌, length, get_or, take, drop, set, Option, Some, None, slice_get, is_some, filter, T, eqb, refl, ap, sym, ◌∙◌, subst, inl, inr, arith}
 use Rattle.std.specs.List.{insert, remove}
 use Rattle.std.proofs.lemmas.List.{take_all}
 use Rattle.std.specs.Ordering.{nat_cmp, is_lt, eq_by_cmp}
-use Rattle.std.proofs.lemmas.Bool.{cases_eq, cases_lt, lt-ltb, le-ltb, eq-eqb, ne_eqb, eqb-true, false≢true}
+use Rattle.std.proofs.lemmas.Bool.{cases_eq, cases_lt, lt-ltb, le-ltb, ltb-true, ltb-false, eq-eqb, ne_eqb, eqb-true, false≢true}
 use Rattle.std.proofs.lemmas.Option.{slice_get_cases, get_or_from_slice_get}
 use Rattle.std.proofs.lemmas.Bool.Decides.{nat_tests}
 use Rattle.std.specs.Cmp.{nat_cmp_total}
 use Rattle.std.specs.FinMap as map
-use Rattle.std.specs.FinMap.Entries.{where_key, is_sorted-where_key, find-where_key}
+use Rattle.std.specs.FinMap.Entries.{find, where_key, is_sorted-where_key, find-where_key}
 use Rattle.simplex_sorted.specs.Tracked.{below, at_or_above}
-use Rattle.simplex_sorted.proofs.RisingEntries.{Rises, rises, place, lower-take, upper-drop, place-le-length, below_place, value_if_at, find_at, place-next, put_absent, put_present, removed_at}
+use Rattle.simplex_types.proofs.Digits.{IsLeft}
+use Rattle.simplex_sorted.proofs.RisingEntries.{Rises, rises, place, lower-take, upper-drop, place-le-length, below_place, value_if_at, find_at, place-next, climbs, put_absent, put_present, removed_at}
 
 true_from_T : (b : Bool) → T b → b ≡ true
 true_from_T true t = refl
@@ -37,7 +38,22 @@ none_from_is_some (Some x) e = absurd (false≢true (sym e))
 pub is_eq-nat_cmp : (x y : ℕ) → eq_by_cmp nat_cmp x y ≡ eqb x y
 is_eq-nat_cmp x y = grind (arith, nat_tests)
 
+-- a search that begins with fewer entries than there are
+pub not_halved : (w n : ℕ) → w ≤ n → IsLeft 0 w n
+not_halved w n fewer d fits = (omega arith, let none : d ≡ d - 0 = omega arith in subst (λ e. w < 2 ^ e) none (omega (arith, fits, fewer)))
+
+-- what an insert's answer says of what stood there
+pub stood : {V : Type 0} (b : Bool) (x y : V) → Some x ≡ cond b (Some y) None → b ≡ true
+stood true x y is = refl
+stood false x y is = cc
+
 module _ {V : Type 0} where
+  pub find_at_key : (q : ℕ) (e : ℕ × V) (es : List (ℕ × V)) → q ≡ e.0 → find nat_cmp q (e ∷ es) ≡ Some e.1
+  find_at_key q e es same = rw (is_eq-nat_cmp q e.0, eq-eqb q e.0 same) refl
+
+  pub find_other : (q : ℕ) (e : ℕ × V) (es : List (ℕ × V)) → (q ≡ e.0 → ⊥) → find nat_cmp q (e ∷ es) ≡ find nat_cmp q es
+  find_other q e es other = rw (is_eq-nat_cmp q e.0, ne_eqb q e.0 other) refl
+
   -- a list that has the entries of a map is in order, and makes that map
   pub sorted_from_entries : (es : List (ℕ × V)) (m : map.FinMap nat_cmp V) → es ≡ map.entries m → map.is_sorted nat_cmp es ≡ true
   sorted_from_entries es m e = rw e (true_from_T _ (map.entries_sorted m))
@@ -114,6 +130,33 @@ module _ {V : Type 0} where
     -- an entry is below v exactly where its index is below v's place
     pub below_at : (i : ℕ) (d : ℕ × V) → i < map.len m → ltb (get_or (map.entries m) i d).0 v ≡ ltb i (map.len (below m v))
     below_at i d h = rw len-below (below_place v _ i d (map_rises m) (rw map.len-entries at h))
+
+    -- no more entries stand below v than views from the first one on
+    pub place_from_first : (d : ℕ × V) → 0 < map.len m → map.len (below m v) ≤ v - (get_or (map.entries m) 0 d).0
+    place_from_first d some = elim (cases_lt 0 (map.len (below m v))) [
+      | inl there ↦
+          let es = map.entries m in
+          let p = map.len (below m v) in
+          let count = map.len-entries m in
+          let within : p - 1 < length es = omega (arith, there, len-below-le-len, count) in
+          let under = ltb-true (get_or es (p - 1) d).0 v (below_at (p - 1) d (omega (arith, within, count)) ∙ lt-ltb (p - 1) p (omega (arith, there))) in
+          let up = climbs es 0 (p - 1) d (map_rises m) (omega arith) within in
+          omega (arith, under, up, there)
+      | inr none ↦ omega (arith, none)
+    ]
+
+    -- and no more at or above it than views up to the last one
+    pub place_from_last : (d : ℕ × V) (end : ℕ) → end + 1 ≡ map.len m → map.len m ≤ map.len (below m v) + ((get_or (map.entries m) end d).0 + 1 - v)
+    place_from_last d end is = elim (cases_lt (map.len (below m v)) (map.len m)) [
+      | inl there ↦
+          let es = map.entries m in
+          let p = map.len (below m v) in
+          let count = map.len-entries m in
+          let above = ltb-false (get_or es p d).0 v (below_at p d there ∙ le-ltb p p (omega arith)) in
+          let up = climbs es p end d (map_rises m) (omega (arith, there, is)) (omega (arith, is, count)) in
+          omega (arith, above, up, is, there)
+      | inr all ↦ omega (arith, all)
+    ]
 
     -- v is looked up at its place
     pub get_at : map.get m v ≡ value_if_at v (slice_get (map.entries m) (map.len (below m v)))

@@ -11,8 +11,8 @@ use Rattle.simplex_types.specs.declared.types.fault.AllocFailed.{AllocFailed}
 use Rattle.simplex_types.specs.Terms.{next_term_start, term_end, covers}
 use Rattle.simplex_sorted.specs.ByTerm.{TermMap, is_covered, not_ended}
 use Rattle.simplex_sorted.specs.Runs.{AreIn}
-use Rattle.simplex_sorted.proofs.Maps.{get-insert, get-kept}
-use Rattle.simplex_sorted.proofs.Joined.{find_at_key, find_other, stood, start_monotone}
+use Rattle.simplex_sorted.proofs.Maps.{find_at_key, find_other, stood, get-insert, get-kept}
+use Rattle.simplex_sorted.proofs.Terms.{start_monotone}
 use Rattle.simplex_sorted.proofs.Gaps.{cases_bool, or_any, covered_on}
 use Rattle.simplex_types.proofs.Covers.{covers_parts, covers_from, end_above}
 

@@ -7,7 +7,7 @@ use Rattle.std.specs.Box.{with_value}
 use Rattle.std.specs.FinMap as map
 use Rattle.std.specs.Ordering.{nat_cmp}
 use Rattle.simplex_sorted.specs.Tracked.{unboxed, below}
-use Rattle.simplex_sorted.proofs.Maps.{value_at, written}
+use Rattle.simplex_sorted.proofs.Maps.{value_at, written, place_from_first, place_from_last}
 
 module _ {V A : Type 0} where
   -- an entry without its box
@@ -44,6 +44,22 @@ module _ {V A : Type 0} where
 
   pub same_length : (es : List (ℕ × Box V A)) → length es ≡ length (unboxed es)
   same_length es = sym (length-unboxed es)
+
+  -- where a view's place may be, by the first entry and by the last one
+  module _ (m : map.FinMap nat_cmp V) (es : List (ℕ × Box V A)) (same : unboxed es ≡ map.entries m) (i : ℕ) (e : ℕ × Box V A) (within : i < length es) (read : e ≡ get_or es i e) where
+    entry_at : (get_or (map.entries m) i (opened e)).0 ≡ e.0
+    entry_at = ap (λ xs. (get_or xs i (opened e)).0) (sym same) ∙ sym (ap (λ x. x.0) (unboxed_at es i e within read))
+
+    pub counted_rows : length es ≡ map.len m
+    counted_rows = same_length es ∙ ap length same ∙ sym (map.len-entries m)
+
+    pub from_first : (v : ℕ) → i ≡ 0 → map.len (below m v) ≤ v - e.0
+    from_first v first =
+        let at : (get_or (map.entries m) 0 (opened e)).0 ≡ e.0 = ap (λ k. (get_or (map.entries m) k (opened e)).0) (sym first) ∙ entry_at in
+        rw (← at) (place_from_first m v (opened e) (omega (arith, within, counted_rows)))
+
+    pub from_last : (v : ℕ) → i + 1 ≡ map.len m → map.len m ≤ map.len (below m v) + (e.0 + 1 - v)
+    from_last v last = rw (← entry_at) (place_from_last m v (opened e) i last)
 
   -- the entries after a value is written into the box at v's place, where v is there
   pub boxed_written : (m : map.FinMap nat_cmp V) (v : ℕ) (es : List (ℕ × Box V A)) (r : ℕ) (e : ℕ × Box V A) (x : V) → unboxed es ≡ map.entries m → r ≡ map.len (below m v) → map.contains_key m v ≡ true → e ≡ get_or es r e → unboxed (set es r (e.0, with_value e.1 x)) ≡ map.entries (map.insert m v x)

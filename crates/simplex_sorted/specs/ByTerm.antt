@@ -1,10 +1,10 @@
 -- Words for a finite map from views whose terms matter.
-use Rattle.std.specs.Prelude.{◌≡◌, ℕ, ◌<◌, Bool, true, false, ◌&&◌, nat_lt, Option, Some, None, is_some, IsTrue, flat_map, refl}
+use Rattle.std.specs.Prelude.{◌≡◌, ℕ, ◌<◌, Bool, true, false, ◌&&◌, nat_lt, Option, refl}
 use Rattle.std.specs.Coded.{Coded, code_by, coded×, coded_ℕ}
 use Rattle.std.specs.List.{list_any}
 use Rattle.std.specs.Ordering.{nat_cmp}
-use Rattle.std.specs.FinMap.{FinMap, get, entries, keys, from_entries, retain_keys, code}
-use Rattle.simplex_types.specs.Terms.{term_start, term_end, covers}
+use Rattle.std.specs.FinMap.{FinMap, keys, retain_keys, code}
+use Rattle.simplex_types.specs.Terms.{term_end, covers}
 use Rattle.simplex_sorted.specs.Tracked.{last_entry}
 
 -- a map from views, and how many views stand in a term
@@ -40,22 +40,3 @@ Gapless m p v = (w : ℕ) → p < w → w < v → is_covered m w ≡ true
 -- w is the least view strictly between that is not covered
 abbrev pub IsFirstGap : {V : Type 0} → TermMap V → ℕ → ℕ → ℕ → Type 0
 IsFirstGap m p v w = (p < w) × (w < v) × (is_covered m w ≡ false) × Gapless m p w
-
--- how it is kept: a map for each term, under the term's first view
-
--- the value at a view in the map of a term, if there is one
-abbrev pub in_term : {V : Type 0} → Option (FinMap nat_cmp V) → ℕ → Option V
-in_term None view = None
-in_term (Some term) view = get term view
-
--- all terms' entries as one map
-abbrev pub entries_by_view : {V : Type 0} → FinMap nat_cmp (FinMap nat_cmp V) → FinMap nat_cmp V
-entries_by_view terms = from_entries (flat_map (λ term. entries term.1) (entries terms))
-
--- each view stands in the map of its own term
-abbrev pub IsByTerm : {V : Type 0} → ℕ → FinMap nat_cmp (FinMap nat_cmp V) → Type 0
-IsByTerm length terms = (start view : ℕ) → IsTrue (is_some (in_term (get terms start) view)) → term_start length view ≡ start
-
--- the terms as one map
-abbrev pub map_of_terms : {V : Type 0} → ℕ → FinMap nat_cmp (FinMap nat_cmp V) → TermMap V
-map_of_terms length terms = record { term_length = length; by_view = entries_by_view terms }

@@ -1,11 +1,11 @@
-//! A table of terms, each with its views and their values.
+//! Values at views, seen by their terms.
 
-ghost use Rattle.std.specs.Prelude.{◌≡◌, ◌≤◌, ◌<◌, ◌-◌, ◌+◌, ◌^◌, min, IfOk, IfErr, OnErr, Some, None, option_map, MatchOption, if◌then◌else◌};
+ghost use Rattle.std.specs.Prelude.{◌≡◌, ◌≤◌, ◌<◌, ◌-◌, ◌+◌, ◌^◌, min, IfOk, IfErr, OnErr, Some, None, is_some, option_map, MatchOption, if◌then◌else◌, ◌==◌};
 ghost use Rattle.std.specs.Option.{option_copied};
 ghost use Rattle.std.specs.FinMap as map;
 ghost use Rattle.simplex_sorted.specs.Tracked.{after_insert, at_or_above};
 ghost use Rattle.simplex_types.specs.Terms.{term_start, next_term_start};
-ghost use Rattle.simplex_sorted.specs.ByTerm.{covering, covering_below, not_ended, IsByTerm, map_of_terms, is_covered, Gapless, IsFirstGap};
+ghost use Rattle.simplex_sorted.specs.ByTerm.{covering, covering_below, not_ended, is_covered, Gapless, IsFirstGap};
 ghost use Rattle.simplex_sorted.specs.Runs.{AreIn};
 
 use crate::run::{REACH, Run};
@@ -14,25 +14,21 @@ use simplex_types::types::{AllocFailed, TermLength, View};
 use std::alloc::Global;
 use std::marker::Model;
 
-/// A map from views to values: a sorted list of terms, each with its sorted views and values.
+/// A map from views to values, and how many views stand in a term.
 #[derive(Drop)]
 pub(super) struct TermTable<V> {
-    alloc: Global,
     term_length: TermLength,
-    // under the first view of each term
-    terms: Tracked<Tracked<V>>,
+    by_view: Tracked<V>,
 }
 
 impl<V> Model for TermTable<V> {
-    ghost use Rattle.simplex_sorted.specs.ByTerm.{TermMap, term_map_code, entries_by_view, IsByTerm};
+    ghost use Rattle.simplex_sorted.specs.ByTerm.{TermMap, term_map_code};
 
     ghost Value = { TermMap V };
 
     ghost coded = { term_map_code V.code };
 
-    ghost view = { λ t. record { term_length = t.term_length; by_view = entries_by_view t.terms } };
-
-    ghost invariant = { λ t. IsByTerm t.term_length t.terms };
+    ghost view = { λ t. record { term_length = t.term_length; by_view = t.by_view } };
 }
 
 impl<V> TermTable<V> {
@@ -40,26 +36,51 @@ impl<V> TermTable<V> {
         ensures { result ≡ record { term_length = term_length; by_view = map.empty } }
     {
         TermTable {
-            alloc,
             term_length,
-            terms: Tracked::new(alloc),
+            by_view: Tracked::new(alloc),
         }
+    }
+
+    /// Whether two views stand in one term.
+    fn stand_together(&self, view: View, other: View) -> bool
+        ensures { result ≡ (term_start self.now.term_length view == term_start self.now.term_length other) }
+    {
+        view.term_start(self.term_length) == other.term_start(self.term_length)
     }
 
     /// The entry of the highest view that covers a view.
     pub(super) fn covering(&self, view: View) -> Option<(View, &V)>
         ensures { option_map (λ entry. (entry.0, entry.1.now)) result ≡ covering self.now view }
     {
-        let term = self.terms.get(view.term_start(self.term_length))?;
-        term.last_at(view)
+        let Some(entry) = self.by_view.last_at(view) else {
+            return None;
+        };
+        if self.stand_together(entry.0, view) {
+            Some(entry)
+        } else {
+            None
+        }
     }
 
     /// The entry of the highest view below a view in its term.
     pub(super) fn covering_below(&self, view: View) -> Option<(View, &V)>
         ensures { option_map (λ entry. (entry.0, entry.1.now)) result ≡ covering_below self.now view }
     {
-        let term = self.terms.get(view.term_start(self.term_length))?;
-        term.last_below(view)
+        let Some(entry) = self.by_view.last_below(view) else {
+            return None;
+        };
+        if self.stand_together(entry.0, view) {
+            Some(entry)
+        } else {
+            None
+        }
+    }
+
+    /// Whether a view is covered.
+    fn is_covered(&self, view: View) -> bool
+        ensures { result ≡ is_covered self.now view }
+    {
+        self.covering(view).is_some()
     }
 
     /// The views that an entry covers: its own, and those behind it in its term.
@@ -106,19 +127,26 @@ impl<V> TermTable<V> {
     pub(super) fn get(&self, view: View) -> Option<&V>
         ensures { option_copied result ≡ map.get self.now.by_view view }
     {
-        let term = self.terms.get(view.term_start(self.term_length))?;
-        term.get(view)
+        self.by_view.get(view)
     }
-}
 
-impl<V> TermTable<V> {
     /// The first view strictly between two others that no view covers.
     ///
-    /// It goes by one search for the first term, and then from each term to the next.
+    /// It goes from term to term, by one look-up each.
     pub(super) fn first_uncovered(&self, after: View, before: View) -> Option<View>
         ensures { MatchOption result (Gapless self.now after before) (IsFirstGap self.now after before) }
     {
-        first_uncovered_in(&self.terms, self.term_length, after, before)
+        if before <= after {
+            return None;
+        }
+        let mut cursor = after.next();
+        while cursor < before {
+            if !self.is_covered(cursor) {
+                return Some(cursor);
+            }
+            cursor = self.end_of_term(cursor);
+        }
+        None
     }
 }
 
@@ -132,14 +160,7 @@ impl<V: Drop> TermTable<V> {
         ensures refused_only_new { OnErr result (map.get self.old.by_view view ≡ None) }
         ensures after { self.new ≡ record self.old { by_view = after_insert self.old.by_view view value result } }
     {
-        let start = view.term_start(self.term_length);
-        if self.terms.insert(start, Tracked::new(self.alloc)).is_err() {
-            return Err(AllocFailed { value });
-        }
-        let Some(term) = self.terms.get_mut(start) else {
-            unreachable!()
-        };
-        term.insert(view, value)
+        self.by_view.insert(view, value)
     }
 
     /// Removes the terms that end at or below a view.
@@ -147,62 +168,17 @@ impl<V: Drop> TermTable<V> {
         requires { view + 1 < 2 ^ 64 }
         ensures { self.new ≡ record self.old { by_view = not_ended self.old view } }
     {
-        let last_start = view
-            .get()
-            .saturating_sub(u64::from(self.term_length.get().get()) - 1);
-        self.terms.drop_below(View::new(last_start + 1));
+        if view.get() < u64::from(self.term_length.get().get()) {
+            return;
+        }
+        let start = view.next().term_start(self.term_length);
+        self.by_view.drop_below(start);
     }
 
     /// Removes the entries below a view.
     pub(super) fn drop_below(&mut self, view: View)
         ensures { self.new ≡ record self.old { by_view = at_or_above self.old.by_view view } }
     {
-        let start = view.term_start(self.term_length);
-        self.terms.drop_below(start);
-        let Some(term) = self.terms.get_mut(start) else {
-            return;
-        };
-        term.drop_below(view);
+        self.by_view.drop_below(view);
     }
-}
-
-/// The first view strictly between two others that no view of the terms covers.
-fn first_uncovered_in<V>(
-    terms: &Tracked<Tracked<V>>,
-    length: TermLength,
-    after: View,
-    before: View,
-) -> Option<View>
-    requires { IsByTerm length terms.now }
-    ensures { MatchOption result (Gapless (map_of_terms length terms.now) after before) (IsFirstGap (map_of_terms length terms.now) after before) }
-{
-    if before <= after {
-        return None;
-    }
-    let mut cursor = after.next();
-    if cursor >= before {
-        return None;
-    }
-    let views = u64::from(length.get().get());
-    let mut rest = terms.at_or_above(cursor.term_start(length));
-    while let Some(term) = rest.pop_first() {
-        if cursor >= before {
-            return None;
-        }
-        let start = cursor.term_start(length);
-        if term.0 < start {
-            continue;
-        }
-        if term.0 > start {
-            return Some(cursor);
-        }
-        if term.1.last_below(cursor.next()).is_none() {
-            return Some(cursor);
-        }
-        if before.get() - start.get() <= views {
-            return None;
-        }
-        cursor = View::new(start.get() + views);
-    }
-    if cursor < before { Some(cursor) } else { None }
 }

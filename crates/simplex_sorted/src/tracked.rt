@@ -56,13 +56,35 @@ impl<V> Tracked<V> {
         self.entries.len()
     }
 
+    /// Between which places the view's own lies. No more entries stand below it than views from the first one on, and no more at
+    /// or above it than views up to the last one. So where each view between these two is tracked, this is its place.
+    fn bounds(&self, view: View) -> (usize, usize)
+        ensures low { result.0 ≤ map.len (below self.now view) }
+        ensures high { map.len (below self.now view) ≤ result.1 }
+        ensures in_range { result.1 ≤ map.len self.now }
+    {
+        let count = self.len();
+        let Some(end) = count.checked_sub(1) else {
+            return (0, 0);
+        };
+        let first = self.entries[0].0.get();
+        let last = self.entries[end].0.get();
+        let below = view.get().saturating_sub(first).min(count as u64) as usize;
+        if last < view.get() {
+            return (count, count);
+        }
+        let above = (last - view.get()).min(end as u64) as usize;
+        (end - above, below)
+    }
+
     /// The place of a view, which is the number of entries below it, and how many entries the search compared with it.
     pub fn find(&self, view: View) -> (usize, usize)
         ensures place { result.0 ≡ map.len (below self.now view) }
         ensures probes { IsAtMostBinaryDigits result.1 (map.len self.now) }
     {
-        let mut low = 0;
-        let mut high = self.len();
+        let (first, last) = self.bounds(view);
+        let mut low = first;
+        let mut high = last;
         let mut probes = 0;
         while low < high {
             let middle = low + (high - low) / 2;

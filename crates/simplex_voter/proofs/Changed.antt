@@ -132,7 +132,7 @@ module _ {K D : Type 0} (x : RoundsFacts K D) where
         leader = k.leader;
         explicit = λ is. omega (arith, k.explicit is, wider.explicit);
         under_way = λ is. omega (arith, k.under_way is, wider.under_way);
-        refused = λ is. let may = k.refused is in record { from = omega (arith, may.from, wider.refused_from); to = omega (arith, may.to, wider.refused_to) };
+        refused = λ is. wider.refused v (k.refused is);
       }
 
   pub none_explicit_above : {h : Bounds} → AreKept h x → (v : ℕ) (r : RoundFacts K D) → h.explicit < v → round_at x v ≡ Some r → is_explicit r ≡ false
@@ -218,6 +218,14 @@ none_kept x none v r found = let bad : None ≡ Some r = sym (ap (find nat_cmp v
 pub notarized_there : {K D : Type 0} (x : RoundsFacts K D) (m : map.FinMap nat_cmp (RoundFacts K D)) → x.by_view ≡ map.entries m → (v : ℕ) → is_some (option_and_then (λ (r : RoundFacts K D). r.notarization) (round_at x v)) ≡ true → None ≡ map.get m v → ⊥
 notarized_there x m shown v notarized none = false≢true (ap (λ (found : Option (RoundFacts _ _)). is_some (option_and_then (λ (r : RoundFacts _ _). r.notarization) found)) (none ∙ sym (found_at x m shown v)) ∙ notarized)
 
+-- and below 2 ^ 63
+pub notarized_small : {K D : Type 0} (x : RoundsFacts K D) (h : Bounds) → AreKept h x → (v : ℕ) → is_some (option_and_then (λ (r : RoundFacts K D). r.notarization) (round_at x v)) ≡ true → v < 2 ^ 63
+notarized_small {K} {D} x h kept v notarized = by_value (round_at x v) refl notarized
+  where
+    by_value : (o : Option (RoundFacts K D)) → round_at x v ≡ o → is_some (option_and_then (λ (r : RoundFacts K D). r.notarization) o) ≡ true → v < 2 ^ 63
+    by_value None is some = absurd (false≢true some)
+    by_value (Some r) is some = (kept v r is).notarized some
+
 -- a view that can be finalized is tracked
 pub finalizable_there : {K D : Type 0} (x : RoundsFacts K D) (m : map.FinMap nat_cmp (RoundFacts K D)) → x.by_view ≡ map.entries m → (v : ℕ) → can_finalize (round_of x v) ≡ true → None ≡ map.get m v → ⊥
 finalizable_there x m shown v can none = false≢true (ap (λ found. can_finalize (unwrap_or found (new_round x.me x.members (round_number x v)))) (none ∙ sym (found_at x m shown v)) ∙ can)
@@ -228,12 +236,22 @@ changed_there_always x y is m shown v r s change here same =
     put_shown y m shown v s ∙ ap (with_round y v) (same ∙ ap change (lent y m shown v r here)) ∙ ap (λ z. with_change z v change) is
 
 -- what is left of the rounds
-pub left_kept : {K D : Type 0} {h : Bounds} (x : RoundsFacts K D) (m : map.FinMap nat_cmp (RoundFacts K D)) → x.by_view ≡ map.entries m → (v : ℕ) (n : map.FinMap nat_cmp (RoundFacts K D)) → n ≡ at_or_above m v → AreKept h x → AreKept h (record x { by_view = map.entries n })
-left_kept {K} {D} {h} x m shown v n is kept q r found = on (by_test (leb v q) (sym (get-kept m (λ u. leb v u) q) ∙ ap (λ k. map.get k q) (sym is) ∙ sym (find_entries n q) ∙ found))
+pub left_kept : {K D : Type 0} {h : Bounds} (x : RoundsFacts K D) (m : map.FinMap nat_cmp (RoundFacts K D)) → x.by_view ≡ map.entries m → (v : ℕ) (n : map.FinMap nat_cmp (RoundFacts K D)) → n ≡ at_or_above m v → (left : Bounds) → left ≡ record h { refused = at_or_above h.refused v } → AreKept h x → AreKept left (record x { by_view = map.entries n })
+left_kept {K} {D} {h} x m shown v n is left are kept q r found = on (by_test (leb v q) refl (sym (get-kept m (λ u. leb v u) q) ∙ ap (λ k. map.get k q) (sym is) ∙ sym (find_entries n q) ∙ found))
   where
-    on : IsKept h x q r → IsKept h (record x { by_view = map.entries n }) q r
-    on k = record { me = k.me; members = k.members; round = k.round; in_range = k.in_range; notarized = k.notarized; leader = k.leader; explicit = k.explicit; under_way = k.under_way; refused = k.refused }
+    on : (leb v q ≡ true) × IsKept h x q r → IsKept left (record x { by_view = map.entries n }) q r
+    on (within, k) = record {
+      me = k.me;
+      members = k.members;
+      round = k.round;
+      in_range = k.in_range;
+      notarized = k.notarized;
+      leader = k.leader;
+      explicit = λ is. rw are (k.explicit is);
+      under_way = λ is. rw are (k.under_way is);
+      refused = λ is. rw are (ap is_some (get-kept h.refused (λ u. leb v u) q) ∙ rw within (k.refused is));
+    }
 
-    by_test : (b : Bool) → cond b (map.get m q) None ≡ Some r → IsKept h x q r
-    by_test true here = kept q r (found_at x m shown q ∙ here)
-    by_test false here = let bad : None ≡ Some r = here in cc
+    by_test : (b : Bool) → leb v q ≡ b → cond b (map.get m q) None ≡ Some r → (leb v q ≡ true) × IsKept h x q r
+    by_test true within here = (within, kept q r (found_at x m shown q ∙ here))
+    by_test false outside here = let bad : None ≡ Some r = here in cc

@@ -1,22 +1,14 @@
 -- What the searches of the containers say of nullified views and of views that were certified false.
-use Rattle.std.proofs.Common.{◌≡◌, ℕ, ◌+◌, ◌<◌, Bool, true, false, ◌&&◌, ltb, leb, Option, Some, None, is_some, option_map, inl, inr, arith, refl, ap, sym, ◌∙◌}
+use Rattle.std.proofs.Common.{◌≡◌, ℕ, ◌<◌, Option, Some, None, is_some, option_map, inl, inr, arith, refl, ap, sym, ◌∙◌}
 use Rattle.std.specs.Prelude.{MatchOption}
-use Rattle.std.specs.List.{list_any}
-use Rattle.std.specs.Ordering.{nat_cmp}
 use Rattle.std.specs.FinMap as fin
 use Rattle.std.proofs.lemmas.Bool.{cases_lt, false≢true}
-use Rattle.std.proofs.lemmas.Bool.Decides.{nat_tests}
 use Rattle.simplex_types.specs.Terms.{covers}
-use Rattle.simplex_sorted.specs.Tracked.{at_or_above, below}
 use Rattle.simplex_sorted.specs.ByTerm as by
 use Rattle.simplex_sorted.proofs.Gaps.{any_last}
-use Rattle.simplex_sorted.proofs.Maps.{entries-retain_keys}
-use Rattle.simplex_round.specs.Round.{RoundFacts, is_judged}
 use Rattle.simplex_voter.specs.Facts.{StateFacts}
 use Rattle.simplex_voter.specs.Gaps.{is_covered, IsGapless, IsFirstGap, first_gap}
-use Rattle.simplex_voter.specs.Rounds.{is_refused_between}
 use Rattle.simplex_voter.proofs.Gaps.{first_gap-is}
-use Rattle.simplex_voter.proofs.Between.{any-filter}
 
 mapped_some : {A B : Type 0} (f : A → B) (o : Option A) → is_some (option_map f o) ≡ is_some o
 mapped_some f None = refl
@@ -45,30 +37,3 @@ module _ {K L D : Type 0} (x : StateFacts K L D) (m : by.TermMap (Unit {0})) (sh
   -- the gap that the search finds is the first one
   pub first_found : (p v : ℕ) (found : Option ℕ) → 0 < x.terms.term_length → MatchOption found (by.Gapless m p v) (by.IsFirstGap m p v) → found ≡ first_gap x p v
   first_found p v found some is = same_gap p v found (first_gap x p v) is (first_gap-is x p v some)
-
--- a round of a view above another was certified false
-abbrev pub failed_above : {K D : Type 0} → ℕ → ℕ × RoundFacts K D → Bool
-failed_above finalized e = ltb finalized e.0 && is_judged false e.1.certification
-
-moved : (a b c d : Bool) → (c && (b && (a && d))) ≡ (a && b && c && d)
-moved true true c d = refl
-moved true false true d = refl
-moved true false false d = refl
-moved false true true d = refl
-moved false true false d = refl
-moved false false true d = refl
-moved false false false d = refl
-
-up_to : (u v : ℕ) → ltb u (v + 1) ≡ leb u v
-up_to u v = grind (arith, nat_tests)
-
--- a round that was certified false, above a view, from another on and up to a third
-pub refused_between : {K D : Type 0} (m : fin.FinMap nat_cmp (RoundFacts K D)) (above from last : ℕ) → list_any (failed_above above) (fin.entries (at_or_above (below m (last + 1)) from)) ≡ list_any (is_refused_between above from last) (fin.entries m)
-refused_between {K} {D} m above from last =
-    let test : ℕ × RoundFacts K D → Bool = failed_above above in
-    ap (list_any test) (entries-retain_keys (below m (last + 1)) (λ u. leb from u))
-    ∙ any-filter (λ e. leb from e.0) test (fin.entries (below m (last + 1)))
-    ∙ ap (list_any (λ e. leb from e.0 && test e)) (entries-retain_keys m (λ u. ltb u (last + 1)))
-    ∙ any-filter (λ e. ltb e.0 (last + 1)) (λ e. leb from e.0 && test e) (fin.entries m)
-    ∙ (λ i. list_any (λ (e : ℕ × RoundFacts K D). up_to e.0 last i && (leb from e.0 && test e)) (fin.entries m))
-    ∙ (λ i. list_any (λ (e : ℕ × RoundFacts K D). moved (ltb above e.0) (leb from e.0) (leb e.0 last) (is_judged false e.1.certification) i) (fin.entries m))

@@ -62,10 +62,10 @@ ended_kept {K} {D} {h} x v es after is' is kept = rw is' (subst (λ (fs : List (
     at_or_below : (q : ℕ) (s : RoundFacts K D) → IsKept h x q s → IsKept ended changed q (without_token s)
     at_or_below q s was =
         let k = alike_kept x q s (without_token s) was (token_alike s) in
-        record { me = k.me; members = k.members; round = k.round; in_range = k.in_range; notarized = k.notarized; leader = k.leader; explicit = k.explicit; under_way = λ is. absurd (false≢true (sym (none_under_way s) ∙ is)); refused = λ is. let may = k.refused is in record { from = may.from; to = may.to } }
+        record { me = k.me; members = k.members; round = k.round; in_range = k.in_range; notarized = k.notarized; leader = k.leader; explicit = k.explicit; under_way = λ is. absurd (false≢true (sym (none_under_way s) ∙ is)); refused = k.refused }
 
     above : (q : ℕ) (s : RoundFacts K D) → v < q → IsKept h x q s → IsKept ended changed q s
-    above q s higher k = record { me = k.me; members = k.members; round = k.round; in_range = k.in_range; notarized = k.notarized; leader = k.leader; explicit = k.explicit; under_way = λ is. let low = k.under_way is in grind (arith, low, higher); refused = λ is. let may = k.refused is in record { from = may.from; to = may.to } }
+    above q s higher k = record { me = k.me; members = k.members; round = k.round; in_range = k.in_range; notarized = k.notarized; leader = k.leader; explicit = k.explicit; under_way = λ is. let low = k.under_way is in grind (arith, low, higher); refused = k.refused }
 
     by_test : (q : ℕ) (s : RoundFacts K D) → IsKept h x q s → IsKept ended changed q (cond (leb q v) (without_token s) s)
     by_test q s k = elim (cases_lt v q) [

@@ -49,6 +49,16 @@ noted m v r is = by_answer (map.get m v) refl r is
     by_answer (Some y) here None is = let bad : None ≡ Some tt = is in cc
     by_answer (Some y) here (Some x) is = sym (insert-same m v tt here)
 
+-- a view that is noted stands in the set, and those that stood there do
+pub noted_there : (m new : map.FinMap nat_cmp (Unit {0})) (v : ℕ) → new ≡ map.insert m v tt → map.contains_key new v ≡ true
+noted_there m new v is = ap (λ n. map.contains_key n v) is ∙ ap is_some (get-insert m v tt v) ∙ rw (eq-eqb v v refl) refl
+
+pub noted_still : (m new : map.FinMap nat_cmp (Unit {0})) (v : ℕ) → new ≡ map.insert m v tt → (u : ℕ) → map.contains_key m u ≡ true → map.contains_key new u ≡ true
+noted_still m new v is u there = ap (λ n. map.contains_key n u) is ∙ ap is_some (get-insert m v tt u) ∙ elim (cases_eq u v) [
+  | inl same ↦ rw (eq-eqb u v same) refl
+  | inr other ↦ rw (ne_eqb u v other) there
+]
+
 -- a value that is looked up is there where it is there
 pub copied_some : {A : Type 0} (o : Option (Bor A)) → is_some (option_copied o) ≡ is_some o
 copied_some None = refl

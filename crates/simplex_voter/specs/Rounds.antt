@@ -17,9 +17,8 @@ abbrev pub largest_tracked : ℕ
 largest_tracked = 2 ^ 63 + 2 ^ 33
 
 -- a view may have been certified false
-pub record MayBeRefused (b : Bounds) (v : ℕ) : Type 0 where
-  pub from : b.refused_from ≤ v
-  pub to : v ≤ b.refused_to
+abbrev pub MayBeRefused : Bounds → ℕ → Type 0
+MayBeRefused b v = map.contains_key b.refused v ≡ true
 
 -- a view may have this verdict
 pub record MayBeJudged (b : Bounds) (v : ℕ) (success : Bool) : Type 0 where
@@ -30,8 +29,7 @@ pub record MayBeJudged (b : Bounds) (v : ℕ) (success : Bool) : Type 0 where
 pub record IsWider (b c : Bounds) : Type 0 where
   pub explicit : b.explicit ≤ c.explicit
   pub under_way : c.under_way ≤ b.under_way
-  pub refused_from : c.refused_from ≤ b.refused_from
-  pub refused_to : b.refused_to ≤ c.refused_to
+  pub refused : (v : ℕ) → MayBeRefused b v → MayBeRefused c v
 
 -- the rounds, as contracts see them
 pub record RoundsFacts (K D : Type 0) : Type 0 where
@@ -138,6 +136,10 @@ MayBeRecalled b v (artifact.Finalization _) = Unit {0}
 abbrev pub with_entry : {K D : Type 0} → RoundFacts K D → ℕ → Deadlines → RoundFacts K D
 with_entry r now deadlines =
     with_deadlines (record r { entered_at = Some (unwrap_or r.entered_at now) }) deadlines.leader deadlines.certification deadlines.stall
+
+-- the view is above another, and tracked with a round that was certified false
+abbrev pub is_refused_above : {K D : Type 0} → map.FinMap nat_cmp (RoundFacts K D) → (above v : ℕ) → Bool
+is_refused_above m above v = nat_lt above v && option_map_or (λ r. is_judged false r.certification) (map.get m v) false
 
 -- a view above one, from another on and up to a third, was certified false
 abbrev pub is_refused_between : {K D : Type 0} → (above from last : ℕ) → ℕ × RoundFacts K D → Bool

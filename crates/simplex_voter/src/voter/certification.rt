@@ -92,7 +92,7 @@ impl<S: CertificateScheme, L: Elector<S>, D: Digest> State<S, L, D> {
     {
         let next = self.rounds.after_notarized(view);
         self.note_moment(now);
-        self.judge(view, success);
+        self.judge(view, success)?;
         if !success {
             self.trigger(view, TimeoutReason::FailedCertification, now);
             return Ok(());
@@ -127,12 +127,14 @@ impl<S: CertificateScheme, L: Elector<S>, D: Digest> State<S, L, D> {
 
     /// Keeps the verdict of a tracked view.
     #[tactic(auto, using(crate::proofs::Verdicts::not_contradicted))]
-    fn judge(&mut self, view: View, success: bool)
+    fn judge(&mut self, view: View, success: bool) -> Result<(), Fault>
         requires taken { takes_verdict self.old view success ≡ true }
         requires tracked { is_tracked self.old view ≡ true }
-        ensures { self.new ≡ with_verdict self.old view success }
+        ensures judged { OnOk result (self.new ≡ with_verdict self.old view success) }
+        ensures refused { IfErr result (λ fault. fault ≡ OutOfMemory) }
+        ensures setup { HasSameSetup self.old self.new }
     {
-        self.rounds.judge(view, success);
+        self.rounds.judge(view, success)
     }
 
     /// Once a view is certified or finalized, the view above it that waited for it is a candidate again.

@@ -79,7 +79,7 @@ impl<S: CertificateScheme, D: Digest> Rounds<S, D> {
         ensures origin { HasSameOrigin self.old self.new }
     {
         self.track(view)?;
-        self.bounds = self.bounds.with_finalized(view);
+        self.bounds.allow_finalized(view);
         let Some(round) = self.by_view.get_mut(view) else {
             unreachable!()
         };
@@ -182,16 +182,18 @@ impl<S: CertificateScheme, D: Digest> Rounds<S, D> {
     }
 
     /// Keeps the verdict of a view's certification. No contradicting one stands.
-    pub(super) fn judge(&mut self, view: View, success: bool)
+    pub(super) fn judge(&mut self, view: View, success: bool) -> Result<(), Fault>
         requires { option_map_or (λ r. is_judged (not success) r.certification) (round_at self.old view) false ≡ false }
-        ensures judged { self.new ≡ with_change_in_place self.old view (λ r. certified_round r success) }
+        ensures judged { OnOk result (self.new ≡ with_change_in_place self.old view (λ r. certified_round r success)) }
+        ensures refused { IfErr result (λ fault. fault ≡ OutOfMemory) }
         ensures origin { HasSameOrigin self.old self.new }
     {
-        self.bounds = self.bounds.with_verdict(view, success);
+        self.bounds.allow_verdict(view, success)?;
         let Some(round) = self.by_view.get_mut(view) else {
-            return;
+            return Ok(());
         };
         round.certified(success);
+        Ok(())
     }
 
     /// Latches an explicit timeout of a view, and answers whether it did: the first one stays.
@@ -237,7 +239,7 @@ impl<S: CertificateScheme, D: Digest> Rounds<S, D> {
             return;
         };
         round.set_certify_handle(token);
-        self.bounds = self.bounds.with_certification(view);
+        self.bounds.allow_certification(view);
     }
 
     /// Clears the request to build a proposal in a view.

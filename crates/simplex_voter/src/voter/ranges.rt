@@ -1,6 +1,6 @@
 //! The tracked views of a range: what some of them hold, and which are dropped.
 
-ghost use Rattle.std.specs.Prelude.{◌≡◌, ◌≤◌, ◌<◌, ◌+◌, ◌^◌, ◌&&◌, IfErr, IfOk, true, false, filter, nat_le, nat_lt, map as map_list, if◌then◌else◌};
+ghost use Rattle.std.specs.Prelude.{◌≡◌, ◌≤◌, ◌<◌, ◌+◌, ◌^◌, ◌&&◌, IfErr, IfOk, true, false, max, filter, nat_le, nat_lt, map as map_list, if◌then◌else◌};
 ghost use Rattle.std.specs.List.{list_any};
 ghost use Rattle.std.specs.Option.{option_map_or};
 ghost use Rattle.std.specs.FinMap as map;
@@ -8,7 +8,7 @@ ghost use Rattle.simplex_types.specs.declared.types.fault.Fault.TheVariants.{Out
 ghost use Rattle.simplex_round.specs.Round.{is_judged};
 ghost use Rattle.simplex_voter.specs.Windows.{is_notarized};
 ghost use Rattle.simplex_voter.specs.Certification.{without_token};
-ghost use Rattle.simplex_voter.specs.Rounds.{IsQuietBelow};
+ghost use Rattle.simplex_voter.specs.Rounds.{IsQuietBelow, is_refused_above};
 
 use super::rounds::Rounds;
 use simplex_round::round::{Certification, Round};
@@ -38,26 +38,40 @@ fn was_refused<S: CertificateScheme, D: Digest>(round: &Round<S, D>) -> bool
     }
 }
 
-/// Whether the view is above another, and its round was certified false.
+/// Whether the view is above another, and tracked with a round that was certified false.
 fn was_refused_above<S: CertificateScheme, D: Digest>(
+    rounds: &Tracked<Round<S, D>>,
     view: View,
-    round: &Round<S, D>,
     above: View,
 ) -> bool
-    ensures { result ≡ (nat_lt above view && is_judged false round.now.certification) }
+    ensures { result ≡ is_refused_above rounds.now above view }
 {
-    view > above && was_refused(round)
+    if view <= above {
+        return false;
+    }
+    match rounds.get(view) {
+        Some(round) => was_refused(round),
+        None => false,
+    }
 }
 
-/// Whether one of the rounds above a view was certified false.
+/// The later of two views.
+fn later(view: View, other: View) -> View
+    ensures { result ≡ max view other }
+{
+    view.max(other)
+}
+
+/// Whether a round of one of the views, above another, was certified false.
 fn has_refused<S: CertificateScheme, D: Digest>(
-    mut entries: Entries<'_, Round<S, D>>,
+    rounds: &Tracked<Round<S, D>>,
+    mut views: Entries<'_, ()>,
     above: View,
 ) -> bool
-    ensures { result ≡ list_any (λ e. nat_lt above e.0 && is_judged false e.1.certification) entries.entry }
+    ensures { result ≡ list_any (λ e. is_refused_above rounds.now above e.0) views.entry }
 {
-    while let Some(entry) = entries.pop_first() {
-        if was_refused_above(entry.0, entry.1, above) {
+    while let Some(entry) = views.pop_first() {
+        if was_refused_above(rounds, entry.0, above) {
             return true;
         }
     }
@@ -144,12 +158,11 @@ impl<S: CertificateScheme, D: Digest> Rounds<S, D> {
         requires { from ≤ last + 1 }
         ensures { result ≡ list_any (is_refused_between above from last) self.now.by_view }
     {
-        let low = self.bounds.first_refused(above, from);
-        let high = self.bounds.last_refused(last);
-        if high < low {
+        if last < above {
             return false;
         }
-        has_refused(self.by_view.from_to(low, high), above)
+        let views = self.bounds.refused.from_to(later(from, above), last);
+        has_refused(&self.by_view, views, above)
     }
 
     /// Ends the certifications that are under way at or below a view.
@@ -158,7 +171,7 @@ impl<S: CertificateScheme, D: Digest> Rounds<S, D> {
         ensures { self.new ≡ record self.old { by_view = map_list (λ e. (e.0, if nat_le e.0 view then without_token e.1 else e.1)) self.old.by_view } }
     {
         end_certifications(&mut self.by_view, self.bounds.under_way, view);
-        self.bounds = self.bounds.ended(view);
+        self.bounds.end_certifications(view);
     }
 
     /// The tracked views below a view, rising.
@@ -174,5 +187,6 @@ impl<S: CertificateScheme, D: Digest> Rounds<S, D> {
         ensures { self.new ≡ record self.old { by_view = filter (λ e. nat_le view e.0) self.old.by_view } }
     {
         self.by_view.drop_below(view);
+        self.bounds.drop_below(view);
     }
 }

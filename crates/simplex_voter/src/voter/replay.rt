@@ -18,17 +18,18 @@ use simplex_types::types::{
 };
 
 /// The view may have the verdict that the entry of the record is.
-fn with_recalled<S: CertificateScheme, D: Digest>(
-    bounds: Bounds,
+fn allow_recalled<S: CertificateScheme, D: Digest>(
+    bounds: &mut Bounds,
     view: View,
     artifact: &Artifact<S, D>,
-) -> Bounds
-    ensures wider { IsWider bounds result }
-    ensures recalled { MayBeRecalled result view artifact.now }
+) -> Result<(), Fault>
+    ensures wider { IsWider bounds.old bounds.new }
+    ensures recalled { OnOk result (MayBeRecalled bounds.new view artifact.now) }
+    ensures refused { IfErr result (λ fault. fault ≡ OutOfMemory) }
 {
     match artifact {
-        Artifact::Certification(_, success) => bounds.with_verdict(view, *success),
-        _ => bounds,
+        Artifact::Certification(_, success) => bounds.allow_verdict(view, *success),
+        _ => Ok(()),
     }
 }
 
@@ -82,7 +83,7 @@ impl<S: CertificateScheme, D: Digest> Rounds<S, D> {
         ensures origin { HasSameOrigin self.old self.new }
     {
         self.track(view)?;
-        self.bounds = with_recalled(self.bounds, view, artifact);
+        allow_recalled(&mut self.bounds, view, artifact)?;
         let Some(round) = self.by_view.get_mut(view) else {
             unreachable!()
         };

@@ -1,9 +1,10 @@
 //! The rounds of the tracked views.
 
-ghost use Rattle.std.specs.Prelude.{◌≡◌, ◌<◌, ◌≤◌, ◌+◌, ◌^◌, IfErr, IfSome, OnOk, OnSome, true, max, min, is_some, option_map, option_and_then, length};
+ghost use Rattle.std.specs.Prelude.{◌≡◌, ◌<◌, ◌≤◌, ◌+◌, ◌^◌, IfErr, IfSome, OnOk, OnSome, true, max, is_some, option_map, option_and_then, length};
 ghost use Rattle.simplex_round.specs.Round.{after_nullify};
 ghost use Rattle.std.specs.Option.{option_copied};
 ghost use Rattle.simplex_types.specs.declared.types.fault.Fault.TheVariants.{OutOfMemory};
+ghost use Rattle.simplex_sorted.specs.Tracked.{at_or_above};
 
 use simplex_round::round::Round;
 use simplex_sorted::tracked::Tracked;
@@ -34,97 +35,71 @@ impl Deadlines {
 }
 
 /// Where tracked views may stand that are searched for. So a search needn't go over the others.
-#[derive(Clone, Copy)]
+#[derive(Drop)]
 pub struct Bounds {
     // no view above it is finalized or was certified true
     pub explicit: View,
     // no certification is under way below it
     pub under_way: View,
-    // no view below the one or above the other was certified false
-    pub refused_from: View,
-    pub refused_to: View,
+    // no other view was certified false
+    pub refused: Tracked<()>,
 }
 
 impl Bounds {
     ghost use Rattle.simplex_voter.specs.Rounds.{IsWider, MayBeJudged};
 
     /// Nothing is there to be searched for.
-    pub(super) fn none() -> Bounds {
+    pub(super) fn none(alloc: Global) -> Bounds {
         Bounds {
             explicit: View::zero(),
             under_way: View::zero(),
-            refused_from: View::new(u64::MAX),
-            refused_to: View::zero(),
+            refused: Tracked::new(alloc),
         }
     }
 
     /// The view may be finalized.
-    pub(super) fn with_finalized(self, view: View) -> Bounds
-        ensures wider { IsWider self result }
-        ensures explicit { view ≤ result.explicit }
+    pub(super) fn allow_finalized(&mut self, view: View)
+        ensures wider { IsWider self.old self.new }
+        ensures explicit { view ≤ self.new.explicit }
     {
-        Bounds {
-            explicit: self.explicit.max(view),
-            under_way: self.under_way,
-            refused_from: self.refused_from,
-            refused_to: self.refused_to,
-        }
+        self.explicit = self.explicit.max(view);
     }
 
     /// The view may have this verdict.
-    pub(super) fn with_verdict(self, view: View, success: bool) -> Bounds
-        ensures wider { IsWider self result }
-        ensures judged { MayBeJudged result view success }
+    pub(super) fn allow_verdict(&mut self, view: View, success: bool) -> Result<(), Fault>
+        ensures wider { IsWider self.old self.new }
+        ensures judged { OnOk result (MayBeJudged self.new view success) }
+        ensures refused { IfErr result (λ fault. fault ≡ OutOfMemory) }
     {
         if success {
-            return self.with_finalized(view);
+            self.allow_finalized(view);
+            return Ok(());
         }
-        Bounds {
-            explicit: self.explicit,
-            under_way: self.under_way,
-            refused_from: self.refused_from.min(view),
-            refused_to: self.refused_to.max(view),
-        }
+        let _standing = self.refused.insert(view, ())?;
+        Ok(())
     }
 
     /// A certification may be under way at the view.
-    pub(super) fn with_certification(self, view: View) -> Bounds
-        ensures wider { IsWider self result }
-        ensures under_way { result.under_way ≤ view }
+    pub(super) fn allow_certification(&mut self, view: View)
+        ensures wider { IsWider self.old self.new }
+        ensures under_way { self.new.under_way ≤ view }
     {
-        Bounds {
-            explicit: self.explicit,
-            under_way: self.under_way.min(view),
-            refused_from: self.refused_from,
-            refused_to: self.refused_to,
-        }
-    }
-
-    /// The lowest view from two on that may have been certified false.
-    pub(super) fn first_refused(self, above: View, from: View) -> View
-        ensures { result ≡ max (max from above) self.refused_from }
-    {
-        from.max(above).max(self.refused_from)
-    }
-
-    /// The highest view up to one that may have been certified false.
-    pub(super) fn last_refused(self, last: View) -> View
-        ensures { result ≡ min last self.refused_to }
-    {
-        last.min(self.refused_to)
+        self.under_way = self.under_way.min(view);
     }
 
     /// No certification is under way at or below the view.
-    pub(super) fn ended(self, view: View) -> Bounds
+    pub(super) fn end_certifications(&mut self, view: View)
         requires { view < 2 ^ 63 }
-        ensures { result ≡ record self { under_way = max self.under_way (view + 1) } }
+        ensures { self.new ≡ record self.old { under_way = max self.old.under_way (view + 1) } }
     {
-        Bounds {
-            explicit: self.explicit,
-            under_way: self.under_way.max(view.next()),
-            refused_from: self.refused_from,
-            refused_to: self.refused_to,
-        }
+        self.under_way = self.under_way.max(view.next());
+    }
+
+    /// No view below this one is searched for any more.
+    pub(super) fn drop_below(&mut self, view: View)
+        ensures { self.new ≡ record self.old { refused = at_or_above self.old.refused view } }
+    {
+        self.refused.drop_below(view);
     }
 }
 
@@ -166,7 +141,7 @@ impl<S: CertificateScheme, D: Digest> Rounds<S, D> {
             scheme,
             epoch,
             by_view: Tracked::new(alloc),
-            bounds: Bounds::none(),
+            bounds: Bounds::none(alloc),
         }
     }
 
@@ -238,6 +213,9 @@ impl<S: CertificateScheme, D: Digest> Rounds<S, D> {
         ensures refused { IfErr result (λ fault. fault ≡ OutOfMemory) }
         ensures origin { HasSameOrigin self.old self.new }
     {
+        if self.has_leader(to) {
+            return Ok(());
+        }
         let Some(leader) = self.leader(from) else {
             return Ok(());
         };

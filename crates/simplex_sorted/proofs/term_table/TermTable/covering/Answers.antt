@@ -1,18 +1,24 @@
-use Rattle.std.proofs.Common.{ap, sym, ◌∙◌}
-use Rattle.simplex_sorted.specs.Tracked.{last_entry}
-use Rattle.simplex_sorted.specs.ByTerm.{covering}
-use Rattle.simplex_sorted.proofs.Joined.{covered_in, none_covers}
+use Rattle.std.proofs.Common.{◌+◌, eqb, ltb, ap, sym, ◌∙◌}
+use Rattle.simplex_types.specs.Terms.{term_start, covers}
+use Rattle.simplex_sorted.proofs.Terms.{some_together, none_together, none_at_all, up_to_covers, up_to_low}
 use Rattle.simplex_sorted.proofs.term_table.TermTable.covering.Goals as goal
 
-pub returns-in_err-term : goal.returns-in_err-term
-returns-in_err-term g c =
-    let none = sym (rw c.term_start.ensures at c.in_err-term.ensures) in
-    rw c.from_residual.ensures (none_covers c.self.inside.term_length c.self.inside.terms c.self.invariant c.args.view none)
-    ∙ ap (λ m. covering m c.args.view) c.self.view_is
+pub returns-in_default : goal.returns-in_default
+returns-in_default g c =
+    let length = c.self.inside.term_length in
+    let v = c.args.view in
+    rw (← c.self.view_is) (none_at_all length v c.self.inside.by_view (λ u. covers length u v) (λ key. ltb key (v + 1)) (up_to_low v) (up_to_covers length v) (sym c.in_default.ensures))
 
-pub returns : goal.returns
-returns g c =
-    let here = sym (rw c.term_start.ensures at c.in_ok-term.ensures) in
-    c.last_at.ensures
-    ∙ ap last_entry (covered_in c.self.inside.term_length c.self.inside.terms c.self.invariant c.args.view _ here)
-    ∙ ap (λ m. covering m c.args.view) c.self.view_is
+pub returns-then-stand_together : goal.returns-then-stand_together
+returns-then-stand_together g c =
+    let length = c.self.inside.term_length in
+    let v = c.args.view in
+    let together = ap (λ x. eqb (term_start x.term_length c.in-Some.entry.0) (term_start x.term_length v)) c.self.view_is ∙ sym c.stand_together.ensures ∙ c.if-stand_together.true in
+    rw (← c.self.view_is) (some_together length v c.self.inside.by_view (λ u. covers length u v) (λ key. ltb key (v + 1)) (up_to_low v) (up_to_covers length v) _ (sym c.in-Some.ensures) together)
+
+pub returns-else-stand_together : goal.returns-else-stand_together
+returns-else-stand_together g c =
+    let length = c.self.inside.term_length in
+    let v = c.args.view in
+    let apart = ap (λ x. eqb (term_start x.term_length c.in-Some.entry.0) (term_start x.term_length v)) c.self.view_is ∙ sym c.stand_together.ensures ∙ c.if-stand_together.false in
+    rw (← c.self.view_is) (none_together length v c.self.inside.by_view (λ u. covers length u v) (λ key. ltb key (v + 1)) (up_to_low v) (up_to_covers length v) _ (sym c.in-Some.ensures) apart)

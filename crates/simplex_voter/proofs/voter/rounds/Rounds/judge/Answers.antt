@@ -5,10 +5,13 @@ use Rattle.simplex_voter.proofs.Changed.{found_at, wider_kept, kept_changed, cha
 use Rattle.simplex_voter.proofs.voter.rounds.Rounds.judge.Goals as goal
 
 pub invariant_of-self : goal.invariant_of-self
-invariant_of-self g c = wider_kept _ c.with_verdict-self-inside.ensures.wider c.self.invariant
+invariant_of-self g c = wider_kept _ c.allow_verdict.ensures.wider c.self.invariant
+
+pub invariant_of-self-in_default : goal.invariant_of-self-in_default
+invariant_of-self-in_default g c = wider_kept _ c.allow_verdict.ensures.wider c.self.invariant
 
 pub invariant_of-self-2 : goal.invariant_of-self-2
-invariant_of-self-2 g c = kept_changed _ _ refl (wider_kept _ c.with_verdict-self-inside.ensures.wider c.self.invariant) _ _ _ c.in-Some.ensures.value (judged_alike _ _ c.args.success c.with_verdict-self-inside.ensures.judged c.certified.ensures)
+invariant_of-self-2 g c = kept_changed _ _ refl (wider_kept _ c.allow_verdict.ensures.wider c.self.invariant) _ _ _ c.in-Some.ensures.value (judged_alike _ _ c.args.success c.in_ok-allow_verdict.ensures.judged c.certified.ensures)
 
 pub returns-in_default-clause-judged : goal.returns-in_default-clause-judged
 returns-in_default-clause-judged g c = rw (← c.self.view_is) (untouched _ _ refl _ (λ r. certified_round r c.args.success) c.in_default.ensures.value)

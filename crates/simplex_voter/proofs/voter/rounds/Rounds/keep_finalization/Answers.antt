@@ -11,7 +11,7 @@ unreachable-requires g c = never_none _ _ _ (c.self.view_is ∙ c.in_ok-track.en
 
 pub invariant_of-self : goal.invariant_of-self
 invariant_of-self g c =
-    kept_changed _ _ refl (wider_kept _ c.with_finalized-self-inside.ensures.wider c.self.invariant) _ _ _ c.in-Some.ensures.value (finalized_alike (same_proposal g.D.PartialEq.eq) _ _ (finalization_facts g.S.CertificateScheme.certificate_bytes c.args.finalization) c.with_finalized-self-inside.ensures.explicit c.add_finalization.ensures.facts)
+    kept_changed _ _ refl (wider_kept _ c.allow_finalized.ensures.wider c.self.invariant) _ _ _ c.in-Some.ensures.value (finalized_alike (same_proposal g.D.PartialEq.eq) _ _ (finalization_facts g.S.CertificateScheme.certificate_bytes c.args.finalization) c.allow_finalized.ensures.explicit c.add_finalization.ensures.facts)
 
 pub returns-clause-kept : goal.returns-clause-kept
 returns-clause-kept g c =

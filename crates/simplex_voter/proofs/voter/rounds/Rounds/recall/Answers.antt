@@ -10,8 +10,11 @@ pub unreachable-requires : goal.unreachable-requires
 unreachable-requires g c = never_none _ _ _ (c.self.view_is ∙ c.in_ok-track.ensures.tracked) _ refl c.in_default.ensures.value
 
 pub invariant_of-self : goal.invariant_of-self
-invariant_of-self g c =
-    kept_changed _ _ refl (wider_kept _ c.with_recalled-self-inside.ensures.wider c.self.invariant) _ _ _ c.in-Some.ensures.value (recalled_alike (same_proposal g.D.PartialEq.eq) _ _ c.args.artifact.now c.args.binding c.with_recalled-self-inside.ensures.recalled c.recall_round.ensures)
+invariant_of-self g c = wider_kept _ c.allow_recalled.ensures.wider c.self.invariant
+
+pub invariant_of-self-2 : goal.invariant_of-self-2
+invariant_of-self-2 g c =
+    kept_changed _ _ refl (wider_kept _ c.allow_recalled.ensures.wider c.self.invariant) _ _ _ c.in-Some.ensures.value (recalled_alike (same_proposal g.D.PartialEq.eq) _ _ c.args.artifact.now c.args.binding c.in_ok-allow_recalled.ensures.recalled c.recall_round.ensures)
 
 pub returns-clause-recalled : goal.returns-clause-recalled
 returns-clause-recalled g c =

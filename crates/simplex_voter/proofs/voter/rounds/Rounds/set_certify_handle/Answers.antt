@@ -5,7 +5,7 @@ use Rattle.simplex_voter.proofs.Changed.{wider_kept, kept_changed, changed_there
 use Rattle.simplex_voter.proofs.voter.rounds.Rounds.set_certify_handle.Goals as goal
 
 pub invariant_of-self-2 : goal.invariant_of-self-2
-invariant_of-self-2 g c = kept_changed _ _ refl (wider_kept _ c.with_certification-self-inside.ensures.wider c.self.invariant) _ _ _ c.in-Some.ensures.value (asked_alike _ _ _ c.with_certification-self-inside.ensures.under_way c.set_certify_handle.ensures)
+invariant_of-self-2 g c = kept_changed _ _ refl (wider_kept _ c.allow_certification.ensures.wider c.self.invariant) _ _ _ c.in-Some.ensures.value (asked_alike _ _ _ c.allow_certification.ensures.under_way c.set_certify_handle.ensures)
 
 pub returns-in_default-clause-set : goal.returns-in_default-clause-set
 returns-in_default-clause-set g c = rw (← c.self.view_is) (untouched _ _ refl _ (λ r. record r { certification = Outstanding c.args.token }) c.in_default.ensures.value)

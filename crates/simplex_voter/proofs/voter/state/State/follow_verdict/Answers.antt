@@ -8,26 +8,26 @@ enter-requires-clause-in_range g c = next_enterable c.args.view c.after_notarize
 
 pub enter-requires-clause-deadlines : goal.enter-requires-clause-deadlines
 enter-requires-clause-deadlines g c =
-    deadlines_judged g.L.Elector.elect c.args.self.now c.note_moment.new.self c.judge.new.self c.args.view c.args.now c.args.success c.note_moment.ensures c.judge.ensures c.after_notarized-next.result c.args.deadlines.now c.after_notarized-next.ensures.next c.if-not-success.false c.requires.deadlines
+    deadlines_judged g.L.Elector.elect c.args.self.now c.note_moment.new.self c.judge.new.self c.args.view c.args.now c.args.success c.note_moment.ensures c.in_ok-judge.ensures.judged c.after_notarized-next.result c.args.deadlines.now c.after_notarized-next.ensures.next c.if-not-success.false c.requires.deadlines
 
 pub wake-requires : goal.wake-requires
 wake-requires g c = next_countable c.args.view c.after_notarized-next.ensures.in_range
 
 pub returns-then-not-success-clause-taken : goal.returns-then-not-success-clause-taken
-returns-then-not-success-clause-taken g c = verdict_refused g.L.Elector.elect c.args.self.now c.note_moment.new.self c.judge.new.self c.args.view c.args.now c.args.success c.note_moment.ensures c.judge.ensures c.if-not-success.true c.trigger.new.self c.trigger.ensures.triggered
+returns-then-not-success-clause-taken g c = verdict_refused g.L.Elector.elect c.args.self.now c.note_moment.new.self c.judge.new.self c.args.view c.args.now c.args.success c.note_moment.ensures c.in_ok-judge.ensures.judged c.if-not-success.true c.trigger.new.self c.trigger.ensures.triggered
 
 pub returns-then-not-success-clause-setup : goal.returns-then-not-success-clause-setup
 returns-then-not-success-clause-setup g c =
     setup_triggered c.args.self.now c.judge.new.self c.trigger.new.self c.args.view c.args.now FailedCertification c.trigger.ensures.triggered
-    (setup_judged g.L.Elector.elect c.args.self.now c.note_moment.new.self c.judge.new.self c.args.view c.args.now c.args.success c.note_moment.ensures c.judge.ensures)
+    (setup_judged g.L.Elector.elect c.args.self.now c.note_moment.new.self c.judge.new.self c.args.view c.args.now c.args.success c.note_moment.ensures c.in_ok-judge.ensures.judged)
 
 pub returns-in_err-enter-clause-setup : goal.returns-in_err-enter-clause-setup
-returns-in_err-enter-clause-setup g c = same_setup_joins _ _ _ (setup_judged g.L.Elector.elect c.args.self.now c.note_moment.new.self c.judge.new.self c.args.view c.args.now c.args.success c.note_moment.ensures c.judge.ensures) c.enter.ensures.setup
+returns-in_err-enter-clause-setup g c = same_setup_joins _ _ _ (setup_judged g.L.Elector.elect c.args.self.now c.note_moment.new.self c.judge.new.self c.args.view c.args.now c.args.success c.note_moment.ensures c.in_ok-judge.ensures.judged) c.enter.ensures.setup
 
 pub returns-clause-taken : goal.returns-clause-taken
 returns-clause-taken g c =
-    verdict_kept g.L.Elector.elect c.args.self.now c.note_moment.new.self c.judge.new.self c.args.view c.args.now c.args.success c.note_moment.ensures c.judge.ensures c.wake.result c.if-not-success.false c.enter.new.self c.wake.new.self c.after_notarized-next.result c.after_notarized-next.ensures.next c.in_ok-enter.ensures.entered c.wake.ensures.woken
+    verdict_kept g.L.Elector.elect c.args.self.now c.note_moment.new.self c.judge.new.self c.args.view c.args.now c.args.success c.note_moment.ensures c.in_ok-judge.ensures.judged c.wake.result c.if-not-success.false c.enter.new.self c.wake.new.self c.after_notarized-next.result c.after_notarized-next.ensures.next c.in_ok-enter.ensures.entered c.wake.ensures.woken
 
 pub returns-clause-setup : goal.returns-clause-setup
 returns-clause-setup g c =
-    same_setup_joins _ _ _ (same_setup_joins _ _ _ (setup_judged g.L.Elector.elect c.args.self.now c.note_moment.new.self c.judge.new.self c.args.view c.args.now c.args.success c.note_moment.ensures c.judge.ensures) c.enter.ensures.setup) c.wake.ensures.setup
+    same_setup_joins _ _ _ (same_setup_joins _ _ _ (setup_judged g.L.Elector.elect c.args.self.now c.note_moment.new.self c.judge.new.self c.args.view c.args.now c.args.success c.note_moment.ensures c.in_ok-judge.ensures.judged) c.enter.ensures.setup) c.wake.ensures.setup

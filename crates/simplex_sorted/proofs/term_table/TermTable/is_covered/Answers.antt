@@ -1,0 +1,10 @@
+use Rattle.std.proofs.Common.{ap, ◌∙◌}
+use Rattle.std.specs.Option.{is_some}
+use Rattle.simplex_types.specs.Terms.{covers}
+use Rattle.simplex_sorted.proofs.Gaps.{any_last, some_mapped}
+use Rattle.simplex_sorted.proofs.term_table.TermTable.is_covered.Goals as goal
+
+pub returns : goal.returns
+returns g c =
+    let m = c.args.self.now in
+    c.is_some.ensures ∙ some_mapped _ c.covering.result ∙ ap is_some c.covering.ensures ∙ any_last m.by_view (λ u. covers m.term_length u c.args.view)
