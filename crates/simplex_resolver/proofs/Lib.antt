@@ -4,7 +4,6 @@ pub mod Views
 pub mod Maps
 pub mod Scan
 pub mod Changes
-pub mod Failures
 pub mod RepairLaw
 pub mod Kept
 pub mod Last
@@ -13,6 +12,8 @@ pub mod Examples
 pub mod Again
 pub mod Ranges
 pub mod Newest
+pub mod Noted
+pub mod ViewSets
 pub mod Sound
 pub mod Going
 pub mod Replayed

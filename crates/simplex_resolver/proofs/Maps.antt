@@ -8,12 +8,11 @@ use Rattle.std.specs.FinMap as finmap
 use Rattle.std.specs.FinMap.{FinMap, put}
 use Rattle.std.specs.FinMap.Entries.{by_order}
 use Rattle.std.proofs.lemmas.Option.{slice_get-get_or}
-use Rattle.std.proofs.lemmas.Bool.{cond-true}
 use Rattle.std.proofs.lemmas.Bool.Decides.{nat_tests}
 use Rattle.simplex_types.specs.Terms.{term_end, term_start, covers}
 use Rattle.simplex_sorted.specs.Tracked.{at_or_above, last_entry}
 use Rattle.simplex_sorted.specs.ByTerm.{is_covered, TermMap, not_ended, covering}
-use Rattle.simplex_sorted.proofs.Maps.{get-insert, get-kept, entries-retain_keys, is_eq-nat_cmp, made_empty, same_maps}
+use Rattle.simplex_sorted.proofs.Maps.{get-insert, get-kept, entries-retain_keys, is_eq-nat_cmp, made_empty}
 use Rattle.simplex_resolver.specs.Steps.{insert_new}
 use Rattle.simplex_resolver.specs.Repair.{has}
 use Rattle.simplex_resolver.proofs.Terms.{terms, AreTerms}
@@ -76,9 +75,6 @@ module _ {V : Type 0} where
   some_last_key p m =
       some_last (finmap.entries (finmap.retain_keys m p)) ∙ ap (list_any (λ (e : ℕ × V). true)) (entries-retain_keys m p)
       ∙ any_always (λ e. p e.0) (finmap.entries m) ∙ sym (any-map p (finmap.entries m))
-
-  pub all_at_or_above : (m : FinMap nat_cmp V) → at_or_above m 0 ≡ m
-  all_at_or_above m = same_maps _ m (λ q. get-kept m (λ u. nat_le 0 u) q ∙ cond-true (nat_le 0 q) _ _ (grind (arith, nat_tests)))
 
   -- some key passes a test, once an entry is put in or those that fail another test are taken out
   pub any_key-insert : (p : ℕ → Bool) (m : FinMap nat_cmp V) (u : ℕ) (x : V) → list_any p (finmap.keys (finmap.insert m u x)) ≡ (p u || list_any p (finmap.keys m))

@@ -37,9 +37,11 @@ module _ {D : Type 0} where
 -- ---- entries by their places
 
 module _ {S D K G C : Type 0} (bytes_of : C → List ℕ) (xs : List (Artifact S D K G C)) (i : ℕ) (x : Artifact S D K G C) (is : x ≡ get_or xs i x) (within : i < length xs) where
+  pub taken_at : take (i + 1) xs ≡ take i xs ++ x ∷ []
+  taken_at = take_more xs i x within ∙ ap (λ y. take i xs ++ y ∷ []) (sym is)
+
   pub newest_at : newest_first bytes_of (take (i + 1) xs) ≡ artifact_facts bytes_of x ∷ newest_first bytes_of (take i xs)
-  newest_at =
-      ap (newest_first bytes_of) (take_more xs i x within ∙ ap (λ y. take i xs ++ y ∷ []) (sym is)) ∙ newest_more bytes_of (take i xs) x
+  newest_at = ap (newest_first bytes_of) taken_at ∙ newest_more bytes_of (take i xs) x
 
   split : newest_first bytes_of xs ≡ newest_first bytes_of (drop (i + 1) xs) ++ artifact_facts bytes_of x ∷ newest_first bytes_of (take i xs)
   split =

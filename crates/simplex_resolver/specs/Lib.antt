@@ -7,4 +7,6 @@ pub mod Answers
 pub mod ReplayErrors
 pub mod RecordCalls
 pub mod RecordRules
+pub mod Places
+pub mod ViewSets
 pub mod Told

@@ -5,6 +5,7 @@ mod check;
 mod error;
 mod handing;
 mod lawful;
+mod places;
 mod start;
 
 pub use error::ReplayError;

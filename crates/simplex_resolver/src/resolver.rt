@@ -9,9 +9,11 @@
 mod effect;
 mod held;
 mod laws;
+mod notarizations;
 mod outstanding;
 mod scan;
 mod state;
+mod views;
 
 pub use effect::Effect;
 pub use laws::{answers, repair};

@@ -1,34 +1,40 @@
 //! The test of a record before a resolver is given any of it.
 
-ghost use Rattle.std.specs.Prelude.{◌≡◌, Some, None, ◌∷◌, IfErr, OnOk, option_map};
-ghost use Rattle.std.specs.Option.{option_copied};
-ghost use Rattle.simplex_types.specs.Certificates.{artifact_facts, notarization_facts};
-ghost use Rattle.simplex_resolver.specs.RecordCalls.{newest_first, notarization_at, newest_notarization};
+ghost use Rattle.std.specs.Prelude.{◌≡◌, Some, None, ◌∷◌, IfErr, OnOk};
+ghost use Rattle.simplex_types.specs.Certificates.{artifact_facts};
+ghost use Rattle.simplex_resolver.specs.RecordCalls.{newest_first};
+ghost use Rattle.simplex_resolver.specs.Places.{AreNoted};
 ghost use Rattle.simplex_resolver.specs.RecordRules.{view_error, proposal_error, entry_error, record_error};
 
 use super::error::ReplayError;
-use simplex_types::types::{
-    Artifact, CertificateScheme, Digest, LARGEST_VIEW, Notarization, Proposal, View, Viewable,
-};
+use super::places::Places;
+use simplex_types::types::{Artifact, CertificateScheme, Digest, LARGEST_VIEW, Proposal, View};
+use std::alloc::Global;
 
 /// Tests the entries one after another.
 pub(super) fn check_entries<S: CertificateScheme, D: Digest>(
+    alloc: Global,
     entries: &[Artifact<S, D>],
 ) -> Result<(), ReplayError>
     ensures broken { IfErr result (λ error. record_error (newest_first S.certificate_bytes entries.now) ≡ Some error) }
     ensures kept { OnOk result (record_error (newest_first S.certificate_bytes entries.now) ≡ None) }
 {
+    let mut places = Places::new(alloc);
     for (place, artifact) in entries.iter().enumerate() {
-        check_entry(&entries[..place], artifact)?;
+        let before = &entries[..place];
+        check_entry(&places, before, artifact)?;
+        places.note(before, artifact);
     }
     Ok(())
 }
 
-/// Tests an artifact by those before it.
+/// Tests an artifact by those before it, whose notarizations stand at the places.
 fn check_entry<S: CertificateScheme, D: Digest>(
+    places: &Places,
     before: &[Artifact<S, D>],
     artifact: &Artifact<S, D>,
 ) -> Result<(), ReplayError>
+    requires { AreNoted S.certificate_bytes places.now before.now }
     ensures broken { IfErr result (λ error. entry_error (newest_first S.certificate_bytes before.now)
         (artifact_facts S.certificate_bytes artifact.now) ≡ Some error) }
     ensures kept { OnOk result (entry_error (newest_first S.certificate_bytes before.now)
@@ -40,7 +46,7 @@ fn check_entry<S: CertificateScheme, D: Digest>(
         Artifact::Nullification(nullification) => {
             check_views(nullification.round.view, nullification.round.view)
         }
-        Artifact::Certification(round, _) => match last_notarization(before, round.view) {
+        Artifact::Certification(round, _) => match places.last_notarization(before, round.view) {
             Some(_) => Ok(()),
             None => Err(ReplayError::VerdictWithoutNotarization),
         },
@@ -68,35 +74,4 @@ fn check_views(view: View, highest: View) -> Result<(), ReplayError>
         return Err(ReplayError::ViewTooLarge);
     }
     Ok(())
-}
-
-/// The last notarization of the view.
-pub(super) fn last_notarization<S: CertificateScheme, D: Digest>(
-    entries: &[Artifact<S, D>],
-    view: View,
-) -> Option<&Notarization<S, D>>
-    ensures { option_map (notarization_facts S.certificate_bytes) (option_copied result)
-        ≡ newest_notarization view (newest_first S.certificate_bytes entries.now) }
-{
-    for artifact in entries.iter().rev() {
-        let found = notarization_at(artifact, view);
-        if found.is_some() {
-            return found;
-        }
-    }
-    None
-}
-
-/// The notarization that the artifact is, if it is one of the view.
-fn notarization_at<S: CertificateScheme, D: Digest>(
-    artifact: &Artifact<S, D>,
-    view: View,
-) -> Option<&Notarization<S, D>>
-    ensures { option_map (notarization_facts S.certificate_bytes) (option_copied result)
-        ≡ notarization_at view (artifact_facts S.certificate_bytes artifact.now) }
-{
-    match artifact {
-        Artifact::Notarization(notarization) if notarization.view() == view => Some(notarization),
-        _ => None,
-    }
 }

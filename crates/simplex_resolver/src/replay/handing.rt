@@ -6,8 +6,9 @@ ghost use Rattle.simplex_types.specs.declared.types.fault.Fault.TheVariants.{Out
 ghost use Rattle.simplex_resolver.specs.Steps.{update, after};
 ghost use Rattle.simplex_resolver.specs.RecordCalls.{newest_first, newest_notarization, verdict_on, entry_calls, record_calls, all_after};
 ghost use Rattle.simplex_resolver.specs.RecordRules.{certificate_error, record_error};
+ghost use Rattle.simplex_resolver.specs.Places.{AreNoted};
 
-use super::check::last_notarization;
+use super::places::Places;
 use crate::resolver::State;
 use simplex_types::types::{Artifact, Certificate, CertificateScheme, Digest, Fault, View};
 use std::alloc::Global;
@@ -23,20 +24,25 @@ pub(super) fn hand_all<S: CertificateScheme, D: Digest>(
     ensures after { OnOk result (state.new ≡ all_after state.old (record_calls D.bytes S.certificate_bytes entries.now)) }
     ensures refused { IfErr result (λ fault. fault ≡ OutOfMemory) }
 {
+    let mut places = Places::new(alloc);
     for (place, artifact) in entries.iter().enumerate() {
-        hand(alloc, state, &entries[..place], artifact)?;
+        let before = &entries[..place];
+        hand(alloc, state, &places, before, artifact)?;
+        places.note(before, artifact);
     }
     Ok(())
 }
 
-/// Hands an entry in, behind those before it. A vote tells a resolver nothing.
+/// Hands an entry in, behind those before it, whose notarizations stand at the places. A vote tells a resolver nothing.
 fn hand<S: CertificateScheme, D: Digest>(
     alloc: Global,
     state: &mut State,
+    places: &Places,
     before: &[Artifact<S, D>],
     artifact: &Artifact<S, D>,
 ) -> Result<(), Fault>
     requires going_on { state.old.is_failed ≡ false }
+    requires noted { AreNoted S.certificate_bytes places.now before.now }
     requires sound { record_error (artifact_facts S.certificate_bytes artifact.now ∷ newest_first S.certificate_bytes before.now) ≡ None }
     ensures after { OnOk result (state.new ≡ all_after state.old
         (entry_calls D.bytes (newest_first S.certificate_bytes before.now) (artifact_facts S.certificate_bytes artifact.now))) }
@@ -56,7 +62,7 @@ fn hand<S: CertificateScheme, D: Digest>(
             hand_certificate(state, Certificate::Finalization(copy))
         }
         Artifact::Certification(round, success) => {
-            hand_verdict(alloc, state, before, round.view, *success)
+            hand_verdict(alloc, state, places, before, round.view, *success)
         }
         Artifact::Notarize(_) | Artifact::Nullify(_) | Artifact::Finalize(_) => Ok(()),
     }
@@ -79,17 +85,19 @@ fn hand_certificate<S: CertificateScheme, D: Digest>(
 fn hand_verdict<S: CertificateScheme, D: Digest>(
     alloc: Global,
     state: &mut State,
+    places: &Places,
     before: &[Artifact<S, D>],
     view: View,
     success: bool,
 ) -> Result<(), Fault>
     requires going_on { state.old.is_failed ≡ false }
+    requires noted { AreNoted S.certificate_bytes places.now before.now }
     requires sound { record_error (newest_first S.certificate_bytes before.now) ≡ None }
     ensures after { OnOk result (state.new ≡ all_after state.old
         (verdict_on D.bytes (newest_notarization view (newest_first S.certificate_bytes before.now)) success)) }
     ensures refused { IfErr result (λ fault. fault ≡ OutOfMemory) }
 {
-    if let Some(notarization) = last_notarization(before, view) {
+    if let Some(notarization) = places.last_notarization(before, view) {
         let copy = notarization.clone(alloc)?;
         let _effects = state.certified(copy, success)?;
     }

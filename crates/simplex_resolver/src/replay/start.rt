@@ -58,7 +58,7 @@ pub fn replay_record<S: CertificateScheme, D: Digest>(
     ensures accepted { OnOk result (record_error (newest_first S.certificate_bytes entries.now) ≡ None) }
     ensures refused { IfErr result (IsDue (record_error (newest_first S.certificate_bytes entries.now))) }
 {
-    check_entries(entries)?;
+    check_entries(alloc, entries)?;
     let _positive = term_length.get();
     let mut state = State::new(alloc, term_length);
     match replay(alloc, &mut state, entries) {

@@ -15,23 +15,10 @@ use simplex_sorted::tracked::Tracked;
 use simplex_types::types::{Certificate, CertificateScheme, Digest, Fault, View};
 use std::alloc::Global;
 
-/// Puts the value in, unless the view has one.
-pub(super) fn insert_new<V: Drop>(
-    tracked: &mut Tracked<V>,
-    view: View,
-    value: V,
-) -> Result<(), Fault>
-    ensures { OnOk result (tracked.new ≡ insert_new tracked.old view value) }
-{
-    match tracked.insert(view, value) {
-        Ok(_) => Ok(()),
-        Err(_) => Err(Fault::OutOfMemory),
-    }
-}
-
 /// Puts the value in, in place of the one that the view has.
 pub(super) fn put<V: Drop>(tracked: &mut Tracked<V>, view: View, value: V) -> Result<(), Fault>
-    ensures { OnOk result (tracked.new ≡ map.insert tracked.old view value) }
+    ensures put { OnOk result (tracked.new ≡ map.insert tracked.old view value) }
+    ensures refused { OnErr result (tracked.new ≡ tracked.old) }
 {
     if let Some(value) = tracked.insert(view, value)? {
         if let Some(entry) = tracked.get_mut(view) {
@@ -39,23 +26,6 @@ pub(super) fn put<V: Drop>(tracked: &mut Tracked<V>, view: View, value: V) -> Re
         }
     }
     Ok(())
-}
-
-/// Whether the view stands there.
-pub(super) fn contains<V>(tracked: &Tracked<V>, view: View) -> bool
-    ensures { result ≡ map.contains_key tracked.now view }
-{
-    tracked.get(view).is_some()
-}
-
-/// The encoding of the notarization at the view, where its last verdict was true.
-pub(super) fn certified_at(notarizations: &Tracked<Option<Bytes>>, view: View) -> Option<&Bytes>
-    ensures { option_copied result ≡ certified_encoding notarizations.now view }
-{
-    match notarizations.get(view) {
-        Some(Some(encoding)) => Some(encoding),
-        _ => None,
-    }
 }
 
 /// Keeps the nullification's encoding, unless the view has one.

@@ -27,7 +27,7 @@ fn first_within(views: &BTreeSet<View>, start: View, end: View) -> Option<View>
 }
 
 /// Drops the views of the range, at the cost of those that are dropped.
-fn drop_range(views: &mut BTreeSet<View>, start: View, end: View)
+pub(super) fn drop_range(views: &mut BTreeSet<View>, start: View, end: View)
     ensures { (v : ℕ) → has views.new.keys v ≡ (not (nat_le start v && nat_le v end) && has views.old.keys v) }
 {
     if start > end {

@@ -8,9 +8,9 @@ ghost use Rattle.simplex_resolver.specs.Facts.{covering_encoding, uncovered_anch
 ghost use Rattle.simplex_resolver.specs.Steps.{missing_fetches, failure_fetches};
 
 use crate::resolver::effect::Effect;
+use crate::resolver::views::Views;
 use bytes::Bytes;
 use simplex_sorted::by_term::ByTerm;
-use simplex_sorted::tracked::Tracked;
 use simplex_types::reasons::FetchReason;
 use simplex_types::types::{TermLength, View};
 use std::alloc::AllocError;
@@ -67,7 +67,7 @@ pub(super) fn scan(
 
 /// Fetches each of the views that is above the floor and uncovered.
 pub(super) fn fetch_failures(
-    views: &Tracked<()>,
+    views: &Views,
     nullifications: &ByTerm<Bytes>,
     floor: View,
     effects: &mut Vec<Effect>,
@@ -75,12 +75,12 @@ pub(super) fn fetch_failures(
     ensures { OnOk result (effects.new.items ≡ effects.old.items ++ failure_fetches
         (filter (λ v. nat_lt floor v && not (is_covered nullifications.now v)) (map.keys views.now))) }
 {
-    let mut rest = views.at_or_above(View::zero());
-    while let Some(entry) = rest.pop_first() {
-        if needs_nullification(nullifications, floor, entry.0) {
+    let mut rest = views.iter();
+    while let Some(view) = rest.next().copied() {
+        if needs_nullification(nullifications, floor, view) {
             effects.push(Effect::Fetch {
-                view: entry.0,
-                cause: entry.0,
+                view,
+                cause: view,
                 reason: FetchReason::CertificationFailed,
             })?;
         }

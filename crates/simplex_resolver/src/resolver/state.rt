@@ -12,9 +12,10 @@ ghost use Rattle.simplex_resolver.specs.Facts.{empty, term_length, last_finalize
 ghost use Rattle.simplex_resolver.specs.Steps.{update, verdict, Replayed, Refused, after, effects, highest_named, highest_view};
 
 use crate::resolver::effect::Effect;
+use crate::resolver::notarizations::Notarizations;
+use crate::resolver::views::Views;
 use bytes::Bytes;
 use simplex_sorted::by_term::ByTerm;
-use simplex_sorted::tracked::Tracked;
 use simplex_types::types::{
     Certificate, CertificateScheme, Digest, Fault, LARGEST_VIEW, Notarization, Proposal,
     TermLength, View, Viewable,
@@ -39,9 +40,9 @@ pub struct State {
     nullifications: ByTerm<Bytes>,
     /// The notarized or judged views above the last finalized one, each with its encoding where its
     /// last verdict was true.
-    notarizations: Tracked<Option<Bytes>>,
+    notarizations: Notarizations,
     /// The views above the last finalized one that a verdict has failed.
-    uncertifiable: Tracked<()>,
+    uncertifiable: Views,
     replaying: bool,
     failed: bool,
 }
@@ -109,8 +110,8 @@ impl State {
             scanned: View::zero(),
             finalization: None,
             nullifications: ByTerm::new(alloc, term_length),
-            notarizations: Tracked::new(alloc),
-            uncertifiable: Tracked::new(alloc),
+            notarizations: Notarizations::new(alloc),
+            uncertifiable: Views::new(alloc),
             replaying: true,
             failed: false,
         }

@@ -96,8 +96,8 @@ impl State {
         if view <= finalized {
             return Ok(());
         }
-        held::insert_new(&mut self.notarizations, view, None)?;
-        if !held::contains(&self.uncertifiable, view) {
+        self.notarizations.note(view)?;
+        if !self.uncertifiable.contains(view) {
             effects.push(Effect::Settled {
                 kind: Kind::Notarization,
                 start: view,

@@ -7,8 +7,8 @@ ghost use Rattle.simplex_types.specs.declared.types.fault.Fault.TheVariants.{Out
 ghost use Rattle.simplex_types.specs.declared.reasons.Kind.TheVariants.{Nullification as OfNullification, Notarization as OfNotarization};
 ghost use Rattle.simplex_resolver.specs.Held.{is_settled, served_encoding, finalized_for, floor_for};
 
+use crate::resolver::scan;
 use crate::resolver::state::State;
-use crate::resolver::{held, scan};
 use bytes::Bytes;
 use simplex_types::reasons::Kind;
 use simplex_types::types::{Fault, View};
@@ -26,7 +26,7 @@ impl State {
             Kind::Nullification => {
                 scan::covering_nullification(&self.nullifications, view).is_some()
             }
-            Kind::Notarization => held::contains(&self.notarizations, view),
+            Kind::Notarization => self.notarizations.contains(view),
         }
     }
 
@@ -41,7 +41,7 @@ impl State {
     pub fn uncertifiable(&self, view: View) -> bool
         ensures { result ≡ map.contains_key self.now.uncertifiable view }
     {
-        held::contains(&self.uncertifiable, view)
+        self.uncertifiable.contains(view)
     }
 
     /// The encoding of the certificate to serve to a peer that asks for the view: the highest finalization
@@ -82,7 +82,7 @@ impl State {
         if view > self.floor {
             return None;
         }
-        held::certified_at(&self.notarizations, self.floor)
+        self.notarizations.certified_at(self.floor)
     }
 
     fn served(&self, view: View) -> Option<&Bytes>
@@ -91,7 +91,7 @@ impl State {
         if let Some(encoding) = self.finalized_for(view) {
             return Some(encoding);
         }
-        if let Some(encoding) = held::certified_at(&self.notarizations, view) {
+        if let Some(encoding) = self.notarizations.certified_at(view) {
             return Some(encoding);
         }
         if let Some(encoding) = scan::covering_nullification(&self.nullifications, view) {

@@ -11,8 +11,8 @@ ghost use Rattle.simplex_resolver.specs.Facts.{term_length, last_finalized};
 ghost use Rattle.simplex_resolver.specs.Steps.{verdict, Replayed, after, effects, with_certified, after_failure, failure_fetches, failing, needs_nullification};
 
 use crate::resolver::effect::Effect;
+use crate::resolver::scan;
 use crate::resolver::state::State;
-use crate::resolver::{held, scan};
 use bytes::Bytes;
 use simplex_types::reasons::{FetchReason, Kind};
 use simplex_types::types::{
@@ -26,8 +26,7 @@ impl State {
         ensures after { OnOk result (self.new ≡ with_certified self.old view encoding) }
         ensures same_terms { term_length self.new ≡ term_length self.old }
     {
-        held::put(&mut self.notarizations, view, Some(encoding))?;
-        Ok(())
+        self.notarizations.certify(view, encoding)
     }
 
     fn keep_certified<S: CertificateScheme, D: Digest>(
@@ -75,8 +74,8 @@ impl State {
         if view <= self.last_finalized() {
             return Ok(());
         }
-        held::put(&mut self.notarizations, view, None)?;
-        held::insert_new(&mut self.uncertifiable, view, ())
+        self.notarizations.refuse(view)?;
+        self.uncertifiable.insert(view)
     }
 
     fn needs_nullification(&self, view: View) -> bool

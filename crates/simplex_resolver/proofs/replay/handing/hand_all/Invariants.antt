@@ -1,7 +1,10 @@
 use Rattle.std.proofs.Common.{◌≡◌, take}
 use Rattle.simplex_resolver.specs.RecordCalls.{newest_first, calls_of, all_after}
+use Rattle.simplex_resolver.specs.Places.{AreNoted}
 use Rattle.simplex_resolver.proofs.replay.handing.hand_all.Given as goal
 
 abbrev pub invariant-loop-place : goal.invariant-loop-place
-invariant-loop-place g l =
-    l.state ≡ all_after l.fn.state (calls_of g.D.Digest.bytes (newest_first g.S.CertificateScheme.certificate_bytes (take l.place l.entries)))
+invariant-loop-place g l = record {
+  noted : AreNoted g.S.CertificateScheme.certificate_bytes l.places (take l.place l.entries);
+  after : l.state ≡ all_after l.fn.state (calls_of g.D.Digest.bytes (newest_first g.S.CertificateScheme.certificate_bytes (take l.place l.entries)));
+}

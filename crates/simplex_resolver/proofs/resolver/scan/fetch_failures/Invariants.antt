@@ -1,15 +1,15 @@
-use Rattle.std.proofs.Common.{◌≡◌, ℕ, Bool, ◌++◌, ◌&&◌, filter, not, nat_lt, map, length}
+use Rattle.std.proofs.Common.{◌≡◌, ℕ, Bool, ◌++◌, ◌&&◌, filter, not, nat_lt, length}
 use Rattle.std.specs.FinMap.{keys}
 use Rattle.simplex_sorted.specs.ByTerm.{is_covered}
 use Rattle.simplex_resolver.specs.Steps.{failure_fetches}
 use Rattle.simplex_resolver.proofs.resolver.scan.fetch_failures.Given as goal
 
 -- the effects so far and those of the views that are left
-abbrev pub invariant-loop-entry : goal.invariant-loop-entry
-invariant-loop-entry l =
+abbrev pub invariant-loop-view : goal.invariant-loop-view
+invariant-loop-view l =
     let test : ℕ → Bool = λ v. nat_lt l.floor v && not (is_covered l.nullifications v) in
-    l.effects.items ++ failure_fetches (filter test (map (λ e. e.0) l.rest))
+    l.effects.items ++ failure_fetches (filter test l.rest)
     ≡ l.initial.effects.items ++ failure_fetches (filter test (keys l.views))
 
-abbrev pub decreases-loop-entry : goal.decreases-loop-entry
-decreases-loop-entry l = length l.rest
+abbrev pub decreases-loop-view : goal.decreases-loop-view
+decreases-loop-view l = length l.rest

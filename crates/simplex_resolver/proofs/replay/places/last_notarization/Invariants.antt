@@ -1,6 +1,6 @@
 use Rattle.std.proofs.Common.{◌≡◌}
 use Rattle.simplex_resolver.specs.RecordCalls.{newest_first, newest_notarization}
-use Rattle.simplex_resolver.proofs.replay.check.last_notarization.Given as goal
+use Rattle.simplex_resolver.proofs.replay.places.last_notarization.Given as goal
 
 -- the last one stands in what is left
 abbrev pub invariant-loop-artifact : goal.invariant-loop-artifact

@@ -1,13 +1,10 @@
-use Rattle.std.proofs.Common.{◌≡◌, Option, Some, None, is_some, refl, ap, sym, ◌∙◌}
-use Rattle.std.specs.Option.{option_map, option_copied}
+use Rattle.std.proofs.Common.{refl, ap, sym, ◌∙◌}
+use Rattle.std.specs.Option.{option_copied}
 use Rattle.simplex_types.specs.Certificates.{notarization_facts}
 use Rattle.simplex_resolver.specs.RecordCalls.{newest_first, newest_notarization}
+use Rattle.simplex_resolver.proofs.Noted.{same_some}
 use Rattle.simplex_resolver.proofs.Newest.{passed_by, stopped_at, none_left}
-use Rattle.simplex_resolver.proofs.replay.check.last_notarization.Goals as goal
-
-there : {A B : Type 0} (f : A → B) (o : Option A) → is_some (option_map f o) ≡ is_some o
-there f None = refl
-there f (Some x) = refl
+use Rattle.simplex_resolver.proofs.replay.places.last_notarization.Goals as goal
 
 pub loop-artifact-init : goal.loop-artifact-init
 loop-artifact-init g c = record {
@@ -21,7 +18,7 @@ returns-then-is_some g c =
     let bytes_of = g.S.CertificateScheme.certificate_bytes in
     let found = option_copied c.notarization_at-found.result in
     stopped_at bytes_of c.args.view c.next.new.self.iter.rest.now c.in-Some.artifact.now _ c.notarization_at-found.ensures
-    (there (notarization_facts bytes_of) found ∙ there (λ n. n.now) c.notarization_at-found.result ∙ sym c.if-is_some.ensures)
+    (same_some (notarization_facts bytes_of) found ∙ same_some (λ n. n.now) c.notarization_at-found.result ∙ sym c.if-is_some.ensures)
     ∙ sym (c.loop-artifact.invariant.rest ∙ ap (λ es. newest_notarization c.args.view (newest_first bytes_of es)) c.in-Some.ensures.steps)
 
 pub loop-artifact-preserved : goal.loop-artifact-preserved
@@ -34,7 +31,7 @@ loop-artifact-preserved g c =
       rest =
           c.loop-artifact.invariant.rest ∙ ap (λ es. newest_notarization c.args.view (newest_first bytes_of es)) c.in-Some.ensures.steps
           ∙ passed_by bytes_of c.args.view c.next.new.self.iter.rest.now c.in-Some.artifact.now _ c.notarization_at-found.ensures
-          (there (notarization_facts bytes_of) found ∙ there (λ n. n.now) c.notarization_at-found.result ∙ sym c.if-is_some.ensures);
+          (same_some (notarization_facts bytes_of) found ∙ same_some (λ n. n.now) c.notarization_at-found.result ∙ sym c.if-is_some.ensures);
     }
 
 pub returns : goal.returns
