@@ -7,6 +7,7 @@ pub mod EventsMake
 pub mod GoingCalls
 pub mod Answering
 pub mod Typed
+pub mod Pruning
 pub mod Parts
 pub mod Voted
 pub mod HandedOut

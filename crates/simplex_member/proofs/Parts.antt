@@ -30,17 +30,17 @@ use Rattle.simplex_member.proofs.Typed.{typed}
 
 -- a vote that is signed is a signed reply
 module _ {S L D K G C : Type 0} (is_signature : K → Subject D → G → Type 0) (x : StateFacts K L D) where
-  pub signed_finalize : (vote : Option (final.Finalize S D K G C)) → IfSome vote (λ v. IsSignedAs is_signature x.me x.members (subject.Finalize v.proposal) v.signature) → IsSignedReply is_signature (reply.Finalize vote) x
-  signed_finalize None is = tt
-  signed_finalize (Some v) is = is
+  pub finalize_is_signed : (vote : Option (final.Finalize S D K G C)) → IfSome vote (λ v. IsSignedAs is_signature x.me x.members (subject.Finalize v.proposal) v.signature) → IsSignedReply is_signature (reply.Finalize vote) x
+  finalize_is_signed None is = tt
+  finalize_is_signed (Some v) is = is
 
-  pub signed_notarize : (vote : Option (first.Notarize S D K G C)) → IfSome vote (λ v. IsSignedAs is_signature x.me x.members (subject.Notarize v.proposal) v.signature) → IsSignedReply is_signature (reply.Notarize vote) x
-  signed_notarize None is = tt
-  signed_notarize (Some v) is = is
+  pub notarize_is_signed : (vote : Option (first.Notarize S D K G C)) → IfSome vote (λ v. IsSignedAs is_signature x.me x.members (subject.Notarize v.proposal) v.signature) → IsSignedReply is_signature (reply.Notarize vote) x
+  notarize_is_signed None is = tt
+  notarize_is_signed (Some v) is = is
 
-  pub signed_nullify : (vote : Option (Bool × other.Nullify S K G C)) → IfSome vote (λ v. IsSignedAs is_signature x.me x.members (subject.Nullify v.1.round) v.1.signature) → IsSignedReply is_signature (reply.Nullify vote) x
-  signed_nullify None is = tt
-  signed_nullify (Some v) is = is
+  pub nullify_is_signed : (vote : Option (Bool × other.Nullify S K G C)) → IfSome vote (λ v. IsSignedAs is_signature x.me x.members (subject.Nullify v.1.round) v.1.signature) → IsSignedReply is_signature (reply.Nullify vote) x
+  nullify_is_signed None is = tt
+  nullify_is_signed (Some v) is = is
 
 -- what holds anyway holds of an answer
 pub so_ok : {T E A : Type 0} (r : Result T E) → A → OnOk r A
@@ -67,6 +67,12 @@ kept_shut o (Err error.Lost) = tt
 pub ended_ok : {T : Type 0} (P : T → Type 0) (r : Result T CallError) → IfOk r P → IfOk (ended r) P
 ended_ok P (Ok t) is = is
 ended_ok P (Err e) is = tt
+
+-- and what of its error, of the call's
+pub ended_err : {T : Type 0} (A : Type 0) (r : Result T CallError) → OnErr r A → OnErr (ended r) A
+ended_err A (Ok t) is = tt
+ended_err A (Err (error.Refused due)) is = is
+ended_err A (Err error.Lost) is = is
 
 -- so is what was recorded, of what is told
 pub ended_recorded : {T V A : Type 0} (tell : T → V) (told : V) (entry : V → List A) (before after : List A) (r : Result T CallError)

@@ -3,12 +3,13 @@ use Rattle.std.proofs.Common.{◌≡◌, refl, ℕ, true, false, List, [], ◌�
 use Rattle.simplex_types.specs.Config.{Genesis}
 use Rattle.simplex_voter.specs.Facts.{StateFacts, new_facts}
 use Rattle.simplex_voter.specs.Windows.{min_active}
-use Rattle.simplex_voter.specs.Serving.{notarization_of, prune_answer}
+use Rattle.simplex_voter.specs.Serving.{notarization_of, prune_answer, after_prune}
 use Rattle.simplex_member.specs.Openings.{no_openings}
 use Rattle.simplex_record.specs.Cuts.{may_drop, pruned_entries}
 use Rattle.simplex_member.specs.Journal.{has_lost}
 use Rattle.simplex_member.specs.Lives.{MemberFacts}
 use Rattle.simplex_record.specs.Recovery.{after_kept_entry, recovered_state}
+use Rattle.simplex_member.specs.Pruning.{pruned_member}
 use Rattle.simplex_member.specs.Restarts.{retention_grows, cut_member}
 use Rattle.simplex_record.proofs.Examples.{Entry, notarization, nullification, finalization, nullify}
 use Rattle.simplex_record.proofs.RecoveryExamples.{in_turn, settings}
@@ -61,6 +62,25 @@ still_there = refl
 pruned_then : prune_answer narrow_life ≡ 1 ∷ 12 ∷ 13 ∷ []
 unfolding recovered_state after_kept_entry
 pruned_then = refl
+
+-- within a life an entry stays whose view the state still tracks; behind the state's own prune it goes
+abbrev within_life : Member
+within_life = record (member (nullify 2 ∷ notarization 12 ∷ finalization 20 ∷ [])) { life = Some narrow_life; retention = 5; least_retention = 5 }
+
+stays_while_tracked : (pruned_member within_life).entries ≡ notarization 12 ∷ finalization 20 ∷ []
+unfolding recovered_state after_kept_entry
+stays_while_tracked = refl
+
+goes_behind_prune : (pruned_member (record within_life { life = Some (after_prune narrow_life) })).entries ≡ finalization 20 ∷ []
+unfolding recovered_state after_kept_entry
+goes_behind_prune = refl
+
+closed_within_life : (pruned_member within_life).closed ≡ 2
+unfolding recovered_state after_kept_entry
+closed_within_life = refl
+
+counts_as_a_pruning : retention_grows (pruned_member within_life) false 6 ≡ true
+counts_as_a_pruning = refl
 
 -- no life keeps more views than one before, once the record is pruned
 may_keep_as_many : retention_grows (member []) true 10 ≡ false

@@ -1,14 +1,16 @@
 -- What a journal holds of a member, and how a member goes on from it.
-use Rattle.std.specs.Prelude.{◌≡◌, Bool, true, false, nat_lt, List, length, None, Ok, Err}
+use Rattle.std.specs.Prelude.{◌≡◌, ℕ, Bool, true, false, nat_lt, List, length, take, drop, filter, None, Ok, Err}
 use Rattle.simplex_types.specs.Certificates.{ArtifactFacts}
 use Rattle.simplex_voter.specs.Facts.{Elect}
 use Rattle.simplex_member.specs.declared.member.journal.Stored.{Stored}
 use Rattle.simplex_member.specs.declared.member.resume.ResumeError.{ResumeError}
 use Rattle.simplex_member.specs.declared.member.resume.ResumeError.TheVariants as error
 use Rattle.simplex_member.specs.Openings.{no_openings}
-use Rattle.simplex_member.specs.Lives.{MemberFacts}
+use Rattle.simplex_member.specs.Lives.{MemberFacts, SignedMember}
 use Rattle.simplex_member.specs.Restarts.{RestartFacts, IsRestart}
+use Rattle.simplex_record.specs.Cuts.{is_vote}
 use Rattle.simplex_record.specs.Start.{StartFacts}
+use Rattle.simplex_record.specs.Votes.{SignedVote}
 
 module _ {K L D : Type 0} where
   -- what is stored beside the entries
@@ -30,6 +32,10 @@ module _ {K L D : Type 0} where
   -- a restart that drops and prunes nothing
   abbrev pub whole_restart : StartFacts K L D → RestartFacts K L D
   whole_restart start = record { drop = 0; prune = false; start = start }
+
+-- the votes behind the first so many entries
+abbrev pub votes_since : {K L D G : Type 0} → ℕ → SignedMember K L D G → List (SignedVote D G)
+votes_since count m = drop (length (filter is_vote (take count m.facts.entries))) m.votes
 
 -- there are fewer entries than were closed
 abbrev pub has_lost : {D : Type 0} → Stored → List (ArtifactFacts D) → Bool

@@ -11,6 +11,7 @@ pub mod Start
 pub mod Restarts
 pub mod Journal
 pub mod Remade
+pub mod Pruning
 pub mod Runs
 pub mod Parts
 pub mod Events

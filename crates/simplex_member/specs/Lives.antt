@@ -4,12 +4,13 @@ use Rattle.simplex_types.specs.Certificates.{ArtifactFacts}
 use Rattle.simplex_types.specs.declared.types.fault.Fault.{Fault}
 use Rattle.simplex_types.specs.declared.types.fault.Fault.TheVariants as fault
 use Rattle.simplex_voter.specs.Facts.{StateFacts, Elect}
+use Rattle.simplex_record.specs.Votes.{SignedVote}
 use Rattle.simplex_member.specs.Allowed.{is_allowed, fault_of, needs_room, may_fall}
 use Rattle.simplex_member.specs.Calls.{CallFacts, Told, Refused, NotAllowed}
 use Rattle.simplex_member.specs.Made.{answer, after_call, openings_after, recorded_by}
 use Rattle.simplex_member.specs.Openings.{Openings, no_openings}
 
--- a member, as contracts see it
+-- what is known of a member
 pub record MemberFacts (K L D : Type 0) : Type 0 where
   -- what its state knows; none while the member has failed
   pub life : Option (StateFacts K L D)
@@ -24,6 +25,12 @@ pub record MemberFacts (K L D : Type 0) : Type 0 where
   -- how many views below the last finalized one its last life kept, and the least of its lives
   pub retention : ℕ
   pub least_retention : ℕ
+
+-- a member, as contracts see it: what is known of it, and the votes of its record with their signatures
+pub record SignedMember (K L D G : Type 0) : Type 0 where
+  pub facts : MemberFacts K L D
+  -- oldest first
+  pub votes : List (SignedVote D G)
 
 -- of a failed member's state nothing is known, and nothing of it is open
 abbrev pub living : {K L D : Type 0} → Bool → StateFacts K L D → Option (StateFacts K L D)

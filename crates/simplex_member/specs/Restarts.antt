@@ -11,6 +11,7 @@ use Rattle.simplex_record.specs.Entries.{entry_view}
 use Rattle.simplex_record.specs.Cuts.{without_last, pruned_entries}
 use Rattle.simplex_member.specs.Openings.{no_openings}
 use Rattle.simplex_member.specs.Lives.{MemberFacts, without_life}
+use Rattle.simplex_record.specs.Votes.{SignedVote, pruned_votes}
 use Rattle.simplex_record.specs.Recovery.{recovered_state, recover_error, with_floor}
 use Rattle.simplex_record.specs.Start.{StartFacts, start_facts, new_state}
 
@@ -48,6 +49,15 @@ module _ {K L D : Type 0} where
   cut_member m drop prune =
       let left = without_last m.closed drop m.entries in
       if prune then closed_at m (pruned_entries m.retention left) else record m { entries = left }
+
+  -- and of the votes in it: a drop takes none of them
+  abbrev pub cut_votes : {G : Type 0} → MemberFacts K L D → ℕ → Bool → List (SignedVote D G) → List (SignedVote D G)
+  cut_votes m drop prune votes = if prune then pruned_votes m.retention (without_last m.closed drop m.entries) votes else votes
+
+  -- what a restart leaves of them: all, where it is refused for more views that are to be kept
+  abbrev pub votes_left : {G : Type 0} → MemberFacts K L D → RestartFacts K L D → List (SignedVote D G) → List (SignedVote D G)
+  votes_left m r votes =
+      if retention_grows m r.prune r.start.setup.settings.view_retention then votes else cut_votes m r.drop r.prune votes
 
 module _ {K L D : Type 0} (same : D → D → Bool) (elect : Elect L) where
   -- a new life from a copy of the record, with the floor's finalization in the record

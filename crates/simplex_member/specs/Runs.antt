@@ -1,4 +1,4 @@
--- Runs of a member: calls and restarts, one after another.
+-- Runs of a member: calls, prunings of its record and restarts, one after another.
 use Rattle.std.specs.Prelude.{◌≡◌, ◌⊎◌, ℕ, Bool, true, false, List, [], ◌∷◌, length, map, Option, Some, None, Result, Ok, Err}
 use Rattle.simplex_types.specs.declared.types.window.Terms.{Terms}
 use Rattle.simplex_voter.specs.Facts.{Elect}
@@ -6,21 +6,24 @@ use Rattle.simplex_record.specs.declared.record.error.RecoverError.{RecoverError
 use Rattle.simplex_record.specs.declared.record.error.RecoverError.TheVariants as error
 use Rattle.simplex_member.specs.declared.member.runs.Step.{Step}
 use Rattle.simplex_member.specs.declared.member.runs.Step.TheVariants as step
-use Rattle.simplex_member.specs.Calls.{CallFacts, Told, Restarted, NotRestarted, asked}
+use Rattle.simplex_member.specs.Calls.{CallFacts, Told, Done, Restarted, NotRestarted, asked}
 use Rattle.simplex_member.specs.Lives.{MemberFacts, IsCall}
 use Rattle.simplex_record.specs.Recovery.{recover_error}
 use Rattle.simplex_member.specs.Restarts.{RestartFacts, restart_facts, IsRestart}
+use Rattle.simplex_member.specs.Pruning.{pruned_member}
 use Rattle.simplex_record.specs.Start.{StartFacts, new_state}
 use Rattle.simplex_member.specs.Start.{started_member}
 
--- a step of a run: a call, or a restart
+-- a step of a run: a call, a pruning of the record within the life, or a restart
 pub data StepFacts (K L D : Type 0) : Type 0 where
   Calls : CallFacts D → StepFacts K L D
+  Prunes : StepFacts K L D
   Restarts : RestartFacts K L D → StepFacts K L D
 
 -- a step, as plain data
 abbrev pub step_facts : {S L D K G C : Type 0} → (S → Option ℕ) → (S → List K) → (L → Terms) → (L → Bool) → (C → List ℕ) → Step S L D K G C → StepFacts K L D
 step_facts me members terms elects_early bytes_of (step.Call call) = Calls (asked bytes_of call)
+step_facts me members terms elects_early bytes_of step.PruneRecord = Prunes
 step_facts me members terms elects_early bytes_of (step.Restart restart) = Restarts (restart_facts me members terms elects_early bytes_of restart)
 
 -- each of these
@@ -30,6 +33,7 @@ steps_of me members terms elects_early bytes_of steps = map (step_facts me membe
 -- the elector of each restart elects among the participants of its scheme
 abbrev pub IsSetUp : {S L D K G C : Type 0} → (S → List K) → (L → ℕ) → Step S L D K G C → Type 0
 IsSetUp participants members (step.Call _) = Unit {0}
+IsSetUp participants members step.PruneRecord = Unit {0}
 IsSetUp participants members (step.Restart restart) = members restart.start.settings.elector ≡ length (participants restart.start.settings.scheme)
 
 -- so is each of these
@@ -49,9 +53,10 @@ module _ {K D : Type 0} where
   is_refusal _ = false
 
 module _ {K L D : Type 0} (same : D → D → Bool) (elect : Elect L) where
-  -- a call is answered, and a restart succeeds or is refused
+  -- a call is answered, a pruning is done, and a restart succeeds or is refused
   abbrev pub IsStep : MemberFacts K L D → StepFacts K L D → Told K D → MemberFacts K L D → Type 0
   IsStep m (Calls call) told next = IsCall same elect m call told next
+  IsStep m Prunes told next = (told ≡ Done) × (next ≡ pruned_member m)
   IsStep m (Restarts r) told next =
       (result : Result (Unit {0}) RecoverError) × IsRestart same elect m r result next × (told ≡ restart_told result)
 
@@ -66,6 +71,7 @@ module _ {K L D : Type 0} (same : D → D → Bool) (elect : Elect L) where
   -- a step is a restart that is refused by this error
   abbrev pub IsRefused : MemberFacts K L D → StepFacts K L D → RecoverError → Type 0
   IsRefused m (Calls call) found = ⊥
+  IsRefused m Prunes found = ⊥
   IsRefused m (Restarts r) found = (left : MemberFacts K L D) × IsRestart same elect m r (Err found) left
 
   -- some step is, and none before it

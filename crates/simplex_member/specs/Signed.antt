@@ -1,13 +1,13 @@
--- The signatures of a member's votes: of one that is answered, and of those in its record.
-use Rattle.std.specs.Prelude.{Bool, true, false, List, [], ◌∷◌, Option, Some, None, map, if◌then◌else◌}
-use Rattle.simplex_types.specs.Certificates.{signature_in}
+-- The signatures of the votes that a member answers.
+use Rattle.std.specs.Prelude.{Bool, true, false, List, [], Option, Some, None, if◌then◌else◌}
 use Rattle.simplex_types.specs.Signing.{IsSignedAs}
-use Rattle.simplex_types.specs.declared.types.messages.Artifact.{Artifact}
+use Rattle.simplex_types.specs.declared.types.messages.Artifact.TheVariants as artifact
 use Rattle.simplex_types.specs.declared.types.messages.Finalize as finalize
 use Rattle.simplex_types.specs.declared.types.messages.Notarize as notarize
 use Rattle.simplex_types.specs.declared.types.messages.Nullify as nullify
 use Rattle.simplex_types.specs.declared.types.messages.Subject.{Subject}
 use Rattle.simplex_types.specs.declared.types.messages.Subject.TheVariants as subject
+use Rattle.simplex_record.specs.Votes.{SignedVote, signed_vote}
 use Rattle.simplex_voter.specs.Facts.{StateFacts}
 use Rattle.simplex_member.specs.declared.member.calls.Reply.{Reply}
 use Rattle.simplex_member.specs.declared.member.calls.Reply.TheVariants as reply
@@ -27,21 +27,24 @@ is_vote_reply (reply.Nullify _) = true
 is_vote_reply (reply.Finalize _) = true
 is_vote_reply _ = false
 
--- the signatures in a record, one an entry: none of an entry that is no vote
-abbrev pub signatures_of : {S D K G C : Type 0} → List (Artifact S D K G C) → List (Option G)
-signatures_of entries = map signature_in entries
+-- the vote to notarize that is answered, as a record holds it
+abbrev pub signed_notarize : {S D K G C : Type 0} → Option (notarize.Notarize S D K G C) → List (SignedVote D G)
+signed_notarize None = []
+signed_notarize (Some vote) = signed_vote (artifact.Notarize vote)
 
--- what a vote to nullify adds to them: nothing where it is a repeat
-abbrev pub nullify_signature : {S K G C : Type 0} → Option (Bool × nullify.Nullify S K G C) → List (Option G)
-nullify_signature None = []
-nullify_signature (Some (retry, vote)) = if retry then [] else Some vote.signature ∷ []
+-- the vote to nullify that is answered: nothing where it is a repeat
+abbrev pub signed_nullify : {S D K G C : Type 0} → Option (Bool × nullify.Nullify S K G C) → List (SignedVote D G)
+signed_nullify None = []
+signed_nullify {D = D} (Some (retry, vote)) = if retry then [] else signed_vote {D = D} (artifact.Nullify vote)
 
--- and a vote to finalize
-abbrev pub finalize_signature : {S D K G C : Type 0} → Option (finalize.Finalize S D K G C) → List (Option G)
-finalize_signature None = []
-finalize_signature (Some vote) = Some vote.signature ∷ []
+-- the vote to finalize that is answered
+abbrev pub signed_finalize : {S D K G C : Type 0} → Option (finalize.Finalize S D K G C) → List (SignedVote D G)
+signed_finalize None = []
+signed_finalize (Some vote) = signed_vote (artifact.Finalize vote)
 
--- and a vote to notarize
-abbrev pub notarize_signature : {S D K G C : Type 0} → Option (notarize.Notarize S D K G C) → List (Option G)
-notarize_signature None = []
-notarize_signature (Some vote) = Some vote.signature ∷ []
+-- the vote that a reply hands out, unless it is a repeat
+abbrev pub signed_reply : {S D K G C : Type 0} → Reply S D K G C → List (SignedVote D G)
+signed_reply (reply.Notarize vote) = signed_notarize vote
+signed_reply (reply.Nullify vote) = signed_nullify vote
+signed_reply (reply.Finalize vote) = signed_finalize vote
+signed_reply _ = []

@@ -7,6 +7,7 @@ mod journal;
 mod life;
 mod openings;
 mod parts;
+mod pruning;
 mod refusal;
 mod restart;
 mod resume;

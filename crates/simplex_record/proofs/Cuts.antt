@@ -1,5 +1,5 @@
 -- Dropping entries one by one, and what a list of artifacts is as entries.
-use Rattle.std.proofs.Common.{◌≡◌, refl, sym, ap, ◌∙◌, ℕ, zero, suc, ◌+◌, ◌-◌, ◌<◌, Bool, true, false, List, [], ◌∷◌, length, take, drop, filter, max, arith, slice_get, option_map, nat_lt, ◌&&◌, get_or, not, nat_le, ◌≤◌, Some}
+use Rattle.std.proofs.Common.{◌≡◌, refl, sym, ap, ◌∙◌, ℕ, zero, suc, ◌+◌, ◌-◌, ◌<◌, Bool, true, false, List, [], ◌∷◌, length, take, drop, filter, max, arith, slice_get, option_map, nat_lt, ◌&&◌, get_or, not, ◌≤◌, Some}
 use Rattle.std.proofs.lemmas.Bool.Decides.{nat_tests}
 use Rattle.std.proofs.lemmas.Option.{slice_get-map}
 use Rattle.std.specs.Ordering.{nat_cmp, is_lt, ord_max}
@@ -8,7 +8,7 @@ use Rattle.std.proofs.lemmas.List.{take-map, length-map}
 use Rattle.simplex_types.specs.Certificates.{ArtifactFacts, artifact_facts}
 use Rattle.simplex_types.specs.declared.types.messages.Artifact.{Artifact}
 use Rattle.simplex_record.specs.Entries.{entries_of, entry_view}
-use Rattle.simplex_record.specs.Cuts.{is_vote, may_drop, without_last, finalized_by, finalized_in, pruned_entries}
+use Rattle.simplex_record.specs.Cuts.{is_vote, may_drop, without_last, finalized_by, finalized_in}
 use Rattle.simplex_record.proofs.Seen.{entries_from, view_of_entry}
 
 shut : (closed n : ℕ) (b : Bool) → n ≤ closed → false ≡ (nat_lt closed n && b)
@@ -67,18 +67,13 @@ module _ {S D K G C : Type 0} (bytes_of : C → List ℕ) where
   last_open closed items a more last = let open_yet : nat_lt closed (length items) ≡ true = grind (arith, nat_tests) in rw (length_entries items, entry_at items (length items - 1), last, open_yet) refl
 
   -- what stays of the artifacts stays of the entries
-  pub entries_kept : (view : ℕ) (items : List (Artifact S D K G C)) → entries_of bytes_of (filter (λ a. nat_le view (artifact_view a)) items) ≡ filter (λ e. nat_le view (entry_view e)) (entries_of bytes_of items)
-  entries_kept view [] = refl
-  entries_kept view (a ∷ items) = kept (entries_kept view items) _ refl
+  pub entries_kept : (stays : ℕ → Bool) (items : List (Artifact S D K G C)) → entries_of bytes_of (filter (λ a. stays (artifact_view a)) items) ≡ filter (λ e. stays (entry_view e)) (entries_of bytes_of items)
+  entries_kept stays [] = refl
+  entries_kept stays (a ∷ items) = kept (entries_kept stays items) _ refl
     where
-      kept : entries_of bytes_of (filter (λ b. nat_le view (artifact_view b)) items) ≡ filter (λ e. nat_le view (entry_view e)) (entries_of bytes_of items)
-          → (test : Bool) → nat_le view (artifact_view a) ≡ test → entries_of bytes_of (filter (λ b. nat_le view (artifact_view b)) (a ∷ items)) ≡ filter (λ e. nat_le view (entry_view e)) (entries_of bytes_of (a ∷ items))
+      kept : entries_of bytes_of (filter (λ b. stays (artifact_view b)) items) ≡ filter (λ e. stays (entry_view e)) (entries_of bytes_of items)
+          → (test : Bool) → stays (artifact_view a) ≡ test → entries_of bytes_of (filter (λ b. stays (artifact_view b)) (a ∷ items)) ≡ filter (λ e. stays (entry_view e)) (entries_of bytes_of (a ∷ items))
       kept rest true is = rw (is, ← view_of_entry bytes_of a, is, rest) refl
       kept rest false is = rw (is, ← view_of_entry bytes_of a, is, rest) refl
 
 pub ruleset dropped = (one_item_dropped, none_dropped)
-
--- what is kept from a lowest view on is what a pruning leaves
-pub pruned_from : {D : Type 0} (retention : ℕ) (entries : List (ArtifactFacts D)) (lowest : ℕ) → lowest ≡ finalized_in entries - retention → filter (λ e. nat_le lowest (entry_view e)) entries ≡ pruned_entries retention entries
-unfolding pruned_entries
-pruned_from retention entries lowest is = rw is refl

@@ -1,5 +1,6 @@
 pub mod Seen
 pub mod Cuts
+pub mod Votes
 pub mod Examples
 pub mod Rounds
 pub mod Steps

@@ -3,6 +3,7 @@ pub mod Entries
 pub mod Check
 pub mod Seen
 pub mod Cuts
+pub mod Votes
 pub mod Recovery
 pub mod Start
 pub mod Settings

@@ -20,11 +20,12 @@ pub struct Stored {
 
 impl<S: CertificateScheme, L: Elector<S>, D: Digest> Member<S, L, D> {
     ghost use Rattle.simplex_record.specs.Entries.{entries_of};
-    ghost use Rattle.simplex_member.specs.Journal.{stored_of};
+    ghost use Rattle.simplex_record.specs.Votes.{votes_of};
+    ghost use Rattle.simplex_member.specs.Journal.{stored_of, votes_since};
 
     /// What a journal stores beside the record; also of a member that has failed.
     pub fn stored(&self) -> Stored
-        ensures { result ≡ stored_of self.now }
+        ensures { result ≡ stored_of self.now.facts }
     {
         Stored {
             closed: self.closed,
@@ -36,7 +37,8 @@ impl<S: CertificateScheme, L: Elector<S>, D: Digest> Member<S, L, D> {
 
     /// What was recorded after the first `count` entries: nothing, where there are no more.
     pub fn record_since(&self, count: usize) -> &[Artifact<S, D>]
-        ensures { entries_of S.certificate_bytes result.now ≡ drop count self.now.entries }
+        ensures entries { entries_of S.certificate_bytes result.now ≡ drop count self.now.facts.entries }
+        ensures votes { votes_of result.now ≡ votes_since count self.now }
     {
         let first = count.min(self.artifacts.len());
         &self.artifacts[first..]

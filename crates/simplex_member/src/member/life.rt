@@ -1,6 +1,6 @@
 //! A member: its state, and the record from which a state can be made again.
 
-ghost use Rattle.std.specs.Prelude.{◌≡◌, [], None, IfOk, IfErr, IfSome, OnOk, length};
+ghost use Rattle.std.specs.Prelude.{◌≡◌, ◌++◌, [], None, IfOk, IfErr, IfSome, OnOk, length};
 ghost use Rattle.std.specs.Option.{option_copied};
 
 use super::calls::{Call, Reply};
@@ -47,18 +47,22 @@ impl<S: CertificateScheme, L: Elector<S>, D> Model for Member<S, L, D> {
     ghost use Rattle.std.specs.Prelude.{◌≡◌, true, false};
     ghost use Rattle.simplex_voter.specs.Refusals.{is_started};
     ghost use Rattle.simplex_record.specs.Entries.{entries_of};
-    ghost use Rattle.simplex_member.specs.Lives.{MemberFacts, living, open_while};
+    ghost use Rattle.simplex_record.specs.Votes.{votes_of};
+    ghost use Rattle.simplex_member.specs.Lives.{SignedMember, living, open_while};
 
-    ghost Value = { MemberFacts S.PublicKey L D };
+    ghost Value = { SignedMember S.PublicKey L D S.Signature };
 
     ghost view = { λ m. record {
-      life = living m.failed m.state.value;
-      openings = open_while m.failed m.openings.open_now;
-      entries = entries_of S.certificate_bytes m.artifacts.items;
-      closed = m.closed;
-      is_pruned = m.is_pruned;
-      retention = m.retention;
-      least_retention = m.least_retention;
+      facts = record {
+        life = living m.failed m.state.value;
+        openings = open_while m.failed m.openings.open_now;
+        entries = entries_of S.certificate_bytes m.artifacts.items;
+        closed = m.closed;
+        is_pruned = m.is_pruned;
+        retention = m.retention;
+        least_retention = m.least_retention;
+      };
+      votes = votes_of m.artifacts.items;
     } };
 
     ghost invariant = { λ m. m.failed ≡ false → (m.state.value.failed ≡ false) × (is_started m.state.value ≡ true) };
@@ -68,9 +72,10 @@ impl<S: CertificateScheme, L: Elector<S>, D: Digest> Member<S, L, D> {
     ghost use Rattle.std.specs.Prelude.{true, false};
     ghost use Rattle.simplex_voter.specs.Refusals.{is_started};
     ghost use Rattle.simplex_record.specs.Entries.{entries_of};
+    ghost use Rattle.simplex_record.specs.Votes.{votes_of};
     ghost use Rattle.simplex_member.specs.Calls.{told, asked};
     ghost use Rattle.simplex_member.specs.Lives.{IsCall, HasGrown};
-    ghost use Rattle.simplex_member.specs.Signed.{IsSignedReply};
+    ghost use Rattle.simplex_member.specs.Signed.{IsSignedReply, signed_reply};
     ghost use Rattle.simplex_member.specs.Typed.{is_reply_to, IfAnswered, IfRefused, IsAnswered, Keeps};
     ghost use Rattle.simplex_record.specs.Recovery.{recover_error};
     ghost use Rattle.simplex_record.specs.Start.{set_up, IsErrorDue};
@@ -85,8 +90,9 @@ impl<S: CertificateScheme, L: Elector<S>, D: Digest> Member<S, L, D> {
     /// passes 2^64 - 1 milliseconds.
     pub fn start(alloc: Global, start: Start<S, L, D>) -> Result<Member<S, L, D>, RecoverError>
         requires { L.members start.settings.elector ≡ length (S.participants start.settings.scheme) }
-        ensures started { IfOk result (λ member. member ≡ started_member D.eq L.elect
+        ensures started { IfOk result (λ member. member.facts ≡ started_member D.eq L.elect
             (set_up S.me S.participants L.terms L.elects_early start.settings) (floor_facts S.certificate_bytes start.floor) start.now) }
+        ensures votes { IfOk result (λ member. member.votes ≡ []) }
         ensures accepted { OnOk result (recover_error D.eq (set_up S.me S.participants L.terms L.elects_early start.settings)
             (floor_facts S.certificate_bytes start.floor) start.now [] ≡ None) }
         ensures refused { IfErr result (IsErrorDue (recover_error D.eq
@@ -111,7 +117,7 @@ impl<S: CertificateScheme, L: Elector<S>, D: Digest> Member<S, L, D> {
 
     /// The state, while the member has not failed: it has a floor, and has not failed either.
     pub fn state(&self) -> Option<&State<S, L, D>>
-        ensures life { option_copied result ≡ self.now.life }
+        ensures life { option_copied result ≡ self.now.facts.life }
         ensures started { IfSome result (λ state. (state.now.failed ≡ false) × (is_started state.now ≡ true)) }
     {
         if self.failed {
@@ -122,13 +128,15 @@ impl<S: CertificateScheme, L: Elector<S>, D: Digest> Member<S, L, D> {
 
     /// The record, oldest entry first; also of a member that has failed.
     pub fn record(&self) -> &[Artifact<S, D>]
-        ensures { entries_of S.certificate_bytes result.now ≡ self.now.entries }
+        ensures entries { entries_of S.certificate_bytes result.now ≡ self.now.facts.entries }
+        ensures votes { votes_of result.now ≡ self.now.votes }
     {
         &self.artifacts
     }
 
     /// Makes a call of the state and records what came of it: a certificate that was newly added, a view's first verdict,
-    /// and a vote, unless it is a repeat, before it is handed out. Each call is also a method, with an answer of its own type.
+    /// and a vote with its signature, unless it is a repeat, before it is handed out. Each call is also a method, with an
+    /// answer of its own type.
     ///
     /// What the state asks to build, to verify or to certify is open until it is answered: a request to build until its
     /// payload, a true answer that it is to be replaced, or its release; a verification until its answer; an offer until
@@ -142,13 +150,14 @@ impl<S: CertificateScheme, L: Elector<S>, D: Digest> Member<S, L, D> {
     pub fn call(&mut self, call: Call<S, D>) -> Reply<S, D>
     where
         S: Scheme<D>,
-        ensures made { IsCall D.eq L.elect self.old (asked S.certificate_bytes call) (told S.certificate_bytes result) self.new }
+        ensures made { IsCall D.eq L.elect self.old.facts (asked S.certificate_bytes call) (told S.certificate_bytes result) self.new.facts }
         ensures of_its_kind { is_reply_to (told S.certificate_bytes result) (asked S.certificate_bytes call) ≡ true }
         ensures answered { IfAnswered (told S.certificate_bytes result)
-            (IsAnswered D.eq L.elect self.old (asked S.certificate_bytes call) (told S.certificate_bytes result) self.new) }
-        ensures kept { IfRefused (told S.certificate_bytes result) (λ refusal. Keeps self.old refusal self.new) }
-        ensures grown { HasGrown self.old self.new }
-        ensures signed { IfSome self.old.life (IsSignedReply S.IsSignature result) }
+            (IsAnswered D.eq L.elect self.old.facts (asked S.certificate_bytes call) (told S.certificate_bytes result) self.new.facts) }
+        ensures kept { IfRefused (told S.certificate_bytes result) (λ refusal. Keeps self.old.facts refusal self.new.facts) }
+        ensures grown { HasGrown self.old.facts self.new.facts }
+        ensures signed { IfSome self.old.facts.life (IsSignedReply S.IsSignature result) }
+        ensures votes { self.new.votes ≡ self.old.votes ++ signed_reply result }
     {
         self.make(call)
     }
@@ -157,8 +166,9 @@ impl<S: CertificateScheme, L: Elector<S>, D: Digest> Member<S, L, D> {
     fn make(&mut self, call: Call<S, D>) -> Reply<S, D>
     where
         S: Scheme<D>,
-        ensures made { IsCall D.eq L.elect self.old (asked S.certificate_bytes call) (told S.certificate_bytes result) self.new }
-        ensures signed { IfSome self.old.life (IsSignedReply S.IsSignature result) }
+        ensures made { IsCall D.eq L.elect self.old.facts (asked S.certificate_bytes call) (told S.certificate_bytes result) self.new.facts }
+        ensures signed { IfSome self.old.facts.life (IsSignedReply S.IsSignature result) }
+        ensures votes { self.new.votes ≡ self.old.votes ++ signed_reply result }
     {
         match call {
             Call::AddNotarization(notarization) =>

@@ -3,8 +3,9 @@
 //! Each makes room in the record before it calls the state, so that nothing has changed where there is none.
 
 ghost use Rattle.std.specs.Prelude.{◌≡◌, ◌<◌, ◌++◌, ◌∷◌, [], Option, Some, None, Bool, true, false, IfOk, IfErr, OnOk, OnErr, vec_len, vec_capacity, option_map};
-ghost use Rattle.simplex_types.specs.Certificates.{notarization_facts, nullification_facts, finalization_facts, artifact_facts, signature_in, Notarized, Nullified, Finalized, Verdict, Accepted};
+ghost use Rattle.simplex_types.specs.Certificates.{notarization_facts, nullification_facts, finalization_facts, artifact_facts, Notarized, Nullified, Finalized, Verdict, Accepted};
 ghost use Rattle.simplex_record.specs.Entries.{entries_of};
+ghost use Rattle.simplex_record.specs.Votes.{signed_vote, votes_of};
 ghost use Rattle.simplex_voter.specs.Acceptance.{takes_proposal_certificate, takes_nullification, notarization_refusal, nullification_refusal, finalization_refusal, notarization_added, nullification_added, finalization_added, after_add_notarization, after_add_nullification, after_add_finalization};
 ghost use Rattle.simplex_voter.specs.Certification.{takes_verdict, is_first_verdict, certified_refusal, certified_answer, after_certified, candidates_answer, after_candidates};
 ghost use Rattle.simplex_voter.specs.Facts.{round_number};
@@ -12,7 +13,6 @@ ghost use Rattle.simplex_voter.specs.Refusals.{is_started, plain_refusal};
 ghost use Rattle.simplex_member.specs.Made.{if_new};
 ghost use Rattle.simplex_member.specs.Parts.{Ends, EndsBy, KeepsOpen};
 ghost use Rattle.simplex_member.specs.Openings.{without_offer, with_offers};
-ghost use Rattle.simplex_member.specs.Signed.{signatures_of};
 
 use super::call_error::CallError;
 use super::openings::Openings;
@@ -31,7 +31,7 @@ pub(super) fn keep<S: CertificateScheme, D: Digest>(
     requires { vec_len artifacts.old < vec_capacity artifacts.old }
     ensures kept { entries_of S.certificate_bytes artifacts.new.items
         ≡ entries_of S.certificate_bytes artifacts.old.items ++ artifact_facts S.certificate_bytes artifact ∷ [] }
-    ensures signature { signatures_of artifacts.new.items ≡ signatures_of artifacts.old.items ++ signature_in artifact ∷ [] }
+    ensures votes { votes_of artifacts.new.items ≡ votes_of artifacts.old.items ++ signed_vote artifact }
 {
     match artifacts.push(artifact) {
         Ok(()) => {}
@@ -39,15 +39,16 @@ pub(super) fn keep<S: CertificateScheme, D: Digest>(
     }
 }
 
-/// Records an artifact for which there is room, where it is new.
+/// Records an artifact for which there is room, where it is new. It is no vote.
 fn keep_new<S: CertificateScheme, D: Digest>(
     artifacts: &mut Vec<Artifact<S, D>>,
     is_new: bool,
     artifact: Artifact<S, D>,
 )
     requires { vec_len artifacts.old < vec_capacity artifacts.old }
-    ensures { entries_of S.certificate_bytes artifacts.new.items
+    ensures kept { entries_of S.certificate_bytes artifacts.new.items
         ≡ entries_of S.certificate_bytes artifacts.old.items ++ if_new is_new (artifact_facts S.certificate_bytes artifact) }
+    ensures same_votes { signed_vote artifact ≡ [] → votes_of artifacts.new.items ≡ votes_of artifacts.old.items }
 {
     if is_new {
         keep(artifacts, artifact);
@@ -72,6 +73,7 @@ pub(super) fn add_notarization<S: CertificateScheme, L: Elector<S>, D: Digest>(
         (Accepted (Notarized (notarization_facts S.certificate_bytes notarization)))) }
     ensures refused { IfErr result (EndsBy (notarization_refusal state.old (notarization_facts S.certificate_bytes notarization)) state.old state.new) }
     ensures same_record { OnErr result (entries_of S.certificate_bytes artifacts.new.items ≡ entries_of S.certificate_bytes artifacts.old.items) }
+    ensures same_votes { votes_of artifacts.new.items ≡ votes_of artifacts.old.items }
 {
     artifacts.reserve(1)?;
     let Ok(copy) = notarization.clone(alloc) else {
@@ -105,6 +107,7 @@ pub(super) fn add_nullification<S: CertificateScheme, L: Elector<S>, D: Digest>(
         (Accepted (Nullified (nullification_facts S.certificate_bytes nullification)))) }
     ensures refused { IfErr result (EndsBy (nullification_refusal state.old (nullification_facts S.certificate_bytes nullification) now) state.old state.new) }
     ensures same_record { OnErr result (entries_of S.certificate_bytes artifacts.new.items ≡ entries_of S.certificate_bytes artifacts.old.items) }
+    ensures same_votes { votes_of artifacts.new.items ≡ votes_of artifacts.old.items }
 {
     artifacts.reserve(1)?;
     let Ok(copy) = nullification.clone(alloc) else {
@@ -138,6 +141,7 @@ pub(super) fn add_finalization<S: CertificateScheme, L: Elector<S>, D: Digest>(
         (Accepted (Finalized (finalization_facts S.certificate_bytes finalization)))) }
     ensures refused { IfErr result (EndsBy (finalization_refusal state.old finalization.proposal now) state.old state.new) }
     ensures same_record { OnErr result (entries_of S.certificate_bytes artifacts.new.items ≡ entries_of S.certificate_bytes artifacts.old.items) }
+    ensures same_votes { votes_of artifacts.new.items ≡ votes_of artifacts.old.items }
 {
     artifacts.reserve(1)?;
     let Ok(copy) = finalization.clone(alloc) else {
@@ -172,6 +176,7 @@ pub(super) fn certified<S: CertificateScheme, L: Elector<S>, D: Digest>(
     ensures refused { IfErr result (EndsBy (certified_refusal state.old view success now) state.old state.new) }
     ensures kept_open { IfErr result (KeepsOpen openings.old.open_now openings.new.open_now) }
     ensures same_record { OnErr result (entries_of S.certificate_bytes artifacts.new.items ≡ entries_of S.certificate_bytes artifacts.old.items) }
+    ensures same_votes { votes_of artifacts.new.items ≡ votes_of artifacts.old.items }
 {
     artifacts.reserve(1)?;
     let is_first = state.is_first_verdict(view);

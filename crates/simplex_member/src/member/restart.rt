@@ -7,6 +7,7 @@ ghost use Rattle.simplex_voter.specs.Acceptance.{floor_answer};
 ghost use Rattle.simplex_voter.specs.Refusals.{is_started};
 ghost use Rattle.simplex_record.specs.Check.{stands};
 ghost use Rattle.simplex_record.specs.Entries.{entries_of, entry_view};
+ghost use Rattle.simplex_record.specs.Votes.{votes_of};
 ghost use Rattle.simplex_member.specs.Remade.{IsRemadeBy, IsRefusedBy};
 ghost use Rattle.simplex_record.specs.Recovery.{is_finalization, with_finalization_entry, with_floor};
 ghost use Rattle.simplex_member.specs.Restarts.{IsByView};
@@ -34,7 +35,7 @@ pub struct Restart<S: CertificateScheme, L: Elector<S>, D> {
 }
 
 impl<S: CertificateScheme, L: Elector<S>, D: Digest> Member<S, L, D> {
-    ghost use Rattle.simplex_member.specs.Restarts.{restart_facts, retention_grows, cut_member, GoesOn, IsRestart};
+    ghost use Rattle.simplex_member.specs.Restarts.{restart_facts, retention_grows, cut_member, cut_votes, votes_left, GoesOn, IsRestart};
 
     /// Ends the member's life, also one that has failed, and begins another from its record.
     ///
@@ -48,7 +49,10 @@ impl<S: CertificateScheme, L: Elector<S>, D: Digest> Member<S, L, D> {
     #[tactic(auto, unfolding(crate::specs::Restarts::IsRestart))]
     pub fn restart(&mut self, restart: Restart<S, L, D>) -> Result<(), RecoverError>
         requires { L.members restart.start.settings.elector ≡ length (S.participants restart.start.settings.scheme) }
-        ensures { IsRestart D.eq L.elect self.old (restart_facts S.me S.participants L.terms L.elects_early S.certificate_bytes restart) result self.new }
+        ensures restarted { IsRestart D.eq L.elect self.old.facts
+            (restart_facts S.me S.participants L.terms L.elects_early S.certificate_bytes restart) result self.new.facts }
+        ensures votes { self.new.votes
+            ≡ votes_left self.old.facts (restart_facts S.me S.participants L.terms L.elects_early S.certificate_bytes restart) self.old.votes }
     {
         let retention = retention_of(&restart.start.settings);
         if self.retention_grows(restart.prune, retention) {
@@ -61,14 +65,15 @@ impl<S: CertificateScheme, L: Elector<S>, D: Digest> Member<S, L, D> {
     /// Whether more views are to be kept than in a life before, of a record that is pruned now or was pruned: votes in
     /// views that are gone from it could be cast again.
     fn retention_grows(&self, prune: bool, retention: ViewDelta) -> bool
-        ensures { result ≡ retention_grows self.now prune retention }
+        ensures { result ≡ retention_grows self.now.facts prune retention }
     {
         (prune || self.is_pruned) && self.least_retention < retention
     }
 
     /// Drops the last entries, and prunes the record where asked.
     fn cut(&mut self, drop: u64, prune: bool)
-        ensures { self.new ≡ cut_member self.old drop prune }
+        ensures left { self.new.facts ≡ cut_member self.old.facts drop prune }
+        ensures votes { self.new.votes ≡ cut_votes self.old.facts drop prune self.old.votes }
     {
         drop_last(&mut self.artifacts, self.closed, drop);
         if prune {
@@ -81,7 +86,9 @@ impl<S: CertificateScheme, L: Elector<S>, D: Digest> Member<S, L, D> {
     /// Begins a life from the record as it stands.
     fn go_on(&mut self, start: Start<S, L, D>) -> Result<(), RecoverError>
         requires { L.members start.settings.elector ≡ length (S.participants start.settings.scheme) }
-        ensures { GoesOn D.eq L.elect self.old (start_facts S.me S.participants L.terms L.elects_early S.certificate_bytes start) result self.new }
+        ensures goes_on { GoesOn D.eq L.elect self.old.facts
+            (start_facts S.me S.participants L.terms L.elects_early S.certificate_bytes start) result self.new.facts }
+        ensures votes { self.new.votes ≡ self.old.votes }
     {
         self.failed = true;
         let retention = retention_of(&start.settings);
@@ -115,6 +122,7 @@ pub(super) fn renew<S: CertificateScheme, L: Elector<S>, D: Digest>(
     ensures going_on { IfOk result (λ state. (state.value.failed ≡ false) × (is_started state.value ≡ true)) }
     ensures recorded { OnOk result (entries_of S.certificate_bytes artifacts.new.items
         ≡ with_floor (entries_of S.certificate_bytes artifacts.old.items) (floor_facts S.certificate_bytes start.floor)) }
+    ensures votes { votes_of artifacts.new.items ≡ votes_of artifacts.old.items }
     ensures same { OnErr result (artifacts.new.items ≡ artifacts.old.items) }
     ensures refused { IfErr result (λ error. (error ≡ OutOfMemory) ⊎ IsRefusedBy D.eq
         (start_facts S.me S.participants L.terms L.elects_early S.certificate_bytes start)
@@ -179,6 +187,7 @@ pub(super) fn keep_finalization<S: CertificateScheme, D: Digest>(
 ) -> Result<(), RecoverError>
     ensures kept { OnOk result (entries_of S.certificate_bytes artifacts.new.items
         ≡ with_finalization_entry (entries_of S.certificate_bytes artifacts.old.items) (option_map (finalization_facts S.certificate_bytes) finalization)) }
+    ensures votes { votes_of artifacts.new.items ≡ votes_of artifacts.old.items }
     ensures same { OnErr result (artifacts.new.items ≡ artifacts.old.items) }
     ensures refused { IfErr result (λ error. error ≡ OutOfMemory) }
 {

@@ -89,6 +89,7 @@ impl Stored {
 
 impl<S: CertificateScheme, L: Elector<S>, D: Digest> Member<S, L, D> {
     ghost use Rattle.simplex_record.specs.Entries.{entries_of};
+    ghost use Rattle.simplex_record.specs.Votes.{votes_of};
     ghost use Rattle.simplex_member.specs.Journal.{IsResumed, IsNotResumed};
     ghost use Rattle.simplex_record.specs.Start.{start_facts};
 
@@ -108,9 +109,10 @@ impl<S: CertificateScheme, L: Elector<S>, D: Digest> Member<S, L, D> {
         entries: Vec<Artifact<S, D>>,
     ) -> Result<Member<S, L, D>, NotResumed<S, D>>
         requires { L.members start.settings.elector ≡ length (S.participants start.settings.scheme) }
-        ensures resumed { IfOk result (IsResumed D.eq L.elect stored
+        ensures resumed { IfOk result (λ member. IsResumed D.eq L.elect stored
             (entries_of S.certificate_bytes entries.items)
-            (start_facts S.me S.participants L.terms L.elects_early S.certificate_bytes start)) }
+            (start_facts S.me S.participants L.terms L.elects_early S.certificate_bytes start) member.facts) }
+        ensures votes { IfOk result (λ member. member.votes ≡ votes_of entries.items) }
         ensures refused { IfErr result (λ refusal. IsNotResumed D.eq L.elect stored
             (entries_of S.certificate_bytes entries.items)
             (start_facts S.me S.participants L.terms L.elects_early S.certificate_bytes start) refusal.error) }

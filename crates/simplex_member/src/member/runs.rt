@@ -1,4 +1,4 @@
-//! Runs of a member: calls and restarts, one after another.
+//! Runs of a member: calls, prunings of its record and restarts, one after another.
 
 ghost use Rattle.std.specs.Prelude.{◌≡◌, ◌⊎◌, ◌<◌, ◌++◌, ◌∷◌, [], IfOk, IfErr, length, map, vec_len, vec_capacity};
 ghost use Rattle.simplex_member.specs.Calls.{told};
@@ -17,6 +17,8 @@ use std::alloc::Global;
 #[derive(Drop)]
 pub enum Step<S: CertificateScheme, L: Elector<S>, D> {
     Call(Call<S, D>),
+    /// `Member::prune_record`, whose reply is `Reply::Unit`.
+    PruneRecord,
     Restart(Restart<S, L, D>),
 }
 
@@ -48,10 +50,10 @@ fn take_steps<S: Scheme<D>, L: Elector<S>, D: Digest>(
     steps: Vec<Step<S, L, D>>,
 ) -> Result<Vec<Reply<S, D>>, RecoverError>
     requires { AreSetUp S.participants L.members steps.items }
-    ensures whole { IfOk result (λ replies. IsRun D.eq L.elect member.old
-        (steps_of S.me S.participants L.terms L.elects_early S.certificate_bytes steps.items) (map (told S.certificate_bytes) replies.items) member.new) }
+    ensures whole { IfOk result (λ replies. IsRun D.eq L.elect member.old.facts
+        (steps_of S.me S.participants L.terms L.elects_early S.certificate_bytes steps.items) (map (told S.certificate_bytes) replies.items) member.new.facts) }
     ensures ended { IfErr result (λ error. (error ≡ OutOfMemory)
-        ⊎ EndsRun D.eq L.elect member.old (steps_of S.me S.participants L.terms L.elects_early S.certificate_bytes steps.items) error) }
+        ⊎ EndsRun D.eq L.elect member.old.facts (steps_of S.me S.participants L.terms L.elects_early S.certificate_bytes steps.items) error) }
 {
     let mut replies = Vec::new(alloc);
     for step in steps {
@@ -79,13 +81,17 @@ fn take_step<S: Scheme<D>, L: Elector<S>, D: Digest>(
     step: Step<S, L, D>,
 ) -> Result<Reply<S, D>, RecoverError>
     requires { IsSetUp S.participants L.members step }
-    ensures taken { IfOk result (λ reply. IsStep D.eq L.elect member.old
-        (step_facts S.me S.participants L.terms L.elects_early S.certificate_bytes step) (told S.certificate_bytes reply) member.new) }
-    ensures refused { IfErr result (λ error. IsRefused D.eq L.elect member.old
+    ensures taken { IfOk result (λ reply. IsStep D.eq L.elect member.old.facts
+        (step_facts S.me S.participants L.terms L.elects_early S.certificate_bytes step) (told S.certificate_bytes reply) member.new.facts) }
+    ensures refused { IfErr result (λ error. IsRefused D.eq L.elect member.old.facts
         (step_facts S.me S.participants L.terms L.elects_early S.certificate_bytes step) error) }
 {
     match step {
         Step::Call(call) => Ok(member.call(call)),
+        Step::PruneRecord => {
+            member.prune_record();
+            Ok(Reply::Unit)
+        }
         Step::Restart(restart) => {
             member.restart(restart)?;
             Ok(Reply::Restarted)

@@ -6,13 +6,14 @@ ghost use Rattle.std.specs.Prelude.{◌≡◌, ◌<◌, ◌++◌, Option, Some, 
 ghost use Rattle.simplex_voter.specs.Refusals.{plain_refusal, is_started};
 ghost use Rattle.simplex_voter.specs.Votes.{after_construct_notarize, after_construct_nullify, after_construct_finalize};
 ghost use Rattle.simplex_record.specs.Entries.{entries_of};
+ghost use Rattle.simplex_record.specs.Votes.{votes_of};
 ghost use Rattle.simplex_member.specs.Calls.{told, told_notarize, told_nullify, told_finalize, asked};
 ghost use Rattle.simplex_member.specs.Allowed.{fault_of};
 ghost use Rattle.simplex_member.specs.Made.{notarize_vote, nullify_vote, finalize_vote, unrepeated_vote, vote_entry, answer, after_call, recorded_by};
 ghost use Rattle.simplex_member.specs.Parts.{EndsBy};
 ghost use Rattle.simplex_member.specs.Openings.{no_openings};
 ghost use Rattle.simplex_member.specs.declared.member.call_error.CallError.TheVariants.{Lost};
-ghost use Rattle.simplex_member.specs.Signed.{IsSignedReply, signatures_of, notarize_signature, nullify_signature, finalize_signature};
+ghost use Rattle.simplex_member.specs.Signed.{signed_notarize, signed_nullify, signed_finalize};
 ghost use Rattle.simplex_types.specs.Signing.{IsSignedAs};
 ghost use Rattle.simplex_types.specs.declared.types.messages.Subject.TheVariants as Subject;
 
@@ -36,8 +37,9 @@ fn keep_nullify<S: CertificateScheme, D: Digest>(
     ensures same { IfOk result (λ kept. kept ≡ vote) }
     ensures kept { OnOk result (entries_of S.certificate_bytes artifacts.new.items
         ≡ entries_of S.certificate_bytes artifacts.old.items ++ unrepeated_vote (told_nullify vote)) }
-    ensures signature { OnOk result (signatures_of artifacts.new.items ≡ signatures_of artifacts.old.items ++ nullify_signature vote) }
+    ensures votes { OnOk result (votes_of artifacts.new.items ≡ votes_of artifacts.old.items ++ signed_nullify vote) }
     ensures same_record { OnErr result (entries_of S.certificate_bytes artifacts.new.items ≡ entries_of S.certificate_bytes artifacts.old.items) }
+    ensures same_votes { OnErr result (votes_of artifacts.new.items ≡ votes_of artifacts.old.items) }
     ensures lost { IfErr result (λ error. error ≡ Lost) }
 {
     if let Some((false, first)) = &vote {
@@ -59,8 +61,9 @@ fn keep_notarize<S: CertificateScheme, D: Digest>(
     ensures same { IfOk result (λ kept. kept ≡ vote) }
     ensures kept { OnOk result (entries_of S.certificate_bytes artifacts.new.items
         ≡ entries_of S.certificate_bytes artifacts.old.items ++ vote_entry (told_notarize vote)) }
-    ensures signature { OnOk result (signatures_of artifacts.new.items ≡ signatures_of artifacts.old.items ++ notarize_signature vote) }
+    ensures votes { OnOk result (votes_of artifacts.new.items ≡ votes_of artifacts.old.items ++ signed_notarize vote) }
     ensures same_record { OnErr result (entries_of S.certificate_bytes artifacts.new.items ≡ entries_of S.certificate_bytes artifacts.old.items) }
+    ensures same_votes { OnErr result (votes_of artifacts.new.items ≡ votes_of artifacts.old.items) }
     ensures lost { IfErr result (λ error. error ≡ Lost) }
 {
     if let Some(cast) = &vote {
@@ -82,8 +85,9 @@ fn keep_finalize<S: CertificateScheme, D: Digest>(
     ensures same { IfOk result (λ kept. kept ≡ vote) }
     ensures kept { OnOk result (entries_of S.certificate_bytes artifacts.new.items
         ≡ entries_of S.certificate_bytes artifacts.old.items ++ vote_entry (told_finalize vote)) }
-    ensures signature { OnOk result (signatures_of artifacts.new.items ≡ signatures_of artifacts.old.items ++ finalize_signature vote) }
+    ensures votes { OnOk result (votes_of artifacts.new.items ≡ votes_of artifacts.old.items ++ signed_finalize vote) }
     ensures same_record { OnErr result (entries_of S.certificate_bytes artifacts.new.items ≡ entries_of S.certificate_bytes artifacts.old.items) }
+    ensures same_votes { OnErr result (votes_of artifacts.new.items ≡ votes_of artifacts.old.items) }
     ensures lost { IfErr result (λ error. error ≡ Lost) }
 {
     if let Some(cast) = &vote {
@@ -108,12 +112,13 @@ pub(super) fn construct_nullify<S: Scheme<D>, L: Elector<S>, D: Digest>(
     ensures answer { IfOk result (λ vote. told_nullify vote ≡ nullify_vote state.old view) }
     ensures signed { IfOk result (λ vote. IfSome vote
         (λ v. IsSignedAs S.IsSignature state.old.me state.old.members (Subject.Nullify v.1.round) v.1.signature)) }
-    ensures copied { IfOk result (λ vote. signatures_of artifacts.new.items ≡ signatures_of artifacts.old.items ++ nullify_signature vote) }
+    ensures votes { IfOk result (λ vote. votes_of artifacts.new.items ≡ votes_of artifacts.old.items ++ signed_nullify vote) }
     ensures after { OnOk result (state.new ≡ after_construct_nullify state.old view) }
     ensures recorded { OnOk result (entries_of S.certificate_bytes artifacts.new.items
         ≡ entries_of S.certificate_bytes artifacts.old.items ++ unrepeated_vote (nullify_vote state.old view)) }
     ensures refused { IfErr result (EndsBy (plain_refusal state.old) state.old state.new) }
     ensures same_record { OnErr result (entries_of S.certificate_bytes artifacts.new.items ≡ entries_of S.certificate_bytes artifacts.old.items) }
+    ensures same_votes { OnErr result (votes_of artifacts.new.items ≡ votes_of artifacts.old.items) }
 {
     artifacts.reserve(1)?;
     match state.construct_nullify(view, reason) {
@@ -134,12 +139,13 @@ pub(super) fn construct_notarize<S: Scheme<D>, L: Elector<S>, D: Digest>(
     ensures answer { IfOk result (λ vote. told_notarize vote ≡ notarize_vote D.eq L.elect state.old view) }
     ensures signed { IfOk result (λ vote. IfSome vote
         (λ v. IsSignedAs S.IsSignature state.old.me state.old.members (Subject.Notarize v.proposal) v.signature)) }
-    ensures copied { IfOk result (λ vote. signatures_of artifacts.new.items ≡ signatures_of artifacts.old.items ++ notarize_signature vote) }
+    ensures votes { IfOk result (λ vote. votes_of artifacts.new.items ≡ votes_of artifacts.old.items ++ signed_notarize vote) }
     ensures after { OnOk result (state.new ≡ after_construct_notarize D.eq L.elect state.old view) }
     ensures recorded { OnOk result (entries_of S.certificate_bytes artifacts.new.items
         ≡ entries_of S.certificate_bytes artifacts.old.items ++ vote_entry (notarize_vote D.eq L.elect state.old view)) }
     ensures refused { IfErr result (EndsBy (plain_refusal state.old) state.old state.new) }
     ensures same_record { OnErr result (entries_of S.certificate_bytes artifacts.new.items ≡ entries_of S.certificate_bytes artifacts.old.items) }
+    ensures same_votes { OnErr result (votes_of artifacts.new.items ≡ votes_of artifacts.old.items) }
 {
     artifacts.reserve(1)?;
     match state.construct_notarize(view) {
@@ -160,12 +166,13 @@ pub(super) fn construct_finalize<S: Scheme<D>, L: Elector<S>, D: Digest>(
     ensures answer { IfOk result (λ vote. told_finalize vote ≡ finalize_vote L.elect state.old view) }
     ensures signed { IfOk result (λ vote. IfSome vote
         (λ v. IsSignedAs S.IsSignature state.old.me state.old.members (Subject.Finalize v.proposal) v.signature)) }
-    ensures copied { IfOk result (λ vote. signatures_of artifacts.new.items ≡ signatures_of artifacts.old.items ++ finalize_signature vote) }
+    ensures votes { IfOk result (λ vote. votes_of artifacts.new.items ≡ votes_of artifacts.old.items ++ signed_finalize vote) }
     ensures after { OnOk result (state.new ≡ after_construct_finalize L.elect state.old view) }
     ensures recorded { OnOk result (entries_of S.certificate_bytes artifacts.new.items
         ≡ entries_of S.certificate_bytes artifacts.old.items ++ vote_entry (finalize_vote L.elect state.old view)) }
     ensures refused { IfErr result (EndsBy (plain_refusal state.old) state.old state.new) }
     ensures same_record { OnErr result (entries_of S.certificate_bytes artifacts.new.items ≡ entries_of S.certificate_bytes artifacts.old.items) }
+    ensures same_votes { OnErr result (votes_of artifacts.new.items ≡ votes_of artifacts.old.items) }
 {
     artifacts.reserve(1)?;
     match state.construct_finalize(view) {

@@ -1,9 +1,10 @@
 //! What a restart leaves of a record.
 
-ghost use Rattle.std.specs.Prelude.{◌≡◌, ◌<◌, Bool, true, length, nat_le, filter};
+ghost use Rattle.std.specs.Prelude.{◌≡◌, ◌-◌, ◌<◌, Bool, true, length, nat_le, filter};
 ghost use Rattle.simplex_types.specs.Certificates.{artifact_facts};
 ghost use Rattle.simplex_record.specs.Entries.{entries_of, entry_view};
 ghost use Rattle.simplex_record.specs.Cuts.{is_vote, finalized_by, may_drop, without_last, finalized_in, pruned_entries};
+ghost use Rattle.simplex_record.specs.Votes.{votes_of, pruned_votes};
 
 use simplex_types::types::{Artifact, CertificateScheme, Digest, View, ViewDelta, Viewable};
 
@@ -15,7 +16,8 @@ pub fn drop_last<S: CertificateScheme, D: Digest>(
     closed: usize,
     count: u64,
 )
-    ensures { entries_of S.certificate_bytes entries.new.items ≡ without_last closed count (entries_of S.certificate_bytes entries.old.items) }
+    ensures left { entries_of S.certificate_bytes entries.new.items ≡ without_last closed count (entries_of S.certificate_bytes entries.old.items) }
+    ensures votes { votes_of entries.new.items ≡ votes_of entries.old.items }
 {
     let mut left = count;
     while left > 0 && may_drop(entries, closed) {
@@ -30,16 +32,30 @@ pub fn prune_record<S: CertificateScheme, D: Digest>(
     entries: &mut Vec<Artifact<S, D>>,
     retention: ViewDelta,
 )
-    ensures { entries_of S.certificate_bytes entries.new.items ≡ pruned_entries retention (entries_of S.certificate_bytes entries.old.items) }
+    ensures left { entries_of S.certificate_bytes entries.new.items ≡ pruned_entries retention (entries_of S.certificate_bytes entries.old.items) }
+    ensures votes { votes_of entries.new.items
+        ≡ pruned_votes retention (entries_of S.certificate_bytes entries.old.items) (votes_of entries.old.items) }
 {
-    let finalized = last_finalized(entries);
-    let lowest = View::new(finalized.get().saturating_sub(retention.get()));
+    let lowest = lowest_kept(entries, retention);
     keep_from(entries, lowest);
 }
 
+/// The lowest view that a record keeps: `retention` views below the highest finalized one, and 0 where there are fewer.
+pub fn lowest_kept<S: CertificateScheme, D: Digest>(
+    entries: &[Artifact<S, D>],
+    retention: ViewDelta,
+) -> View
+    ensures { result ≡ finalized_in (entries_of S.certificate_bytes entries.now) - retention }
+{
+    let finalized = last_finalized(entries);
+    View::new(finalized.get().saturating_sub(retention.get()))
+}
+
 /// Drops the entries below a view.
-fn keep_from<S: CertificateScheme, D: Digest>(entries: &mut Vec<Artifact<S, D>>, view: View)
-    ensures { entries_of S.certificate_bytes entries.new.items ≡ filter (λ e. nat_le view (entry_view e)) (entries_of S.certificate_bytes entries.old.items) }
+pub fn keep_from<S: CertificateScheme, D: Digest>(entries: &mut Vec<Artifact<S, D>>, view: View)
+    ensures left { entries_of S.certificate_bytes entries.new.items
+        ≡ filter (λ e. nat_le view (entry_view e)) (entries_of S.certificate_bytes entries.old.items) }
+    ensures votes { votes_of entries.new.items ≡ filter (λ v. nat_le view (entry_view v.vote)) (votes_of entries.old.items) }
 {
     entries.retain(|artifact| artifact.view() >= view);
 }

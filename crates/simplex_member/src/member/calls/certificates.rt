@@ -26,13 +26,14 @@ impl<S: Scheme<D>, L: Elector<S>, D: Digest> Member<S, L, D> {
         &mut self,
         notarization: Notarization<S, D>,
     ) -> Result<(bool, Option<S::PublicKey>), Refusal>
-        ensures made { IsCall D.eq L.elect self.old (AddNotarization (notarization_facts S.certificate_bytes notarization))
-            (told_of (λ added. Added added.0 added.1) result) self.new }
-        ensures answered { IfOk result (λ added. IsAnswered D.eq L.elect self.old
-            (AddNotarization (notarization_facts S.certificate_bytes notarization)) (Added added.0 added.1) self.new) }
-        ensures kept { IfErr result (λ refusal. Keeps self.old refusal self.new) }
-        ensures recorded { IfOk result (λ added. self.new.entries
-            ≡ self.old.entries ++ if_new added.0 (Accepted (Notarized (notarization_facts S.certificate_bytes notarization)))) }
+        ensures made { IsCall D.eq L.elect self.old.facts (AddNotarization (notarization_facts S.certificate_bytes notarization))
+            (told_of (λ added. Added added.0 added.1) result) self.new.facts }
+        ensures answered { IfOk result (λ added. IsAnswered D.eq L.elect self.old.facts
+            (AddNotarization (notarization_facts S.certificate_bytes notarization)) (Added added.0 added.1) self.new.facts) }
+        ensures kept { IfErr result (λ refusal. Keeps self.old.facts refusal self.new.facts) }
+        ensures votes { self.new.votes ≡ self.old.votes }
+        ensures recorded { IfOk result (λ added. self.new.facts.entries
+            ≡ self.old.facts.entries ++ if_new added.0 (Accepted (Notarized (notarization_facts S.certificate_bytes notarization)))) }
     {
         if self.failed {
             return Err(Refusal::Fault(Fault::Failed));
@@ -61,13 +62,14 @@ impl<S: Scheme<D>, L: Elector<S>, D: Digest> Member<S, L, D> {
         nullification: Nullification<S>,
         now: u64,
     ) -> Result<bool, Refusal>
-        ensures made { IsCall D.eq L.elect self.old (AddNullification (nullification_facts S.certificate_bytes nullification) now)
-            (told_of (λ is_new. AddedNullification is_new) result) self.new }
-        ensures answered { IfOk result (λ is_new. IsAnswered D.eq L.elect self.old
-            (AddNullification (nullification_facts S.certificate_bytes nullification) now) (AddedNullification is_new) self.new) }
-        ensures kept { IfErr result (λ refusal. Keeps self.old refusal self.new) }
-        ensures recorded { IfOk result (λ is_new. self.new.entries
-            ≡ self.old.entries ++ if_new is_new (Accepted (Nullified (nullification_facts S.certificate_bytes nullification)))) }
+        ensures made { IsCall D.eq L.elect self.old.facts (AddNullification (nullification_facts S.certificate_bytes nullification) now)
+            (told_of (λ is_new. AddedNullification is_new) result) self.new.facts }
+        ensures answered { IfOk result (λ is_new. IsAnswered D.eq L.elect self.old.facts
+            (AddNullification (nullification_facts S.certificate_bytes nullification) now) (AddedNullification is_new) self.new.facts) }
+        ensures kept { IfErr result (λ refusal. Keeps self.old.facts refusal self.new.facts) }
+        ensures votes { self.new.votes ≡ self.old.votes }
+        ensures recorded { IfOk result (λ is_new. self.new.facts.entries
+            ≡ self.old.facts.entries ++ if_new is_new (Accepted (Nullified (nullification_facts S.certificate_bytes nullification)))) }
     {
         if self.failed {
             return Err(Refusal::Fault(Fault::Failed));
@@ -99,13 +101,14 @@ impl<S: Scheme<D>, L: Elector<S>, D: Digest> Member<S, L, D> {
         finalization: Finalization<S, D>,
         now: u64,
     ) -> Result<(bool, Option<S::PublicKey>), Refusal>
-        ensures made { IsCall D.eq L.elect self.old (AddFinalization (finalization_facts S.certificate_bytes finalization) now)
-            (told_of (λ added. Added added.0 added.1) result) self.new }
-        ensures answered { IfOk result (λ added. IsAnswered D.eq L.elect self.old
-            (AddFinalization (finalization_facts S.certificate_bytes finalization) now) (Added added.0 added.1) self.new) }
-        ensures kept { IfErr result (λ refusal. Keeps self.old refusal self.new) }
-        ensures recorded { IfOk result (λ added. self.new.entries
-            ≡ self.old.entries ++ if_new added.0 (Accepted (Finalized (finalization_facts S.certificate_bytes finalization)))) }
+        ensures made { IsCall D.eq L.elect self.old.facts (AddFinalization (finalization_facts S.certificate_bytes finalization) now)
+            (told_of (λ added. Added added.0 added.1) result) self.new.facts }
+        ensures answered { IfOk result (λ added. IsAnswered D.eq L.elect self.old.facts
+            (AddFinalization (finalization_facts S.certificate_bytes finalization) now) (Added added.0 added.1) self.new.facts) }
+        ensures kept { IfErr result (λ refusal. Keeps self.old.facts refusal self.new.facts) }
+        ensures votes { self.new.votes ≡ self.old.votes }
+        ensures recorded { IfOk result (λ added. self.new.facts.entries
+            ≡ self.old.facts.entries ++ if_new added.0 (Accepted (Finalized (finalization_facts S.certificate_bytes finalization)))) }
     {
         if self.failed {
             return Err(Refusal::Fault(Fault::Failed));

@@ -1,6 +1,6 @@
 //! The calls on certifications, each as a method.
 
-ghost use Rattle.std.specs.Prelude.{option_map, IfOk, IfErr};
+ghost use Rattle.std.specs.Prelude.{◌≡◌, option_map, IfOk, IfErr};
 ghost use Rattle.simplex_types.specs.Certificates.{notarization_facts};
 ghost use Rattle.simplex_member.specs.Calls.{CertifyCandidates, SetCertifyHandle, Certified, Judged, Candidates, Done};
 ghost use Rattle.simplex_member.specs.Lives.{IsCall};
@@ -22,11 +22,12 @@ impl<S: Scheme<D>, L: Elector<S>, D: Digest> Member<S, L, D> {
     pub fn certify_candidates(
         &mut self,
     ) -> Result<(Vec<Proposal<D>>, Vec<CertificateFetch>), Refusal>
-        ensures made { IsCall D.eq L.elect self.old CertifyCandidates
-            (told_of (λ candidates. Candidates candidates.0.items candidates.1.items) result) self.new }
-        ensures answered { IfOk result (λ candidates. IsAnswered D.eq L.elect self.old CertifyCandidates
-            (Candidates candidates.0.items candidates.1.items) self.new) }
-        ensures kept { IfErr result (λ refusal. Keeps self.old refusal self.new) }
+        ensures made { IsCall D.eq L.elect self.old.facts CertifyCandidates
+            (told_of (λ candidates. Candidates candidates.0.items candidates.1.items) result) self.new.facts }
+        ensures answered { IfOk result (λ candidates. IsAnswered D.eq L.elect self.old.facts CertifyCandidates
+            (Candidates candidates.0.items candidates.1.items) self.new.facts) }
+        ensures kept { IfErr result (λ refusal. Keeps self.old.facts refusal self.new.facts) }
+        ensures votes { self.new.votes ≡ self.old.votes }
     {
         if self.failed {
             return Err(Refusal::Fault(Fault::Failed));
@@ -41,9 +42,10 @@ impl<S: Scheme<D>, L: Elector<S>, D: Digest> Member<S, L, D> {
     /// `NotAllowed` where the view's proposal wasn't offered, or has its verdict.
     #[tactic(auto, unfolding(crate::specs::Lives::IsCall))]
     pub fn set_certify_handle(&mut self, view: View, token: u64) -> Result<(), Refusal>
-        ensures made { IsCall D.eq L.elect self.old (SetCertifyHandle view token) (told_of (λ _. Done) result) self.new }
-        ensures answered { IfOk result (λ _. IsAnswered D.eq L.elect self.old (SetCertifyHandle view token) Done self.new) }
-        ensures kept { IfErr result (λ refusal. Keeps self.old refusal self.new) }
+        ensures made { IsCall D.eq L.elect self.old.facts (SetCertifyHandle view token) (told_of (λ _. Done) result) self.new.facts }
+        ensures answered { IfOk result (λ _. IsAnswered D.eq L.elect self.old.facts (SetCertifyHandle view token) Done self.new.facts) }
+        ensures kept { IfErr result (λ refusal. Keeps self.old.facts refusal self.new.facts) }
+        ensures votes { self.new.votes ≡ self.old.votes }
     {
         if self.failed {
             return Err(Refusal::Fault(Fault::Failed));
@@ -70,11 +72,12 @@ impl<S: Scheme<D>, L: Elector<S>, D: Digest> Member<S, L, D> {
         success: bool,
         now: u64,
     ) -> Result<Option<Notarization<S, D>>, Refusal>
-        ensures made { IsCall D.eq L.elect self.old (Certified view success now)
-            (told_of (λ notarization. Judged success (option_map (notarization_facts S.certificate_bytes) notarization)) result) self.new }
-        ensures answered { IfOk result (λ notarization. IsAnswered D.eq L.elect self.old (Certified view success now)
-            (Judged success (option_map (notarization_facts S.certificate_bytes) notarization)) self.new) }
-        ensures kept { IfErr result (λ refusal. Keeps self.old refusal self.new) }
+        ensures made { IsCall D.eq L.elect self.old.facts (Certified view success now)
+            (told_of (λ notarization. Judged success (option_map (notarization_facts S.certificate_bytes) notarization)) result) self.new.facts }
+        ensures answered { IfOk result (λ notarization. IsAnswered D.eq L.elect self.old.facts (Certified view success now)
+            (Judged success (option_map (notarization_facts S.certificate_bytes) notarization)) self.new.facts) }
+        ensures kept { IfErr result (λ refusal. Keeps self.old.facts refusal self.new.facts) }
+        ensures votes { self.new.votes ≡ self.old.votes }
     {
         if self.failed {
             return Err(Refusal::Fault(Fault::Failed));

@@ -1,6 +1,6 @@
 //! The calls on proposals of this member's own, each as a method.
 
-ghost use Rattle.std.specs.Prelude.{IfOk, IfErr};
+ghost use Rattle.std.specs.Prelude.{◌≡◌, IfOk, IfErr};
 ghost use Rattle.simplex_member.specs.Calls.{TryPropose, Proposed, SupersedeProposalRequest, PendingHandoffAbandonment, ReleaseProposalRequest, Requested, Answered, Abandoned, Released};
 ghost use Rattle.simplex_member.specs.Lives.{IsCall};
 ghost use Rattle.simplex_member.specs.Typed.{told_of, Keeps, IsAnswered};
@@ -18,9 +18,10 @@ impl<S: Scheme<D>, L: Elector<S>, D: Digest> Member<S, L, D> {
     /// `OutOfMemory`, with nothing changed: room for the request is made before the state is asked.
     #[tactic(auto, unfolding(crate::specs::Lives::IsCall))]
     pub fn try_propose(&mut self) -> Result<Option<ProposalRequest<D, S::PublicKey>>, Refusal>
-        ensures made { IsCall D.eq L.elect self.old TryPropose (told_of (λ request. Requested request) result) self.new }
-        ensures answered { IfOk result (λ request. IsAnswered D.eq L.elect self.old TryPropose (Requested request) self.new) }
-        ensures kept { IfErr result (λ refusal. Keeps self.old refusal self.new) }
+        ensures made { IsCall D.eq L.elect self.old.facts TryPropose (told_of (λ request. Requested request) result) self.new.facts }
+        ensures answered { IfOk result (λ request. IsAnswered D.eq L.elect self.old.facts TryPropose (Requested request) self.new.facts) }
+        ensures kept { IfErr result (λ refusal. Keeps self.old.facts refusal self.new.facts) }
+        ensures votes { self.new.votes ≡ self.old.votes }
     {
         if self.failed {
             return Err(Refusal::Fault(Fault::Failed));
@@ -38,9 +39,10 @@ impl<S: Scheme<D>, L: Elector<S>, D: Digest> Member<S, L, D> {
     /// `NotAllowed` where no request is open in the view.
     #[tactic(auto, unfolding(crate::specs::Lives::IsCall))]
     pub fn proposed(&mut self, view: View, payload: D, now: u64) -> Result<bool, Refusal>
-        ensures made { IsCall D.eq L.elect self.old (Proposed view payload now) (told_of (λ is_held. Answered is_held) result) self.new }
-        ensures answered { IfOk result (λ is_held. IsAnswered D.eq L.elect self.old (Proposed view payload now) (Answered is_held) self.new) }
-        ensures kept { IfErr result (λ refusal. Keeps self.old refusal self.new) }
+        ensures made { IsCall D.eq L.elect self.old.facts (Proposed view payload now) (told_of (λ is_held. Answered is_held) result) self.new.facts }
+        ensures answered { IfOk result (λ is_held. IsAnswered D.eq L.elect self.old.facts (Proposed view payload now) (Answered is_held) self.new.facts) }
+        ensures kept { IfErr result (λ refusal. Keeps self.old.facts refusal self.new.facts) }
+        ensures votes { self.new.votes ≡ self.old.votes }
     {
         if self.failed {
             return Err(Refusal::Fault(Fault::Failed));
@@ -59,10 +61,12 @@ impl<S: Scheme<D>, L: Elector<S>, D: Digest> Member<S, L, D> {
     /// `NotAllowed` where no request is open in the view.
     #[tactic(auto, unfolding(crate::specs::Lives::IsCall))]
     pub fn supersede_proposal_request(&mut self, view: View) -> Result<bool, Refusal>
-        ensures made { IsCall D.eq L.elect self.old (SupersedeProposalRequest view)
-            (told_of (λ is_superseded. Answered is_superseded) result) self.new }
-        ensures answered { IfOk result (λ is_superseded. IsAnswered D.eq L.elect self.old (SupersedeProposalRequest view) (Answered is_superseded) self.new) }
-        ensures kept { IfErr result (λ refusal. Keeps self.old refusal self.new) }
+        ensures made { IsCall D.eq L.elect self.old.facts (SupersedeProposalRequest view)
+            (told_of (λ is_superseded. Answered is_superseded) result) self.new.facts }
+        ensures answered { IfOk result (λ is_superseded. IsAnswered D.eq L.elect self.old.facts
+            (SupersedeProposalRequest view) (Answered is_superseded) self.new.facts) }
+        ensures kept { IfErr result (λ refusal. Keeps self.old.facts refusal self.new.facts) }
+        ensures votes { self.new.votes ≡ self.old.votes }
     {
         if self.failed {
             return Err(Refusal::Fault(Fault::Failed));
@@ -85,9 +89,10 @@ impl<S: Scheme<D>, L: Elector<S>, D: Digest> Member<S, L, D> {
         &mut self,
         view: View,
     ) -> Result<Option<HandoffAbandonedReason>, Refusal>
-        ensures made { IsCall D.eq L.elect self.old (PendingHandoffAbandonment view) (told_of (λ reason. Abandoned reason) result) self.new }
-        ensures answered { IfOk result (λ reason. IsAnswered D.eq L.elect self.old (PendingHandoffAbandonment view) (Abandoned reason) self.new) }
-        ensures kept { IfErr result (λ refusal. Keeps self.old refusal self.new) }
+        ensures made { IsCall D.eq L.elect self.old.facts (PendingHandoffAbandonment view) (told_of (λ reason. Abandoned reason) result) self.new.facts }
+        ensures answered { IfOk result (λ reason. IsAnswered D.eq L.elect self.old.facts (PendingHandoffAbandonment view) (Abandoned reason) self.new.facts) }
+        ensures kept { IfErr result (λ refusal. Keeps self.old.facts refusal self.new.facts) }
+        ensures votes { self.new.votes ≡ self.old.votes }
     {
         if self.failed {
             return Err(Refusal::Fault(Fault::Failed));
@@ -102,9 +107,10 @@ impl<S: Scheme<D>, L: Elector<S>, D: Digest> Member<S, L, D> {
     /// one was open.
     #[tactic(auto, unfolding(crate::specs::Lives::IsCall))]
     pub fn release_proposal_request(&mut self, view: View) -> Result<bool, Refusal>
-        ensures made { IsCall D.eq L.elect self.old (ReleaseProposalRequest view) (told_of (λ was_open. Released was_open) result) self.new }
-        ensures answered { IfOk result (λ was_open. IsAnswered D.eq L.elect self.old (ReleaseProposalRequest view) (Released was_open) self.new) }
-        ensures kept { IfErr result (λ refusal. Keeps self.old refusal self.new) }
+        ensures made { IsCall D.eq L.elect self.old.facts (ReleaseProposalRequest view) (told_of (λ was_open. Released was_open) result) self.new.facts }
+        ensures answered { IfOk result (λ was_open. IsAnswered D.eq L.elect self.old.facts (ReleaseProposalRequest view) (Released was_open) self.new.facts) }
+        ensures kept { IfErr result (λ refusal. Keeps self.old.facts refusal self.new.facts) }
+        ensures votes { self.new.votes ≡ self.old.votes }
     {
         if self.failed {
             return Err(Refusal::Fault(Fault::Failed));

@@ -1,6 +1,6 @@
 //! The calls that hand out certificates or drop views, each as a method.
 
-ghost use Rattle.std.specs.Prelude.{option_map, OnOk, IsNone, IfOk, IfErr};
+ghost use Rattle.std.specs.Prelude.{◌≡◌, option_map, OnOk, IsNone, IfOk, IfErr};
 ghost use Rattle.simplex_types.specs.Certificates.{certificate_facts};
 ghost use Rattle.simplex_member.specs.Calls.{BroadcastNotarization, BroadcastNullification, BroadcastFinalization, GetBestCertificate, Prune, Handed, Dropped};
 ghost use Rattle.simplex_voter.specs.Serving.{broadcast_notarization_answer, broadcast_nullification_answer, broadcast_finalization_answer};
@@ -24,13 +24,14 @@ impl<S: Scheme<D>, L: Elector<S>, D: Digest> Member<S, L, D> {
         &mut self,
         view: View,
     ) -> Result<Option<Certificate<S, D>>, Refusal>
-        ensures made { IsCall D.eq L.elect self.old (BroadcastNotarization view)
-            (told_of (λ certificate. Handed (option_map (certificate_facts S.certificate_bytes) certificate)) result) self.new }
-        ensures answered { IfOk result (λ certificate. IsAnswered D.eq L.elect self.old (BroadcastNotarization view)
-            (Handed (option_map (certificate_facts S.certificate_bytes) certificate)) self.new) }
-        ensures kept { IfErr result (λ refusal. Keeps self.old refusal self.new) }
-        ensures once { OnOk result (HasNoneLeft broadcast_notarization_answer self.new view) }
-        ensures none_left { HasNoneLeft broadcast_notarization_answer self.old view → IfOk result (λ certificate. IsNone certificate) }
+        ensures made { IsCall D.eq L.elect self.old.facts (BroadcastNotarization view)
+            (told_of (λ certificate. Handed (option_map (certificate_facts S.certificate_bytes) certificate)) result) self.new.facts }
+        ensures answered { IfOk result (λ certificate. IsAnswered D.eq L.elect self.old.facts (BroadcastNotarization view)
+            (Handed (option_map (certificate_facts S.certificate_bytes) certificate)) self.new.facts) }
+        ensures kept { IfErr result (λ refusal. Keeps self.old.facts refusal self.new.facts) }
+        ensures votes { self.new.votes ≡ self.old.votes }
+        ensures once { OnOk result (HasNoneLeft broadcast_notarization_answer self.new.facts view) }
+        ensures none_left { HasNoneLeft broadcast_notarization_answer self.old.facts view → IfOk result (λ certificate. IsNone certificate) }
     {
         if self.failed {
             return Err(Refusal::Fault(Fault::Failed));
@@ -48,13 +49,14 @@ impl<S: Scheme<D>, L: Elector<S>, D: Digest> Member<S, L, D> {
         &mut self,
         view: View,
     ) -> Result<Option<Certificate<S, D>>, Refusal>
-        ensures made { IsCall D.eq L.elect self.old (BroadcastNullification view)
-            (told_of (λ certificate. Handed (option_map (certificate_facts S.certificate_bytes) certificate)) result) self.new }
-        ensures answered { IfOk result (λ certificate. IsAnswered D.eq L.elect self.old (BroadcastNullification view)
-            (Handed (option_map (certificate_facts S.certificate_bytes) certificate)) self.new) }
-        ensures kept { IfErr result (λ refusal. Keeps self.old refusal self.new) }
-        ensures once { OnOk result (HasNoneLeft broadcast_nullification_answer self.new view) }
-        ensures none_left { HasNoneLeft broadcast_nullification_answer self.old view → IfOk result (λ certificate. IsNone certificate) }
+        ensures made { IsCall D.eq L.elect self.old.facts (BroadcastNullification view)
+            (told_of (λ certificate. Handed (option_map (certificate_facts S.certificate_bytes) certificate)) result) self.new.facts }
+        ensures answered { IfOk result (λ certificate. IsAnswered D.eq L.elect self.old.facts (BroadcastNullification view)
+            (Handed (option_map (certificate_facts S.certificate_bytes) certificate)) self.new.facts) }
+        ensures kept { IfErr result (λ refusal. Keeps self.old.facts refusal self.new.facts) }
+        ensures votes { self.new.votes ≡ self.old.votes }
+        ensures once { OnOk result (HasNoneLeft broadcast_nullification_answer self.new.facts view) }
+        ensures none_left { HasNoneLeft broadcast_nullification_answer self.old.facts view → IfOk result (λ certificate. IsNone certificate) }
     {
         if self.failed {
             return Err(Refusal::Fault(Fault::Failed));
@@ -72,13 +74,14 @@ impl<S: Scheme<D>, L: Elector<S>, D: Digest> Member<S, L, D> {
         &mut self,
         view: View,
     ) -> Result<Option<Certificate<S, D>>, Refusal>
-        ensures made { IsCall D.eq L.elect self.old (BroadcastFinalization view)
-            (told_of (λ certificate. Handed (option_map (certificate_facts S.certificate_bytes) certificate)) result) self.new }
-        ensures answered { IfOk result (λ certificate. IsAnswered D.eq L.elect self.old (BroadcastFinalization view)
-            (Handed (option_map (certificate_facts S.certificate_bytes) certificate)) self.new) }
-        ensures kept { IfErr result (λ refusal. Keeps self.old refusal self.new) }
-        ensures once { OnOk result (HasNoneLeft broadcast_finalization_answer self.new view) }
-        ensures none_left { HasNoneLeft broadcast_finalization_answer self.old view → IfOk result (λ certificate. IsNone certificate) }
+        ensures made { IsCall D.eq L.elect self.old.facts (BroadcastFinalization view)
+            (told_of (λ certificate. Handed (option_map (certificate_facts S.certificate_bytes) certificate)) result) self.new.facts }
+        ensures answered { IfOk result (λ certificate. IsAnswered D.eq L.elect self.old.facts (BroadcastFinalization view)
+            (Handed (option_map (certificate_facts S.certificate_bytes) certificate)) self.new.facts) }
+        ensures kept { IfErr result (λ refusal. Keeps self.old.facts refusal self.new.facts) }
+        ensures votes { self.new.votes ≡ self.old.votes }
+        ensures once { OnOk result (HasNoneLeft broadcast_finalization_answer self.new.facts view) }
+        ensures none_left { HasNoneLeft broadcast_finalization_answer self.old.facts view → IfOk result (λ certificate. IsNone certificate) }
     {
         if self.failed {
             return Err(Refusal::Fault(Fault::Failed));
@@ -93,11 +96,12 @@ impl<S: Scheme<D>, L: Elector<S>, D: Digest> Member<S, L, D> {
     /// `OutOfMemory`, with nothing changed, and never where there is none.
     #[tactic(auto, unfolding(crate::specs::Lives::IsCall))]
     pub fn get_best_certificate(&mut self) -> Result<Option<Certificate<S, D>>, Refusal>
-        ensures made { IsCall D.eq L.elect self.old GetBestCertificate
-            (told_of (λ certificate. Handed (option_map (certificate_facts S.certificate_bytes) certificate)) result) self.new }
-        ensures answered { IfOk result (λ certificate. IsAnswered D.eq L.elect self.old GetBestCertificate
-            (Handed (option_map (certificate_facts S.certificate_bytes) certificate)) self.new) }
-        ensures kept { IfErr result (λ refusal. Keeps self.old refusal self.new) }
+        ensures made { IsCall D.eq L.elect self.old.facts GetBestCertificate
+            (told_of (λ certificate. Handed (option_map (certificate_facts S.certificate_bytes) certificate)) result) self.new.facts }
+        ensures answered { IfOk result (λ certificate. IsAnswered D.eq L.elect self.old.facts GetBestCertificate
+            (Handed (option_map (certificate_facts S.certificate_bytes) certificate)) self.new.facts) }
+        ensures kept { IfErr result (λ refusal. Keeps self.old.facts refusal self.new.facts) }
+        ensures votes { self.new.votes ≡ self.old.votes }
     {
         if self.failed {
             return Err(Refusal::Fault(Fault::Failed));
@@ -110,9 +114,10 @@ impl<S: Scheme<D>, L: Elector<S>, D: Digest> Member<S, L, D> {
     /// `OutOfMemory`.
     #[tactic(auto, unfolding(crate::specs::Lives::IsCall))]
     pub fn prune(&mut self) -> Result<Vec<View>, Refusal>
-        ensures made { IsCall D.eq L.elect self.old Prune (told_of (λ views. Dropped views.items) result) self.new }
-        ensures answered { IfOk result (λ views. IsAnswered D.eq L.elect self.old Prune (Dropped views.items) self.new) }
-        ensures kept { IfErr result (λ refusal. Keeps self.old refusal self.new) }
+        ensures made { IsCall D.eq L.elect self.old.facts Prune (told_of (λ views. Dropped views.items) result) self.new.facts }
+        ensures answered { IfOk result (λ views. IsAnswered D.eq L.elect self.old.facts Prune (Dropped views.items) self.new.facts) }
+        ensures kept { IfErr result (λ refusal. Keeps self.old.facts refusal self.new.facts) }
+        ensures votes { self.new.votes ≡ self.old.votes }
     {
         if self.failed {
             return Err(Refusal::Fault(Fault::Failed));

@@ -1,6 +1,6 @@
 //! The calls on timeouts, each as a method.
 
-ghost use Rattle.std.specs.Prelude.{Some, IfOk, IfErr};
+ghost use Rattle.std.specs.Prelude.{◌≡◌, Some, IfOk, IfErr};
 ghost use Rattle.simplex_member.specs.Calls.{TriggerTimeout, NextTimeout, TimesOut, Triggered};
 ghost use Rattle.simplex_member.specs.Lives.{IsCall};
 ghost use Rattle.simplex_member.specs.Typed.{told_of, Keeps, IsAnswered};
@@ -21,9 +21,10 @@ impl<S: Scheme<D>, L: Elector<S>, D: Digest> Member<S, L, D> {
         reason: TimeoutReason,
         now: u64,
     ) -> Result<bool, Refusal>
-        ensures made { IsCall D.eq L.elect self.old (TriggerTimeout view reason now) (told_of (λ latched. Triggered latched) result) self.new }
-        ensures answered { IfOk result (λ latched. IsAnswered D.eq L.elect self.old (TriggerTimeout view reason now) (Triggered latched) self.new) }
-        ensures kept { IfErr result (λ refusal. Keeps self.old refusal self.new) }
+        ensures made { IsCall D.eq L.elect self.old.facts (TriggerTimeout view reason now) (told_of (λ latched. Triggered latched) result) self.new.facts }
+        ensures answered { IfOk result (λ latched. IsAnswered D.eq L.elect self.old.facts (TriggerTimeout view reason now) (Triggered latched) self.new.facts) }
+        ensures kept { IfErr result (λ refusal. Keeps self.old.facts refusal self.new.facts) }
+        ensures votes { self.new.votes ≡ self.old.votes }
     {
         if self.failed {
             return Err(Refusal::Fault(Fault::Failed));
@@ -36,9 +37,10 @@ impl<S: Scheme<D>, L: Elector<S>, D: Digest> Member<S, L, D> {
     /// `NotAllowed` where the current view has no timeout. `TimeOverflow` where the moment of a repeat passes 2^64 - 1.
     #[tactic(auto, unfolding(crate::specs::Lives::IsCall))]
     pub fn next_timeout(&mut self, now: u64) -> Result<(u64, TimeoutReason), Refusal>
-        ensures made { IsCall D.eq L.elect self.old (NextTimeout now) (told_of (λ timeout. TimesOut (Some timeout)) result) self.new }
-        ensures answered { IfOk result (λ timeout. IsAnswered D.eq L.elect self.old (NextTimeout now) (TimesOut (Some timeout)) self.new) }
-        ensures kept { IfErr result (λ refusal. Keeps self.old refusal self.new) }
+        ensures made { IsCall D.eq L.elect self.old.facts (NextTimeout now) (told_of (λ timeout. TimesOut (Some timeout)) result) self.new.facts }
+        ensures answered { IfOk result (λ timeout. IsAnswered D.eq L.elect self.old.facts (NextTimeout now) (TimesOut (Some timeout)) self.new.facts) }
+        ensures kept { IfErr result (λ refusal. Keeps self.old.facts refusal self.new.facts) }
+        ensures votes { self.new.votes ≡ self.old.votes }
     {
         if self.failed {
             return Err(Refusal::Fault(Fault::Failed));

@@ -1,6 +1,6 @@
 //! The calls on proposals of other leaders, each as a method.
 
-ghost use Rattle.std.specs.Prelude.{IfOk, IfErr};
+ghost use Rattle.std.specs.Prelude.{◌≡◌, IfOk, IfErr};
 ghost use Rattle.simplex_member.specs.Calls.{SetProposal, TryVerify, Verified, VerificationFailed, Standing, Answered, Done};
 ghost use Rattle.simplex_member.specs.Lives.{IsCall};
 ghost use Rattle.simplex_member.specs.Typed.{told_of, Keeps, IsAnswered};
@@ -20,9 +20,10 @@ impl<S: Scheme<D>, L: Elector<S>, D: Digest> Member<S, L, D> {
     /// parent's is above 2^63 - 1; `OutOfMemory`.
     #[tactic(auto, unfolding(crate::specs::Lives::IsCall))]
     pub fn set_proposal(&mut self, view: View, proposal: Proposal<D>) -> Result<bool, Refusal>
-        ensures made { IsCall D.eq L.elect self.old (SetProposal view proposal) (told_of (λ is_new. Answered is_new) result) self.new }
-        ensures answered { IfOk result (λ is_new. IsAnswered D.eq L.elect self.old (SetProposal view proposal) (Answered is_new) self.new) }
-        ensures kept { IfErr result (λ refusal. Keeps self.old refusal self.new) }
+        ensures made { IsCall D.eq L.elect self.old.facts (SetProposal view proposal) (told_of (λ is_new. Answered is_new) result) self.new.facts }
+        ensures answered { IfOk result (λ is_new. IsAnswered D.eq L.elect self.old.facts (SetProposal view proposal) (Answered is_new) self.new.facts) }
+        ensures kept { IfErr result (λ refusal. Keeps self.old.facts refusal self.new.facts) }
+        ensures votes { self.new.votes ≡ self.old.votes }
     {
         if self.failed {
             return Err(Refusal::Fault(Fault::Failed));
@@ -41,9 +42,10 @@ impl<S: Scheme<D>, L: Elector<S>, D: Digest> Member<S, L, D> {
     /// `OutOfMemory`, with nothing changed: room for the verification is made before the state is asked.
     #[tactic(auto, unfolding(crate::specs::Lives::IsCall))]
     pub fn try_verify(&mut self) -> Result<Verify<D, S::PublicKey>, Refusal>
-        ensures made { IsCall D.eq L.elect self.old TryVerify (told_of (λ verify. Standing verify) result) self.new }
-        ensures answered { IfOk result (λ verify. IsAnswered D.eq L.elect self.old TryVerify (Standing verify) self.new) }
-        ensures kept { IfErr result (λ refusal. Keeps self.old refusal self.new) }
+        ensures made { IsCall D.eq L.elect self.old.facts TryVerify (told_of (λ verify. Standing verify) result) self.new.facts }
+        ensures answered { IfOk result (λ verify. IsAnswered D.eq L.elect self.old.facts TryVerify (Standing verify) self.new.facts) }
+        ensures kept { IfErr result (λ refusal. Keeps self.old.facts refusal self.new.facts) }
+        ensures votes { self.new.votes ≡ self.old.votes }
     {
         if self.failed {
             return Err(Refusal::Fault(Fault::Failed));
@@ -60,9 +62,10 @@ impl<S: Scheme<D>, L: Elector<S>, D: Digest> Member<S, L, D> {
     /// `NotAllowed` where no proposal of the view is being verified.
     #[tactic(auto, unfolding(crate::specs::Lives::IsCall))]
     pub fn verified(&mut self, view: View) -> Result<bool, Refusal>
-        ensures made { IsCall D.eq L.elect self.old (Verified view) (told_of (λ is_marked. Answered is_marked) result) self.new }
-        ensures answered { IfOk result (λ is_marked. IsAnswered D.eq L.elect self.old (Verified view) (Answered is_marked) self.new) }
-        ensures kept { IfErr result (λ refusal. Keeps self.old refusal self.new) }
+        ensures made { IsCall D.eq L.elect self.old.facts (Verified view) (told_of (λ is_marked. Answered is_marked) result) self.new.facts }
+        ensures answered { IfOk result (λ is_marked. IsAnswered D.eq L.elect self.old.facts (Verified view) (Answered is_marked) self.new.facts) }
+        ensures kept { IfErr result (λ refusal. Keeps self.old.facts refusal self.new.facts) }
+        ensures votes { self.new.votes ≡ self.old.votes }
     {
         if self.failed {
             return Err(Refusal::Fault(Fault::Failed));
@@ -86,9 +89,10 @@ impl<S: Scheme<D>, L: Elector<S>, D: Digest> Member<S, L, D> {
         reason: TimeoutReason,
         now: u64,
     ) -> Result<(), Refusal>
-        ensures made { IsCall D.eq L.elect self.old (VerificationFailed view reason now) (told_of (λ _. Done) result) self.new }
-        ensures answered { IfOk result (λ _. IsAnswered D.eq L.elect self.old (VerificationFailed view reason now) Done self.new) }
-        ensures kept { IfErr result (λ refusal. Keeps self.old refusal self.new) }
+        ensures made { IsCall D.eq L.elect self.old.facts (VerificationFailed view reason now) (told_of (λ _. Done) result) self.new.facts }
+        ensures answered { IfOk result (λ _. IsAnswered D.eq L.elect self.old.facts (VerificationFailed view reason now) Done self.new.facts) }
+        ensures kept { IfErr result (λ refusal. Keeps self.old.facts refusal self.new.facts) }
+        ensures votes { self.new.votes ≡ self.old.votes }
     {
         if self.failed {
             return Err(Refusal::Fault(Fault::Failed));

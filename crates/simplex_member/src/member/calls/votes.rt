@@ -1,11 +1,11 @@
 //! The calls for votes, each as a method.
 
-ghost use Rattle.std.specs.Prelude.{◌++◌, ◌≡◌, IsNone, IfOk, IfErr, IfSome};
+ghost use Rattle.std.specs.Prelude.{◌++◌, ◌≡◌, IsNone, IfOk, IfErr, IfSome, OnErr};
 ghost use Rattle.simplex_member.specs.Calls.{ConstructNotarize, ConstructNullify, ConstructFinalize, told_notarize, told_nullify, told_finalize};
 ghost use Rattle.simplex_member.specs.Calls as told;
 ghost use Rattle.simplex_member.specs.Lives.{IsCall};
 ghost use Rattle.simplex_member.specs.Made.{unrepeated_vote, vote_entry};
-ghost use Rattle.simplex_member.specs.Signed.{IsSignedReply};
+ghost use Rattle.simplex_member.specs.Signed.{IsSignedReply, signed_notarize, signed_nullify, signed_finalize};
 ghost use Rattle.simplex_member.specs.Typed.{told_of, Keeps, IsAnswered, HasNotarized, HasNullified, HasFinalized};
 ghost use Rattle.simplex_member.specs.declared.member.calls.Reply.TheVariants as reply;
 
@@ -22,13 +22,17 @@ impl<S: Scheme<D>, L: Elector<S>, D: Digest> Member<S, L, D> {
     /// `OutOfMemory`: nothing is answered that the record doesn't hold.
     #[tactic(auto, unfolding(crate::specs::Lives::IsCall))]
     pub fn construct_notarize(&mut self, view: View) -> Result<Option<Notarize<S, D>>, Refusal>
-        ensures made { IsCall D.eq L.elect self.old (ConstructNotarize view) (told_of (λ vote. told.Notarize (told_notarize vote)) result) self.new }
-        ensures answered { IfOk result (λ vote. IsAnswered D.eq L.elect self.old (ConstructNotarize view) (told.Notarize (told_notarize vote)) self.new) }
-        ensures kept { IfErr result (λ refusal. Keeps self.old refusal self.new) }
-        ensures signed { IfOk result (λ vote. IfSome self.old.life (IsSignedReply S.IsSignature (reply.Notarize vote))) }
-        ensures recorded { IfOk result (λ vote. self.new.entries ≡ self.old.entries ++ vote_entry (told_notarize vote)) }
-        ensures decided { IfOk result (λ vote. IfSome vote (λ _. HasNotarized self.new view)) }
-        ensures once { HasNotarized self.old view → IfOk result (λ vote. IsNone vote) }
+        ensures made { IsCall D.eq L.elect self.old.facts (ConstructNotarize view)
+            (told_of (λ vote. told.Notarize (told_notarize vote)) result) self.new.facts }
+        ensures answered { IfOk result (λ vote. IsAnswered D.eq L.elect self.old.facts (ConstructNotarize view)
+            (told.Notarize (told_notarize vote)) self.new.facts) }
+        ensures kept { IfErr result (λ refusal. Keeps self.old.facts refusal self.new.facts) }
+        ensures signed { IfOk result (λ vote. IfSome self.old.facts.life (IsSignedReply S.IsSignature (reply.Notarize vote))) }
+        ensures recorded { IfOk result (λ vote. self.new.facts.entries ≡ self.old.facts.entries ++ vote_entry (told_notarize vote)) }
+        ensures votes { IfOk result (λ vote. self.new.votes ≡ self.old.votes ++ signed_notarize vote) }
+        ensures same_votes { OnErr result (self.new.votes ≡ self.old.votes) }
+        ensures decided { IfOk result (λ vote. IfSome vote (λ _. HasNotarized self.new.facts view)) }
+        ensures once { HasNotarized self.old.facts view → IfOk result (λ vote. IsNone vote) }
     {
         if self.failed {
             return Err(Refusal::Fault(Fault::Failed));
@@ -48,13 +52,17 @@ impl<S: Scheme<D>, L: Elector<S>, D: Digest> Member<S, L, D> {
         view: View,
         reason: TimeoutReason,
     ) -> Result<Option<(bool, Nullify<S>)>, Refusal>
-        ensures made { IsCall D.eq L.elect self.old (ConstructNullify view) (told_of (λ vote. told.Nullify (told_nullify vote)) result) self.new }
-        ensures answered { IfOk result (λ vote. IsAnswered D.eq L.elect self.old (ConstructNullify view) (told.Nullify (told_nullify vote)) self.new) }
-        ensures kept { IfErr result (λ refusal. Keeps self.old refusal self.new) }
-        ensures signed { IfOk result (λ vote. IfSome self.old.life (IsSignedReply S.IsSignature (reply.Nullify vote))) }
-        ensures recorded { IfOk result (λ vote. self.new.entries ≡ self.old.entries ++ unrepeated_vote (told_nullify vote)) }
-        ensures decided { IfOk result (λ vote. IfSome vote (λ _. HasNullified self.new view)) }
-        ensures barred { HasFinalized self.old view → IfOk result (λ vote. IsNone vote) }
+        ensures made { IsCall D.eq L.elect self.old.facts (ConstructNullify view)
+            (told_of (λ vote. told.Nullify (told_nullify vote)) result) self.new.facts }
+        ensures answered { IfOk result (λ vote. IsAnswered D.eq L.elect self.old.facts (ConstructNullify view)
+            (told.Nullify (told_nullify vote)) self.new.facts) }
+        ensures kept { IfErr result (λ refusal. Keeps self.old.facts refusal self.new.facts) }
+        ensures signed { IfOk result (λ vote. IfSome self.old.facts.life (IsSignedReply S.IsSignature (reply.Nullify vote))) }
+        ensures recorded { IfOk result (λ vote. self.new.facts.entries ≡ self.old.facts.entries ++ unrepeated_vote (told_nullify vote)) }
+        ensures votes { IfOk result (λ vote. self.new.votes ≡ self.old.votes ++ signed_nullify vote) }
+        ensures same_votes { OnErr result (self.new.votes ≡ self.old.votes) }
+        ensures decided { IfOk result (λ vote. IfSome vote (λ _. HasNullified self.new.facts view)) }
+        ensures barred { HasFinalized self.old.facts view → IfOk result (λ vote. IsNone vote) }
     {
         if self.failed {
             return Err(Refusal::Fault(Fault::Failed));
@@ -75,14 +83,18 @@ impl<S: Scheme<D>, L: Elector<S>, D: Digest> Member<S, L, D> {
     /// `OutOfMemory`: nothing is answered that the record doesn't hold.
     #[tactic(auto, unfolding(crate::specs::Lives::IsCall))]
     pub fn construct_finalize(&mut self, view: View) -> Result<Option<Finalize<S, D>>, Refusal>
-        ensures made { IsCall D.eq L.elect self.old (ConstructFinalize view) (told_of (λ vote. told.Finalize (told_finalize vote)) result) self.new }
-        ensures answered { IfOk result (λ vote. IsAnswered D.eq L.elect self.old (ConstructFinalize view) (told.Finalize (told_finalize vote)) self.new) }
-        ensures kept { IfErr result (λ refusal. Keeps self.old refusal self.new) }
-        ensures signed { IfOk result (λ vote. IfSome self.old.life (IsSignedReply S.IsSignature (reply.Finalize vote))) }
-        ensures recorded { IfOk result (λ vote. self.new.entries ≡ self.old.entries ++ vote_entry (told_finalize vote)) }
-        ensures decided { IfOk result (λ vote. IfSome vote (λ _. HasFinalized self.new view)) }
-        ensures once { HasFinalized self.old view → IfOk result (λ vote. IsNone vote) }
-        ensures barred { HasNullified self.old view → IfOk result (λ vote. IsNone vote) }
+        ensures made { IsCall D.eq L.elect self.old.facts (ConstructFinalize view)
+            (told_of (λ vote. told.Finalize (told_finalize vote)) result) self.new.facts }
+        ensures answered { IfOk result (λ vote. IsAnswered D.eq L.elect self.old.facts (ConstructFinalize view)
+            (told.Finalize (told_finalize vote)) self.new.facts) }
+        ensures kept { IfErr result (λ refusal. Keeps self.old.facts refusal self.new.facts) }
+        ensures signed { IfOk result (λ vote. IfSome self.old.facts.life (IsSignedReply S.IsSignature (reply.Finalize vote))) }
+        ensures recorded { IfOk result (λ vote. self.new.facts.entries ≡ self.old.facts.entries ++ vote_entry (told_finalize vote)) }
+        ensures votes { IfOk result (λ vote. self.new.votes ≡ self.old.votes ++ signed_finalize vote) }
+        ensures same_votes { OnErr result (self.new.votes ≡ self.old.votes) }
+        ensures decided { IfOk result (λ vote. IfSome vote (λ _. HasFinalized self.new.facts view)) }
+        ensures once { HasFinalized self.old.facts view → IfOk result (λ vote. IsNone vote) }
+        ensures barred { HasNullified self.old.facts view → IfOk result (λ vote. IsNone vote) }
     {
         if self.failed {
             return Err(Refusal::Fault(Fault::Failed));

@@ -20,7 +20,7 @@ returns-clause-whole g c =
     let start = start_facts g.S.CertificateScheme.me g.S.CertificateScheme.participants g.L.Elector.terms g.L.Elector.elects_early bytes_of c.args.start in
     let steps = steps_of g.S.CertificateScheme.me g.S.CertificateScheme.participants g.L.Elector.terms g.L.Elector.elects_early bytes_of c.args.steps.items in
     IfOk-weaker c.take_steps.result _ _
-    (λ replies is. run_from g.D.PartialEq.eq g.L.Elector.elect start steps c.in_ok-member.member (map (told bytes_of) replies.items) c.take_steps.new.member c.in_ok-member.ensures.started c.in_ok-member.ensures.accepted is)
+    (λ replies is. run_from g.D.PartialEq.eq g.L.Elector.elect start steps c.in_ok-member.member.facts (map (told bytes_of) replies.items) c.take_steps.new.member.facts c.in_ok-member.ensures.started c.in_ok-member.ensures.accepted is)
     c.take_steps.ensures.whole
 
 pub returns-clause-ended : goal.returns-clause-ended
@@ -29,5 +29,5 @@ returns-clause-ended g c =
     let start = start_facts g.S.CertificateScheme.me g.S.CertificateScheme.participants g.L.Elector.terms g.L.Elector.elects_early bytes_of c.args.start in
     let steps = steps_of g.S.CertificateScheme.me g.S.CertificateScheme.participants g.L.Elector.terms g.L.Elector.elects_early bytes_of c.args.steps.items in
     IfErr-weaker c.take_steps.result _ _
-    (λ found is. ends_later g.D.PartialEq.eq g.L.Elector.elect start steps c.in_ok-member.member found c.in_ok-member.ensures.started is)
+    (λ found is. ends_later g.D.PartialEq.eq g.L.Elector.elect start steps c.in_ok-member.member.facts found c.in_ok-member.ensures.started is)
     c.take_steps.ensures.ended

@@ -22,7 +22,7 @@ loop-step-preserved g c =
     let bytes_of = g.S.CertificateScheme.certificate_bytes in
     let facts_of = step_facts g.S.CertificateScheme.me g.S.CertificateScheme.participants g.L.Elector.terms g.L.Elector.elects_early bytes_of in
     rw (c.push_reserved.ensures, c.reserve.ensures.items, map-append facts_of c.loop-step.yielded (c.in-Some.step ∷ []), map-append (told bytes_of) c.loop-step.replies.items (c.in_ok-reply.reply ∷ []))
-    (run_extends g.D.PartialEq.eq g.L.Elector.elect c.args.member.now (map facts_of c.loop-step.yielded) (map (told bytes_of) c.loop-step.replies.items) c.loop-step.member (facts_of c.in-Some.step) (told bytes_of c.in_ok-reply.reply) c.take_step.new.member c.loop-step.invariant c.in_ok-reply.ensures.taken)
+    (run_extends g.D.PartialEq.eq g.L.Elector.elect c.args.member.now.facts (map facts_of c.loop-step.yielded) (map (told bytes_of) c.loop-step.replies.items) c.loop-step.member.facts (facts_of c.in-Some.step) (told bytes_of c.in_ok-reply.reply) c.take_step.new.member.facts c.loop-step.invariant c.in_ok-reply.ensures.taken)
 
 pub returns-in_err-reply-clause-ended : goal.returns-in_err-reply-clause-ended
 returns-in_err-reply-clause-ended g c =
@@ -37,7 +37,7 @@ returns-in_err-reply-clause-ended g c =
     let p = err_from_is_err_and c.from_residual-in_err-reply.result c.from_residual-in_err-reply.ensures.1 in
     rw (p.1, p.2)
     (inr (rw (ap (map facts_of) is, map-append facts_of c.loop-step.yielded (c.in-Some.step ∷ rest))
-    (run_ends g.D.PartialEq.eq g.L.Elector.elect (told bytes_of) c.args.member.now (map facts_of c.loop-step.yielded) c.loop-step.replies.items c.loop-step.member (facts_of c.in-Some.step) (map facts_of rest) c.in_err-reply.field-0.0 (replies_answer bytes_of) c.loop-step.invariant c.in_err-reply.ensures.refused)))
+    (run_ends g.D.PartialEq.eq g.L.Elector.elect (told bytes_of) c.args.member.now.facts (map facts_of c.loop-step.yielded) c.loop-step.replies.items c.loop-step.member.facts (facts_of c.in-Some.step) (map facts_of rest) c.in_err-reply.field-0.0 (replies_answer bytes_of) c.loop-step.invariant c.in_err-reply.ensures.refused)))
 
 pub returns-clause-whole : goal.returns-clause-whole
 returns-clause-whole g c =

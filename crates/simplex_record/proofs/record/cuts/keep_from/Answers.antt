@@ -1,11 +1,18 @@
-use Rattle.std.proofs.Common.{rules, leb, ap, ◌∙◌}
+use Rattle.std.proofs.Common.{rules, leb, nat_le, ap, ◌∙◌}
 use Rattle.std.proofs.lemmas.Fn.{filter_same}
 use Rattle.simplex_types.specs.Viewed.{artifact_view}
 use Rattle.simplex_record.specs.Entries.{entries_of}
+use Rattle.simplex_record.specs.Votes.{votes_of}
 use Rattle.simplex_record.proofs.Cuts.{entries_kept}
+use Rattle.simplex_record.proofs.Votes.{votes_kept}
 use Rattle.simplex_record.proofs.record.cuts.keep_from.Goals as goal
 
-pub returns : goal.returns
-returns g c =
+pub returns-clause-left : goal.returns-clause-left
+returns-clause-left g c =
     ap (entries_of g.S.CertificateScheme.certificate_bytes) (filter_same _ (λ a. leb c.args.view (artifact_view a)) _ (λ x b f' k. search rules) _ _ c.retain.ensures.filtered)
-    ∙ entries_kept g.S.CertificateScheme.certificate_bytes c.args.view c.args.entries.now.items
+    ∙ entries_kept g.S.CertificateScheme.certificate_bytes (nat_le c.args.view) c.args.entries.now.items
+
+pub returns-clause-votes : goal.returns-clause-votes
+returns-clause-votes g c =
+    ap votes_of (filter_same _ (λ a. leb c.args.view (artifact_view a)) _ (λ x b f' k. search rules) _ _ c.retain.ensures.filtered)
+    ∙ votes_kept (nat_le c.args.view) c.args.entries.now.items

@@ -37,10 +37,10 @@ returns-clause-made g c =
     }))
 
 pub returns-clause-answered : goal.returns-clause-answered
-returns-clause-answered g c = told_answered g.D.PartialEq.eq g.L.Elector.elect c.args.self.now (AddFinalization (finalization_facts g.S.CertificateScheme.certificate_bytes c.args.finalization) c.args.now) (λ added. Added added.0 added.1) (λ t A is. is) c.ended.result _ (returns-clause-made g c)
+returns-clause-answered g c = told_answered g.D.PartialEq.eq g.L.Elector.elect c.args.self.now.facts (AddFinalization (finalization_facts g.S.CertificateScheme.certificate_bytes c.args.finalization) c.args.now) (λ added. Added added.0 added.1) (λ t A is. is) c.ended.result _ (returns-clause-made g c)
 
 pub returns-clause-kept : goal.returns-clause-kept
-returns-clause-kept g c = told_kept g.D.PartialEq.eq g.L.Elector.elect c.args.self.now (AddFinalization (finalization_facts g.S.CertificateScheme.certificate_bytes c.args.finalization) c.args.now) (λ added. Added added.0 added.1) c.ended.result _ (returns-clause-made g c)
+returns-clause-kept g c = told_kept g.D.PartialEq.eq g.L.Elector.elect c.args.self.now.facts (AddFinalization (finalization_facts g.S.CertificateScheme.certificate_bytes c.args.finalization) c.args.now) (λ added. Added added.0 added.1) c.ended.result _ (returns-clause-made g c)
 
 pub returns-clause-recorded : goal.returns-clause-recorded
 returns-clause-recorded g c =

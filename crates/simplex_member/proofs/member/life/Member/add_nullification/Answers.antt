@@ -37,10 +37,10 @@ returns-clause-made g c =
     }))
 
 pub returns-clause-answered : goal.returns-clause-answered
-returns-clause-answered g c = told_answered g.D.PartialEq.eq g.L.Elector.elect c.args.self.now (AddNullification (nullification_facts g.S.CertificateScheme.certificate_bytes c.args.nullification) c.args.now) (λ is_new. AddedNullification is_new) (λ t A is. is) c.ended.result _ (returns-clause-made g c)
+returns-clause-answered g c = told_answered g.D.PartialEq.eq g.L.Elector.elect c.args.self.now.facts (AddNullification (nullification_facts g.S.CertificateScheme.certificate_bytes c.args.nullification) c.args.now) (λ is_new. AddedNullification is_new) (λ t A is. is) c.ended.result _ (returns-clause-made g c)
 
 pub returns-clause-kept : goal.returns-clause-kept
-returns-clause-kept g c = told_kept g.D.PartialEq.eq g.L.Elector.elect c.args.self.now (AddNullification (nullification_facts g.S.CertificateScheme.certificate_bytes c.args.nullification) c.args.now) (λ is_new. AddedNullification is_new) c.ended.result _ (returns-clause-made g c)
+returns-clause-kept g c = told_kept g.D.PartialEq.eq g.L.Elector.elect c.args.self.now.facts (AddNullification (nullification_facts g.S.CertificateScheme.certificate_bytes c.args.nullification) c.args.now) (λ is_new. AddedNullification is_new) c.ended.result _ (returns-clause-made g c)
 
 pub returns-clause-recorded : goal.returns-clause-recorded
 returns-clause-recorded g c =

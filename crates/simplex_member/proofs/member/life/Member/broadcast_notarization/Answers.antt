@@ -38,15 +38,15 @@ returns-clause-made g c =
     }))
 
 pub returns-clause-answered : goal.returns-clause-answered
-returns-clause-answered g c = told_answered g.D.PartialEq.eq g.L.Elector.elect c.args.self.now (BroadcastNotarization c.args.view) (λ certificate. Handed (option_map (certificate_facts g.S.CertificateScheme.certificate_bytes) certificate)) (λ t A is. is) c.ended.result _ (returns-clause-made g c)
+returns-clause-answered g c = told_answered g.D.PartialEq.eq g.L.Elector.elect c.args.self.now.facts (BroadcastNotarization c.args.view) (λ certificate. Handed (option_map (certificate_facts g.S.CertificateScheme.certificate_bytes) certificate)) (λ t A is. is) c.ended.result _ (returns-clause-made g c)
 
 pub returns-clause-kept : goal.returns-clause-kept
-returns-clause-kept g c = told_kept g.D.PartialEq.eq g.L.Elector.elect c.args.self.now (BroadcastNotarization c.args.view) (λ certificate. Handed (option_map (certificate_facts g.S.CertificateScheme.certificate_bytes) certificate)) c.ended.result _ (returns-clause-made g c)
+returns-clause-kept g c = told_kept g.D.PartialEq.eq g.L.Elector.elect c.args.self.now.facts (BroadcastNotarization c.args.view) (λ certificate. Handed (option_map (certificate_facts g.S.CertificateScheme.certificate_bytes) certificate)) c.ended.result _ (returns-clause-made g c)
 
 pub returns-clause-none_left : goal.returns-clause-none_left
 returns-clause-none_left g c =
-    λ was. IfOk-weaker c.ended.result _ _ (λ certificate is. notarization_handed_once g.D.PartialEq.eq g.L.Elector.elect c.args.self.now _ c.args.view (certificate_facts g.S.CertificateScheme.certificate_bytes) certificate was is) (returns-clause-answered g c)
+    λ was. IfOk-weaker c.ended.result _ _ (λ certificate is. notarization_handed_once g.D.PartialEq.eq g.L.Elector.elect c.args.self.now.facts _ c.args.view (certificate_facts g.S.CertificateScheme.certificate_bytes) certificate was is) (returns-clause-answered g c)
 
 pub returns-clause-once : goal.returns-clause-once
 returns-clause-once g c =
-    on_answer c.ended.result (λ certificate is. notarization_none_left g.D.PartialEq.eq g.L.Elector.elect c.args.self.now _ c.args.view (option_map (certificate_facts g.S.CertificateScheme.certificate_bytes) certificate) is) (returns-clause-answered g c)
+    on_answer c.ended.result (λ certificate is. notarization_none_left g.D.PartialEq.eq g.L.Elector.elect c.args.self.now.facts _ c.args.view (option_map (certificate_facts g.S.CertificateScheme.certificate_bytes) certificate) is) (returns-clause-answered g c)

@@ -36,7 +36,7 @@ returns-clause-made g c =
     }))
 
 pub returns-clause-answered : goal.returns-clause-answered
-returns-clause-answered g c = told_answered g.D.PartialEq.eq g.L.Elector.elect c.args.self.now (Certified c.args.view c.args.success c.args.now) (λ notarization. Judged c.args.success (option_map (notarization_facts g.S.CertificateScheme.certificate_bytes) notarization)) (λ t A is. is) c.ended.result _ (returns-clause-made g c)
+returns-clause-answered g c = told_answered g.D.PartialEq.eq g.L.Elector.elect c.args.self.now.facts (Certified c.args.view c.args.success c.args.now) (λ notarization. Judged c.args.success (option_map (notarization_facts g.S.CertificateScheme.certificate_bytes) notarization)) (λ t A is. is) c.ended.result _ (returns-clause-made g c)
 
 pub returns-clause-kept : goal.returns-clause-kept
-returns-clause-kept g c = told_kept g.D.PartialEq.eq g.L.Elector.elect c.args.self.now (Certified c.args.view c.args.success c.args.now) (λ notarization. Judged c.args.success (option_map (notarization_facts g.S.CertificateScheme.certificate_bytes) notarization)) c.ended.result _ (returns-clause-made g c)
+returns-clause-kept g c = told_kept g.D.PartialEq.eq g.L.Elector.elect c.args.self.now.facts (Certified c.args.view c.args.success c.args.now) (λ notarization. Judged c.args.success (option_map (notarization_facts g.S.CertificateScheme.certificate_bytes) notarization)) c.ended.result _ (returns-clause-made g c)

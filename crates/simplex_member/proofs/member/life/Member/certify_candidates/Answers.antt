@@ -36,7 +36,7 @@ returns-clause-made g c =
     }))
 
 pub returns-clause-answered : goal.returns-clause-answered
-returns-clause-answered g c = told_answered g.D.PartialEq.eq g.L.Elector.elect c.args.self.now CertifyCandidates (λ candidates. Candidates candidates.0.items candidates.1.items) (λ t A is. is) c.ended.result _ (returns-clause-made g c)
+returns-clause-answered g c = told_answered g.D.PartialEq.eq g.L.Elector.elect c.args.self.now.facts CertifyCandidates (λ candidates. Candidates candidates.0.items candidates.1.items) (λ t A is. is) c.ended.result _ (returns-clause-made g c)
 
 pub returns-clause-kept : goal.returns-clause-kept
-returns-clause-kept g c = told_kept g.D.PartialEq.eq g.L.Elector.elect c.args.self.now CertifyCandidates (λ candidates. Candidates candidates.0.items candidates.1.items) c.ended.result _ (returns-clause-made g c)
+returns-clause-kept g c = told_kept g.D.PartialEq.eq g.L.Elector.elect c.args.self.now.facts CertifyCandidates (λ candidates. Candidates candidates.0.items candidates.1.items) c.ended.result _ (returns-clause-made g c)

@@ -1,12 +1,14 @@
-use Rattle.std.proofs.Common.{ap, false, refl, sym, ◌∙◌}
+use Rattle.std.proofs.Common.{◌≡◌, ◌++◌, ap, false, refl, sym, ◌∙◌}
 use Rattle.std.proofs.lemmas.Result.{IfOk-weaker}
 use Rattle.simplex_types.specs.Certificates.{FinalizeVote}
 use Rattle.simplex_member.specs.Made.{vote_entry}
 use Rattle.simplex_member.proofs.Voted.{finalize_decided, finalize_once, finalize_barred}
 use Rattle.simplex_record.specs.Entries.{entries_of}
+use Rattle.simplex_record.specs.Votes.{votes_of}
+use Rattle.simplex_member.specs.Signed.{signed_finalize}
 use Rattle.simplex_member.specs.Calls.{ConstructFinalize, Finalize, told_finalize}
 use Rattle.simplex_member.specs.Lives.{MemberFacts, living, open_while}
-use Rattle.simplex_member.proofs.Parts.{part_goes_on, part_made, told_answered, told_kept, so_ok, kept_shut, ended_ok, ended_recorded, signed_finalize}
+use Rattle.simplex_member.proofs.Parts.{part_goes_on, part_made, told_answered, told_kept, so_ok, kept_shut, ended_ok, ended_err, ended_recorded, finalize_is_signed}
 use Rattle.simplex_member.proofs.member.life.Member.construct_finalize.Goals as goal
 
 pub invariant_of-self : goal.invariant_of-self
@@ -38,15 +40,15 @@ returns-clause-made g c =
     }))
 
 pub returns-clause-answered : goal.returns-clause-answered
-returns-clause-answered g c = told_answered g.D.PartialEq.eq g.L.Elector.elect c.args.self.now (ConstructFinalize c.args.view) (λ vote. Finalize (told_finalize vote)) (λ t A is. is) c.ended.result _ (returns-clause-made g c)
+returns-clause-answered g c = told_answered g.D.PartialEq.eq g.L.Elector.elect c.args.self.now.facts (ConstructFinalize c.args.view) (λ vote. Finalize (told_finalize vote)) (λ t A is. is) c.ended.result _ (returns-clause-made g c)
 
 pub returns-clause-kept : goal.returns-clause-kept
-returns-clause-kept g c = told_kept g.D.PartialEq.eq g.L.Elector.elect c.args.self.now (ConstructFinalize c.args.view) (λ vote. Finalize (told_finalize vote)) c.ended.result _ (returns-clause-made g c)
+returns-clause-kept g c = told_kept g.D.PartialEq.eq g.L.Elector.elect c.args.self.now.facts (ConstructFinalize c.args.view) (λ vote. Finalize (told_finalize vote)) c.ended.result _ (returns-clause-made g c)
 
 pub returns-clause-signed : goal.returns-clause-signed
 returns-clause-signed g c =
     let signed = rw (sym c.ended.ensures) at (ended_ok _ c.construct_finalize-made.result c.construct_finalize-made.ensures.signed) in
-    rw (← c.self.view_is, c.if-self.false, ← c.deref_mut.ensures.value) (IfOk-weaker c.ended.result _ _ (signed_finalize g.S.Scheme.IsSignature c.deref_mut.result.now) signed)
+    rw (← c.self.view_is, c.if-self.false, ← c.deref_mut.ensures.value) (IfOk-weaker c.ended.result _ _ (finalize_is_signed g.S.Scheme.IsSignature c.deref_mut.result.now) signed)
 
 pub returns-clause-recorded : goal.returns-clause-recorded
 returns-clause-recorded g c =
@@ -54,12 +56,21 @@ returns-clause-recorded g c =
 
 pub returns-clause-decided : goal.returns-clause-decided
 returns-clause-decided g c =
-    IfOk-weaker c.ended.result _ _ (λ vote is. finalize_decided g.D.PartialEq.eq g.L.Elector.elect c.args.self.now _ c.args.view (told_finalize vote) is (λ v. FinalizeVote v.proposal v.signer) vote refl) (returns-clause-answered g c)
+    IfOk-weaker c.ended.result _ _ (λ vote is. finalize_decided g.D.PartialEq.eq g.L.Elector.elect c.args.self.now.facts _ c.args.view (told_finalize vote) is (λ v. FinalizeVote v.proposal v.signer) vote refl) (returns-clause-answered g c)
 
 pub returns-clause-once : goal.returns-clause-once
 returns-clause-once g c =
-    λ was. IfOk-weaker c.ended.result _ _ (λ vote is. finalize_once g.D.PartialEq.eq g.L.Elector.elect c.args.self.now _ c.args.view (told_finalize vote) is was (λ v. FinalizeVote v.proposal v.signer) vote refl) (returns-clause-answered g c)
+    λ was. IfOk-weaker c.ended.result _ _ (λ vote is. finalize_once g.D.PartialEq.eq g.L.Elector.elect c.args.self.now.facts _ c.args.view (told_finalize vote) is was (λ v. FinalizeVote v.proposal v.signer) vote refl) (returns-clause-answered g c)
 
 pub returns-clause-barred : goal.returns-clause-barred
 returns-clause-barred g c =
-    λ was. IfOk-weaker c.ended.result _ _ (λ vote is. finalize_barred g.D.PartialEq.eq g.L.Elector.elect c.args.self.now _ c.args.view (told_finalize vote) is was (λ v. FinalizeVote v.proposal v.signer) vote refl) (returns-clause-answered g c)
+    λ was. IfOk-weaker c.ended.result _ _ (λ vote is. finalize_barred g.D.PartialEq.eq g.L.Elector.elect c.args.self.now.facts _ c.args.view (told_finalize vote) is was (λ v. FinalizeVote v.proposal v.signer) vote refl) (returns-clause-answered g c)
+
+pub returns-clause-votes : goal.returns-clause-votes
+returns-clause-votes g c =
+    let p = c.construct_finalize-made in
+    rw (← c.self.view_is, c.ended.ensures) (ended_ok (λ vote. votes_of p.new.artifacts.items ≡ votes_of c.self.inside.artifacts.items ++ signed_finalize vote) p.result p.ensures.votes)
+
+pub returns-clause-same_votes : goal.returns-clause-same_votes
+returns-clause-same_votes g c =
+    rw (← c.self.view_is, c.ended.ensures) (ended_err _ c.construct_finalize-made.result c.construct_finalize-made.ensures.same_votes)

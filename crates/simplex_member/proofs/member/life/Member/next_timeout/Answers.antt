@@ -32,7 +32,7 @@ returns-clause-made g c =
     ])
 
 pub returns-clause-answered : goal.returns-clause-answered
-returns-clause-answered g c = told_answered g.D.PartialEq.eq g.L.Elector.elect c.args.self.now (NextTimeout c.args.now) (λ timeout. TimesOut (Some timeout)) (λ t A is. is) c.match-next_timeout.result _ (returns-clause-made g c)
+returns-clause-answered g c = told_answered g.D.PartialEq.eq g.L.Elector.elect c.args.self.now.facts (NextTimeout c.args.now) (λ timeout. TimesOut (Some timeout)) (λ t A is. is) c.match-next_timeout.result _ (returns-clause-made g c)
 
 pub returns-clause-kept : goal.returns-clause-kept
-returns-clause-kept g c = told_kept g.D.PartialEq.eq g.L.Elector.elect c.args.self.now (NextTimeout c.args.now) (λ timeout. TimesOut (Some timeout)) c.match-next_timeout.result _ (returns-clause-made g c)
+returns-clause-kept g c = told_kept g.D.PartialEq.eq g.L.Elector.elect c.args.self.now.facts (NextTimeout c.args.now) (λ timeout. TimesOut (Some timeout)) c.match-next_timeout.result _ (returns-clause-made g c)

@@ -26,7 +26,7 @@ returns-clause-made g c =
     (part_made g.D.PartialEq.eq g.L.Elector.elect m Prune (λ views. Dropped views.items) x refl refl _ c.prune.new.self m.openings m.entries p)
 
 pub returns-clause-answered : goal.returns-clause-answered
-returns-clause-answered g c = told_answered g.D.PartialEq.eq g.L.Elector.elect c.args.self.now Prune (λ views. Dropped views.items) (λ t A is. is) c.ended.result _ (returns-clause-made g c)
+returns-clause-answered g c = told_answered g.D.PartialEq.eq g.L.Elector.elect c.args.self.now.facts Prune (λ views. Dropped views.items) (λ t A is. is) c.ended.result _ (returns-clause-made g c)
 
 pub returns-clause-kept : goal.returns-clause-kept
-returns-clause-kept g c = told_kept g.D.PartialEq.eq g.L.Elector.elect c.args.self.now Prune (λ views. Dropped views.items) c.ended.result _ (returns-clause-made g c)
+returns-clause-kept g c = told_kept g.D.PartialEq.eq g.L.Elector.elect c.args.self.now.facts Prune (λ views. Dropped views.items) c.ended.result _ (returns-clause-made g c)

@@ -20,4 +20,4 @@ returns-clause-answered g c =
     (answered_unrecorded g.D.PartialEq.eq g.L.Elector.elect m (SetCertifyHandle c.args.view c.args.token) x refl (_) c.set_certify_handle.new.self i.openings.open_now (rw (sym c.is_offered.ensures ∙ c.if-not-is_offered.false) (rw (c.deref.ensures ∙ sym c.deref_mut.ensures.value) at (sym c.takes_certify_handle.ensures ∙ c.if-not-takes_certify_handle.false))) (rw kept.0 refl) refl c.in_ok-set_certify_handle.ensures.after refl refl)
 
 pub returns-clause-made : goal.returns-clause-made
-returns-clause-made g c = call_of_answer g.D.PartialEq.eq g.L.Elector.elect c.args.self.now (SetCertifyHandle c.args.view c.args.token) _ _ (returns-clause-answered g c)
+returns-clause-made g c = call_of_answer g.D.PartialEq.eq g.L.Elector.elect c.args.self.now.facts (SetCertifyHandle c.args.view c.args.token) _ _ (returns-clause-answered g c)

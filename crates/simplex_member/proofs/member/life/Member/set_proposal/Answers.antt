@@ -27,7 +27,7 @@ returns-clause-made g c =
     (part_made g.D.PartialEq.eq g.L.Elector.elect m (SetProposal c.args.view c.args.proposal) (λ is_new. Answered is_new) x refl (rw (c.deref.ensures ∙ sym c.deref_mut.ensures.value) at (sym c.takes_proposal.ensures ∙ c.if-not-takes_proposal.false)) _ c.set_proposal.new.self m.openings m.entries p)
 
 pub returns-clause-answered : goal.returns-clause-answered
-returns-clause-answered g c = told_answered g.D.PartialEq.eq g.L.Elector.elect c.args.self.now (SetProposal c.args.view c.args.proposal) (λ is_new. Answered is_new) (λ t A is. is) c.ended.result _ (returns-clause-made g c)
+returns-clause-answered g c = told_answered g.D.PartialEq.eq g.L.Elector.elect c.args.self.now.facts (SetProposal c.args.view c.args.proposal) (λ is_new. Answered is_new) (λ t A is. is) c.ended.result _ (returns-clause-made g c)
 
 pub returns-clause-kept : goal.returns-clause-kept
-returns-clause-kept g c = told_kept g.D.PartialEq.eq g.L.Elector.elect c.args.self.now (SetProposal c.args.view c.args.proposal) (λ is_new. Answered is_new) c.ended.result _ (returns-clause-made g c)
+returns-clause-kept g c = told_kept g.D.PartialEq.eq g.L.Elector.elect c.args.self.now.facts (SetProposal c.args.view c.args.proposal) (λ is_new. Answered is_new) c.ended.result _ (returns-clause-made g c)

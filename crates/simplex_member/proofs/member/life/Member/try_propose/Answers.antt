@@ -21,4 +21,4 @@ returns-clause-answered g c =
     (answered_unrecorded g.D.PartialEq.eq g.L.Elector.elect m TryPropose x refl (_) c.try_propose.new.self c.open_request.new.self.open_now refl (rw kept.0 refl) (ap Requested c.in_ok-request.ensures.answer) c.in_ok-request.ensures.after (rw (sym c.in_ok-request.ensures.answer) c.open_request.ensures) refl)
 
 pub returns-clause-made : goal.returns-clause-made
-returns-clause-made g c = call_of_answer g.D.PartialEq.eq g.L.Elector.elect c.args.self.now TryPropose _ _ (returns-clause-answered g c)
+returns-clause-made g c = call_of_answer g.D.PartialEq.eq g.L.Elector.elect c.args.self.now.facts TryPropose _ _ (returns-clause-answered g c)

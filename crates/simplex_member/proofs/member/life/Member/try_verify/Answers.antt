@@ -21,4 +21,4 @@ returns-clause-answered g c =
     (answered_unrecorded g.D.PartialEq.eq g.L.Elector.elect m TryVerify x refl (_) c.try_verify.new.self c.open_verification.new.self.open_now refl (rw kept.0 refl) (ap Standing c.in_ok-verify.ensures.answer) c.in_ok-verify.ensures.after (rw (sym c.in_ok-verify.ensures.answer) c.open_verification.ensures) refl)
 
 pub returns-clause-made : goal.returns-clause-made
-returns-clause-made g c = call_of_answer g.D.PartialEq.eq g.L.Elector.elect c.args.self.now TryVerify _ _ (returns-clause-answered g c)
+returns-clause-made g c = call_of_answer g.D.PartialEq.eq g.L.Elector.elect c.args.self.now.facts TryVerify _ _ (returns-clause-answered g c)
