@@ -12,5 +12,7 @@ pub mod NotarizeVotesRemembered
 pub mod RecoveredNotarizeVotes
 pub mod NewLives
 pub mod CallsKeepRules
+pub mod PrunedRecords
 pub mod RunsLawful
+pub mod PrunedRestarts
 pub mod Resumes

@@ -5,7 +5,7 @@ use Rattle.simplex_types.specs.Config.{FloorFacts, Genesis, Finalized}
 use Rattle.simplex_types.specs.declared.types.messages.Subject.{Subject}
 use Rattle.simplex_types.specs.declared.types.messages.Subject.TheVariants as subject
 use Rattle.simplex_member.specs.Calls.{CallFacts, AddNotarization, AddNullification, AddFinalization, Told, Added, AddedNullification, Nullify, Finalize, Notarize, Restarted}
-use Rattle.simplex_member.specs.Runs.{StepFacts, Calls, Restarts}
+use Rattle.simplex_member.specs.Runs.{StepFacts, Calls, Prunes, Restarts}
 
 -- a certificate was accepted, or a vote was signed by this member of the network; each is named by what it is about
 pub data Deed (D : Type 0) : Type 0 where
@@ -54,6 +54,7 @@ module _ {K L D : Type 0} where
   -- a restart that succeeds accepts its floor's finalization
   abbrev pub accepted_at : StepFacts K L D → Told K D → List (Deed D)
   accepted_at (Calls call) told = accepted_by call told
+  accepted_at Prunes told = []
   accepted_at (Restarts r) Restarted = of_floor r.start.floor
   accepted_at (Restarts r) _ = []
 

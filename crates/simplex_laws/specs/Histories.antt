@@ -9,7 +9,7 @@ use Rattle.simplex_laws.specs.Events.{Event, History, SetFloor, AddNotarization,
 use Rattle.simplex_member.specs.Lives.{MemberFacts, IsCall}
 use Rattle.simplex_record.specs.Recovery.{recovered_state, recover_error}
 use Rattle.simplex_member.specs.Restarts.{RestartFacts, IsByView, IsRestart, cut_member}
-use Rattle.simplex_member.specs.Runs.{StepFacts, Calls, Restarts, IsStep, IsRun}
+use Rattle.simplex_member.specs.Runs.{StepFacts, Calls, Prunes, Restarts, IsStep, IsRun}
 use Rattle.simplex_laws.specs.Shows.{Shows}
 use Rattle.simplex_record.specs.Start.{Setup, StartFacts, new_state}
 use Rattle.simplex_member.specs.Start.{started_member}
@@ -56,8 +56,8 @@ module _ {K L D : Type 0} (same : D → D → Bool) (elect : Elect L) where
   abbrev pub IsShown : History K L D → MemberFacts K L D → Type 0
   IsShown history m = MatchOption m.life (Unit {0}) (Shows same elect history)
 
-  -- how a member's run leads from one history to another: each call by what the member has open then; a restart that is not
-  -- refused takes again, in some order by view, what the cuts leave of its record
+  -- how a member's run leads from one history to another: each call by what the member has open then; a pruning of its record
+  -- says nothing of its state; a restart that is not refused takes again, in some order by view, what the cuts leave of its record
   abbrev pub LeadsTo : MemberFacts K L D → History K L D → List (StepFacts K L D) → List (Told K D) → History K L D → MemberFacts K L D → Type 0
   LeadsTo m history [] [] last end = (last ≡ history) × (m ≡ end)
   LeadsTo m history [] (told ∷ rest) last end = ⊥
@@ -66,6 +66,8 @@ module _ {K L D : Type 0} (same : D → D → Bool) (elect : Elect L) where
       (next : MemberFacts K L D)
       × IsStep same elect m (Calls call) told next
       × LeadsTo next (with_call_events history m.openings call told) steps rest last end
+  LeadsTo m history (Prunes ∷ steps) (told ∷ rest) last end =
+      (next : MemberFacts K L D) × IsStep same elect m Prunes told next × LeadsTo next history steps rest last end
   LeadsTo m history (Restarts r ∷ steps) (NotRestarted error ∷ rest) last end =
       (next : MemberFacts K L D)
       × IsStep same elect m (Restarts r) (NotRestarted error) next

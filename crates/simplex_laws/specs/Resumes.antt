@@ -1,11 +1,13 @@
 -- A member that goes on from its journal, beside the runs of members.
-use Rattle.std.specs.Prelude.{◌≡◌, Bool, false, List}
+use Rattle.std.specs.Prelude.{◌≡◌, Bool, true, false, List}
 use Rattle.simplex_voter.specs.Facts.{Elect}
 use Rattle.simplex_record.specs.declared.record.error.RecoverError.{RecoverError}
 use Rattle.simplex_member.specs.declared.member.resume.ResumeError.TheVariants.{Recover}
 use Rattle.simplex_member.specs.Calls.{Told, Restarted}
 use Rattle.simplex_member.specs.Journal.{stored_of, whole_restart, has_lost, IsResumed, IsNotResumed}
 use Rattle.simplex_member.specs.Lives.{MemberFacts}
+use Rattle.simplex_member.specs.Pruning.{pruned_member}
+use Rattle.simplex_member.specs.Restarts.{cut_member}
 use Rattle.simplex_member.specs.Runs.{StepFacts, Restarts, IsStep, IsRun, IsRefused}
 use Rattle.simplex_record.specs.Start.{StartFacts, new_state}
 use Rattle.simplex_member.specs.Start.{started_member}
@@ -38,6 +40,10 @@ module _ (K : Type 0) {L D : Type 0} (same : D → D → Bool) (elect : Elect L)
       (start : StartFacts K L D) (steps : List (StepFacts K L D)) (replies : List (Told K D)) (m : MemberFacts K L D)
       → IsRun same elect (started_member same elect (new_state start.setup) start.floor start.now) steps replies m
       → Holds m
+
+-- a restart that drops nothing and prunes leaves of a record that was pruned within the life what it leaves of the whole one
+abbrev pub IsPrunedAsAtRestart : {K L D : Type 0} → MemberFacts K L D → Type 0
+IsPrunedAsAtRestart m = cut_member (pruned_member m) 0 true ≡ cut_member m 0 true
 
 -- all that was closed stands in its record
 abbrev pub LosesNothing : {K L D : Type 0} → MemberFacts K L D → Type 0

@@ -4,8 +4,8 @@ use Rattle.simplex_types.specs.Config.{FloorFacts, Genesis, Finalized}
 use Rattle.simplex_types.specs.declared.types.messages.Proposal.{Proposal}
 use Rattle.simplex_types.specs.declared.types.messages.Subject.TheVariants as subject
 use Rattle.simplex_voter.specs.Facts.{Elect}
-use Rattle.simplex_member.specs.Calls.{Told, Restarted}
-use Rattle.simplex_member.specs.Runs.{StepFacts, Restarts}
+use Rattle.simplex_member.specs.Calls.{Prune, Told, Dropped, Done, Restarted}
+use Rattle.simplex_member.specs.Runs.{StepFacts, Calls, Prunes, Restarts}
 use Rattle.simplex_record.specs.Start.{StartFacts}
 use Rattle.simplex_laws.specs.Deeds.{Deed, Signs}
 use Rattle.simplex_laws.specs.Places.{Place, Faulty, Honest}
@@ -79,7 +79,8 @@ abbrev pub known_of_overrun : List (Option (List (Deed ℕ)))
 known_of_overrun = Some (deeds_of impatient) ∷ Some (deeds_of (patient 1)) ∷ Some (two_faced 2) ∷ None ∷ []
 
 -- a member restarts three times: first the notarization that came after its last vote is dropped, so that it is new again,
--- but not the vote; then its record is pruned; then it starts at a finalized floor
+-- but not the vote; then its record has been pruned within the life, behind the views that the state drops; then it starts at a
+-- finalized floor
 abbrev pub restarting : Story ℕ ℕ ℕ
 restarting = story_from (start_at 5 (Genesis 0) 1) (
     accepts one
@@ -90,7 +91,9 @@ restarting = story_from (start_at 5 (Genesis 0) 1) (
     ∷ accepts two
     ++ votes_for 1 two
     ∷ accepts_finalization (proposal 3 2)
-    ∷ restarts 0 true (start_at 5 (Genesis 0) 1)
+    ∷ (Calls Prune, Dropped (1 ∷ []))
+    ∷ (Prunes, Done)
+    ∷ restarts 0 false (start_at 5 (Genesis 0) 1)
     ∷ may_not_finalize 1
     ∷ may_not_finalize 2
     ∷ restarts 0 false (start_at 5 (Finalized (certificate (proposal 4 3))) 1)

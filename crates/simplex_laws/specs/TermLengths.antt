@@ -1,6 +1,6 @@
 -- The one length of terms that all lives of all members share.
 use Rattle.std.specs.Prelude.{◌≡◌, ◌<◌, ℕ, List, [], ◌∷◌}
-use Rattle.simplex_member.specs.Runs.{StepFacts, Calls, Restarts}
+use Rattle.simplex_member.specs.Runs.{StepFacts, Calls, Prunes, Restarts}
 use Rattle.simplex_record.specs.Start.{Setup}
 
 -- a state is set up with terms of this length, which have views
@@ -13,4 +13,5 @@ module _ {K L D : Type 0} where
   abbrev pub KeepTerms : ℕ → List (StepFacts K L D) → Type 0
   KeepTerms term_length [] = Unit {0}
   KeepTerms term_length (Calls call ∷ steps) = KeepTerms term_length steps
+  KeepTerms term_length (Prunes ∷ steps) = KeepTerms term_length steps
   KeepTerms term_length (Restarts r ∷ steps) = HasTerms term_length r.start.setup × KeepTerms term_length steps

@@ -10,26 +10,29 @@ use std::alloc::Global;
 
 impl<S: Scheme<D>, L: Elector<S>, D: Digest> LawfulMember<S, L, D> {
     ghost use Rattle.simplex_record.specs.Entries.{entries_of};
-    ghost use Rattle.simplex_member.specs.Journal.{stored_of, IsResumed, IsNotResumed};
+    ghost use Rattle.simplex_record.specs.Votes.{votes_of};
+    ghost use Rattle.simplex_member.specs.Journal.{stored_of, votes_since, IsResumed, IsNotResumed};
     ghost use Rattle.simplex_laws.specs.Living.{HasGoneOn};
 
     /// The record, oldest entry first.
     pub fn record(&self) -> &[Artifact<S, D>]
-        ensures { entries_of S.certificate_bytes result.now ≡ self.now.entries }
+        ensures entries { entries_of S.certificate_bytes result.now ≡ self.now.facts.entries }
+        ensures votes { votes_of result.now ≡ self.now.votes }
     {
         self.member.record()
     }
 
     /// What was recorded after the first `count` entries: nothing, where there are no more.
     pub fn record_since(&self, count: usize) -> &[Artifact<S, D>]
-        ensures { entries_of S.certificate_bytes result.now ≡ drop count self.now.entries }
+        ensures entries { entries_of S.certificate_bytes result.now ≡ drop count self.now.facts.entries }
+        ensures votes { votes_of result.now ≡ votes_since count self.now }
     {
         self.member.record_since(count)
     }
 
     /// What a journal stores beside the record.
     pub fn stored(&self) -> Stored
-        ensures { result ≡ stored_of self.now }
+        ensures { result ≡ stored_of self.now.facts }
     {
         self.member.stored()
     }
@@ -46,15 +49,16 @@ impl<S: Scheme<D>, L: Elector<S>, D: Digest> LawfulMember<S, L, D> {
         entries: Vec<Artifact<S, D>>,
     ) -> Result<LawfulMember<S, L, D>, NotResumed<S, D>>
         requires { L.members start.settings.elector ≡ length (S.participants start.settings.scheme) }
-        ensures resumed { IfOk result (IsResumed D.eq L.elect stored
+        ensures resumed { IfOk result (λ member. IsResumed D.eq L.elect stored
             (entries_of S.certificate_bytes entries.items)
-            (start_facts S.me S.participants L.terms L.elects_early S.certificate_bytes start)) }
+            (start_facts S.me S.participants L.terms L.elects_early S.certificate_bytes start) member.facts) }
+        ensures votes { IfOk result (λ member. member.votes ≡ votes_of entries.items) }
         ensures refused { IfErr result (λ refusal. IsNotResumed D.eq L.elect stored
             (entries_of S.certificate_bytes entries.items)
             (start_facts S.me S.participants L.terms L.elects_early S.certificate_bytes start) refusal.error) }
         ensures handed_back { IfErr result (λ refusal. refusal.entries.items ≡ entries.items) }
-        ensures goes_on { IfOk result (HasGoneOn D.eq L.elect S.me L.terms stored
-            (entries_of S.certificate_bytes entries.items) start) }
+        ensures goes_on { IfOk result (λ member. HasGoneOn D.eq L.elect S.me L.terms stored
+            (entries_of S.certificate_bytes entries.items) start member.facts) }
     {
         match Member::resume(alloc, start, stored, entries) {
             Ok(member) => Ok(LawfulMember { member }),

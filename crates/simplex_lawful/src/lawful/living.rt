@@ -60,9 +60,9 @@ pub struct LawfulMember<S: CertificateScheme, L: Elector<S>, D: Digest> {
 }
 
 impl<S: CertificateScheme, L: Elector<S>, D: Digest> Model for LawfulMember<S, L, D> {
-    ghost use Rattle.simplex_member.specs.Lives.{MemberFacts};
+    ghost use Rattle.simplex_member.specs.Lives.{SignedMember};
 
-    ghost Value = { MemberFacts S.PublicKey L D };
+    ghost Value = { SignedMember S.PublicKey L D S.Signature };
 
     ghost view = { λ m. m.member };
 }
@@ -73,9 +73,10 @@ impl<S: Scheme<D>, L: Elector<S>, D: Digest> LawfulMember<S, L, D> {
     ghost use Rattle.simplex_member.specs.Calls.{told, asked};
     ghost use Rattle.simplex_member.specs.Lives.{IsCall};
     ghost use Rattle.simplex_member.specs.Runs.{Calls};
-    ghost use Rattle.simplex_member.specs.Signed.{IsSignedReply};
+    ghost use Rattle.simplex_member.specs.Signed.{IsSignedReply, signed_reply};
     ghost use Rattle.simplex_record.specs.Recovery.{recover_error};
-    ghost use Rattle.simplex_member.specs.Restarts.{restart_facts, IsRestart};
+    ghost use Rattle.simplex_member.specs.Pruning.{pruned_member, votes_within};
+    ghost use Rattle.simplex_member.specs.Restarts.{restart_facts, votes_left, IsRestart};
     ghost use Rattle.simplex_record.specs.Start.{set_up, IsErrorDue};
     ghost use Rattle.simplex_member.specs.Start.{started_member};
     ghost use Rattle.simplex_laws.specs.Exactly.{ExactAt};
@@ -93,13 +94,14 @@ impl<S: Scheme<D>, L: Elector<S>, D: Digest> LawfulMember<S, L, D> {
         start: Start<S, L, D>,
     ) -> Result<LawfulMember<S, L, D>, RecoverError>
         requires { L.members start.settings.elector ≡ length (S.participants start.settings.scheme) }
-        ensures started { IfOk result (λ member. member ≡ started_member D.eq L.elect
+        ensures started { IfOk result (λ member. member.facts ≡ started_member D.eq L.elect
             (set_up S.me S.participants L.terms L.elects_early start.settings)
             (floor_facts S.certificate_bytes start.floor) start.now) }
+        ensures votes { IfOk result (λ member. member.votes ≡ []) }
         ensures refused { IfErr result (IsErrorDue (recover_error D.eq
             (set_up S.me S.participants L.terms L.elects_early start.settings)
             (floor_facts S.certificate_bytes start.floor) start.now [])) }
-        ensures begins { IfOk result (HasBegun D.eq L.elect S.me L.terms start) }
+        ensures begins { IfOk result (λ member. HasBegun D.eq L.elect S.me L.terms start member.facts) }
     {
         Ok(LawfulMember {
             member: Member::start(alloc, start)?,
@@ -111,15 +113,28 @@ impl<S: Scheme<D>, L: Elector<S>, D: Digest> LawfulMember<S, L, D> {
     /// - `answered`: with its answer, or refused, or not allowed, and then nothing is changed but for a member that fails for
     ///   want of memory.
     /// - `signed`: a vote that is answered is signed on just what it is on, under the member's key.
+    /// - `votes`: the record holds each vote that is answered, with the very signature that is handed out.
     /// - `exact`: a request for a vote is answered exactly by its rule, and nothing else by a vote.
     /// - `goes_on`: what the member has done grows by the certificate that is accepted and the vote that is told.
     pub fn call(&mut self, call: Call<S, D>) -> Reply<S, D>
-        ensures answered { IsCall D.eq L.elect self.old (asked S.certificate_bytes call) (told S.certificate_bytes result) self.new }
-        ensures signed { IfSome self.old.life (IsSignedReply S.IsSignature result) }
-        ensures exact { ExactAt D.eq L.elect self.old.life (Calls (asked S.certificate_bytes call)) (told S.certificate_bytes result) }
-        ensures goes_on { DoesMore D.eq L.elect self.old (taken_by call result ++ votes_in result) self.new }
+        ensures answered { IsCall D.eq L.elect self.old.facts (asked S.certificate_bytes call) (told S.certificate_bytes result) self.new.facts }
+        ensures signed { IfSome self.old.facts.life (IsSignedReply S.IsSignature result) }
+        ensures votes { self.new.votes ≡ self.old.votes ++ signed_reply result }
+        ensures exact { ExactAt D.eq L.elect self.old.facts.life (Calls (asked S.certificate_bytes call)) (told S.certificate_bytes result) }
+        ensures goes_on { DoesMore D.eq L.elect self.old.facts (taken_by call result ++ votes_in result) self.new.facts }
     {
         self.member.call(call)
+    }
+
+    /// Prunes the record within the life, as `Member::prune_record` does.
+    ///
+    /// - `goes_on`: what the member has done stays, also what goes from its record.
+    pub fn prune_record(&mut self)
+        ensures pruned { self.new.facts ≡ pruned_member self.old.facts }
+        ensures votes { self.new.votes ≡ votes_within self.old.facts self.old.votes }
+        ensures goes_on { DoesMore D.eq L.elect self.old.facts [] self.new.facts }
+    {
+        self.member.prune_record()
     }
 
     /// Begins another life from what is left of the record, as `Member::restart` does, or is refused with its errors.
@@ -129,9 +144,11 @@ impl<S: Scheme<D>, L: Elector<S>, D: Digest> LawfulMember<S, L, D> {
     ///   also what is dropped from its record or pruned; where the restart succeeds the floor's finalization is accepted too.
     pub fn restart(&mut self, restart: Restart<S, L, D>) -> Result<(), RecoverError>
         requires { L.members restart.start.settings.elector ≡ length (S.participants restart.start.settings.scheme) }
-        ensures restarted { IsRestart D.eq L.elect self.old
-            (restart_facts S.me S.participants L.terms L.elects_early S.certificate_bytes restart) result self.new }
-        ensures goes_on { HasBegunAgain D.eq L.elect S.me L.terms self.old restart.start result self.new }
+        ensures restarted { IsRestart D.eq L.elect self.old.facts
+            (restart_facts S.me S.participants L.terms L.elects_early S.certificate_bytes restart) result self.new.facts }
+        ensures votes { self.new.votes
+            ≡ votes_left self.old.facts (restart_facts S.me S.participants L.terms L.elects_early S.certificate_bytes restart) self.old.votes }
+        ensures goes_on { HasBegunAgain D.eq L.elect S.me L.terms self.old.facts restart.start result self.new.facts }
     {
         self.member.restart(restart)
     }
@@ -141,7 +158,7 @@ impl<S: Scheme<D>, L: Elector<S>, D: Digest> LawfulMember<S, L, D> {
     /// - `lawful`: its deeds keep the voting rules, over all its lives.
     /// - `ran`: a network of `agreement` may have it as member `i`.
     pub fn keeps_the_laws(&self)
-        ensures lawful { OfAllDone D.eq L.elect self.now (λ term_length i all. IsLawful term_length all) }
-        ensures ran { OfAllDone D.eq L.elect self.now (MayBeDoneBy S.PublicKey D.eq L.elect) }
+        ensures lawful { OfAllDone D.eq L.elect self.now.facts (λ term_length i all. IsLawful term_length all) }
+        ensures ran { OfAllDone D.eq L.elect self.now.facts (MayBeDoneBy S.PublicKey D.eq L.elect) }
     {}
 }

@@ -17,11 +17,11 @@ use Rattle.simplex_voter.specs.Rules.{may_notarize, may_nullify, may_finalize, N
 use Rattle.simplex_voter.proofs.Rules.{nullify_parts, nullify_whole, finalize_parts, finalize_whole, notarize_parts, notarize_whole}
 use Rattle.simplex_record.specs.declared.record.error.RecoverError.{RecoverError}
 use Rattle.simplex_member.specs.Allowed.{is_allowed, fault_of}
-use Rattle.simplex_member.specs.Calls.{CallFacts, ConstructNotarize, ConstructNullify, ConstructFinalize, Told, Nullify, Finalize, Notarize, Refused, NotAllowed}
+use Rattle.simplex_member.specs.Calls.{CallFacts, ConstructNotarize, ConstructNullify, ConstructFinalize, Told, Nullify, Finalize, Notarize, Refused, NotAllowed, Done}
 use Rattle.simplex_member.specs.Made.{answer}
 use Rattle.simplex_member.specs.Lives.{MemberFacts, IsCall, AnswersAlive, reply_of, unless_refused}
 use Rattle.simplex_member.specs.Openings.{Openings}
-use Rattle.simplex_member.specs.Runs.{StepFacts, Calls, Restarts, restart_told, IsStep, IsRun, IsRunFrom}
+use Rattle.simplex_member.specs.Runs.{StepFacts, Calls, Prunes, Restarts, restart_told, IsStep, IsRun, IsRunFrom}
 use Rattle.simplex_member.specs.Restarts.{RestartFacts}
 use Rattle.simplex_record.specs.Start.{new_state}
 use Rattle.simplex_member.specs.Start.{started_member}
@@ -135,8 +135,13 @@ module _ {K L D : Type 0} (same : D → D → Bool) (elect : Elect L) where
   restart_exact None r result = restart_signs_none K D result
   restart_exact (Some x) r result = restart_signs_none K D result
 
+  prune_exact : (life : Option (StateFacts K L D)) → ExactAt same elect life Prunes Done
+  prune_exact None = refl
+  prune_exact (Some x) = refl
+
   pub step_exact : (m next : MemberFacts K L D) (step : StepFacts K L D) (told : Told K D) → IsStep same elect m step told next → ExactAt same elect m.life step told
   step_exact m next (Calls call) told is_step = call_exact m next call told is_step
+  step_exact m next Prunes told is_step = rw is_step.0 (prune_exact m.life)
   step_exact m next (Restarts r) told (result, restarts, is) = rw is (restart_exact m.life r result)
 
   exact_steps : (m end : MemberFacts K L D) (steps : List (StepFacts K L D)) (replies : List (Told K D)) → IsRun same elect m steps replies end → RunsExactly same elect m steps replies

@@ -11,7 +11,7 @@ use Rattle.simplex_laws.specs.Events.{Event, after_event}
 use Rattle.simplex_member.specs.Lives.{MemberFacts, IsCall, without_life}
 use Rattle.simplex_record.specs.Recovery.{recover_error}
 use Rattle.simplex_member.specs.Restarts.{RestartFacts, cut_member, new_life, retention_grows, GoesOn, IsRestart, IsRestartWhere}
-use Rattle.simplex_member.specs.Runs.{StepFacts, Calls, Restarts, IsRun}
+use Rattle.simplex_member.specs.Runs.{StepFacts, Calls, Prunes, Restarts, IsRun}
 use Rattle.simplex_record.specs.Start.{StartFacts, new_state}
 use Rattle.simplex_member.specs.Start.{started_member}
 use Rattle.simplex_laws.specs.TermLengths.{HasTerms, KeepTerms}
@@ -60,6 +60,8 @@ module _ {K L D : Type 0} (same : D → D → Bool) (elect : Elect L) (term_leng
   run_keeps (step ∷ steps) [] m end fresh sound run = absurd run
   run_keeps (Calls call ∷ steps) (told ∷ replies) m end fresh sound (next, is_step, rest) =
       run_keeps steps replies next end fresh (told_keeps m call told next is_step sound) rest
+  run_keeps (Prunes ∷ steps) (told ∷ replies) m end fresh sound (next, (tells, leaves), rest) =
+      run_keeps steps replies next end fresh (rw leaves sound) rest
   run_keeps (Restarts r ∷ steps) (told ∷ replies) m end fresh sound (next, is_step, rest) =
       run_keeps steps replies next end fresh.1 (restart_keeps m r is_step.0 next fresh.0 sound is_step.1) rest
 

@@ -21,7 +21,7 @@ use Rattle.simplex_laws.specs.Histories.{retaken_events, with_events, with_call_
 use Rattle.simplex_member.specs.Lives.{MemberFacts, without_life, reply_of, left_of, AnswersAlive, IsCall}
 use Rattle.simplex_record.specs.Recovery.{as_artifact, after_replaying, after_entry, after_kept_entry, after_entries, recovered_state, recover_error, TakesEntry, TakesEntries}
 use Rattle.simplex_member.specs.Restarts.{RestartFacts, IsByView, IsRestart, IsRestartWhere, GoesOn, new_life, cut_member, retention_grows}
-use Rattle.simplex_member.specs.Runs.{StepFacts, Calls, Restarts, restart_told, IsRun}
+use Rattle.simplex_member.specs.Runs.{StepFacts, Calls, Prunes, Restarts, restart_told, IsRun}
 use Rattle.simplex_laws.specs.Shows.{Shows}
 use Rattle.simplex_record.specs.Start.{Setup, StartFacts, new_state}
 use Rattle.simplex_member.specs.Start.{started_member}
@@ -219,6 +219,10 @@ module _ {K L D : Type 0} (same : D → D → Bool) (decides : (d e : D) → sam
   run_shown (step ∷ steps) [] history m end shown run = absurd run
   run_shown (Calls call ∷ steps) (told ∷ replies) history m end shown (next, is_step, rest) =
       let later = run_shown steps replies (with_call_events history m.openings call told) next end (called_shown same decides elect m history next call told shown is_step) rest in
+      (later.0, (next, is_step, later.1), later.2)
+  run_shown (Prunes ∷ steps) (told ∷ replies) history m end shown (next, is_step, rest) =
+      let still : IsShown same elect history next = rw is_step.1 shown in
+      let later = run_shown steps replies history next end still rest in
       (later.0, (next, is_step, later.1), later.2)
   run_shown (Restarts r ∷ steps) (told ∷ replies) history m end shown (next, (result, is_restart, tells), rest) =
       by_result result refl is_restart (tells ∙ refl) (λ left_shown. run_shown steps replies history next end left_shown rest) (λ copy copy_shown. run_shown steps replies (recovery r.start copy) next end copy_shown rest)

@@ -16,7 +16,7 @@ use Rattle.simplex_voter.proofs.Gaps.{and_parts, not_true}
 use Rattle.simplex_member.specs.Calls.{NextTimeout, Told, TimesOut}
 use Rattle.simplex_member.specs.Lives.{MemberFacts, IsCall, AnswersAlive, unless_refused}
 use Rattle.simplex_member.specs.Openings.{Openings}
-use Rattle.simplex_member.specs.Runs.{StepFacts, Calls, Restarts, IsStep, IsRun}
+use Rattle.simplex_member.specs.Runs.{StepFacts, Calls, Prunes, Restarts, IsStep, IsRun}
 use Rattle.simplex_member.specs.Start.{started_member}
 use Rattle.simplex_record.specs.Start.{StartFacts, new_state}
 use Rattle.simplex_laws.specs.Deeds.{Deed, of_floor, deeds_at, deeds_of_steps}
@@ -102,6 +102,7 @@ module _ {K L D : Type 0} (same : D → D → Bool) (decides : (d e : D) → sam
 module _ {K L D : Type 0} (same : D → D → Bool) (decides : (d e : D) → same d e ≡ true → d ≡ e) (elect : Elect L) (term_length : ℕ) (some : 0 < term_length) where
   step_times_out : (step : StepFacts K L D) (steps : List (StepFacts K L D)) (told : Told K D) (m next : MemberFacts K L D) → KeepTerms term_length (step ∷ steps) → HoldsIn Timed m.life → IsStep same elect m step told next → HoldsIn Timed next.life
   step_times_out (Calls call) steps told m next keep timed is_step = told_keeps same elect term_length Timed (floor_times_out same elect term_length) (event_times_out same elect) m call told next is_step timed
+  step_times_out Prunes steps told m next keep timed is_step = rw is_step.1 timed
   step_times_out (Restarts r) steps told m next keep timed is_step = restart_keeps same elect term_length Timed (floor_times_out same elect term_length) (event_times_out same elect) m r is_step.0 next keep.0 timed is_step.1
 
   step_answered : (step : StepFacts K L D) (told : Told K D) (deeds : List (Deed D)) (m next : MemberFacts K L D) → HoldsIn Timed m.life → MemberLives term_length deeds m → IsStep same elect m step told next → IsPolled step told

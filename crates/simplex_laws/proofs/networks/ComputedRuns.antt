@@ -8,15 +8,16 @@ use Rattle.std.proofs.lemmas.Bool.{leb-true}
 use Rattle.simplex_types.specs.declared.types.fault.Fault.TheVariants as fault
 use Rattle.simplex_voter.specs.Facts.{StateFacts, Elect}
 use Rattle.simplex_voter.proofs.Gaps.{and_parts}
-use Rattle.simplex_member.specs.Calls.{CallFacts, Told, Refused, Restarted, NotRestarted}
+use Rattle.simplex_member.specs.Calls.{CallFacts, Told, Refused, Restarted, NotRestarted, Done}
 use Rattle.simplex_record.specs.Entries.{entry_view}
 use Rattle.simplex_member.specs.Lives.{MemberFacts, AnswersAlive, IsCall, reply_of, left_of, without_life}
 use Rattle.simplex_record.specs.Recovery.{recover_error}
 use Rattle.simplex_record.specs.declared.record.error.RecoverError.{RecoverError}
 use Rattle.simplex_record.specs.declared.record.error.RecoverError.TheVariants as error
 use Rattle.simplex_member.specs.Restarts.{RestartFacts, cut_member, new_life, retention_grows, IsRestart, IsRestartWhere}
-use Rattle.simplex_member.specs.Runs.{StepFacts, Calls, Restarts, restart_told, IsRun, IsRunFrom}
+use Rattle.simplex_member.specs.Runs.{StepFacts, Calls, Prunes, Restarts, restart_told, IsRun, IsRunFrom}
 use Rattle.simplex_record.specs.Start.{StartFacts, new_state}
+use Rattle.simplex_member.specs.Pruning.{pruned_member}
 use Rattle.simplex_member.specs.Start.{started_member}
 use Rattle.simplex_laws.specs.Stories.{Story, BeginsAs}
 use Rattle.simplex_laws.proofs.lists.Splits.{Contains-cases}
@@ -50,12 +51,14 @@ module _ {K L D : Type 0} (same : D → D → Bool) (elect : Elect L) where
 
   -- what is told, where no growth is refused
   abbrev pub reply_then : Option (StateFacts K L D) → MemberFacts K L D → StepFacts K L D → Told K D
+  reply_then life m Prunes = Done
   reply_then life m (Restarts r) = told_restart (grows_at m r) (due_error m r)
   reply_then None m (Calls call) = Refused fault.Failed
   reply_then (Some x) m (Calls call) = reply_of same elect x m.openings call
 
   -- and what is left
   abbrev pub next_then : Option (StateFacts K L D) → MemberFacts K L D → StepFacts K L D → MemberFacts K L D
+  next_then life m Prunes = pruned_member m
   next_then life m (Restarts r) = left_restart (grows_at m r) (due_error m r) m r
   next_then None m (Calls call) = m
   next_then (Some x) m (Calls call) = left_of same elect x m call
@@ -73,6 +76,7 @@ module _ {K L D : Type 0} (same : D → D → Bool) (elect : Elect L) where
   Fits m [] = Unit {0}
   Fits m (Restarts r ∷ steps) =
       IsNonDecreasingBy entry_view (cut_member m r.drop r.prune).entries × Fits (next_then m.life m (Restarts r)) steps
+  Fits m (Prunes ∷ steps) = Fits (next_then m.life m Prunes) steps
   Fits m (Calls call ∷ steps) = Fits (next_then m.life m (Calls call)) steps
 
   call_answered : (life : Option (StateFacts K L D)) (m : MemberFacts K L D) (call : CallFacts D) → AnswersAlive same elect life m call (reply_then life m (Calls call)) (next_then life m (Calls call))
@@ -100,6 +104,7 @@ module _ {K L D : Type 0} (same : D → D → Bool) (elect : Elect L) where
   pub fits_run : (m : MemberFacts K L D) (steps : List (StepFacts K L D)) → Fits m steps → IsRun same elect m steps (replies_from m steps) (end_from m steps)
   fits_run m [] fits = refl
   fits_run m (Calls call ∷ steps) fits = (next_then m.life m (Calls call), call_made m call, fits_run (next_then m.life m (Calls call)) steps fits)
+  fits_run m (Prunes ∷ steps) fits = (next_then m.life m Prunes, (refl, refl), fits_run (next_then m.life m Prunes) steps fits)
   fits_run m (Restarts r ∷ steps) fits =
       let grows = grows_at m r in
       let due = due_error m r in
@@ -137,6 +142,7 @@ rises n low (x ∷ xs) is (suc i) (suc j) d le less = rises n (n x) xs (and_part
 abbrev pub AllBegin : {K L D : Type 0} → ℕ → ℕ → List (StepFacts K L D) → Type 0
 AllBegin term_length i [] = Unit {0}
 AllBegin term_length i (Calls call ∷ steps) = AllBegin term_length i steps
+AllBegin term_length i (Prunes ∷ steps) = AllBegin term_length i steps
 AllBegin term_length i (Restarts r ∷ steps) = BeginsAs term_length i r.start.setup × AllBegin term_length i steps
 
 same_restart : {K L D : Type 0} (q r : RestartFacts K L D) → Restarts q ≡ Restarts r → q ≡ r
@@ -145,6 +151,7 @@ same_restart q r e = cc
 pub each_begins : {K L D : Type 0} (term_length i : ℕ) (steps : List (StepFacts K L D)) → AllBegin term_length i steps → (r : RestartFacts K L D) → Contains steps (Restarts r) → BeginsAs term_length i r.start.setup
 each_begins term_length i [] all r h = absurd (omega (arith, h.1))
 each_begins term_length i (Calls call ∷ steps) all r h = elim (Contains-cases (Calls call) steps (Restarts r) h) [ inl here ↦ absurd (cc) | inr later ↦ each_begins term_length i steps all r later ]
+each_begins term_length i (Prunes ∷ steps) all r h = elim (Contains-cases Prunes steps (Restarts r) h) [ inl here ↦ absurd (cc) | inr later ↦ each_begins term_length i steps all r later ]
 each_begins {K} {L} {D} term_length i (Restarts q ∷ steps) all r h = elim (Contains-cases (Restarts q) steps (Restarts r) h) [
   | inl here ↦ subst (λ (p : RestartFacts K L D). BeginsAs term_length i p.start.setup) (same_restart q r here) all.0
   | inr later ↦ each_begins term_length i steps all.1 r later

@@ -20,8 +20,9 @@ use Rattle.simplex_member.specs.Calls.{CallFacts, Told, Added, AddedNullificatio
 use Rattle.simplex_member.specs.Lives.{MemberFacts, IsCall, AnswersAlive, left_of, without_life}
 use Rattle.simplex_record.specs.Recovery.{recover_error, recovered_state}
 use Rattle.simplex_member.specs.Restarts.{RestartFacts, IsByView, cut_member, new_life, retention_grows, GoesOn, IsRestart, IsRestartWhere}
-use Rattle.simplex_member.specs.Runs.{StepFacts, Calls, Restarts, restart_told, IsRun}
+use Rattle.simplex_member.specs.Runs.{StepFacts, Calls, Prunes, Restarts, restart_told, IsRun}
 use Rattle.simplex_record.specs.Start.{StartFacts, new_state}
+use Rattle.simplex_member.specs.Pruning.{pruned_member}
 use Rattle.simplex_member.specs.Start.{started_member}
 use Rattle.simplex_laws.specs.Deeds.{Deed, Signs, handed_in, of_floor, signed_in, accepted_by, deeds_of_call, deeds_at, deeds_of_steps}
 use Rattle.simplex_laws.specs.Exactly.{ExactAt, proposal_at}
@@ -31,7 +32,7 @@ use Rattle.simplex_laws.specs.TermLengths.{HasTerms, KeepTerms}
 use Rattle.simplex_laws.proofs.own_records.BuiltHigh.{IsBuilt, built_still, call_held, taken_small, recovered_held}
 use Rattle.simplex_laws.proofs.frames.BuiltProposals.{AllHeld}
 use Rattle.simplex_laws.proofs.agreement.Exactly.{call_exact}
-use Rattle.simplex_laws.proofs.own_records.Runs.{KeepsRecord, called, restarted, run_own, start_own, copy_high}
+use Rattle.simplex_laws.proofs.own_records.Runs.{KeepsRecord, called, pruned, restarted, run_own, start_own, copy_high}
 use Rattle.simplex_laws.proofs.records.DeedsShown.{only_one}
 use Rattle.simplex_laws.proofs.records.RunsLawful.{LivesOn}
 use Rattle.simplex_laws.proofs.lists.Signed.{signed_cases}
@@ -166,6 +167,13 @@ module _ {K L D : Type 0} (same : D → D → Bool) (decides : (d e : D) → sam
     ]);
   }
 
+  -- a pruning within the life
+  pub prune_builds : VotesBuilt (past ++ Prunes ∷ []) (deeds ++ []) (pruned_member m)
+  prune_builds = subst (λ all. VotesBuilt (past ++ Prunes ∷ []) all (pruned_member m)) (sym (append-nil deeds)) (record {
+    holds = holds_still past (Prunes ∷ []) m.life votes.holds;
+    voted = λ p h. built_still past (Prunes ∷ []) p (votes.voted p h);
+  })
+
 -- a run
 
 module _ {K L D : Type 0} (same : D → D → Bool) (decides : (d e : D) → same d e ≡ true → d ≡ e) (itself : (d : D) → same d d ≡ true) (elect : Elect L) (term_length : ℕ) (some : 0 < term_length) where
@@ -185,6 +193,12 @@ module _ {K L D : Type 0} (same : D → D → Bool) (decides : (d e : D) → sam
       (called same decides itself elect term_length some deeds m next call told own is_step)
       (call_builds same decides elect term_length past deeds m own votes call told next is_step)
       rest)
+  run_builds (Prunes ∷ steps) (told ∷ replies) past deeds m end fresh own votes (next, (tells, leaves), rest) =
+      rw tells (one_more past Prunes steps deeds [] (deeds_of_steps steps replies) end
+      (run_builds steps replies (past ++ Prunes ∷ []) (deeds ++ []) next end fresh
+      (rw leaves (pruned same decides itself elect term_length some deeds m own))
+      (rw leaves (prune_builds same decides elect term_length past deeds m own votes))
+      rest))
   run_builds (Restarts r ∷ steps) (told ∷ replies) past deeds m end fresh own votes (next, (result, restarts, tells), rest) =
       one_more past (Restarts r) steps deeds (deeds_at (Restarts r) told) (deeds_of_steps steps replies) end
       (run_builds steps replies (past ++ Restarts r ∷ []) (deeds ++ deeds_at (Restarts r) told) next end fresh.1

@@ -1,6 +1,6 @@
 -- For `own_record_is_taken`.
 -- What holds of the verdicts and votes that a member records: drops, prunes, copies by view and growth keep it.
-use Rattle.std.proofs.Common.{◌≡◌, refl, ap, sym, ◌∙◌, subst, ℕ, inl, inr, Bool, true, false, nat_le, List, [], ◌∷◌, ◌++◌, append_assoc, Contains, filter, arith}
+use Rattle.std.proofs.Common.{◌≡◌, refl, ap, sym, ◌∙◌, subst, ℕ, inl, inr, Bool, true, false, List, [], ◌∷◌, ◌++◌, append_assoc, Contains, filter, arith}
 use Rattle.std.specs.Prelude.{◌==◌}
 use Rattle.std.proofs.lemmas.Bool.{false≢true, eq-eqb}
 use Rattle.std.proofs.lemmas.List.Elements.{Contains-append_left, Contains-append_cases}
@@ -178,22 +178,22 @@ module _ {D : Type 0} (deeds : List (Deed D)) (entries : List (ArtifactFacts D))
       there : (e : ArtifactFacts D) → Contains left e → Contains entries e
       there e h = subst (λ es. Contains es e) (sym split) (Contains-append_left left tail e h)
 
-  -- without what stands below a view
-  pub own_bounded : (bound : ℕ) → OwnRecord deeds (filter (λ e. nat_le bound (entry_view e)) entries)
-  own_bounded bound = record {
+  -- without the entries of some views
+  pub own_bounded : (stays : ℕ → Bool) → OwnRecord deeds (filter (λ e. stays (entry_view e)) entries)
+  own_bounded stays = record {
     notarized = λ before after round success split.
         (let whole = filter_split test entries before after (Verdict round success) split in
         let c = own.notarized whole.0 whole.1 round success whole.2 in
         let here : Contains (filter test entries) (Verdict round success) = subst (λ es. Contains es (Verdict round success)) (sym split) (Contains-middle before after (Verdict round success)) in
-        let passes : nat_le bound round.view ≡ true = filtered_passes test entries (Verdict round success) here in
-        let stays : nat_le bound c.0.proposal.round.view ≡ true = ap (nat_le bound) c.2 ∙ passes in
-        (c.0, subst (λ es. Contains es (Accepted (Notarized c.0))) (sym whole.3) (Contains-filter test whole.0 (Accepted (Notarized c.0)) c.1 stays), c.2));
+        let passes : stays round.view ≡ true = filtered_passes test entries (Verdict round success) here in
+        let there : stays c.0.proposal.round.view ≡ true = ap stays c.2 ∙ passes in
+        (c.0, subst (λ es. Contains es (Accepted (Notarized c.0))) (sym whole.3) (Contains-filter test whole.0 (Accepted (Notarized c.0)) c.1 there), c.2));
     one_verdict = λ round other success given h k. own.one_verdict round other success given (Contains-filtered test entries (Verdict round success) h) (Contains-filtered test entries (Verdict other given) k);
     notarize_cast = λ p m h. own.notarize_cast p m (Contains-filtered test entries (NotarizeVote p m) h);
   }
     where
       test : ArtifactFacts D → Bool
-      test e = nat_le bound (entry_view e)
+      test e = stays (entry_view e)
 
   -- a copy with the entries of each view in their order
   pub own_copy : (copy : List (ArtifactFacts D)) → ((v : ℕ) → filter (λ e. entry_view e == v) copy ≡ filter (λ e. entry_view e == v) entries) → OwnRecord deeds copy

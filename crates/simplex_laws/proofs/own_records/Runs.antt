@@ -1,13 +1,13 @@
 -- For `own_record_is_taken`.
 -- What a member records in a run, over all its lives, is taken again but for what comes from outside.
-use Rattle.std.proofs.Common.{◌≡◌, refl, ap, sym, ◌∙◌, subst, ℕ, zero, suc, ◌-◌, ◌<◌, ◌⊎◌, inl, inr, Bool, true, false, List, [], ◌∷◌, ◌++◌, append_assoc, length, take, drop, filter, Option, Some, None, Result, Ok, Err, arith}
+use Rattle.std.proofs.Common.{◌≡◌, refl, ap, sym, ◌∙◌, subst, ℕ, zero, suc, ◌-◌, ◌<◌, ◌⊎◌, inl, inr, Bool, true, false, ◌||◌, nat_le, is_some, Contains, List, [], ◌∷◌, ◌++◌, append_assoc, length, take, drop, filter, Option, Some, None, Result, Ok, Err, arith}
 use Rattle.std.specs.Prelude.{◌==◌, MatchOption}
 use Rattle.std.proofs.lemmas.Bool.{cases_Bool}
 use Rattle.std.proofs.lemmas.List.{append-nil, take-append-drop}
 use Rattle.simplex_types.specs.Certificates.{Notarized, Finalized, ArtifactFacts, Verdict, Accepted}
 use Rattle.simplex_types.specs.Config.{FloorFacts, Genesis, Finalized as FinalizedFloor}
 use Rattle.simplex_types.specs.declared.types.fault.Fault.{Fault}
-use Rattle.simplex_voter.specs.Facts.{StateFacts, Elect}
+use Rattle.simplex_voter.specs.Facts.{StateFacts, Elect, is_tracked}
 use Rattle.simplex_record.specs.declared.record.error.RecoverError.{RecoverError}
 use Rattle.simplex_record.specs.declared.record.error.RecoverError.TheVariants as error
 use Rattle.simplex_member.specs.Allowed.{is_allowed, fault_of}
@@ -19,7 +19,7 @@ use Rattle.simplex_member.specs.Lives.{MemberFacts, IsCall, AnswersAlive, reply_
 use Rattle.simplex_laws.specs.Outside.{AcceptedParentAbove, is_floor_too_large, IsFromOutside, IsExcused, VerdictsFollowNotarizations}
 use Rattle.simplex_record.specs.Recovery.{recover_error, recovered_state, is_finalization, with_floor}
 use Rattle.simplex_member.specs.Restarts.{RestartFacts, IsByView, cut_member, new_life, retention_grows, GoesOn, IsRestart, IsRestartWhere}
-use Rattle.simplex_member.specs.Runs.{StepFacts, Calls, Restarts, restart_told, IsRun, EndsRun, EndsRunFrom}
+use Rattle.simplex_member.specs.Runs.{StepFacts, Calls, Prunes, Restarts, restart_told, IsRun, EndsRun, EndsRunFrom}
 use Rattle.simplex_record.specs.Start.{StartFacts, new_state}
 use Rattle.simplex_member.specs.Start.{started_member}
 use Rattle.simplex_record.proofs.Cuts.{none_dropped}
@@ -32,7 +32,10 @@ use Rattle.simplex_laws.proofs.own_records.Outside.{Fit, error_outside}
 use Rattle.simplex_laws.proofs.own_records.Recorded.{OwnRecord, own_together, own_nothing, HasNoVerdict, own_floor, own_left, own_bounded, own_copy, same_entries}
 use Rattle.simplex_laws.proofs.records.DeedsShown.{only_one}
 use Rattle.simplex_laws.proofs.own_records.RecoveredVerdicts.{recovered_shows}
-use Rattle.simplex_laws.proofs.records.RunsLawful.{MemberLives, between_of, cut_between, call_lives_on, restart_lives_on, start_lives}
+use Rattle.simplex_laws.proofs.records.RunsLawful.{MemberLives, between_of, cut_between, call_lives_on, prune_lives_on, restart_lives_on, start_lives}
+use Rattle.simplex_laws.proofs.records.PrunedRecords.{shown_tracked, tracked_stays}
+use Rattle.simplex_laws.proofs.lists.Filters.{Contains-filtered}
+use Rattle.simplex_member.specs.Pruning.{stays_within, pruned_member}
 use Rattle.simplex_laws.proofs.own_records.VerdictsByCalls.{call_told}
 use Rattle.simplex_laws.proofs.own_records.ShownVerdicts.{Tells, shows_more}
 use Rattle.simplex_laws.proofs.own_records.SmallViews.{AreSmall}
@@ -64,7 +67,7 @@ module _ {D : Type 0} where
 
   pruned_own : (deeds : List (Deed D)) (entries : List (ArtifactFacts D)) (retention : ℕ) → OwnRecord deeds entries → OwnRecord deeds (pruned_entries retention entries)
   unfolding pruned_entries
-  pruned_own deeds entries retention own = own_bounded deeds entries own (finalized_in entries - retention)
+  pruned_own deeds entries retention own = own_bounded deeds entries own (nat_le (finalized_in entries - retention))
 
   -- the floor adds no verdict
   floor_adds : (entries : List (ArtifactFacts D)) (floor : FloorFacts D) → (more : List (ArtifactFacts D)) × (with_floor entries floor ≡ entries ++ more) × HasNoVerdict more
@@ -74,6 +77,19 @@ module _ {D : Type 0} where
       by_record : (b : Bool) → stands c.proposal.round.view is_finalization entries ≡ b → (more : List (ArtifactFacts D)) × (with_floor entries (FinalizedFloor c) ≡ entries ++ more) × HasNoVerdict more
       by_record true is = rw is ([], sym (append-nil entries), λ round success h. absurd (omega (arith, h.1)))
       by_record false is = rw is (Accepted (Finalized c) ∷ [], refl, λ round success h. (let e = only_one (Accepted (Finalized c)) (Verdict round success) h in cc))
+
+module _ {K L D : Type 0} (entries : List (ArtifactFacts D)) (x : StateFacts K L D) (bound : ℕ) where
+  abbrev test : ArtifactFacts D → Bool
+  test e = is_tracked x (entry_view e) || nat_le bound (entry_view e)
+
+  shows_still : Shows entries x → Shows (filter test entries) x
+  shows_still shows = record {
+    notarized = λ v is.
+        (let c = shows.notarized v is in
+        let tracked = shown_tracked x v (λ r. is_some r.notarization) refl is in
+        (c.0, tracked_stays entries x bound (Accepted (Notarized c.0)) c.1 (subst (λ u. is_tracked x u ≡ true) (sym c.2) tracked), c.2));
+    judged = λ round success h known. shows.judged round success (Contains-filtered test entries (Verdict round success) h) known;
+  }
 
 module _ {K L D : Type 0} where
   own_of : (deeds : List (Deed D)) (entries : List (ArtifactFacts D)) (life : Option (StateFacts K L D)) → TellsOn deeds entries life → OwnRecord deeds entries
@@ -88,6 +104,14 @@ module _ {K L D : Type 0} where
   cut_own deeds m n true own =
       let left = left_first m.closed n m.entries in
       pruned_own deeds (without_last m.closed n m.entries) m.retention (own_left deeds m.entries own (without_last m.closed n m.entries) left.0 left.1)
+
+  -- a pruning within the life: what the state tracks, and so shows, stays in the record
+  prune_tells_on : (deeds : List (Deed D)) (m : MemberFacts K L D) → MemberTells deeds m → MemberTells (deeds ++ []) (pruned_member m)
+  prune_tells_on deeds m tells = untold deeds (pruned_member m) (by_life m.life refl tells)
+    where
+      by_life : (o : Option (StateFacts K L D)) → m.life ≡ o → TellsOn deeds m.entries o → TellsOn deeds (pruned_member m).entries o
+      by_life None dead own = own_bounded deeds m.entries own (stays_within m)
+      by_life (Some x) alive told = record { own = own_bounded deeds m.entries told.own (stays_within m); shows = rw alive (shows_still m.entries x (finalized_in m.entries - m.retention) told.shows) }
 
   -- the same entries, and the floor's finalization besides
   shows_whole : (entries copy : List (ArtifactFacts D)) (floor : FloorFacts D) (x : StateFacts K L D) → ((v : ℕ) → filter (λ e. entry_view e == v) copy ≡ filter (λ e. entry_view e == v) entries) → Shows copy x → Shows (with_floor entries floor) x
@@ -178,6 +202,9 @@ module _ {K L D : Type 0} (same : D → D → Bool) (decides : (d e : D) → sam
     tells = restart_tells_on same elect term_length deeds m r result next own.tells is;
   })
 
+  pub pruned : (deeds : List (Deed D)) (m : MemberFacts K L D) → KeepsRecord term_length deeds m → KeepsRecord term_length (deeds ++ []) (pruned_member m)
+  pruned deeds m own = record { lives = prune_lives_on term_length deeds m own.lives; tells = prune_tells_on deeds m own.tells }
+
   -- so it does where the run ends
   pub run_own : (steps : List (StepFacts K L D)) (replies : List (Told K D)) (deeds : List (Deed D)) (m end : MemberFacts K L D) → KeepTerms term_length steps → KeepsRecord term_length deeds m → IsRun same elect m steps replies end → KeepsRecord term_length (deeds ++ deeds_of_steps steps replies) end
   run_own [] [] deeds m end fresh own run = subst (λ all. KeepsRecord term_length all end) (sym (append-nil deeds)) (subst (λ n. KeepsRecord term_length deeds n) run own)
@@ -186,6 +213,9 @@ module _ {K L D : Type 0} (same : D → D → Bool) (decides : (d e : D) → sam
   run_own (Calls call ∷ steps) (told ∷ replies) deeds m end fresh own (next, is_step, rest) =
       subst (λ all. KeepsRecord term_length all end) (append_assoc deeds (deeds_at {L = L} (Calls call) told) (deeds_of_steps steps replies))
       (run_own steps replies (deeds ++ deeds_of_call call told) next end fresh (called deeds m next call told own is_step) rest)
+  run_own (Prunes ∷ steps) (told ∷ replies) deeds m end fresh own (next, (tells, leaves), rest) =
+      rw tells (subst (λ all. KeepsRecord term_length all end) (append_assoc deeds [] (deeds_of_steps steps replies))
+      (run_own steps replies (deeds ++ []) next end fresh (rw leaves (pruned deeds m own)) rest))
   run_own (Restarts r ∷ steps) (told ∷ replies) deeds m end fresh own (next, is_step, rest) =
       subst (λ all. KeepsRecord term_length all end) (append_assoc deeds (deeds_at (Restarts r) told) (deeds_of_steps steps replies))
       (run_own steps replies (deeds ++ deeds_at (Restarts r) told) next end fresh.1 (restarted deeds m next r told fresh.0 own is_step) rest)
@@ -235,6 +265,8 @@ module _ {K L D : Type 0} (same : D → D → Bool) (decides : (d e : D) → sam
   run_excused [] deeds m found fresh own ends = absurd ends
   run_excused (Calls call ∷ steps) deeds m found fresh own (inl refused) = absurd refused
   run_excused (Calls call ∷ steps) deeds m found fresh own (inr (told, next, is_step, served, later)) = run_excused steps (deeds ++ deeds_of_call call told) next found fresh (called deeds m next call told own is_step) later
+  run_excused (Prunes ∷ steps) deeds m found fresh own (inl refused) = absurd refused
+  run_excused (Prunes ∷ steps) deeds m found fresh own (inr (told, next, is_step, served, later)) = run_excused steps (deeds ++ []) next found fresh (rw is_step.1 (pruned deeds m own)) later
   run_excused (Restarts r ∷ steps) deeds m found fresh own (inl (left, refused)) = restart_excused deeds m left r (Err found) found refl own refused
   run_excused (Restarts r ∷ steps) deeds m found fresh own (inr (told, next, is_step, served, later)) = run_excused steps (deeds ++ deeds_at (Restarts r) told) next found fresh.1 (restarted deeds m next r told fresh.0 own is_step) later
 

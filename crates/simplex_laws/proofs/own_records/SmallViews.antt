@@ -20,7 +20,7 @@ use Rattle.simplex_member.specs.Lives.{MemberFacts, IsCall, AnswersAlive, reply_
 use Rattle.simplex_member.specs.Made.{answer}
 use Rattle.simplex_record.specs.Recovery.{recover_error}
 use Rattle.simplex_member.specs.Restarts.{RestartFacts, cut_member, new_life, retention_grows, GoesOn, IsRestart, IsRestartWhere}
-use Rattle.simplex_member.specs.Runs.{StepFacts, Calls, Restarts, restart_told, IsRun}
+use Rattle.simplex_member.specs.Runs.{StepFacts, Calls, Prunes, Restarts, restart_told, IsRun}
 use Rattle.simplex_record.specs.Start.{new_state}
 use Rattle.simplex_laws.specs.Deeds.{Deed, Accepts, handed_in, of_floor, of_vote, signed_in, accepted_by, deeds_of_call, deeds_at, deeds_of_steps}
 use Rattle.simplex_laws.proofs.records.NewLives.{first_none}
@@ -148,6 +148,8 @@ module _ {K L D : Type 0} (same : D → D → Bool) (elect : Elect L) where
   steps_small (step ∷ steps) [] m end run = absurd run
   steps_small (Calls call ∷ steps) (told ∷ replies) m end (next, is_call, rest) =
       small_both (deeds_at {L = L} (Calls call) told) (deeds_of_steps steps replies) (call_small m next call told is_call) (steps_small steps replies next end rest)
+  steps_small (Prunes ∷ steps) (told ∷ replies) m end (next, (tells, leaves), rest) =
+      rw tells (steps_small steps replies next end rest)
   steps_small (Restarts r ∷ steps) (told ∷ replies) m end (next, (result, restarts, tells), rest) =
       small_both (deeds_at (Restarts r) told) (deeds_of_steps steps replies)
       (rw tells (restart_small m next r result restarts))

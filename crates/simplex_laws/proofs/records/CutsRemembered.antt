@@ -1,8 +1,8 @@
 -- For `votes_are_lawful`.
 -- A copy of a record by view, a record without its last entries, and a pruned one remember the deeds.
-use Rattle.std.proofs.Common.{◌≡◌, refl, ap, sym, ◌∙◌, subst, ℕ, inl, inr, Bool, true, false, nat_le, max, List, [], ◌∷◌, ◌++◌, append_assoc, Contains, filter, arith}
+use Rattle.std.proofs.Common.{◌≡◌, refl, ap, sym, ◌∙◌, subst, ℕ, ◌<◌, ◌≤◌, inl, inr, Bool, true, false, max, List, [], ◌∷◌, ◌++◌, append_assoc, Contains, filter, arith}
 use Rattle.std.specs.Prelude.{◌==◌}
-use Rattle.std.proofs.lemmas.Bool.{cases_Bool, false≢true, eq-eqb, leb-false}
+use Rattle.std.proofs.lemmas.Bool.{cases_Bool, cases_lt, false≢true, eq-eqb}
 use Rattle.std.proofs.lemmas.List.{append-nil}
 use Rattle.std.proofs.lemmas.List.Elements.{Contains-append_left, Contains-append_cases}
 use Rattle.simplex_types.specs.Certificates.{Finalized, ArtifactFacts, NullifyVote, FinalizeVote, Verdict, Accepted}
@@ -19,6 +19,13 @@ use Rattle.simplex_laws.proofs.agreement.VoteOrder.{Contains-middle}
 use Rattle.simplex_laws.proofs.lists.Filters.{filter_split, filter_middle, Contains-filter, Contains-filtered, filtered_passes}
 use Rattle.simplex_laws.proofs.records.DeedsShown.{Remembers}
 use Rattle.simplex_laws.proofs.records.Remembering.{remembers_more, grows_certificate}
+
+-- a view whose entries don't stay is below the bound
+pub falls_below : (stays : ℕ → Bool) (bound : ℕ) → ((v : ℕ) → bound ≤ v → stays v ≡ true) → (v : ℕ) → stays v ≡ false → v < bound
+falls_below stays bound above v falls = elim (cases_lt v bound) [
+  | inl below ↦ below
+  | inr high ↦ absurd (false≢true (sym falls ∙ above v (omega arith)))
+]
 
 module _ {D : Type 0} (deeds : List (Deed D)) (kept : ℕ) (entries : List (ArtifactFacts D)) (remembers : Remembers deeds kept entries) where
   -- entries of each view in the same order
@@ -78,25 +85,25 @@ module _ {D : Type 0} (deeds : List (Deed D)) (kept : ℕ) (entries : List (Arti
         | inr dropped ↦ absurd (false≢true (sym (no_votes e dropped) ∙ vote))
       ]
 
-  -- without what stands below a view
+  -- without entries of some views, all below a bound
 
-  pub bounded_remembers : (bound : ℕ) → Remembers deeds (max kept bound) (filter (λ e. nat_le bound (entry_view e)) entries)
-  bounded_remembers bound = record {
+  pub bounded_remembers : (stays : ℕ → Bool) (bound : ℕ) → ((v : ℕ) → bound ≤ v → stays v ≡ true) → Remembers deeds (max kept bound) (filter (λ e. stays (entry_view e)) entries)
+  bounded_remembers stays bound above = record {
     accepted = λ c h. remembers.accepted c (Contains-filtered test entries (Accepted c) h);
     nullify_cast = λ round m h. remembers.nullify_cast round m (Contains-filtered test entries (NullifyVote round m) h);
     finalize_cast = λ p m h. remembers.finalize_cast p m (Contains-filtered test entries (FinalizeVote p m) h);
     nullify_kept = λ round h. elim (remembers.nullify_kept round h) [
       | inr below ↦ inr (omega arith)
-      | inl e ↦ elim (cases_Bool (nat_le bound round.view)) [
-        | inl stays ↦ inl (e.0, Contains-filter test entries (NullifyVote round e.0) e.1 stays)
-        | inr falls ↦ inr (omega (arith, leb-false bound round.view falls))
+      | inl e ↦ elim (cases_Bool (stays round.view)) [
+        | inl there ↦ inl (e.0, Contains-filter test entries (NullifyVote round e.0) e.1 there)
+        | inr falls ↦ inr (omega (arith, falls_below stays bound above round.view falls))
       ]
     ];
     finalize_kept = λ p h. elim (remembers.finalize_kept p h) [
       | inr below ↦ inr (omega arith)
-      | inl e ↦ elim (cases_Bool (nat_le bound p.round.view)) [
-        | inl stays ↦ inl (e.0, Contains-filter test entries (FinalizeVote p e.0) e.1 stays)
-        | inr falls ↦ inr (omega (arith, leb-false bound p.round.view falls))
+      | inl e ↦ elim (cases_Bool (stays p.round.view)) [
+        | inl there ↦ inl (e.0, Contains-filter test entries (FinalizeVote p e.0) e.1 there)
+        | inr falls ↦ inr (omega (arith, falls_below stays bound above p.round.view falls))
       ]
     ];
     above_genesis = remembers.above_genesis;
@@ -104,13 +111,13 @@ module _ {D : Type 0} (deeds : List (Deed D)) (kept : ℕ) (entries : List (Arti
         (let whole = filter_split test entries before after (FinalizeVote p m) split in
         let verdict = remembers.judged whole.0 whole.1 p m whole.2 in
         let here : Contains (filter test entries) (FinalizeVote p m) = subst (λ es. Contains es (FinalizeVote p m)) (sym split) (Contains-middle before after (FinalizeVote p m)) in
-        let passes : nat_le bound p.round.view ≡ true = filtered_passes test entries (FinalizeVote p m) here in
-        let stays : nat_le bound verdict.0.view ≡ true = ap (nat_le bound) verdict.2 ∙ passes in
-        (verdict.0, subst (λ es. Contains es (Verdict verdict.0 true)) (sym whole.3) (Contains-filter test whole.0 (Verdict verdict.0 true) verdict.1 stays), verdict.2));
+        let passes : stays p.round.view ≡ true = filtered_passes test entries (FinalizeVote p m) here in
+        let there : stays verdict.0.view ≡ true = ap stays verdict.2 ∙ passes in
+        (verdict.0, subst (λ es. Contains es (Verdict verdict.0 true)) (sym whole.3) (Contains-filter test whole.0 (Verdict verdict.0 true) verdict.1 there), verdict.2));
   }
     where
       test : ArtifactFacts D → Bool
-      test e = nat_le bound (entry_view e)
+      test e = stays (entry_view e)
 
   -- with the floor's finalization
 

@@ -1,6 +1,6 @@
 -- For `votes_are_lawful`.
 -- What holds of a member between its lives, and that drops, prunes, new lives and calls keep it.
-use Rattle.std.proofs.Common.{◌≡◌, refl, ap, sym, ◌∙◌, subst, ℕ, zero, suc, ◌+◌, ◌-◌, ◌<◌, ◌≤◌, ◌⊎◌, inl, inr, true, false, nat_lt, nat_le, max, List, [], ◌∷◌, ◌++◌, append_assoc, length, Contains, take, filter, Option, Some, None, slice_get, arith}
+use Rattle.std.proofs.Common.{◌≡◌, refl, ap, sym, ◌∙◌, subst, ℕ, zero, suc, ◌+◌, ◌-◌, ◌<◌, ◌≤◌, ◌⊎◌, inl, inr, Bool, true, false, nat_lt, nat_le, max, List, [], ◌∷◌, ◌++◌, append_assoc, length, Contains, take, filter, Option, Some, None, slice_get, arith}
 use Rattle.std.specs.Option.{option_map_or}
 use Rattle.std.proofs.lemmas.Bool.{cases_Bool, cases_lt, false≢true, le-leb, ltb-true}
 use Rattle.std.proofs.lemmas.List.{append-nil, length-append}
@@ -87,14 +87,14 @@ module _ {D : Type 0} where
   by_kind (Accepted _) = inl refl
   by_kind _ = inl refl
 
-  is_highest : (entries : List (ArtifactFacts D)) (c : ProposalFacts D) → Contains entries (Accepted (Finalized c)) → c.proposal.round.view ≤ finalized_in entries
+  pub is_highest : (entries : List (ArtifactFacts D)) (c : ProposalFacts D) → Contains entries (Accepted (Finalized c)) → c.proposal.round.view ≤ finalized_in entries
   is_highest [] c h = absurd (omega (arith, h.1))
   is_highest (e ∷ rest) c h = elim (Contains-cases e rest (Accepted (Finalized c)) h) [
     | inl here ↦ (let same : finalized_by e ≡ c.proposal.round.view = ap finalized_by here in omega arith)
     | inr later ↦ (let below = is_highest rest c later in omega arith)
   ]
 
-  has_highest : (entries : List (ArtifactFacts D)) → (finalized_in entries ≡ 0) ⊎ ((c : ProposalFacts D) × Contains entries (Accepted (Finalized c)) × (c.proposal.round.view ≡ finalized_in entries))
+  pub has_highest : (entries : List (ArtifactFacts D)) → (finalized_in entries ≡ 0) ⊎ ((c : ProposalFacts D) × Contains entries (Accepted (Finalized c)) × (c.proposal.round.view ≡ finalized_in entries))
   has_highest [] = inl refl
   has_highest (e ∷ rest) = elim (cases_lt (finalized_in rest) (finalized_by e)) [
     | inl first ↦ elim (by_kind e) [
@@ -131,24 +131,29 @@ module _ {D : Type 0} (term_length : ℕ) (deeds : List (Deed D)) (closed kept :
         within = falls.3;
       }
 
-  -- a prune, which closes what it leaves
-  pub pruned_between : (retention : ℕ) → Between term_length deeds (length (pruned_entries retention entries)) (max kept (finalized_in entries - retention)) (pruned_entries retention entries)
-  unfolding pruned_entries
-  pruned_between retention =
-      let bound = finalized_in entries - retention in
-      let left = filter (λ e. nat_le bound (entry_view e)) entries in
+  -- entries of some views are taken, all below a bound that is no higher than the highest finalized view, and the rest is closed
+  pub bounded_between : (stays : ℕ → Bool) (bound : ℕ) → ((v : ℕ) → bound ≤ v → stays v ≡ true) → bound ≤ finalized_in entries → Between term_length deeds (length (filter (λ e. stays (entry_view e)) entries)) (max kept bound) (filter (λ e. stays (entry_view e)) entries)
+  bounded_between stays bound above low =
+      let left = filter (λ e. stays (entry_view e)) entries in
       let most : kept ≤ finalized_in entries = high_below closed kept entries between.high in
       record {
         lawful = between.lawful;
-        remembers = bounded_remembers deeds kept entries between.remembers bound;
-        notes = notes_bounded deeds kept entries between.notes bound;
+        remembers = bounded_remembers deeds kept entries between.remembers stays bound above;
+        notes = notes_bounded deeds kept entries between.notes stays bound above;
         high = elim (has_highest entries) [
           | inl none ↦ inl (omega arith)
           | inr c ↦
-              (let passes : nat_le bound c.0.proposal.round.view ≡ true = le-leb bound c.0.proposal.round.view (omega (arith, c.2)) in
-              let parts = Contains-split left (Accepted (Finalized c.0)) (Contains-filter (λ e. nat_le bound (entry_view e)) entries (Accepted (Finalized c.0)) c.1 passes) in
+              (let passes : stays c.0.proposal.round.view ≡ true = above c.0.proposal.round.view (omega (arith, c.2)) in
+              let parts = Contains-split left (Accepted (Finalized c.0)) (Contains-filter (λ e. stays (entry_view e)) entries (Accepted (Finalized c.0)) c.1 passes) in
               let long = ap length parts.2 ∙ length-append parts.0 (Accepted (Finalized c.0) ∷ parts.1) in
               inr (c.0, parts.0, parts.1, parts.2, omega (arith, long), omega (arith, c.2)))
         ];
         within = omega arith;
       }
+
+  -- a prune, which closes what it leaves
+  pub pruned_between : (retention : ℕ) → Between term_length deeds (length (pruned_entries retention entries)) (max kept (finalized_in entries - retention)) (pruned_entries retention entries)
+  unfolding pruned_entries
+  pruned_between retention =
+      let bound = finalized_in entries - retention in
+      bounded_between (nat_le bound) bound (λ v above. le-leb bound v above) (omega arith)

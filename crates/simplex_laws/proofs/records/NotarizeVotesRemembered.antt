@@ -1,8 +1,8 @@
 -- For `votes_are_lawful`.
 -- What a record remembers of the votes to notarize is kept: by each deed, by a copy of the record, and where it is cut.
-use Rattle.std.proofs.Common.{◌≡◌, refl, sym, subst, ℕ, inl, inr, Bool, true, false, nat_le, max, if◌then◌else◌, List, [], ◌∷◌, ◌++◌, Contains, filter, Option, Some, None, arith}
+use Rattle.std.proofs.Common.{◌≡◌, refl, sym, subst, ℕ, ◌≤◌, inl, inr, Bool, true, false, max, if◌then◌else◌, List, [], ◌∷◌, ◌++◌, Contains, filter, Option, Some, None, arith}
 use Rattle.std.specs.Prelude.{◌==◌, option_map, option_and_then}
-use Rattle.std.proofs.lemmas.Bool.{cases_Bool, false≢true, true≢false, eq-eqb, leb-false}
+use Rattle.std.proofs.lemmas.Bool.{cases_Bool, false≢true, true≢false, eq-eqb}
 use Rattle.std.proofs.lemmas.List.{append-nil}
 use Rattle.std.proofs.lemmas.List.Elements.{Contains-append_left, Contains-append_right, Contains-append_cases}
 use Rattle.simplex_types.specs.Certificates.{Notarized, Nullified, Finalized, ArtifactFacts, NotarizeVote, NullifyVote, FinalizeVote, Verdict, Accepted}
@@ -29,6 +29,7 @@ use Rattle.simplex_laws.proofs.lists.Filters.{Contains-filter, Contains-filtered
 use Rattle.simplex_laws.proofs.records.DeedsShown.{only_one}
 use Rattle.simplex_laws.proofs.votes.NotarizeVotesShown.{RemembersNotes, CastsNone}
 use Rattle.simplex_laws.proofs.frames.CallsOnWork.{is_work}
+use Rattle.simplex_laws.proofs.records.CutsRemembered.{falls_below}
 
 -- no entry of them is a vote to notarize
 abbrev pub NotesNone : {D : Type 0} → List (ArtifactFacts D) → Type 0
@@ -107,21 +108,21 @@ module _ {D : Type 0} (deeds : List (Deed D)) (kept : ℕ) (entries : List (Arti
         | inr dropped ↦ absurd (false≢true (sym (no_votes (NotarizeVote p m) dropped)))
       ]
 
-  -- without what stands below a view
-  pub notes_bounded : (bound : ℕ) → RemembersNotes deeds (max kept bound) (filter (λ e. nat_le bound (entry_view e)) entries)
-  notes_bounded bound = record {
+  -- without entries of some views, all below a bound
+  pub notes_bounded : (stays : ℕ → Bool) (bound : ℕ) → ((v : ℕ) → bound ≤ v → stays v ≡ true) → RemembersNotes deeds (max kept bound) (filter (λ e. stays (entry_view e)) entries)
+  notes_bounded stays bound above = record {
     cast = λ p m h. remembers.cast p m (Contains-filtered test entries (NotarizeVote p m) h);
     noted = λ p h. elim (remembers.noted p h) [
       | inr below ↦ inr (omega arith)
-      | inl e ↦ elim (cases_Bool (nat_le bound p.round.view)) [
-        | inl stays ↦ inl (e.0, Contains-filter test entries (NotarizeVote p e.0) e.1 stays)
-        | inr falls ↦ inr (omega (arith, leb-false bound p.round.view falls))
+      | inl e ↦ elim (cases_Bool (stays p.round.view)) [
+        | inl there ↦ inl (e.0, Contains-filter test entries (NotarizeVote p e.0) e.1 there)
+        | inr falls ↦ inr (omega (arith, falls_below stays bound above p.round.view falls))
       ]
     ];
   }
     where
       test : ArtifactFacts D → Bool
-      test e = nat_le bound (entry_view e)
+      test e = stays (entry_view e)
 
 -- certificates, verdicts and votes to nullify and to finalize
 

@@ -21,7 +21,7 @@ use Rattle.simplex_member.specs.Lives.{MemberFacts, without_life, left_of, Answe
 use Rattle.simplex_member.specs.Openings.{Openings, no_openings}
 use Rattle.simplex_record.specs.Recovery.{recover_error, is_finalization, with_floor}
 use Rattle.simplex_member.specs.Restarts.{RestartFacts, cut_member, retention_grows, new_life, GoesOn, IsRestartWhere, IsRestart}
-use Rattle.simplex_member.specs.Runs.{StepFacts, Calls, Restarts, IsStep, IsRun, IsRefused}
+use Rattle.simplex_member.specs.Runs.{StepFacts, Calls, Prunes, Restarts, IsStep, IsRun, IsRefused}
 use Rattle.simplex_record.specs.Start.{StartFacts, new_state}
 use Rattle.simplex_member.specs.Start.{started_member}
 use Rattle.simplex_laws.specs.Resumes.{LosesNothing}
@@ -110,6 +110,7 @@ module _ {K L D : Type 0} (same : D → D → Bool) (elect : Elect L) where
   run_within m end [] (told ∷ replies) within run = absurd run
   run_within m end (step ∷ steps) [] within run = absurd run
   run_within m end (Calls call ∷ steps) (told ∷ replies) within (next, is_step, rest) = run_within next end steps replies (call_within same elect m within call told next is_step) rest
+  run_within m end (Prunes ∷ steps) (told ∷ replies) within (next, (tells, leaves), rest) = run_within next end steps replies (rw leaves (omega arith)) rest
   run_within m end (Restarts r ∷ steps) (told ∷ replies) within (next, (result, restarts, tell), rest) = run_within next end steps replies (restart_within m r result next within restarts) rest
 
   pub run_loses_nothing : (start : StartFacts K L D) (steps : List (StepFacts K L D)) (replies : List (Told K D)) (m : MemberFacts K L D) → IsRun same elect (started_member same elect (new_state start.setup) start.floor start.now) steps replies m → LosesNothing m

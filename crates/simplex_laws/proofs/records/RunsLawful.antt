@@ -1,6 +1,6 @@
 -- For `votes_are_lawful`.
 -- The deeds of a run are lawful, over all its lives.
-use Rattle.std.proofs.Common.{◌≡◌, refl, sym, subst, ℕ, ◌<◌, inl, inr, Bool, true, false, List, [], ◌∷◌, ◌++◌, append_assoc, Contains, Option, Some, None, Result, Ok, Err, arith}
+use Rattle.std.proofs.Common.{◌≡◌, refl, sym, subst, ℕ, ◌<◌, inl, inr, Bool, true, false, List, [], ◌∷◌, ◌++◌, append_assoc, Contains, Option, Some, None, Result, Ok, Err, ◌-◌, max, arith}
 use Rattle.std.specs.Prelude.{MatchOption}
 use Rattle.std.proofs.lemmas.List.{append-nil}
 use Rattle.simplex_types.specs.Certificates.{ArtifactFacts, FinalizeVote}
@@ -12,7 +12,7 @@ use Rattle.simplex_record.specs.declared.record.error.RecoverError.{RecoverError
 use Rattle.simplex_member.specs.Allowed.{is_allowed, fault_of}
 use Rattle.simplex_member.specs.Calls.{CallFacts, Told}
 use Rattle.simplex_record.specs.Check.{first_recover_error, first_broken_after, first_error, recovery_floor_rules}
-use Rattle.simplex_record.specs.Cuts.{without_last}
+use Rattle.simplex_record.specs.Cuts.{without_last, finalized_in}
 use Rattle.simplex_member.specs.Openings.{Openings, no_openings}
 use Rattle.simplex_member.specs.Lives.{MemberFacts, IsCall, AnswersAlive, reply_of, left_of, without_life}
 use Rattle.simplex_record.specs.Recovery.{recover_error, recovered_state, with_floor}
@@ -23,7 +23,7 @@ use Rattle.simplex_laws.specs.Stories.{Story, deeds_of, BeginsAs, Ran}
 use Rattle.simplex_laws.proofs.lists.Signed.{signed_none}
 use Rattle.simplex_laws.proofs.lists.Splits.{Contains-cons_rest}
 use Rattle.simplex_laws.specs.TermLengths.{HasTerms, KeepTerms}
-use Rattle.simplex_member.specs.Runs.{StepFacts, Calls, Restarts, restart_told, IsStep, IsRun, IsRunFrom}
+use Rattle.simplex_member.specs.Runs.{StepFacts, Calls, Prunes, Restarts, restart_told, IsStep, IsRun, IsRunFrom}
 use Rattle.simplex_record.specs.Start.{StartFacts, new_state}
 use Rattle.simplex_member.specs.Start.{started_member}
 use Rattle.simplex_laws.proofs.agreement.Lawful.{lawful_start}
@@ -32,6 +32,8 @@ use Rattle.simplex_laws.proofs.records.Lifetimes.{Between, dropped_between, prun
 use Rattle.simplex_laws.proofs.records.NewLives.{Living, living_between, all_of_epoch, first_none, new_life_lives}
 use Rattle.simplex_laws.proofs.records.NotarizeVotesRemembered.{nothing_noted}
 use Rattle.simplex_laws.proofs.records.CallsKeepRules.{call_lives}
+use Rattle.simplex_laws.proofs.records.PrunedRecords.{pruned_ended, pruned_living}
+use Rattle.simplex_member.specs.Pruning.{pruned_member}
 
 -- a member's record remembers its deeds, and while it lives its state shows them
 abbrev pub LivesOn : {K L D : Type 0} → ℕ → List (Deed D) → ℕ → ℕ → List (ArtifactFacts D) → Openings K D → Option (StateFacts K L D) → Type 0
@@ -60,6 +62,14 @@ module _ {K L D : Type 0} where
   cut_between term_length deeds m drop kept true between =
       let left = dropped_between term_length deeds m.closed kept m.entries between drop in
       (_, pruned_between term_length deeds m.closed kept (without_last m.closed drop m.entries) left m.retention)
+
+  -- a pruning within the life
+  pub prune_lives_on : (term_length : ℕ) (deeds : List (Deed D)) (m : MemberFacts K L D) → MemberLives term_length deeds m → MemberLives term_length (deeds ++ []) (pruned_member m)
+  prune_lives_on term_length deeds m lives = quiet term_length deeds (pruned_member m) (_, by_life m.life refl lives.1)
+    where
+      by_life : (o : Option (StateFacts K L D)) → m.life ≡ o → LivesOn term_length deeds m.closed lives.0 m.entries m.openings o → LivesOn term_length deeds (pruned_member m).closed (max lives.0 (finalized_in m.entries - m.retention)) (pruned_member m).entries m.openings o
+      by_life None dead between = pruned_ended term_length deeds m lives.0 between
+      by_life (Some x) alive living = pruned_living term_length deeds m lives.0 x alive living
 
 module _ {K L D : Type 0} (same : D → D → Bool) (decides : (d e : D) → same d e ≡ true → d ≡ e) (elect : Elect L) (term_length : ℕ) (some : 0 < term_length) (deeds : List (Deed D)) (m : MemberFacts K L D) where
   -- a call
@@ -123,6 +133,7 @@ module _ {K L D : Type 0} (same : D → D → Bool) (decides : (d e : D) → sam
 module _ {K L D : Type 0} (same : D → D → Bool) (decides : (d e : D) → same d e ≡ true → d ≡ e) (elect : Elect L) (term_length : ℕ) (some : 0 < term_length) where
   keep_parts : (step : StepFacts K L D) (steps : List (StepFacts K L D)) → KeepTerms term_length (step ∷ steps) → KeepTerms term_length (step ∷ []) × KeepTerms term_length steps
   keep_parts (Calls call) steps keep = (tt, keep)
+  keep_parts Prunes steps keep = (tt, keep)
   keep_parts (Restarts r) steps keep = ((keep.0, tt), keep.1)
 
   -- a step, and what is left of the terms that later steps keep
@@ -131,6 +142,7 @@ module _ {K L D : Type 0} (same : D → D → Bool) (decides : (d e : D) → sam
     where
       by_kind : (s : StepFacts K L D) → KeepTerms term_length (s ∷ []) → IsStep same elect m s told next → MemberLives term_length (deeds ++ deeds_at s told) next
       by_kind (Calls call) fresh is = call_lives_on same decides elect term_length some deeds m call told next lives is
+      by_kind Prunes fresh is = rw (is.0, is.1) (prune_lives_on term_length deeds m lives)
       by_kind (Restarts r) fresh is = rw is.2 (restart_lives_on same decides elect term_length some deeds m r is.0 next fresh.0 lives is.1)
 
   pub run_lives : (steps : List (StepFacts K L D)) (replies : List (Told K D)) (deeds : List (Deed D)) (m end : MemberFacts K L D) → KeepTerms term_length steps → MemberLives term_length deeds m → IsRun same elect m steps replies end → MemberLives term_length (deeds ++ deeds_of_steps steps replies) end
@@ -183,6 +195,7 @@ module _ {K L D : Type 0} (same : D → D → Bool) (decides : (d e : D) → sam
 keep_terms : {K L D : Type 0} (term_length i : ℕ) (steps : List (StepFacts K L D)) → ((r : RestartFacts K L D) → Contains steps (Restarts r) → BeginsAs term_length i r.start.setup) → KeepTerms term_length steps
 keep_terms term_length i [] later = tt
 keep_terms term_length i (Calls call ∷ steps) later = keep_terms term_length i steps (λ r h. later r (Contains-cons_rest (Calls call) steps (Restarts r) h))
+keep_terms term_length i (Prunes ∷ steps) later = keep_terms term_length i steps (λ r h. later r (Contains-cons_rest Prunes steps (Restarts r) h))
 keep_terms term_length i (Restarts q ∷ steps) later = ((later q (0, omega arith, refl)).terms, keep_terms term_length i steps (λ r h. later r (Contains-cons_rest (Restarts q) steps (Restarts r) h)))
 
 module _ {K L D : Type 0} (same : D → D → Bool) (decides : (d e : D) → same d e ≡ true → d ≡ e) (elect : Elect L) (term_length : ℕ) where

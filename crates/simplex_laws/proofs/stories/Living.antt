@@ -5,11 +5,12 @@ use Rattle.std.specs.Prelude.{IfOk}
 use Rattle.std.proofs.lemmas.List.Elements.{Contains-append_cases}
 use Rattle.simplex_voter.specs.Facts.{Elect}
 use Rattle.simplex_record.specs.declared.record.error.RecoverError.{RecoverError}
-use Rattle.simplex_member.specs.Calls.{CallFacts, Told}
+use Rattle.simplex_member.specs.Calls.{CallFacts, Told, Done}
+use Rattle.simplex_member.specs.Pruning.{pruned_member}
 use Rattle.simplex_member.specs.Lives.{MemberFacts, IsCall}
 use Rattle.simplex_record.specs.Recovery.{recover_error}
 use Rattle.simplex_member.specs.Restarts.{RestartFacts, IsRestart}
-use Rattle.simplex_member.specs.Runs.{StepFacts, Calls, Restarts, restart_told, IsStep, IsRun, IsRunFrom}
+use Rattle.simplex_member.specs.Runs.{StepFacts, Calls, Prunes, Restarts, restart_told, IsStep, IsRun, IsRunFrom}
 use Rattle.simplex_record.specs.Start.{StartFacts, new_state}
 use Rattle.simplex_member.specs.Start.{started_member}
 use Rattle.std.proofs.lemmas.List.{append-nil}
@@ -62,6 +63,9 @@ module _ {K L D : Type 0} (same : D → D → Bool) (elect : Elect L) where
     pub call_on : (s : Story K L D) (m next : MemberFacts K L D) (call : CallFacts D) (told : Told K D) → IsCall same elect m call told next → HasStory same elect term_length i s m → HasStory same elect term_length i (with_step s (Calls call) told) next
     call_on s m next call told is_call has = step_on s m next (Calls call) told (λ r e. absurd (cc)) has is_call
 
+    pub prune_on : (s : Story K L D) (m : MemberFacts K L D) → HasStory same elect term_length i s m → HasStory same elect term_length i (with_step s Prunes Done) (pruned_member m)
+    prune_on s m has = step_on s m (pruned_member m) Prunes Done (λ r e. absurd (cc)) has (refl, refl)
+
     pub restart_on : (s : Story K L D) (m next : MemberFacts K L D) (q : RestartFacts K L D) (result : Result (Unit {0}) RecoverError) → IsRestart same elect m q result next → BeginsAs term_length i q.start.setup → HasStory same elect term_length i s m → HasStory same elect term_length i (with_step s (Restarts q) (restart_told result)) next
     restart_on s m next q result restarts begins has = step_on s m next (Restarts q) (restart_told result) (λ r e. subst (λ (p : RestartFacts K L D). BeginsAs term_length i p.start.setup) (same_restart q r e) begins) has (result, restarts, refl)
 
@@ -90,6 +94,9 @@ module _ {K L D : Type 0} (same : D → D → Bool) (elect : Elect L) where
 
     pub call_done : (m next : MemberFacts K L D) (call : CallFacts D) (told : Told K D) (all more : List (Deed D)) → IsCall same elect m call told next → deeds_at {L = L} (Calls call) told ≡ more → HasDone same elect term_length i all m → HasDone same elect term_length i (all ++ more) next
     call_done m next call told all more is_call shows done = done_on done.story m next (Calls call) told all more done.told done.same_deeds shows (call_on done.story m next call told is_call done.told)
+
+    pub prune_done : (m : MemberFacts K L D) (all : List (Deed D)) → HasDone same elect term_length i all m → HasDone same elect term_length i (all ++ []) (pruned_member m)
+    prune_done m all done = done_on done.story m (pruned_member m) Prunes Done all [] done.told done.same_deeds refl (prune_on done.story m done.told)
 
     pub restart_done : (m next : MemberFacts K L D) (q : RestartFacts K L D) (result : Result (Unit {0}) RecoverError) (all more : List (Deed D)) → IsRestart same elect m q result next → BeginsAs term_length i q.start.setup → deeds_at (Restarts q) (restart_told {K = K} {D = D} result) ≡ more → HasDone same elect term_length i all m → HasDone same elect term_length i (all ++ more) next
     restart_done m next q result all more restarts begins shows done = done_on done.story m next (Restarts q) (restart_told result) all more done.told done.same_deeds shows (restart_on done.story m next q result restarts begins done.told)

@@ -71,6 +71,7 @@ module _ (L : Type 0) {S D K G C : Type 0} (bytes_of : C → List ℕ) where
 module _ {S L D K G C : Type 0} (me : S → Option ℕ) (members : S → List K) (terms : L → Terms) (elects_early : L → Bool) (bytes_of : C → List ℕ) where
   taken_shown : (s : Step S L D K G C) (r : Reply S D K G C) → taken_in s r ≡ accepted_at (step_facts me members terms elects_early bytes_of s) (told bytes_of r)
   taken_shown (step.Call c) r = call_shown L bytes_of c r
+  taken_shown step.PruneRecord r = refl
   taken_shown (step.Restart q) reply.Restarted = floor_shown bytes_of q.start.floor
   taken_shown (step.Restart q) _ = refl
 
@@ -100,6 +101,7 @@ module _ {S L D K G C : Type 0} (me : S → Option ℕ) (members : S → List K)
     where
       by_step : (t : Step S L D K G C) → step_facts me members terms elects_early bytes_of t ≡ Restarts q → ((r : Restart S L D K G C) → t ≡ step.Restart r → IsSetUpAs me terms term_length i r.start) → BeginsAs term_length i q.start.setup
       by_step (step.Call c) is holds = absurd (cc)
+      by_step step.PruneRecord is holds = absurd (cc)
       by_step (step.Restart r) is holds =
           let same : restart_facts me members terms elects_early bytes_of r ≡ q = cc in
           subst (λ (p : RestartFacts K L D). BeginsAs term_length i p.start.setup) same (begins_as term_length i r.start (holds r refl))

@@ -5,7 +5,7 @@ use Rattle.simplex_round.specs.Round.{is_finalize}
 use Rattle.simplex_voter.specs.Facts.{StateFacts, Elect, round_of}
 use Rattle.simplex_record.specs.Start.{new_state}
 use Rattle.simplex_member.specs.Lives.{MemberFacts}
-use Rattle.simplex_member.specs.Runs.{StepFacts, Calls, Restarts}
+use Rattle.simplex_member.specs.Runs.{StepFacts, Calls, Prunes, Restarts}
 use Rattle.simplex_member.specs.Start.{started_member}
 use Rattle.simplex_laws.specs.Deeds.{of_floor}
 use Rattle.simplex_laws.specs.Stories.{Story, deeds_of, BeginsAs, Ran}
@@ -22,6 +22,7 @@ use Rattle.simplex_progress.specs.Living.{LivesWith}
 pub terms_kept : {K L D : Type 0} (term_length i : ℕ) (steps : List (StepFacts K L D)) → ((r : _) → Contains steps (Restarts r) → BeginsAs term_length i r.start.setup) → KeepTerms term_length steps
 terms_kept term_length i [] later = tt
 terms_kept term_length i (Calls call ∷ steps) later = terms_kept term_length i steps (λ r h. later r (Contains-cons_rest (Calls call) steps (Restarts r) h))
+terms_kept term_length i (Prunes ∷ steps) later = terms_kept term_length i steps (λ r h. later r (Contains-cons_rest Prunes steps (Restarts r) h))
 terms_kept term_length i (Restarts q ∷ steps) later = ((later q (0, omega arith, refl)).terms, terms_kept term_length i steps (λ r h. later r (Contains-cons_rest (Restarts q) steps (Restarts r) h)))
 
 -- what the run shows of a state that lives at its end

@@ -29,7 +29,8 @@ use Rattle.simplex_member.specs.Calls.{CallFacts, Told}
 use Rattle.simplex_member.specs.Lives.{MemberFacts, AnswersAlive, IsCall, reply_of, left_of, without_life}
 use Rattle.simplex_member.specs.Made.{answer, recorded_by}
 use Rattle.simplex_member.specs.Restarts.{RestartFacts, IsByView, cut_member, new_life, retention_grows, GoesOn, IsRestart, IsRestartWhere}
-use Rattle.simplex_member.specs.Runs.{StepFacts, Calls, Restarts, restart_told, IsRun, IsRunFrom}
+use Rattle.simplex_member.specs.Runs.{StepFacts, Calls, Prunes, Restarts, restart_told, IsRun, IsRunFrom}
+use Rattle.simplex_member.specs.Pruning.{stays_within, pruned_member}
 use Rattle.simplex_member.specs.Start.{started_member}
 use Rattle.simplex_laws.specs.Deeds.{Deed, Accepts, of_floor, deeds_of_call, deeds_at, deeds_of_steps}
 use Rattle.simplex_laws.specs.Events as event
@@ -46,7 +47,7 @@ use Rattle.simplex_laws.proofs.records.DeedsShown.{only_one}
 use Rattle.simplex_laws.proofs.records.EntryDeeds.{subject_of}
 use Rattle.simplex_laws.proofs.records.Lifetimes.{Between}
 use Rattle.simplex_laws.proofs.records.NewLives.{all_of_epoch, first_none}
-use Rattle.simplex_laws.proofs.records.RunsLawful.{MemberLives, between_of, cut_between, call_lives_on, restart_lives_on, start_lives}
+use Rattle.simplex_laws.proofs.records.RunsLawful.{MemberLives, between_of, cut_between, call_lives_on, prune_lives_on, restart_lives_on, start_lives}
 use Rattle.simplex_progress.specs.Living.{LivesWith}
 use Rattle.simplex_progress.specs.Reaching.{HasJudged, IsLedTo, judged_by, judged_in, judged_of}
 use Rattle.simplex_progress.proofs.runs.Brought.{Brings, brings_nothing}
@@ -336,6 +337,15 @@ module _ {K L D : Type 0} (same : D → D → Bool) (decides : (d e : D) → sam
             let between = cut_between term_length deeds m r.drop lives.0 r.prune (between_of term_length deeds m.closed lives.0 m.entries m.openings m.life lives.1) in
             goes_on (cut_member m r.drop r.prune) r result left between.0 fresh between.1 (cut_within m r.drop r.prune) goes
 
+    -- a pruning within the life
+    pub pruned_led : MemberLed term_length (deeds ++ []) (verdicts ++ []) (pruned_member m)
+    pruned_led = still_led same decides elect term_length deeds verdicts (pruned_member m) (record {
+      life = led.life;
+      judged = λ success round h. led.judged success round (Contains-filtered (λ e. stays_within m (entry_view e)) m.entries (Verdict round success) h);
+      signed = led.signed;
+      notarized = led.notarized;
+    })
+
 -- a run
 
 module _ {K L D : Type 0} (same : D → D → Bool) (decides : (d e : D) → same d e ≡ true → d ≡ e) (elect : Elect L) (term_length : ℕ) (some : 0 < term_length) where
@@ -349,6 +359,12 @@ module _ {K L D : Type 0} (same : D → D → Bool) (decides : (d e : D) → sam
       let last = end_led steps replies (deeds ++ deeds_of_call call told) (verdicts ++ judged_by told) next end fresh kept then_led rest in
       subst (λ ds. MemberLed term_length ds (verdicts ++ (judged_by told ++ judged_in replies)) end) (append_assoc deeds (deeds_of_call call told) (deeds_of_steps steps replies))
       (subst (λ ps. MemberLed term_length ((deeds ++ deeds_of_call call told) ++ deeds_of_steps steps replies) ps end) (append_assoc verdicts (judged_by told) (judged_in replies)) last)
+  end_led (Prunes ∷ steps) (told ∷ replies) deeds verdicts m end fresh lives led (next, (tells, leaves), rest) =
+      let kept : MemberLives term_length (deeds ++ []) next = rw leaves (prune_lives_on term_length deeds m lives) in
+      let then_led : MemberLed term_length (deeds ++ []) (verdicts ++ []) next = rw leaves (pruned_led same decides elect term_length deeds verdicts m lives led) in
+      let last = end_led steps replies (deeds ++ []) (verdicts ++ []) next end fresh kept then_led rest in
+      rw tells (subst (λ ds. MemberLed term_length ds (verdicts ++ ([] ++ judged_in replies)) end) (append_assoc deeds [] (deeds_of_steps steps replies))
+      (subst (λ ps. MemberLed term_length ((deeds ++ []) ++ deeds_of_steps steps replies) ps end) (append_assoc verdicts [] (judged_in replies)) last))
   end_led (Restarts r ∷ steps) (told ∷ replies) deeds verdicts m end fresh lives led (next, is_step, rest) =
       let kept : MemberLives term_length (deeds ++ deeds_at (Restarts r) told) next = rw is_step.2 (restart_lives_on same decides elect term_length some deeds m r is_step.0 next fresh.0 lives is_step.1) in
       let then_led : MemberLed term_length (deeds ++ deeds_at (Restarts r) told) (verdicts ++ judged_by told) next = rw is_step.2 (restarted_led same decides elect term_length deeds verdicts m lives led r is_step.0 next fresh.0 is_step.1) in

@@ -11,7 +11,7 @@ use Rattle.simplex_voter.specs.Facts.{Elect}
 use Rattle.simplex_record.specs.Start.{new_state}
 use Rattle.simplex_member.specs.Calls.{CallFacts, Told, Added, AddedNullification, Nullify, Finalize, Notarize, Restarted, AddNotarization, AddNullification, AddFinalization}
 use Rattle.simplex_member.specs.Lives.{MemberFacts}
-use Rattle.simplex_member.specs.Runs.{StepFacts, Calls, Restarts, IsRun, IsRunFrom}
+use Rattle.simplex_member.specs.Runs.{StepFacts, Calls, Prunes, Restarts, IsRun, IsRunFrom}
 use Rattle.simplex_member.specs.Start.{started_member}
 use Rattle.simplex_laws.specs.Continuations.{StoryGoesOn}
 use Rattle.simplex_laws.specs.Deeds.{Deed, Accepts, Signs, handed_in, of_floor, of_vote, deeds_at, deeds_of_steps}
@@ -92,8 +92,15 @@ module _ {D : Type 0} (signer : ℕ) (round : Round) where
   restart_all r Restarted before after is = absurd (no_floor r.start.floor before after (sym (append-nil (of_floor r.start.floor)) ∙ is))
   restart_all r _ before after is = absurd (no_split vote before after is)
 
+  prune_all : {K L : Type 0} (told : Told K D) (before after : List (Deed D)) → deeds_at {L = L} Prunes told ≡ before ++ vote ∷ after → IsAll {L = L} Prunes told before
+  prune_all (Nullify (Some (retry, entry))) before after is = record { alone = entry_split entry before after is; no_verdict = refl }
+  prune_all (Finalize (Some entry)) before after is = record { alone = entry_split entry before after is; no_verdict = refl }
+  prune_all (Notarize (Some entry)) before after is = record { alone = entry_split entry before after is; no_verdict = refl }
+  prune_all _ before after is = absurd (no_split vote before after is)
+
   step_all : {K L : Type 0} (step : StepFacts K L D) (told : Told K D) (before after : List (Deed D)) → deeds_at step told ≡ before ++ vote ∷ after → IsAll step told before
   step_all (Calls call) told before after is = call_all call told before after is
+  step_all Prunes told before after is = prune_all told before after is
   step_all (Restarts r) told before after is = restart_all r told before after is
 
 -- the vote's step, in a run

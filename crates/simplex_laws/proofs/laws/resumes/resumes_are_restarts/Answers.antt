@@ -1,5 +1,6 @@
 -- whether a member lives, and what it has open, doesn't matter to its restart; and a run never loses what was closed
 use Rattle.simplex_laws.proofs.records.Resumes.{resumes, restarts, refuses_resume, refuses_restart, run_loses_nothing}
+use Rattle.simplex_laws.proofs.records.PrunedRestarts.{pruned_as_at_restart}
 use Rattle.simplex_laws.proofs.laws.resumes.resumes_are_restarts.Goals as goal
 
 pub returns-clause-resumed : goal.returns-clause-resumed
@@ -16,3 +17,6 @@ returns-clause-refused g c start steps replies m run again found =
 
 pub returns-clause-whole : goal.returns-clause-whole
 returns-clause-whole g c start steps replies m run = run_loses_nothing g.D.PartialEq.eq g.L.Elector.elect start steps replies m run
+
+pub returns-clause-pruned : goal.returns-clause-pruned
+returns-clause-pruned g c start steps replies m run = pruned_as_at_restart m

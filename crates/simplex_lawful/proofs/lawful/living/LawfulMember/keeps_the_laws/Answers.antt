@@ -2,7 +2,7 @@ use Rattle.simplex_laws.proofs.stories.Living.{done_lawful, done_ran}
 use Rattle.simplex_lawful.proofs.lawful.living.LawfulMember.keeps_the_laws.Goals as goal
 
 pub returns-clause-lawful : goal.returns-clause-lawful
-returns-clause-lawful g c term_length i all done = done_lawful g.D.PartialEq.eq g.L.Elector.elect term_length i g.met.D.Digest.equal_is_same all c.args.self.now done
+returns-clause-lawful g c term_length i all done = done_lawful g.D.PartialEq.eq g.L.Elector.elect term_length i g.met.D.Digest.equal_is_same all c.args.self.now.facts done
 
 pub returns-clause-ran : goal.returns-clause-ran
-returns-clause-ran g c term_length i all done = done_ran g.D.PartialEq.eq g.L.Elector.elect term_length i all c.args.self.now done
+returns-clause-ran g c term_length i all done = done_ran g.D.PartialEq.eq g.L.Elector.elect term_length i all c.args.self.now.facts done
