@@ -1,14 +1,14 @@
 -- One turn of serving after another.
-use Rattle.std.proofs.Common.{◌≡◌, ℕ, ◌+◌, ◌-◌, ◌^◌, ◌<◌, ◌⊎◌, inl, inr, true, false, List, [], ◌∷◌, ◌++◌, Option, Some, None, Ok, Err, MatchOption, length, refl, sym, ap, subst, ◌∙◌, Bor, arith}
+use Rattle.std.proofs.Common.{◌≡◌, ℕ, ◌+◌, ◌-◌, ◌^◌, inl, inr, true, false, List, [], ◌∷◌, ◌++◌, Option, Some, None, Ok, Err, length, refl, sym, subst, ◌∙◌, arith}
 use Rattle.std.proofs.lemmas.List.{length-append}
 use Rattle.std.specs.Io.Buffered.{reader_remaining, reader_inner, reader_buffer, reader_capacity}
-use Rattle.std.specs.Io.KnownBytes.{Keeps, Appends, prepend_known}
+use Rattle.std.specs.Io.KnownBytes.{prepend_known}
 use Rattle.std.specs.declared.io.buffered.BufReader.{BufReader}
 use Rattle.simplex_program.specs.declared.serve_error.ServeError.{ServeError}
 use Rattle.simplex_program.specs.declared.serve_error.ServeError.TheVariants.{NotACall, OutOfMemory, Read, Write}
 use Rattle.simplex_program.specs.Line.{without_feed, ReadsText, IsNextLine}
 use Rattle.simplex_program.specs.Session.{IsNotReplied}
-use Rattle.simplex_program.specs.Transcript.{Asked, Point, IsAnswered, AreAnswered, IsNoCall, Ends, Advances, Continues}
+use Rattle.simplex_program.specs.Transcript.{Asked, Point, AreAnswered, IsNoCall, Ends, Advances, Continues}
 use Rattle.simplex_program.proofs.Serving.{keeps_self, one_more}
 
 -- lines were answered from a point on, and the next one has this number

@@ -1,5 +1,6 @@
 -- Lines, as bytes.
-use Rattle.std.specs.Prelude.{◌≡◌, ◌≢◌, ℕ, Bool, true, false, ◌<◌, ◌≤◌, ◌⊎◌, List, [], ◌∷◌, length, take, drop, Option, Some, None, MatchOption, IfSome}
+use Rattle.std.specs.Prelude.{◌≡◌, ◌≢◌, ℕ, ◌+◌, ◌==◌, Bool, true, false, ◌<◌, ◌≤◌, ◌⊎◌, List, [], ◌∷◌, ◌++◌, length, take, drop, Option, Some, None, MatchOption, IfSome}
+use Rattle.std.specs.List.{position_or_len}
 use Rattle.std.specs.Io.BufRead.{strip_last, take_through}
 use Rattle.std.specs.Io.KnownBytes.{Consumes, IsAtEnd}
 use Rattle.std.specs.Str.{IsUtf8}
@@ -34,3 +35,20 @@ ReadsNextLine false left line rest = IsAtEnd left
 abbrev pub GivesByte : Option (List ℕ) → Option (List ℕ) → Option ℕ → Type 0
 GivesByte left rest None = Consumes left rest [] × IsAtEnd rest
 GivesByte left rest (Some b) = Consumes left rest (b ∷ [])
+
+-- no line feed is among the bytes
+abbrev pub HasNoFeed : List ℕ → Type 0
+HasNoFeed bytes = position_or_len (λ b. b == 10) bytes ≡ length bytes
+
+-- the place of the first line feed, and none where there is none
+abbrev pub FindsFeed : List ℕ → Option ℕ → Type 0
+FindsFeed bytes r = MatchOption r (HasNoFeed bytes) (λ place. (place < length bytes) × (place ≡ position_or_len (λ b. b == 10) bytes))
+
+-- bytes that a line of some bytes goes on with: it ends with its feed, or as far as shows that it is too long; or it goes on
+abbrev pub EndsLine : Bool → ℕ → List ℕ → Type 0
+EndsLine true before more = ((front : List ℕ) × (more ≡ front ++ 10 ∷ []) × HasNoFeed front × (before + length front < 201)) ⊎ (HasNoFeed more × (before + length more ≡ 201))
+EndsLine false before more = HasNoFeed more × (before + length more < 201)
+
+-- what a line grows by, and what is left behind it; a line that is too long stays as it is
+abbrev pub MovesPart : Bool → List ℕ → List ℕ → Option (List ℕ) → Option (List ℕ) → Type 0
+MovesPart ended line grown left rest = length line ≤ 201 → (more : List ℕ) × (grown ≡ line ++ more) × Consumes left rest more × EndsLine ended (length line) more

@@ -1,5 +1,5 @@
 -- The lines that ask a resolver, by their words.
-use Rattle.std.specs.Prelude.{◌≡◌, ◌≢◌, ℕ, ◌^◌, ◌<◌, List, [], ◌∷◌, decimal, codes, Option, MatchOption, ⊤}
+use Rattle.std.specs.Prelude.{◌≡◌, ◌≢◌, ℕ, ◌^◌, ◌<◌, List, [], ◌∷◌, length, decimal, codes, Option, MatchOption, ⊤}
 use Rattle.simplex_types.specs.Reasons.{kind_text}
 use Rattle.simplex_program.specs.Words.{flag_word}
 use Rattle.simplex_program.specs.declared.resolver_line.ResolverLine.{ResolverLine}
@@ -31,41 +31,14 @@ HasSmallView (Uncertifiable view) = view < 2 ^ 64
 HasSmallView (Produce view) = view < 2 ^ 64
 HasSmallView Outstanding = ⊤
 
--- lines by what they do
-pub data ResolverFamily : Type 0 where
-  reports : ResolverFamily
-  questions : ResolverFamily
-  others : ResolverFamily
+-- the line has so many words
+abbrev pub HasWords : ℕ → ResolverLine → Type 0
+HasWords count line = length (line_words line) ≡ count
 
--- the family that reads a line
-abbrev pub resolver_family : ResolverLine → ResolverFamily
-resolver_family (Notarization view) = reports
-resolver_family (Nullification view) = reports
-resolver_family (Finalization view) = reports
-resolver_family (Certified view success) = reports
-resolver_family Replayed = others
-resolver_family (Settled view kind) = questions
-resolver_family (KeySettled view) = questions
-resolver_family (Uncertifiable view) = questions
-resolver_family (Produce view) = questions
-resolver_family Outstanding = others
-
--- it hands a certificate or a verdict in
-abbrev pub IsReport : ResolverLine → Type 0
-IsReport line = resolver_family line ≡ reports
-
--- it asks what is settled, or kept
-abbrev pub IsQuestion : ResolverLine → Type 0
-IsQuestion line = resolver_family line ≡ questions
-
--- it ends the replay, or asks for the open fetches
-abbrev pub IsOther : ResolverLine → Type 0
-IsOther line = resolver_family line ≡ others
-
--- the line that the words ask for, and none where they ask for none of this family
-abbrev pub ReadsLineOf : (ResolverLine → Type 0) → List (List ℕ) → Option ResolverLine → Type 0
-ReadsLineOf IsOne words r = MatchOption r
-    ((line : ResolverLine) → IsOne line → HasSmallView line → words ≢ line_words line)
+-- the line that the words ask for, and none where they ask for none with so many words
+abbrev pub ReadsLineOf : ℕ → List (List ℕ) → Option ResolverLine → Type 0
+ReadsLineOf count words r = MatchOption r
+    ((line : ResolverLine) → HasWords count line → HasSmallView line → words ≢ line_words line)
     (λ line. words ≡ line_words line)
 
 -- the line that the words ask for, and none where they ask for none

@@ -10,7 +10,7 @@ use Rattle.simplex_program.specs.Transcript.{Asked, Member, Resolver, IsOfNoLine
 
 -- a voter, as what its lines are asked of
 abbrev pub voter_asked : LineVoter → Asked
-voter_asked v = Member v.network v.member
+voter_asked v = Member v.network v.member.facts
 
 -- a resolver
 abbrev pub resolver_asked : LineResolver → Asked

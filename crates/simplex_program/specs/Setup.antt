@@ -10,7 +10,7 @@ use Rattle.simplex_types.specs.declared.types.plain.PlainSignature.{PlainSignatu
 use Rattle.simplex_types.specs.declared.types.window.Terms.{Terms}
 use Rattle.simplex_types.specs.Config.{Genesis}
 use Rattle.simplex_types.specs.Plain.{digest_bytes, members_of, terms_of, keys_below, signer_of, keys_of}
-use Rattle.simplex_voter.specs.Facts.{Settings, new_facts}
+use Rattle.simplex_voter.specs.Facts.{Settings}
 use Rattle.simplex_voter.specs.StateView.{settings_of}
 use Rattle.simplex_voter.specs.declared.voter.state.Config.{Config}
 use Rattle.simplex_record.specs.declared.record.start.Start.{Start}

@@ -1,5 +1,5 @@
 -- The lines that ask a voter, by their words.
-use Rattle.std.specs.Prelude.{◌≡◌, ◌≢◌, ℕ, ◌^◌, ◌<◌, List, [], ◌∷◌, decimal, codes, Option, MatchOption, ⊤}
+use Rattle.std.specs.Prelude.{◌≡◌, ◌≢◌, ℕ, ◌^◌, ◌<◌, List, [], ◌∷◌, length, decimal, codes, Option, MatchOption, ⊤}
 use Rattle.simplex_types.specs.Reasons.{timeout_reason_text}
 use Rattle.simplex_program.specs.Words.{flag_word, ReadsWord}
 use Rattle.simplex_program.specs.declared.voter_line.CertificateKind.{CertificateKind}
@@ -77,93 +77,14 @@ HasSmallNumbers (RestartPruned drop now) = (drop < 2 ^ 64) × (now < 2 ^ 64)
 HasSmallNumbers Record = ⊤
 HasSmallNumbers Views = ⊤
 
--- lines by what they ask for
-pub data VoterFamily : Type 0 where
-  certificates : VoterFamily
-  progress : VoterFamily
-  votes : VoterFamily
-  servings : VoterFamily
-  proposals : VoterFamily
-  building : VoterFamily
-  verifying : VoterFamily
-  offers : VoterFamily
-  timeouts : VoterFamily
-  lives : VoterFamily
+-- the line has so many words
+abbrev pub HasWords : ℕ → VoterLine → Type 0
+HasWords count line = length (voter_words line) ≡ count
 
--- the family that reads a line
-abbrev pub voter_family : VoterLine → VoterFamily
-voter_family (Notarization view parent payload) = certificates
-voter_family (Nullification view now) = certificates
-voter_family (Finalization view parent payload now) = progress
-voter_family (Verdict view success now) = progress
-voter_family (Notarize view) = votes
-voter_family (Nullify view) = votes
-voter_family (Finalize view) = votes
-voter_family (Broadcast kind view) = servings
-voter_family Best = servings
-voter_family Prune = servings
-voter_family (Proposal view parent payload) = proposals
-voter_family (Release view) = proposals
-voter_family Propose = building
-voter_family (Proposed view payload now) = building
-voter_family (Supersede view) = building
-voter_family (Abandon view) = building
-voter_family Verify = verifying
-voter_family (Verified view) = verifying
-voter_family (Rejected view now) = verifying
-voter_family Candidates = offers
-voter_family (Token view token) = offers
-voter_family (Trigger view reason now) = timeouts
-voter_family (Timeout now) = timeouts
-voter_family (Restart drop now) = lives
-voter_family (RestartPruned drop now) = lives
-voter_family Record = lives
-voter_family Views = lives
-
--- it hands a notarization or a nullification in
-abbrev pub IsCertificate : VoterLine → Type 0
-IsCertificate line = voter_family line ≡ certificates
-
--- it hands in what ends a view: a finalization or a verdict
-abbrev pub IsProgress : VoterLine → Type 0
-IsProgress line = voter_family line ≡ progress
-
--- it asks for a vote
-abbrev pub IsVote : VoterLine → Type 0
-IsVote line = voter_family line ≡ votes
-
--- it asks for a certificate, or for a prune
-abbrev pub IsServing : VoterLine → Type 0
-IsServing line = voter_family line ≡ servings
-
--- it hands a leader's proposal in, or releases a view
-abbrev pub IsOnProposals : VoterLine → Type 0
-IsOnProposals line = voter_family line ≡ proposals
-
--- it is on the member's own proposals
-abbrev pub IsOnBuilding : VoterLine → Type 0
-IsOnBuilding line = voter_family line ≡ building
-
--- it is on a verification
-abbrev pub IsOnVerifying : VoterLine → Type 0
-IsOnVerifying line = voter_family line ≡ verifying
-
--- it is on what is offered for certification
-abbrev pub IsOnOffers : VoterLine → Type 0
-IsOnOffers line = voter_family line ≡ offers
-
--- it is on a timeout
-abbrev pub IsOnTimeouts : VoterLine → Type 0
-IsOnTimeouts line = voter_family line ≡ timeouts
-
--- it asks for a restart, the record or the views
-abbrev pub IsOfLives : VoterLine → Type 0
-IsOfLives line = voter_family line ≡ lives
-
--- the line that the words ask for, and none where they ask for none of this family
-abbrev pub ReadsVoterLineOf : (VoterLine → Type 0) → List (List ℕ) → Option VoterLine → Type 0
-ReadsVoterLineOf IsOne words r = MatchOption r
-    ((line : VoterLine) → IsOne line → HasSmallNumbers line → words ≢ voter_words line)
+-- the line that the words ask for, and none where they ask for none with so many words
+abbrev pub ReadsVoterLineOf : ℕ → List (List ℕ) → Option VoterLine → Type 0
+ReadsVoterLineOf count words r = MatchOption r
+    ((line : VoterLine) → HasWords count line → HasSmallNumbers line → words ≢ voter_words line)
     (λ line. words ≡ voter_words line)
 
 -- the line that the words ask for, and none where they ask for none

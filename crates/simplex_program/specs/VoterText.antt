@@ -1,5 +1,5 @@
 -- The replies of a voter, by their words.
-use Rattle.std.specs.Prelude.{ℕ, Bool, true, false, List, [], ◌∷◌, ◌++◌, map, codes, decimal, Option, Some, None, Result, Ok, Err}
+use Rattle.std.specs.Prelude.{ℕ, List, [], ◌∷◌, ◌++◌, map, codes, decimal, Option, Some, None, Ok, Err}
 use Rattle.std.specs.Int.{w64, from_be_bytes}
 use Rattle.simplex_types.specs.declared.types.messages.Certificate.{Certificate}
 use Rattle.simplex_types.specs.declared.types.messages.Certificate.TheVariants as certificate
@@ -23,7 +23,7 @@ use Rattle.simplex_member.specs.declared.member.calls.Reply.{Reply}
 use Rattle.simplex_member.specs.declared.member.calls.Reply.TheVariants as reply
 use Rattle.simplex_program.specs.declared.voter.VoterAnswer.{VoterAnswer}
 use Rattle.simplex_program.specs.declared.voter.VoterAnswer.TheVariants as answer
-use Rattle.simplex_program.specs.Texts.{text_of, fault_words, refusal_words}
+use Rattle.simplex_program.specs.Texts.{fault_words, refusal_words}
 use Rattle.simplex_program.specs.Words.{flag_word}
 
 -- a reply to a call of plain parts

@@ -1,9 +1,12 @@
 //! Lines of bounded length.
 
-ghost use Rattle.std.specs.Prelude.{◌≡◌, IfOk};
-ghost use Rattle.simplex_program.specs.Line.{without_feed, ReadsText, ReadsNextLine, GivesByte};
+ghost use Rattle.std.specs.Prelude.{◌≡◌, ◌≤◌, ◌++◌, IfOk, OnOk, length, take};
+ghost use Rattle.std.specs.Io.Buffered.{reader_buffer, reader_remaining};
+ghost use Rattle.std.specs.Io.KnownBytes.{Consumes};
+ghost use Rattle.simplex_program.specs.Line.{without_feed, ReadsText, ReadsNextLine, GivesByte, FindsFeed, MovesPart};
 
-use std::io::Read;
+use memchr::memchr;
+use std::io::{BufRead, BufReader, Read};
 use std::{io, str};
 
 /// The most bytes of a line, without its line feed.
@@ -12,11 +15,15 @@ pub(crate) const LONGEST_LINE: usize = 200;
 /// Reads the next line, with its line feed, in place of what stands in `line`: of a longer line than `LONGEST_LINE` only
 /// its first bytes, which show that it is too long. Answers whether there was a line. The last one may lack its line feed.
 /// An interrupted read is tried again.
-pub(crate) fn read_line<R: Read + Drop>(reader: &mut R, line: &mut Vec<u8>) -> io::Result<bool>
-    ensures { IfOk result (λ there. ReadsNextLine there (R.remaining reader.old) line.new.items (R.remaining reader.new)) }
+pub(crate) fn read_line<R: Read + Drop>(
+    reader: &mut BufReader<R>,
+    line: &mut Vec<u8>,
+) -> io::Result<bool>
+    ensures { IfOk result (λ there. ReadsNextLine there (reader_remaining R.remaining reader.old) line.new.items
+        (reader_remaining R.remaining reader.new)) }
 {
     line.clear();
-    for _read in 0..LONGEST_LINE + 1 {
+    for _part in 0..LONGEST_LINE + 1 {
         let Some(byte) = next_byte(reader)? else {
             return Ok(!line.is_empty());
         };
@@ -24,8 +31,54 @@ pub(crate) fn read_line<R: Read + Drop>(reader: &mut R, line: &mut Vec<u8>) -> i
         if byte == b'\n' {
             return Ok(true);
         }
+        if take_buffered(reader, line)? {
+            return Ok(true);
+        }
     }
     Ok(true)
+}
+
+/// Moves to a line what the buffer holds of it. Answers whether the line ends there: with its line feed, or where its bytes
+/// show that it is too long.
+fn take_buffered<R: Read + Drop>(reader: &mut BufReader<R>, line: &mut Vec<u8>) -> io::Result<bool>
+    ensures { IfOk result (λ ended. MovesPart ended line.old.items line.new.items (reader_remaining R.remaining reader.old)
+        (reader_remaining R.remaining reader.new)) }
+{
+    let room = (LONGEST_LINE + 1).saturating_sub(line.len());
+    let most = room.min(reader.buffer().len());
+    match feed_in(&reader.buffer()[..most]) {
+        Some(place) => {
+            move_buffered(reader, line, place + 1)?;
+            Ok(true)
+        }
+        None => {
+            move_buffered(reader, line, most)?;
+            Ok(line.len() > LONGEST_LINE)
+        }
+    }
+}
+
+/// Where the first line feed stands.
+fn feed_in(bytes: &[u8]) -> Option<usize>
+    ensures { FindsFeed bytes.now result }
+{
+    memchr(b'\n', bytes)
+}
+
+/// Moves so many bytes of the buffer to a line.
+fn move_buffered<R: Read + Drop>(
+    reader: &mut BufReader<R>,
+    line: &mut Vec<u8>,
+    count: usize,
+) -> io::Result<()>
+    requires { count ≤ length (reader_buffer reader.old) }
+    ensures line { OnOk result (line.new.items ≡ line.old.items ++ take count (reader_buffer reader.old)) }
+    ensures reader { OnOk result (Consumes (reader_remaining R.remaining reader.old) (reader_remaining R.remaining reader.new)
+        (take count (reader_buffer reader.old))) }
+{
+    line.extend_from_slice(&reader.buffer()[..count])?;
+    reader.consume(count);
+    Ok(())
 }
 
 /// The next byte, if there is one.

@@ -1,5 +1,6 @@
 //! Serves lines of calls.
 
+ghost use Rattle.std.specs.Io.Buffered.{reader_remaining};
 ghost use Rattle.simplex_program.specs.Mode.{IsServed};
 ghost use Rattle.simplex_program.specs.Session.{asked_of};
 ghost use Rattle.simplex_program.specs.Transcript.{Transcribes, Continues, Advances};
@@ -40,10 +41,10 @@ pub fn serve<R: Read + Drop, W: Write + Drop>(
 fn answer_lines<R: Read + Drop, W: Write + Drop>(
     session: &mut Session,
     alloc: Global,
-    reader: &mut R,
+    reader: &mut BufReader<R>,
     writer: &mut W,
 ) -> Result<(), ServeError>
-    ensures { Continues (record { asked = asked_of session.old; left = R.remaining reader.old; held = W.contents writer.old })
+    ensures { Continues (record { asked = asked_of session.old; left = reader_remaining R.remaining reader.old; held = W.contents writer.old })
         result (W.contents writer.new) }
 {
     let Ok(line) = Vec::with_capacity(alloc, LONGEST_LINE + 1) else {
@@ -73,12 +74,12 @@ fn answer_line<R: Read + Drop, W: Write + Drop>(
     session: &mut Session,
     alloc: Global,
     number: u64,
-    reader: &mut R,
+    reader: &mut BufReader<R>,
     room: &mut Room,
     writer: &mut W,
 ) -> Result<bool, ServeError>
-    ensures { Advances (record { asked = asked_of session.old; left = R.remaining reader.old; held = W.contents writer.old })
-        number result (record { asked = asked_of session.new; left = R.remaining reader.new; held = W.contents writer.new }) }
+    ensures { Advances (record { asked = asked_of session.old; left = reader_remaining R.remaining reader.old; held = W.contents writer.old })
+        number result (record { asked = asked_of session.new; left = reader_remaining R.remaining reader.new; held = W.contents writer.new }) }
 {
     let Ok(found) = read_line(reader, &mut room.line) else {
         return Err(ServeError::Read);

@@ -1,13 +1,12 @@
 //! The lines that ask a resolver.
 
-ghost use Rattle.std.specs.Prelude.{IfOk};
-ghost use Rattle.simplex_program.specs.Words.{texts_of, words_in, ReadsKind};
-ghost use Rattle.simplex_program.specs.ResolverLine.{ReadsLine, ReadsLineOf, IsReport, IsQuestion, IsOther};
+ghost use Rattle.std.specs.Prelude.{◌∷◌, []};
+ghost use Rattle.simplex_program.specs.Words.{words_in, ReadsKind};
+ghost use Rattle.simplex_program.specs.ResolverLine.{ReadsLine, ReadsLineOf};
 
-use crate::words::{flag_of, view_of, words_of};
+use crate::words::{first_word, flag_of, view_of};
 use simplex_types::reasons::Kind;
 use simplex_types::types::View;
-use std::alloc::{AllocError, Global};
 
 /// What a line asks of a resolver.
 #[derive(Clone, Copy)]
@@ -25,64 +24,79 @@ pub enum ResolverLine {
 }
 
 impl ResolverLine {
-    /// What the text asks, or `None` where it is no call. Words are parted by one space.
-    pub(crate) fn parse(alloc: Global, text: &str) -> Result<Option<ResolverLine>, AllocError>
-        ensures { IfOk result (λ line. ReadsLine (words_in text.now) line) }
+    /// What the text asks, or `None` where it is no call. Words are parted by one space. Lines are told apart by how many words
+    /// they have, and then by the first.
+    pub(crate) fn parse(text: &str) -> Option<ResolverLine>
+        ensures { ReadsLine (words_in text.now) result }
     {
-        let words = words_of(alloc, text)?;
-        Ok(line_of(&words))
+        match first_word(text) {
+            (word, None) => bare_line(word),
+            (word, Some(rest)) => longer_line(word, rest),
+        }
     }
 }
 
-/// What the words of a line ask, or `None` where they are no call.
-pub(crate) fn line_of(words: &[&str]) -> Option<ResolverLine>
-    ensures { ReadsLine (texts_of words.now) result }
+/// What a word asks with what stands behind it.
+fn longer_line(word: &str, rest: &str) -> Option<ResolverLine>
+    ensures { ReadsLine (word.now ∷ words_in rest.now) result }
 {
-    if let Some(line) = report_line(words) {
-        return Some(line);
+    match first_word(rest) {
+        (view, None) => line_of_view(word, view),
+        (view, Some(rest)) => longest_line(word, view, rest),
     }
-    if let Some(line) = question_line(words) {
-        return Some(line);
-    }
-    other_line(words)
 }
 
-fn report_line(words: &[&str]) -> Option<ResolverLine>
-    ensures { ReadsLineOf IsReport (texts_of words.now) result }
+/// What a word and two more ask, of which the last one is all that is left.
+fn longest_line(word: &str, view: &str, rest: &str) -> Option<ResolverLine>
+    ensures { ReadsLine (word.now ∷ view.now ∷ words_in rest.now) result }
 {
-    match *words {
-        ["notarization", view] => Some(ResolverLine::Notarization(view_of(view)?)),
-        ["nullification", view] => Some(ResolverLine::Nullification(view_of(view)?)),
-        ["finalization", view] => Some(ResolverLine::Finalization(view_of(view)?)),
-        ["certified", view, success] => Some(ResolverLine::Certified {
-            view: view_of(view)?,
-            success: flag_of(success)?,
-        }),
+    match first_word(rest) {
+        (second, None) => line_of_two(word, view, second),
+        (_, Some(_)) => None,
+    }
+}
+
+/// What a word alone asks.
+fn bare_line(word: &str) -> Option<ResolverLine>
+    ensures { ReadsLineOf 1 (word.now ∷ []) result }
+{
+    match word {
+        "replayed" => Some(ResolverLine::Replayed),
+        "outstanding" => Some(ResolverLine::Outstanding),
         _ => None,
     }
 }
 
-fn question_line(words: &[&str]) -> Option<ResolverLine>
-    ensures { ReadsLineOf IsQuestion (texts_of words.now) result }
+/// What a word and a view ask.
+fn line_of_view(word: &str, view: &str) -> Option<ResolverLine>
+    ensures { ReadsLineOf 2 (word.now ∷ view.now ∷ []) result }
 {
-    match *words {
-        ["settled", view, kind] => Some(ResolverLine::Settled {
-            view: view_of(view)?,
-            kind: kind_of(kind)?,
-        }),
-        ["key-settled", view] => Some(ResolverLine::KeySettled(view_of(view)?)),
-        ["uncertifiable", view] => Some(ResolverLine::Uncertifiable(view_of(view)?)),
-        ["produce", view] => Some(ResolverLine::Produce(view_of(view)?)),
+    let view = view_of(view)?;
+    match word {
+        "notarization" => Some(ResolverLine::Notarization(view)),
+        "nullification" => Some(ResolverLine::Nullification(view)),
+        "finalization" => Some(ResolverLine::Finalization(view)),
+        "key-settled" => Some(ResolverLine::KeySettled(view)),
+        "uncertifiable" => Some(ResolverLine::Uncertifiable(view)),
+        "produce" => Some(ResolverLine::Produce(view)),
         _ => None,
     }
 }
 
-fn other_line(words: &[&str]) -> Option<ResolverLine>
-    ensures { ReadsLineOf IsOther (texts_of words.now) result }
+/// What a word, a view and one word more ask.
+fn line_of_two(word: &str, view: &str, second: &str) -> Option<ResolverLine>
+    ensures { ReadsLineOf 3 (word.now ∷ view.now ∷ second.now ∷ []) result }
 {
-    match *words {
-        ["replayed"] => Some(ResolverLine::Replayed),
-        ["outstanding"] => Some(ResolverLine::Outstanding),
+    let view = view_of(view)?;
+    match word {
+        "certified" => Some(ResolverLine::Certified {
+            view,
+            success: flag_of(second)?,
+        }),
+        "settled" => Some(ResolverLine::Settled {
+            view,
+            kind: kind_of(second)?,
+        }),
         _ => None,
     }
 }

@@ -76,10 +76,7 @@ fn answer_voter(
     ensures replied { OnOk result (Replies (voter_asked voter.old) text.now (string_bytes reply.new) (voter_asked voter.new)) }
     ensures refused { IfErr result (IsNotReplied number (voter_asked voter.old) text.now) }
 {
-    let Ok(line) = VoterLine::parse(alloc, text) else {
-        return Err(ServeError::OutOfMemory);
-    };
-    let Some(line) = line else {
+    let Some(line) = VoterLine::parse(text) else {
         return Err(ServeError::NotACall(number));
     };
     match voter.answer(alloc, line) {
@@ -99,10 +96,7 @@ fn answer_resolver(
         (Replies (resolver_asked resolver.old) text.now (string_bytes reply.new) (resolver_asked resolver.new)) }
     ensures refused { IfErr result (IsNotReplied number (resolver_asked resolver.old) text.now) }
 {
-    let Ok(line) = ResolverLine::parse(alloc, text) else {
-        return Err(ServeError::OutOfMemory);
-    };
-    let Some(line) = line else {
+    let Some(line) = ResolverLine::parse(text) else {
         return Err(ServeError::NotACall(number));
     };
     match resolver.answer(alloc, line) {

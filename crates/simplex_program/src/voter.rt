@@ -63,7 +63,7 @@ impl Voter {
     /// A member of the network that starts at genesis, at moment 0.
     pub(crate) fn start(alloc: Global, network: Network) -> Result<Voter, AllocError>
         ensures network { IfOk result (λ voter. voter.network ≡ network) }
-        ensures member { IfOk result (λ voter. StartsAtGenesis network voter.member) }
+        ensures member { IfOk result (λ voter. StartsAtGenesis network voter.member.facts) }
     {
         let start = start_at(alloc, &network, 0)?;
         match Member::start(alloc, start) {
@@ -79,7 +79,7 @@ impl Voter {
         line: VoterLine,
     ) -> Result<VoterAnswer, AllocError>
         ensures network { self.new.network ≡ self.old.network }
-        ensures answer { IfOk result (λ answer. VoterAnswers self.old.network self.old.member line answer self.new.member) }
+        ensures answer { IfOk result (λ answer. VoterAnswers self.old.network self.old.member.facts line answer self.new.member.facts) }
     {
         match call_of(&line) {
             Some(call) => self.call(call),
@@ -89,7 +89,7 @@ impl Voter {
 
     fn call(&mut self, call: Call<PlainScheme, PlainDigest>) -> Result<VoterAnswer, AllocError>
         ensures network { self.new.network ≡ self.old.network }
-        ensures reply { IfOk result (λ answer. IsReplied self.old.member (asked plain_bytes call) answer self.new.member) }
+        ensures reply { IfOk result (λ answer. IsReplied self.old.member.facts (asked plain_bytes call) answer self.new.member.facts) }
     {
         match self.member.call(call) {
             Reply::Fault(Fault::OutOfMemory) => Err(AllocError),
@@ -101,7 +101,7 @@ impl Voter {
     fn other(&mut self, alloc: Global, line: VoterLine) -> Result<VoterAnswer, AllocError>
         requires { is_no_call line ≡ true }
         ensures network { self.new.network ≡ self.old.network }
-        ensures done { IfOk result (λ answer. IsDone self.old.network self.old.member line answer self.new.member) }
+        ensures done { IfOk result (λ answer. IsDone self.old.network self.old.member.facts line answer self.new.member.facts) }
     {
         match line {
             VoterLine::Restart { drop, now } => self.restart(alloc, drop, false, now),
@@ -120,7 +120,7 @@ impl Voter {
         now: u64,
     ) -> Result<VoterAnswer, AllocError>
         ensures network { self.new.network ≡ self.old.network }
-        ensures restarted { IfOk result (λ answer. IsRestarted self.old.network self.old.member drop prune now answer self.new.member) }
+        ensures restarted { IfOk result (λ answer. IsRestarted self.old.network self.old.member.facts drop prune now answer self.new.member.facts) }
     {
         let start = start_at(alloc, &self.network, now)?;
         let result = self.member.restart(Restart { drop, prune, start });
@@ -131,7 +131,7 @@ impl Voter {
     }
 
     fn views(&self) -> VoterAnswer
-        ensures { result ≡ shown_views self.now.member.life }
+        ensures { result ≡ shown_views self.now.member.facts.life }
     {
         match self.member.state() {
             Some(state) => VoterAnswer::Views {

@@ -1,14 +1,13 @@
 //! The lines that ask a voter.
 
-ghost use Rattle.std.specs.Prelude.{◌≡◌, ◌∷◌, [], IfOk, codes};
-ghost use Rattle.simplex_program.specs.Words.{texts_of, words_in};
-ghost use Rattle.simplex_program.specs.VoterLine.{ReadsVoterLine, ReadsVoterLineOf, ReadsCertificateKind, IsCertificate, IsProgress, IsVote, IsServing, IsOnProposals, IsOnBuilding, IsOnVerifying, IsOnOffers, IsOnTimeouts, IsOfLives};
+ghost use Rattle.std.specs.Prelude.{◌≡◌, ◌∷◌, [], codes, decimal};
+ghost use Rattle.simplex_program.specs.Words.{words_in};
+ghost use Rattle.simplex_program.specs.VoterLine.{ReadsVoterLine, ReadsVoterLineOf, ReadsCertificateKind};
 
 use crate::decimal::decimal;
-use crate::words::{flag_of, timeout_reason_of, view_of, words_of};
+use crate::words::{first_word, flag_of, timeout_reason_of, view_of};
 use simplex_types::reasons::TimeoutReason;
 use simplex_types::types::View;
-use std::alloc::{AllocError, Global};
 
 /// The kind of a certificate.
 #[derive(Clone, Copy)]
@@ -96,86 +95,206 @@ pub enum VoterLine {
 }
 
 impl VoterLine {
-    /// What the text asks, or `None` where it is no call. Words are parted by one space.
-    pub(crate) fn parse(alloc: Global, text: &str) -> Result<Option<VoterLine>, AllocError>
-        ensures { IfOk result (λ line. ReadsVoterLine (words_in text.now) line) }
+    /// What the text asks, or `None` where it is no call. Words are parted by one space. Lines are told apart by how many words
+    /// they have, and then by the first.
+    pub(crate) fn parse(text: &str) -> Option<VoterLine>
+        ensures { ReadsVoterLine (words_in text.now) result }
     {
-        let words = words_of(alloc, text)?;
-        Ok(voter_line_of(&words))
+        match first_word(text) {
+            (word, None) => bare_line(word),
+            (word, Some(rest)) => longer_line(word, rest),
+        }
     }
 }
 
-/// What the words of a line ask, or `None` where they are no call.
-pub(crate) fn voter_line_of(words: &[&str]) -> Option<VoterLine>
-    ensures { ReadsVoterLine (texts_of words.now) result }
+/// What a word asks with what stands behind it.
+fn longer_line(word: &str, rest: &str) -> Option<VoterLine>
+    ensures { ReadsVoterLine (word.now ∷ words_in rest.now) result }
 {
-    if let Some(line) = certificate_line(words) {
-        return Some(line);
+    match first_word(rest) {
+        (number, None) => line_of_number(word, number),
+        (first, Some(rest)) => line_behind_one(word, first, rest),
     }
-    if let Some(line) = progress_line(words) {
-        return Some(line);
-    }
-    if let Some(line) = vote_line(words) {
-        return Some(line);
-    }
-    if let Some(line) = serving_line(words) {
-        return Some(line);
-    }
-    if let Some(line) = proposal_line(words) {
-        return Some(line);
-    }
-    if let Some(line) = building_line(words) {
-        return Some(line);
-    }
-    if let Some(line) = verifying_line(words) {
-        return Some(line);
-    }
-    if let Some(line) = offer_line(words) {
-        return Some(line);
-    }
-    if let Some(line) = timeout_line(words) {
-        return Some(line);
-    }
-    life_line(words)
 }
 
-fn certificate_line(words: &[&str]) -> Option<VoterLine>
-    ensures { ReadsVoterLineOf IsCertificate (texts_of words.now) result }
+fn line_behind_one(word: &str, first: &str, rest: &str) -> Option<VoterLine>
+    ensures { ReadsVoterLine (word.now ∷ first.now ∷ words_in rest.now) result }
 {
-    match *words {
-        ["notarization", view, parent, payload] => notarization_line(view, parent, payload),
-        ["nullification", view, now] => Some(VoterLine::Nullification {
-            view: view_of(view)?,
-            now: decimal(now)?,
+    match first_word(rest) {
+        (second, None) => line_of_two(word, first, second),
+        (second, Some(rest)) => line_behind_two(word, first, second, rest),
+    }
+}
+
+fn line_behind_two(word: &str, first: &str, second: &str, rest: &str) -> Option<VoterLine>
+    ensures { ReadsVoterLine (word.now ∷ first.now ∷ second.now ∷ words_in rest.now) result }
+{
+    match first_word(rest) {
+        (third, None) => line_of_three(word, first, second, third),
+        (third, Some(rest)) => longest_line(word, first, second, third, rest),
+    }
+}
+
+/// What a word and four more ask, of which the last one is all that is left.
+fn longest_line(
+    word: &str,
+    view: &str,
+    parent: &str,
+    payload: &str,
+    rest: &str,
+) -> Option<VoterLine>
+    ensures { ReadsVoterLine (word.now ∷ view.now ∷ parent.now ∷ payload.now ∷ words_in rest.now) result }
+{
+    match first_word(rest) {
+        (now, None) => line_of_four(word, view, parent, payload, now),
+        (_, Some(_)) => None,
+    }
+}
+
+/// What a word alone asks.
+fn bare_line(word: &str) -> Option<VoterLine>
+    ensures { ReadsVoterLineOf 1 (word.now ∷ []) result }
+{
+    match word {
+        "best" => Some(VoterLine::Best),
+        "prune" => Some(VoterLine::Prune),
+        "propose" => Some(VoterLine::Propose),
+        "verify" => Some(VoterLine::Verify),
+        "candidates" => Some(VoterLine::Candidates),
+        "record" => Some(VoterLine::Record),
+        "view" => Some(VoterLine::Views),
+        _ => None,
+    }
+}
+
+/// What a word and a number ask: a moment of `timeout`, and else a view.
+fn line_of_number(word: &str, number: &str) -> Option<VoterLine>
+    ensures { ReadsVoterLineOf 2 (word.now ∷ number.now ∷ []) result }
+{
+    let view = view_of(number)?;
+    match word {
+        "notarize" => Some(VoterLine::Notarize(view)),
+        "nullify" => Some(VoterLine::Nullify(view)),
+        "finalize" => Some(VoterLine::Finalize(view)),
+        "release" => Some(VoterLine::Release(view)),
+        "supersede" => Some(VoterLine::Supersede(view)),
+        "abandon" => Some(VoterLine::Abandon(view)),
+        "verified" => Some(VoterLine::Verified(view)),
+        "timeout" => Some(VoterLine::Timeout { now: view.get() }),
+        _ => None,
+    }
+}
+
+/// What a word and two more ask.
+fn line_of_two(word: &str, first: &str, second: &str) -> Option<VoterLine>
+    ensures { ReadsVoterLineOf 3 (word.now ∷ first.now ∷ second.now ∷ []) result }
+{
+    match word {
+        "nullification" => Some(VoterLine::Nullification {
+            view: view_of(first)?,
+            now: decimal(second)?,
+        }),
+        "broadcast" => Some(VoterLine::Broadcast {
+            kind: certificate_kind_of(first)?,
+            view: view_of(second)?,
+        }),
+        "rejected" => Some(VoterLine::Rejected {
+            view: view_of(first)?,
+            now: decimal(second)?,
+        }),
+        "token" => Some(VoterLine::Token {
+            view: view_of(first)?,
+            token: decimal(second)?,
+        }),
+        "restart" => Some(VoterLine::Restart {
+            drop: decimal(first)?,
+            now: decimal(second)?,
+        }),
+        "restart-pruned" => Some(VoterLine::RestartPruned {
+            drop: decimal(first)?,
+            now: decimal(second)?,
         }),
         _ => None,
     }
 }
 
-fn notarization_line(view: &str, parent: &str, payload: &str) -> Option<VoterLine>
-    ensures { ReadsVoterLineOf IsCertificate (codes "notarization" ∷ view.now ∷ parent.now ∷ payload.now ∷ []) result }
+/// What a word, a view and two more words ask.
+fn line_of_three(word: &str, view: &str, second: &str, third: &str) -> Option<VoterLine>
+    ensures { ReadsVoterLineOf 4 (word.now ∷ view.now ∷ second.now ∷ third.now ∷ []) result }
+{
+    let view = view_of(view)?;
+    match word {
+        "notarization" => notarization_line(view, second, third),
+        "verdict" => verdict_line(view, second, third),
+        "proposal" => proposal_line(view, second, third),
+        "proposed" => proposed_line(view, second, third),
+        "trigger" => trigger_line(view, second, third),
+        _ => None,
+    }
+}
+
+fn notarization_line(view: View, parent: &str, payload: &str) -> Option<VoterLine>
+    ensures { ReadsVoterLineOf 4 (codes "notarization" ∷ decimal view ∷ parent.now ∷ payload.now ∷ []) result }
 {
     Some(VoterLine::Notarization {
-        view: view_of(view)?,
+        view,
         parent: view_of(parent)?,
         payload: decimal(payload)?,
     })
 }
 
-fn progress_line(words: &[&str]) -> Option<VoterLine>
-    ensures { ReadsVoterLineOf IsProgress (texts_of words.now) result }
+fn verdict_line(view: View, success: &str, now: &str) -> Option<VoterLine>
+    ensures { ReadsVoterLineOf 4 (codes "verdict" ∷ decimal view ∷ success.now ∷ now.now ∷ []) result }
 {
-    match *words {
-        ["finalization", view, parent, payload, now] => {
-            finalization_line(view, parent, payload, now)
-        }
-        ["verdict", view, success, now] => verdict_line(view, success, now),
+    Some(VoterLine::Verdict {
+        view,
+        success: flag_of(success)?,
+        now: decimal(now)?,
+    })
+}
+
+fn proposal_line(view: View, parent: &str, payload: &str) -> Option<VoterLine>
+    ensures { ReadsVoterLineOf 4 (codes "proposal" ∷ decimal view ∷ parent.now ∷ payload.now ∷ []) result }
+{
+    Some(VoterLine::Proposal {
+        view,
+        parent: view_of(parent)?,
+        payload: decimal(payload)?,
+    })
+}
+
+fn proposed_line(view: View, payload: &str, now: &str) -> Option<VoterLine>
+    ensures { ReadsVoterLineOf 4 (codes "proposed" ∷ decimal view ∷ payload.now ∷ now.now ∷ []) result }
+{
+    Some(VoterLine::Proposed {
+        view,
+        payload: decimal(payload)?,
+        now: decimal(now)?,
+    })
+}
+
+fn trigger_line(view: View, reason: &str, now: &str) -> Option<VoterLine>
+    ensures { ReadsVoterLineOf 4 (codes "trigger" ∷ decimal view ∷ reason.now ∷ now.now ∷ []) result }
+{
+    Some(VoterLine::Trigger {
+        view,
+        reason: timeout_reason_of(reason)?,
+        now: decimal(now)?,
+    })
+}
+
+/// What a word, a view and three more words ask.
+fn line_of_four(word: &str, view: &str, parent: &str, payload: &str, now: &str) -> Option<VoterLine>
+    ensures { ReadsVoterLineOf 5 (word.now ∷ view.now ∷ parent.now ∷ payload.now ∷ now.now ∷ []) result }
+{
+    match word {
+        "finalization" => finalization_line(view, parent, payload, now),
         _ => None,
     }
 }
 
 fn finalization_line(view: &str, parent: &str, payload: &str, now: &str) -> Option<VoterLine>
-    ensures { ReadsVoterLineOf IsProgress (codes "finalization" ∷ view.now ∷ parent.now ∷ payload.now ∷ now.now ∷ []) result }
+    ensures { ReadsVoterLineOf 5 (codes "finalization" ∷ view.now ∷ parent.now ∷ payload.now ∷ now.now ∷ []) result }
 {
     Some(VoterLine::Finalization {
         view: view_of(view)?,
@@ -183,148 +302,6 @@ fn finalization_line(view: &str, parent: &str, payload: &str, now: &str) -> Opti
         payload: decimal(payload)?,
         now: decimal(now)?,
     })
-}
-
-fn verdict_line(view: &str, success: &str, now: &str) -> Option<VoterLine>
-    ensures { ReadsVoterLineOf IsProgress (codes "verdict" ∷ view.now ∷ success.now ∷ now.now ∷ []) result }
-{
-    Some(VoterLine::Verdict {
-        view: view_of(view)?,
-        success: flag_of(success)?,
-        now: decimal(now)?,
-    })
-}
-
-fn vote_line(words: &[&str]) -> Option<VoterLine>
-    ensures { ReadsVoterLineOf IsVote (texts_of words.now) result }
-{
-    match *words {
-        ["notarize", view] => Some(VoterLine::Notarize(view_of(view)?)),
-        ["nullify", view] => Some(VoterLine::Nullify(view_of(view)?)),
-        ["finalize", view] => Some(VoterLine::Finalize(view_of(view)?)),
-        _ => None,
-    }
-}
-
-fn serving_line(words: &[&str]) -> Option<VoterLine>
-    ensures { ReadsVoterLineOf IsServing (texts_of words.now) result }
-{
-    match *words {
-        ["broadcast", kind, view] => Some(VoterLine::Broadcast {
-            kind: certificate_kind_of(kind)?,
-            view: view_of(view)?,
-        }),
-        ["best"] => Some(VoterLine::Best),
-        ["prune"] => Some(VoterLine::Prune),
-        _ => None,
-    }
-}
-
-fn proposal_line(words: &[&str]) -> Option<VoterLine>
-    ensures { ReadsVoterLineOf IsOnProposals (texts_of words.now) result }
-{
-    match *words {
-        ["proposal", view, parent, payload] => handed_line(view, parent, payload),
-        ["release", view] => Some(VoterLine::Release(view_of(view)?)),
-        _ => None,
-    }
-}
-
-fn handed_line(view: &str, parent: &str, payload: &str) -> Option<VoterLine>
-    ensures { ReadsVoterLineOf IsOnProposals (codes "proposal" ∷ view.now ∷ parent.now ∷ payload.now ∷ []) result }
-{
-    Some(VoterLine::Proposal {
-        view: view_of(view)?,
-        parent: view_of(parent)?,
-        payload: decimal(payload)?,
-    })
-}
-
-fn building_line(words: &[&str]) -> Option<VoterLine>
-    ensures { ReadsVoterLineOf IsOnBuilding (texts_of words.now) result }
-{
-    match *words {
-        ["propose"] => Some(VoterLine::Propose),
-        ["proposed", view, payload, now] => built_line(view, payload, now),
-        ["supersede", view] => Some(VoterLine::Supersede(view_of(view)?)),
-        ["abandon", view] => Some(VoterLine::Abandon(view_of(view)?)),
-        _ => None,
-    }
-}
-
-fn built_line(view: &str, payload: &str, now: &str) -> Option<VoterLine>
-    ensures { ReadsVoterLineOf IsOnBuilding (codes "proposed" ∷ view.now ∷ payload.now ∷ now.now ∷ []) result }
-{
-    Some(VoterLine::Proposed {
-        view: view_of(view)?,
-        payload: decimal(payload)?,
-        now: decimal(now)?,
-    })
-}
-
-fn verifying_line(words: &[&str]) -> Option<VoterLine>
-    ensures { ReadsVoterLineOf IsOnVerifying (texts_of words.now) result }
-{
-    match *words {
-        ["verify"] => Some(VoterLine::Verify),
-        ["verified", view] => Some(VoterLine::Verified(view_of(view)?)),
-        ["rejected", view, now] => Some(VoterLine::Rejected {
-            view: view_of(view)?,
-            now: decimal(now)?,
-        }),
-        _ => None,
-    }
-}
-
-fn offer_line(words: &[&str]) -> Option<VoterLine>
-    ensures { ReadsVoterLineOf IsOnOffers (texts_of words.now) result }
-{
-    match *words {
-        ["candidates"] => Some(VoterLine::Candidates),
-        ["token", view, token] => Some(VoterLine::Token {
-            view: view_of(view)?,
-            token: decimal(token)?,
-        }),
-        _ => None,
-    }
-}
-
-fn timeout_line(words: &[&str]) -> Option<VoterLine>
-    ensures { ReadsVoterLineOf IsOnTimeouts (texts_of words.now) result }
-{
-    match *words {
-        ["trigger", view, reason, now] => trigger_line(view, reason, now),
-        ["timeout", now] => Some(VoterLine::Timeout { now: decimal(now)? }),
-        _ => None,
-    }
-}
-
-fn trigger_line(view: &str, reason: &str, now: &str) -> Option<VoterLine>
-    ensures { ReadsVoterLineOf IsOnTimeouts (codes "trigger" ∷ view.now ∷ reason.now ∷ now.now ∷ []) result }
-{
-    Some(VoterLine::Trigger {
-        view: view_of(view)?,
-        reason: timeout_reason_of(reason)?,
-        now: decimal(now)?,
-    })
-}
-
-fn life_line(words: &[&str]) -> Option<VoterLine>
-    ensures { ReadsVoterLineOf IsOfLives (texts_of words.now) result }
-{
-    match *words {
-        ["restart", drop, now] => Some(VoterLine::Restart {
-            drop: decimal(drop)?,
-            now: decimal(now)?,
-        }),
-        ["restart-pruned", drop, now] => Some(VoterLine::RestartPruned {
-            drop: decimal(drop)?,
-            now: decimal(now)?,
-        }),
-        ["record"] => Some(VoterLine::Record),
-        ["view"] => Some(VoterLine::Views),
-        _ => None,
-    }
 }
 
 fn certificate_kind_of(word: &str) -> Option<CertificateKind>

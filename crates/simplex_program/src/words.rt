@@ -1,19 +1,22 @@
 //! The words of lines.
 
-ghost use Rattle.std.specs.Prelude.{◌≡◌, IfOk};
+ghost use Rattle.std.specs.Prelude.{◌≡◌, ◌∷◌, []};
+ghost use Rattle.std.specs.Option.{option_map_or};
 ghost use Rattle.simplex_program.specs.Decimal.{ReadsDecimal};
-ghost use Rattle.simplex_program.specs.Words.{texts_of, words_in, ReadsFlag, ReadsTimeoutReason};
+ghost use Rattle.simplex_program.specs.Words.{words_in, ReadsFlag, ReadsTimeoutReason};
 
 use crate::decimal::decimal;
 use simplex_types::reasons::TimeoutReason;
 use simplex_types::types::View;
-use std::alloc::{AllocError, Global};
 
-/// The words of a text, which are parted by one space each.
-pub(crate) fn words_of(alloc: Global, text: &str) -> Result<Vec<&str>, AllocError>
-    ensures { IfOk result (λ words. texts_of words.items ≡ words_in text.now) }
+/// The first word of a text, and what stands behind the space after it, where there is one. One space parts words.
+pub(crate) fn first_word(text: &str) -> (&str, Option<&str>)
+    ensures { words_in text.now ≡ result.0.now ∷ option_map_or (λ rest. words_in rest.now) result.1 [] }
 {
-    text.split(' ').collect(alloc)
+    match text.split_once(' ') {
+        Some((word, rest)) => (word, Some(rest)),
+        None => (text, None),
+    }
 }
 
 /// The view that a word writes.

@@ -6,7 +6,7 @@ use Rattle.simplex_types.specs.declared.types.plain.PlainElector.{PlainElector}
 use Rattle.simplex_types.specs.declared.types.plain.PlainKey.{PlainKey}
 use Rattle.simplex_member.specs.Calls.{Told, told}
 use Rattle.simplex_member.specs.Restarts.{RestartFacts}
-use Rattle.simplex_member.specs.Runs.{StepFacts, Calls, Restarts, restart_told}
+use Rattle.simplex_member.specs.Runs.{StepFacts, Calls, Prunes, Restarts, restart_told}
 use Rattle.simplex_laws.specs.Lawful.{IsLawful}
 use Rattle.simplex_laws.specs.Stories.{Story, deeds_of, Ran}
 use Rattle.simplex_program.specs.declared.mode.Mode.TheVariants.{Voter}
@@ -58,9 +58,10 @@ abbrev pub IsRestartOf : Network → VoterLine → RestartFacts PlainKey PlainEl
 IsRestartOf n line r =
     MatchOption (restart_in line) ⊥ (λ asked. IsGenesisStart n asked.1 r.start × (r.drop ≡ asked.0) × (r.prune ≡ asked.2))
 
--- the step that a line stands for
+-- the step that a line stands for; no line prunes the record within a life
 abbrev pub IsStepOf : Network → VoterLine → PlainStep → Type 0
 IsStepOf n line (Calls call) = StandsFor line call
+IsStepOf n line Prunes = ⊥
 IsStepOf n line (Restarts r) = IsRestartOf n line r
 
 -- it is told what the line is answered

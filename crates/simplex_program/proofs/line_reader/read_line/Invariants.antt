@@ -1,12 +1,14 @@
-use Rattle.std.proofs.Common.{◌≡◌, length}
+use Rattle.std.proofs.Common.{◌<◌, ◌≤◌, length}
+use Rattle.std.specs.Io.Buffered.{reader_remaining}
 use Rattle.std.specs.Io.KnownBytes.{Consumes}
 use Rattle.simplex_program.proofs.Lines.{IsPassed}
 use Rattle.simplex_program.proofs.line_reader.read_line.Given as goal
 
--- the bytes that are read stand in the line, and have no feed among them
-abbrev pub invariant-loop-read : goal.invariant-loop-read
-invariant-loop-read g l = record {
-  length : length l.line.items ≡ l._read;
+-- the bytes that are read stand in the line, and have no feed among them; each part has one at least
+abbrev pub invariant-loop-part : goal.invariant-loop-part
+invariant-loop-part g l = record {
+  least : l._part ≤ length l.line.items;
+  most : length l.line.items < 201;
   passed : IsPassed l.line.items;
-  taken : Consumes (g.R.Read.remaining l.initial.reader) (g.R.Read.remaining l.reader) l.line.items;
+  taken : Consumes (reader_remaining g.R.Read.remaining l.initial.reader) (reader_remaining g.R.Read.remaining l.reader) l.line.items;
 }

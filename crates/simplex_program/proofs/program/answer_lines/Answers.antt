@@ -1,41 +1,42 @@
 use Rattle.std.proofs.Common.{refl, arith}
 use Rattle.std.proofs.lemmas.Result.{err_from_is_err_and}
+use Rattle.std.specs.Io.Buffered.{reader_remaining}
 use Rattle.simplex_program.specs.Session.{asked_of}
 use Rattle.simplex_program.specs.Transcript.{Point}
-use Rattle.simplex_program.proofs.Turns.{serves_none, serves_one_more, serves_all, serves_most, serving_ends, no_room}
+use Rattle.simplex_program.proofs.Turns.{serves_one_more, serves_all, serves_most, serving_ends, no_room}
 use Rattle.simplex_program.proofs.program.answer_lines.Goals as goal
 
 pub returns-in_default : goal.returns-in_default
 returns-in_default g c =
-    let start : Point = record { asked = asked_of c.args.session.now; left = g.R.Read.remaining c.args.reader.now; held = g.W.Write.contents c.args.writer.now } in
+    let start : Point = record { asked = asked_of c.args.session.now; left = reader_remaining g.R.Read.remaining c.args.reader.now; held = g.W.Write.contents c.args.writer.now } in
     no_room start
 
 pub returns-in_err-answer_line : goal.returns-in_err-answer_line
 returns-in_err-answer_line g c =
-    let start : Point = record { asked = asked_of c.args.session.now; left = g.R.Read.remaining c.args.reader.now; held = g.W.Write.contents c.args.writer.now } in
-    let now : Point = record { asked = asked_of c.loop-number.session; left = g.R.Read.remaining c.loop-number.reader; held = g.W.Write.contents c.loop-number.writer } in
-    let next : Point = record { asked = asked_of c.answer_line.new.session; left = g.R.Read.remaining c.answer_line.new.reader; held = g.W.Write.contents c.answer_line.new.writer } in
+    let start : Point = record { asked = asked_of c.args.session.now; left = reader_remaining g.R.Read.remaining c.args.reader.now; held = g.W.Write.contents c.args.writer.now } in
+    let now : Point = record { asked = asked_of c.loop-number.session; left = reader_remaining g.R.Read.remaining c.loop-number.reader; held = g.W.Write.contents c.loop-number.writer } in
+    let next : Point = record { asked = asked_of c.answer_line.new.session; left = reader_remaining g.R.Read.remaining c.answer_line.new.reader; held = g.W.Write.contents c.answer_line.new.writer } in
     let p = err_from_is_err_and c.from_residual.result c.from_residual.ensures.1 in
     rw (p.1, p.2) (serving_ends start now next c.loop-number.number _ c.loop-number.invariant c.in_err-answer_line.ensures)
 
 pub returns-then-not-branch : goal.returns-then-not-branch
 returns-then-not-branch g c =
-    let start : Point = record { asked = asked_of c.args.session.now; left = g.R.Read.remaining c.args.reader.now; held = g.W.Write.contents c.args.writer.now } in
-    let now : Point = record { asked = asked_of c.loop-number.session; left = g.R.Read.remaining c.loop-number.reader; held = g.W.Write.contents c.loop-number.writer } in
-    let next : Point = record { asked = asked_of c.answer_line.new.session; left = g.R.Read.remaining c.answer_line.new.reader; held = g.W.Write.contents c.answer_line.new.writer } in
+    let start : Point = record { asked = asked_of c.args.session.now; left = reader_remaining g.R.Read.remaining c.args.reader.now; held = g.W.Write.contents c.args.writer.now } in
+    let now : Point = record { asked = asked_of c.loop-number.session; left = reader_remaining g.R.Read.remaining c.loop-number.reader; held = g.W.Write.contents c.loop-number.writer } in
+    let next : Point = record { asked = asked_of c.answer_line.new.session; left = reader_remaining g.R.Read.remaining c.answer_line.new.reader; held = g.W.Write.contents c.answer_line.new.writer } in
     let ended = rw c.if-not-branch.true at c.in_ok-answer_line.ensures in
     serves_all start now next c.loop-number.number c.loop-number.invariant ended
 
 pub loop-number-preserved : goal.loop-number-preserved
 loop-number-preserved g c =
-    let start : Point = record { asked = asked_of c.args.session.now; left = g.R.Read.remaining c.args.reader.now; held = g.W.Write.contents c.args.writer.now } in
-    let now : Point = record { asked = asked_of c.loop-number.session; left = g.R.Read.remaining c.loop-number.reader; held = g.W.Write.contents c.loop-number.writer } in
-    let next : Point = record { asked = asked_of c.answer_line.new.session; left = g.R.Read.remaining c.answer_line.new.reader; held = g.W.Write.contents c.answer_line.new.writer } in
+    let start : Point = record { asked = asked_of c.args.session.now; left = reader_remaining g.R.Read.remaining c.args.reader.now; held = g.W.Write.contents c.args.writer.now } in
+    let now : Point = record { asked = asked_of c.loop-number.session; left = reader_remaining g.R.Read.remaining c.loop-number.reader; held = g.W.Write.contents c.loop-number.writer } in
+    let next : Point = record { asked = asked_of c.answer_line.new.session; left = reader_remaining g.R.Read.remaining c.answer_line.new.reader; held = g.W.Write.contents c.answer_line.new.writer } in
     let answered = rw c.if-not-branch.false at c.in_ok-answer_line.ensures in
     serves_one_more start now next c.loop-number.number _ c.loop-number.invariant answered refl
 
 pub returns : goal.returns
 returns g c =
-    let start : Point = record { asked = asked_of c.args.session.now; left = g.R.Read.remaining c.args.reader.now; held = g.W.Write.contents c.args.writer.now } in
-    let now : Point = record { asked = asked_of c.loop-number.session; left = g.R.Read.remaining c.loop-number.reader; held = g.W.Write.contents c.loop-number.writer } in
+    let start : Point = record { asked = asked_of c.args.session.now; left = reader_remaining g.R.Read.remaining c.args.reader.now; held = g.W.Write.contents c.args.writer.now } in
+    let now : Point = record { asked = asked_of c.loop-number.session; left = reader_remaining g.R.Read.remaining c.loop-number.reader; held = g.W.Write.contents c.loop-number.writer } in
     serves_most start now c.loop-number.number c.loop-number.invariant (omega (arith, c.loop-number-test.false, c.loop-number.auto))

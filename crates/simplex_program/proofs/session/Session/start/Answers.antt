@@ -15,5 +15,5 @@ returns-in_ok-start-in-Voter c =
         ap (λ (n : Network). n.term_length) same,
         ap (λ (n : Network). n.optimistic) same,
       ),
-      subst (λ (n : Network). StartsAtGenesis n voter.member) (sym same) fresh,
+      subst (λ (n : Network). StartsAtGenesis n voter.member.facts) (sym same) fresh,
     )
