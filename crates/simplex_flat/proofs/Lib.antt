@@ -1,1 +1,3 @@
+pub mod Framing
+pub mod Items
 pub mod Tested

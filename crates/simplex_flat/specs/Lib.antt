@@ -1,6 +1,11 @@
 pub mod Calls
+pub mod Journals
 pub mod Numbers
+pub mod Opening
 pub mod Replies
+pub mod Resolving
 pub mod Serving
 pub mod Settings
+pub mod Showing
 pub mod Starting
+pub mod Statuses

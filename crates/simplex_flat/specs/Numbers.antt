@@ -77,3 +77,8 @@ fault_number fault.TimeOverflow = 4
 abbrev pub member_number : Option HostKey → ℕ
 member_number None = 4294967295
 member_number (Some key) = key.0
+
+-- the index of a member, or the greatest number of 32 bits where there is none
+abbrev pub index_number : Option ℕ → ℕ
+index_number None = 4294967295
+index_number (Some index) = index

@@ -44,11 +44,11 @@ pub record IsMade (old : Held) (f : FlatCall) (bytes : List ℕ) (r : FlatReply)
   pub call : HostCallFacts
   pub is_asked : IsAskedBy f bytes call
   -- the member answered it, by its contract; its reply is kept
-  pub made : IsCall same_payload host_leader old.member call (told certificate_bytes new.last) new.member
+  pub made : IsCall same_payload host_leader old.member.facts call (told certificate_bytes new.last) new.member.facts
   -- the flat reply tells what it tells
   pub tells : Tells r (told certificate_bytes new.last)
   -- a vote in it is ordered, for just its own bytes
-  pub ordered : IfSome old.member.life (IsSignedReply (IsOrder digest_bytes) new.last)
+  pub ordered : IfSome old.member.facts.life (IsSignedReply (IsOrder digest_bytes) new.last)
 
 -- a flat call is served: nothing was done, or the call was made
 abbrev pub IsServed : Held → FlatCall → List ℕ → FlatReply → Held → Type 0

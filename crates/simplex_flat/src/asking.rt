@@ -93,7 +93,7 @@ fn call_of_kind(
     })
 }
 
-fn round_in(round: FlatRound) -> Round
+pub(crate) fn round_in(round: FlatRound) -> Round
     ensures { result ≡ round_of round }
 {
     Round {
@@ -102,7 +102,7 @@ fn round_in(round: FlatRound) -> Round
     }
 }
 
-fn proposal_of(proposal: &FlatProposal) -> Proposal<HostDigest>
+pub(crate) fn proposal_of(proposal: &FlatProposal) -> Proposal<HostDigest>
     ensures { IsProposal proposal.now result }
 {
     Proposal {
@@ -120,7 +120,7 @@ fn certificate_of(alloc: Global, bytes: &[u8]) -> Result<HostCertificate, AllocE
     })
 }
 
-fn notarization_of(
+pub(crate) fn notarization_of(
     alloc: Global,
     proposal: &FlatProposal,
     bytes: &[u8],
@@ -134,7 +134,7 @@ fn notarization_of(
     })
 }
 
-fn nullification_of(
+pub(crate) fn nullification_of(
     alloc: Global,
     round: FlatRound,
     bytes: &[u8],

@@ -6,6 +6,7 @@ use crate::asking::call_of;
 use crate::flat::{FlatCall, FlatFetch, FlatProposal, FlatReply, FlatSettings};
 use crate::replying::{HostReply, flat_proposal, flat_reply, unanswered};
 use crate::settings::{SettingsError, start_of};
+use bytes::BytesMut;
 use simplex_host::elector::HostElector;
 use simplex_host::scheme::{HostDigest, HostScheme};
 use simplex_member::member::{Member, RecoverError, Reply};
@@ -29,12 +30,14 @@ pub enum NotStarted {
     Recover(RecoverError),
 }
 
-/// A member, and its last reply.
+/// A member, its last reply, and what it last showed beside that.
 #[derive(Drop)]
 pub struct Held {
-    alloc: Global,
-    member: HostMember,
+    pub(crate) alloc: Global,
+    pub(crate) member: HostMember,
     last: HostReply,
+    /// What was last shown beside a reply.
+    pub(crate) shown: BytesMut,
 }
 
 impl Held {
@@ -50,7 +53,7 @@ impl Held {
         now: u64,
     ) -> Result<Held, NotStarted>
         ensures refused { IfErr result (IsNotStarted flat.now leaders.now certificate.now now) }
-        ensures started { IfOk result (λ held. IsStarted flat.now leaders.now certificate.now now held.member) }
+        ensures started { IfOk result (λ held. IsStarted flat.now leaders.now certificate.now now held.member.facts) }
     {
         let start = match start_of(alloc, flat, leaders, certificate, now) {
             Ok(start) => start,
@@ -70,6 +73,7 @@ impl Held {
             alloc,
             member,
             last: Reply::Unit,
+            shown: BytesMut::new(alloc),
         }
     }
 

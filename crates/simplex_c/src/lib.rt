@@ -1,0 +1,6 @@
+//! The functions of a member that C calls, each over a function of `simplex_flat`.
+#![tactic(auto)]
+
+pub mod exports;
+mod loose;
+pub mod resolvers;

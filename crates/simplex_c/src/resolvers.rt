@@ -1,0 +1,150 @@
+//! The functions of a resolver that C calls. `resolver_at` says what a handle points to: a resolver that `simplex_resolver_start` made,
+//! and that no other call has.
+
+ghost use Rattle.std.specs.Prelude.{◌≡◌, ◌≤◌};
+ghost use Rattle.std.specs.Borrow.{sem};
+ghost use Rattle.simplex_flat.specs.declared.resolving.HeldResolver.{HeldResolver};
+ghost use Rattle.simplex_flat.specs.Resolving.{IsEffectAt, IsHeard, IsServedFor, IsSettledAt};
+ghost use Rattle.simplex_flat.specs.Showing.{IsChunk};
+ghost use Rattle.simplex_c.specs.Behind.{IsRead, resolver_at, resolver_left_at, resolver_owned_at};
+ghost use Rattle.simplex_c.specs.Opened.{IsReplayStatus};
+
+use crate::loose::Loose;
+use simplex_flat::resolved::{FlatEffect, FlatEffects, FlatServed, FlatSettled, FlatTold};
+use simplex_flat::resolving::{HeldResolver, number_of_not_replayed};
+use simplex_flat::shown::FlatChunk;
+use std::alloc::Global;
+
+/// Starts a resolver from the bytes of a journal, and writes its handle. 0, or why there is none.
+#[unsafe(no_mangle)]
+pub extern "C" fn simplex_resolver_start(
+    alloc: Global,
+    term_length: u32,
+    journal: &[u8],
+    out: &mut *mut u8,
+) -> u32
+    ensures { IsReplayStatus term_length journal.now result }
+{
+    match HeldResolver::start(alloc, term_length, journal) {
+        Ok(held) => hand_out(alloc, held, out),
+        Err(error) => number_of_not_replayed(error),
+    }
+}
+
+/// Writes the handle of a resolver: 0, or 1 where there is no memory for it.
+fn hand_out(alloc: Global, held: HeldResolver, out: &mut *mut u8) -> u32
+    ensures { result ≤ 1 }
+{
+    match Box::new(alloc, held) {
+        Ok(held) => {
+            *out = Box::into_raw(held) as *mut u8;
+            0
+        }
+        Err(_) => 1,
+    }
+}
+
+/// Tells the resolver of a certificate or of a verdict.
+#[unsafe(no_mangle)]
+pub unsafe extern "C" fn simplex_resolver_told(
+    at: *mut u8,
+    told: &FlatTold,
+    certificate: &[u8],
+) -> FlatEffects
+    ghost held: { HeldResolver }
+    requires* { sem 𝓛 (resolver_at at held) }
+    ensures* { sem 𝓛 (resolver_left_at at (λ now. IsHeard held told.now certificate.now result now)) }
+{
+    tell(
+        unsafe { &mut *(at as *mut HeldResolver) },
+        told,
+        certificate,
+    )
+}
+
+fn tell(held: &mut HeldResolver, told: &FlatTold, certificate: &[u8]) -> FlatEffects
+    ensures { IsHeard held.old told.now certificate.now result held.new }
+{
+    held.told(told, certificate)
+}
+
+/// An effect of what the resolver was told last.
+#[unsafe(no_mangle)]
+pub unsafe extern "C" fn simplex_resolver_effect(at: *mut u8, index: u64) -> FlatEffect
+    ghost held: { HeldResolver }
+    requires* { sem 𝓛 (resolver_at at held) }
+    ensures* { sem 𝓛 (resolver_left_at at (λ now. IsRead held now (IsEffectAt held.last.items index result))) }
+{
+    hand_effect(unsafe { &mut *(at as *mut HeldResolver) }, index)
+}
+
+fn hand_effect(held: &mut HeldResolver, index: u64) -> FlatEffect
+    ensures { IsRead held.old held.new (IsEffectAt held.old.last.items index result) }
+{
+    held.effect(index)
+}
+
+/// What the resolver knows of a view.
+#[unsafe(no_mangle)]
+pub unsafe extern "C" fn simplex_resolver_settled(at: *mut u8, view: u64) -> FlatSettled
+    ghost held: { HeldResolver }
+    requires* { sem 𝓛 (resolver_at at held) }
+    ensures* { sem 𝓛 (resolver_left_at at (λ now. IsRead held now (IsSettledAt held.resolver view result))) }
+{
+    hand_settled(unsafe { &mut *(at as *mut HeldResolver) }, view)
+}
+
+fn hand_settled(held: &mut HeldResolver, view: u64) -> FlatSettled
+    ensures { IsRead held.old held.new (IsSettledAt held.old.resolver view result) }
+{
+    held.settled(view)
+}
+
+/// Shows what a peer is served for a view.
+#[unsafe(no_mangle)]
+pub unsafe extern "C" fn simplex_resolver_produce(at: *mut u8, view: u64) -> FlatServed
+    ghost held: { HeldResolver }
+    requires* { sem 𝓛 (resolver_at at held) }
+    ensures* { sem 𝓛 (resolver_left_at at (λ now. IsServedFor held view result now)) }
+{
+    hand_served(unsafe { &mut *(at as *mut HeldResolver) }, view)
+}
+
+fn hand_served(held: &mut HeldResolver, view: u64) -> FlatServed
+    ensures { IsServedFor held.old view result held.new }
+{
+    held.produce(view)
+}
+
+/// A part of what was served last.
+#[unsafe(no_mangle)]
+pub unsafe extern "C" fn simplex_resolver_bytes(at: *mut u8, from: u64) -> FlatChunk
+    ghost held: { HeldResolver }
+    requires* { sem 𝓛 (resolver_at at held) }
+    ensures* { sem 𝓛 (resolver_left_at at (λ now. IsRead held now (IsChunk held.served.items from result))) }
+{
+    hand_bytes(unsafe { &mut *(at as *mut HeldResolver) }, from)
+}
+
+fn hand_bytes(held: &mut HeldResolver, from: u64) -> FlatChunk
+    ensures { IsRead held.old held.new (IsChunk held.old.served.items from result) }
+{
+    held.chunk(from)
+}
+
+/// Lets the resolver go, and the memory of its handle.
+#[unsafe(no_mangle)]
+pub unsafe extern "C" fn simplex_resolver_free(alloc: Global, at: *mut u8)
+    ghost held: { HeldResolver }
+    requires* { sem 𝓛 (resolver_owned_at alloc at held) }
+{
+    end(Loose {
+        at: at as *mut HeldResolver,
+        alloc,
+    })
+}
+
+/// Drops the resolver at a pointer.
+fn end(resolver: Loose<HeldResolver, Global>) {
+    let _resolver = resolver.into_box();
+}

@@ -1,0 +1,29 @@
+-- What is shown, and what is lost.
+use Rattle.std.proofs.Common.{◌≡◌, ◌<◌, ◌≤◌, ℕ, List, length, true, Option, Some, None, MatchOption, inl, inr, sym, subst, arith}
+use Rattle.std.proofs.lemmas.Grind.{common_steps}
+use Rattle.simplex_types.specs.declared.types.messages.Proposal.{Proposal}
+use Rattle.simplex_codec.specs.declared.digest.BytesDigest.{BytesDigest}
+use Rattle.simplex_host.specs.Host.{certificate_bytes}
+use Rattle.simplex_member.specs.Journal.{has_lost}
+use Rattle.simplex_member.specs.declared.member.journal.Stored.{Stored}
+use Rattle.simplex_record.specs.Entries.{entries_of}
+use Rattle.simplex_flat.specs.declared.flat.FlatProposal.{FlatProposal}
+use Rattle.simplex_flat.specs.declared.shown.FlatItem.{FlatItem}
+use Rattle.simplex_flat.specs.declared.shown.FlatStored.{FlatStored}
+use Rattle.simplex_flat.specs.Journals.{HostArtifact}
+use Rattle.simplex_flat.specs.Opening.{IsStored}
+use Rattle.simplex_flat.specs.Serving.{IsProposalAt}
+use Rattle.simplex_flat.specs.Showing.{IsItemOr}
+
+-- the item of a proposal that is there or not
+pub proposal_shown : (o : Option FlatProposal) (proposals : List (Proposal (BytesDigest 32))) (index : ℕ) (r : FlatItem)
+    → MatchOption o (length proposals ≤ index) (IsProposalAt proposals index)
+    → MatchOption o (r.has ≡ 0) (λ it. (r.has ≡ 1) × (r.proposal ≡ it))
+    → IsItemOr r (length proposals ≤ index) (IsProposalAt proposals index r.proposal)
+proposal_shown None proposals index r at item = inl (item, at)
+proposal_shown (Some f) proposals index r at item = inr (item.0, subst (IsProposalAt proposals index) (sym item.1) at)
+
+-- where entries are lost, there are fewer than were closed
+pub fewer_than_closed : (beside : FlatStored) (stored : Stored) (entries : List HostArtifact) → IsStored beside stored
+    → has_lost stored (entries_of certificate_bytes entries) ≡ true → length entries < beside.closed
+fewer_than_closed beside stored entries so lost = grind (arith, common_steps, so.closed, lost)

@@ -1,0 +1,10 @@
+use Rattle.std.proofs.Common.{arith}
+use Rattle.simplex_flat.proofs.Framing.{scanned_least, scanned_more}
+use Rattle.simplex_flat.proofs.journal.scan.Goals as goal
+
+pub overflow_add-entries : goal.overflow_add-entries
+overflow_add-entries c =
+    omega (arith, scanned_least _ _ _ (scanned_more _ _ _ _ c.loop-behind.invariant c.in-Some.ensures))
+
+pub loop-behind-preserved : goal.loop-behind-preserved
+loop-behind-preserved c = scanned_more _ _ _ _ c.loop-behind.invariant c.in-Some.ensures

@@ -1,0 +1,9 @@
+use Rattle.std.proofs.Common.{length}
+use Rattle.simplex_flat.specs.Journals.{HasScanned}
+use Rattle.simplex_flat.proofs.journal.scan.Given as goal
+
+abbrev pub invariant-loop-behind : goal.invariant-loop-behind
+invariant-loop-behind l = HasScanned l.journal l.entries l.left
+
+abbrev pub decreases-loop-behind : goal.decreases-loop-behind
+decreases-loop-behind l = length l.left

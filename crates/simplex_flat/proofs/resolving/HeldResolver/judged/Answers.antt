@@ -1,0 +1,25 @@
+use Rattle.std.proofs.Common.{inr, refl}
+use Rattle.simplex_types.specs.Certificates.{notarization_facts}
+use Rattle.simplex_codec.specs.Digests.{digest_bytes}
+use Rattle.simplex_host.specs.Host.{certificate_bytes}
+use Rattle.simplex_resolver.specs.Steps.{verdict}
+use Rattle.simplex_flat.proofs.resolving.HeldResolver.judged.Goals as goal
+
+pub returns-in-Ok : goal.returns-in-Ok
+returns-in-Ok c =
+    let notarization = notarization_facts certificate_bytes c.in-Ok.it in
+    inr (
+      verdict (digest_bytes {n = 32}) notarization c.args.success,
+      inr (
+        c.requires.kind,
+        record {
+          notarization = notarization;
+          success = c.args.success;
+          proposal = c.in-Ok.ensures.proposal;
+          own = c.in-Ok.ensures.bytes;
+          flag = c.requires.success;
+          told = refl;
+        },
+      ),
+      c.certified.ensures,
+    )

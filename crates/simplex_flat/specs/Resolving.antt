@@ -1,0 +1,146 @@
+-- How a resolver behind a handle starts, what it is told, and what it answers.
+use Rattle.std.specs.Prelude.{◌≡◌, ◌⊎◌, ◌<◌, ◌≤◌, ℕ, zero, suc, Bool, true, List, [], Option, Some, None, length, slice_get}
+use Rattle.simplex_types.specs.Certificates.{CertificateFacts, ProposalFacts, Notarized, Nullified, Finalized}
+use Rattle.simplex_types.specs.declared.reasons.FetchReason.{FetchReason}
+use Rattle.simplex_types.specs.declared.reasons.FetchReason.TheVariants as why
+use Rattle.simplex_types.specs.declared.reasons.Kind.{Kind}
+use Rattle.simplex_types.specs.declared.reasons.Kind.TheVariants as lacking
+use Rattle.simplex_types.specs.declared.types.fault.Fault.{Fault}
+use Rattle.simplex_codec.specs.declared.digest.BytesDigest.{BytesDigest}
+use Rattle.simplex_codec.specs.Digests.{digest_bytes}
+use Rattle.simplex_host.specs.Host.{certificate_bytes}
+use Rattle.simplex_resolver.specs.declared.replay.error.ReplayError.{ReplayError}
+use Rattle.simplex_resolver.specs.declared.replay.error.ReplayError.TheVariants as replay
+use Rattle.simplex_resolver.specs.declared.resolver.effect.Effect.{Effect}
+use Rattle.simplex_resolver.specs.declared.resolver.effect.Effect.TheVariants as effect
+use Rattle.simplex_resolver.specs.Held.{is_settled, served_encoding}
+use Rattle.simplex_resolver.specs.RecordCalls.{newest_first, replay_calls}
+use Rattle.simplex_resolver.specs.RecordRules.{record_error}
+use Rattle.simplex_resolver.specs.Repair.{has}
+use Rattle.simplex_resolver.specs.ReplayErrors.{IsDue}
+use Rattle.simplex_resolver.specs.Steps.{Call, update, verdict}
+use Rattle.simplex_resolver.specs.Told.{LawfulResolverFacts, HasBeenTold, IsLeftBy, IsMade, IsToldMore}
+use Rattle.simplex_flat.specs.declared.journal.NotRead.TheVariants as not_read
+use Rattle.simplex_flat.specs.declared.resolved.FlatEffect.{FlatEffect}
+use Rattle.simplex_flat.specs.declared.resolved.FlatEffects.{FlatEffects}
+use Rattle.simplex_flat.specs.declared.resolved.FlatServed.{FlatServed}
+use Rattle.simplex_flat.specs.declared.resolved.FlatSettled.{FlatSettled}
+use Rattle.simplex_flat.specs.declared.resolved.FlatTold.{FlatTold}
+use Rattle.simplex_flat.specs.declared.resolving.HeldResolver.{HeldResolver}
+use Rattle.simplex_flat.specs.declared.resolving.NotReplayed.{NotReplayed}
+use Rattle.simplex_flat.specs.declared.resolving.NotReplayed.TheVariants as not_replayed
+use Rattle.simplex_flat.specs.Calls.{IsProposal, round_of}
+use Rattle.simplex_flat.specs.Journals.{HostArtifact, IsNotRead, framed}
+use Rattle.simplex_flat.specs.Numbers.{fault_number, flag_number}
+
+-- a resolver that was told the entries whose frames these bytes are, and then that its replay has ended
+pub record IsBegunFrom (term_length : ℕ) (journal : List ℕ) (r : LawfulResolverFacts) : Type 0 where
+  pub entries : List HostArtifact
+  pub read : journal ≡ framed entries
+  pub told : HasBeenTold term_length (replay_calls (digest_bytes {n = 32}) certificate_bytes entries) r
+
+-- the record is refused, or memory is wanting
+pub record IsNotReplayed (journal : List ℕ) (error : ReplayError) : Type 0 where
+  pub entries : List HostArtifact
+  pub read : journal ≡ framed entries
+  pub due : IsDue (record_error (newest_first certificate_bytes entries)) error
+
+-- why no resolver starts
+abbrev pub IsNotBegunFrom : ℕ → List ℕ → NotReplayed → Type 0
+IsNotBegunFrom term_length journal not_replayed.NoTerm = term_length ≡ 0
+IsNotBegunFrom term_length journal (not_replayed.Journal e) = IsNotRead journal e
+IsNotBegunFrom term_length journal (not_replayed.Replay e) = IsNotReplayed journal e
+
+-- the number of why no resolver starts
+abbrev pub not_replayed_number : NotReplayed → ℕ
+not_replayed_number not_replayed.NoTerm = 9
+not_replayed_number (not_replayed.Journal not_read.OutOfMemory) = 1
+not_replayed_number (not_replayed.Journal (not_read.Damaged _)) = 12
+not_replayed_number (not_replayed.Journal (not_read.NoEntry _ _)) = 13
+not_replayed_number (not_replayed.Replay replay.OutOfMemory) = 1
+not_replayed_number (not_replayed.Replay replay.ZeroView) = 42
+not_replayed_number (not_replayed.Replay replay.ViewTooLarge) = 43
+not_replayed_number (not_replayed.Replay replay.VerdictWithoutNotarization) = 46
+
+-- a certificate of a kind is of these numbers and bytes
+abbrev pub IsHandedIn : ℕ → FlatTold → List ℕ → CertificateFacts (BytesDigest 32) → Type 0
+IsHandedIn (suc zero) f bytes (Notarized c) = IsProposal f.proposal c.proposal × (c.bytes ≡ bytes)
+IsHandedIn (suc (suc zero)) f bytes (Nullified c) = (c.round ≡ round_of f.proposal.round) × (c.bytes ≡ bytes)
+IsHandedIn (suc (suc (suc zero))) f bytes (Finalized c) = IsProposal f.proposal c.proposal × (c.bytes ≡ bytes)
+IsHandedIn _ f bytes c = ⊥
+
+-- a verdict on a notarization of these numbers and bytes
+pub record IsJudged (f : FlatTold) (bytes : List ℕ) (call : Call) : Type 0 where
+  pub notarization : ProposalFacts (BytesDigest 32)
+  pub success : Bool
+  pub proposal : IsProposal f.proposal notarization.proposal
+  pub own : notarization.bytes ≡ bytes
+  pub flag : flag_number success ≡ f.success
+  pub told : call ≡ verdict (digest_bytes {n = 32}) notarization success
+
+-- what is told: a certificate, or a verdict
+abbrev pub IsTold : FlatTold → List ℕ → Call → Type 0
+IsTold f bytes call =
+    ((c : CertificateFacts (BytesDigest 32)) × IsHandedIn f.kind f bytes c × (call ≡ update (digest_bytes {n = 32}) c))
+    ⊎ ((f.kind ≡ 4) × IsJudged f bytes call)
+
+-- it is told, and these are its effects; or a fault leaves what it leaves
+abbrev pub IsHeardAs : HeldResolver → Call → FlatEffects → HeldResolver → Type 0
+IsHeardAs old call r new =
+    ((r.status ≡ 0) × (r.count ≡ length new.last.items) × (r.fetches ≡ length new.resolver.open_fetches)
+    × IsMade call old.resolver new.last.items new.resolver × IsToldMore old.resolver call new.resolver)
+    ⊎ ((fault : Fault) × (v : ℕ) × (r.status ≡ fault_number fault) × IsLeftBy old.resolver v call fault new.resolver × (new.last.items ≡ []))
+
+-- why nothing was told: a view of genesis, a number that is none, no memory for the certificate
+abbrev pub IsNotTold : FlatTold → FlatEffects → Type 0
+IsNotTold f r = ((r.status ≡ 5) × (f.proposal.round.view ≡ 0)) ⊎ ((r.status ≡ 6) × ((f.kind ≡ 0) ⊎ (5 ≤ f.kind) ⊎ (2 ≤ f.success))) ⊎ (r.status ≡ 7)
+
+-- what flat numbers tell a resolver
+abbrev pub IsHeard : HeldResolver → FlatTold → List ℕ → FlatEffects → HeldResolver → Type 0
+IsHeard old f bytes r new = (IsNotTold f r × (new ≡ old)) ⊎ ((call : Call) × IsTold f bytes call × IsHeardAs old call r new)
+
+-- why a fetch is opened, and what is settled
+abbrev pub why_number : FetchReason → ℕ
+why_number why.MissingNullification = 0
+why_number why.CertificationFailed = 1
+
+abbrev pub lacking_number : Kind → ℕ
+lacking_number lacking.Nullification = 0
+lacking_number lacking.Notarization = 1
+
+-- an effect is of these numbers
+abbrev pub IsEffect : Effect → FlatEffect → Type 0
+IsEffect (effect.Fetch view cause reason) f = (f.kind ≡ 1) × (f.view ≡ view) × (f.cause ≡ cause) × (f.reason ≡ why_number reason)
+IsEffect (effect.Settled kind start end) f = (f.kind ≡ 2) × (f.view ≡ start) × (f.end ≡ end) × (f.reason ≡ lacking_number kind)
+IsEffect (effect.Finalized view) f = (f.kind ≡ 3) × (f.view ≡ view)
+IsEffect (effect.Raised view) f = (f.kind ≡ 4) × (f.view ≡ view)
+
+-- the effect at an index, or none
+abbrev pub IsEffectAt : List Effect → ℕ → FlatEffect → Type 0
+IsEffectAt es index f = ((f.kind ≡ 0) × (length es ≤ index)) ⊎ ((e : Effect) × (slice_get es index ≡ Some e) × IsEffect e f)
+
+-- what is known of a view
+pub record IsSettledAt (r : LawfulResolverFacts) (view : ℕ) (f : FlatSettled) : Type 0 where
+  pub failed : f.is_failed ≡ flag_number r.state.is_failed
+  pub nullification : f.nullification ≡ flag_number (is_settled r.state view lacking.Nullification)
+  pub notarization : f.notarization ≡ flag_number (is_settled r.state view lacking.Notarization)
+  pub opened : f.is_open ≡ flag_number (has r.open_fetches view)
+  pub count : f.fetches ≡ length r.open_fetches
+
+-- bytes are shown, or there was no memory for them
+abbrev pub IsShownOr : HeldResolver → List ℕ → FlatServed → HeldResolver → Type 0
+IsShownOr old bytes r new =
+    (new.resolver ≡ old.resolver) × (new.last ≡ old.last)
+    × (((r.status ≡ 1) × (new.served.items ≡ [])) ⊎ ((r.status ≡ 0) × (r.has ≡ 1) × (r.bytes ≡ length bytes) × (new.served.items ≡ bytes)))
+
+-- what a peer is served: nothing, or the encoding; or why it is not shown
+abbrev pub HasServed : Option (List ℕ) → FlatServed → List ℕ → Type 0
+HasServed None r served = (r.has ≡ 0) × (served ≡ [])
+HasServed (Some bytes) r served = (r.has ≡ 1) × (r.bytes ≡ length bytes) × (served ≡ bytes)
+
+pub record IsServedFor (old : HeldResolver) (view : ℕ) (r : FlatServed) (new : HeldResolver) : Type 0 where
+  pub resolver : new.resolver ≡ old.resolver
+  pub last : new.last ≡ old.last
+  pub served : ((r.status ≡ 0) × HasServed (served_encoding old.resolver.state view) r new.served.items)
+      ⊎ ((r.status ≡ 1) × (new.served.items ≡ []))
+      ⊎ ((r.status ≡ 2) × (old.resolver.state.is_failed ≡ true) × (new.served.items ≡ []))

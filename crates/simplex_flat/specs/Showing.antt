@@ -1,0 +1,179 @@
+-- What a member shows beside its replies.
+use Rattle.std.specs.Prelude.{◌≡◌, ◌⊎◌, ◌<◌, ◌≤◌, slice_get, ℕ, zero, suc, List, [], ◌++◌, Option, Some, None, MatchOption, is_some, option_map, length, take, drop}
+use Rattle.simplex_types.specs.Certificates.{CertificateFacts, Notarized, Nullified, Finalized}
+use Rattle.simplex_types.specs.Encoding.{subject_bytes}
+use Rattle.simplex_types.specs.declared.types.messages.Proposal.{Proposal}
+use Rattle.simplex_types.specs.declared.types.messages.Subject.{Subject}
+use Rattle.simplex_types.specs.declared.types.messages.Subject.TheVariants as subject
+use Rattle.simplex_voter.specs.Facts.{StateFacts, is_tracked}
+use Rattle.simplex_voter.specs.Serving.{notarization_of, nullification_of, finalization_of, leader_of, forwardable_of}
+use Rattle.simplex_voter.specs.Windows.{min_active, admits_certificate, admits_vote}
+use Rattle.simplex_voter.specs.Proposing.{voted_nullify}
+use Rattle.simplex_codec.specs.declared.digest.BytesDigest.{BytesDigest}
+use Rattle.simplex_codec.specs.Digests.{digest_bytes}
+use Rattle.simplex_host.specs.declared.elector.HostElector.{HostElector}
+use Rattle.simplex_host.specs.declared.scheme.HostKey.{HostKey}
+use Rattle.simplex_host.specs.declared.scheme.Order.{Order}
+use Rattle.simplex_host.specs.Host.{certificate_bytes}
+use Rattle.simplex_record.specs.Entries.{entries_of}
+use Rattle.simplex_record.specs.Votes.{votes_of}
+use Rattle.simplex_member.specs.Journal.{stored_of, votes_since}
+use Rattle.simplex_member.specs.Lives.{MemberFacts, SignedMember}
+use Rattle.simplex_flat.specs.declared.flat.FlatProposal.{FlatProposal}
+use Rattle.simplex_flat.specs.declared.held.Held.{Held}
+use Rattle.simplex_flat.specs.declared.shown.FlatChunk.{FlatChunk}
+use Rattle.simplex_flat.specs.declared.shown.FlatEntries.{FlatEntries}
+use Rattle.simplex_flat.specs.declared.shown.FlatFound.{FlatFound}
+use Rattle.simplex_flat.specs.declared.shown.FlatItem.{FlatItem}
+use Rattle.simplex_flat.specs.declared.shown.FlatStored.{FlatStored}
+use Rattle.simplex_flat.specs.declared.shown.FlatText.{FlatText}
+use Rattle.simplex_flat.specs.declared.shown.FlatView.{FlatView}
+use Rattle.simplex_flat.specs.Calls.{IsProposal, round_of}
+use Rattle.simplex_flat.specs.Journals.{HostArtifact, framed}
+use Rattle.simplex_flat.specs.Numbers.{flag_number, index_number}
+use Rattle.simplex_flat.specs.Opening.{IsStored}
+use Rattle.simplex_flat.specs.Serving.{HostReply, IsFetchAt, IsProposalAt, dropped_in, fetches_in, proposals_in, reply_bytes}
+
+-- a member and a state of the host, as contracts see them
+abbrev pub HostMember : Type 0
+HostMember = SignedMember HostKey HostElector (BytesDigest 32) Order
+
+abbrev pub HostFacts : Type 0
+HostFacts = MemberFacts HostKey HostElector (BytesDigest 32)
+
+abbrev pub HostState : Type 0
+HostState = StateFacts HostKey HostElector (BytesDigest 32)
+
+-- what is stored beside a member's record, with how many entries it has
+pub record IsStoredBeside (m : HostFacts) (f : FlatStored) : Type 0 where
+  pub entries : f.entries ≡ length m.entries
+  pub stored : IsStored f (stored_of m)
+
+-- nothing changed but what is shown
+abbrev pub IsSame : Held → Held → Type 0
+IsSame old new = (new.member ≡ old.member) × (new.last ≡ old.last)
+
+-- the entries behind the first of a record are shown as frames, the votes among them with their orders
+pub record AreShown (m : HostMember) (count : ℕ) (shown : List ℕ) : Type 0 where
+  pub entries : List HostArtifact
+  pub behind : entries_of certificate_bytes entries ≡ drop count m.facts.entries
+  pub votes : votes_of entries ≡ votes_since count m
+  pub frames : shown ≡ framed entries
+
+-- they are shown; or there was no memory for them, or one is too long, and nothing is
+abbrev pub HasEntries : Held → ℕ → FlatEntries → Held → Type 0
+HasEntries old count r new =
+    ((r.status ≡ 0) × AreShown old.member count new.shown.items)
+    ⊎ (((r.status ≡ 1) ⊎ (r.status ≡ 14)) × (new.shown.items ≡ []))
+
+-- how the entries behind the first of a record are shown
+pub record IsEntries (old : Held) (count : ℕ) (r : FlatEntries) (new : Held) : Type 0 where
+  pub same : IsSame old new
+  pub entries : HasEntries old count r new
+  pub bytes : r.bytes ≡ length new.shown.items
+  pub stored : IsStoredBeside old.member.facts r.stored
+
+-- the proposal that may be forwarded, if there is one
+abbrev pub HasForwardable : Option (Proposal (BytesDigest 32)) → ℕ → FlatProposal → Type 0
+HasForwardable None has f = has ≡ 0
+HasForwardable (Some q) has f = (has ≡ 1) × IsProposal f q
+
+-- what a state knows of itself and of a view
+pub record IsViewOf (x : HostState) (view : ℕ) (f : FlatView) : Type 0 where
+  pub status : f.status ≡ 0
+  pub leader : f.leader ≡ index_number (leader_of x view)
+  pub tracked : f.is_tracked ≡ flag_number (is_tracked x view)
+  pub votes : f.admits_vote ≡ flag_number (admits_vote x view)
+  pub certificates : f.admits_certificate ≡ flag_number (admits_certificate x view)
+  pub nullified : f.voted_nullify ≡ flag_number (voted_nullify x view)
+  pub notarization : f.has_notarization ≡ flag_number (is_some (notarization_of x view))
+  pub nullification : f.has_nullification ≡ flag_number (is_some (nullification_of x view))
+  pub finalization : f.has_finalization ≡ flag_number (is_some (finalization_of x view))
+  pub forwardable : HasForwardable (forwardable_of x view) f.has_forwardable f.forwardable
+  pub epoch : f.epoch ≡ x.settings.epoch
+  pub current : f.current ≡ x.current
+  pub finalized : f.last_finalized ≡ x.finalized
+  pub active : f.min_active ≡ min_active x
+
+-- what a member knows; nothing, where it has failed
+abbrev pub IsView : HostFacts → ℕ → FlatView → Type 0
+IsView m view f = MatchOption m.life (f.status ≡ 2) (λ x. IsViewOf x view f)
+
+-- a view's certificate of a kind, if it is there
+abbrev pub certificate_of : ℕ → HostState → ℕ → Option (CertificateFacts (BytesDigest 32))
+certificate_of (suc zero) x view = option_map Notarized (notarization_of x view)
+certificate_of (suc (suc zero)) x view = option_map Nullified (nullification_of x view)
+certificate_of (suc (suc (suc zero))) x view = option_map Finalized (finalization_of x view)
+certificate_of _ x view = None
+
+-- what a certificate is of, with its bytes
+abbrev pub HasFound : Option (CertificateFacts (BytesDigest 32)) → FlatFound → List ℕ → Type 0
+HasFound None r shown = (r.has ≡ 0) × (shown ≡ [])
+HasFound (Some (Notarized c)) r shown = (r.has ≡ 1) × IsProposal r.proposal c.proposal × (shown ≡ c.bytes)
+HasFound (Some (Nullified c)) r shown = (r.has ≡ 2) × (c.round ≡ round_of r.proposal.round) × (shown ≡ c.bytes)
+HasFound (Some (Finalized c)) r shown = (r.has ≡ 3) × IsProposal r.proposal c.proposal × (shown ≡ c.bytes)
+
+-- a certificate is found, and its bytes are written behind others
+abbrev pub Shows : Option (CertificateFacts (BytesDigest 32)) → FlatFound → List ℕ → List ℕ → Type 0
+Shows found r before after = (bytes : List ℕ) × HasFound found r bytes × (after ≡ before ++ bytes) × (r.bytes ≡ length bytes)
+
+-- a kind of certificates
+abbrev pub IsKind : ℕ → Type 0
+IsKind kind = (0 < kind) × (kind < 4)
+
+-- a certificate is found in a state
+abbrev pub IsFoundIn : Option HostState → ℕ → ℕ → FlatFound → List ℕ → Type 0
+IsFoundIn None kind view r shown = ⊥
+IsFoundIn (Some x) kind view r shown = (r.status ≡ 0) × HasFound (certificate_of kind x view) r shown
+
+-- how a view's certificate is asked for: there is no such kind, no state, no memory, or it is found or not
+abbrev pub HasAnswered : Held → ℕ → ℕ → FlatFound → List ℕ → Type 0
+HasAnswered old kind view r shown =
+    ((r.status ≡ 6) × (IsKind kind → ⊥))
+    ⊎ ((r.status ≡ 2) × (old.member.facts.life ≡ None))
+    ⊎ ((r.status ≡ 1) × IsKind kind)
+    ⊎ (IsKind kind × IsFoundIn old.member.facts.life kind view r shown)
+
+-- how a view's certificate is shown
+pub record IsFound (old : Held) (kind view : ℕ) (r : FlatFound) (new : Held) : Type 0 where
+  pub same : IsSame old new
+  pub answered : HasAnswered old kind view r new.shown.items
+  pub bytes : r.bytes ≡ length new.shown.items
+
+-- there is no such item, or this one
+abbrev pub IsItemOr : FlatItem → Type 0 → Type 0 → Type 0
+IsItemOr r none is = ((r.has ≡ 0) × none) ⊎ ((r.has ≡ 1) × is)
+
+-- an item of a reply's lists
+abbrev pub IsItem : HostReply → ℕ → ℕ → FlatItem → Type 0
+IsItem reply (suc zero) index r = IsItemOr r (length (proposals_in reply) ≤ index) (IsProposalAt (proposals_in reply) index r.proposal)
+IsItem reply (suc (suc zero)) index r = IsItemOr r (length (fetches_in reply) ≤ index) (IsFetchAt (fetches_in reply) index r.fetch)
+IsItem reply (suc (suc (suc zero))) index r = IsItemOr r (length (dropped_in reply) ≤ index) (slice_get (dropped_in reply) index ≡ Some r.view)
+IsItem reply _ index r = r.has ≡ 0
+
+-- a part of bytes, from one on: as many as fit
+pub record IsChunk (bytes : List ℕ) (from : ℕ) (r : FlatChunk) : Type 0 where
+  pub count : r.count ≡ length (take 1024 (drop from bytes))
+  pub part : take r.count r.bytes ≡ take 1024 (drop from bytes)
+
+-- a part of the bytes of the last reply, or of those that were shown last
+abbrev pub IsChunkOf : Held → ℕ → ℕ → FlatChunk → Type 0
+IsChunkOf held zero from r = IsChunk (reply_bytes held.last) from r
+IsChunkOf held (suc _) from r = IsChunk held.shown.items from r
+
+-- the text of a vote, or want of memory
+abbrev pub HasText : List ℕ → FlatText → Type 0
+HasText bytes r = (r.status ≡ 1) ⊎ ((r.status ≡ 0) × (r.count ≡ length bytes) × (take r.count r.bytes ≡ bytes))
+
+-- what a vote of a kind is on
+abbrev pub IsSubject : ℕ → FlatProposal → Subject (BytesDigest 32) → Type 0
+IsSubject zero f (subject.Notarize q) = IsProposal f q
+IsSubject (suc zero) f (subject.Nullify round) = round ≡ round_of f.round
+IsSubject (suc (suc zero)) f (subject.Finalize q) = IsProposal f q
+IsSubject _ _ _ = ⊥
+
+-- what a vote of a kind signs; nothing, where no vote has the kind
+abbrev pub IsText : ℕ → FlatProposal → FlatText → Type 0
+IsText kind f r =
+    ((r.status ≡ 6) × (3 ≤ kind))
+    ⊎ ((s : Subject (BytesDigest 32)) × IsSubject kind f s × HasText (subject_bytes digest_bytes s) r)

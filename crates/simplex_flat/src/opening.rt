@@ -1,0 +1,126 @@
+//! How a member goes on: from a journal in another process, or restarted in this one.
+
+ghost use Rattle.std.specs.Prelude.{◌≡◌, ◌≤◌, nat_lt, length, IfOk, IfErr, MatchOption};
+ghost use Rattle.simplex_flat.specs.Opening.{IsStored};
+
+use crate::flat::FlatSettings;
+use crate::held::{Held, NotStarted};
+use crate::journal::{HostArtifact, NotRead, read_entries};
+use crate::numbers::flag_of;
+use crate::settings::{SettingsError, start_of};
+use crate::shown::{FlatRestart, FlatStored};
+use simplex_member::member::{Member, RecoverError, Restart, ResumeError, Stored};
+use simplex_types::types::ViewDelta;
+use std::alloc::Global;
+
+/// Why no member goes on from a journal.
+#[derive(Clone, Copy, PartialEq, Eq, Debug)]
+pub enum NotResumed {
+    /// The settings are none of a member.
+    Settings(SettingsError),
+    /// What was stored beside the journal has a number that has to be 0 or 1, and is another.
+    NoFlag,
+    /// The journal is no record.
+    Journal(NotRead),
+    /// There are fewer entries than were stored, or than were closed: votes may be among those that are lost.
+    EntriesLost,
+    /// The record is refused, or memory is wanting.
+    Recover(RecoverError),
+}
+
+impl Held {
+    ghost use Rattle.simplex_flat.specs.Opening.{IsNotResumedBy, IsRestartedBy, IsResumedBy};
+
+    /// A member that goes on from its journal: the bytes that its entries were as frames, and what was stored beside them last.
+    /// Nothing is dropped or pruned.
+    pub fn resume(
+        alloc: Global,
+        flat: &FlatSettings,
+        leaders: &[u32],
+        certificate: &[u8],
+        now: u64,
+        stored: &FlatStored,
+        journal: &[u8],
+    ) -> Result<Held, NotResumed>
+        ensures resumed { IfOk result (λ held. IsResumedBy flat.now leaders.now certificate.now now stored.now journal.now held.member) }
+        ensures refused { IfErr result (IsNotResumedBy flat.now leaders.now certificate.now now stored.now journal.now) }
+    {
+        let start = match start_of(alloc, flat, leaders, certificate, now) {
+            Ok(start) => start,
+            Err(error) => return Err(NotResumed::Settings(error)),
+        };
+        let Some(beside) = stored_of(stored) else {
+            return Err(NotResumed::NoFlag);
+        };
+        let entries = match read_entries(alloc, journal) {
+            Ok(entries) => entries,
+            Err(error) => return Err(NotResumed::Journal(error)),
+        };
+        if has_fewer(&entries, stored.entries) {
+            return Err(NotResumed::EntriesLost);
+        }
+        match Member::resume(alloc, start, beside, entries) {
+            Ok(member) => Ok(Held::new(alloc, member)),
+            Err(refusal) => match refusal.error {
+                ResumeError::EntriesLost => Err(NotResumed::EntriesLost),
+                ResumeError::Recover(error) => Err(NotResumed::Recover(error)),
+            },
+        }
+    }
+
+    /// Ends the member's life, also one that has failed, and begins another from its record, with these settings. The last entries
+    /// are dropped and the record is pruned first, as asked.
+    ///
+    /// Where the settings are refused nothing changes.
+    pub fn restart(
+        &mut self,
+        flat: &FlatRestart,
+        leaders: &[u32],
+        certificate: &[u8],
+    ) -> Result<(), NotStarted>
+        ensures { IsRestartedBy self.old flat.now leaders.now certificate.now result self.new }
+    {
+        let start = match start_of(
+            self.alloc,
+            &flat.settings,
+            leaders,
+            certificate,
+            flat.moment,
+        ) {
+            Ok(start) => start,
+            Err(error) => return Err(NotStarted::Settings(error)),
+        };
+        let Some(prune) = flag_of(flat.prune) else {
+            return Err(NotStarted::Settings(SettingsError::NoFlag));
+        };
+        let restart = Restart {
+            drop: flat.drop,
+            prune,
+            start,
+        };
+        match self.member.restart(restart) {
+            Ok(()) => Ok(()),
+            Err(error) => Err(NotStarted::Recover(error)),
+        }
+    }
+}
+
+/// What was stored beside a journal; none where its flag is none.
+fn stored_of(flat: &FlatStored) -> Option<Stored>
+    ensures { MatchOption result (2 ≤ flat.now.is_pruned) (IsStored flat.now) }
+{
+    let is_pruned = flag_of(flat.is_pruned)?;
+    Some(Stored {
+        closed: flat.closed as usize,
+        is_pruned,
+        retention: ViewDelta::new(flat.retention),
+        least_retention: ViewDelta::new(flat.least_retention),
+    })
+}
+
+/// Whether there are fewer entries than this.
+fn has_fewer(entries: &[HostArtifact], count: u64) -> bool
+    ensures { result ≡ nat_lt (length entries.now) count }
+{
+    (entries.len() as u64) < count
+}

@@ -1,0 +1,81 @@
+//! What a resolver is told and answers, as plain structs of fixed width.
+
+use crate::flat::FlatProposal;
+
+/// What a resolver is told.
+#[repr(C)]
+#[derive(Clone, Copy)]
+pub struct FlatTold {
+    /// 1 for a notarization that was newly accepted, 2 for a nullification, 3 for a finalization; 4 for the verdict on a
+    /// notarization.
+    pub kind: u32,
+    /// A verdict: 1 where the proposal is certified, else 0. It is tested in each.
+    pub success: u32,
+    /// What the certificate is of; of a nullification the round alone.
+    pub proposal: FlatProposal,
+}
+
+/// What follows of what a resolver was told: effects, which wait behind the handle.
+#[repr(C)]
+#[derive(Clone, Copy, Debug)]
+pub struct FlatEffects {
+    /// 0; 1 to 3 for a fault, 5 where the view is 0, 6 where one of the numbers is none, and 7 where there was no memory for the
+    /// certificate: after 5 to 7 nothing was told.
+    pub status: u32,
+    /// Nothing.
+    pub reserved: u32,
+    /// How many effects there are.
+    pub count: u64,
+    /// How many fetches are open then.
+    pub fetches: u64,
+}
+
+/// An effect.
+#[repr(C)]
+#[derive(Clone, Copy, Debug)]
+pub struct FlatEffect {
+    /// 1: a nullification that covers `view` is to be fetched; 2: nothing is left to ask for at the views `view` to `end`; 3: each
+    /// ask at or below `view` is settled; 4: each fetch at or below `view` ends. 0 where there is no such effect.
+    pub kind: u32,
+    /// Of 1 why: 0 for a missing nullification, 1 for a failed certification. Of 2 what is settled: 0 for nullifications, 1 for
+    /// notarizations.
+    pub reason: u32,
+    pub view: u64,
+    /// Of 1 the view of the certificate or verdict that called for it.
+    pub cause: u64,
+    pub end: u64,
+}
+
+/// What a resolver knows of a view.
+#[repr(C)]
+#[derive(Clone, Copy, Debug)]
+pub struct FlatSettled {
+    /// 1 where the resolver has failed.
+    pub is_failed: u32,
+    /// 1 where the view's fetch is open.
+    pub is_open: u32,
+    /// 1 where no nullification of the view is left to ask for.
+    pub nullification: u32,
+    /// 1 where no notarization of the view is left to ask for.
+    pub notarization: u32,
+    /// 1 where the view's certification failed.
+    pub uncertifiable: u32,
+    /// Nothing.
+    pub reserved: u32,
+    /// How many fetches are open.
+    pub fetches: u64,
+}
+
+/// What a peer is served for a view, whose bytes wait behind the handle.
+#[repr(C)]
+#[derive(Clone, Copy, Debug)]
+pub struct FlatServed {
+    /// 0; 1 where there was no memory for it, and 2 where the resolver has failed.
+    pub status: u32,
+    /// 1 where there is something.
+    pub has: u32,
+    /// How many bytes it has.
+    pub bytes: u64,
+    /// The view.
+    pub view: u64,
+}
