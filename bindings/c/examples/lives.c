@@ -1,0 +1,190 @@
+/*
+ * Begins and lets go many members and resolvers, and hands in what is refused: settings, numbers, journals that are cut, changed or of random bytes.
+ * It ends with status 0 where each answer is the right one; run it under valgrind to see that nothing is lost.
+ *
+ *     lives COUNT
+ */
+#include "simplex.h"
+#include <stdio.h>
+#include <stdlib.h>
+#include <string.h>
+
+#define IS(what) do { if (!(what)) { fprintf(stderr, "%s:%d: not so: %s\n", __FILE__, __LINE__, #what); exit(1); } } while (0)
+
+static const uint32_t LEADERS[4] = {0, 1, 2, 3};
+static const struct simplex_settings SETTINGS = {.members = 4, .signer = 0, .term_length = 1, .epoch = 1, .view_retention = 10,
+    .leader_timeout = 1000, .certification_timeout = 2000, .timeout_retry = 500, .skip_timeout = 3000};
+static uint8_t journal[1 << 20];
+static uint32_t seed = 1;
+
+static uint32_t drawn(uint32_t below) {
+    seed = seed * 1664525u + 1013904223u;
+    return (seed >> 8) % below;
+}
+
+static uint32_t started(const struct simplex_settings *settings, size_t leaders, simplex_member **out) {
+    return simplex_member_start(settings, LEADERS, leaders, 0, 0, 0, out);
+}
+
+static uint32_t resumed(const struct simplex_stored *stored, size_t len, simplex_member **out) {
+    return simplex_member_resume(&SETTINGS, LEADERS, 4, 0, 0, 0, stored, journal, len, out);
+}
+
+static struct simplex_reply called(simplex_member *at, struct simplex_call call) {
+    static const uint8_t certificate[96] = {7};
+    return simplex_member_call(at, &call, certificate, sizeof certificate);
+}
+
+/* The bytes that wait behind a handle. */
+static size_t shown(simplex_member *at, uint32_t which, uint8_t *to) {
+    size_t len = 0;
+    for (;;) {
+        struct simplex_chunk chunk = simplex_member_bytes(at, which, len);
+        if (!chunk.count) return len;
+        memcpy(to + len, chunk.bytes, chunk.count);
+        len += chunk.count;
+    }
+}
+
+/* Some views of a life: a proposal of its own or of another, votes, certificates. */
+static void lives(simplex_member *at, uint64_t views) {
+    for (uint64_t view = 1; view <= views; view++) {
+        struct simplex_proposal proposal = {.round = {1, view}, .parent = view - 1, .payload = {(uint8_t)view}};
+        struct simplex_reply r = called(at, (struct simplex_call){.kind = SIMPLEX_TRY_PROPOSE});
+        IS(!r.status && r.kind == SIMPLEX_REPLY_REQUEST);
+        if (r.has) {
+            r = called(at, (struct simplex_call){.kind = SIMPLEX_PROPOSED, .view = view, .proposal = proposal});
+        } else {
+            r = called(at, (struct simplex_call){.kind = SIMPLEX_SET_PROPOSAL, .view = view, .proposal = proposal});
+            r = called(at, (struct simplex_call){.kind = SIMPLEX_TRY_VERIFY});
+            IS(!r.status && r.has == 1 && r.proposal.round.view == view);
+            r = called(at, (struct simplex_call){.kind = SIMPLEX_VERIFIED, .view = view});
+        }
+        IS(!r.status && r.flag);
+        r = called(at, (struct simplex_call){.kind = SIMPLEX_CONSTRUCT_NOTARIZE, .view = view});
+        IS(!r.status && r.has && r.member == 0);
+        uint8_t text[64];
+        struct simplex_text wanted = simplex_subject(SIMPLEX_NOTARIZE, &r.proposal);
+        IS(shown(at, SIMPLEX_OF_REPLY, text) == 57 && !wanted.status && wanted.count == 57 && !memcmp(text, wanted.bytes, 57));
+        IS(!called(at, (struct simplex_call){.kind = SIMPLEX_ADD_NOTARIZATION, .proposal = proposal}).status);
+        r = called(at, (struct simplex_call){.kind = SIMPLEX_CERTIFY_CANDIDATES});
+        IS(!r.status && r.count == 1 && simplex_member_item(at, SIMPLEX_PROPOSALS, 0).proposal.round.view == view);
+        IS(!simplex_member_item(at, SIMPLEX_PROPOSALS, 1).has && !simplex_member_item(at, 9, 0).has);
+        IS(called(at, (struct simplex_call){.kind = SIMPLEX_CERTIFIED, .view = view, .success = 1}).has == 1);
+        IS(called(at, (struct simplex_call){.kind = SIMPLEX_ADD_FINALIZATION, .proposal = proposal}).flag);
+        struct simplex_found found = simplex_member_certificate(at, SIMPLEX_FINALIZATION, view);
+        IS(!found.status && found.has == 3 && found.bytes == 96 && found.proposal.round.view == view);
+        IS(simplex_member_certificate(at, 4, view).status == SIMPLEX_NO_CALL && !simplex_member_certificate(at, 2, view).has);
+    }
+    struct simplex_view it = simplex_member_view(at, views);
+    IS(!it.status && it.current == views + 1 && it.last_finalized == views && it.has_finalization && !it.has_nullification);
+}
+
+/* Numbers that are none of a call: nothing changes. */
+static void refuses(simplex_member *at) {
+    struct simplex_entries before = simplex_member_entries(at, 0);
+    IS(called(at, (struct simplex_call){.kind = 25}).status == SIMPLEX_NO_CALL);
+    IS(called(at, (struct simplex_call){.kind = 16, .reason = 10}).status == SIMPLEX_NO_CALL);
+    IS(called(at, (struct simplex_call){.kind = 14, .success = 2}).status == SIMPLEX_NO_CALL);
+    IS(called(at, (struct simplex_call){.kind = 3, .view = 2, .proposal = {.round = {1, 3}}}).status == SIMPLEX_NOT_ALLOWED);
+    struct simplex_entries after = simplex_member_entries(at, 0);
+    IS(!memcmp(&before, &after, sizeof before));
+}
+
+static void bad_settings(void) {
+    simplex_member *none = (simplex_member *)&seed;
+    struct simplex_settings it = SETTINGS;
+    it.members = 0;
+    IS(started(&it, 4, &none) == SIMPLEX_NO_SUCH_MEMBER);
+    it = SETTINGS;
+    it.signer = 4;
+    IS(started(&it, 4, &none) == SIMPLEX_NO_SUCH_MEMBER);
+    IS(started(&SETTINGS, 0, &none) == SIMPLEX_NOTHING_LEADS);
+    it = SETTINGS;
+    it.draws = 2;
+    IS(started(&it, 4, &none) == SIMPLEX_NO_FLAG);
+    it = SETTINGS;
+    it.view_retention = 0;
+    IS(started(&it, 4, &none) == SIMPLEX_RETENTION_ZERO);
+    it = SETTINGS;
+    it.is_finalized = 1;
+    it.floor.round.epoch = 2;
+    IS(started(&it, 4, &none) == SIMPLEX_FLOOR_EPOCH);
+    IS(none == (simplex_member *)&seed);
+}
+
+/* A journal that is cut, changed in one byte, of fewer entries, or of random bytes. */
+static void bad_journals(const struct simplex_stored *stored, size_t len) {
+    simplex_member *none = 0;
+    size_t cut = drawn((uint32_t)len);
+    struct simplex_scan scan = simplex_scan(journal, cut);
+    IS(scan.bytes <= cut && scan.ending == (scan.bytes == cut ? SIMPLEX_WHOLE : SIMPLEX_CUT));
+    IS(resumed(stored, cut, &none) == (scan.ending ? SIMPLEX_DAMAGED : SIMPLEX_ENTRIES_LOST));
+    IS(resumed(stored, scan.bytes, &none) == SIMPLEX_ENTRIES_LOST);
+    uint8_t kept = journal[cut];
+    journal[cut] ^= (uint8_t)(1 + drawn(255));
+    IS(resumed(stored, len, &none) == SIMPLEX_DAMAGED && simplex_scan(journal, len).ending);
+    journal[cut] = kept;
+    uint8_t random[300];
+    for (size_t i = 0; i < sizeof random; i++) random[i] = (uint8_t)drawn(256);
+    IS(simplex_member_resume(&SETTINGS, LEADERS, 4, 0, 0, 0, stored, random, sizeof random, &none) == SIMPLEX_DAMAGED);
+    IS(!none);
+}
+
+/* A resolver from a journal, and what it is told. */
+static void resolves(size_t len) {
+    simplex_resolver *at = 0;
+    static const uint8_t certificate[2000] = {5};
+    IS(simplex_resolver_start(0, journal, len, &at) == SIMPLEX_NOTHING_LEADS);
+    IS(len < 2 || simplex_resolver_start(1, journal, len - 1, &at) == SIMPLEX_DAMAGED);
+    IS(!at && !simplex_resolver_start(1, journal, len, &at));
+    struct simplex_told told = {.kind = SIMPLEX_TOLD_NULLIFICATION, .proposal = {.round = {1, 9}}};
+    struct simplex_effects effects = simplex_resolver_told(at, &told, certificate, sizeof certificate);
+    IS(!effects.status && effects.count > 1 && effects.fetches > 0 && simplex_resolver_effect(at, 0).kind);
+    IS(!simplex_resolver_effect(at, effects.count).kind);
+    struct simplex_settled settled = simplex_resolver_settled(at, 9);
+    IS(settled.nullification && !settled.notarization && !settled.is_open && settled.fetches == effects.fetches);
+    struct simplex_served served = simplex_resolver_produce(at, 9);
+    IS(!served.status && served.has && served.bytes == 17 + sizeof certificate && simplex_resolver_bytes(at, 1024).count == served.bytes - 1024);
+    IS(!simplex_resolver_produce(at, 8).has && !simplex_resolver_bytes(at, 0).count);
+    told.kind = 5;
+    IS(simplex_resolver_told(at, &told, certificate, 1).status == SIMPLEX_NO_CALL);
+    told = (struct simplex_told){.kind = SIMPLEX_TOLD_VERDICT};
+    IS(simplex_resolver_told(at, &told, certificate, 1).status == SIMPLEX_NOT_ALLOWED);
+    told.proposal.round.view = UINT64_MAX;
+    IS(simplex_resolver_told(at, &told, certificate, 1).status == SIMPLEX_VIEW_TOO_LARGE);
+    simplex_resolver_free(at);
+}
+
+static void one(void) {
+    simplex_member *at = 0, *next = 0;
+    IS(!started(&SETTINGS, 4, &at));
+    lives(at, 1 + drawn(3));
+    refuses(at);
+    struct simplex_entries entries = simplex_member_entries(at, 0);
+    IS(!entries.status && shown(at, SIMPLEX_SHOWN, journal) == entries.bytes && entries.bytes <= sizeof journal);
+    struct simplex_scan scan = simplex_scan(journal, entries.bytes);
+    IS(scan.entries == entries.stored.entries && scan.bytes == entries.bytes && !scan.ending);
+    bad_journals(&entries.stored, entries.bytes);
+    resolves(entries.bytes);
+    IS(!resumed(&entries.stored, entries.bytes, &next));
+    struct simplex_view a = simplex_member_view(at, 1), b = simplex_member_view(next, 1);
+    IS(!memcmp(&a, &b, sizeof a));
+    simplex_member_free(at);
+    struct simplex_restart restart = {.drop = 1, .prune = 1, .settings = SETTINGS};
+    IS(!simplex_member_restart(next, &restart, LEADERS, 4, 0, 0));
+    restart.settings.view_retention = 20;
+    IS(simplex_member_restart(next, &restart, LEADERS, 4, 0, 0) == SIMPLEX_RETENTION_GROWN);
+    restart.prune = 2;
+    IS(simplex_member_restart(next, &restart, LEADERS, 4, 0, 0) == SIMPLEX_NO_FLAG);
+    simplex_member_free(next);
+}
+
+int main(int argc, char **argv) {
+    long count = argc > 1 ? strtol(argv[1], 0, 10) : 1;
+    IS(simplex_version() == SIMPLEX_VERSION);
+    bad_settings();
+    for (long i = 0; i < count; i++) one();
+    printf("%ld lives\n", count);
+    return 0;
+}

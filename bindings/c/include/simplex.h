@@ -1,0 +1,523 @@
+/*
+ * A member of the Simplex consensus protocol: the decision core of an engine, proved in Rattle.
+ *
+ * Link libsimplex.a, which bindings/build makes (x86-64 Linux; it takes memory from malloc). docs/EMBEDDING.md has the loop of an engine
+ * and the journal; bindings/rust is a Rust package over this header.
+ *
+ * WHAT IS PROVED, AND WHAT IS YOUR WORD
+ *
+ *   Proved of the functions below                          | Your word
+ *   -------------------------------------------------------+--------------------------------------------------------------------
+ *   a call asks the core for just what it says, by its     | a certificate is verified before it is handed in
+ *   numbers, and the reply tells just what the core said   | proposals handed in come from their view's leader
+ *   a vote is ordered exactly where its rule allows, for   | an ordered text is signed with the key of the member in the reply,
+ *   just its own bytes, once it stands in the record       | and nothing else is
+ *   a resume goes on from just the entries in the bytes    | what the record has grown by is stored before a vote is sent; the
+ *   that it is given; damaged or missing ones are refused  | bytes and numbers that were stored last come back
+ *   numbers that are none of a call change nothing         | moments do not fall within a life
+ *   (that C calls as declared here is nobody's proof)      | a handle is one that was handed out and not let go; one call at a time
+ *
+ * THREADS. There are no locks and no threads inside. A handle may go from thread to thread; one call of it at a time. Calls of two handles,
+ * and functions with no handle, may run at once.
+ *
+ * MEMORY. Whatever is handed in is read or copied before the call returns. Whatever is handed out is copied out: no pointer into the
+ * library's memory leaves it but the handle. A reply is kept behind the handle until the next simplex_member_call, so that its bytes and
+ * items can be read whenever there is memory for them; no reply is lost for want of memory.
+ *
+ * POINTERS. None may be null, but for a slice of length 0, whose pointer is not read; a handle that is null or was let go is undefined.
+ */
+#ifndef SIMPLEX_H
+#define SIMPLEX_H
+
+#include <stddef.h>
+#include <stdint.h>
+
+#ifdef __cplusplus
+#define SIMPLEX_SIZE(type, size) static_assert(sizeof(type) == size, #type)
+extern "C" {
+#else
+#define SIMPLEX_SIZE(type, size) _Static_assert(sizeof(type) == size, #type)
+#endif
+
+/* What simplex_version answers for this header: test it once, before anything else. */
+#define SIMPLEX_VERSION 1u
+
+/* No member. */
+#define SIMPLEX_NOBODY UINT32_MAX
+
+/* A member behind its handle. Made by simplex_member_start or simplex_member_resume, let go by simplex_member_free. */
+typedef struct simplex_member simplex_member;
+
+/* A peer resolver behind its handle: which certificates are kept, served and fetched. Made by simplex_resolver_start, let go by
+ * simplex_resolver_free. */
+typedef struct simplex_resolver simplex_resolver;
+
+/* What a call, a start, a resume or a restart ends in. Numbers are only ever added. */
+enum simplex_status {
+    SIMPLEX_OK = 0,
+    /* Memory is wanting. After a call nothing has changed, or the member has failed and answers SIMPLEX_FAILED until a restart. */
+    SIMPLEX_OUT_OF_MEMORY = 1,
+    /* The member has failed: its record is left, to be restarted or resumed. */
+    SIMPLEX_FAILED = 2,
+    /* A view is above 2^63 - 1, or a deadline above 2^64 - 1 milliseconds: nothing has changed. */
+    SIMPLEX_VIEW_TOO_LARGE = 3,
+    SIMPLEX_TIME_OVERFLOW = 4,
+    /* The call asks something of its caller that is not so: nothing has changed. */
+    SIMPLEX_NOT_ALLOWED = 5,
+    /* A number of the call is none of a kind, a reason or a flag: no call was made. */
+    SIMPLEX_NO_CALL = 6,
+    /* There was no memory for the certificate that is handed in: no call was made. */
+    SIMPLEX_NOT_MADE = 7,
+    /* Settings: no member, or a signer that is none; no view in a term, or no table of leaders; a flag that is neither 0 nor 1. */
+    SIMPLEX_NO_SUCH_MEMBER = 8,
+    SIMPLEX_NOTHING_LEADS = 9,
+    SIMPLEX_NO_FLAG = 10,
+    /* A journal: fewer entries than were stored or closed; bytes that are no frame; a frame that holds no entry. */
+    SIMPLEX_ENTRIES_LOST = 11,
+    SIMPLEX_DAMAGED = 12,
+    SIMPLEX_NO_ENTRY = 13,
+    /* An entry is too long for a frame. */
+    SIMPLEX_ENTRY_TOO_LONG = 14,
+    /* The first rule of an engine's settings that is broken. */
+    SIMPLEX_NO_PARTICIPANTS = 20,
+    SIMPLEX_LEADER_TIMEOUT_ZERO = 21,
+    SIMPLEX_CERTIFICATION_NOT_ABOVE_LEADER = 22,
+    SIMPLEX_SKIP_NOT_ABOVE_CERTIFICATION = 23,
+    SIMPLEX_SKIP_NOT_ABOVE_RETRY = 24,
+    SIMPLEX_RETRY_ZERO = 25,
+    SIMPLEX_RETENTION_ZERO = 26,
+    SIMPLEX_FLOOR_EPOCH = 27,
+    SIMPLEX_FLOOR_AT_GENESIS = 28,
+    SIMPLEX_FLOOR_UNVERIFIED = 29,
+    SIMPLEX_OTHER_MEMBERS = 30,
+    /* Why a record or a floor is refused. */
+    SIMPLEX_OUT_OF_ORDER = 40,
+    SIMPLEX_OTHER_EPOCH = 41,
+    SIMPLEX_ZERO_VIEW = 42,
+    SIMPLEX_RECORD_VIEW_TOO_LARGE = 43,
+    SIMPLEX_FOREIGN_SIGNER = 44,
+    SIMPLEX_PARENT_NOT_BELOW = 45,
+    SIMPLEX_VERDICT_WITHOUT_NOTARIZATION = 46,
+    SIMPLEX_CONTRADICTING_VERDICTS = 47,
+    SIMPLEX_NULLIFY_BESIDE_FINALIZE = 48,
+    SIMPLEX_CONTRADICTING_VOTES = 49,
+    SIMPLEX_FINALIZE_WITHOUT_VERDICT = 50,
+    SIMPLEX_RECORD_TIME_OVERFLOW = 51,
+    SIMPLEX_RETENTION_GROWN = 52
+};
+
+/* Which call is made. Behind each, the fields of simplex_call that it reads; C is the certificate's bytes. */
+enum simplex_call_kind {
+    SIMPLEX_ADD_NOTARIZATION = 0,             /* proposal, C */
+    SIMPLEX_ADD_NULLIFICATION = 1,            /* round, moment, C */
+    SIMPLEX_ADD_FINALIZATION = 2,             /* proposal, moment, C */
+    SIMPLEX_SET_PROPOSAL = 3,                 /* view, proposal: that of the view's leader */
+    SIMPLEX_TRY_PROPOSE = 4,                  /* what this member is to build next */
+    SIMPLEX_PROPOSED = 5,                     /* view, proposal.payload, moment: what was built on request */
+    SIMPLEX_SUPERSEDE_PROPOSAL_REQUEST = 6,   /* view */
+    SIMPLEX_PENDING_HANDOFF_ABANDONMENT = 7,  /* view */
+    SIMPLEX_RELEASE_PROPOSAL_REQUEST = 8,     /* view */
+    SIMPLEX_TRY_VERIFY = 9,                   /* what is to be verified next */
+    SIMPLEX_VERIFIED = 10,                    /* view: its proposal was found valid */
+    SIMPLEX_VERIFICATION_FAILED = 11,         /* view, reason, moment */
+    SIMPLEX_CERTIFY_CANDIDATES = 12,          /* what is to be certified next */
+    SIMPLEX_SET_CERTIFY_HANDLE = 13,          /* view, token: its certification goes on under the token */
+    SIMPLEX_CERTIFIED = 14,                   /* view, success, moment: the verdict */
+    SIMPLEX_CONSTRUCT_NOTARIZE = 15,          /* view */
+    SIMPLEX_CONSTRUCT_NULLIFY = 16,           /* view, reason */
+    SIMPLEX_CONSTRUCT_FINALIZE = 17,          /* view */
+    SIMPLEX_BROADCAST_NOTARIZATION = 18,      /* view */
+    SIMPLEX_BROADCAST_NULLIFICATION = 19,     /* view */
+    SIMPLEX_BROADCAST_FINALIZATION = 20,      /* view */
+    SIMPLEX_GET_BEST_CERTIFICATE = 21,
+    SIMPLEX_TRIGGER_TIMEOUT = 22,             /* view, reason, moment */
+    SIMPLEX_NEXT_TIMEOUT = 23,                /* moment */
+    SIMPLEX_PRUNE = 24
+};
+
+/* What a call is answered. Behind each, the fields of simplex_reply that it has; bytes and items wait behind the handle. */
+enum simplex_reply_kind {
+    SIMPLEX_REPLY_UNIT = 0,
+    SIMPLEX_REPLY_FLAG = 1,                   /* flag: it is taken */
+    SIMPLEX_REPLY_ADDED = 2,                  /* flag: it is new; member: a leader that equivocated, or SIMPLEX_NOBODY */
+    SIMPLEX_REPLY_ADDED_NULLIFICATION = 3,    /* flag: it is new */
+    SIMPLEX_REPLY_REQUEST = 4,                /* has 1: build; 2: build as a handoff; context, member: the leader */
+    SIMPLEX_REPLY_WORK = 5,                   /* has 1: verify proposal in context, member: the leader; 2, 3: ask member for the
+                                                 nullification, the notarization of view lacking, for the proposal of view waiting */
+    SIMPLEX_REPLY_CANDIDATES = 6,             /* count: items of SIMPLEX_PROPOSALS; fetches: items of SIMPLEX_FETCHES */
+    SIMPLEX_REPLY_CERTIFIED = 7,              /* flag: the verdict; has 1: the notarization of proposal, bytes */
+    SIMPLEX_REPLY_NOTARIZE = 8,               /* has 1: a vote for proposal; member signs the bytes */
+    SIMPLEX_REPLY_NULLIFY = 9,                /* has 1: a vote against proposal.round; flag: a repeat; member signs the bytes */
+    SIMPLEX_REPLY_FINALIZE = 10,              /* has 1: a vote for proposal; member signs the bytes */
+    SIMPLEX_REPLY_CERTIFICATE = 11,           /* has: a simplex_certificate_kind; proposal, of a nullification its round; bytes */
+    SIMPLEX_REPLY_TIMEOUT = 12,               /* moment, reason */
+    SIMPLEX_REPLY_VIEWS = 13,                 /* count: items of SIMPLEX_DROPPED */
+    SIMPLEX_REPLY_RELEASED = 14,              /* flag: a request was open */
+    SIMPLEX_REPLY_TRIGGERED = 15,             /* flag: the timeout counts from now on */
+    SIMPLEX_REPLY_ABANDONED = 16              /* has 1: the handoff has to be given up; reason: a simplex_abandoned_reason */
+};
+
+/* Why a view times out. */
+enum simplex_timeout_reason {
+    SIMPLEX_RETRY = 0,
+    SIMPLEX_INACTIVITY = 1,
+    SIMPLEX_LEADER_NULLIFY = 2,
+    SIMPLEX_LEADER_TIMEOUT = 3,
+    SIMPLEX_CERTIFICATION_TIMEOUT = 4,
+    SIMPLEX_STALL_TIMEOUT = 5,
+    SIMPLEX_MISSING_PROPOSAL = 6,
+    SIMPLEX_IGNORED_PROPOSAL = 7,
+    SIMPLEX_INVALID_PROPOSAL = 8,
+    SIMPLEX_FAILED_CERTIFICATION = 9
+};
+
+/* Why a handoff has to be given up. */
+enum simplex_abandoned_reason {
+    SIMPLEX_VIEW_EXIT = 0,
+    SIMPLEX_ANCESTRY_SUPERSEDED = 1,
+    SIMPLEX_ANCESTRY_INVALIDATED = 2,
+    SIMPLEX_PARENT_NULLIFY = 3,
+    SIMPLEX_VIEW_NULLIFY = 4,
+    SIMPLEX_RESPONSE_CLOSED = 5,
+    SIMPLEX_INELIGIBLE_AT_RECORDING = 6
+};
+
+/* Which certificate it is. */
+enum simplex_certificate_kind { SIMPLEX_NOTARIZATION = 1, SIMPLEX_NULLIFICATION = 2, SIMPLEX_FINALIZATION = 3 };
+
+/* Which items of the last reply are read. */
+enum simplex_items { SIMPLEX_PROPOSALS = 1, SIMPLEX_FETCHES = 2, SIMPLEX_DROPPED = 3 };
+
+/* Which bytes are read: those of the last reply, or those that simplex_member_entries or simplex_member_certificate showed last. */
+enum simplex_bytes { SIMPLEX_OF_REPLY = 0, SIMPLEX_SHOWN = 1 };
+
+/* Which vote a text is of. */
+enum simplex_subject_kind { SIMPLEX_NOTARIZE = 0, SIMPLEX_NULLIFY = 1, SIMPLEX_FINALIZE = 2 };
+
+/* How a journal ends behind its whole frames: there; within one, as behind a cut; in a damaged one. A damaged length may look like a cut. */
+enum simplex_ending { SIMPLEX_WHOLE = 0, SIMPLEX_CUT = 1, SIMPLEX_BROKEN = 2 };
+
+struct simplex_round {
+    uint64_t epoch, view;
+};
+SIMPLEX_SIZE(struct simplex_round, 16);
+
+/* A proposal, with a round of its own. parent is a view. */
+struct simplex_proposal {
+    struct simplex_round round;
+    uint64_t parent;
+    uint8_t payload[32];
+};
+SIMPLEX_SIZE(struct simplex_proposal, 56);
+
+/* A call. The fields that its kind does not read may be anything, but reason and success: leave these 0. */
+struct simplex_call {
+    uint32_t kind;     /* a simplex_call_kind */
+    uint32_t reason;   /* a simplex_timeout_reason */
+    uint32_t success;  /* 1: the view's proposal is certified */
+    uint32_t reserved;
+    uint64_t view;
+    uint64_t moment;   /* milliseconds */
+    uint64_t token;
+    struct simplex_round round;
+    struct simplex_proposal proposal;
+};
+SIMPLEX_SIZE(struct simplex_call, 112);
+
+/* In what a proposal is built or verified: its round, the parent's view and the parent's payload. */
+struct simplex_context {
+    struct simplex_round round;
+    uint64_t parent;
+    uint8_t payload[32];
+};
+SIMPLEX_SIZE(struct simplex_context, 56);
+
+/* A reply. Where status is not SIMPLEX_OK no other field has a meaning. */
+struct simplex_reply {
+    uint32_t status; /* SIMPLEX_OK to SIMPLEX_NOT_MADE */
+    uint32_t kind;   /* a simplex_reply_kind */
+    uint32_t has;
+    uint32_t flag;
+    uint32_t member;
+    uint32_t reason; /* a simplex_timeout_reason or a simplex_abandoned_reason */
+    uint64_t moment; /* milliseconds */
+    uint64_t waiting, lacking, count, fetches;
+    struct simplex_proposal proposal;
+    struct simplex_context context;
+};
+SIMPLEX_SIZE(struct simplex_reply, 176);
+
+/* A certificate that is to be fetched: the view of the proposal that waits for it, and its own. */
+struct simplex_fetch {
+    uint64_t proposal, view;
+};
+SIMPLEX_SIZE(struct simplex_fetch, 16);
+
+/* How a member is set up. Times are milliseconds. */
+struct simplex_settings {
+    uint32_t members;           /* how many there are */
+    uint32_t signer;            /* the member that signs here, or SIMPLEX_NOBODY */
+    uint32_t term_length;       /* how many views one leader leads */
+    uint32_t draws;             /* 1: certificates name leaders, by their first four bytes, big-endian; 0: the table alone does */
+    uint32_t stalls;            /* 1: terms stall after stall_timeout */
+    uint32_t is_finalized;      /* 1: the floor is a finalized proposal; 0: it is genesis */
+    uint64_t stall_timeout;
+    uint64_t optimistic_views;
+    uint64_t epoch;
+    uint64_t view_retention;    /* how many views below the last finalized one are kept */
+    uint64_t leader_timeout;
+    uint64_t certification_timeout;
+    uint64_t timeout_retry;
+    uint64_t skip_timeout;      /* after how long a leader counts as inactive; 0: no view is skipped for it */
+    uint64_t skip_budget;       /* how many unfinalized terms may be skipped; 0: as many as there are members */
+    struct simplex_proposal floor; /* what is finalized; of genesis the payload alone */
+};
+SIMPLEX_SIZE(struct simplex_settings, 152);
+
+/* What is stored beside a journal. */
+struct simplex_stored {
+    uint64_t entries;         /* how many the record had: a journal of fewer is refused */
+    uint64_t closed;          /* no drop takes one of the first so many */
+    uint64_t retention;       /* the view_retention of the last life */
+    uint64_t least_retention; /* the least of all lives */
+    uint32_t is_pruned;       /* 1: the record was ever pruned */
+    uint32_t reserved;
+};
+SIMPLEX_SIZE(struct simplex_stored, 40);
+
+struct simplex_restart {
+    uint64_t drop;   /* at most so many of the last entries are dropped, but never a vote nor anything before one */
+    uint64_t moment; /* milliseconds */
+    uint32_t prune;  /* 1: the record is pruned then: entries far below the last finalized view are taken away */
+    uint32_t reserved;
+    struct simplex_settings settings;
+};
+SIMPLEX_SIZE(struct simplex_restart, 176);
+
+struct simplex_entries {
+    uint32_t status; /* SIMPLEX_OK, SIMPLEX_OUT_OF_MEMORY or SIMPLEX_ENTRY_TOO_LONG */
+    uint32_t reserved;
+    uint64_t bytes;  /* how many are shown */
+    struct simplex_stored stored;
+};
+SIMPLEX_SIZE(struct simplex_entries, 56);
+
+struct simplex_view {
+    uint32_t status;             /* SIMPLEX_OK or SIMPLEX_FAILED */
+    uint32_t leader;             /* of the view, where it is tracked and its leader known; else SIMPLEX_NOBODY */
+    uint32_t is_tracked;
+    uint32_t admits_vote;        /* 1: a vote of the view may be taken into account */
+    uint32_t admits_certificate; /* 1: a certificate of the view may be handed in */
+    uint32_t voted_nullify;      /* 1: this member voted to nullify the view */
+    uint32_t has_notarization;
+    uint32_t has_nullification;
+    uint32_t has_finalization;
+    uint32_t has_forwardable;    /* 1: forwardable is a proposal of the view that may be forwarded to peers */
+    uint64_t epoch;
+    uint64_t current;            /* the current view */
+    uint64_t last_finalized;
+    uint64_t min_active;         /* the lowest view that is kept */
+    struct simplex_proposal forwardable;
+};
+SIMPLEX_SIZE(struct simplex_view, 128);
+
+struct simplex_found {
+    uint32_t status; /* SIMPLEX_OK, SIMPLEX_OUT_OF_MEMORY, SIMPLEX_FAILED, or SIMPLEX_NO_CALL where no certificate has the kind */
+    uint32_t has;    /* a simplex_certificate_kind; 0: the view has none of the kind */
+    uint64_t bytes;  /* how many are shown */
+    struct simplex_proposal proposal; /* what it is of; of a nullification the round alone */
+};
+SIMPLEX_SIZE(struct simplex_found, 72);
+
+struct simplex_item {
+    uint32_t has; /* 1: there is such an item */
+    uint32_t reserved;
+    uint64_t view;                    /* of SIMPLEX_DROPPED */
+    struct simplex_fetch fetch;       /* of SIMPLEX_FETCHES */
+    struct simplex_proposal proposal; /* of SIMPLEX_PROPOSALS */
+};
+SIMPLEX_SIZE(struct simplex_item, 88);
+
+/* A part of bytes: the first count count. */
+struct simplex_chunk {
+    uint64_t count;
+    uint8_t bytes[1024];
+};
+SIMPLEX_SIZE(struct simplex_chunk, 1032);
+
+/* A text: the first count bytes count. */
+struct simplex_text {
+    uint32_t status; /* SIMPLEX_OK, SIMPLEX_OUT_OF_MEMORY, or SIMPLEX_NO_CALL where no vote has the kind */
+    uint32_t count;
+    uint8_t bytes[64];
+};
+SIMPLEX_SIZE(struct simplex_text, 72);
+
+struct simplex_scan {
+    uint64_t entries; /* how many whole frames stand in front */
+    uint64_t bytes;   /* how many bytes these are */
+    uint32_t ending;  /* a simplex_ending */
+    uint32_t reserved;
+};
+SIMPLEX_SIZE(struct simplex_scan, 24);
+
+/* What a resolver is told. */
+enum simplex_told_kind {
+    SIMPLEX_TOLD_NOTARIZATION = 1, /* a certificate that the member newly added */
+    SIMPLEX_TOLD_NULLIFICATION = 2,
+    SIMPLEX_TOLD_FINALIZATION = 3,
+    SIMPLEX_TOLD_VERDICT = 4       /* on the notarization of proposal, as simplex_member_call answers SIMPLEX_CERTIFIED */
+};
+
+struct simplex_told {
+    uint32_t kind;    /* a simplex_told_kind */
+    uint32_t success; /* of a verdict 1: it is certified; else 0 */
+    struct simplex_proposal proposal; /* what it is of; of a nullification the round alone */
+};
+SIMPLEX_SIZE(struct simplex_told, 64);
+
+struct simplex_effects {
+    uint32_t status; /* SIMPLEX_OK, SIMPLEX_OUT_OF_MEMORY: it has failed, start another; SIMPLEX_FAILED, SIMPLEX_VIEW_TOO_LARGE;
+                        SIMPLEX_NOT_ALLOWED for view 0, SIMPLEX_NO_CALL, SIMPLEX_NOT_MADE: nothing was told */
+    uint32_t reserved;
+    uint64_t count;  /* how many effects there are */
+    uint64_t fetches; /* how many fetches are open then */
+};
+SIMPLEX_SIZE(struct simplex_effects, 24);
+
+/* What is to be done with fetches. */
+enum simplex_effect_kind {
+    SIMPLEX_FETCH = 1,     /* fetch a nullification that covers view; cause: the view that called for it; reason: a simplex_fetch_reason */
+    SIMPLEX_SETTLED = 2,   /* nothing is left to ask for at the views view to end; reason: a simplex_settled_kind */
+    SIMPLEX_FINALIZED = 3, /* each ask at or below view is settled */
+    SIMPLEX_RAISED = 4     /* each fetch at or below view ends */
+};
+enum simplex_fetch_reason { SIMPLEX_MISSING_NULLIFICATION = 0, SIMPLEX_CERTIFICATION_FAILED = 1 };
+enum simplex_settled_kind { SIMPLEX_NULLIFICATIONS = 0, SIMPLEX_NOTARIZATIONS = 1 };
+
+struct simplex_effect {
+    uint32_t kind; /* a simplex_effect_kind; 0: there is no such effect */
+    uint32_t reason;
+    uint64_t view, cause, end;
+};
+SIMPLEX_SIZE(struct simplex_effect, 32);
+
+struct simplex_settled {
+    uint32_t is_failed;
+    uint32_t is_open;       /* 1: the view's fetch is open */
+    uint32_t nullification; /* 1: no nullification of the view is left to ask for */
+    uint32_t notarization;  /* 1: no notarization of the view is left to ask for */
+    uint32_t uncertifiable; /* 1: the view's certification failed */
+    uint32_t reserved;
+    uint64_t fetches;       /* how many fetches are open */
+};
+SIMPLEX_SIZE(struct simplex_settled, 32);
+
+struct simplex_served {
+    uint32_t status; /* SIMPLEX_OK, SIMPLEX_OUT_OF_MEMORY or SIMPLEX_FAILED */
+    uint32_t has;    /* 1: there is something to serve */
+    uint64_t bytes;  /* how many */
+    uint64_t view;
+};
+SIMPLEX_SIZE(struct simplex_served, 24);
+
+/* SIMPLEX_VERSION of the library. It rises when a struct, a number or a function changes its meaning. */
+uint32_t simplex_version(void);
+
+/*
+ * Begins a member that never voted, by settings, a table of leaders (each term's leader in turn) and the bytes of the floor's certificate
+ * (none for genesis), at a moment. One that did vote goes on by simplex_member_resume, or could vote twice in a view.
+ *
+ * SIMPLEX_OK, and the handle stands in *out; else why there is none, and *out is as it was. Store simplex_member_entries(.., 0) and its
+ * stored at once: with a finalized floor the record is not empty.
+ */
+uint32_t simplex_member_start(const struct simplex_settings *settings, const uint32_t *leaders, size_t leaders_len,
+                              const uint8_t *certificate, size_t certificate_len, uint64_t now, simplex_member **out);
+
+/*
+ * Makes a member that goes on from its journal: the bytes that simplex_member_entries showed, one behind the other, with what was stored
+ * beside them last. The settings are those of the life that begins, with the floor that was given last.
+ *
+ * SIMPLEX_OK, and the handle stands in *out; else why there is none, and *out is as it was: SIMPLEX_DAMAGED or SIMPLEX_NO_ENTRY where the
+ * bytes are no journal (simplex_scan tells where), SIMPLEX_ENTRIES_LOST where there are fewer entries than stored.entries or
+ * stored.closed, and the errors of settings and records.
+ */
+uint32_t simplex_member_resume(const struct simplex_settings *settings, const uint32_t *leaders, size_t leaders_len,
+                               const uint8_t *certificate, size_t certificate_len, uint64_t now, const struct simplex_stored *stored,
+                               const uint8_t *journal, size_t journal_len, simplex_member **out);
+
+/*
+ * Makes a call. The reply stays behind the handle until the next one. certificate is read by the first three kinds alone.
+ */
+struct simplex_reply simplex_member_call(simplex_member *at, const struct simplex_call *call, const uint8_t *certificate,
+                                         size_t certificate_len);
+
+/*
+ * A part of the bytes of the last reply (SIMPLEX_OF_REPLY) or of those that were shown last (SIMPLEX_SHOWN), from the byte from on: at most
+ * 1024, and none where there are no more.
+ */
+struct simplex_chunk simplex_member_bytes(simplex_member *at, uint32_t which, uint64_t from);
+
+/* An item of the last reply's lists, a simplex_items; none where the reply has no such list, or no such item. */
+struct simplex_item simplex_member_item(simplex_member *at, uint32_t which, uint64_t index);
+
+/* Shows a view's certificate, a simplex_certificate_kind, where the view is tracked. Its bytes are SIMPLEX_SHOWN. */
+struct simplex_found simplex_member_certificate(simplex_member *at, uint32_t kind, uint64_t view);
+
+/*
+ * Shows what the record has behind its first count entries, as bytes to be appended to the journal, with what to store beside it. Also of
+ * a member that has failed. The bytes are SIMPLEX_SHOWN.
+ */
+struct simplex_entries simplex_member_entries(simplex_member *at, uint64_t count);
+
+/* What the member knows, and what it knows of a view. */
+struct simplex_view simplex_member_view(simplex_member *at, uint64_t view);
+
+/*
+ * Ends the member's life, also one that has failed, and begins another from its record. SIMPLEX_OK; else why not: where settings or
+ * SIMPLEX_RETENTION_GROWN are refused nothing has changed, and after each other error the record is cut as asked and the member has
+ * failed. Store simplex_member_entries(.., 0) in place of the journal then, with its stored, in one step.
+ */
+uint32_t simplex_member_restart(simplex_member *at, const struct simplex_restart *restart, const uint32_t *leaders, size_t leaders_len,
+                                const uint8_t *certificate, size_t certificate_len);
+
+/* Lets a member go. Its handle must not be used again. */
+void simplex_member_free(simplex_member *at);
+
+/* The text that a vote signs, a simplex_subject_kind: what other members' votes are verified on. A nullify reads the round alone. */
+struct simplex_text simplex_subject(uint32_t kind, const struct simplex_proposal *proposal);
+
+/* How many bytes of a journal are whole frames, and how it ends behind them. */
+struct simplex_scan simplex_scan(const uint8_t *journal, size_t journal_len);
+
+/*
+ * Starts a resolver from a member's journal, the bytes that simplex_member_entries(.., 0) shows, with its first fetches open. term_length is
+ * that of the member's settings. SIMPLEX_OK, and the handle stands in *out; else why there is none, and *out is as it was. After that its
+ * open fetches are exactly the views that are wanted by what it was told.
+ */
+uint32_t simplex_resolver_start(uint32_t term_length, const uint8_t *journal, size_t journal_len, simplex_resolver **out);
+
+/* Tells it of a certificate that the member newly added, or of a verdict. The effects stay behind the handle until it is told again. */
+struct simplex_effects simplex_resolver_told(simplex_resolver *at, const struct simplex_told *told, const uint8_t *certificate,
+                                             size_t certificate_len);
+
+/* An effect of what it was told last. */
+struct simplex_effect simplex_resolver_effect(simplex_resolver *at, uint64_t index);
+
+/* What it knows of a view. */
+struct simplex_settled simplex_resolver_settled(simplex_resolver *at, uint64_t view);
+
+/* Shows what a peer is served for a view: the encoding of a certificate, a simplex_text of its kind (as simplex_subject has it) and behind it
+ * the certificate's bytes. */
+struct simplex_served simplex_resolver_produce(simplex_resolver *at, uint64_t view);
+
+/* A part of what was served last, from the byte from on: at most 1024, and none where there are no more. */
+struct simplex_chunk simplex_resolver_bytes(simplex_resolver *at, uint64_t from);
+
+/* Lets a resolver go. Its handle must not be used again. */
+void simplex_resolver_free(simplex_resolver *at);
+
+#ifdef __cplusplus
+}
+#endif
+#endif

@@ -1,0 +1,323 @@
+//! Serves the lines of the repository's program `viewstate` (docs/PROGRAM.md) through this package, and prints the program's replies.
+//!
+//!     cargo run --example first_script                                     docs/first-script.txt, as member 0 of 4
+//!     cargo run --example first_script -- voter N ME T OPTIMISTIC          the lines of standard input
+//!     cargo run --example first_script -- voter N ME T OPTIMISTIC resume   each `restart 0 NOW` by a resume from the journal's bytes
+
+use simplex_view_state::{
+    Added, Candidates, Certificate, Config, Context, Cut, Digest, EntryCount, Epoch, Finalization, Lacking, Member, Moment, Notarization,
+    Nullification, OpenError, Participant, Proposal, ProposalRequest, RecoverError, Refusal, Round, Terms, TimeoutReason, Token, Verify,
+    View, ViewDelta,
+};
+use std::error::Error;
+use std::io::{BufRead, BufReader, Write};
+use std::{env, fs, io};
+
+const EPOCH: Epoch = Epoch::new(1);
+
+/// A certificate of this example: one byte that no one reads.
+const CERTIFICATE: [u8; 1] = [1];
+
+const FIRST_SCRIPT: &str = concat!(env!("CARGO_MANIFEST_DIR"), "/../../docs/first-script.txt");
+
+fn main() -> Result<(), Box<dyn Error>> {
+    let words: Vec<String> = env::args().skip(1).collect();
+    let words: Vec<&str> = words.iter().map(String::as_str).collect();
+    let (config, lines, resumes): (_, Box<dyn BufRead>, _) = match words[..] {
+        [] => (
+            config("4", "0", "1", "0")?,
+            Box::new(BufReader::new(fs::File::open(FIRST_SCRIPT)?)),
+            false,
+        ),
+        ["voter", members, me, terms, optimistic] => (config(members, me, terms, optimistic)?, Box::new(io::stdin().lock()), false),
+        ["voter", members, me, terms, optimistic, "resume"] => {
+            (config(members, me, terms, optimistic)?, Box::new(io::stdin().lock()), true)
+        }
+        _ => return Err("usage: first_script [voter N ME T OPTIMISTIC [resume]]".into()),
+    };
+    let member = Member::start(&config, Moment::from_millis(0))?;
+    let mut voter = Voter { config, member, resumes };
+    let mut out = io::BufWriter::new(io::stdout().lock());
+    for line in lines.lines() {
+        let reply = voter.answer(&line?)?;
+        writeln!(out, "{reply}")?;
+    }
+    out.flush()?;
+    Ok(())
+}
+
+/// The program's settings.
+fn config(members: &str, me: &str, terms: &str, optimistic: &str) -> Result<Config, Box<dyn Error>> {
+    let signer = match me {
+        "-" => None,
+        index => Some(Participant::new(index.parse()?)),
+    };
+    let terms = Terms {
+        length: terms.parse()?,
+        optimistic_views: ViewDelta::new(optimistic.parse()?),
+        stall_timeout: None,
+    };
+    Ok(Config {
+        terms,
+        ..Config::new(members.parse()?, signer, EPOCH, payload(0))
+    })
+}
+
+/// A member that lines are asked of.
+struct Voter {
+    config: Config,
+    member: Member,
+    resumes: bool,
+}
+
+impl Voter {
+    /// The reply to a line.
+    fn answer(&mut self, line: &str) -> Result<String, Box<dyn Error>> {
+        let words: Vec<&str> = line.split(' ').collect();
+        match words[..] {
+            ["restart", drop, now] => self.restart(number(drop)?, false, moment(now)?),
+            ["restart-pruned", drop, now] => self.restart(number(drop)?, true, moment(now)?),
+            ["record"] => Ok(format!("record {}", self.member.stored().entries.get())),
+            ["view"] => Ok(self.views()),
+            _ => match self.call(&words)? {
+                Ok(reply) => Ok(reply),
+                Err(refusal) => Ok(refused(refusal)),
+            },
+        }
+    }
+
+    /// Makes the call that a line stands for.
+    fn call(&mut self, words: &[&str]) -> Result<Result<String, Refusal>, Box<dyn Error>> {
+        let member = &mut self.member;
+        Ok(match *words {
+            ["notarization", v, p, d] => member
+                .add_notarization(&Notarization {
+                    proposal: proposal(v, p, d)?,
+                    certificate: CERTIFICATE.to_vec(),
+                })
+                .map(added),
+            ["finalization", v, p, d, now] => member
+                .add_finalization(
+                    &Finalization {
+                        proposal: proposal(v, p, d)?,
+                        certificate: CERTIFICATE.to_vec(),
+                    },
+                    moment(now)?,
+                )
+                .map(added),
+            ["nullification", v, now] => member
+                .add_nullification(
+                    &Nullification {
+                        round: round(v)?,
+                        certificate: CERTIFICATE.to_vec(),
+                    },
+                    moment(now)?,
+                )
+                .map(|is_new| format!("added {is_new}")),
+            ["proposal", v, p, d] => member.set_proposal(&proposal(v, p, d)?).map(|taken| taken.to_string()),
+            ["verify"] => member.try_verify().map(work),
+            ["verified", v] => member.verified(view(v)?).map(|taken| taken.to_string()),
+            ["rejected", v, now] => member
+                .verification_failed(view(v)?, TimeoutReason::InvalidProposal, moment(now)?)
+                .map(|()| "ok".into()),
+            ["propose"] => member.try_propose().map(request),
+            ["proposed", v, d, now] => member
+                .proposed(view(v)?, payload(number(d)?), moment(now)?)
+                .map(|taken| taken.to_string()),
+            ["supersede", v] => member.supersede_proposal_request(view(v)?).map(|answer| answer.to_string()),
+            ["abandon", v] => member
+                .pending_handoff_abandonment(view(v)?)
+                .map(|reason| reason.map_or("none".into(), |reason| reason.to_string())),
+            ["release", v] => member.release_proposal_request(view(v)?).map(|_| "ok".into()),
+            ["candidates"] => member.certify_candidates().map(candidates),
+            ["token", v, k] => member.set_certify_handle(view(v)?, Token::new(number(k)?)).map(|()| "ok".into()),
+            ["verdict", v, success, now] => member
+                .certified(view(v)?, success.parse()?, moment(now)?)
+                .map(|it| it.map_or("none".into(), |it| format!("certified {}", it.proposal.view()))),
+            ["notarize", v] => member
+                .construct_notarize(view(v)?)
+                .map(|vote| vote.map_or("none".into(), |vote| proposed("notarize", &vote.proposal))),
+            ["nullify", v] => member
+                .construct_nullify(view(v)?, TimeoutReason::LeaderTimeout)
+                .map(|vote| vote.map_or("none".into(), |vote| format!("nullify {} {}", vote.round.view, vote.is_repeat))),
+            ["finalize", v] => member
+                .construct_finalize(view(v)?)
+                .map(|vote| vote.map_or("none".into(), |vote| proposed("finalize", &vote.proposal))),
+            ["broadcast", "notarization", v] => member.broadcast_notarization(view(v)?).map(certificate),
+            ["broadcast", "nullification", v] => member.broadcast_nullification(view(v)?).map(certificate),
+            ["broadcast", "finalization", v] => member.broadcast_finalization(view(v)?).map(certificate),
+            ["best"] => member.get_best_certificate().map(certificate),
+            ["trigger", v, why, now] => member.trigger_timeout(view(v)?, reason(why)?, moment(now)?).map(|_| "ok".into()),
+            ["timeout", now] => member
+                .next_timeout(moment(now)?)
+                .map(|timeout| format!("timeout {} {}", timeout.moment.as_millis(), timeout.reason)),
+            ["prune"] => member
+                .prune()
+                .map(|views| views.iter().fold("pruned".to_string(), |text, view| format!("{text} {view}"))),
+            _ => return Err(format!("not a call: {}", words.join(" ")).into()),
+        })
+    }
+
+    /// Begins another life from the record: in place, or as another process would, from the bytes that were stored.
+    fn restart(&mut self, drop: u64, prune: bool, now: Moment) -> Result<String, Box<dyn Error>> {
+        if self.resumes && drop == 0 && !prune {
+            let journal = self.member.entries_since(EntryCount::ZERO)?;
+            if let Ok(member) = Member::resume(&self.config, now, &journal.stored, &journal.bytes) {
+                self.member = member;
+                return Ok("ok".into());
+            }
+        }
+        // Where a resume is refused, a restart in place is refused alike, and leaves the member failed.
+        let last = EntryCount::new(drop);
+        Ok(match self.member.restart(&self.config, now, Cut { last, prune }) {
+            Ok(()) => "ok".into(),
+            Err(OpenError::Recover(error)) => format!("refused {} {error:?}", place_of(error)),
+            Err(error) => return Err(error.into()),
+        })
+    }
+
+    fn views(&self) -> String {
+        match self.member.views() {
+            Some(views) => format!("view {} {} {}", views.current, views.last_finalized, views.min_active),
+            None => refused(Refusal::Failed),
+        }
+    }
+}
+
+/// The place of an error in the program's table, in which want of memory is the 13th.
+fn place_of(error: RecoverError) -> u32 {
+    match error as u32 {
+        place @ 0..=11 => place + 1,
+        place => place + 2,
+    }
+}
+
+fn refused(refusal: Refusal) -> String {
+    match refusal {
+        Refusal::Failed => "fault 2 Failed".into(),
+        Refusal::ViewTooLarge => "fault 3 ViewTooLarge".into(),
+        Refusal::TimeOverflow => "fault 4 TimeOverflow".into(),
+        Refusal::NotAllowed => "not-allowed".into(),
+        other => format!("{other}"),
+    }
+}
+
+fn added(it: Added) -> String {
+    match it.equivocator {
+        Some(member) => format!("added {} {member}", it.is_new),
+        None => format!("added {} -", it.is_new),
+    }
+}
+
+fn request(it: Option<ProposalRequest>) -> String {
+    match it {
+        Some(ProposalRequest::Propose(context)) => in_context("propose", &context),
+        Some(ProposalRequest::Prepare(context)) => in_context("prepare", &context),
+        None => "none".into(),
+    }
+}
+
+fn in_context(word: &str, it: &Context) -> String {
+    format!(
+        "{word} {} {} {} {}",
+        it.round.view,
+        it.leader,
+        it.parent,
+        number_of(it.parent_payload)
+    )
+}
+
+fn work(it: Verify) -> String {
+    match it {
+        Verify::Ready(context, proposal) => format!("{} {}", in_context("ready", &context), number_of(proposal.payload)),
+        Verify::Resolve {
+            proposal,
+            view,
+            kind,
+            target,
+        } => {
+            let kind = match kind {
+                Lacking::Nullification => "nullification",
+                Lacking::Notarization => "notarization",
+            };
+            format!("resolve {proposal} {view} {kind} {target}")
+        }
+        Verify::Wait => "wait".into(),
+    }
+}
+
+fn candidates(it: Candidates) -> String {
+    let offered = it.proposals.iter().map(|proposal| format!(" {}", proposal.view()));
+    let fetched = it.fetches.iter().map(|fetch| format!(" {}:{}", fetch.proposal, fetch.view));
+    format!("candidates{} fetch{}", offered.collect::<String>(), fetched.collect::<String>())
+}
+
+fn certificate(it: Option<Certificate>) -> String {
+    let Some(it) = it else {
+        return "none".into();
+    };
+    let kind = match it {
+        Certificate::Notarization(_) => "notarization",
+        Certificate::Nullification(_) => "nullification",
+        Certificate::Finalization(_) => "finalization",
+    };
+    format!("{kind} {}", it.round().view)
+}
+
+fn proposed(word: &str, it: &Proposal) -> String {
+    format!("{word} {} {} {}", it.view(), it.parent, number_of(it.payload))
+}
+
+fn number(word: &str) -> Result<u64, Box<dyn Error>> {
+    Ok(word.parse()?)
+}
+
+fn moment(word: &str) -> Result<Moment, Box<dyn Error>> {
+    Ok(Moment::from_millis(number(word)?))
+}
+
+fn view(word: &str) -> Result<View, Box<dyn Error>> {
+    Ok(View::new(number(word)?))
+}
+
+fn round(word: &str) -> Result<Round, Box<dyn Error>> {
+    Ok(Round {
+        epoch: EPOCH,
+        view: view(word)?,
+    })
+}
+
+fn proposal(v: &str, p: &str, d: &str) -> Result<Proposal, Box<dyn Error>> {
+    Ok(Proposal {
+        round: round(v)?,
+        parent: view(p)?,
+        payload: payload(number(d)?),
+    })
+}
+
+/// The payload that stands for a number of the program: its bytes at the end.
+fn payload(number: u64) -> Digest {
+    let mut bytes = [0; 32];
+    bytes[24..].copy_from_slice(&number.to_be_bytes());
+    Digest::new(bytes)
+}
+
+fn number_of(payload: Digest) -> u64 {
+    u64::from_be_bytes(payload.bytes()[24..].try_into().expect("8 bytes"))
+}
+
+fn reason(word: &str) -> Result<TimeoutReason, Box<dyn Error>> {
+    Ok(match word {
+        "Retry" => TimeoutReason::Retry,
+        "Inactivity" => TimeoutReason::Inactivity,
+        "LeaderNullify" => TimeoutReason::LeaderNullify,
+        "LeaderTimeout" => TimeoutReason::LeaderTimeout,
+        "CertificationTimeout" => TimeoutReason::CertificationTimeout,
+        "StallTimeout" => TimeoutReason::StallTimeout,
+        "MissingProposal" => TimeoutReason::MissingProposal,
+        "IgnoredProposal" => TimeoutReason::IgnoredProposal,
+        "InvalidProposal" => TimeoutReason::InvalidProposal,
+        "FailedCertification" => TimeoutReason::FailedCertification,
+        _ => return Err(format!("no reason: {word}").into()),
+    })
+}

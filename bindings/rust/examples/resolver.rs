@@ -1,0 +1,109 @@
+//! Serves the resolver's lines of the repository's program `viewstate` (docs/PROGRAM.md) through this package, and prints the program's
+//! replies. The first line is `replayed`, since a resolver starts here with its replay ended; `produce` tells only whether there is
+//! something to serve, since the program's payloads are shorter.
+//!
+//!     cargo run --example resolver -- resolver T
+
+use simplex_view_state::{
+    Certificate, Digest, Effect, Epoch, FetchReason, Finalization, Lacking, Notarization, Nullification, Proposal, Refusal, Resolver,
+    Round, View,
+};
+use std::error::Error;
+use std::io::{BufRead, Write};
+use std::{env, io};
+
+/// A certificate of this example: one byte that no one reads.
+const CERTIFICATE: [u8; 1] = [1];
+
+fn main() -> Result<(), Box<dyn Error>> {
+    let words: Vec<String> = env::args().skip(1).collect();
+    let [_, length] = &words[..] else {
+        return Err("usage: resolver resolver T".into());
+    };
+    let mut resolver = Resolver::start(length.parse()?, &[])?;
+    let mut out = io::BufWriter::new(io::stdout().lock());
+    for line in io::stdin().lock().lines() {
+        writeln!(out, "{}", reply_to(&mut resolver, &line?)?)?;
+    }
+    out.flush()?;
+    Ok(())
+}
+
+fn reply_to(resolver: &mut Resolver, line: &str) -> Result<String, Box<dyn Error>> {
+    let words: Vec<&str> = line.split(' ').collect();
+    let told = match words[..] {
+        ["replayed"] => Ok(Vec::new()),
+        ["notarization", v] => resolver.updated(&Certificate::Notarization(notarization(v)?)),
+        ["nullification", v] => resolver.updated(&Certificate::Nullification(Nullification {
+            round: round(v)?,
+            certificate: CERTIFICATE.to_vec(),
+        })),
+        ["finalization", v] => resolver.updated(&Certificate::Finalization(Finalization {
+            proposal: notarization(v)?.proposal,
+            certificate: CERTIFICATE.to_vec(),
+        })),
+        ["certified", v, success] => resolver.certified(&notarization(v)?, success.parse()?),
+        ["settled", v, "notarization"] => return Ok(resolver.is_settled(view(v)?, Lacking::Notarization).to_string()),
+        ["settled", v, _] => return Ok(resolver.is_settled(view(v)?, Lacking::Nullification).to_string()),
+        ["key-settled", v] => {
+            let is_settled = |kind| Ok::<bool, Box<dyn Error>>(resolver.is_settled(view(v)?, kind));
+            return Ok((is_settled(Lacking::Nullification)? && is_settled(Lacking::Notarization)?).to_string());
+        }
+        ["uncertifiable", v] => return Ok(resolver.is_uncertifiable(view(v)?).to_string()),
+        ["open", v] => return Ok(resolver.is_open(view(v)?).to_string()),
+        ["produce", v] => return Ok(if resolver.produce(view(v)?)?.is_some() { "some" } else { "none" }.into()),
+        _ => return Err(format!("not a call: {line}").into()),
+    };
+    Ok(match told {
+        Ok(effects) if effects.is_empty() => "-".into(),
+        Ok(effects) => effects.iter().map(text).collect::<Vec<_>>().join("; "),
+        Err(Refusal::ViewTooLarge) => "fault 3 ViewTooLarge".into(),
+        Err(Refusal::NotAllowed) => "not-allowed".into(),
+        Err(refusal) => return Err(refusal.into()),
+    })
+}
+
+fn text(effect: &Effect) -> String {
+    match effect {
+        Effect::Fetch { view, cause, reason } => {
+            let reason = match reason {
+                FetchReason::MissingNullification => "missing_nullification",
+                FetchReason::CertificationFailed => "certification_failed",
+            };
+            format!("fetch {view} {cause} {reason}")
+        }
+        Effect::Settled { kind, start, end } => {
+            let kind = match kind {
+                Lacking::Nullification => "nullification",
+                Lacking::Notarization => "notarization",
+            };
+            format!("settled {kind} {start} {end}")
+        }
+        Effect::Finalized(view) => format!("finalized {view}"),
+        Effect::Raised(view) => format!("raised {view}"),
+    }
+}
+
+fn view(word: &str) -> Result<View, Box<dyn Error>> {
+    Ok(View::new(word.parse()?))
+}
+
+fn round(word: &str) -> Result<Round, Box<dyn Error>> {
+    Ok(Round {
+        epoch: Epoch::new(1),
+        view: view(word)?,
+    })
+}
+
+fn notarization(word: &str) -> Result<Notarization, Box<dyn Error>> {
+    let round = round(word)?;
+    let proposal = Proposal {
+        round,
+        parent: View::new(round.view.get().saturating_sub(1)),
+        payload: Digest::default(),
+    };
+    Ok(Notarization {
+        proposal,
+        certificate: CERTIFICATE.to_vec(),
+    })
+}

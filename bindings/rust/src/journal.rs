@@ -1,0 +1,152 @@
+//! What an engine stores of a member.
+
+use crate::ffi;
+
+/// What a member recorded, as bytes: they are appended to the journal, with what is stored beside it.
+#[derive(Clone, PartialEq, Eq, Debug)]
+pub struct Entries {
+    /// Frames, one behind the other, each with a length and a SHA-256 digest.
+    pub bytes: Vec<u8>,
+    /// What is stored beside the journal; `stored.entries` is what the next [`Member::entries_since`](crate::Member::entries_since) takes.
+    pub stored: Stored,
+}
+
+/// How many entries of a record.
+#[derive(Clone, Copy, PartialEq, Eq, PartialOrd, Ord, Hash, Debug, Default)]
+pub struct EntryCount(pub(crate) u64);
+
+impl EntryCount {
+    /// None.
+    pub const ZERO: EntryCount = EntryCount(0);
+
+    /// So many.
+    pub const fn new(count: u64) -> EntryCount {
+        EntryCount(count)
+    }
+
+    /// Their number.
+    pub const fn get(self) -> u64 {
+        self.0
+    }
+}
+
+/// What is stored beside a journal, and comes back with it.
+///
+/// ```
+/// use simplex_view_state::Stored;
+///
+/// # let stored = simplex_view_state::Member::start(&simplex_view_state::Config::new(4.try_into()?, None,
+/// #     simplex_view_state::Epoch::new(1), Default::default()), Default::default())?.stored();
+/// assert_eq!(Stored::from_bytes(&stored.to_bytes()), Some(stored));
+/// # Ok::<(), Box<dyn std::error::Error>>(())
+/// ```
+#[derive(Clone, Copy, PartialEq, Eq, Hash, Debug)]
+pub struct Stored {
+    /// How many entries the record had: a journal of fewer is refused.
+    pub entries: EntryCount,
+    closed: u64,
+    retention: u64,
+    least_retention: u64,
+    is_pruned: bool,
+}
+
+impl Stored {
+    /// How many bytes it is stored as.
+    pub const SIZE: usize = 33;
+
+    /// Its bytes: four numbers, big-endian, and a flag.
+    pub fn to_bytes(&self) -> [u8; Stored::SIZE] {
+        let mut bytes = [0; Stored::SIZE];
+        let numbers = [self.entries.0, self.closed, self.retention, self.least_retention];
+        for (place, number) in bytes.chunks_exact_mut(8).zip(numbers) {
+            place.copy_from_slice(&number.to_be_bytes());
+        }
+        bytes[32] = u8::from(self.is_pruned);
+        bytes
+    }
+
+    /// What was stored as these bytes; none where they are no such bytes.
+    pub fn from_bytes(bytes: &[u8]) -> Option<Stored> {
+        let (numbers, flag) = bytes.split_first_chunk::<32>()?;
+        let mut numbers = numbers
+            .chunks_exact(8)
+            .map(|it| u64::from_be_bytes(it.try_into().expect("8 bytes")));
+        Some(Stored {
+            entries: EntryCount(numbers.next()?),
+            closed: numbers.next()?,
+            retention: numbers.next()?,
+            least_retention: numbers.next()?,
+            is_pruned: match flag {
+                [0] => false,
+                [1] => true,
+                _ => return None,
+            },
+        })
+    }
+
+    pub(crate) fn of(flat: &ffi::Stored) -> Stored {
+        Stored {
+            entries: EntryCount(flat.entries),
+            closed: flat.closed,
+            retention: flat.retention,
+            least_retention: flat.least_retention,
+            is_pruned: flat.is_pruned != 0,
+        }
+    }
+
+    pub(crate) fn flat(&self) -> ffi::Stored {
+        ffi::Stored {
+            entries: self.entries.0,
+            closed: self.closed,
+            retention: self.retention,
+            least_retention: self.least_retention,
+            is_pruned: u32::from(self.is_pruned),
+            reserved: 0,
+        }
+    }
+}
+
+/// What the bytes of a journal are.
+#[derive(Clone, Copy, PartialEq, Eq, Hash, Debug)]
+pub struct Scan {
+    /// How many whole entries stand in front.
+    pub entries: EntryCount,
+    /// How many bytes these are: an append that was cut off by a crash is truncated to here.
+    pub bytes: usize,
+    /// How the journal ends behind them.
+    pub ending: Ending,
+}
+
+/// How a journal ends behind its whole entries.
+#[derive(Clone, Copy, PartialEq, Eq, Hash, Debug)]
+pub enum Ending {
+    /// There is nothing behind them.
+    Whole,
+    /// Within an entry, as an append ends that was cut off. A damaged length may look so too; compare the entries with
+    /// [`Stored::entries`].
+    Cut,
+    /// The entry behind them is damaged.
+    Damaged,
+}
+
+/// Reads the entries of a journal, and tells where they end.
+///
+/// ```
+/// use simplex_view_state::{Ending, scan};
+///
+/// assert_eq!(scan(&[]).ending, Ending::Whole);
+/// assert_eq!(scan(&[0, 0, 0]).ending, Ending::Cut);
+/// ```
+pub fn scan(journal: &[u8]) -> Scan {
+    // SAFETY: the slice is borrowed for the call.
+    let scan = unsafe { ffi::simplex_scan(journal.as_ptr(), journal.len()) };
+    Scan {
+        entries: EntryCount(scan.entries),
+        bytes: scan.bytes as usize,
+        ending: match scan.ending {
+            0 => Ending::Whole,
+            1 => Ending::Cut,
+            _ => Ending::Damaged,
+        },
+    }
+}

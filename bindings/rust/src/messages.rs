@@ -1,0 +1,311 @@
+//! Proposals, votes and certificates.
+
+use crate::ffi;
+use crate::numbers::{Digest, Epoch, Participant, Round, View};
+
+/// A block that a leader proposes: its round, the view of its parent, and its payload's digest.
+#[derive(Clone, Copy, PartialEq, Eq, Hash, Debug, Default)]
+pub struct Proposal {
+    /// The round that it is of.
+    pub round: Round,
+    /// The view of its parent, below its own.
+    pub parent: View,
+    /// The digest of its payload.
+    pub payload: Digest,
+}
+
+impl Proposal {
+    /// The view that it is of.
+    pub const fn view(&self) -> View {
+        self.round.view
+    }
+
+    pub(crate) fn flat(&self) -> ffi::Proposal {
+        ffi::Proposal {
+            round: self.round.flat(),
+            parent: self.parent.get(),
+            payload: *self.payload.bytes(),
+        }
+    }
+
+    pub(crate) fn of(flat: &ffi::Proposal) -> Proposal {
+        Proposal {
+            round: Round::of(&flat.round),
+            parent: View::new(flat.parent),
+            payload: Digest::new(flat.payload),
+        }
+    }
+}
+
+impl Round {
+    pub(crate) fn flat(&self) -> ffi::Round {
+        ffi::Round {
+            epoch: self.epoch.get(),
+            view: self.view.get(),
+        }
+    }
+
+    pub(crate) fn of(flat: &ffi::Round) -> Round {
+        Round {
+            epoch: Epoch::new(flat.epoch),
+            view: View::new(flat.view),
+        }
+    }
+}
+
+/// What a vote says.
+#[derive(Clone, Copy, PartialEq, Eq, Hash, Debug)]
+pub enum Subject {
+    /// The proposal may be built on.
+    Notarize(Proposal),
+    /// The round is given up.
+    Nullify(Round),
+    /// The proposal is final.
+    Finalize(Proposal),
+}
+
+impl Subject {
+    /// The round that it is of.
+    pub const fn round(&self) -> Round {
+        match self {
+            Subject::Notarize(proposal) | Subject::Finalize(proposal) => proposal.round,
+            Subject::Nullify(round) => *round,
+        }
+    }
+
+    /// The text that a vote on it signs: what the votes of other members are verified on. A member's own votes come with their text, see
+    /// [`Notarize::text`].
+    ///
+    /// ```
+    /// use simplex_view_state::{Proposal, Subject};
+    ///
+    /// let text = Subject::Notarize(Proposal::default()).encode();
+    /// assert_eq!((text.len(), text[0]), (57, 0));
+    /// ```
+    pub fn encode(&self) -> Vec<u8> {
+        let (kind, proposal) = match self {
+            Subject::Notarize(proposal) => (0, proposal.flat()),
+            Subject::Finalize(proposal) => (2, proposal.flat()),
+            Subject::Nullify(round) => {
+                let round = round.flat();
+                (
+                    1,
+                    ffi::Proposal {
+                        round,
+                        ..Default::default()
+                    },
+                )
+            }
+        };
+        let text = ffi::simplex_subject(kind, &proposal);
+        assert_eq!(text.status, 0, "there is memory for a text of 57 bytes");
+        text.bytes[..text.count as usize].to_vec()
+    }
+}
+
+/// A certificate that a proposal may be built on.
+#[derive(Clone, PartialEq, Eq, Hash, Debug)]
+pub struct Notarization {
+    /// The proposal.
+    pub proposal: Proposal,
+    /// The engine's certificate, which it made and verified: bytes that the library keeps and never reads, but for their first four where
+    /// certificates name leaders ([`Leaders::Drawn`](crate::Leaders::Drawn)).
+    pub certificate: Vec<u8>,
+}
+
+/// A certificate that a round is given up.
+#[derive(Clone, PartialEq, Eq, Hash, Debug)]
+pub struct Nullification {
+    /// The round.
+    pub round: Round,
+    /// The engine's certificate.
+    pub certificate: Vec<u8>,
+}
+
+/// A certificate that a proposal is final.
+#[derive(Clone, PartialEq, Eq, Hash, Debug)]
+pub struct Finalization {
+    /// The proposal.
+    pub proposal: Proposal,
+    /// The engine's certificate.
+    pub certificate: Vec<u8>,
+}
+
+/// One of the three certificates.
+#[derive(Clone, PartialEq, Eq, Hash, Debug)]
+pub enum Certificate {
+    /// A proposal may be built on.
+    Notarization(Notarization),
+    /// A round is given up.
+    Nullification(Nullification),
+    /// A proposal is final.
+    Finalization(Finalization),
+}
+
+impl Certificate {
+    /// The round that it is of.
+    pub const fn round(&self) -> Round {
+        match self {
+            Certificate::Notarization(it) => it.proposal.round,
+            Certificate::Nullification(it) => it.round,
+            Certificate::Finalization(it) => it.proposal.round,
+        }
+    }
+
+    /// What its votes say.
+    pub const fn subject(&self) -> Subject {
+        match self {
+            Certificate::Notarization(it) => Subject::Notarize(it.proposal),
+            Certificate::Nullification(it) => Subject::Nullify(it.round),
+            Certificate::Finalization(it) => Subject::Finalize(it.proposal),
+        }
+    }
+}
+
+/// Which of the three certificates it is.
+#[derive(Clone, Copy, PartialEq, Eq, Hash, Debug)]
+pub enum CertificateKind {
+    /// A notarization.
+    Notarization,
+    /// A nullification.
+    Nullification,
+    /// A finalization.
+    Finalization,
+}
+
+/// An order to vote to notarize: the engine signs the text with the signer's key, and sends it, once the record is stored.
+#[derive(Clone, PartialEq, Eq, Hash, Debug)]
+#[must_use = "a vote that is dropped is not ordered again"]
+pub struct Notarize {
+    /// What it is for.
+    pub proposal: Proposal,
+    /// Who signs.
+    pub signer: Participant,
+    /// What is to be signed: `Subject::Notarize(proposal).encode()`.
+    pub text: Vec<u8>,
+}
+
+/// An order to vote to nullify a round.
+#[derive(Clone, PartialEq, Eq, Hash, Debug)]
+#[must_use = "a vote that is dropped is not ordered again until it is asked for as a repeat"]
+pub struct Nullify {
+    /// The round that it gives up.
+    pub round: Round,
+    /// Who signs.
+    pub signer: Participant,
+    /// What is to be signed: `Subject::Nullify(round).encode()`.
+    pub text: Vec<u8>,
+    /// The vote was ordered before: it stands in the record already.
+    pub is_repeat: bool,
+}
+
+/// An order to vote to finalize: the engine signs the text with the signer's key, and sends it, once the record is stored.
+#[derive(Clone, PartialEq, Eq, Hash, Debug)]
+#[must_use = "a vote that is dropped is not ordered again"]
+pub struct Finalize {
+    /// What it is for.
+    pub proposal: Proposal,
+    /// Who signs.
+    pub signer: Participant,
+    /// What is to be signed: `Subject::Finalize(proposal).encode()`.
+    pub text: Vec<u8>,
+}
+
+/// In what a proposal is built or verified.
+#[derive(Clone, Copy, PartialEq, Eq, Hash, Debug)]
+pub struct Context {
+    /// Its round.
+    pub round: Round,
+    /// Who leads it.
+    pub leader: Participant,
+    /// The view of its parent.
+    pub parent: View,
+    /// The parent's payload.
+    pub parent_payload: Digest,
+}
+
+impl Context {
+    pub(crate) fn of(flat: &ffi::Context, leader: u32) -> Context {
+        Context {
+            round: Round::of(&flat.round),
+            leader: Participant::new(leader),
+            parent: View::new(flat.parent),
+            parent_payload: Digest::new(flat.payload),
+        }
+    }
+}
+
+/// What this member is to build.
+#[derive(Clone, Copy, PartialEq, Eq, Hash, Debug)]
+pub enum ProposalRequest {
+    /// A proposal on a certified parent.
+    Propose(Context),
+    /// A handoff: a proposal on a parent that is not certified yet. It may have to be given up
+    /// ([`Member::pending_handoff_abandonment`](crate::Member::pending_handoff_abandonment)).
+    Prepare(Context),
+}
+
+impl ProposalRequest {
+    /// In what it is built.
+    pub const fn context(&self) -> &Context {
+        match self {
+            ProposalRequest::Propose(context) | ProposalRequest::Prepare(context) => context,
+        }
+    }
+}
+
+/// Which certificate of its ancestry a proposal lacks.
+#[derive(Clone, Copy, PartialEq, Eq, Hash, Debug)]
+pub enum Lacking {
+    /// A nullification of a view between its parent and itself.
+    Nullification,
+    /// A notarization of its parent.
+    Notarization,
+}
+
+/// What is to be verified.
+#[derive(Clone, Copy, PartialEq, Eq, Hash, Debug)]
+pub enum Verify {
+    /// The application is to verify the proposal.
+    Ready(Context, Proposal),
+    /// A certificate is lacking before the proposal can be verified: ask the member for it, and others behind it. It may be on its way.
+    Resolve {
+        /// The view of the proposal that waits.
+        proposal: View,
+        /// The view of the certificate that is lacking.
+        view: View,
+        /// Which one is lacking.
+        kind: Lacking,
+        /// The leader of the proposal's view.
+        target: Participant,
+    },
+    /// There is nothing to verify.
+    Wait,
+}
+
+/// What came of a certificate that was handed in.
+#[derive(Clone, Copy, PartialEq, Eq, Hash, Debug)]
+pub struct Added {
+    /// It is new.
+    pub is_new: bool,
+    /// A leader that proposed twice in the view.
+    pub equivocator: Option<Participant>,
+}
+
+/// What is to be certified.
+#[derive(Clone, PartialEq, Eq, Hash, Debug, Default)]
+pub struct Candidates {
+    /// The proposals whose certification is to begin.
+    pub proposals: Vec<Proposal>,
+    /// The notarizations that are to be fetched for others.
+    pub fetches: Vec<CertificateFetch>,
+}
+
+/// A notarization that is to be fetched.
+#[derive(Clone, Copy, PartialEq, Eq, Hash, Debug)]
+pub struct CertificateFetch {
+    /// The view of the proposal that waits for it.
+    pub proposal: View,
+    /// Its own view.
+    pub view: View,
+}

@@ -1,0 +1,196 @@
+//! How a member is set up.
+
+use crate::errors::SettingsError;
+use crate::ffi;
+use crate::messages::{Finalization, Proposal};
+use crate::numbers::{Digest, Epoch, Participant, Round, ViewDelta};
+use std::num::{NonZeroU32, NonZeroU64};
+use std::time::Duration;
+
+/// How a member is set up. All members of an epoch have the same, but for the signer and the floor.
+///
+/// Times are read in whole milliseconds.
+#[derive(Clone, PartialEq, Eq, Debug)]
+pub struct Config {
+    /// How many members there are.
+    pub members: NonZeroU32,
+    /// The member that signs here; none for one that only follows.
+    pub signer: Option<Participant>,
+    /// The epoch.
+    pub epoch: Epoch,
+    /// Who leads.
+    pub leaders: Leaders,
+    /// How views are parted into terms.
+    pub terms: Terms,
+    /// What is final at the start.
+    pub floor: Floor,
+    /// How long a view waits for its proposal.
+    pub leader_timeout: Duration,
+    /// How long a view waits for its certification; above the leader timeout.
+    pub certification_timeout: Duration,
+    /// After how long a vote to nullify is sent again.
+    pub timeout_retry: Duration,
+    /// How many views below the last finalized one are kept.
+    pub view_retention: ViewDelta,
+    /// Whether the views of inactive leaders are skipped.
+    pub skip: Option<Skip>,
+}
+
+/// Who leads.
+#[derive(Clone, PartialEq, Eq, Debug)]
+pub enum Leaders {
+    /// The table's members lead in turn, a term each, from its start again after its end. A member that stands there twice leads twice.
+    Table(Vec<Participant>),
+    /// The certificate that leads to a term names its leader: its first four bytes are the index, big-endian. The table serves for the
+    /// first term, and after a certificate of fewer bytes. All certificates that may lead to a view have to name the same leader.
+    Drawn(Vec<Participant>),
+}
+
+impl Leaders {
+    /// Each of so many members in turn.
+    pub fn round_robin(members: NonZeroU32) -> Leaders {
+        Leaders::Table((0..members.get()).map(Participant::new).collect())
+    }
+
+    fn table(&self) -> &[Participant] {
+        match self {
+            Leaders::Table(table) | Leaders::Drawn(table) => table,
+        }
+    }
+}
+
+/// How views are parted into terms, each of one leader.
+#[derive(Clone, Copy, PartialEq, Eq, Debug)]
+pub struct Terms {
+    /// How many views a term has.
+    pub length: NonZeroU32,
+    /// How many views ahead of the current one, in its term, may be voted for.
+    pub optimistic_views: ViewDelta,
+    /// After how long a term stalls, if it does.
+    pub stall_timeout: Option<Duration>,
+}
+
+impl Terms {
+    /// A leader a view.
+    pub const ONE_VIEW: Terms = Terms {
+        length: NonZeroU32::MIN,
+        optimistic_views: ViewDelta::new(0),
+        stall_timeout: None,
+    };
+}
+
+/// What is final where a member starts.
+#[derive(Clone, PartialEq, Eq, Debug)]
+pub enum Floor {
+    /// Genesis, with its payload.
+    Genesis(Digest),
+    /// A finalized proposal, whose certificate the engine verified.
+    Finalized(Finalization),
+}
+
+/// That the views of inactive leaders are skipped.
+#[derive(Clone, Copy, PartialEq, Eq, Debug)]
+pub struct Skip {
+    /// After how long a leader counts as inactive. The engine finds that out, and says so by
+    /// [`Member::trigger_timeout`](crate::Member::trigger_timeout); the library tests only that it is above the other timeouts.
+    pub timeout: Duration,
+    /// How many unfinalized terms may be skipped; none for as many as there are members.
+    pub budget: Option<NonZeroU64>,
+}
+
+impl Config {
+    /// So many members, round robin, a leader a view, from genesis, with these usual times: 1 s for a proposal, 2 s for its certification,
+    /// 500 ms for a repeat; 10 views are kept, and views of inactive leaders are skipped after 3 s.
+    ///
+    /// ```
+    /// use simplex_view_state::{Config, Digest, Epoch, Participant};
+    ///
+    /// let members = 4.try_into().expect("not 0");
+    /// let config = Config::new(members, Some(Participant::new(0)), Epoch::new(1), Digest::default());
+    /// assert_eq!(config.view_retention.get(), 10);
+    /// ```
+    pub fn new(members: NonZeroU32, signer: Option<Participant>, epoch: Epoch, genesis: Digest) -> Config {
+        Config {
+            members,
+            signer,
+            epoch,
+            leaders: Leaders::round_robin(members),
+            terms: Terms::ONE_VIEW,
+            floor: Floor::Genesis(genesis),
+            leader_timeout: Duration::from_millis(1000),
+            certification_timeout: Duration::from_millis(2000),
+            timeout_retry: Duration::from_millis(500),
+            view_retention: ViewDelta::new(10),
+            skip: Some(Skip {
+                timeout: Duration::from_millis(3000),
+                budget: None,
+            }),
+        }
+    }
+
+    /// What the library takes of it.
+    pub(crate) fn flat(&self) -> Result<Flat, SettingsError> {
+        let (is_finalized, floor, certificate) = match &self.floor {
+            Floor::Genesis(payload) => (0, genesis(*payload), Vec::new()),
+            Floor::Finalized(it) => (1, it.proposal, it.certificate.clone()),
+        };
+        let settings = ffi::Settings {
+            members: self.members.get(),
+            signer: self.signer.map_or(Ok(ffi::NOBODY), index_of)?,
+            term_length: self.terms.length.get(),
+            draws: u32::from(matches!(self.leaders, Leaders::Drawn(_))),
+            stalls: u32::from(self.terms.stall_timeout.is_some()),
+            is_finalized,
+            stall_timeout: self.terms.stall_timeout.map_or(Ok(0), millis)?,
+            optimistic_views: self.terms.optimistic_views.get(),
+            epoch: self.epoch.get(),
+            view_retention: self.view_retention.get(),
+            leader_timeout: millis(self.leader_timeout)?,
+            certification_timeout: millis(self.certification_timeout)?,
+            timeout_retry: millis(self.timeout_retry)?,
+            skip_timeout: self.skip.map_or(Ok(0), |skip| skip_millis(skip.timeout))?,
+            skip_budget: self.skip.and_then(|skip| skip.budget).map_or(0, NonZeroU64::get),
+            floor: floor.flat(),
+        };
+        Ok(Flat {
+            settings,
+            leaders: self.leaders.table().iter().map(|member| member.get()).collect(),
+            certificate,
+        })
+    }
+}
+
+/// What the library takes of settings.
+pub(crate) struct Flat {
+    pub(crate) settings: ffi::Settings,
+    pub(crate) leaders: Vec<u32>,
+    pub(crate) certificate: Vec<u8>,
+}
+
+fn genesis(payload: Digest) -> Proposal {
+    Proposal {
+        round: Round::default(),
+        payload,
+        ..Proposal::default()
+    }
+}
+
+/// The index of a signer; the greatest number is none of a member.
+fn index_of(signer: Participant) -> Result<u32, SettingsError> {
+    match signer.get() {
+        ffi::NOBODY => Err(SettingsError::NoSuchMember),
+        index => Ok(index),
+    }
+}
+
+fn millis(time: Duration) -> Result<u64, SettingsError> {
+    u64::try_from(time.as_millis()).map_err(|_| SettingsError::TimeTooLong)
+}
+
+/// A skip timeout of no time is refused as the library refuses one that is not above the certification timeout.
+fn skip_millis(time: Duration) -> Result<u64, SettingsError> {
+    match millis(time)? {
+        0 => Err(SettingsError::SkipNotAboveCertification),
+        time => Ok(time),
+    }
+}

@@ -1,0 +1,204 @@
+#!/usr/bin/env python3
+"""That the library answers C and Rust as the program answers lines.
+
+The scripts of the repository's tests that ask a voter, and random ones, are served by `viewstate`, by `bindings/c/examples/script.c` and
+by the example of the Rust package, once with restarts in place and once with each restart of nothing by a resume from the journal's bytes:
+the replies are the same, byte for byte. `bindings/c/examples/lives.c` begins and lets go many members, and hands in what has to be
+refused; under valgrind it neither errs nor loses a byte. The package's own tests and lints run too. And both callers are built with two
+kinds of calls swapped, which the comparison has to find.
+
+    tests/bindings.py [--program PATH] [--archive PATH]     without an archive one is built, unproved, in a minute or two
+
+It ends with status 1 where replies differ, or where less was tried than is asked for. Where `cargo` or `cc` is missing it says so in one
+line, and tries nothing of it."""
+
+import argparse
+import os
+import random
+import shutil
+import subprocess
+import sys
+import tempfile
+import time
+from collections import Counter
+from concurrent.futures import ThreadPoolExecutor
+from pathlib import Path
+
+import program
+import scripts
+from floors import lacking
+from program import ROOT
+
+BINDINGS = ROOT / "bindings"
+NETWORKS = (("4", "0", "1", "0"), ("7", "2", "5", "2"), ("5", "4", "3", "1"), ("4", "-", "2", "2"), ("10", "3", "10", "4"))
+RANDOM_SCRIPTS, RANDOM_LINES = 4, 500
+LIVES = 1500
+LEAST = {"scripts": 80, "random lines": 10_000, "comparisons": 400, "resolver's lines": 6000, "lives": LIVES}
+SWAPPED = ("CONSTRUCT_NOTARIZE", "CONSTRUCT_FINALIZE")
+REASONS = ("Retry", "Inactivity", "LeaderNullify", "MissingProposal", "FailedCertification")
+
+
+def random_script(seed, length=RANDOM_LINES):
+    """Lines round a view that rises: calls of every kind, and now and then a restart."""
+    drawn, now, base, lines = random.Random(seed), 0, 1, []
+    for place in range(length):
+        now += drawn.randrange(40)
+        base += drawn.randrange(3) if drawn.random() < 0.03 else 0
+        view = max(0, base + drawn.randrange(-2, 5))
+        block = f"{view} {max(0, view - drawn.choice((1, 1, 1, 1, 2, 3)))} {drawn.choice((view, view, view, view + 100))}"
+        lines.append(drawn.choice((
+            f"notarization {block}", f"notarization {block}", f"nullification {view} {now}", f"finalization {block} {now}", f"proposal {block}",
+            f"proposal {block}", "propose", f"proposed {view} {view} {now}", "verify", "verify", f"verified {view}", f"rejected {view} {now}",
+            f"supersede {view}", f"abandon {view}", f"release {view}", f"notarize {view}", f"notarize {view}", f"nullify {view}", f"finalize {view}",
+            "candidates", f"token {view} {place}", f"verdict {view} {'true' if drawn.random() < 0.8 else 'false'} {now}", f"verdict {view} true {now}",
+            f"broadcast {drawn.choice(('notarization', 'nullification', 'finalization'))} {view}", "best",
+            f"trigger {view} {drawn.choice(REASONS)} {now}", f"timeout {now}", "prune", "record", "view",
+            drawn.choice((f"restart 0 {now}", f"restart 1 {now}", f"restart-pruned 0 {now}", "view", "view", "view", "view")),
+        )))
+    return lines
+
+
+def resolver_script(seed, length=RANDOM_LINES):
+    """Lines for a resolver whose replay has ended: certificates and verdicts round a view that rises, and what it is asked."""
+    drawn, base, lines = random.Random(seed), 3, ["replayed"]
+    for _ in range(length - 1):
+        base += drawn.randrange(3) if drawn.random() < 0.1 else 0
+        view = max(0, base + drawn.randrange(-3, 9))
+        lines.append(drawn.choice((
+            f"notarization {view}", f"nullification {view}", f"nullification {view}", f"certified {view} {'true' if drawn.random() < 0.7 else 'false'}",
+            f"finalization {max(0, view - 6)}" if drawn.random() < 0.3 else f"nullification {view}", f"settled {view} notarization",
+            f"settled {view} nullification", f"key-settled {view}", f"uncertifiable {view}",
+        )))
+    return lines
+
+
+def run(command, lines):
+    """What a caller writes, with its status."""
+    ended = subprocess.run(command, input="".join(f"{line}\n" for line in lines).encode(), stdout=subprocess.PIPE, check=False)
+    return ended.returncode, ended.stdout
+
+
+def differing(path, callers, arguments, lines):
+    """The callers whose replies to the lines are not the program's, each with the first line that they differ in."""
+    wanted = run((path, *arguments), lines)
+    for name, command in callers.items():
+        found = run((*command[:1], *arguments, *command[1:]), lines)
+        if found != wanted:
+            pairs = zip(lines, wanted[1].decode().splitlines(), found[1].decode().splitlines())
+            first = next((f"{line!r}: {reply!r}, and not {other!r}" for line, reply, other in pairs if reply != other), f"it ended with {found[0]}")
+            yield f"{name} {' '.join(arguments)}: {first}"
+
+
+def compiled(source, include, archive, made):
+    """A caller in C."""
+    subprocess.run(["cc", "-std=c11", "-Wall", "-Wextra", "-Werror", "-O2", f"-I{include}", source, archive, "-o", made], check=True)
+    return made
+
+
+def cargo(folder, target, archive, *words):
+    """Runs cargo in a package, over the archive; nothing is taken from a network."""
+    surroundings = {**os.environ, "SIMPLEX_ARCHIVE": str(archive), "CARGO_TARGET_DIR": str(target), "CARGO_NET_OFFLINE": "true"}
+    subprocess.run(["cargo", *words], cwd=folder, env=surroundings, check=True, stdout=subprocess.DEVNULL, stderr=subprocess.PIPE)
+
+
+def rust_caller(folder, target, archive):
+    """The example of the package."""
+    cargo(folder, target, archive, "build", "--quiet", "--example", "first_script")
+    return target / "debug/examples/first_script"
+
+
+def swapped(text):
+    """A text in which two kinds of calls have each other's names."""
+    one, other = SWAPPED
+    return text.replace(one, "\0").replace(other, one).replace("\0", other)
+
+
+def wrong_callers(room, archive):
+    """Both callers with two kinds swapped where their numbers are declared."""
+    include, package = room / "wrong-include", room / "wrong-package"
+    include.mkdir()
+    header = (BINDINGS / "c/include/simplex.h").read_text()
+    (include / "simplex.h").write_text("".join(swapped(line) if "CONSTRUCT_" in line else line for line in header.splitlines(keepends=True)))
+    shutil.copytree(BINDINGS / "rust", package, ignore=shutil.ignore_patterns("target"))
+    member = package / "src/member.rs"
+    member.write_text("".join(swapped(line) if "const CONSTRUCT_" in line else line for line in member.read_text().splitlines(keepends=True)))
+    yield "C", (compiled(BINDINGS / "c/examples/script.c", include, archive, room / "wrong_script"),)
+    yield "Rust", (rust_caller(package, room / "wrong-target", archive),)
+
+
+def compare(path, callers, pool):
+    """What was compared, and what differs."""
+    voters = [(it.arguments, it.lines[:len(it.replies)]) for it in scripts.all_scripts() if it.is_voter]
+    drawn = [(("voter", *network), random_script(100 * place + seed)) for place, network in enumerate(NETWORKS) for seed in range(RANDOM_SCRIPTS)]
+    faults = pool.map(lambda it: [*differing(path, callers, *it)], [*voters, *drawn])
+    comparisons = len(callers) * (len(voters) + len(drawn))
+    seen = Counter({"scripts": len(voters), "random lines": sum(len(lines) for _, lines in drawn), "comparisons": comparisons})
+    return seen, [fault for found in faults for fault in found]
+
+
+def compare_resolvers(path, caller):
+    """What was compared of resolvers, and what differs."""
+    tried = [(("resolver", length), resolver_script(seed)) for length in ("1", "2", "5") for seed in range(4)]
+    faults = [fault for it in tried for fault in differing(path, {"Rust": (caller,)}, *it)]
+    return Counter({"resolver's lines": sum(len(lines) for _, lines in tried)}), faults
+
+
+def try_lives(room, archive):
+    """What the caller that begins and lets go many members does, under valgrind where that is there."""
+    lives = compiled(BINDINGS / "c/examples/lives.c", BINDINGS / "c/include", archive, room / "lives")
+    watch = ["valgrind", "-q", "--leak-check=full", "--error-exitcode=9"] if shutil.which("valgrind") else []
+    ended = subprocess.run([*watch, lives, str(LIVES)], stdout=subprocess.PIPE, check=False)
+    return Counter({"lives": LIVES if ended.returncode == 0 else 0}), [] if ended.returncode == 0 else [f"lives ended with {ended.returncode}"]
+
+
+def package_faults(target, archive):
+    """Which of the package's own tests and lints fail."""
+    for words in (("test", "--quiet"), ("clippy", "--quiet", "--all-targets", "--", "-D", "warnings"), ("fmt", "--check")):
+        if shutil.which(f"cargo-{words[0]}") or words[0] == "test":
+            try:
+                cargo(BINDINGS / "rust", target, archive, *words)
+            except subprocess.CalledProcessError as error:
+                yield f"cargo {words[0]}: {error.stderr.decode()[-2000:]}"
+
+
+def try_all(given, room, pool):
+    """What was tried, and what is wrong."""
+    path = program.find(given.program, room)
+    archive = given.archive and given.archive.resolve() or room / "libsimplex.a"
+    if not given.archive:
+        subprocess.run([BINDINGS / "build", "--unproved", "--out", archive], check=True)
+    target = room / "target"
+    in_c, in_rust = compiled(BINDINGS / "c/examples/script.c", BINDINGS / "c/include", archive, room / "script"), rust_caller(BINDINGS / "rust", target, archive)
+    callers = {"C": (in_c,), "Rust": (in_rust,), "C, resumed": (in_c, "resume"), "Rust, resumed": (in_rust, "resume")}
+    seen, faults = compare(path, callers, pool)
+    cargo(BINDINGS / "rust", target, archive, "build", "--quiet", "--example", "resolver")
+    resolved, others = compare_resolvers(path, target / "debug/examples/resolver")
+    lived, more = try_lives(room, archive)
+    faults += [*others, *more, *package_faults(target, archive)]
+    for name, command in wrong_callers(room, archive):
+        if not compare(path, {name: command}, pool)[1]:
+            faults.append(f"{name} with two kinds swapped is not told from the right one")
+    return seen + resolved + lived, faults
+
+
+def main():
+    parser = argparse.ArgumentParser(description=__doc__, formatter_class=argparse.RawDescriptionHelpFormatter)
+    program.add_option(parser)
+    parser.add_argument("--archive", type=Path, help="the library, if it is built already")
+    parser.add_argument("--jobs", type=int, default=2, help="how many scripts go side by side")
+    given = parser.parse_args()
+    missing = [tool for tool in ("cargo", "cc") if not shutil.which(tool)]
+    if missing:
+        print(f"bindings: not tried, since {' and '.join(missing)} is not here")
+        return 0
+    start = time.monotonic()
+    with tempfile.TemporaryDirectory() as folder, ThreadPoolExecutor(given.jobs) as pool:
+        seen, faults = try_all(given, Path(folder), pool)
+    faults += lacking(seen, LEAST)
+    print(f"bindings: {', '.join(f'{count} {what}' for what, count in seen.items())}; {len(faults)} wrong; {time.monotonic() - start:.1f} s")
+    print("".join(f"  {fault}\n" for fault in faults), end="")
+    return 1 if faults else 0
+
+
+if __name__ == "__main__":
+    sys.exit(main())
