@@ -15,7 +15,7 @@ use simplex_types::types::{Digest, Elector, Proposal, Scheme};
 pub fn a_view_is_finalized_once<S: Scheme<D>, L: Elector<S>, D: Digest>(
     member: &LawfulMember<S, L, D>,
 )
-    ensures { OfAllDone D.eq L.elect member.now (λ term_length i all. FinalizesOneProposal all) }
+    ensures { OfAllDone D.eq L.elect member.now.facts (λ term_length i all. FinalizesOneProposal all) }
 {
     member.keeps_the_laws();
 }

@@ -8,6 +8,7 @@ ghost use Rattle.std.specs.Prelude.{◌≡◌, ◌++◌, OnOk, IfOk, IfSome, IsN
 ghost use Rattle.simplex_voter.specs.Serving.{broadcast_notarization_answer};
 ghost use Rattle.simplex_member.specs.Calls.{told_finalize};
 ghost use Rattle.simplex_member.specs.Made.{vote_entry};
+ghost use Rattle.simplex_member.specs.Signed.{signed_finalize};
 ghost use Rattle.simplex_member.specs.Typed.{HasNoneLeft};
 
 use simplex_member::member::{Member, Refusal};
@@ -50,12 +51,13 @@ pub fn finalize_twice<S: Scheme<D>, L: Elector<S>, D: Digest>(
     Ok(Some((first, second)))
 }
 
-/// A vote to finalize a view, which is the last entry of the record when it is answered.
+/// A vote to finalize a view, which is the last entry of the record when it is answered, with the very signature.
 pub fn finalize<S: Scheme<D>, L: Elector<S>, D: Digest>(
     member: &mut Member<S, L, D>,
     view: View,
 ) -> Result<Option<Finalize<S, D>>, Refusal>
-    ensures { IfOk result (λ vote. member.new.entries ≡ member.old.entries ++ vote_entry (told_finalize vote)) }
+    ensures recorded { IfOk result (λ vote. member.new.facts.entries ≡ member.old.facts.entries ++ vote_entry (told_finalize vote)) }
+    ensures signed { IfOk result (λ vote. member.new.votes ≡ member.old.votes ++ signed_finalize vote) }
 {
     member.construct_finalize(view)
 }
@@ -66,7 +68,7 @@ pub fn broadcast_twice<S: Scheme<D>, L: Elector<S>, D: Digest>(
     view: View,
 ) -> Result<(Option<Certificate<S, D>>, Option<Certificate<S, D>>), Refusal>
     ensures once { IfOk result (λ handed. IsNone handed.1) }
-    ensures none_left { OnOk result (HasNoneLeft broadcast_notarization_answer member.new view) }
+    ensures none_left { OnOk result (HasNoneLeft broadcast_notarization_answer member.new.facts view) }
 {
     let first = member.broadcast_notarization(view)?;
     let second = member.broadcast_notarization(view)?;

@@ -17,5 +17,5 @@ use Rattle.example_engine.specs.Sealing.{seal_bytes}
 abbrev pub IsMade : Topic → CoreCallFacts → Driver → Driver → Type 0
 IsMade topic call old new =
     (reply : Reply SealScheme BlockDigest MemberKey Signature Seal)
-    × IsCall same_block leader_of_round old.member call (told seal_bytes reply) new.member
+    × IsCall same_block leader_of_round old.member.facts call (told seal_bytes reply) new.member.facts
     × (new.owed.items ≡ old.owed.items ++ (record { topic = topic; reply = reply }) ∷ [])

@@ -55,6 +55,8 @@ pub struct Driver {
 }
 
 impl Driver {
+    ghost use Rattle.simplex_member.specs.Pruning.{pruned_member};
+    ghost use Rattle.example_engine.specs.Journals.{HoldsAll};
     ghost use Rattle.example_engine.specs.Owing.{IsMade};
 
     /// With nothing owed.
@@ -78,7 +80,7 @@ impl Driver {
 
     /// The state of the core, while it has not failed.
     pub fn state(&self) -> Option<&CoreState>
-        ensures { option_copied result ≡ self.now.member.life }
+        ensures { option_copied result ≡ self.now.member.facts.life }
     {
         self.member.state()
     }
@@ -120,11 +122,32 @@ impl Driver {
     /// Stores what the calls recorded.
     pub fn store(&mut self) -> Result<(), Fault>
         ensures stored { OnOk result (entries_of seal_bytes self.new.journal.entries.items
-            ≡ entries_of seal_bytes self.old.journal.entries.items ++ drop (length self.old.journal.entries.items) self.old.member.entries) }
+            ≡ entries_of seal_bytes self.old.journal.entries.items ++ drop (length self.old.journal.entries.items) self.old.member.facts.entries) }
         ensures member { self.new.member ≡ self.old.member }
         ensures owed { self.new.owed.items ≡ self.old.owed.items }
     {
         self.journal.append(&self.member)
+    }
+
+    /// Prunes the member's record within its life, and stores what is left in place of all that was stored.
+    ///
+    /// Without memory the journal keeps what it had, from which a member goes on as well; then the process has to end, since
+    /// the journal no longer tells which entries it lacks.
+    pub fn compact(&mut self) -> Result<(), Fault>
+        ensures member { self.new.member.facts ≡ pruned_member self.old.member.facts }
+        ensures stored { OnOk result (HoldsAll self.new.member.facts self.new.journal) }
+        ensures kept { OnErr result (self.new.journal ≡ self.old.journal) }
+        ensures owed { self.new.owed.items ≡ self.old.owed.items }
+    {
+        self.member.prune_record();
+        self.journal.compact(&self.member)
+    }
+
+    /// How many entries the journal holds.
+    pub fn stored_entries(&self) -> usize
+        ensures { result ≡ length self.now.journal.entries.items }
+    {
+        self.journal.count()
     }
 
     /// This member's vote of the kind and view as it leaves: stored, and read from what is stored.

@@ -1,7 +1,8 @@
 //! The journal: what a member's record holds, on a disk that outlives the process.
 //!
-//! It owes two things. A vote leaves only once it is stored: votes are handed out from what is stored, and not from what
-//! the core answered. And a member goes on from exactly what was stored last.
+//! It owes three things. A vote leaves only once it is stored: votes are handed out from what is stored, and not from what
+//! the core answered. A member goes on from exactly what was stored last. And it stays short: when the member's record was
+//! pruned within the life, what is left takes the place of all that was stored.
 //!
 //! The disk is a vector here. A real one writes each entry in bytes of its own, and syncs it before `append` returns.
 
@@ -34,7 +35,7 @@ impl Journal {
 
     /// The journal of a member whose life has just begun: its whole record is stored, in place of what was there.
     pub fn open(alloc: Global, member: &Core) -> Result<Journal, Fault>
-        ensures { IfOk result (HoldsAll member.now) }
+        ensures { IfOk result (HoldsAll member.now.facts) }
     {
         Ok(Journal {
             alloc,
@@ -53,12 +54,25 @@ impl Journal {
     /// Stores what the member's record has behind the entries that are stored.
     pub(crate) fn append(&mut self, member: &Core) -> Result<(), Fault>
         ensures stored { OnOk result (entries_of seal_bytes self.new.entries.items
-            ≡ entries_of seal_bytes self.old.entries.items ++ drop (length self.old.entries.items) member.now.entries) }
+            ≡ entries_of seal_bytes self.old.entries.items ++ drop (length self.old.entries.items) member.now.facts.entries) }
         ensures kept { OnErr result (self.new.entries.items ≡ self.old.entries.items) }
         ensures same { self.new.stored ≡ self.old.stored }
     {
         let mut fresh = copies(self.alloc, member.record_since(self.entries.len()))?;
         self.entries.append(&mut fresh)?;
+        Ok(())
+    }
+
+    /// Stores the member's record as it stands in place of all that was stored: what a pruning within the life left of it.
+    ///
+    /// In one step: a real journal writes a file beside its own, syncs it, and renames it, so that a process which ends in
+    /// between finds the longer journal or the shorter one, whole. Where there is no memory it keeps what it had.
+    pub(crate) fn compact(&mut self, member: &Core) -> Result<(), Fault>
+        ensures stored { OnOk result (HoldsAll member.now.facts self.new) }
+        ensures kept { OnErr result (self.new ≡ self.old) }
+    {
+        self.entries = copies(self.alloc, member.record())?;
+        self.stored = member.stored();
         Ok(())
     }
 
@@ -72,7 +86,7 @@ impl Journal {
     ) -> Result<Option<Vote>, Fault>
         ensures stored { IfOk result (λ vote. IfSome vote (λ v. Contains self.new.entries.items (entry_of v))) }
         ensures grown { OnOk result (entries_of seal_bytes self.new.entries.items
-            ≡ entries_of seal_bytes self.old.entries.items ++ drop (length self.old.entries.items) member.now.entries) }
+            ≡ entries_of seal_bytes self.old.entries.items ++ drop (length self.old.entries.items) member.now.facts.entries) }
     {
         self.append(member)?;
         vote_in(self.alloc, &self.entries, kind, view)
@@ -81,8 +95,8 @@ impl Journal {
     /// The member that goes on from what is stored, in a process of its own, and the journal of its new life.
     pub fn resume(&self, start: CoreStart) -> Result<(Core, Journal), ResumeError>
         requires { members_of start.settings.elector ≡ length (seal_keys start.settings.scheme) }
-        ensures resumed { IfOk result (λ made. GoesOnFrom self.now start made.0) }
-        ensures stored { IfOk result (λ made. HoldsAll made.0 made.1) }
+        ensures resumed { IfOk result (λ made. GoesOnFrom self.now start made.0.facts) }
+        ensures stored { IfOk result (λ made. HoldsAll made.0.facts made.1) }
     {
         let Ok(entries) = copies(self.alloc, &self.entries) else {
             return Err(NO_MEMORY);

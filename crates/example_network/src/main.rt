@@ -20,7 +20,7 @@ use std::{env, io};
 use world::World;
 
 const USAGE: &str =
-    "usage: example_network [--views N]   (N from 1 to 1000, 100 if none is given) | --help";
+    "usage: example_network [--views N]   (N from 1 to 10000, 100 if none is given) | --help";
 
 const USAGE_STATUS: u8 = 2;
 

@@ -19,6 +19,9 @@ use std::alloc::Global;
 mod answers;
 mod arrivals;
 
+/// A journal with more entries than this is made short. A view leaves up to six: three certificates, two votes and a verdict.
+const MOST_ENTRIES: usize = 256;
+
 /// The most answers that are carried out in a row.
 const MOST_ANSWERS: u32 = 100_000;
 
@@ -121,6 +124,11 @@ impl Node {
         }
     }
 
+    /// How many entries are on the disk.
+    pub(crate) fn stored_entries(&self) -> usize {
+        self.driver.stored_entries()
+    }
+
     /// How many fetches are open.
     pub(crate) fn open_fetches(&self) -> usize {
         self.resolver.fetches().len()
@@ -173,13 +181,18 @@ impl Node {
         self.driver.call(Topic::Next, call)
     }
 
-    /// Carries out all that is owed, then asks for the next timeout and for what can be forgotten, and stores the record.
+    /// Carries out all that is owed, then asks for the next timeout and for what can be forgotten, and stores the record, made
+    /// short where it has grown long.
     fn settle(&mut self, now: u64) -> Result<(), Fault> {
         self.carry_out_all(now)?;
         self.ask(Call::NextTimeout(now))?;
         self.ask(Call::Prune)?;
         self.carry_out_all(now)?;
-        self.driver.store()
+        self.driver.store()?;
+        if self.driver.stored_entries() > MOST_ENTRIES {
+            self.driver.compact()?;
+        }
+        Ok(())
     }
 
     /// Carries out what is owed. What is left after very many answers waits for the next event.

@@ -1,7 +1,7 @@
 //! The program's arguments.
 
 /// The most views that can be asked for.
-const MOST_VIEWS: u64 = 1000;
+const MOST_VIEWS: u64 = 10_000;
 
 /// What the arguments ask for.
 #[derive(Clone, Copy)]
@@ -13,7 +13,7 @@ pub enum Options {
 
 impl Options {
     /// What the arguments after the program's name ask for: nothing, a hundred views; `--help`; or `--views` and a number
-    /// from 1 to 1000.
+    /// from 1 to 10000.
     pub(crate) fn read(arguments: &[String]) -> Option<Options> {
         match arguments {
             [] => Some(Options::Run(100)),

@@ -44,6 +44,7 @@ impl Tally {
         member: u8,
         last: View,
         open: usize,
+        stored: usize,
     ) -> Result<(), io::Error> {
         let Tally {
             finalized,
@@ -53,7 +54,7 @@ impl Tally {
         } = *self;
         let (last, ended) = (last.get(), fetches.saturating_sub(open as u64));
         println!(rt;
-            "member {member}: {finalized} finalized, the last view {last}, {nullified} nullified, {restarts} restarts, fetches {fetches} opened and {ended} ended"
+            "member {member}: {finalized} finalized, the last view {last}, {nullified} nullified, {restarts} restarts, fetches {fetches} opened and {ended} ended, {stored} entries on its disk"
         )
     }
 }

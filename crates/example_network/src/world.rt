@@ -297,7 +297,7 @@ impl Seat {
         match &self.node {
             Some(node) => {
                 let (last, open) = (node.last_finalized(), node.open_fetches());
-                self.tally.print(rt, me, last, open)
+                self.tally.print(rt, me, last, open, node.stored_entries())
             }
             None => Ok(()),
         }

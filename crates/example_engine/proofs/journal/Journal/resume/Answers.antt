@@ -13,5 +13,5 @@ pub returns-in-Ok-open-clause-resumed : goal.returns-in-Ok-open-clause-resumed
 returns-in-Ok-open-clause-resumed c =
     let Goes : List (ArtifactFacts BlockDigest) → Type 0 = λ entries.
     IsResumed same_block leader_of_round c.args.self.now.stored entries
-    (start_facts seal_signer seal_keys terms_of (λ _. true) seal_bytes c.args.start) c.in-Ok-resume.member in
+    (start_facts seal_signer seal_keys terms_of (λ _. true) seal_bytes c.args.start) c.in-Ok-resume.member.facts in
     subst Goes (c.in-Ok.ensures ∙ ap (entries_of seal_bytes) c.deref.ensures.value) c.in-Ok-resume.ensures.resumed
