@@ -52,8 +52,8 @@ def pruned_at_once(count):
 
 
 def restarted(count):
-    """Certificates, with a new life begun from the record at each thousandth."""
+    """Certificates, with a new life begun from the record four times."""
     for view in range(1, count + 1):
         yield f"notarization {view} {view - 1} 7 => added true -"
-        if view % 1000 == 0:
+        if view % (count // 4) == 0:
             yield f"restart 0 {view} => ok"

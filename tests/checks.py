@@ -28,14 +28,18 @@ class Record:
     def restart(self, line):
         """What a restart that succeeds leaves: it drops last entries, but no vote and nothing before one."""
         words = line.split(" ")
-        if words[0] == "crash":
+        if not words[0].startswith("restart"):
             return
         left = int(words[1])
         while left and len(self.entries) > self.closed and not self.entries[-1][0]:
             self.entries.pop()
             left -= 1
         if words[0] == "restart-pruned":
-            self.closed = len(self.entries)
+            self.close()
+
+    def close(self):
+        """What stays behind a pruning is dropped no more."""
+        self.closed = len(self.entries)
 
     def covers(self, terms, view):
         """Whether one of them covers a view."""
@@ -68,6 +72,8 @@ class MemberLaws:
             self.record.add()
         elif is_restart(line):
             self._take_restart(line, reply)
+        elif line == "compact" and reply == "ok":
+            self.record.close()
         elif line == "view" and reply.startswith("view "):
             self._take_views(tuple(map(int, reply.split(" ")[1:])))
         elif line.startswith("broadcast ") and reply == line[len("broadcast "):]:

@@ -2,7 +2,7 @@
 """That what stands twice in the repository stands there with the same content.
 
 The program is deterministic: the same lines behind the same arguments have the same reply wherever they are written, in the
-tables of `crates/simplex_program_tests/src/program`, in the README, `docs/PROGRAM.md`, the program's own run and the stored schedules. And
+tables of `crates/simplex_program_tests/src/program`, in `docs/PROGRAM.md`, the program's own run and the stored schedules. And
 copies of source, output, numbers and names in the docs are those of what they are copied from. A must-fail edit names a text of
 the source, which still stands there.
 
@@ -27,6 +27,7 @@ from refusals import USAGE
 from scripts import ANY
 
 SAMPLE = "crates/simplex_member_tests/src/member/sample.rt"
+PACKAGE = "bindings/rust/src/lib.rs"
 DRAWN = "skipped-by-one"
 LEAST = {"lines with replies": 2500, "wrong bodies": 15, "must-fail edits": 120}
 
@@ -46,8 +47,8 @@ def table_rows(path):
 
 
 def first_script():
-    """The rows of the README's first script: each line with its reply."""
-    rows = next(block for block in blocks("README.md", "text") if block.startswith("propose ")).splitlines()
+    """The rows of the first script: each line with its reply."""
+    rows = next(block for block in blocks("docs/PROGRAM.md", "text") if block.startswith("propose ")).splitlines()
     return [tuple(re.split(r" {2,}", row, maxsplit=1)) for row in rows]
 
 
@@ -55,7 +56,7 @@ def told_texts():
     """Each place where lines and replies are told: its name, the program's arguments, and the pairs."""
     for script in scripts.all_scripts():
         yield script.shows, script.arguments, zip(script.lines, script.replies)
-    yield "README.md", ("voter", "4", "0", "1", "0"), first_script()
+    yield "docs/PROGRAM.md, the first script", ("voter", "4", "0", "1", "0"), first_script()
     words, lines, replies = (text_of(f"crates/viewstate/{name}").splitlines() for name in ("args", "stdin", "stdout"))
     yield "crates/viewstate/stdout", tuple(words), zip(lines, replies)
     resolver = text_of("docs/PROGRAM.md").partition("    viewstate resolver 5\n")[2]
@@ -88,9 +89,11 @@ def source_copies():
     """Texts that stand elsewhere as a file, or as a part of one."""
     lines = [f"{line}\n" for line, *_ in first_script()]
     if text_of("docs/first-script.txt") != "".join(lines):
-        yield "docs/first-script.txt is not the README's first script"
-    sample = text_of(SAMPLE).replace("\n    ", "\n")
-    yield from (f"the README's sample is not in {SAMPLE}" for block in blocks("README.md", "rust") if block not in sample)
+        yield "docs/first-script.txt is not the first script of docs/PROGRAM.md"
+    samples = text_of(SAMPLE).replace("\n    ", "\n"), re.sub("^//! ?", "", text_of(PACKAGE), flags=re.MULTILINE)
+    for block in blocks("README.md", "rust"):
+        if not any(block in sample for sample in samples):
+            yield f"a sample of the README is neither in {SAMPLE} nor in {PACKAGE}"
     printed = text_of("crates/example_network/stdout")
     for block in blocks("docs/ENGINE.md", "text"):
         yield from (f"docs/ENGINE.md: not printed: {part}" for part in block.split("...\n") if part not in printed)
@@ -116,8 +119,8 @@ def listed_names():
     """The crates that stand, and the wrong bodies that are tried, as the pages list them."""
     crates = {path.name for path in (ROOT / "crates").iterdir() if (path / "src").is_dir()}
     listed = {line.partition(":")[0].split(" ")[0] for line in text_of("crates.txt").splitlines()}
-    told = {first.strip("`") for first, _ in table_rows("README.md") if first.strip("`") in crates | listed}
-    yield from (f"{what} has other crates than stand: {names ^ crates}" for what, names in (("crates.txt", listed), ("README.md", told)) if names != crates)
+    told = set(re.findall(r"^\| `(\w+)` \|", text_of("docs/DESIGN.md"), re.MULTILINE)) & (crates | listed)
+    yield from (f"{what} has other crates than stand: {names ^ crates}" for what, names in (("crates.txt", listed), ("docs/DESIGN.md", told)) if names != crates)
     for name in wrong_bodies.ALL_WRONG:
         if name.split("/")[1] not in text_of("docs/TESTED.md"):
             yield f"docs/TESTED.md does not tell of the wrong body {name}"

@@ -89,7 +89,8 @@ class HostileRun:
 
     def restart(self, index):
         if self.network.served.crashes and self.chance.random() < 0.5:
-            self.network.ask(index, f"crash {self.network.now}")
+            life = self.chance.choice(("crash", "crash", "lose-compaction"))
+            self.network.ask(index, f"{life} {self.network.now}")
             return
         word = self.chance.choice(("restart", "restart-pruned"))
         self.network.ask(index, f"{word} {self.chance.choice((0, 1, 2, 5, 100))} {self.network.now}")
@@ -97,7 +98,8 @@ class HostileRun:
     def time_out(self, index):
         current, _ = self.views[index]
         self.waited[index] = 0
-        self.network.ask_all(index, [f"timeout {self.network.now}", f"nullify {current}", "prune"])
+        compacts = self.network.served.crashes and self.chance.random() < 0.5
+        self.network.ask_all(index, [f"timeout {self.network.now}", f"nullify {current}", "prune", *["compact"] * compacts])
 
     def work(self, index):
         """The member is told certificates and proposals, and does what they open."""

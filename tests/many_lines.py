@@ -6,7 +6,9 @@ Each part is run with a tenth of the lines and with all of them, and the peaks o
   shown        a voter is asked what leaves nothing behind, over and over: each round has the replies of the first
   told         a resolver is told certificates that it has, and finalizations that rise
   pruned       a voter finalizes view after view, and begins a new life from a pruned record now and then
-  recorded     the same without restarts, with a tenth of the lines: each entry of the record may take so many bytes, and the
+  compacted    the same without restarts, asked of `enduring`: the record is pruned within the life now and then, and what is
+               left takes the journal's place; in the end it has less than a thousand entries
+  recorded     the same with neither, with a tenth of the lines: each entry of the record may take so many bytes, and the
                record has as many as the lines add
 
     tests/many_lines.py                       200,000 lines a part
@@ -30,6 +32,8 @@ RESOLVER = ("resolver", "5")
 SPARE = 2048
 BYTES_OF_AN_ENTRY = 300
 VIEWS_A_LIFE = 200
+VIEWS_A_COMPACTION = 100
+MOST_ENTRIES = 1000
 NOT_SERVED = (b"fault", b"refused", b"not-allowed")
 STANDING = (
     "notarization 1 0 7", "verdict 1 true 10", "finalize 1", "proposal 2 1 8", "verify", "verified 2", "notarize 2", "notarization 3 2 9",
@@ -84,10 +88,18 @@ def pruned_lines():
         yield f"restart-pruned 0 {now}"
 
 
+def compacted_lines():
+    lines = recorded_lines()
+    while True:
+        yield from islice(lines, VIEWS_A_COMPACTION * 5)
+        yield "compact"
+
+
 PARTS = (
     Part("shown", VOTER, shown_lines, 1, 0),
     Part("told", RESOLVER, told_lines, 1, 0),
     Part("pruned", VOTER, pruned_lines, 1, 0),
+    Part("compacted", ("member", *VOTER), compacted_lines, 1, 0),
     Part("recorded", VOTER, recorded_lines, 0.1, 0.8),
 )
 
@@ -114,7 +126,8 @@ def peak_of(process):
 
 def peak(path, part, count):
     """The peak of memory of a run of so many lines, in KiB."""
-    with subprocess.Popen([path, *part.arguments], stdin=subprocess.PIPE, stdout=subprocess.PIPE) as running:
+    errors = subprocess.DEVNULL if part.arguments[0] == "member" else None
+    with subprocess.Popen([path, *part.arguments], stdin=subprocess.PIPE, stdout=subprocess.PIPE, stderr=errors) as running:
         writer = Thread(target=write_lines, args=(running.stdin, islice(part.lines(), count)), daemon=True)
         writer.start()
         look = of_rounds if part.name == "shown" else of_served
@@ -123,12 +136,14 @@ def peak(path, part, count):
             raise NotBounded(f"{replies} replies to {count} lines, and status {running.wait()}")
         reached = peak_of(running.pid)
         writer.join()
-        entries = entries_of(running) if part.entries_a_line else 0
+        entries = entries_of(running) if part.arguments != RESOLVER else 0
         running.stdin.close()
         if running.wait() != 0:
             raise NotBounded(f"it ended with status {running.returncode}")
     if entries < int(count * part.entries_a_line):
         raise NotBounded(f"{count} lines left {entries} entries alone")
+    if entries > MOST_ENTRIES and not part.entries_a_line:
+        raise NotBounded(f"{count} lines left {entries} entries")
     return reached
 
 
@@ -179,11 +194,12 @@ def try_part(path, part, lines):
 def main():
     parser = argparse.ArgumentParser(description=__doc__, formatter_class=argparse.RawDescriptionHelpFormatter)
     program.add_option(parser)
+    program.add_enduring_option(parser)
     parser.add_argument("--lines", type=int, default=200_000, help="how many lines a part has")
     given = parser.parse_args()
     with tempfile.TemporaryDirectory() as folder:
-        path = program.find(given.program, folder)
-        failed = [part.name for part in PARTS if not try_part(path, part, given.lines)]
+        path, enduring = program.find(given.program, folder), program.find_enduring(given.enduring, folder)
+        failed = [it.name for it in PARTS if not try_part(enduring if it.arguments[0] == "member" else path, it, given.lines)]
     return 1 if failed else 0
 
 

@@ -7,7 +7,8 @@ tests, and the Nth request for memory within the core fails, for each N until a 
   a voter's state      the failing call fails it, and each later one is refused; after a refusal in `best` it goes on
   a member             nothing has changed, and the call asked again answers as ever; or it has failed, its record stands, and a
                        restart goes on with the laws of votes over both lives
-  restart, resume, recover, and the start of a resolver   the record stays, and what is asked again answers as ever
+  restart, resume, recover, and the start of a resolver   the record stays, and what is asked again answers as ever; what the start
+                       of a resolver only notes to find it sooner it does without
   run                  no replies, or those of a member that failed
   a resolver           as a voter's state, and `produce` as `best`; the set of open fetches is that of a beginning of the effects
 
@@ -43,6 +44,7 @@ LEAST = {
     "requests refused to a resolver's state": 1200, "requests refused to a kept resolver": 1200, "members restarted": 550,
     "calls asked again": 130, "restarts begun again": 330, "resumes begun again": 700, "recoveries begun again": 600,
     "resolvers begun again": 470, "best asked again": 130, "sets of a beginning of the effects": 1200,
+    "requests that a replay did without": 80,
 }
 
 

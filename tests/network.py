@@ -12,7 +12,8 @@ from protocol import certificate_in, is_restart, vote_in
 
 OUT_OF_MEMORY = ("fault 1 OutOfMemory", "refused 13 OutOfMemory")
 FAILED = "fault 2 Failed"
-CRASH = "crash "
+CRASHES = ("crash ", "lose-compaction ")
+COMPACT = "compact"
 MOST_TRIES = 1000
 
 
@@ -38,6 +39,7 @@ class Network:
         self.log = []
         self.restarts = 0
         self.crashes = 0
+        self.compactions = 0
         self.refusals = 0
         self.saw = Counter()
         self.members = {index: Member(served, members, index, terms) for index in self.correct}
@@ -80,7 +82,8 @@ class Network:
     def _take(self, index, line, reply):
         self.log.append((index, line, reply))
         self.restarts += is_restart(line)
-        self.crashes += line.startswith(CRASH)
+        self.crashes += line.startswith(CRASHES)
+        self.compactions += line == COMPACT and reply == "ok"
         vote = self.member_laws[index].take(line, reply) if self.watches_votes else vote_in(line, reply)
         if self.watches_votes and is_restart(line) and reply != "ok" and reply not in OUT_OF_MEMORY:
             raise Broken(f"member {index}: {line!r} was refused: {reply}")

@@ -57,7 +57,7 @@ LEAST_OF_A_HUNDRED = {
         "with votes above all current views": 8, "with certificates backed that nobody holds": 8, "with views pruned": 4, "with a false verdict": 2,
     },
 }
-LEAST_CRASHES_OF_A_HUNDRED = {"random": {"crashes": 500}, "fair": {"crashes": 10}, "progress": {"crashes": 200}}
+LEAST_CRASHES_OF_A_HUNDRED = {"random": {"crashes": 500, "compactions": 300}, "fair": {"crashes": 10}, "progress": {"crashes": 200}}
 LEAST_REFUSED_OF_A_HUNDRED = {"random": {"requests refused": 1000}, "fair": {"requests refused": 1000}, "progress": {"requests refused": 200}}
 MANY_RUNS = 50
 STEPS, GOAL = 300, 20
@@ -106,6 +106,7 @@ def tally(network):
         "conflicts tried": laws.conflicts(),
         "restarts": network.restarts,
         "crashes": network.crashes,
+        "compactions": network.compactions,
         "requests refused": network.refusals,
         "runs with more than f faulty": len(network.faulty) > (network.size - 1) // 3,
     }) + network.saw

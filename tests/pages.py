@@ -23,6 +23,7 @@ RUST_USE = re.compile(r"^\s*(?:pub )?use ([\w:]+?)(?:::\{([^}]*)\})?;", re.MULTI
 RATTLE_PATH = re.compile(r"^Rattle\.([^\s{]+?)(?:\.\{([^}]*)\})?$")
 SIBLING = re.compile(r"^((?:\w+\.)*[A-Z]\w*)(?:\.\{([^}]*)\})?$")
 GENERATED = ("Goals", "Given", "Answers", "TheVariants")
+PACKAGE = "bindings/rust/src/lib.rs"
 LEAST = {"paths in blocks": 45, "paths between backquotes": 25, "names": 120}
 
 
@@ -97,6 +98,8 @@ def is_declared(name, text):
 def look_up_rust(path, names):
     """Looks for a path of Rust's, and for names behind it. The last word of a path between backquotes may be a method or a variant."""
     crate, *words = path.split("::")
+    if crate == "simplex_view_state":
+        return look_up_package(names)
     if not (ROOT / "crates" / crate / "src").is_dir():
         if crate == "std" or crate.startswith("my_"):
             return
@@ -114,6 +117,14 @@ def look_up_rust(path, names):
         sources = [file, *folder.rglob("*.rt")]
         if not any(re.search(rf"\bfn {name}\b|^\s*{name}\b", it.read_text(), re.MULTILINE) for it in sources):
             raise LeadsNowhere(f"no {name} of {words[0]} in {file.relative_to(ROOT)}")
+
+
+def look_up_package(names):
+    """Looks for names that the Rust package shows."""
+    shown = " ".join(re.findall(r"^pub use [^{;]*\{([^}]*)\};", (ROOT / PACKAGE).read_text(), re.MULTILINE))
+    for name in names:
+        if not re.search(rf"\b{name}\b", shown):
+            raise LeadsNowhere(f"no {name} in {PACKAGE}")
 
 
 def used_in(block):

@@ -115,4 +115,4 @@ def moment_of(line):
 
 def is_restart(line):
     """Whether a line asks for another life."""
-    return line.startswith(("restart", "crash"))
+    return line.startswith(("restart", "crash", "lose-compaction"))

@@ -36,6 +36,8 @@ class Record:
             self._judge(int(words[1]), words[2] == "true")
         elif is_restart(line) and reply.split(" ")[0] != "fault":
             self._restart(words)
+        elif line == "compact" and reply == "ok":
+            self._prune()
         else:
             self._follow(words, reply)
 
@@ -57,15 +59,19 @@ class Record:
             self.fetches |= {int(pair.split(":")[1]) for pair in fetches.split()}
 
     def _restart(self, words):
-        drop = int(words[1]) if words[0] != "crash" else 0
+        drop = int(words[1]) if words[0].startswith("restart") else 0
         while drop and len(self.entries) > self.closed and self.entries[-1][0] != VOTE:
             self.entries.pop()
             drop -= 1
         if words[0] == "restart-pruned":
-            low = max((it.view for it in self.certificates() if it.kind == FINALIZATION), default=0) - RETENTION
-            self.entries = [it for it in self.entries if view_of(it) >= low]
-            self.closed = len(self.entries)
+            self._prune()
         self.offered, self.building, self.fetches = set(), {}, set()
+
+    def _prune(self):
+        """What a pruning leaves: at a restart, or within a life right behind the state's own prune."""
+        low = max((it.view for it in self.certificates() if it.kind == FINALIZATION), default=0) - RETENTION
+        self.entries = [it for it in self.entries if view_of(it) >= low]
+        self.closed = len(self.entries)
 
     def certificates(self, low=0):
         """Those of views from one on."""

@@ -65,7 +65,8 @@ class Sweep:
         self.seen["requests refused to a member"] += 1
         place = next((place for place, reply in enumerate(told) if reply in (OUT_OF_MEMORY, NOT_RESTARTED)), None)
         if place is None:
-            raise NotAsAsked(f"request {number} is not told of: {told}")
+            self.does_without(number, told, shown)
+            return True
         wants(told[:place] == self.right[:place] and shown[:place] == self.shown[:place], f"request {number}, before it was refused", told)
         if word_of(self.lines[place]) in LIVES:
             self.begins_later(number, place, shown)
@@ -74,6 +75,11 @@ class Sweep:
         else:
             self.asks_again(number, place, shown)
         return True
+
+    def does_without(self, number, told, shown):
+        """The start of a resolver looks through the record where there is no memory to note its places, and all is as ever."""
+        self.seen["requests that a replay did without"] += 1
+        wants("replay" in self.lines and told == self.right and shown == self.shown, f"request {number} is not told of", told)
 
     def before(self, place):
         """Where the member stood before a line, or None before the first one."""

@@ -2,7 +2,8 @@
 """A restart after each call of each script: the laws of a member's votes hold over all replies.
 
 For each script of the repository's tests that asks a voter: a new life after every call, and after each call alone; with
-nothing dropped, with one entry dropped, with the record pruned, and from the journal after a crash, which `enduring` can do.
+nothing dropped, with one entry dropped, with the record pruned, and from the journal after a crash, which `enduring` can do:
+also from one that was made short before, and where the process ends before the shorter one is stored.
 Those of `rows.py`, whose settings change, are asked of `enduring` alone. Replies are not compared with the script's, since a new
 life may answer otherwise. What is checked stands in `checks.py` (`MemberLaws`).
 
@@ -26,7 +27,7 @@ from floors import lacking
 from protocol import Terms, is_restart, moment_of
 
 RESTARTS = ("restart 0", "restart 1", "restart-pruned 0")
-CRASH = "crash"
+RESUMES = ("crash", "lose-compaction", "compact, crash")
 LEAST = {"scripts": 82, "runs": 2100, "lives begun": 4500}
 
 
@@ -37,7 +38,8 @@ def with_restarts(lines, restart, places):
         now = max(now, moment_of(line))
         made.append(line)
         if place in places:
-            made += [f"{restart} {now}", "view"]
+            *before, life = restart.split(", ")
+            made += [*before, f"{life} {now}", "view"]
     return made
 
 
@@ -68,7 +70,7 @@ def try_script(enduring, path, script):
     """What was done with a script, and what was broken. Without the path of `viewstate` all of it is asked of `enduring`."""
     lines = script.lines[:len(script.replies)]
     tried = [broken((path,) if path else (enduring, "member"), script.arguments, it) for it in variants(lines, RESTARTS)]
-    tried += [broken((enduring, "member"), script.arguments, it) for it in variants(lines, (CRASH,))]
+    tried += [broken((enduring, "member"), script.arguments, it) for it in variants(lines, RESUMES)]
     seen = Counter({"scripts": 1, "runs": len(tried), "lives begun": sum(begun for begun, _ in tried)})
     return seen, [f"{script.shows}: {it}" for _, it in tried if it]
 
