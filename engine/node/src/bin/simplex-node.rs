@@ -1,0 +1,81 @@
+//! One member of a network, as a process.
+
+use clap::{Parser, Subcommand};
+use signal_hook::consts::{SIGINT, SIGTERM};
+use signal_hook::iterator::Signals;
+use simplex_node::peers::Event;
+use simplex_node::settings::{Outcome, Settings};
+use simplex_node::{crypto, start};
+use std::fs;
+use std::path::PathBuf;
+use std::process::ExitCode;
+use std::thread;
+use tracing_subscriber::EnvFilter;
+
+/// A member of a network that runs the Simplex protocol.
+#[derive(Parser)]
+#[command(version, args_conflicts_with_subcommands = true)]
+struct Arguments {
+    /// The settings of the node, a TOML file.
+    #[arg(long, required = true)]
+    config: Option<PathBuf>,
+    #[command(subcommand)]
+    command: Option<Command>,
+}
+
+#[derive(Subcommand)]
+enum Command {
+    /// Makes a key: writes the secret one to a new file, and prints the public one.
+    Keygen {
+        /// Where the secret key goes.
+        #[arg(long)]
+        out: PathBuf,
+    },
+    /// Writes the last finalized proposal of a node that does not run, with its certificate: another node can begin there.
+    Floor {
+        /// The settings of that node.
+        #[arg(long)]
+        config: PathBuf,
+        /// Where the certificate goes.
+        #[arg(long)]
+        out: PathBuf,
+    },
+}
+
+fn main() -> ExitCode {
+    let arguments = Arguments::parse();
+    let filter = EnvFilter::try_from_default_env().unwrap_or_else(|_| EnvFilter::new("info"));
+    tracing_subscriber::fmt()
+        .with_env_filter(filter)
+        .with_writer(std::io::stderr)
+        .init();
+    let outcome = match (arguments.command, arguments.config) {
+        (Some(Command::Keygen { out }), _) => crypto::make_key(&out).map(|public| println!("{public}")),
+        (Some(Command::Floor { config, out }), _) => write_floor(&config, &out),
+        (None, Some(config)) => run(&config),
+        (None, None) => Err("--config is lacking".into()),
+    };
+    match outcome {
+        Ok(()) => ExitCode::SUCCESS,
+        Err(error) => {
+            eprintln!("simplex-node: {error}");
+            ExitCode::FAILURE
+        }
+    }
+}
+
+fn write_floor(config: &std::path::Path, out: &std::path::Path) -> Outcome {
+    let bytes = start::floor_of(&Settings::read(config)?)?;
+    fs::write(out, bytes).map_err(|error| format!("{}: {error}", out.display()).into())
+}
+
+fn run(config: &std::path::Path) -> Outcome {
+    let (replica, events) = start::open(Settings::read(config)?)?;
+    let mut signals = Signals::new([SIGINT, SIGTERM])?;
+    thread::Builder::new().name("signals".into()).spawn(move || {
+        for _ in signals.forever() {
+            let _ = events.send(Event::Stop);
+        }
+    })?;
+    replica.run()
+}

@@ -1,0 +1,265 @@
+//! The record on a disk: one file that grows by what each turn recorded, and is replaced in one step when it is compacted.
+//!
+//! It begins with eight letters and a version. Then come pieces: the length of a body and its complement, four bytes each, the body, and
+//! its SHA-256 digest. A body is what is stored beside the record, and the record's frames. So a piece counts whole or not at all: one
+//! that was cut off by a crash was never synced, and no vote of it has left.
+
+use crate::crypto::digest;
+use simplex_view_state::{Entries, Stored};
+use std::fmt;
+use std::fs::{self, File, OpenOptions};
+use std::io::{self, Write};
+use std::path::{Path, PathBuf};
+
+const NAME: &[u8; 8] = b"simplexj";
+const VERSION: u8 = 1;
+const HEAD: usize = 9;
+/// What a piece has beside its body: two lengths and a digest.
+const BESIDE: usize = 8 + 32;
+
+/// What a journal held.
+#[derive(Debug)]
+pub struct Kept {
+    /// What was stored beside the record last.
+    pub stored: Stored,
+    /// The record's frames.
+    pub frames: Vec<u8>,
+    /// How many bytes of a piece that was cut off are left out.
+    pub cut: usize,
+}
+
+/// Why a journal is not gone on with.
+#[derive(Debug)]
+pub enum JournalError {
+    /// The disk refuses.
+    Disk(io::Error),
+    /// The file is no journal.
+    NoJournal,
+    /// A later or earlier version of this engine wrote it.
+    OtherVersion(u8),
+    /// Bytes are changed behind so many whole ones. Votes may be among them, so this member must not go on: it gets a new key.
+    Damaged(usize),
+}
+
+impl fmt::Display for JournalError {
+    fn fmt(&self, f: &mut fmt::Formatter<'_>) -> fmt::Result {
+        match self {
+            JournalError::Disk(error) => write!(f, "the journal: {error}"),
+            JournalError::NoJournal => f.write_str("the file is no journal of this engine"),
+            JournalError::OtherVersion(it) => write!(f, "the journal has version {it}, and this engine writes and reads {VERSION}"),
+            JournalError::Damaged(at) => {
+                write!(
+                    f,
+                    "the journal is damaged behind {at} bytes: votes may be lost, so this member must not go on with its key"
+                )
+            }
+        }
+    }
+}
+
+impl std::error::Error for JournalError {}
+
+impl From<io::Error> for JournalError {
+    fn from(error: io::Error) -> JournalError {
+        JournalError::Disk(error)
+    }
+}
+
+/// The file of a folder's journal.
+pub fn path(folder: &Path) -> PathBuf {
+    folder.join("journal")
+}
+
+/// Reads what a folder's journal held; none where there is none, or it was never written whole.
+pub fn read(folder: &Path) -> Result<Option<Kept>, JournalError> {
+    match fs::read(path(folder)) {
+        Ok(bytes) => parse(&bytes).map(Some),
+        Err(error) if error.kind() == io::ErrorKind::NotFound => Ok(None),
+        Err(error) => Err(error.into()),
+    }
+}
+
+/// What the bytes of a journal hold. It was written whole once, so a first piece stands there.
+pub fn parse(bytes: &[u8]) -> Result<Kept, JournalError> {
+    let rest = bytes.strip_prefix(NAME).ok_or(JournalError::NoJournal)?;
+    match rest.first() {
+        Some(&VERSION) => {}
+        Some(&other) => return Err(JournalError::OtherVersion(other)),
+        None => return Err(JournalError::NoJournal),
+    }
+    let (mut at, mut stored, mut frames) = (HEAD, None, Vec::new());
+    while let Some(body) = piece_at(bytes, at)? {
+        let (beside, more) = body.split_first_chunk::<{ Stored::SIZE }>().ok_or(JournalError::Damaged(at))?;
+        stored = Some(Stored::from_bytes(beside).ok_or(JournalError::Damaged(at))?);
+        frames.extend_from_slice(more);
+        at += BESIDE + body.len();
+    }
+    Ok(Kept {
+        stored: stored.ok_or(JournalError::Damaged(HEAD))?,
+        frames,
+        cut: bytes.len() - at,
+    })
+}
+
+/// The body of the piece there; none at the end, also where the last piece was cut off.
+fn piece_at(bytes: &[u8], at: usize) -> Result<Option<&[u8]>, JournalError> {
+    let Some((lengths, rest)) = bytes[at..].split_first_chunk::<8>() else {
+        return Ok(None);
+    };
+    let both = u64::from_be_bytes(*lengths);
+    let length = (both >> 32) as u32;
+    if both as u32 != !length {
+        return Err(JournalError::Damaged(at));
+    }
+    let length = length as usize;
+    let Some(body) = rest.get(..length) else {
+        return Ok(None);
+    };
+    match rest.get(length..length + 32) {
+        None => Ok(None),
+        Some(sum) if digest(body).bytes() == sum => Ok(Some(body)),
+        Some(_) => Err(JournalError::Damaged(at)),
+    }
+}
+
+fn piece(entries: &Entries) -> io::Result<Vec<u8>> {
+    let length = Stored::SIZE + entries.bytes.len();
+    let length = u32::try_from(length).map_err(|_| io::Error::other("a turn recorded 4 GiB"))?;
+    let mut piece = Vec::with_capacity(BESIDE + length as usize);
+    piece.extend_from_slice(&length.to_be_bytes());
+    piece.extend_from_slice(&(!length).to_be_bytes());
+    piece.extend_from_slice(&entries.stored.to_bytes());
+    piece.extend_from_slice(&entries.bytes);
+    let sum = digest(&piece[8..]);
+    piece.extend_from_slice(sum.bytes());
+    Ok(piece)
+}
+
+/// A journal that is written to.
+pub struct Journal {
+    folder: PathBuf,
+    file: File,
+    bytes: u64,
+    is_dirty: bool,
+    syncs: bool,
+}
+
+impl Journal {
+    /// Puts a journal of these entries in the place of what the folder had, in one step: another file is written, synced and renamed.
+    pub fn create(folder: &Path, entries: &Entries, syncs: bool) -> io::Result<Journal> {
+        let fresh = folder.join("journal.new");
+        let mut bytes = NAME.to_vec();
+        bytes.push(VERSION);
+        bytes.extend_from_slice(&piece(entries)?);
+        let mut file = File::create(&fresh)?;
+        file.write_all(&bytes)?;
+        file.sync_all()?;
+        fs::rename(&fresh, path(folder))?;
+        File::open(folder)?.sync_all()?;
+        Ok(Journal {
+            file: OpenOptions::new().append(true).open(path(folder))?,
+            folder: folder.to_owned(),
+            bytes: bytes.len() as u64,
+            is_dirty: false,
+            syncs,
+        })
+    }
+
+    /// Appends what was recorded. It is on the disk after `sync`.
+    pub fn append(&mut self, entries: &Entries) -> io::Result<()> {
+        if entries.bytes.is_empty() {
+            return Ok(());
+        }
+        let piece = piece(entries)?;
+        self.file.write_all(&piece)?;
+        self.bytes += piece.len() as u64;
+        self.is_dirty = true;
+        Ok(())
+    }
+
+    /// Waits until the disk has it all. Whether it had to.
+    pub fn sync(&mut self) -> io::Result<bool> {
+        let had_to = std::mem::take(&mut self.is_dirty) && self.syncs;
+        if had_to {
+            self.file.sync_data()?;
+        }
+        Ok(had_to)
+    }
+
+    /// Replaces it all by these entries, in one step.
+    pub fn compact(&mut self, entries: &Entries) -> io::Result<()> {
+        *self = Journal::create(&self.folder, entries, self.syncs)?;
+        Ok(())
+    }
+
+    /// How long the file is, in bytes.
+    pub fn bytes(&self) -> u64 {
+        self.bytes
+    }
+}
+
+#[cfg(test)]
+mod tests {
+    use super::*;
+    use crate::trace::scratch;
+    use simplex_view_state::{Config, Epoch, Member, Moment, TimeoutReason, View};
+
+    /// A member that has voted, and its journal in two pieces.
+    fn voted(folder: &Path) -> Vec<u8> {
+        let config = Config::new(
+            4.try_into().expect("not 0"),
+            Some(simplex_view_state::Participant::new(0)),
+            Epoch::new(1),
+            Default::default(),
+        );
+        let mut member = Member::start(&config, Moment::from_millis(0)).expect("good settings");
+        let begun = member.entries_since(Default::default()).expect("memory");
+        let mut journal = Journal::create(folder, &begun, true).expect("a disk");
+        let vote = member
+            .construct_nullify(View::new(1), TimeoutReason::LeaderTimeout)
+            .expect("a view");
+        assert!(vote.is_some());
+        journal
+            .append(&member.entries_since(begun.stored.entries).expect("memory"))
+            .expect("a disk");
+        assert!(journal.sync().expect("a disk"));
+        fs::read(path(folder)).expect("it is there")
+    }
+
+    #[test]
+    fn a_last_piece_that_is_cut_anywhere_is_left_out() {
+        let folder = scratch("cut");
+        let bytes = voted(&folder);
+        let whole = parse(&bytes).expect("whole");
+        assert_eq!((whole.cut, whole.stored.entries.get()), (0, 1));
+        let first = HEAD + BESIDE + Stored::SIZE;
+        for end in first..bytes.len() {
+            let kept = parse(&bytes[..end]).expect("cut at its end alone");
+            assert_eq!((kept.cut, kept.frames.len(), kept.stored.entries.get()), (end - first, 0, 0));
+        }
+    }
+
+    #[test]
+    fn a_bit_that_is_changed_before_the_end_is_damage() {
+        let folder = scratch("damage");
+        let mut bytes = voted(&folder);
+        for at in HEAD..bytes.len() {
+            for bit in 0..8 {
+                bytes[at] ^= 1 << bit;
+                assert!(matches!(parse(&bytes), Err(JournalError::Damaged(_))), "byte {at}, bit {bit}");
+                bytes[at] ^= 1 << bit;
+            }
+        }
+    }
+
+    #[test]
+    fn other_files_are_refused_by_name() {
+        let folder = scratch("other");
+        let mut bytes = voted(&folder);
+        bytes[8] = 2;
+        assert!(matches!(parse(&bytes), Err(JournalError::OtherVersion(2))));
+        bytes[0] = b'S';
+        assert!(matches!(parse(&bytes), Err(JournalError::NoJournal)));
+        assert!(matches!(parse(b""), Err(JournalError::NoJournal)));
+    }
+}

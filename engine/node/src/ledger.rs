@@ -1,0 +1,127 @@
+//! A sample application: a ledger of blocks that hold some numbers, and a file with a line for each block of the finalized chain.
+
+use crate::application::Application;
+use crate::blocks::{Block, now_us};
+use crate::crypto::digest;
+use simplex_view_state::{Context, Digest, View};
+use std::fs::{self, File, OpenOptions};
+use std::io::{self, Write};
+use std::path::{Path, PathBuf};
+
+/// How many bytes a block holds.
+const CONTENT: usize = 256;
+
+/// A line of the finalized chain.
+#[derive(Clone, Debug, PartialEq, Eq)]
+pub struct Link {
+    /// The block's view.
+    pub view: u64,
+    /// Its digest, in hexadecimal digits.
+    pub payload: String,
+    /// When it was taken, in microseconds since 1970.
+    pub taken_us: u64,
+    /// How long it took from its building until it was taken here, in microseconds.
+    pub latency_us: u64,
+}
+
+/// The file of a folder's chain.
+pub fn path(folder: &Path) -> PathBuf {
+    folder.join("chain")
+}
+
+/// The finalized chain that a folder has. A last line that was cut off is left out.
+pub fn read_chain(folder: &Path) -> io::Result<Vec<Link>> {
+    match fs::read_to_string(path(folder)) {
+        Ok(text) => Ok(text.split_inclusive('\n').map_while(read_link).collect()),
+        Err(error) if error.kind() == io::ErrorKind::NotFound => Ok(Vec::new()),
+        Err(error) => Err(error),
+    }
+}
+
+fn read_link(line: &str) -> Option<Link> {
+    let mut words = line.strip_suffix('\n')?.split(' ');
+    Some(Link {
+        view: words.next()?.parse().ok()?,
+        payload: words.next()?.to_owned(),
+        taken_us: words.next()?.parse().ok()?,
+        latency_us: words.next()?.parse().ok()?,
+    })
+}
+
+/// The ledger of a node.
+pub struct Ledger {
+    file: File,
+    last: (View, Digest),
+    height: u64,
+    salt: u64,
+}
+
+impl Ledger {
+    /// Goes on from the chain that a folder has, or from the block where the node starts.
+    pub fn open(folder: &Path, start: (View, Digest), salt: u64) -> io::Result<Ledger> {
+        let chain = read_chain(folder)?;
+        let last = chain.last().map_or(Ok(start), |link| {
+            Ok::<_, io::Error>((View::new(link.view), parse_digest(&link.payload)?))
+        })?;
+        let file = OpenOptions::new().create(true).append(true).open(path(folder))?;
+        let whole: usize = chain.iter().map(|link| written(link).len()).sum();
+        file.set_len(whole as u64)?;
+        let height = chain.len() as u64;
+        Ok(Ledger { file, last, height, salt })
+    }
+}
+
+fn written(link: &Link) -> String {
+    format!("{} {} {} {}\n", link.view, link.payload, link.taken_us, link.latency_us)
+}
+
+fn parse_digest(hex: &str) -> io::Result<Digest> {
+    let byte = |at: usize| hex.get(at..at + 2).and_then(|pair| u8::from_str_radix(pair, 16).ok());
+    let bytes: Option<Vec<u8>> = (0..64).step_by(2).map(byte).collect();
+    let bytes = bytes
+        .and_then(|it| it.try_into().ok())
+        .ok_or_else(|| io::Error::other(format!("{hex} is no digest")))?;
+    Ok(Digest::new(bytes))
+}
+
+impl Application for Ledger {
+    fn build(&mut self, context: &Context) -> Vec<u8> {
+        self.salt = self.salt.wrapping_add(1);
+        let mut content = Vec::with_capacity(CONTENT);
+        for place in 0..CONTENT / 32 {
+            let seed = [self.salt, place as u64, context.round.view.get()].map(u64::to_be_bytes);
+            content.extend_from_slice(digest(seed.as_flattened()).bytes());
+        }
+        content
+    }
+
+    fn verify(&mut self, block: &Block) -> bool {
+        block.content().len() == CONTENT
+    }
+
+    fn certify(&mut self, block: &Block) -> bool {
+        block.content().len() == CONTENT
+    }
+
+    fn finalized(&mut self, block: &Block) -> io::Result<()> {
+        let taken_us = now_us();
+        let link = Link {
+            view: block.view.get(),
+            payload: block.payload().to_string(),
+            taken_us,
+            latency_us: taken_us.saturating_sub(block.built_us),
+        };
+        self.file.write_all(written(&link).as_bytes())?;
+        self.last = (block.view, block.payload());
+        self.height += 1;
+        Ok(())
+    }
+
+    fn last(&self) -> (View, Digest) {
+        self.last
+    }
+
+    fn height(&self) -> u64 {
+        self.height
+    }
+}

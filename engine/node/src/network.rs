@@ -1,0 +1,300 @@
+//! A network of nodes on this machine, each a process: how it is made, watched, disturbed and looked at afterwards.
+
+use crate::faults::{Fault, Trial};
+use crate::ledger::{self, Link};
+use crate::settings::{Outcome, Peer, Protocol, Settings};
+use crate::trace::{self, Line};
+use crate::{crypto, journal};
+use std::fs::{self, File, OpenOptions};
+use std::io::{Read, Write};
+use std::net::{Ipv4Addr, SocketAddr, TcpListener, TcpStream};
+use std::path::{Path, PathBuf};
+use std::process::{Child, Command, Stdio};
+use std::thread::sleep;
+use std::time::{Duration, Instant};
+
+/// How long a node has to end when it is told to.
+const ENDS_WITHIN: Duration = Duration::from_secs(10);
+
+/// How a network is made.
+#[derive(Clone, Debug)]
+pub struct Plan {
+    /// How many nodes.
+    pub nodes: u32,
+    /// How the protocol is run.
+    pub protocol: Protocol,
+    /// Whether votes wait for the disk.
+    pub sync: bool,
+    /// What the nodes of these indices do wrong.
+    pub faults: Vec<(u32, Fault)>,
+    /// How long each frame is on its way, in milliseconds.
+    pub delay_ms: u64,
+    /// The program of a node.
+    pub program: PathBuf,
+    /// The folder of all that is written. It is emptied.
+    pub folder: PathBuf,
+}
+
+/// Nodes that run.
+pub struct Network {
+    plan: Plan,
+    settings: Vec<Settings>,
+    children: Vec<Option<Child>>,
+    /// How often each was begun.
+    pub lives: Vec<u32>,
+}
+
+impl Network {
+    /// Makes keys and settings, and begins no node.
+    pub fn new(plan: Plan) -> Outcome<Network> {
+        match fs::remove_dir_all(&plan.folder) {
+            Err(error) if error.kind() != std::io::ErrorKind::NotFound => return Err(error.into()),
+            _ => fs::create_dir_all(&plan.folder)?,
+        }
+        let addresses = free_addresses(2 * plan.nodes as usize)?;
+        let mut members = Vec::new();
+        for index in 0..plan.nodes {
+            let key = crypto::make_key(&plan.folder.join(format!("{index}.pem")))?;
+            members.push(Peer {
+                address: addresses[2 * index as usize],
+                key,
+            });
+        }
+        let settings_of = |index: u32| Settings {
+            index,
+            data: PathBuf::from(index.to_string()),
+            key: PathBuf::from(format!("{index}.pem")),
+            metrics: Some(addresses[2 * index as usize + 1]),
+            sync: plan.sync,
+            trace: Some(PathBuf::from(format!("{index}.votes"))),
+            floor: None,
+            protocol: plan.protocol.clone(),
+            trial: Trial {
+                fault: plan.faults.iter().find(|it| it.0 == index).map(|it| it.1),
+                delay_ms: plan.delay_ms,
+                cut: Some(PathBuf::from(format!("{index}.cut"))),
+            },
+            members: members.clone(),
+        };
+        let network = Network {
+            settings: (0..plan.nodes).map(settings_of).collect(),
+            children: (0..plan.nodes).map(|_| None).collect(),
+            lives: vec![0; plan.nodes as usize],
+            plan,
+        };
+        (0..network.plan.nodes).try_for_each(|index| network.write_settings(index))?;
+        Ok(network)
+    }
+
+    fn write_settings(&self, index: u32) -> Outcome {
+        let text = toml::to_string(&toml::Value::try_from(&self.settings[index as usize])?)?;
+        Ok(fs::write(self.config(index), text)?)
+    }
+
+    /// The folder of all that is written.
+    pub fn folder(&self) -> &Path {
+        &self.plan.folder
+    }
+
+    /// The settings file of a node.
+    pub fn config(&self, index: u32) -> PathBuf {
+        self.plan.folder.join(format!("{index}.toml"))
+    }
+
+    /// The folder of a node's data.
+    pub fn data(&self, index: u32) -> PathBuf {
+        self.plan.folder.join(index.to_string())
+    }
+
+    /// Changes a node's settings, for its next life.
+    pub fn set(&mut self, index: u32, change: impl FnOnce(&mut Settings)) -> Outcome {
+        change(&mut self.settings[index as usize]);
+        self.write_settings(index)
+    }
+
+    /// Begins a node.
+    pub fn begin(&mut self, index: u32) -> Outcome {
+        let config = self.config(index);
+        let mut command = Command::new(&self.plan.program);
+        command.arg("--config").arg(config);
+        self.begin_by(index, command)
+    }
+
+    /// Begins a node whose files can't grow beyond so many blocks of 512 bytes: as on a disk that gets full.
+    pub fn begin_on_small_disk(&mut self, index: u32, blocks: u32) -> Outcome {
+        let script = format!("trap '' XFSZ; ulimit -f {blocks}; exec \"$0\" --config \"$1\"");
+        let mut command = Command::new("sh");
+        command.arg("-c").arg(script).arg(&self.plan.program).arg(self.config(index));
+        self.begin_by(index, command)
+    }
+
+    fn begin_by(&mut self, index: u32, mut command: Command) -> Outcome {
+        let log: File = OpenOptions::new().create(true).append(true).open(self.log(index))?;
+        let child = command.stdin(Stdio::null()).stdout(log.try_clone()?).stderr(log).spawn()?;
+        self.children[index as usize] = Some(child);
+        self.lives[index as usize] += 1;
+        Ok(())
+    }
+
+    /// The file of a node's messages.
+    pub fn log(&self, index: u32) -> PathBuf {
+        self.plan.folder.join(format!("{index}.log"))
+    }
+
+    /// Begins all nodes.
+    pub fn begin_all(&mut self) -> Outcome {
+        (0..self.plan.nodes).try_for_each(|index| self.begin(index))
+    }
+
+    /// Kills a node at once, by SIGKILL.
+    pub fn kill(&mut self, index: u32) -> Outcome {
+        if let Some(mut child) = self.children[index as usize].take() {
+            child.kill()?;
+            child.wait()?;
+        }
+        Ok(())
+    }
+
+    /// Leaves a beginning of a piece at the end of a node's journal, as a crash in the midst of writing does. The node must not run.
+    pub fn tear(&self, index: u32, bytes: usize) -> Outcome {
+        let path = journal::path(&self.data(index));
+        let stored = fs::read(&path)?;
+        let last = stored.len().saturating_sub(bytes.max(1));
+        // What stands at the journal's front is a whole piece: a beginning of it, behind the end, is a piece that was cut off.
+        let begun = stored.get(9..9 + bytes.min(last.saturating_sub(9)).min(40)).unwrap_or_default();
+        let mut file = OpenOptions::new().append(true).open(path)?;
+        Ok(file.write_all(begun)?)
+    }
+
+    /// Whether a node has ended by itself.
+    pub fn has_ended(&mut self, index: u32) -> Outcome<bool> {
+        match &mut self.children[index as usize] {
+            None => Ok(false),
+            Some(child) => Ok(child.try_wait()?.is_some()),
+        }
+    }
+
+    /// Cuts the links between two groups of nodes, or joins them again.
+    pub fn cut(&self, groups: Option<(&[u32], &[u32])>) -> Outcome {
+        let all = |indices: &[u32]| indices.iter().map(u32::to_string).collect::<Vec<_>>().join(" ");
+        let Some((one, other)) = groups else {
+            for index in 0..self.plan.nodes {
+                let _ = fs::remove_file(self.plan.folder.join(format!("{index}.cut")));
+            }
+            return Ok(());
+        };
+        for (here, there) in [(one, other), (other, one)] {
+            for index in here {
+                fs::write(self.plan.folder.join(format!("{index}.cut")), all(there))?;
+            }
+        }
+        Ok(())
+    }
+
+    /// What a node counts under a name; none where it does not answer.
+    pub fn metric(&self, index: u32, name: &str) -> Option<u64> {
+        let address = self.settings[index as usize].metrics?;
+        let text = get_metrics(address)?;
+        let line = text.lines().find_map(|line| line.strip_prefix(&format!("simplex_{name} ")))?;
+        line.parse().ok()
+    }
+
+    /// Waits until these nodes have all finalized a view, or the time is over. Whether they have.
+    pub fn wait_for(&self, nodes: &[u32], view: u64, within: Duration) -> bool {
+        let begun = Instant::now();
+        while begun.elapsed() < within {
+            if nodes
+                .iter()
+                .all(|index| self.metric(*index, "last_finalized").is_some_and(|it| it >= view))
+            {
+                return true;
+            }
+            sleep(Duration::from_millis(50));
+        }
+        false
+    }
+
+    /// The highest view that one of these nodes has finalized.
+    pub fn highest(&self, nodes: &[u32]) -> u64 {
+        nodes
+            .iter()
+            .filter_map(|index| self.metric(*index, "last_finalized"))
+            .max()
+            .unwrap_or(0)
+    }
+
+    /// Tells all nodes to stop, and waits until they have.
+    pub fn stop(&mut self) -> Outcome {
+        for child in self.children.iter().flatten() {
+            let _ = Command::new("kill").arg("-TERM").arg(child.id().to_string()).status()?;
+        }
+        let begun = Instant::now();
+        for (index, child) in self.children.iter_mut().enumerate() {
+            let Some(mut child) = child.take() else { continue };
+            while child.try_wait()?.is_none() {
+                if begun.elapsed() > ENDS_WITHIN {
+                    child.kill()?;
+                    child.wait()?;
+                    return Err(format!("node {index} does not stop").into());
+                }
+                sleep(Duration::from_millis(10));
+            }
+        }
+        Ok(())
+    }
+
+    /// The finalized chain of each node.
+    pub fn chains(&self) -> Outcome<Vec<Vec<Link>>> {
+        Ok((0..self.plan.nodes)
+            .map(|index| ledger::read_chain(&self.data(index)))
+            .collect::<Result<_, _>>()?)
+    }
+
+    /// All votes that a node sent or was sent.
+    pub fn votes(&self) -> Outcome<Vec<Line>> {
+        let all = (0..self.plan.nodes).map(|index| trace::read(&self.plan.folder.join(format!("{index}.votes"))));
+        Ok(all.collect::<Result<Vec<_>, _>>()?.concat())
+    }
+
+    /// The nodes that do nothing wrong.
+    pub fn honest(&self) -> Vec<u32> {
+        let is_faulty = |index: &u32| self.plan.faults.iter().any(|it| it.0 == *index && it.1 != Fault::Jumps);
+        (0..self.plan.nodes).filter(|index| !is_faulty(index)).collect()
+    }
+}
+
+impl Drop for Network {
+    fn drop(&mut self) {
+        for child in self.children.iter_mut().flatten() {
+            let _ = child.kill();
+            let _ = child.wait();
+        }
+    }
+}
+
+/// Addresses of this machine that nobody listens at.
+fn free_addresses(count: usize) -> Outcome<Vec<SocketAddr>> {
+    let listeners: Vec<TcpListener> = (0..count)
+        .map(|_| TcpListener::bind((Ipv4Addr::LOCALHOST, 0)))
+        .collect::<Result<_, _>>()?;
+    Ok(listeners.iter().map(TcpListener::local_addr).collect::<Result<_, _>>()?)
+}
+
+fn get_metrics(address: SocketAddr) -> Option<String> {
+    let mut stream = TcpStream::connect_timeout(&address, Duration::from_millis(500)).ok()?;
+    stream.set_read_timeout(Some(Duration::from_secs(1))).ok()?;
+    stream.write_all(b"GET /metrics HTTP/1.1\r\n\r\n").ok()?;
+    let mut text = String::new();
+    stream.read_to_string(&mut text).ok()?;
+    Some(text)
+}
+
+/// The program of a node that stands beside this one.
+pub fn program_beside() -> Outcome<PathBuf> {
+    Ok(std::env::current_exe()?.with_file_name("simplex-node"))
+}
+
+/// A folder for a run, under the machine's folder for such.
+pub fn folder_of(name: &str) -> PathBuf {
+    std::env::temp_dir().join(Path::new(&format!("simplex-local-{}-{name}", std::process::id())))
+}

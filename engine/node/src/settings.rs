@@ -1,0 +1,175 @@
+//! What a node is told at its start: a TOML file.
+
+use crate::faults::Trial;
+use serde::{Deserialize, Serialize};
+use simplex_view_state::{Config, Digest, Epoch, Floor, Leaders, Participant, Skip, Terms, ViewDelta};
+use std::fs;
+use std::net::SocketAddr;
+use std::num::NonZeroU32;
+use std::path::{Path, PathBuf};
+use std::time::Duration;
+
+/// A result whose error is told to whoever started the process.
+pub type Outcome<T = ()> = Result<T, Box<dyn std::error::Error>>;
+
+/// The settings of one node.
+#[derive(Clone, Debug, Deserialize, Serialize)]
+#[serde(deny_unknown_fields)]
+pub struct Settings {
+    /// Which of the members this node is: its place in `members`, from 0.
+    pub index: u32,
+    /// The folder of its journal, blocks and chain. A relative path is taken from the folder of the settings file.
+    pub data: PathBuf,
+    /// The file of its secret key, as `simplex-node keygen` makes it.
+    pub key: PathBuf,
+    /// Where metrics are served, by HTTP; nowhere by default. An address of this machine alone.
+    pub metrics: Option<SocketAddr>,
+    /// Whether a vote waits until the disk has it. Without it, a machine that loses power may vote twice.
+    #[serde(default = "yes")]
+    pub sync: bool,
+    /// Where all votes that are sent or received are written down, for audits; nowhere by default.
+    pub trace: Option<PathBuf>,
+    /// How the protocol is run: the same for all members.
+    #[serde(default)]
+    pub protocol: Protocol,
+    /// All members, in the same order for all of them.
+    pub members: Vec<Peer>,
+    /// The certificate of a finalized proposal from which a node begins that has no journal: `floor` of another node's folder. Genesis by
+    /// default.
+    pub floor: Option<PathBuf>,
+    /// What is tried on this node; by default nothing is.
+    #[serde(default)]
+    pub trial: Trial,
+}
+
+/// A member as the others reach it.
+#[derive(Clone, Debug, Deserialize, Serialize)]
+#[serde(deny_unknown_fields)]
+pub struct Peer {
+    /// Where it listens.
+    pub address: SocketAddr,
+    /// Its public key, in hexadecimal digits.
+    pub key: String,
+}
+
+/// What all members have to agree on, and the times of a member.
+#[derive(Clone, Debug, Deserialize, Serialize)]
+#[serde(deny_unknown_fields, default)]
+pub struct Protocol {
+    /// The epoch. Votes of another one are of no use.
+    pub epoch: u64,
+    /// How many views in a row have the same leader.
+    pub term_length: NonZeroU32,
+    /// How many views ahead of the current one, in its term, may be voted for.
+    pub optimistic_views: u64,
+    /// How long a view waits for its leader's proposal. Some round trips between the farthest members, and the time of a build.
+    pub leader_timeout_ms: u64,
+    /// How long a view waits until its proposal is certified; above the leader's timeout by a round trip and the time to verify.
+    pub certification_timeout_ms: u64,
+    /// After how long a vote to nullify is sent again: a lost message costs so much.
+    pub timeout_retry_ms: u64,
+    /// After how long without a message a leader counts as absent, so that its views are skipped; above the other times.
+    pub inactivity_ms: u64,
+    /// How many views below the last finalized one are kept: what peers that are so far behind are still served.
+    pub view_retention: u64,
+    /// The least time between two blocks that this node builds; 0 builds as fast as views are entered.
+    pub pace_ms: u64,
+}
+
+impl Default for Protocol {
+    fn default() -> Protocol {
+        Protocol {
+            epoch: 1,
+            term_length: NonZeroU32::MIN,
+            optimistic_views: 0,
+            leader_timeout_ms: 1000,
+            certification_timeout_ms: 2000,
+            timeout_retry_ms: 500,
+            inactivity_ms: 3000,
+            view_retention: 64,
+            pace_ms: 0,
+        }
+    }
+}
+
+fn yes() -> bool {
+    true
+}
+
+impl Settings {
+    /// Reads a settings file. Relative paths in it are taken from its folder.
+    pub fn read(path: &Path) -> Outcome<Settings> {
+        let text = fs::read_to_string(path).map_err(|error| format!("{}: {error}", path.display()))?;
+        let mut settings: Settings = toml::from_str(&text).map_err(|error| format!("{}: {error}", path.display()))?;
+        let folder = path.parent().unwrap_or(Path::new("."));
+        settings.data = folder.join(&settings.data);
+        settings.key = folder.join(&settings.key);
+        settings.trace = settings.trace.map(|trace| folder.join(trace));
+        settings.floor = settings.floor.map(|floor| folder.join(floor));
+        settings.trial.cut = settings.trial.cut.map(|cut| folder.join(cut));
+        settings.test().map_err(|error| format!("{}: {error}", path.display()))?;
+        Ok(settings)
+    }
+
+    fn test(&self) -> Result<(), String> {
+        if self.index as usize >= self.members.len() {
+            return Err(format!(
+                "there are {} members, and this is member {}",
+                self.members.len(),
+                self.index
+            ));
+        }
+        if let Some(metrics) = self.metrics
+            && !metrics.ip().is_loopback()
+        {
+            return Err(format!("metrics are served to this machine alone, not at {metrics}"));
+        }
+        Ok(())
+    }
+
+    /// This node's index.
+    pub fn me(&self) -> Participant {
+        Participant::new(self.index)
+    }
+
+    /// How many members there are.
+    pub fn count(&self) -> NonZeroU32 {
+        NonZeroU32::new(self.members.len() as u32).expect("this node is one of them")
+    }
+
+    /// The settings of its member in the library, from a floor.
+    pub fn config(&self, floor: Floor) -> Config {
+        let it = &self.protocol;
+        let stall = (it.optimistic_views > 0).then(|| Duration::from_millis(it.certification_timeout_ms));
+        Config {
+            members: self.count(),
+            signer: Some(self.me()),
+            epoch: Epoch::new(it.epoch),
+            leaders: Leaders::round_robin(self.count()),
+            terms: Terms {
+                length: it.term_length,
+                optimistic_views: ViewDelta::new(it.optimistic_views),
+                stall_timeout: stall,
+            },
+            floor,
+            leader_timeout: Duration::from_millis(it.leader_timeout_ms),
+            certification_timeout: Duration::from_millis(it.certification_timeout_ms),
+            timeout_retry: Duration::from_millis(it.timeout_retry_ms),
+            view_retention: ViewDelta::new(it.view_retention),
+            skip: Some(Skip {
+                timeout: Duration::from_millis(it.inactivity_ms),
+                budget: None,
+            }),
+        }
+    }
+
+    /// After how long without a message a leader counts as absent.
+    pub fn inactivity(&self) -> Duration {
+        Duration::from_millis(self.protocol.inactivity_ms)
+    }
+}
+
+/// The payload of genesis: the same for all members of an epoch.
+pub fn genesis(epoch: u64) -> Digest {
+    crate::crypto::digest(format!("genesis of epoch {epoch}").as_bytes())
+}

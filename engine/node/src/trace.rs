@@ -1,0 +1,83 @@
+//! All votes that a node sent or was sent, as lines of a file, for audits.
+
+use crate::blocks::now_us;
+use crate::vote::Vote;
+use simplex_view_state::{Participant, Subject};
+use std::fs::{File, OpenOptions};
+use std::io::{self, BufWriter, Write};
+use std::path::Path;
+
+/// A file of votes.
+pub struct Trace {
+    file: BufWriter<File>,
+}
+
+/// A vote of a trace.
+#[derive(Clone, PartialEq, Eq, PartialOrd, Ord, Debug)]
+pub struct Line {
+    /// The member that signed it.
+    pub signer: u32,
+    /// `n`: to notarize, `x`: to nullify, `f`: to finalize.
+    pub kind: char,
+    /// Its view.
+    pub view: u64,
+    /// The proposal that it is for: its parent's view and its digest; nothing for a vote to nullify.
+    pub proposal: String,
+    /// When it was seen, in microseconds since 1970.
+    pub seen_us: u64,
+}
+
+impl Trace {
+    /// Goes on with a file.
+    pub fn open(path: &Path) -> io::Result<Trace> {
+        let file = OpenOptions::new().create(true).append(true).open(path)?;
+        Ok(Trace {
+            file: BufWriter::new(file),
+        })
+    }
+
+    /// Writes a vote down.
+    pub fn write(&mut self, vote: &Vote) -> io::Result<()> {
+        let view = vote.subject.round().view;
+        let (kind, proposal) = match &vote.subject {
+            Subject::Notarize(it) => ('n', format!("{} {}", it.parent, it.payload)),
+            Subject::Nullify(_) => ('x', "-".to_owned()),
+            Subject::Finalize(it) => ('f', format!("{} {}", it.parent, it.payload)),
+        };
+        writeln!(self.file, "{} {} {kind} {view} {proposal}", now_us(), vote.signer)
+    }
+
+    /// Hands what was written to the operating system.
+    pub fn flush(&mut self) -> io::Result<()> {
+        self.file.flush()
+    }
+}
+
+/// The votes of a trace. A last line that was cut off is left out.
+pub fn read(path: &Path) -> io::Result<Vec<Line>> {
+    match std::fs::read_to_string(path) {
+        Ok(text) => Ok(text.split_inclusive('\n').filter_map(read_line).collect()),
+        Err(error) if error.kind() == io::ErrorKind::NotFound => Ok(Vec::new()),
+        Err(error) => Err(error),
+    }
+}
+
+fn read_line(line: &str) -> Option<Line> {
+    let mut words = line.strip_suffix('\n')?.splitn(5, ' ');
+    Some(Line {
+        seen_us: words.next()?.parse().ok()?,
+        signer: words.next()?.parse::<u32>().map(Participant::new).ok()?.get(),
+        kind: words.next()?.chars().next()?,
+        view: words.next()?.parse().ok()?,
+        proposal: words.next()?.to_owned(),
+    })
+}
+
+/// An empty folder for a test.
+#[cfg(test)]
+pub fn scratch(name: &str) -> std::path::PathBuf {
+    let folder = std::env::temp_dir().join(format!("simplex-node-{}-{name}", std::process::id()));
+    let _ = std::fs::remove_dir_all(&folder);
+    std::fs::create_dir_all(&folder).expect("a folder for a test");
+    folder
+}

@@ -1,0 +1,297 @@
+//! Networks of processes under faults. After each: the finalized chains agree, no honest node signed two votes that contradict each other,
+//! and views go on being finalized within ten seconds.
+//!
+//! `SIMPLEX_LONG=1` kills fifty times in place of six.
+
+use simplex_node::audit::{contradictions, disagreements};
+use simplex_node::faults::Fault;
+use simplex_node::network::{Network, Plan, folder_of};
+use simplex_node::settings::Protocol;
+use simplex_node::{journal, trace};
+use std::fs;
+use std::path::Path;
+use std::process::Command;
+use std::thread::sleep;
+use std::time::Duration;
+
+/// Within what time something has to be finalized after each fault.
+const SOON: Duration = Duration::from_secs(10);
+/// How long a network gets that begins, on a machine that does much else.
+const START: Duration = Duration::from_secs(60);
+
+fn plan(name: &str, nodes: u32) -> Plan {
+    Plan {
+        nodes,
+        protocol: Protocol {
+            pace_ms: 5,
+            leader_timeout_ms: 500,
+            certification_timeout_ms: 1000,
+            timeout_retry_ms: 250,
+            inactivity_ms: 1500,
+            ..Protocol::default()
+        },
+        sync: true,
+        faults: Vec::new(),
+        delay_ms: 0,
+        program: env!("CARGO_BIN_EXE_simplex-node").into(),
+        folder: folder_of(name),
+    }
+}
+
+fn begun(plan: Plan) -> Network {
+    let mut network = Network::new(plan).expect("keys and settings");
+    network.begin_all().expect("processes");
+    assert!(
+        network.wait_for(&network.honest(), 5, START),
+        "it does not begin: {}",
+        logs(&network)
+    );
+    network
+}
+
+fn logs(network: &Network) -> String {
+    let last = |index| {
+        fs::read_to_string(network.log(index))
+            .unwrap_or_default()
+            .lines()
+            .rev()
+            .take(5)
+            .collect::<Vec<_>>()
+            .join("\n")
+    };
+    (0..network.lives.len() as u32).map(last).collect::<Vec<_>>().join("\n--\n")
+}
+
+/// These nodes go on: they all finalize some views more.
+fn goes_on(network: &Network, nodes: &[u32]) {
+    let view = network.highest(nodes) + 5;
+    assert!(
+        network.wait_for(nodes, view, SOON),
+        "view {view} is not finalized: {}",
+        logs(network)
+    );
+}
+
+/// Ends a network whose honest nodes have to agree.
+fn ends_well(mut network: Network, term_length: u64) {
+    network.stop().expect("they stop");
+    let chains = network.chains().expect("chains");
+    assert_eq!(disagreements(&chains), Vec::<String>::new());
+    let (votes, honest) = (network.votes().expect("traces"), network.honest());
+    let of_honest: Vec<_> = votes.iter().filter(|vote| honest.contains(&vote.signer)).collect();
+    assert!(of_honest.len() > 20, "votes were seen");
+    assert_eq!(contradictions(of_honest.into_iter(), term_length), Vec::<String>::new());
+    fs::remove_dir_all(network.folder()).expect("a folder");
+}
+
+fn with_fault(name: &str, fault: Fault) {
+    let network = begun(Plan {
+        faults: vec![(3, fault)],
+        ..plan(name, 4)
+    });
+    for _ in 0..3 {
+        goes_on(&network, &network.honest());
+    }
+    ends_well(network, 1);
+}
+
+#[test]
+fn a_leader_that_proposes_twice() {
+    with_fault("twice", Fault::Equivocates);
+}
+
+#[test]
+fn a_leader_that_is_silent() {
+    with_fault("silent", Fault::Silent);
+}
+
+#[test]
+fn a_node_that_sends_garbage() {
+    with_fault("garbage", Fault::Garbage);
+}
+
+#[test]
+fn a_node_that_sends_old_votes_again() {
+    with_fault("replays", Fault::Replays);
+}
+
+#[test]
+fn a_node_that_votes_in_the_names_of_others() {
+    with_fault("forges", Fault::Forges);
+}
+
+#[test]
+fn a_clock_that_jumps_an_hour() {
+    with_fault("jumps", Fault::Jumps);
+}
+
+#[test]
+fn links_that_are_slow() {
+    let network = begun(Plan {
+        delay_ms: 40,
+        ..plan("slow", 4)
+    });
+    goes_on(&network, &network.honest());
+    ends_well(network, 1);
+}
+
+#[test]
+fn terms_of_some_views_voted_ahead() {
+    let mut terms = plan("terms", 4);
+    terms.protocol.term_length = 4.try_into().expect("not 0");
+    terms.protocol.optimistic_views = 2;
+    let mut network = begun(terms);
+    network.kill(1).expect("a process");
+    goes_on(&network, &[0, 2, 3]);
+    network.begin(1).expect("a process");
+    goes_on(&network, &[0, 1, 2, 3]);
+    ends_well(network, 4);
+}
+
+#[test]
+fn nodes_that_are_killed_again_and_again() {
+    let kills = if std::env::var_os("SIMPLEX_LONG").is_some() { 50 } else { 6 };
+    let mut network = begun(plan("killed", 4));
+    for turn in 0..kills {
+        let victim = turn % 4;
+        sleep(Duration::from_millis(u64::from(turn * 37 % 200)));
+        network.kill(victim).expect("a process");
+        network.tear(victim, 1 + turn as usize * 7 % 40).expect("a journal");
+        let others: Vec<u32> = (0..4).filter(|it| *it != victim).collect();
+        goes_on(&network, &others);
+        network.begin(victim).expect("a process");
+        goes_on(&network, &[0, 1, 2, 3]);
+    }
+    ends_well(network, 1);
+}
+
+#[test]
+fn all_killed_at_once() {
+    let mut network = begun(plan("all", 4));
+    (0..4).for_each(|index| network.kill(index).expect("a process"));
+    network.begin_all().expect("processes");
+    assert!(network.wait_for(&[0, 1, 2, 3], 6, START), "{}", logs(&network));
+    goes_on(&network, &[0, 1, 2, 3]);
+    ends_well(network, 1);
+}
+
+#[test]
+fn two_against_two_until_they_are_joined() {
+    let network = begun(plan("parted", 4));
+    network.cut(Some((&[0, 1], &[2, 3]))).expect("files");
+    sleep(Duration::from_millis(500));
+    let before = network.highest(&[0, 1, 2, 3]);
+    sleep(Duration::from_secs(2));
+    assert_eq!(network.highest(&[0, 1, 2, 3]), before, "two of four finalize nothing");
+    network.cut(None).expect("files");
+    goes_on(&network, &[0, 1, 2, 3]);
+    ends_well(network, 1);
+}
+
+#[test]
+fn fewer_than_a_quorum() {
+    let mut network = begun(plan("few", 4));
+    network.kill(0).expect("a process");
+    network.kill(1).expect("a process");
+    sleep(Duration::from_millis(500));
+    let before = network.highest(&[2, 3]);
+    sleep(Duration::from_secs(2));
+    assert_eq!(network.highest(&[2, 3]), before, "two of four finalize nothing");
+    assert!(!network.has_ended(2).expect("a process") && !network.has_ended(3).expect("a process"));
+    network.begin(0).expect("a process");
+    goes_on(&network, &[0, 2, 3]);
+    ends_well(network, 1);
+}
+
+#[test]
+fn a_disk_that_is_full() {
+    let mut network = Network::new(plan("full", 4)).expect("keys and settings");
+    network.begin_on_small_disk(0, 200).expect("a process");
+    (1..4).for_each(|index| network.begin(index).expect("a process"));
+    assert!(network.wait_for(&[1, 2, 3], 5, START), "{}", logs(&network));
+    for _ in 0..600 {
+        if network.has_ended(0).expect("a process") {
+            break;
+        }
+        sleep(Duration::from_millis(100));
+    }
+    assert!(network.has_ended(0).expect("a process"), "it can't store, so it must not go on");
+    assert!(fs::read_to_string(network.log(0)).expect("a log").contains("simplex-node: "));
+    goes_on(&network, &[1, 2, 3]);
+    network.begin(0).expect("a process");
+    goes_on(&network, &[0, 1, 2, 3]);
+    ends_well(network, 1);
+}
+
+#[test]
+fn a_node_that_joins_late_from_a_floor() {
+    let mut network = Network::new(plan("late", 4)).expect("keys and settings");
+    (0..3).for_each(|index| network.begin(index).expect("a process"));
+    assert!(network.wait_for(&[0, 1, 2], 40, START), "{}", logs(&network));
+    network.kill(0).expect("a process");
+    let floor = network.data(3).with_extension("floor");
+    run(&["floor", "--config", text_of(&network.config(0)), "--out", text_of(&floor)], true);
+    network.begin(0).expect("a process");
+    network.set(3, |it| it.floor = Some("3.floor".into())).expect("settings");
+    network.begin(3).expect("a process");
+    goes_on(&network, &[0, 1, 2, 3]);
+    network.kill(3).expect("a process");
+    network.begin(3).expect("a process");
+    goes_on(&network, &[0, 1, 2, 3]);
+    let chains = network.chains().expect("chains");
+    assert!(chains[3][0].view > 30, "it began at the floor");
+    ends_well(network, 1);
+}
+
+#[test]
+fn a_journal_that_is_damaged_is_refused() {
+    let mut network = begun(plan("damaged", 4));
+    network.kill(2).expect("a process");
+    let path = journal::path(&network.data(2));
+    let mut bytes = fs::read(&path).expect("a journal");
+    let middle = bytes.len() / 2;
+    bytes[middle] ^= 1;
+    fs::write(&path, bytes).expect("a disk");
+    run(&["--config", text_of(&network.config(2))], false);
+    goes_on(&network, &[0, 1, 3]);
+    ends_well(network, 1);
+}
+
+#[test]
+fn a_second_process_with_one_key_is_refused() {
+    let network = begun(plan("second", 4));
+    let said = run(&["--config", text_of(&network.config(1))], false);
+    assert!(said.contains("another process"), "{said}");
+    ends_well(network, 1);
+}
+
+#[test]
+fn the_audit_finds_what_a_faulty_node_signs() {
+    let network = begun(Plan {
+        faults: vec![(3, Fault::Equivocates)],
+        ..plan("audit", 4)
+    });
+    goes_on(&network, &network.honest());
+    let folder = network.folder().to_owned();
+    let seen: Vec<_> = (0..4)
+        .flat_map(|index| trace::read(&folder.join(format!("{index}.votes"))).expect("a trace"))
+        .collect();
+    let of_faulty = seen.iter().filter(|vote| vote.signer == 3);
+    assert!(!contradictions(of_faulty, 1).is_empty(), "it signed two proposals in its views");
+    ends_well(network, 1);
+}
+
+fn text_of(path: &Path) -> &str {
+    path.to_str().expect("a path of letters")
+}
+
+/// Runs the program to its end, and answers what it said.
+fn run(arguments: &[&str], is_good: bool) -> String {
+    let done = Command::new(env!("CARGO_BIN_EXE_simplex-node"))
+        .args(arguments)
+        .output()
+        .expect("a process");
+    let said = String::from_utf8_lossy(&done.stderr).into_owned();
+    assert_eq!(done.status.success(), is_good, "{said}");
+    said
+}

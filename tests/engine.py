@@ -1,0 +1,122 @@
+#!/usr/bin/env python3
+"""That the engine in `engine/` goes on through what is done to it.
+
+Its layout, its lints and its tests: networks of processes that are killed, parted, slowed, lied to and run out of disk, after which all
+finalized chains agree, no honest node signed two votes that contradict each other, and views go on being finalized. Then a network as a
+newcomer begins it, with a faulty node and some that are killed.
+
+    tests/engine.py [--archive PATH] [--long]     without an archive one is built, unproved, in a minute or two
+    tests/engine.py --wrong                       each wrong body of a table, in a copy: a test has to fail
+
+It ends with status 1 where something is not as it has to be. Where packages are lacking it has `engine/setup` install them; where they
+can't be had it says so in one line, and ends with status 77: skipped."""
+
+import argparse
+import os
+import re
+import shutil
+import subprocess
+import sys
+import tempfile
+from pathlib import Path
+
+from program import ROOT
+
+ENGINE = ROOT / "engine"
+SKIPPED = 77
+LEAST_TESTS = 31
+NETWORK = ("--nodes", "4", "--views", "200", "--faulty", "1", "--kill", "3", "--seed", "7")
+
+# A file, what stands there, what is put in its place, and what fails then.
+WRONG_BODIES = (
+    ("what is recorded is not stored", "replica.rs", "Output::Store(entries) => self.parts.journal.append(&entries)?,", "Output::Store(_) => {}"),
+    ("votes are not verified", "peers.rs", "&& self.count(self.keys.is_signed_vote(vote))\n            }\n            Message::Certificate",
+     "&& self.count(true)\n            }\n            Message::Certificate"),
+    ("what is lacking is not asked for", "fetches.rs", "let is_due = |asking: &Asking| asking.next <= now;", "let is_due = |_: &Asking| now.as_millis() == u64::MAX;"),
+    ("peers are served no block", "replica.rs", "const BLOCKS_SERVED: usize = 64;", "const BLOCKS_SERVED: usize = 0;"),
+    ("a member counts twice", "batcher.rs", "return if *subject == vote.subject { Counted::Known } else { Counted::Contradicts(*subject) };", "let _ = subject;"),
+    ("a damaged journal is taken for a cut one", "journal.rs", "Some(_) => Err(JournalError::Damaged(at)),", "Some(_) => Ok(None),"),
+    ("a node that can't store goes on", "replica.rs", "Output::Store(entries) => self.parts.journal.append(&entries)?,",
+     "Output::Store(entries) => drop(self.parts.journal.append(&entries)),"),
+    ("two processes have one key", "start.rs", 'Err(TryLockError::WouldBlock) => Err(format!("another process has {}", folder.display()).into()),',
+     "Err(TryLockError::WouldBlock) => Ok(file),"),
+    ("the chain's clock is the machine's", "clock.rs", "self.ahead += by;", "self.ahead = Duration::ZERO; self.begun = Instant::now();"),
+)
+
+
+def is_ready():
+    """Whether all packages are there, or could be installed."""
+    if not shutil.which("cargo"):
+        print("engine: skipped, since there is no cargo")
+        return False
+    tried = subprocess.run([ENGINE / "setup"], capture_output=True, text=True)
+    if tried.returncode:
+        print(f"engine: skipped, since Debian's packages can't be had: {(tried.stderr.strip() or tried.stdout.strip()).splitlines()[-1]}")
+    return tried.returncode == 0
+
+
+def cargo(folder, surroundings, *words):
+    return subprocess.run(["cargo", *words], cwd=folder, env=surroundings, capture_output=True, text=True)
+
+
+def faults(surroundings, target):
+    """What is not as it has to be, and how many tests passed."""
+    passed = 0
+    for words in (("fmt", "--check"), ("clippy", "--offline", "--quiet", "--all-targets", "--", "-D", "warnings"), ("test", "--offline")):
+        done = cargo(ENGINE, surroundings, *words)
+        passed += sum(int(count) for count in re.findall(r"test result: \w+\. (\d+) passed", done.stdout))
+        if done.returncode:
+            yield f"cargo {' '.join(words)}:\n{(done.stdout + done.stderr)[-4000:]}"
+    if passed < LEAST_TESTS:
+        yield f"{passed} tests passed, where {LEAST_TESTS} are asked for"
+    done = subprocess.run([target / "debug/simplex-local", *NETWORK], capture_output=True, text=True)
+    print(done.stdout[done.stdout.find("\nThe last views"):].strip())
+    if done.returncode:
+        yield f"simplex-local {' '.join(NETWORK)}:\n{(done.stdout + done.stderr)[-2000:]}"
+
+
+def wrong_bodies(surroundings, room):
+    """Those that no test found."""
+    copy = room / "copy"
+    shutil.copytree(ENGINE, copy / "engine", ignore=shutil.ignore_patterns("target"))
+    shutil.copytree(ROOT / "bindings", copy / "bindings", ignore=shutil.ignore_patterns("target", "*.a"))
+    for name, file, old, new in WRONG_BODIES:
+        path = copy / "engine/node/src" / file
+        right = path.read_text()
+        if right.count(old) != 1:
+            yield f"{name}: its text stands {right.count(old)} times in {file}"
+            continue
+        path.write_text(right.replace(old, new))
+        done = cargo(copy / "engine", surroundings, "test", "--offline", "--quiet", "--no-fail-fast")
+        path.write_text(right)
+        failed = sorted(set(re.findall(r"^    (\w[\w:]*)$", done.stdout, re.M)))
+        print(f"{name}: {', '.join(failed) if failed else done.stderr[-300:]}", flush=True)
+        if not failed:
+            yield f"{name}: no test failed"
+
+
+def main():
+    parser = argparse.ArgumentParser(description=__doc__, formatter_class=argparse.RawDescriptionHelpFormatter)
+    parser.add_argument("--archive", type=Path, help="the library, if it is built already")
+    parser.add_argument("--long", action="store_true", help="fifty kills")
+    parser.add_argument("--wrong", action="store_true", help="the wrong bodies alone")
+    given = parser.parse_args()
+    if not is_ready():
+        sys.exit(SKIPPED)
+    with tempfile.TemporaryDirectory() as room:
+        room = Path(room)
+        archive = given.archive and given.archive.resolve() or room / "libsimplex.a"
+        if not given.archive:
+            subprocess.run([ROOT / "bindings/build", "--unproved", "--out", archive], check=True)
+        target = room / "target"
+        surroundings = {**os.environ, "SIMPLEX_ARCHIVE": str(archive), "CARGO_TARGET_DIR": str(target), "CARGO_NET_OFFLINE": "true"}
+        surroundings |= {"SIMPLEX_LONG": "1"} if given.long else {}
+        found = list(wrong_bodies(surroundings, room) if given.wrong else faults(surroundings, target))
+    for it in found:
+        print(it)
+    print(f"engine: {len(found)} not as they have to be")
+    sys.exit(1 if found else 0)
+
+
+if __name__ == "__main__":
+    main()
