@@ -1,5 +1,5 @@
 #!/usr/bin/env python3
-"""Writes docs/DEFINITIONS.md from the comments in specs/, or says where it differs from them.
+"""Writes docs/inside/DEFINITIONS.md from the comments in specs/, or says where it differs from them.
 
     tests/definitions.py            writes it
     tests/definitions.py --check    fails where the page isn't what the comments say
@@ -16,7 +16,7 @@ import sys
 
 HERE = os.path.dirname(os.path.abspath(__file__))
 TOP = os.path.join(HERE, "..")
-PAGE = os.path.join(TOP, "docs", "DEFINITIONS.md")
+PAGE = os.path.join(TOP, "docs", "inside", "DEFINITIONS.md")
 
 HEAD = """# Definitions
 
@@ -134,7 +134,7 @@ def main():
     with open(PAGE, encoding="utf-8") as it:
         if it.read() == made:
             return 0
-    print("docs/DEFINITIONS.md isn't what specs/ says: run tests/definitions.py", file=sys.stderr)
+    print("docs/inside/DEFINITIONS.md isn't what specs/ says: run tests/definitions.py", file=sys.stderr)
     return 1
 
 

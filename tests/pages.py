@@ -1,7 +1,7 @@
 #!/usr/bin/env python3
 """That the paths in pages lead somewhere.
 
-Each `ghost use` and `use` line in a fenced block of the README, of `docs/*.md` and of `crates/*/CALLING.md`, and each path of
+Each `ghost use` and `use` line in a fenced block of the README, of `docs/**/*.md` and of `crates/*/CALLING.md`, and each path of
 the repository's crates between backquotes, names a module that stands here, and the names that are taken from it stand in it. Of
 the kit's own `std` the module alone is looked for, and in Rust nothing. Crates whose names begin with `my_` are the reader's own.
 
@@ -33,7 +33,7 @@ class LeadsNowhere(Exception):
 
 def pages():
     """The pages, as paths."""
-    return [ROOT / "README.md", *sorted(ROOT.glob("docs/*.md")), *sorted(ROOT.glob("crates/*/CALLING.md"))]
+    return [ROOT / "README.md", *sorted(ROOT.glob("docs/**/*.md")), *sorted(ROOT.glob("crates/*/CALLING.md"))]
 
 
 def names_in(text):
