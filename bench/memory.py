@@ -5,7 +5,8 @@
 
 The peak of memory at N views and at twice as many, and what each of the views between took: a round with a notarization and its
 entry in the record; besides, an offer that has no verdict, or a verdict with its entry; an entry alone, of a view that the state
-has dropped; a certificate that a resolver holds."""
+has dropped; a notarized view in a resolver, with a true or a false verdict. A false one also leaves its fetch open, in the set
+beside the resolver, which a nullification ends."""
 
 import argparse
 import subprocess
@@ -41,6 +42,12 @@ def held(count):
         yield from (f"notarization {view}", f"certified {view} true")
 
 
+def failed(count):
+    yield "replayed"
+    for view in range(1, count + 1):
+        yield from (f"notarization {view}", f"certified {view} false")
+
+
 def peak(program, arguments, lines):
     """The most memory that a run took, in bytes."""
     with subprocess.Popen([program, *arguments], stdin=subprocess.PIPE, stdout=subprocess.PIPE, stderr=subprocess.DEVNULL) as running:
@@ -62,13 +69,14 @@ def main():
     parser.add_argument("--views", type=int, default=16384)
     given = parser.parse_args()
     measured = {it.__name__: bytes_of_a_view(given.program, VOTER, it, given.views) for it in (notarized, offered, judged, dropped)}
-    held_by_resolver = bytes_of_a_view(given.program, RESOLVER, held, given.views)
+    measured |= {it.__name__: bytes_of_a_view(given.program, RESOLVER, it, given.views) for it in (held, failed)}
     rows = {
         "a view with a notarization, in the state and in the record": measured["notarized"],
         "an offer that has no verdict, besides": measured["offered"] - measured["notarized"],
         "a verdict, besides": measured["judged"] - measured["notarized"],
         "three entries of a view that the state has dropped": measured["dropped"],
-        "a notarized view with its verdict, in a resolver": held_by_resolver,
+        "a notarized view with a true verdict, in a resolver": measured["held"],
+        "a notarized view with a false verdict, in a resolver, and its fetch": measured["failed"],
     }
     for what, size in rows.items():
         print(f"{size:>8.0f} bytes  {what}")

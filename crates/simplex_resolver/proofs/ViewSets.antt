@@ -1,9 +1,10 @@
 -- Sets of views as finite maps.
-use Rattle.std.proofs.Common.{◌≡◌, ℕ, Bool, true, false, ◌&&◌, ◌||◌, ◌==◌, nat_le, eqb, cond, List, [], ◌∷◌, map, Option, Some, None, is_some, Result, Ok, Err, OnOk, OnErr, refl, ap, sym, ◌∙◌, subst, T, inl, inr}
-use Rattle.std.specs.List.{AllByRecursion}
+use Rattle.std.proofs.Common.{◌≡◌, ℕ, Bool, true, false, ◌&&◌, ◌||◌, ◌==◌, nat_le, eqb, cond, List, [], ◌∷◌, ◌++◌, map, Option, Some, None, is_some, Result, Ok, Err, OnOk, Bor, refl, ap, sym, ◌∙◌, subst, T, inl, inr}
+use Rattle.std.specs.List.{AllByRecursion, list_any}
+use Rattle.std.proofs.lemmas.List.Folds.{list_any-append}
 use Rattle.std.specs.List.Sorted.{IsStrictlySortedBy}
-use Rattle.std.specs.Option.{option_and_then}
-use Rattle.std.specs.Ordering.{nat_cmp, is_lt}
+use Rattle.std.specs.Option.{option_and_then, option_copied}
+use Rattle.std.specs.Ordering.{nat_cmp, eq_by_cmp}
 use Rattle.std.specs.Cmp.{nat_cmp_total}
 use Rattle.std.specs.declared.cmp.Ordering.TheVariants.{Less}
 use Rattle.std.specs.FinMap as fin
@@ -14,7 +15,10 @@ use Rattle.simplex_sorted.specs.Tracked.{at_or_above}
 use Rattle.simplex_sorted.proofs.Maps.{find_at_key, find_other, get-insert, get-kept, same_maps, entries_of_made, is_eq-nat_cmp}
 use Rattle.simplex_resolver.specs.Repair.{has}
 use Rattle.simplex_resolver.specs.Steps.{insert_new}
-use Rattle.simplex_resolver.specs.ViewSets.{keyed, with_values, AreAmong}
+use Rattle.simplex_resolver.specs.ViewSets.{NotarizationsFacts, keyed, with_values}
+
+get-remove : {V : Type 0} (m : FinMap nat_cmp V) (v q : ℕ) → fin.get (fin.remove m v) q ≡ cond (eqb q v) None (fin.get m q)
+get-remove m v q = fin.get-remove nat_cmp_total m v q ∙ ap (λ b. cond b None (fin.get m q)) (is_eq-nat_cmp q v)
 
 all_below : (x : ℕ) (vs : List ℕ) → AllByRecursion (λ y. nat_cmp x y ≡ Less) vs → below_all nat_cmp x (keyed vs) ≡ true
 all_below x [] below = refl
@@ -52,6 +56,13 @@ module _ (vs us : List ℕ) (m : FinMap nat_cmp (Unit {0})) (is : fin.from_sorte
   inserted v each = same_maps _ _ (λ q. get_keyed us ordered q ∙ ap (λ b. cond b (Some tt) None) (each q) ∙ by_both (q == v) (has vs q) ∙ ap (cond (q == v) (Some tt)) (sym (got q)) ∙ sym (get-insert m v tt q))
     where
       by_both : (b c : Bool) → cond {A = Option (Unit {0})} (b || c) (Some tt) None ≡ cond b (Some tt) (cond c (Some tt) None)
+      by_both true c = refl
+      by_both false c = refl
+
+  pub removed : (v : ℕ) → ((q : ℕ) → has us q ≡ cond (q == v) false (has vs q)) → fin.from_sorted (keyed us) ≡ fin.remove m v
+  removed v each = same_maps _ _ (λ q. get_keyed us ordered q ∙ ap (λ b. cond b (Some tt) None) (each q) ∙ by_both (q == v) (has vs q) ∙ ap (cond (q == v) None) (sym (got q)) ∙ sym (get-remove m v q))
+    where
+      by_both : (b c : Bool) → cond {A = Option (Unit {0})} (cond b false c) (Some tt) None ≡ cond b None (cond c (Some tt) None)
       by_both true c = refl
       by_both false c = refl
 
@@ -94,190 +105,196 @@ there_once m v = by_test (fin.contains_key m v) refl
 
 -- ---- views with values
 
-module _ {W : Type 0} where
-  some_put : (b : Bool) (o : Option W) (x : W) → is_some (cond b (Some x) o) ≡ (b || is_some o)
-  some_put true o x = refl
-  some_put false o x = refl
+-- whether a loan is answered is whether a value is
+pub same_some : {V : Type 0} (o : Option (Bor V)) (b : Bool) (w : Option V) → b ≡ is_some o → option_copied o ≡ w → b ≡ is_some w
+same_some None b w test value = test ∙ ap is_some value
+same_some (Some x) b w test value = test ∙ ap is_some value
 
-  contains_put : (m : FinMap nat_cmp W) (v : ℕ) (x : W) (q : ℕ) → fin.contains_key (fin.insert m v x) q ≡ (eqb q v || fin.contains_key m q)
-  contains_put m v x q = ap is_some (get-insert m v x q) ∙ some_put (eqb q v) (fin.get m q) x
+absent : {V : Type 0} (o : Option V) → is_some o ≡ false → o ≡ None
+absent None is = refl
+absent (Some x) is = absurd (false≢true (sym is))
 
-  some_kept : (b : Bool) (o : Option W) → is_some (cond b o None) ≡ (b && is_some o)
-  some_kept true o = refl
-  some_kept false o = refl
-
-  absent : (o : Option W) → is_some o ≡ false → o ≡ None
-  absent None is = refl
-  absent (Some x) is = absurd (false≢true (sym is))
-
-module _ {V : Type 0} (f : ℕ → V) where
-  below_valued : (x : ℕ) (es : List (ℕ × Unit {0})) → below_all nat_cmp x (map (λ v. (v, f v)) (map (λ e. e.0) es)) ≡ below_all nat_cmp x es
-  below_valued x [] = refl
-  below_valued x (e ∷ es) = ap (λ b. is_lt (nat_cmp x e.0) && b) (below_valued x es)
-
-  sorted_valued : (es : List (ℕ × Unit {0})) → is_sorted nat_cmp (map (λ v. (v, f v)) (map (λ e. e.0) es)) ≡ is_sorted nat_cmp es
-  sorted_valued [] = refl
-  sorted_valued (e ∷ es) = rw (below_valued e.0 es, sorted_valued es) refl
-
-  find_valued : (es : List (ℕ × Unit {0})) (q : ℕ) → find nat_cmp q (map (λ v. (v, f v)) (map (λ e. e.0) es)) ≡ cond (is_some (find nat_cmp q es)) (Some (f q)) None
-  find_valued [] q = refl
-  find_valued (e ∷ es) q = elim (cases_eq q e.0) [
-    | inl same ↦ find_at_key q (e.0, f e.0) _ same ∙ ap (λ u. Some (f u)) (sym same) ∙ rw (find_at_key q e es same) refl
-    | inr other ↦ find_other q (e.0, f e.0) _ other ∙ find_valued es q ∙ rw (find_other q e es other) refl
-  ]
+-- what stands at a view, by its value and its places among the failed and the noted views
+abbrev entry : {V : Type 0} → Option V → Option (Unit {0}) → Option (Unit {0}) → Option (Option V)
+entry value failed noted = cond (is_some value || (is_some failed || is_some noted)) (Some value) None
 
 module _ {V : Type 0} where
-  pub get_valued : (views : FinMap nat_cmp (Unit {0})) (values : FinMap nat_cmp V) (q : ℕ) → fin.get (with_values views values) q ≡ cond (fin.contains_key views q) (Some (fin.get values q)) None
-  get_valued views values q =
-      fin.get-from_sorted nat_cmp _ q (subst T (sym (sorted_valued (fin.get values) (fin.entries views))) (fin.entries_sorted views))
-      ∙ find_valued (fin.get values) (fin.entries views) q
-      ∙ ap (λ o. cond (is_some o) (Some (fin.get values q)) None) (sym (fin.get-entries views q))
+  find_value : (es : List (ℕ × V)) (rest : List (ℕ × Option V)) (q : ℕ)
+      → find nat_cmp q (map (λ e. (e.0, Some e.1)) es ++ rest) ≡ cond (is_some (find nat_cmp q es)) (Some (find nat_cmp q es)) (find nat_cmp q rest)
+  find_value [] rest q = refl
+  find_value (e ∷ es) rest q = elim (cases_eq q e.0) [
+    | inl same ↦ find_at_key q (e.0, Some e.1) _ same ∙ rw (find_at_key q e es same) refl
+    | inr other ↦ find_other q (e.0, Some e.1) _ other ∙ find_value es rest q ∙ rw (find_other q e es other) refl
+  ]
 
-  -- what stands at a view after its value changes, in both maps
-  put_both : (b c : Bool) (old : Option V) (new : Option V) → cond (b || c) (Some (cond b new old)) None ≡ cond b (Some new) (cond c (Some old) None)
-  put_both true c old new = refl
-  put_both false c old new = refl
+  abbrev bare : List ℕ → List (ℕ × Option V)
+  bare vs = map (λ v. (v, None)) vs
 
-  put_one : (b c : Bool) (old : Option V) → (b ≡ true → old ≡ None) → cond (b || c) (Some old) None ≡ cond b (Some None) (cond c (Some old) None)
-  put_one true c old none = ap Some (none refl)
-  put_one false c old none = refl
+  find_none : (vs : List ℕ) (q : ℕ) → find nat_cmp q (bare vs) ≡ cond (list_any (eq_by_cmp nat_cmp q) vs) (Some None) None
+  find_none [] q = refl
+  find_none (v ∷ vs) q = elim (cases_eq q v) [
+    | inl same ↦ find_at_key q (v, None) _ same ∙ rw (is_eq-nat_cmp q v, eq-eqb q v same) refl
+    | inr other ↦ find_other q (v, None) _ other ∙ find_none vs q ∙ rw (is_eq-nat_cmp q v, ne_eqb q v other) refl
+  ]
 
-  kept_both : (b c : Bool) (o : Option V) → cond (b && c) (Some (cond b o None)) None ≡ cond b (cond c (Some o) None) None
-  kept_both true c o = refl
-  kept_both false c o = refl
+  by_value : (value : Option V) (b : Bool) → cond (is_some value) (Some value) (cond b (Some None) None) ≡ cond (is_some value || b) (Some value) None
+  by_value None b = refl
+  by_value (Some x) b = refl
 
-  pub none_valued : (views : FinMap nat_cmp (Unit {0})) (values : FinMap nat_cmp V) → views ≡ fin.empty → with_values views values ≡ fin.empty
-  none_valued views values none = same_maps _ _ (λ q.
-      get_valued views values q ∙ ap (λ m. cond (fin.contains_key m q) (Some (fin.get values q)) None) none
-      ∙ ap (λ o. cond (is_some o) (Some (fin.get values q)) None) (fin.get-empty nat_cmp q) ∙ sym (fin.get-empty nat_cmp q))
+  get_valued : (values : FinMap nat_cmp V) (failed noted : FinMap nat_cmp (Unit {0})) (q : ℕ)
+      → fin.get (with_values values failed noted) q ≡ entry (fin.get values q) (fin.get failed q) (fin.get noted q)
+  get_valued values failed noted q =
+      fin.get-from_entries nat_cmp_total _ q
+      ∙ find_value (fin.entries values) _ q
+      ∙ ap (cond (is_some (find nat_cmp q (fin.entries values))) (Some (find nat_cmp q (fin.entries values)))) (find_none (fin.keys failed ++ fin.keys noted) q ∙ ap (λ b. cond b (Some None) None) among)
+      ∙ by_value (find nat_cmp q (fin.entries values)) _
+      ∙ ap (λ o. cond (is_some o || (fin.contains_key failed q || fin.contains_key noted q)) (Some o) None) (sym (fin.get-entries values q))
+    where
+      among : list_any (eq_by_cmp nat_cmp q) (fin.keys failed ++ fin.keys noted) ≡ (fin.contains_key failed q || fin.contains_key noted q)
+      among = list_any-append (eq_by_cmp nat_cmp q) (fin.keys failed) (fin.keys noted)
+          ∙ (λ k. sym (fin.contains_key-keys failed q) k || sym (fin.contains_key-keys noted q) k)
 
-  module _ (views : FinMap nat_cmp (Unit {0})) (values : FinMap nat_cmp V) (among : AreAmong values views) where
-    pub contains_valued : (q : ℕ) → fin.contains_key views q ≡ fin.contains_key (with_values views values) q
-    contains_valued q = by_test (fin.contains_key views q) ∙ sym (ap is_some (get_valued views values q))
+  -- where nothing is kept
+  pub none_valued : (values : FinMap nat_cmp V) (failed noted : FinMap nat_cmp (Unit {0})) → values ≡ fin.empty → failed ≡ fin.empty → noted ≡ fin.empty → with_values values failed noted ≡ fin.empty
+  none_valued values failed noted no_value none_failed none_noted = same_maps _ _ (λ q.
+      get_valued values failed noted q
+      ∙ (λ k. entry (fin.get (no_value k) q) (fin.get (none_failed k) q) (fin.get (none_noted k) q))
+      ∙ (λ k. entry (fin.get-empty {X = V} nat_cmp q k) (fin.get-empty {X = Unit {0}} nat_cmp q k) (fin.get-empty {X = Unit {0}} nat_cmp q k))
+      ∙ sym (fin.get-empty nat_cmp q))
+
+  module _ (values : FinMap nat_cmp V) (failed noted : FinMap nat_cmp (Unit {0})) (x : FinMap nat_cmp (Option V)) (is : with_values values failed noted ≡ x) where
+    got_valued : (q : ℕ) → fin.get x q ≡ entry (fin.get values q) (fin.get failed q) (fin.get noted q)
+    got_valued q = ap (λ m. fin.get m q) (sym is) ∙ get_valued values failed noted q
+
+    pub value_seen : (q : ℕ) → fin.get values q ≡ option_and_then (λ o. o) (fin.get x q)
+    value_seen q = by_cases (fin.get values q) (is_some (fin.get failed q) || is_some (fin.get noted q)) ∙ sym (ap (option_and_then (λ o. o)) (got_valued q))
       where
-        by_test : (b : Bool) → b ≡ is_some (cond b (Some (fin.get values q)) None)
-        by_test true = refl
-        by_test false = refl
+        by_cases : (o : Option V) (b : Bool) → o ≡ option_and_then (λ o. o) (cond (is_some o || b) (Some o) None)
+        by_cases None true = refl
+        by_cases None false = refl
+        by_cases (Some y) b = refl
 
-    pub value_there : (q : ℕ) → fin.get values q ≡ option_and_then (λ o. o) (fin.get (with_values views values) q)
-    value_there q = by_test (fin.contains_key views q) refl ∙ sym (ap (option_and_then (λ o. o)) (get_valued views values q))
+    pub contains_seen : (q : ℕ) → (fin.contains_key values q || (fin.contains_key failed q || fin.contains_key noted q)) ≡ fin.contains_key x q
+    contains_seen q = by_test _ (fin.get values q) ∙ sym (ap is_some (got_valued q))
       where
-        by_test : (b : Bool) → fin.contains_key views q ≡ b → fin.get values q ≡ option_and_then (λ o. o) (cond b (Some (fin.get values q)) None)
-        by_test true is = refl
-        by_test false is = absent (fin.get values q) (not_there (fin.contains_key values q) refl)
-          where
-            not_there : (c : Bool) → fin.contains_key values q ≡ c → c ≡ false
-            not_there true there = absurd (false≢true (sym is ∙ among q there))
-            not_there false there = refl
+        by_test : (b : Bool) (o : Option V) → b ≡ is_some (cond b (Some o) None)
+        by_test true o = refl
+        by_test false o = refl
 
-    none_valued_at : (q : ℕ) → fin.contains_key views q ≡ false → fin.get values q ≡ None
-    none_valued_at q none = value_there q ∙ ap (option_and_then (λ o. o)) (get_valued views values q ∙ ap (λ b. cond b (Some (fin.get values q)) None) none)
+    -- where no value stands, the view is there with none, if it is there
+    noted_once : (v : ℕ) → fin.contains_key values v ≡ false → insert_new x v None ≡ fin.insert x v None
+    noted_once v none = by_test (is_some (fin.get failed v) || is_some (fin.get noted v)) (got_valued v ∙ ap (λ o. cond (is_some o || (is_some (fin.get failed v) || is_some (fin.get noted v))) (Some o) None) (absent (fin.get values v) none))
+      where
+        by_test : (b : Bool) → fin.get x v ≡ cond b (Some None) None → insert_new x v None ≡ fin.insert x v None
+        by_test false at = ap (λ o. cond (is_some o) x (fin.insert x v None)) at
+        by_test true at = ap (λ o. cond (is_some o) x (fin.insert x v None)) at ∙ same_maps _ _ (λ q. elim (cases_eq q v) [
+          | inl same ↦ ap (fin.get x) same ∙ at ∙ sym (get-insert x v None q ∙ rw (eq-eqb q v same) refl)
+          | inr other ↦ sym (get-insert x v None q ∙ rw (ne_eqb q v other) refl)
+        ])
 
-    -- a view that is noted has no value before
-    pub noted_value : (v : ℕ) → fin.contains_key views v ≡ false → with_values (fin.insert views v tt) values ≡ fin.insert (with_values views values) v None
+    noted_at : (v q : ℕ) → fin.contains_key values v ≡ false → (b : Bool) → eqb q v ≡ b
+        → entry (fin.get values q) (fin.get failed q) (cond b (Some tt) (fin.get noted q)) ≡ cond b (Some None) (entry (fin.get values q) (fin.get failed q) (fin.get noted q))
+    noted_at v q none false at = refl
+    noted_at v q none true at =
+        ap (λ o. entry o (fin.get failed q) (Some tt)) (ap (fin.get values) (eqb-true q v at) ∙ absent (fin.get values v) none)
+        ∙ ap (λ b. cond b (Some None) None) (or_true (is_some (fin.get failed q)))
+
+    pub noted_value : (v : ℕ) → fin.contains_key values v ≡ false → with_values values failed (fin.insert noted v tt) ≡ insert_new x v None
     noted_value v none = same_maps _ _ (λ q.
-        get_valued (fin.insert views v tt) values q
-        ∙ ap (λ b. cond b (Some (fin.get values q)) None) (contains_put views v tt q)
-        ∙ put_one (eqb q v) (fin.contains_key views q) (fin.get values q) (λ at. none_valued_at q (ap (fin.contains_key views) (eqb-true q v at) ∙ none))
-        ∙ ap (cond (eqb q v) (Some None)) (sym (get_valued views values q))
-        ∙ sym (get-insert (with_values views values) v None q))
+        get_valued values failed (fin.insert noted v tt) q
+        ∙ ap (entry (fin.get values q) (fin.get failed q)) (get-insert noted v tt q)
+        ∙ noted_at v q none (eqb q v) refl
+        ∙ ap (cond (eqb q v) (Some None)) (sym (got_valued q))
+        ∙ sym (get-insert x v None q)) ∙ sym (noted_once v none)
 
-    pub noted_among : (v : ℕ) → AreAmong values (fin.insert views v tt)
-    noted_among v q there = contains_put views v tt q ∙ ap (λ b. eqb q v || b) (among q there) ∙ or_true (eqb q v)
-
-    pub certified_value : (v : ℕ) (x : V) → with_values (fin.insert views v tt) (fin.insert values v x) ≡ fin.insert (with_values views values) v (Some x)
-    certified_value v x = same_maps _ _ (λ q.
-        get_valued (fin.insert views v tt) (fin.insert values v x) q
-        ∙ (λ k. cond (contains_put views v tt q k) (Some (get-insert values v x q k)) None)
-        ∙ put_both (eqb q v) (fin.contains_key views q) (fin.get values q) (Some x)
-        ∙ ap (cond (eqb q v) (Some (Some x))) (sym (get_valued views values q))
-        ∙ sym (get-insert (with_values views values) v (Some x) q))
-
-    pub certified_among : (v : ℕ) (x : V) → AreAmong (fin.insert values v x) (fin.insert views v tt)
-    certified_among v x q there = contains_put views v tt q ∙ by_test (eqb q v) (sym (contains_put values v x q) ∙ there)
+    pub certified_value : (v : ℕ) (y : V) → with_values (fin.insert values v y) failed (fin.remove noted v) ≡ fin.insert x v (Some y)
+    certified_value v y = same_maps _ _ (λ q.
+        get_valued (fin.insert values v y) failed (fin.remove noted v) q
+        ∙ (λ k. entry (get-insert values v y q k) (fin.get failed q) (get-remove noted v q k))
+        ∙ by_test (eqb q v) (fin.get values q) (fin.get failed q) (fin.get noted q)
+        ∙ ap (cond (eqb q v) (Some (Some y))) (sym (got_valued q))
+        ∙ sym (get-insert x v (Some y) q))
       where
-        by_test : (b : Bool) → (b || fin.contains_key values q) ≡ true → (b || fin.contains_key views q) ≡ true
-        by_test true h = refl
-        by_test false h = among q h
+        by_test : (b : Bool) (o : Option V) (f n : Option (Unit {0})) → entry (cond b (Some y) o) f (cond b None n) ≡ cond b (Some (Some y)) (entry o f n)
+        by_test true o f n = refl
+        by_test false o f n = refl
 
-    without : (v q : ℕ) → fin.get (fin.remove values v) q ≡ cond (eqb q v) None (fin.get values q)
-    without v q = fin.get-remove nat_cmp_total values v q ∙ ap (λ b. cond b None (fin.get values q)) (is_eq-nat_cmp q v)
-
-    pub refused_value : (v : ℕ) → with_values (fin.insert views v tt) (fin.remove values v) ≡ fin.insert (with_values views values) v None
+    pub refused_value : (v : ℕ) → with_values (fin.remove values v) (fin.insert failed v tt) (fin.remove noted v) ≡ fin.insert x v None
     refused_value v = same_maps _ _ (λ q.
-        get_valued (fin.insert views v tt) (fin.remove values v) q
-        ∙ (λ k. cond (contains_put views v tt q k) (Some (without v q k)) None)
-        ∙ put_both (eqb q v) (fin.contains_key views q) (fin.get values q) None
-        ∙ ap (cond (eqb q v) (Some None)) (sym (get_valued views values q))
-        ∙ sym (get-insert (with_values views values) v None q))
-
-    pub refused_among : (v : ℕ) → AreAmong (fin.remove values v) (fin.insert views v tt)
-    refused_among v q there = noted_among v q (by_test (eqb q v) (sym (ap is_some (without v q)) ∙ there))
+        get_valued (fin.remove values v) (fin.insert failed v tt) (fin.remove noted v) q
+        ∙ (λ k. entry (get-remove values v q k) (get-insert failed v tt q k) (get-remove noted v q k))
+        ∙ by_test (eqb q v) (fin.get values q) (fin.get failed q) (fin.get noted q)
+        ∙ ap (cond (eqb q v) (Some None)) (sym (got_valued q))
+        ∙ sym (get-insert x v None q))
       where
-        by_test : (b : Bool) → is_some (cond b None (fin.get values q)) ≡ true → fin.contains_key values q ≡ true
-        by_test true h = absurd (false≢true h)
-        by_test false h = h
+        by_test : (b : Bool) (o : Option V) (f n : Option (Unit {0})) → entry (cond b None o) (cond b (Some tt) f) (cond b None n) ≡ cond b (Some None) (entry o f n)
+        by_test true o f n = refl
+        by_test false o f n = refl
 
-    pub lowered_value : (v : ℕ) → with_values (at_or_above views v) (at_or_above values v) ≡ at_or_above (with_values views values) v
+    pub lowered_value : (v : ℕ) → with_values (at_or_above values v) (at_or_above failed v) (at_or_above noted v) ≡ at_or_above x v
     lowered_value v = same_maps _ _ (λ q.
-        get_valued (at_or_above views v) (at_or_above values v) q
-        ∙ (λ k. cond (ap is_some (get-kept views (λ u. nat_le v u) q) k) (Some (get-kept values (λ u. nat_le v u) q k)) None)
-        ∙ ap (λ b. cond b (Some (cond (nat_le v q) (fin.get values q) None)) None) (some_kept (nat_le v q) (fin.get views q))
-        ∙ kept_both (nat_le v q) (fin.contains_key views q) (fin.get values q)
-        ∙ ap (λ o. cond (nat_le v q) o None) (sym (get_valued views values q))
-        ∙ sym (get-kept (with_values views values) (λ u. nat_le v u) q))
-
-    pub lowered_among : (v : ℕ) → AreAmong (at_or_above values v) (at_or_above views v)
-    lowered_among v q there =
-        ap is_some (get-kept views (λ u. nat_le v u) q) ∙ some_kept (nat_le v q) (fin.get views q)
-        ∙ by_test (nat_le v q) (sym (ap is_some (get-kept values (λ u. nat_le v u) q) ∙ some_kept (nat_le v q) (fin.get values q)) ∙ there)
+        get_valued (at_or_above values v) (at_or_above failed v) (at_or_above noted v) q
+        ∙ (λ k. entry (get-kept values (λ u. nat_le v u) q k) (get-kept failed (λ u. nat_le v u) q k) (get-kept noted (λ u. nat_le v u) q k))
+        ∙ by_test (nat_le v q) (fin.get values q) (fin.get failed q) (fin.get noted q)
+        ∙ ap (λ o. cond (nat_le v q) o None) (sym (got_valued q))
+        ∙ sym (get-kept x (λ u. nat_le v u) q))
       where
-        by_test : (b : Bool) → (b && fin.contains_key values q) ≡ true → (b && fin.contains_key views q) ≡ true
-        by_test true h = among q h
-        by_test false h = h
+        by_test : (b : Bool) (o : Option V) (f n : Option (Unit {0})) → entry (cond b o None) (cond b f None) (cond b n None) ≡ cond b (entry o f n) None
+        by_test true o f n = refl
+        by_test false o f n = refl
 
-    -- ---- the same of the calls that may find no memory; x is what they are seen as
+-- ---- the same of the calls of `Notarizations`, which are seen as n
 
-    module _ (x : FinMap nat_cmp (Option V)) (is : with_values views values ≡ x) where
-      pub contains_seen : (q : ℕ) → fin.contains_key views q ≡ fin.contains_key x q
-      contains_seen q = contains_valued q ∙ ap (λ m. fin.contains_key m q) is
+abbrev facts_of_parts : FinMap nat_cmp (List ℕ) → FinMap nat_cmp (Unit {0}) → FinMap nat_cmp (Unit {0}) → NotarizationsFacts
+facts_of_parts values failed noted = record { by_view = with_values values failed noted; failed = failed }
 
-      pub value_seen : (q : ℕ) → fin.get values q ≡ option_and_then (λ o. o) (fin.get x q)
-      value_seen q = value_there q ∙ ap (λ m. option_and_then (λ o. o) (fin.get m q)) is
+module _ (values : FinMap nat_cmp (List ℕ)) (failed noted : FinMap nat_cmp (Unit {0})) (n : NotarizationsFacts) (is : facts_of_parts values failed noted ≡ n) where
+  by_view_is : with_values values failed noted ≡ n.by_view
+  by_view_is = ap (λ m. m.by_view) is
 
-      pub seen_there : (v : ℕ) → fin.contains_key views v ≡ true → x ≡ insert_new x v None
-      seen_there v there = sym (ap (λ b. cond b x (fin.insert x v None)) (sym (contains_seen v) ∙ there))
+  pub seen_value : (q : ℕ) → fin.get values q ≡ option_and_then (λ o. o) (fin.get n.by_view q)
+  seen_value q = value_seen values failed noted n.by_view by_view_is q
 
-      pub seen_noted : {A E : Type 0} (r : Result A E) (new : FinMap nat_cmp (Unit {0})) (v : ℕ) → fin.contains_key views v ≡ false → OnOk r (new ≡ fin.insert views v tt) → OnOk r (with_values new values ≡ insert_new x v None)
-      seen_noted (Err e) new v none after = tt
-      seen_noted (Ok a) new v none after =
-          ap (λ m. with_values m values) after ∙ noted_value v none ∙ ap (λ m. fin.insert m v None) is
-          ∙ sym (ap (λ b. cond b x (fin.insert x v None)) (sym (contains_seen v) ∙ none))
+  pub seen_contains : (q : ℕ) → (fin.contains_key values q || (fin.contains_key failed q || fin.contains_key noted q)) ≡ fin.contains_key n.by_view q
+  seen_contains q = contains_seen values failed noted n.by_view by_view_is q
 
-      pub seen_certified : {A E : Type 0} (r : Result A E) (vs : FinMap nat_cmp (Unit {0})) (new : FinMap nat_cmp V) (v : ℕ) (y : V) → vs ≡ fin.insert views v tt → OnOk r (new ≡ fin.insert values v y) → OnOk r (with_values vs new ≡ fin.insert x v (Some y))
-      seen_certified (Err e) vs new v y noted after = tt
-      seen_certified (Ok a) vs new v y noted after = (λ k. with_values (noted k) (after k)) ∙ certified_value v y ∙ ap (λ m. fin.insert m v (Some y)) is
+  -- a view that has a value, or has failed, is there
+  pub value_there : (v : ℕ) → fin.contains_key values v ≡ true → fin.contains_key n.by_view v ≡ true
+  value_there v there = sym (seen_contains v) ∙ ap (λ b. b || (fin.contains_key failed v || fin.contains_key noted v)) there
 
-      pub seen_refused : (vs : FinMap nat_cmp (Unit {0})) (new : FinMap nat_cmp V) (v : ℕ) → vs ≡ fin.insert views v tt → new ≡ fin.remove values v → with_values vs new ≡ fin.insert x v None
-      seen_refused vs new v noted after = (λ k. with_values (noted k) (after k)) ∙ refused_value v ∙ ap (λ m. fin.insert m v None) is
+  pub failed_there : (v : ℕ) → fin.contains_key failed v ≡ true → fin.contains_key n.by_view v ≡ true
+  failed_there v there = sym (seen_contains v) ∙ ap (λ b. fin.contains_key values v || (b || fin.contains_key noted v)) there ∙ or_true (fin.contains_key values v)
 
-      pub seen_lowered : (vs : FinMap nat_cmp (Unit {0})) (new : FinMap nat_cmp V) (v : ℕ) → vs ≡ at_or_above views v → new ≡ at_or_above values v → with_values vs new ≡ at_or_above x v
-      seen_lowered vs new v noted after = (λ k. with_values (noted k) (after k)) ∙ lowered_value v ∙ ap (λ m. at_or_above m v) is
+  pub noted_there : (v : ℕ) → fin.contains_key values v ≡ false → fin.contains_key failed v ≡ false → fin.contains_key noted v ≡ fin.contains_key n.by_view v
+  noted_there v no_value not_failed = sym (λ k. no_value k || (not_failed k || fin.contains_key noted v)) ∙ seen_contains v
 
-    pub among_noted : {A E : Type 0} (r : Result A E) (new : FinMap nat_cmp (Unit {0})) (v : ℕ) → OnOk r (new ≡ fin.insert views v tt) → OnErr r (new ≡ views) → AreAmong values new
-    among_noted (Ok a) new v after refused = subst (AreAmong values) (sym after) (noted_among v)
-    among_noted (Err e) new v after refused = subst (AreAmong values) (sym refused) among
+  -- and is not noted anew
+  pub seen_there : (v : ℕ) → fin.contains_key n.by_view v ≡ true → n ≡ record n { by_view = insert_new n.by_view v None }
+  seen_there v there k = record { by_view = sym (ap (λ b. cond b n.by_view (fin.insert n.by_view v None)) there) k; failed = n.failed }
 
-    pub among_certified : {A E : Type 0} (r : Result A E) (vs : FinMap nat_cmp (Unit {0})) (new : FinMap nat_cmp V) (v : ℕ) (y : V) → vs ≡ fin.insert views v tt → OnOk r (new ≡ fin.insert values v y) → OnErr r (new ≡ values) → AreAmong new vs
-    among_certified (Ok a) vs new v y noted after refused = subst (AreAmong new) (sym noted) (subst (λ m. AreAmong m (fin.insert views v tt)) (sym after) (certified_among v y))
-    among_certified (Err e) vs new v y noted after refused = subst (AreAmong new) (sym noted) (subst (λ m. AreAmong m (fin.insert views v tt)) (sym refused) (noted_among v))
+  pub seen_noted : {A E : Type 0} (r : Result A E) (new : FinMap nat_cmp (Unit {0})) (v : ℕ) → fin.contains_key values v ≡ false
+      → OnOk r (new ≡ fin.insert noted v tt) → OnOk r (facts_of_parts values failed new ≡ record n { by_view = insert_new n.by_view v None })
+  seen_noted (Err e) new v none after = tt
+  seen_noted (Ok a) new v none after =
+      let whole = ap (with_values values failed) after ∙ noted_value values failed noted n.by_view by_view_is v none in
+      λ k. record { by_view = whole k; failed = (is k).failed }
 
-    pub among_refused : (vs : FinMap nat_cmp (Unit {0})) (new : FinMap nat_cmp V) (v : ℕ) → vs ≡ fin.insert views v tt → new ≡ fin.remove values v → AreAmong new vs
-    among_refused vs new v noted after = subst (AreAmong new) (sym noted) (subst (λ m. AreAmong m (fin.insert views v tt)) (sym after) (refused_among v))
+  pub seen_certified : (vs : FinMap nat_cmp (List ℕ)) (new : FinMap nat_cmp (Unit {0})) (v : ℕ) (y : List ℕ) → vs ≡ fin.insert values v y → new ≡ fin.remove noted v
+      → facts_of_parts vs failed new ≡ record n { by_view = fin.insert n.by_view v (Some y) }
+  seen_certified vs new v y put taken =
+      let whole = (λ k. with_values (put k) failed (taken k)) ∙ certified_value values failed noted n.by_view by_view_is v y in
+      λ k. record { by_view = whole k; failed = (is k).failed }
 
-    pub among_lowered : (vs : FinMap nat_cmp (Unit {0})) (new : FinMap nat_cmp V) (v : ℕ) → vs ≡ at_or_above views v → new ≡ at_or_above values v → AreAmong new vs
-    among_lowered vs new v noted after = subst (AreAmong new) (sym noted) (subst (λ m. AreAmong m (at_or_above views v)) (sym after) (lowered_among v))
+  pub seen_refused : (vs : FinMap nat_cmp (List ℕ)) (fs new : FinMap nat_cmp (Unit {0})) (v : ℕ) → vs ≡ fin.remove values v → fs ≡ fin.insert failed v tt → new ≡ fin.remove noted v
+      → facts_of_parts vs fs new ≡ record { by_view = fin.insert n.by_view v None; failed = insert_new n.failed v tt }
+  seen_refused vs fs new v gone put taken =
+      let whole = (λ k. with_values (gone k) (put k) (taken k)) ∙ refused_value values failed noted n.by_view by_view_is v in
+      let among = put ∙ there_once failed v ∙ ap (λ m. insert_new m.failed v tt) is in
+      λ k. record { by_view = whole k; failed = among k }
 
--- where nothing has a value, what has one is among the views
-pub none_among : {V : Type 0} (views : FinMap nat_cmp (Unit {0})) (values : FinMap nat_cmp V) → values ≡ fin.empty → AreAmong values views
-none_among views values none q there = absurd (false≢true (sym (ap (λ m. fin.contains_key m q) none ∙ ap is_some (fin.get-empty nat_cmp q)) ∙ there))
+  pub seen_lowered : (vs : FinMap nat_cmp (List ℕ)) (fs new : FinMap nat_cmp (Unit {0})) (v : ℕ) → vs ≡ at_or_above values v → fs ≡ at_or_above failed v → new ≡ at_or_above noted v
+      → facts_of_parts vs fs new ≡ record { by_view = at_or_above n.by_view v; failed = at_or_above n.failed v }
+  seen_lowered vs fs new v values_left failed_left noted_left =
+      let whole = (λ k. with_values (values_left k) (failed_left k) (noted_left k)) ∙ lowered_value values failed noted n.by_view by_view_is v in
+      let among = failed_left ∙ ap (λ m. at_or_above m.failed v) is in
+      λ k. record { by_view = whole k; failed = among k }

@@ -1,17 +1,28 @@
 -- Sets of views, and the notarizations that a resolver keeps, as finite maps. No public clause names them.
-use Rattle.std.specs.Prelude.{◌≡◌, ℕ, List, Option, map, true}
+use Rattle.std.specs.Prelude.{ℕ, List, ◌++◌, Option, Some, None, map, refl}
 use Rattle.std.specs.Ordering.{nat_cmp}
-use Rattle.std.specs.FinMap as map
+use Rattle.std.specs.Coded.{Coded, code_by, coded×, coded_ℕ, coded_list, coded_option}
+use base.Stored.{coded_unit}
+use Rattle.std.specs.FinMap as finmap
 use Rattle.std.specs.FinMap.{FinMap}
 
 -- views as the entries of a map
 abbrev pub keyed : List ℕ → List (ℕ × Unit {0})
 keyed vs = map (λ v. (v, tt)) vs
 
--- each of these views with what stands there for it, if anything does
-abbrev pub with_values : {V : Type 0} → FinMap nat_cmp (Unit {0}) → FinMap nat_cmp V → FinMap nat_cmp (Option V)
-with_values views values = map.from_sorted (map (λ v. (v, map.get values v)) (map.keys views))
+-- the notarized and judged views, each with its encoding where its last verdict was true, and those that a verdict has failed
+pub record NotarizationsFacts : Type 0 where
+  pub by_view : FinMap nat_cmp (Option (List ℕ))
+  pub failed : FinMap nat_cmp (Unit {0})
 
--- what has a value is among the views
-abbrev pub AreAmong : {V : Type 0} → FinMap nat_cmp V → FinMap nat_cmp (Unit {0}) → Type 0
-AreAmong values views = (v : ℕ) → map.contains_key values v ≡ true → map.contains_key views v ≡ true
+-- they are stored as the pair of their fields
+abbrev pub notarizations_code : Coded NotarizationsFacts
+notarizations_code =
+    code_by (FinMap nat_cmp (Option (List ℕ)) × FinMap nat_cmp (Unit {0}))
+    (coded× (finmap.code coded_ℕ (coded_option (coded_list coded_ℕ))) (finmap.code coded_ℕ coded_unit)) (λ n. (n.by_view, n.failed))
+    (λ p. record { by_view = p.0; failed = p.1 }) (λ _. refl)
+
+-- the views that have a value, each with it, and the views without one
+abbrev pub with_values : {V : Type 0} → FinMap nat_cmp V → FinMap nat_cmp (Unit {0}) → FinMap nat_cmp (Unit {0}) → FinMap nat_cmp (Option V)
+with_values values failed noted =
+    finmap.from_entries (map (λ e. (e.0, Some e.1)) (finmap.entries values) ++ map (λ v. (v, None)) (finmap.keys failed ++ finmap.keys noted))

@@ -1,4 +1,4 @@
-//! The notarized and judged views, and the encodings of those whose last verdict was true.
+//! The notarized and judged views, with the encodings of those whose last verdict was true, and which of them have failed.
 
 ghost use Rattle.std.specs.Prelude.{◌≡◌, Some, None, OnOk};
 ghost use Rattle.std.specs.Option.{option_copied};
@@ -15,85 +15,115 @@ use simplex_types::types::{Fault, View};
 use std::alloc::Global;
 use std::marker::Model;
 
-/// A map from views, each with an encoding where its last verdict was true.
+/// A map from views, each with an encoding where its last verdict was true, and the set of those that a verdict has failed.
+///
+/// Each view takes one place, but for one that has failed and was certified after that.
 #[derive(Drop)]
 pub(super) struct Notarizations {
-    views: Views,
+    /// Views that no verdict came to.
+    noted: Views,
+    /// Views that a verdict has failed.
+    failed: Views,
+    /// The encodings of the views whose last verdict was true.
     certified: Tracked<Bytes>,
 }
 
 impl Model for Notarizations {
-    ghost use Rattle.std.specs.Prelude.{ℕ, List, Option};
-    ghost use Rattle.std.specs.FinMap as map;
-    ghost use Rattle.std.specs.Ordering.{nat_cmp};
-    ghost use Rattle.std.specs.Coded.{coded_ℕ, coded_list, coded_option};
-    ghost use Rattle.simplex_resolver.specs.ViewSets.{with_values, AreAmong};
+    ghost use Rattle.simplex_resolver.specs.ViewSets.{NotarizationsFacts, notarizations_code, with_values};
 
-    ghost Value = { map.FinMap nat_cmp (Option (List ℕ)) };
+    ghost Value = { NotarizationsFacts };
 
-    ghost coded = { map.code coded_ℕ (coded_option (coded_list coded_ℕ)) };
+    ghost coded = { notarizations_code };
 
-    ghost view = { λ n. with_values n.views n.certified };
-
-    ghost invariant = { λ n. AreAmong n.certified n.views };
+    ghost view = { λ n. record {
+      by_view = with_values n.certified n.failed n.noted;
+      failed = n.failed;
+    } };
 }
 
 impl Notarizations {
     pub(super) fn new(alloc: Global) -> Notarizations
-        ensures { result ≡ map.empty }
+        ensures by_view { result.by_view ≡ map.empty }
+        ensures failed { result.failed ≡ map.empty }
     {
         Notarizations {
-            views: Views::new(alloc),
+            noted: Views::new(alloc),
+            failed: Views::new(alloc),
             certified: Tracked::new(alloc),
         }
     }
 
     /// Notes a view, unless it is there.
     pub(super) fn note(&mut self, view: View) -> Result<(), Fault>
-        ensures { OnOk result (self.new ≡ insert_new self.old view None) }
+        ensures { OnOk result (self.new ≡ record self.old { by_view = insert_new self.old.by_view view None }) }
     {
-        if self.views.contains(view) {
+        if self.failed.contains(view) || self.certified.get(view).is_some() {
             return Ok(());
         }
-        self.views.insert(view)
+        self.noted.insert(view)
     }
 
     /// The view's last verdict was true: this is the encoding that is served.
     pub(super) fn certify(&mut self, view: View, encoding: Bytes) -> Result<(), Fault>
-        ensures { OnOk result (self.new ≡ map.insert self.old view (Some encoding)) }
+        ensures { OnOk result (self.new ≡ record self.old { by_view = map.insert self.old.by_view view (Some encoding) }) }
     {
-        self.views.insert(view)?;
-        held::put(&mut self.certified, view, encoding)
+        held::put(&mut self.certified, view, encoding)?;
+        self.noted.remove(view);
+        Ok(())
     }
 
-    /// The view's last verdict was false.
+    /// The view's last verdict was false: it has failed from now on.
     pub(super) fn refuse(&mut self, view: View) -> Result<(), Fault>
-        ensures { OnOk result (self.new ≡ map.insert self.old view None) }
+        ensures { OnOk result (self.new ≡ record {
+          by_view = map.insert self.old.by_view view None;
+          failed = insert_new self.old.failed view tt;
+        }) }
     {
-        self.views.insert(view)?;
+        self.failed.insert(view)?;
+        self.noted.remove(view);
         self.certified.remove(view);
         Ok(())
     }
 
     /// Whether the view is notarized or judged.
     pub(super) fn contains(&self, view: View) -> bool
-        ensures { result ≡ map.contains_key self.now view }
+        ensures { result ≡ map.contains_key self.now.by_view view }
     {
-        self.views.contains(view)
+        self.certified.get(view).is_some()
+            || self.failed.contains(view)
+            || self.noted.contains(view)
+    }
+
+    /// Whether a verdict has failed the view.
+    pub(super) fn has_failed(&self, view: View) -> bool
+        ensures { result ≡ map.contains_key self.now.failed view }
+    {
+        self.failed.contains(view)
+    }
+
+    /// The views that a verdict has failed.
+    pub(super) fn failed(&self) -> &Views
+        ensures { result.now ≡ self.now.failed }
+    {
+        &self.failed
     }
 
     /// The encoding at the view, where its last verdict was true.
     pub(super) fn certified_at(&self, view: View) -> Option<&Bytes>
-        ensures { option_copied result ≡ certified_encoding self.now view }
+        ensures { option_copied result ≡ certified_encoding self.now.by_view view }
     {
         self.certified.get(view)
     }
 
     /// Removes the views below a view.
     pub(super) fn drop_below(&mut self, view: View)
-        ensures { self.new ≡ at_or_above self.old view }
+        ensures { self.new ≡ record {
+          by_view = at_or_above self.old.by_view view;
+          failed = at_or_above self.old.failed view;
+        } }
     {
-        self.views.drop_below(view);
+        self.noted.drop_below(view);
+        self.failed.drop_below(view);
         self.certified.drop_below(view);
     }
 }

@@ -13,7 +13,6 @@ ghost use Rattle.simplex_resolver.specs.Steps.{update, verdict, Replayed, Refuse
 
 use crate::resolver::effect::Effect;
 use crate::resolver::notarizations::Notarizations;
-use crate::resolver::views::Views;
 use bytes::Bytes;
 use simplex_sorted::by_term::ByTerm;
 use simplex_types::types::{
@@ -39,10 +38,8 @@ pub struct State {
     /// Encoded nullifications whose term ends above the last finalized view.
     nullifications: ByTerm<Bytes>,
     /// The notarized or judged views above the last finalized one, each with its encoding where its
-    /// last verdict was true.
+    /// last verdict was true, and which of them a verdict has failed.
     notarizations: Notarizations,
-    /// The views above the last finalized one that a verdict has failed.
-    uncertifiable: Views,
     replaying: bool,
     failed: bool,
 }
@@ -81,8 +78,8 @@ impl Model for State {
       scanned = s.scanned;
       finalization = s.finalization;
       nullifications = s.nullifications;
-      notarizations = s.notarizations;
-      uncertifiable = s.uncertifiable;
+      notarizations = s.notarizations.by_view;
+      uncertifiable = s.notarizations.failed;
       replaying = s.replaying;
       is_failed = s.failed;
     } };
@@ -111,7 +108,6 @@ impl State {
             finalization: None,
             nullifications: ByTerm::new(alloc, term_length),
             notarizations: Notarizations::new(alloc),
-            uncertifiable: Views::new(alloc),
             replaying: true,
             failed: false,
         }

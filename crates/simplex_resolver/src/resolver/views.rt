@@ -67,6 +67,13 @@ impl Views {
         Ok(())
     }
 
+    /// Takes a view out, if it is there.
+    pub(super) fn remove(&mut self, view: View)
+        ensures { self.new ≡ map.remove self.old view }
+    {
+        self.views.remove(&view);
+    }
+
     /// Whether a view stands there.
     pub(super) fn contains(&self, view: View) -> bool
         ensures { result ≡ map.contains_key self.now view }

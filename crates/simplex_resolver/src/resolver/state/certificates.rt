@@ -97,7 +97,7 @@ impl State {
             return Ok(());
         }
         self.notarizations.note(view)?;
-        if !self.uncertifiable.contains(view) {
+        if !self.notarizations.has_failed(view) {
             effects.push(Effect::Settled {
                 kind: Kind::Notarization,
                 start: view,
@@ -130,7 +130,6 @@ impl State {
     {
         self.nullifications.drop_ended(finalized);
         self.notarizations.drop_below(finalized.next());
-        self.uncertifiable.drop_below(finalized.next());
     }
 
     fn record_finalization<S: CertificateScheme, D: Digest>(

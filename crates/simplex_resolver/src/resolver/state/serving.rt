@@ -41,7 +41,7 @@ impl State {
     pub fn uncertifiable(&self, view: View) -> bool
         ensures { result ≡ map.contains_key self.now.uncertifiable view }
     {
-        self.uncertifiable.contains(view)
+        self.notarizations.has_failed(view)
     }
 
     /// The encoding of the certificate to serve to a peer that asks for the view: the highest finalization

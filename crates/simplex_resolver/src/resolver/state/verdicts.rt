@@ -74,8 +74,7 @@ impl State {
         if view <= self.last_finalized() {
             return Ok(());
         }
-        self.notarizations.refuse(view)?;
-        self.uncertifiable.insert(view)
+        self.notarizations.refuse(view)
     }
 
     fn needs_nullification(&self, view: View) -> bool
@@ -129,7 +128,7 @@ impl State {
             ++ failure_fetches (filter (needs_nullification self.now) (map.keys self.now.uncertifiable))) }
     {
         scan::fetch_failures(
-            &self.uncertifiable,
+            self.notarizations.failed(),
             &self.nullifications,
             self.floor,
             effects,
