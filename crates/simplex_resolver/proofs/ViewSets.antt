@@ -1,5 +1,5 @@
 -- Sets of views as finite maps.
-use Rattle.std.proofs.Common.{◌≡◌, ℕ, Bool, true, false, ◌&&◌, ◌||◌, ◌==◌, nat_le, eqb, cond, List, [], ◌∷◌, ◌++◌, map, Option, Some, None, is_some, Result, Ok, Err, OnOk, Bor, refl, ap, sym, ◌∙◌, subst, T, inl, inr}
+use Rattle.std.proofs.Common.{◌≡◌, ℕ, Bool, true, false, ◌&&◌, ◌||◌, ◌==◌, nat_le, eqb, cond, List, [], ◌∷◌, ◌++◌, map, Option, Some, None, is_some, Result, Ok, Err, OnOk, OnErr, Bor, refl, ap, sym, ◌∙◌, subst, T, inl, inr}
 use Rattle.std.specs.List.{AllByRecursion, list_any}
 use Rattle.std.proofs.lemmas.List.Folds.{list_any-append}
 use Rattle.std.specs.List.Sorted.{IsStrictlySortedBy}
@@ -15,7 +15,7 @@ use Rattle.simplex_sorted.specs.Tracked.{at_or_above}
 use Rattle.simplex_sorted.proofs.Maps.{find_at_key, find_other, get-insert, get-kept, same_maps, entries_of_made, is_eq-nat_cmp}
 use Rattle.simplex_resolver.specs.Repair.{has}
 use Rattle.simplex_resolver.specs.Steps.{insert_new}
-use Rattle.simplex_resolver.specs.ViewSets.{NotarizationsFacts, keyed, with_values}
+use Rattle.simplex_resolver.specs.ViewSets.{NotarizationsFacts, keyed, with_values, AreApart}
 
 get-remove : {V : Type 0} (m : FinMap nat_cmp V) (v q : ℕ) → fin.get (fin.remove m v) q ≡ cond (eqb q v) None (fin.get m q)
 get-remove m v q = fin.get-remove nat_cmp_total m v q ∙ ap (λ b. cond b None (fin.get m q)) (is_eq-nat_cmp q v)
@@ -298,3 +298,54 @@ module _ (values : FinMap nat_cmp (List ℕ)) (failed noted : FinMap nat_cmp (Un
       let whole = (λ k. with_values (values_left k) (failed_left k) (noted_left k)) ∙ lowered_value values failed noted n.by_view by_view_is v in
       let among = failed_left ∙ ap (λ m. at_or_above m.failed v) is in
       λ k. record { by_view = whole k; failed = among k }
+
+-- ---- no noted view has a value or has failed
+
+module _ {V : Type 0} where
+  -- of one view, after a change where b holds
+  apart_put : (b : Bool) (o : Option V) (f n : Option (Unit {0})) (y : V) → (is_some n ≡ true → (is_some o || is_some f) ≡ false)
+      → is_some (cond b None n) ≡ true → (is_some (cond b (Some y) o) || is_some f) ≡ false
+  apart_put true o f n y apart there = absurd (false≢true there)
+  apart_put false o f n y apart there = apart there
+
+  apart_failed : (b : Bool) (o : Option V) (f n : Option (Unit {0})) → (is_some n ≡ true → (is_some o || is_some f) ≡ false)
+      → is_some (cond b None n) ≡ true → (is_some (cond b None o) || is_some (cond b (Some tt) f)) ≡ false
+  apart_failed true o f n apart there = absurd (false≢true there)
+  apart_failed false o f n apart there = apart there
+
+  apart_kept : (b : Bool) (o : Option V) (f n : Option (Unit {0})) → (is_some n ≡ true → (is_some o || is_some f) ≡ false)
+      → is_some (cond b n None) ≡ true → (is_some (cond b o None) || is_some (cond b f None)) ≡ false
+  apart_kept true o f n apart there = apart there
+  apart_kept false o f n apart there = absurd (false≢true there)
+
+  apart_added : (b : Bool) (o : Option V) (f n : Option (Unit {0})) → (b ≡ true → (is_some o || is_some f) ≡ false) → (is_some n ≡ true → (is_some o || is_some f) ≡ false)
+      → is_some (cond b (Some tt) n) ≡ true → (is_some o || is_some f) ≡ false
+  apart_added true o f n here apart there = here refl
+  apart_added false o f n here apart there = apart there
+
+  pub none_noted : (values : FinMap nat_cmp V) (failed noted : FinMap nat_cmp (Unit {0})) → noted ≡ fin.empty → AreApart values failed noted
+  none_noted values failed noted none q there = absurd (false≢true (sym (ap (λ m. fin.contains_key m q) none ∙ ap is_some (fin.get-empty nat_cmp q)) ∙ there))
+
+  module _ (values : FinMap nat_cmp V) (failed noted : FinMap nat_cmp (Unit {0})) (apart : AreApart values failed noted) where
+    pub noted_apart : {A E : Type 0} (r : Result A E) (new : FinMap nat_cmp (Unit {0})) (v : ℕ) → fin.contains_key values v ≡ false → fin.contains_key failed v ≡ false
+        → OnOk r (new ≡ fin.insert noted v tt) → OnErr r (new ≡ noted) → AreApart values failed new
+    noted_apart (Err e) new v no_value not_failed after refused = subst (AreApart values failed) (sym refused) apart
+    noted_apart (Ok a) new v no_value not_failed after refused = λ q there.
+        apart_added (eqb q v) (fin.get values q) (fin.get failed q) (fin.get noted q)
+        (λ at. (λ k. is_some (fin.get values (eqb-true q v at k)) || is_some (fin.get failed (eqb-true q v at k))) ∙ (λ k. no_value k || not_failed k))
+        (apart q) (sym (ap (λ m. fin.contains_key m q) after ∙ ap is_some (get-insert noted v tt q)) ∙ there)
+
+    pub certified_apart : (vs : FinMap nat_cmp V) (new : FinMap nat_cmp (Unit {0})) (v : ℕ) (y : V) → vs ≡ fin.insert values v y → new ≡ fin.remove noted v → AreApart vs failed new
+    certified_apart vs new v y put taken q there =
+        (λ k. is_some ((ap (λ m. fin.get m q) put ∙ get-insert values v y q) k) || is_some (fin.get failed q))
+        ∙ apart_put (eqb q v) (fin.get values q) (fin.get failed q) (fin.get noted q) y (apart q) (sym (ap (λ m. fin.contains_key m q) taken ∙ ap is_some (get-remove noted v q)) ∙ there)
+
+    pub failed_apart : (vs : FinMap nat_cmp V) (fs new : FinMap nat_cmp (Unit {0})) (v : ℕ) → vs ≡ fin.remove values v → fs ≡ fin.insert failed v tt → new ≡ fin.remove noted v → AreApart vs fs new
+    failed_apart vs fs new v gone put taken q there =
+        (λ k. is_some ((ap (λ m. fin.get m q) gone ∙ get-remove values v q) k) || is_some ((ap (λ m. fin.get m q) put ∙ get-insert failed v tt q) k))
+        ∙ apart_failed (eqb q v) (fin.get values q) (fin.get failed q) (fin.get noted q) (apart q) (sym (ap (λ m. fin.contains_key m q) taken ∙ ap is_some (get-remove noted v q)) ∙ there)
+
+    pub lowered_apart : (vs : FinMap nat_cmp V) (fs new : FinMap nat_cmp (Unit {0})) (v : ℕ) → vs ≡ at_or_above values v → fs ≡ at_or_above failed v → new ≡ at_or_above noted v → AreApart vs fs new
+    lowered_apart vs fs new v values_left failed_left noted_left q there =
+        (λ k. is_some ((ap (λ m. fin.get m q) values_left ∙ get-kept values (λ u. nat_le v u) q) k) || is_some ((ap (λ m. fin.get m q) failed_left ∙ get-kept failed (λ u. nat_le v u) q) k))
+        ∙ apart_kept (nat_le v q) (fin.get values q) (fin.get failed q) (fin.get noted q) (apart q) (sym (ap (λ m. fin.contains_key m q) noted_left ∙ ap is_some (get-kept noted (λ u. nat_le v u) q)) ∙ there)

@@ -1,5 +1,5 @@
 -- Sets of views, and the notarizations that a resolver keeps, as finite maps. No public clause names them.
-use Rattle.std.specs.Prelude.{ℕ, List, ◌++◌, Option, Some, None, map, refl}
+use Rattle.std.specs.Prelude.{◌≡◌, ℕ, true, false, ◌||◌, List, ◌++◌, Option, Some, None, map, refl}
 use Rattle.std.specs.Ordering.{nat_cmp}
 use Rattle.std.specs.Coded.{Coded, code_by, coded×, coded_ℕ, coded_list, coded_option}
 use base.Stored.{coded_unit}
@@ -26,3 +26,7 @@ notarizations_code =
 abbrev pub with_values : {V : Type 0} → FinMap nat_cmp V → FinMap nat_cmp (Unit {0}) → FinMap nat_cmp (Unit {0}) → FinMap nat_cmp (Option V)
 with_values values failed noted =
     finmap.from_entries (map (λ e. (e.0, Some e.1)) (finmap.entries values) ++ map (λ v. (v, None)) (finmap.keys failed ++ finmap.keys noted))
+
+-- a noted view has no value, and has not failed
+abbrev pub AreApart : {V : Type 0} → FinMap nat_cmp V → FinMap nat_cmp (Unit {0}) → FinMap nat_cmp (Unit {0}) → Type 0
+AreApart values failed noted = (v : ℕ) → finmap.contains_key noted v ≡ true → (finmap.contains_key values v || finmap.contains_key failed v) ≡ false

@@ -29,7 +29,7 @@ pub(super) struct Notarizations {
 }
 
 impl Model for Notarizations {
-    ghost use Rattle.simplex_resolver.specs.ViewSets.{NotarizationsFacts, notarizations_code, with_values};
+    ghost use Rattle.simplex_resolver.specs.ViewSets.{NotarizationsFacts, notarizations_code, with_values, AreApart};
 
     ghost Value = { NotarizationsFacts };
 
@@ -39,6 +39,8 @@ impl Model for Notarizations {
       by_view = with_values n.certified n.failed n.noted;
       failed = n.failed;
     } };
+
+    ghost invariant = { λ n. AreApart n.certified n.failed n.noted };
 }
 
 impl Notarizations {
