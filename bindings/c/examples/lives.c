@@ -131,6 +131,27 @@ static void bad_journals(const struct simplex_stored *stored, size_t len) {
     IS(!none);
 }
 
+/* How a journal ends, so many of whose whole entries are left, in so many bytes. */
+static void ends(size_t len, uint32_t ending, uint64_t entries, size_t bytes) {
+    struct simplex_scan scan = simplex_scan(journal, len);
+    IS(scan.ending == ending && scan.entries == entries && scan.bytes == bytes);
+}
+
+/* Each bit of an entry in the middle turned over is told as damage, and the last one cut anywhere as a cut. */
+static void bits_and_cuts(size_t len) {
+    size_t starts[64], count = 0;
+    for (size_t at = 0; at < len; starts[count++] = at, at += 40 + ((size_t)journal[at + 2] << 8 | journal[at + 3])) IS(count < 64);
+    IS(count > 4);
+    size_t middle = count / 2, last = starts[count - 1];
+    for (size_t bit = 8 * starts[middle]; bit < 8 * starts[middle + 1]; bit++) {
+        journal[bit / 8] ^= (uint8_t)(1 << bit % 8);
+        ends(len, SIMPLEX_BROKEN, middle, starts[middle]);
+        journal[bit / 8] ^= (uint8_t)(1 << bit % 8);
+    }
+    for (size_t cut = last + 1; cut < len; cut++) ends(cut, SIMPLEX_CUT, count - 1, last);
+    ends(len, SIMPLEX_WHOLE, count, len);
+}
+
 /* A resolver from a journal, and what it is told. */
 static void resolves(size_t len) {
     simplex_resolver *at = 0;
@@ -156,15 +177,16 @@ static void resolves(size_t len) {
     simplex_resolver_free(at);
 }
 
-static void one(void) {
+static void one(int is_first) {
     simplex_member *at = 0, *next = 0;
     IS(!started(&SETTINGS, 4, &at));
-    lives(at, 1 + drawn(3));
+    lives(at, is_first ? 4 : 1 + drawn(3));
     refuses(at);
     struct simplex_entries entries = simplex_member_entries(at, 0);
     IS(!entries.status && shown(at, SIMPLEX_SHOWN, journal) == entries.bytes && entries.bytes <= sizeof journal);
     struct simplex_scan scan = simplex_scan(journal, entries.bytes);
     IS(scan.entries == entries.stored.entries && scan.bytes == entries.bytes && !scan.ending);
+    if (is_first) bits_and_cuts(entries.bytes);
     bad_journals(&entries.stored, entries.bytes);
     resolves(entries.bytes);
     IS(!resumed(&entries.stored, entries.bytes, &next));
@@ -184,7 +206,7 @@ int main(int argc, char **argv) {
     long count = argc > 1 ? strtol(argv[1], 0, 10) : 1;
     IS(simplex_version() == SIMPLEX_VERSION);
     bad_settings();
-    for (long i = 0; i < count; i++) one();
+    for (long i = 0; i < count; i++) one(i == 0);
     printf("%ld lives\n", count);
     return 0;
 }

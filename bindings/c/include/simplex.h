@@ -194,8 +194,13 @@ enum simplex_bytes { SIMPLEX_OF_REPLY = 0, SIMPLEX_SHOWN = 1 };
 /* Which vote a text is of. */
 enum simplex_subject_kind { SIMPLEX_NOTARIZE = 0, SIMPLEX_NULLIFY = 1, SIMPLEX_FINALIZE = 2 };
 
-/* How a journal ends behind its whole frames: there; within one, as behind a cut; in a damaged one. A damaged length may look like a cut. */
-enum simplex_ending { SIMPLEX_WHOLE = 0, SIMPLEX_CUT = 1, SIMPLEX_BROKEN = 2 };
+/* How a journal ends behind its whole entries. */
+enum simplex_ending {
+    SIMPLEX_WHOLE = 0,
+    SIMPLEX_CUT = 1,   /* the bytes behind the whole entries end within one, as an append ends that was cut off. An entry that has all its
+                          bytes is never told so, whatever was changed in it, unless its length and its complement were changed alike */
+    SIMPLEX_BROKEN = 2 /* bytes were changed */
+};
 
 struct simplex_round {
     uint64_t epoch, view;

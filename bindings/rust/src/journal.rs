@@ -5,7 +5,7 @@ use crate::ffi;
 /// What a member recorded, as bytes: they are appended to the journal, with what is stored beside it.
 #[derive(Clone, PartialEq, Eq, Debug)]
 pub struct Entries {
-    /// Frames, one behind the other, each with a length and a SHA-256 digest.
+    /// Frames, one behind the other: a length and its complement, in four bytes each, the entry, and its SHA-256 digest.
     pub bytes: Vec<u8>,
     /// What is stored beside the journal; `stored.entries` is what the next [`Member::entries_since`](crate::Member::entries_since) takes.
     pub stored: Stored,
@@ -122,10 +122,10 @@ pub struct Scan {
 pub enum Ending {
     /// There is nothing behind them.
     Whole,
-    /// Within an entry, as an append ends that was cut off. A damaged length may look so too; compare the entries with
-    /// [`Stored::entries`].
+    /// Within an entry, as an append ends that was cut off. An entry that has all its bytes is never told so, whatever was changed in it,
+    /// unless its length and its complement were changed alike.
     Cut,
-    /// The entry behind them is damaged.
+    /// The entry behind them is damaged: bytes of it were changed.
     Damaged,
 }
 
@@ -136,6 +136,7 @@ pub enum Ending {
 ///
 /// assert_eq!(scan(&[]).ending, Ending::Whole);
 /// assert_eq!(scan(&[0, 0, 0]).ending, Ending::Cut);
+/// assert_eq!(scan(&[0; 40]).ending, Ending::Damaged);
 /// ```
 pub fn scan(journal: &[u8]) -> Scan {
     // SAFETY: the slice is borrowed for the call.

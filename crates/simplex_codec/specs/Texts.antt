@@ -2,6 +2,8 @@
 use Rattle.std.specs.Prelude.{ℕ, List, ◌++◌, codes, decimal}
 use Rattle.simplex_codec.specs.declared.error.DecodeError.{DecodeError}
 use Rattle.simplex_codec.specs.declared.error.DecodeError.TheVariants as error
+use Rattle.simplex_codec.specs.declared.frame.NoFrame.{NoFrame}
+use Rattle.simplex_codec.specs.declared.frame.NoFrame.TheVariants as no_frame
 
 -- why bytes are refused
 abbrev pub decode_error_text : DecodeError → List ℕ
@@ -14,6 +16,7 @@ decode_error_text error.UnreadableSignature = codes "the signature is not the sc
 decode_error_text (error.UnknownVerdict verdict) = decimal verdict ++ codes " is no verdict"
 decode_error_text error.TrailingBytes = codes "bytes are left over"
 
--- why a frame is refused
-abbrev pub damaged_frame_text : List ℕ
-damaged_frame_text = codes "the frame is damaged"
+-- why no frame is there
+abbrev pub no_frame_text : NoFrame → List ℕ
+no_frame_text no_frame.Cut = codes "the frame is cut"
+no_frame_text no_frame.Damaged = codes "the frame is damaged"

@@ -1,7 +1,7 @@
-//! Entries of a journal, one behind the other, each framed by its length and its digest.
+//! Entries of a journal, one behind the other, each framed by its length, which tests itself, and its digest.
 
-ghost use Rattle.std.specs.Prelude.{◌≡◌, ◌<◌, ◌^◌, ◌++◌, length, OnOk, IfOk, OnErr, MatchOption};
-ghost use Rattle.simplex_codec.specs.Frames.{frame, HasNoFrame, FramesTellApart};
+ghost use Rattle.std.specs.Prelude.{◌≡◌, ◌<◌, ◌^◌, ◌++◌, length, OnOk, IfOk, OnErr, IfErr, IfSome, MatchOption};
+ghost use Rattle.simplex_codec.specs.Frames.{header, frame, HasNoFrame, IsFrameRefusal, IsOff, IsOffHeader, FramesTellApart, CutsTellApart};
 
 use crate::parts::take_u32;
 use bytes::{BufMut, BytesMut};
@@ -10,56 +10,97 @@ use std::alloc::AllocError;
 use std::error::Error;
 use std::fmt;
 
-/// What is left is no whole frame: it was cut, or bytes of it were changed.
+/// Why no frame stands at the front of bytes.
 #[derive(Clone, Copy, PartialEq, Eq, Debug)]
-pub struct DamagedFrame;
+pub enum NoFrame {
+    /// The bytes are the first of a frame: it was cut, or not written to its end.
+    Cut,
+    /// No frame begins so: bytes of it were changed.
+    Damaged,
+}
 
-impl fmt::Display for DamagedFrame {
+impl fmt::Display for NoFrame {
     ghost use Rattle.std.specs.Prelude.{Some};
-    ghost use Rattle.simplex_codec.specs.Texts.{damaged_frame_text};
+    ghost use Rattle.simplex_codec.specs.Texts.{no_frame_text};
 
-    ghost output = { λ _. Some damaged_frame_text };
+    ghost output = { λ f. Some (no_frame_text f) };
 
     fn fmt<W: fmt::Write>(&self, f: &mut fmt::Formatter<W>) -> fmt::Result {
-        write!(f, "the frame is damaged")
+        match self {
+            NoFrame::Cut => write!(f, "the frame is cut"),
+            NoFrame::Damaged => write!(f, "the frame is damaged"),
+        }
     }
 }
 
-impl Error for DamagedFrame {}
+impl Error for NoFrame {}
 
 /// The entry is written in a frame behind the bytes of `out`. The only error is want of memory.
 pub fn write_frame(out: &mut BytesMut, entry: &[u8]) -> Result<(), AllocError>
     requires { length entry.now < 2 ^ 32 }
     ensures { OnOk result (out.new.items ≡ out.old.items ++ frame entry.now) }
 {
-    out.put_u32(entry.len() as u32)?;
+    put_header(out, entry.len() as u32)?;
     out.put_slice(entry)?;
     let digest = Sha256::digest(entry);
     out.put_slice(digest.as_slice())?;
     Ok(())
 }
 
+fn put_header(out: &mut BytesMut, len: u32) -> Result<(), AllocError>
+    ensures { OnOk result (out.new.items ≡ out.old.items ++ header len) }
+{
+    out.put_u32(len)?;
+    out.put_u32(u32::MAX - len)?;
+    Ok(())
+}
+
 /// The entry at the front and the bytes behind its frame; none at the end of the bytes.
 ///
-/// It is refused exactly where there are bytes and no frame stands at their front. Nothing is copied.
-pub fn read_frame(bytes: &[u8]) -> Result<Option<(&[u8], &[u8])>, DamagedFrame>
+/// It is refused exactly where there are bytes and no frame stands at their front: as `Cut` exactly where they end within a
+/// frame. Nothing is copied.
+pub fn read_frame(bytes: &[u8]) -> Result<Option<(&[u8], &[u8])>, NoFrame>
     ensures read { IfOk result (λ next. MatchOption next (length bytes.now ≡ 0) (λ x. bytes.now ≡ frame x.0.now ++ x.1.now)) }
+    ensures fits { IfOk result (λ next. IfSome next (λ x. length x.0.now < 2 ^ 32)) }
     ensures some { OnErr result (0 < length bytes.now) }
-    ensures damaged { OnErr result (HasNoFrame bytes.now) }
+    ensures none { OnErr result (HasNoFrame bytes.now) }
+    ensures refused { IfErr result (IsFrameRefusal bytes.now) }
 {
     if bytes.is_empty() {
         return Ok(None);
     }
-    let Some((len, rest)) = take_u32(bytes) else {
-        return Err(DamagedFrame);
-    };
+    let (len, rest) = take_header(bytes)?;
     let Some((entry, rest)) = rest.split_at_checked(len as usize) else {
-        return Err(DamagedFrame);
+        return Err(NoFrame::Cut);
     };
     let digest = Sha256::digest(entry);
-    match rest.strip_prefix(digest.as_slice()) {
-        Some(rest) => Ok(Some((entry, rest))),
-        None => Err(DamagedFrame),
+    let behind = strip_front(rest, digest.as_slice())?;
+    Ok(Some((entry, behind)))
+}
+
+/// The length that a header at the front names, and the bytes behind it.
+fn take_header(bytes: &[u8]) -> Result<(u32, &[u8]), NoFrame>
+    ensures read { IfOk result (λ x. bytes.now ≡ header x.0 ++ x.1.now) }
+    ensures fits { IfOk result (λ x. x.0 < 2 ^ 32) }
+    ensures refused { IfErr result (IsOffHeader bytes.now) }
+{
+    let Some((len, rest)) = take_u32(bytes) else {
+        return Err(NoFrame::Cut);
+    };
+    let check = (u32::MAX - len).to_be_bytes();
+    let rest = strip_front(rest, &check)?;
+    Ok((len, rest))
+}
+
+/// The bytes behind a front; where they don't begin with it, whether they end within it.
+fn strip_front<'a>(bytes: &'a [u8], front: &[u8]) -> Result<&'a [u8], NoFrame>
+    ensures read { IfOk result (λ rest. bytes.now ≡ front.now ++ rest.now) }
+    ensures refused { IfErr result (IsOff bytes.now front.now) }
+{
+    match bytes.strip_prefix(front) {
+        Some(rest) => Ok(rest),
+        None if front.starts_with(bytes) => Err(NoFrame::Cut),
+        None => Err(NoFrame::Damaged),
     }
 }
 
@@ -68,4 +109,12 @@ pub fn read_frame(bytes: &[u8]) -> Result<Option<(&[u8], &[u8])>, DamagedFrame>
 /// It does nothing: its contract is the law.
 pub fn frames_tell_apart()
     ensures { FramesTellApart }
+{}
+
+/// A frame that lost its end is cut, and one that was changed is not: whatever stands in place of its entry and digest, and in
+/// its header unless its halves still belong together.
+///
+/// It does nothing: its contract is the law.
+pub fn cuts_tell_apart()
+    ensures { CutsTellApart }
 {}

@@ -1,12 +1,11 @@
 -- A record's entries in the bytes of a journal.
-use Rattle.std.specs.Prelude.{◌≡◌, ◌⊎◌, ◌<◌, ◌≤◌, ◌+◌, ◌^◌, ◌||◌, ℕ, zero, suc, Bool, true, false, nat_lt, List, ◌++◌, take, length}
-use Rattle.std.specs.Int.{w32, from_be_bytes}
+use Rattle.std.specs.Prelude.{◌≡◌, ◌⊎◌, ◌<◌, ◌≤◌, ◌+◌, ◌^◌, ℕ, zero, suc, List, ◌++◌, length}
 use Rattle.std.specs.List.{flat_map, Contains}
 use Rattle.simplex_types.specs.declared.types.messages.Artifact.{Artifact}
 use Rattle.simplex_codec.specs.declared.digest.BytesDigest.{BytesDigest}
 use Rattle.simplex_codec.specs.Artifacts.{artifact_bytes, IsArtifactRefusal}
 use Rattle.simplex_codec.specs.Digests.{digest_bytes}
-use Rattle.simplex_codec.specs.Frames.{frame, HasNoFrame}
+use Rattle.simplex_codec.specs.Frames.{frame, HasNoFrame, IsCut}
 use Rattle.simplex_host.specs.declared.scheme.HostCertificate.{HostCertificate}
 use Rattle.simplex_host.specs.declared.scheme.HostKey.{HostKey}
 use Rattle.simplex_host.specs.declared.scheme.HostScheme.{HostScheme}
@@ -66,15 +65,11 @@ StandsAlone bytes = (length bytes ≡ 0) ⊎ ((0 < length bytes) × HasNoFrame b
 abbrev pub BeginsWithFrame : List ℕ → List ℕ → Type 0
 BeginsWithFrame bytes rest = (entry : List ℕ) × (bytes ≡ frame entry ++ rest)
 
--- there are fewer bytes than a frame of the length at their front takes
-abbrev pub is_short : List ℕ → Bool
-is_short bytes = nat_lt (length bytes) 4 || nat_lt (length bytes) (36 + from_be_bytes w32 (take 4 bytes))
-
 -- how a journal ends: with its last frame, cut within one, or in a damaged one
 abbrev pub IsEnding : List ℕ → ℕ → Type 0
 IsEnding rest zero = length rest ≡ 0
-IsEnding rest (suc zero) = (0 < length rest) × HasNoFrame rest × (is_short rest ≡ true)
-IsEnding rest (suc (suc zero)) = (0 < length rest) × HasNoFrame rest × (is_short rest ≡ false)
+IsEnding rest (suc zero) = (0 < length rest) × HasNoFrame rest × IsCut rest
+IsEnding rest (suc (suc zero)) = (0 < length rest) × HasNoFrame rest × ¬ (IsCut rest)
 IsEnding rest _ = ⊥
 
 -- so many whole frames stand in front of the rest

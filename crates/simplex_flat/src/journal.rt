@@ -2,7 +2,7 @@
 
 ghost use Rattle.std.specs.Prelude.{◌≡◌, ◌++◌, ◌<◌, ◌≤◌, ◌^◌, IfOk, IfErr, OnOk, MatchOption, length};
 ghost use Rattle.simplex_codec.specs.Frames.{frame, HasNoFrame};
-ghost use Rattle.simplex_flat.specs.Journals.{BeginsWithFrame, HasTooLong, IsEnding, IsNotRead, IsScan, StandsAlone, entry_bytes, framed, is_short};
+ghost use Rattle.simplex_flat.specs.Journals.{BeginsWithFrame, HasTooLong, IsEnding, IsNotRead, IsScan, StandsAlone, entry_bytes, framed};
 ghost use Rattle.simplex_flat.specs.declared.journal.NotRead.TheVariants.{Damaged};
 ghost use Rattle.simplex_flat.specs.declared.journal.NotWritten.TheVariants.{TooLong};
 
@@ -10,7 +10,7 @@ use crate::shown::FlatScan;
 use bytes::BytesMut;
 use simplex_codec::artifact::{decode_artifact, encode_artifact};
 use simplex_codec::error::DecodeError;
-use simplex_codec::frame::{read_frame, write_frame};
+use simplex_codec::frame::{NoFrame, read_frame, write_frame};
 use simplex_host::scheme::{HostDigest, HostScheme};
 use simplex_types::types::Artifact;
 use std::alloc::{AllocError, AllocFailed, Global};
@@ -162,18 +162,9 @@ fn ending_of(left: &[u8]) -> u32
     requires { StandsAlone left.now }
     ensures { IsEnding left.now result }
 {
-    if left.is_empty() {
-        return 0;
+    match read_frame(left) {
+        Ok(_) => 0,
+        Err(NoFrame::Cut) => 1,
+        Err(NoFrame::Damaged) => 2,
     }
-    if is_short(left) { 1 } else { 2 }
-}
-
-/// Whether there are fewer bytes than a frame of the length at their front takes.
-fn is_short(left: &[u8]) -> bool
-    ensures { result ≡ is_short left.now }
-{
-    let Some((front, rest)) = left.split_first_chunk::<4>() else {
-        return true;
-    };
-    (rest.len() as u64) < u64::from(u32::from_be_bytes(*front)) + 32
 }

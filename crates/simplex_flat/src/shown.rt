@@ -143,8 +143,7 @@ pub struct FlatScan {
     pub entries: u64,
     /// How many bytes these are.
     pub bytes: u64,
-    /// 0 where these are all; 1 where fewer bytes are left than a frame takes, as behind a cut; 2 where the frame behind them is
-    /// damaged.
+    /// 0 where these are all; 1 where the bytes behind them end within a frame, as behind a cut; 2 where no frame begins so.
     pub ending: u32,
     /// Nothing.
     pub reserved: u32,

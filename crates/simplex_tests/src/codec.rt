@@ -7,7 +7,7 @@ use simplex_codec::artifact::{decode_artifact, encode_artifact};
 use simplex_codec::certificate::decode_certificate;
 use simplex_codec::digest::BytesDigest;
 use simplex_codec::error::DecodeError;
-use simplex_codec::frame::{DamagedFrame, read_frame, write_frame};
+use simplex_codec::frame::{NoFrame, read_frame, write_frame};
 use simplex_codec::hooks::DigestCodec;
 use simplex_types::types::plain::{
     PlainCertificate, PlainDigest, PlainKey, PlainScheme, PlainSignature,
@@ -322,7 +322,8 @@ fn refusals_have_their_texts(rt: HostRuntime) -> Result<(), Fail> {
     for (error, wanted) in &TEXTS {
         assert!(rt; has_text(rt.alloc(), error, wanted)?, "{wanted}");
     }
-    assert!(rt; has_text(rt.alloc(), &DamagedFrame, "the frame is damaged")?);
+    assert!(rt; has_text(rt.alloc(), &NoFrame::Cut, "the frame is cut")?);
+    assert!(rt; has_text(rt.alloc(), &NoFrame::Damaged, "the frame is damaged")?);
     Ok(())
 }
 
@@ -350,8 +351,8 @@ fn journal(alloc: Global) -> Result<Bytes, Fault> {
     Ok(out.freeze()?)
 }
 
-/// How many entries are read, and whether the end is whole.
-fn read_entries(bytes: &[u8]) -> (u32, bool) {
+/// How many entries are read, and what is behind them; nothing where the end is whole.
+fn read_entries(bytes: &[u8]) -> (u32, Option<NoFrame>) {
     let mut rest = bytes;
     let mut read = 0u32;
     for _ in 0..bytes.len() {
@@ -360,28 +361,37 @@ fn read_entries(bytes: &[u8]) -> (u32, bool) {
                 rest = behind;
                 read = read.wrapping_add(1);
             }
-            Ok(None) => return (read, true),
-            Err(DamagedFrame) => return (read, false),
+            Ok(None) => return (read, None),
+            Err(error) => return (read, Some(error)),
         }
     }
-    (read, false)
+    (read, None)
 }
 
 /// How many entries stand whole before a place.
 fn entries_before(place: usize) -> u32 {
-    if place < 39 {
+    if place < 43 {
         0
-    } else if place < 75 {
+    } else if place < 83 {
         1
     } else {
         2
     }
 }
 
-/// Whether the entries are read up to each cut, and the end is whole behind an entry alone.
+/// What is told of a journal that ends at a place.
+fn cut_at(end: usize) -> Option<NoFrame> {
+    if end == 43 || end == 83 {
+        None
+    } else {
+        Some(NoFrame::Cut)
+    }
+}
+
+/// Whether the entries are read up to each cut, and the end is cut but behind an entry.
 fn are_read_up_to_each_cut(bytes: &[u8]) -> bool {
     for end in 1..bytes.len() {
-        if read_entries(&bytes[..end]) != (entries_before(end), end == 39 || end == 75) {
+        if read_entries(&bytes[..end]) != (entries_before(end), cut_at(end)) {
             return false;
         }
     }
@@ -389,17 +399,24 @@ fn are_read_up_to_each_cut(bytes: &[u8]) -> bool {
 }
 
 /// What is read of the bytes with a bit of a byte flipped.
-fn read_flipped(alloc: Global, bytes: &[u8], place: usize) -> Result<(u32, bool), AllocError> {
+fn read_flipped(
+    alloc: Global,
+    bytes: &[u8],
+    place: usize,
+    bit: u8,
+) -> Result<(u32, Option<NoFrame>), AllocError> {
     let mut flipped = Vec::from_slice(alloc, bytes)?;
     if let Some(byte) = flipped.get_mut(place) {
-        *byte ^= 16;
+        *byte ^= bit;
     }
     Ok(read_entries(flipped.as_slice()))
 }
 
-fn each_flipped_bit_is_found(alloc: Global, bytes: &[u8]) -> Result<bool, AllocError> {
+/// Whether the bit is found in each byte, and never told as a cut.
+fn is_found_in_each_byte(alloc: Global, bytes: &[u8], bit: u8) -> Result<bool, AllocError> {
     for place in 0..bytes.len() {
-        if read_flipped(alloc, bytes, place)? != (entries_before(place), false) {
+        let found = read_flipped(alloc, bytes, place, bit)?;
+        if found != (entries_before(place), Some(NoFrame::Damaged)) {
             return Ok(false);
         }
     }
@@ -410,8 +427,10 @@ fn each_flipped_bit_is_found(alloc: Global, bytes: &[u8]) -> Result<bool, AllocE
 fn entries_of_a_journal_are_read_up_to_a_cut_or_a_flipped_bit(rt: HostRuntime) -> Result<(), Fail> {
     let journal = journal(rt.alloc())?;
     let bytes = journal.as_slice();
-    assert!(rt; bytes.len() == 181 && read_entries(bytes) == (3, true));
+    assert!(rt; bytes.len() == 193 && read_entries(bytes) == (3, None));
     assert!(rt; are_read_up_to_each_cut(bytes));
-    assert!(rt; each_flipped_bit_is_found(rt.alloc(), bytes)?);
+    for bit in [1, 2, 4, 8, 16, 32, 64, 128] {
+        assert!(rt; is_found_in_each_byte(rt.alloc(), bytes, bit)?, "{bit}");
+    }
     Ok(())
 }
