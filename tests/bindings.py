@@ -3,11 +3,14 @@
 
 The scripts of the repository's tests that ask a voter, and random ones, are served by `viewstate`, by `bindings/c/examples/script.c` and
 by the example of the Rust package, once with restarts in place and once with each restart of nothing by a resume from the journal's bytes:
-the replies are the same, byte for byte. `bindings/c/examples/lives.c` begins and lets go many members, and hands in what has to be
-refused; under valgrind it neither errs nor loses a byte. The package's own tests and lints run too. And both callers are built with two
-kinds of calls swapped, which the comparison has to find.
+the replies are the same, byte for byte. Other random scripts are served with a journal in whose place each `prune` puts what is left of the
+record, and from which the member goes on at each restart: the replies are those of a member that keeps its whole record.
+`bindings/c/examples/lives.c` begins and lets go many members, and hands in what has to be refused; under valgrind it neither errs nor loses
+a byte. The package's own tests and lints run too. And both callers are built with two kinds of calls swapped, which the comparison has to
+find.
 
-    tests/bindings.py [--program PATH] [--archive PATH]     without an archive one is built, unproved, in a minute or two
+    tests/bindings.py [--program PATH] [--archive PATH]     without an archive two are built, unproved, in a minute or two each: they have the
+                                                            same bytes
 
 It ends with status 1 where replies differ, or where less was tried than is asked for. Where `cargo` or `cc` is missing it says so in one
 line, and tries nothing of it."""
@@ -32,18 +35,19 @@ from program import ROOT
 BINDINGS = ROOT / "bindings"
 NETWORKS = (("4", "0", "1", "0"), ("7", "2", "5", "2"), ("5", "4", "3", "1"), ("4", "-", "2", "2"), ("10", "3", "10", "4"))
 RANDOM_SCRIPTS, RANDOM_LINES = 4, 500
-LIVES = 1500
-LEAST = {"scripts": 80, "random lines": 10_000, "comparisons": 400, "resolver's lines": 6000, "lives": LIVES}
+MEMBERS = 10_000
+LEAST = {"scripts": 80, "random lines": 10_000, "comparisons": 400, "entries taken away": 1000, "resolver's lines": 6000, "members": MEMBERS}
 SWAPPED = ("CONSTRUCT_NOTARIZE", "CONSTRUCT_FINALIZE")
+TIMED = ("nullification", "finalization", "proposed", "rejected", "verdict", "trigger", "timeout", "restart", "restart-pruned")
 REASONS = ("Retry", "Inactivity", "LeaderNullify", "MissingProposal", "FailedCertification")
 
 
-def random_script(seed, length=RANDOM_LINES):
+def random_script(seed, length=RANDOM_LINES, rise=0.03):
     """Lines round a view that rises: calls of every kind, and now and then a restart."""
     drawn, now, base, lines = random.Random(seed), 0, 1, []
     for place in range(length):
         now += drawn.randrange(40)
-        base += drawn.randrange(3) if drawn.random() < 0.03 else 0
+        base += drawn.randrange(3) if drawn.random() < rise else 0
         view = max(0, base + drawn.randrange(-2, 5))
         block = f"{view} {max(0, view - drawn.choice((1, 1, 1, 1, 2, 3)))} {drawn.choice((view, view, view, view + 100))}"
         lines.append(drawn.choice((
@@ -58,6 +62,22 @@ def random_script(seed, length=RANDOM_LINES):
     return lines
 
 
+def compacting_script(seed, length=2 * RANDOM_LINES):
+    """Lines as above, but that each restart prunes, as a record that was pruned within its life asks for, and nothing tells its length; a
+    view is finalized now and then, so that there is something to prune."""
+    drawn, now, lines = random.Random(seed), 0, []
+    for line in random_script(seed, length, rise=0.15):
+        words = line.split()
+        if words[0] == "record" or words[0].startswith("restart"):
+            lines.append(f"restart-pruned 0 {now}" if drawn.random() < 0.5 else "prune")
+        elif words[0] == "notarization" and drawn.random() < 0.2:
+            lines.append(f"finalization {' '.join(words[1:])} {now}")
+        else:
+            lines.append(line)
+        now = max([now, *(int(word) for word in words[-1:] if word.isdigit() and words[0] in TIMED)])
+    return lines
+
+
 def resolver_script(seed, length=RANDOM_LINES):
     """Lines for a resolver whose replay has ended: certificates and verdicts round a view that rises, and what it is asked."""
     drawn, base, lines = random.Random(seed), 3, ["replayed"]
@@ -67,14 +87,19 @@ def resolver_script(seed, length=RANDOM_LINES):
         lines.append(drawn.choice((
             f"notarization {view}", f"nullification {view}", f"nullification {view}", f"certified {view} {'true' if drawn.random() < 0.7 else 'false'}",
             f"finalization {max(0, view - 6)}" if drawn.random() < 0.3 else f"nullification {view}", f"settled {view} notarization",
-            f"settled {view} nullification", f"key-settled {view}", f"uncertifiable {view}",
+            f"settled {view} nullification", f"key-settled {view}", f"uncertifiable {view}", "outstanding",
         )))
     return lines
 
 
+def serve(command, lines):
+    """A caller that has served lines."""
+    return subprocess.run(command, input="".join(f"{line}\n" for line in lines).encode(), capture_output=True, check=False)
+
+
 def run(command, lines):
     """What a caller writes, with its status."""
-    ended = subprocess.run(command, input="".join(f"{line}\n" for line in lines).encode(), stdout=subprocess.PIPE, check=False)
+    ended = serve(command, lines)
     return ended.returncode, ended.stdout
 
 
@@ -136,6 +161,20 @@ def compare(path, callers, pool):
     return seen, [fault for found in faults for fault in found]
 
 
+def compare_compactions(path, callers, pool):
+    """How many entries were taken away of records within their lives, and what differs from members that kept theirs whole."""
+    drawn = [(("voter", *network), compacting_script(1000 + 100 * place + seed)) for place, network in enumerate(NETWORKS) for seed in range(RANDOM_SCRIPTS)]
+    faults = pool.map(lambda it: [*differing(path, callers, *it)], drawn)
+    taken = pool.map(lambda it: [taken_away((*command[:1], *it[0], *command[1:]), it[1]) for command in callers.values()], drawn)
+    return Counter({"entries taken away": sum(min(counts) for counts in taken)}), [fault for found in faults for fault in found]
+
+
+def taken_away(command, lines):
+    """How many entries a caller with a journal took away."""
+    ended = serve(command, lines)
+    return int(ended.stderr.split()[0]) if ended.returncode == 0 else 0
+
+
 def compare_resolvers(path, caller):
     """What was compared of resolvers, and what differs."""
     tried = [(("resolver", length), resolver_script(seed)) for length in ("1", "2", "5") for seed in range(4)]
@@ -144,11 +183,16 @@ def compare_resolvers(path, caller):
 
 
 def try_lives(room, archive):
-    """What the caller that begins and lets go many members does, under valgrind where that is there."""
+    """What the caller that begins and lets go many members does, under valgrind where that is there, and how long it takes."""
+    begun = time.monotonic()
     lives = compiled(BINDINGS / "c/examples/lives.c", BINDINGS / "c/include", archive, room / "lives")
     watch = ["valgrind", "-q", "--leak-check=full", "--error-exitcode=9"] if shutil.which("valgrind") else []
-    ended = subprocess.run([*watch, lives, str(LIVES)], stdout=subprocess.PIPE, check=False)
-    return Counter({"lives": LIVES if ended.returncode == 0 else 0}), [] if ended.returncode == 0 else [f"lives ended with {ended.returncode}"]
+    ended = subprocess.run([*watch, lives, str(MEMBERS)], stdout=subprocess.PIPE, check=False)
+    if ended.returncode:
+        return Counter(), [f"lives ended with {ended.returncode}"]
+    members = int(ended.stdout.split()[0])
+    print(f"{members} members under {' '.join(watch[:1]) or 'no watch'}: {time.monotonic() - begun:.0f} s")
+    return Counter({"members": members}), []
 
 
 def package_faults(target, archive):
@@ -165,20 +209,26 @@ def try_all(given, room, pool):
     """What was tried, and what is wrong."""
     path = program.find(given.program, room)
     archive = given.archive and given.archive.resolve() or room / "libsimplex.a"
+    faults = []
     if not given.archive:
-        subprocess.run([BINDINGS / "build", "--unproved", "--out", archive], check=True)
+        again = room / "again.a"
+        for made in (archive, again):
+            subprocess.run([BINDINGS / "build", "--unproved", "--out", made], check=True)
+        if archive.read_bytes() != again.read_bytes():
+            faults.append("two builds of the archive have other bytes")
     target = room / "target"
     in_c, in_rust = compiled(BINDINGS / "c/examples/script.c", BINDINGS / "c/include", archive, room / "script"), rust_caller(BINDINGS / "rust", target, archive)
     callers = {"C": (in_c,), "Rust": (in_rust,), "C, resumed": (in_c, "resume"), "Rust, resumed": (in_rust, "resume")}
-    seen, faults = compare(path, callers, pool)
+    seen, differences = compare(path, callers, pool)
+    compacted, lost = compare_compactions(path, {"C, compacted": (in_c, "compact"), "Rust, compacted": (in_rust, "compact")}, pool)
     cargo(BINDINGS / "rust", target, archive, "build", "--quiet", "--example", "resolver")
     resolved, others = compare_resolvers(path, target / "debug/examples/resolver")
     lived, more = try_lives(room, archive)
-    faults += [*others, *more, *package_faults(target, archive)]
+    faults += [*differences, *lost, *others, *more, *package_faults(target, archive)]
     for name, command in wrong_callers(room, archive):
         if not compare(path, {name: command}, pool)[1]:
             faults.append(f"{name} with two kinds swapped is not told from the right one")
-    return seen + resolved + lived, faults
+    return seen + compacted + resolved + lived, faults
 
 
 def main():

@@ -1,6 +1,6 @@
 /*
- * Begins and lets go many members and resolvers, and hands in what is refused: settings, numbers, journals that are cut, changed or of random bytes.
- * It ends with status 0 where each answer is the right one; run it under valgrind to see that nothing is lost.
+ * Begins and lets go so many members, with resolvers, and hands in what is refused: settings, numbers, null handles, journals that are cut,
+ * changed or of random bytes. It ends with status 0 where each answer is the right one; run it under valgrind to see that nothing is lost.
  *
  *     lives COUNT
  */
@@ -16,6 +16,7 @@ static const struct simplex_settings SETTINGS = {.members = 4, .signer = 0, .ter
     .leader_timeout = 1000, .certification_timeout = 2000, .timeout_retry = 500, .skip_timeout = 3000};
 static uint8_t journal[1 << 20];
 static uint32_t seed = 1;
+static long begun, let_go;
 
 static uint32_t drawn(uint32_t below) {
     seed = seed * 1664525u + 1013904223u;
@@ -23,11 +24,21 @@ static uint32_t drawn(uint32_t below) {
 }
 
 static uint32_t started(const struct simplex_settings *settings, size_t leaders, simplex_member **out) {
-    return simplex_member_start(settings, LEADERS, leaders, 0, 0, 0, out);
+    uint32_t status = simplex_member_start(settings, LEADERS, leaders, 0, 0, 0, out);
+    begun += !status;
+    return status;
 }
 
 static uint32_t resumed(const struct simplex_stored *stored, size_t len, simplex_member **out) {
-    return simplex_member_resume(&SETTINGS, LEADERS, 4, 0, 0, 0, stored, journal, len, out);
+    uint32_t status = simplex_member_resume(&SETTINGS, LEADERS, 4, 0, 0, 0, stored, journal, len, out);
+    begun += !status;
+    return status;
+}
+
+static void lets_go(simplex_member **at) {
+    simplex_member_free(*at);
+    *at = 0;
+    let_go++;
 }
 
 static struct simplex_reply called(simplex_member *at, struct simplex_call call) {
@@ -113,6 +124,29 @@ static void bad_settings(void) {
     IS(none == (simplex_member *)&seed);
 }
 
+/* Null handles: each function says so, and freeing one does nothing. */
+static void nulls(void) {
+    struct simplex_call call = {.kind = SIMPLEX_TRY_PROPOSE};
+    struct simplex_restart restart = {.settings = SETTINGS};
+    struct simplex_told told = {.kind = SIMPLEX_TOLD_NULLIFICATION, .proposal = {.round = {1, 9}}};
+    IS(simplex_member_call(0, &call, 0, 0).status == SIMPLEX_NO_HANDLE);
+    IS(simplex_member_bytes(0, SIMPLEX_SHOWN, 0).status == SIMPLEX_NO_HANDLE);
+    IS(simplex_member_item(0, SIMPLEX_DROPPED, 0).status == SIMPLEX_NO_HANDLE);
+    IS(simplex_member_certificate(0, SIMPLEX_NOTARIZATION, 1).status == SIMPLEX_NO_HANDLE);
+    IS(simplex_member_entries(0, 0).status == SIMPLEX_NO_HANDLE);
+    IS(simplex_member_prune_record(0).status == SIMPLEX_NO_HANDLE);
+    IS(simplex_member_view(0, 1).status == SIMPLEX_NO_HANDLE);
+    IS(simplex_member_restart(0, &restart, LEADERS, 4, 0, 0) == SIMPLEX_NO_HANDLE);
+    simplex_member_free(0);
+    IS(simplex_resolver_told(0, &told, 0, 0).status == SIMPLEX_NO_HANDLE);
+    IS(simplex_resolver_effect(0, 0).status == SIMPLEX_NO_HANDLE);
+    IS(simplex_resolver_settled(0, 1).status == SIMPLEX_NO_HANDLE);
+    IS(simplex_resolver_outstanding(0).status == SIMPLEX_NO_HANDLE);
+    IS(simplex_resolver_produce(0, 1).status == SIMPLEX_NO_HANDLE);
+    IS(simplex_resolver_bytes(0, 0).status == SIMPLEX_NO_HANDLE);
+    simplex_resolver_free(0);
+}
+
 /* A journal that is cut, changed in one byte, of fewer entries, or of random bytes. */
 static void bad_journals(const struct simplex_stored *stored, size_t len) {
     simplex_member *none = 0;
@@ -163,6 +197,12 @@ static void resolves(size_t len) {
     struct simplex_effects effects = simplex_resolver_told(at, &told, certificate, sizeof certificate);
     IS(!effects.status && effects.count > 1 && effects.fetches > 0 && simplex_resolver_effect(at, 0).kind);
     IS(!simplex_resolver_effect(at, effects.count).kind);
+    uint64_t views[16] = {0};
+    struct simplex_outstanding open = simplex_outstanding_views(at, views, 16);
+    IS(!open.status && open.count == effects.fetches && open.bytes == 8 * open.count && open.count < 16);
+    for (uint64_t i = 0; i < open.count; i++) IS(simplex_resolver_settled(at, views[i]).is_open && (!i || views[i - 1] < views[i]));
+    uint64_t first = views[0];
+    IS(simplex_outstanding_views(at, views + 1, 1).count == open.count && views[1] == first && views[open.count] != first);
     struct simplex_settled settled = simplex_resolver_settled(at, 9);
     IS(settled.nullification && !settled.notarization && !settled.is_open && settled.fetches == effects.fetches);
     struct simplex_served served = simplex_resolver_produce(at, 9);
@@ -192,21 +232,30 @@ static void one(int is_first) {
     IS(!resumed(&entries.stored, entries.bytes, &next));
     struct simplex_view a = simplex_member_view(at, 1), b = simplex_member_view(next, 1);
     IS(!memcmp(&a, &b, sizeof a));
-    simplex_member_free(at);
+    lets_go(&at);
+    IS(!called(next, (struct simplex_call){.kind = SIMPLEX_PRUNE}).status);
+    struct simplex_entries left = simplex_member_prune_record(next);
+    IS(!left.status && left.stored.is_pruned && left.stored.entries <= entries.stored.entries && left.stored.closed == left.stored.entries);
+    IS(shown(next, SIMPLEX_SHOWN, journal) == left.bytes && !resumed(&left.stored, left.bytes, &at));
+    a = simplex_member_view(at, 1), b = simplex_member_view(next, 1);
+    IS(a.current == b.current && a.last_finalized == b.last_finalized);
+    lets_go(&at);
     struct simplex_restart restart = {.drop = 1, .prune = 1, .settings = SETTINGS};
     IS(!simplex_member_restart(next, &restart, LEADERS, 4, 0, 0));
     restart.settings.view_retention = 20;
     IS(simplex_member_restart(next, &restart, LEADERS, 4, 0, 0) == SIMPLEX_RETENTION_GROWN);
     restart.prune = 2;
     IS(simplex_member_restart(next, &restart, LEADERS, 4, 0, 0) == SIMPLEX_NO_FLAG);
-    simplex_member_free(next);
+    lets_go(&next);
 }
 
 int main(int argc, char **argv) {
     long count = argc > 1 ? strtol(argv[1], 0, 10) : 1;
+    nulls();
     IS(simplex_version() == SIMPLEX_VERSION);
     bad_settings();
-    for (long i = 0; i < count; i++) one(i == 0);
-    printf("%ld lives\n", count);
+    for (int is_first = 1; begun < count; is_first = 0) one(is_first);
+    IS(let_go == begun);
+    printf("%ld members\n", let_go);
     return 0;
 }

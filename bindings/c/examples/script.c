@@ -1,9 +1,11 @@
 /*
  * Serves the lines of the repository's program viewstate (docs/PROGRAM.md) through simplex.h, and prints the program's replies.
  *
- *     script voter N ME T OPTIMISTIC [resume] < lines
+ *     script voter N ME T OPTIMISTIC [resume|compact] < lines
  *
- * With resume each `restart 0 NOW` is done as another process would: from the bytes that were stored.
+ * With resume each `restart 0 NOW` is done as another process would: from the bytes that were stored. With compact the engine keeps a journal,
+ * which grows after each line; each `prune` prunes the record too and puts what is left in place of the journal, and before each
+ * `restart-pruned` the member goes on from the journal. How many entries were taken away is told behind the last line, to standard error.
  *
  *     cc -O2 -I../include script.c ../../libsimplex.a -o script
  */
@@ -155,9 +157,44 @@ static void say_opened(uint32_t status) {
     else ends("restart", status);
 }
 
-static void restart(uint64_t drop, uint32_t prune, uint64_t now) {
+static uint32_t restart(uint64_t drop, uint32_t prune, uint64_t now) {
     struct simplex_restart it = {.drop = drop, .moment = now, .prune = prune, .settings = settings};
-    say_opened(simplex_member_restart(member, &it, leaders, settings.members, 0, 0));
+    uint32_t status = simplex_member_restart(member, &it, leaders, settings.members, 0, 0);
+    say_opened(status);
+    return status;
+}
+
+/* What the engine has stored. */
+static struct { uint8_t *bytes; size_t len; struct simplex_stored stored; uint64_t taken; } kept;
+
+/* Stores what was shown: behind what is there, or in place of it. */
+static void store(struct simplex_entries entries, size_t behind) {
+    if (entries.status) ends("entries", entries.status);
+    uint8_t *shown = bytes_of(SIMPLEX_SHOWN, entries.bytes);
+    kept.bytes = realloc(kept.bytes, behind + entries.bytes + 1);
+    if (!kept.bytes) ends("memory", SIMPLEX_OUT_OF_MEMORY);
+    memcpy(kept.bytes + behind, shown, entries.bytes);
+    free(shown);
+    kept.len = behind + entries.bytes;
+    kept.stored = entries.stored;
+}
+
+static void grow(void) { store(simplex_member_entries(member, kept.stored.entries), kept.len); }
+
+static void compact(void) {
+    uint64_t before = kept.stored.entries;
+    store(simplex_member_prune_record(member), 0);
+    kept.taken += before - kept.stored.entries;
+}
+
+/* As another process would: from what is stored. */
+static uint32_t go_on(uint64_t now) {
+    simplex_member *next = 0;
+    uint32_t status = simplex_member_resume(&settings, leaders, settings.members, 0, 0, now, &kept.stored, kept.bytes, kept.len, &next);
+    if (status) return status;
+    simplex_member_free(member);
+    member = next;
+    return SIMPLEX_OK;
 }
 
 /* As another process would: the record out as bytes, a member made of the bytes, and the first one let go. */
@@ -223,9 +260,9 @@ static int answers(const char *word, const char *kind, const uint64_t *n) {
 }
 
 int main(int argc, char **argv) {
-    if (argc < 6 || strcmp(argv[1], "voter")) return fputs("usage: script voter N ME T OPTIMISTIC [resume]\n", stderr), 2;
+    if (argc < 6 || strcmp(argv[1], "voter")) return fputs("usage: script voter N ME T OPTIMISTIC [resume|compact]\n", stderr), 2;
     if (simplex_version() != SIMPLEX_VERSION) return fputs("another version\n", stderr), 2;
-    int resumes = argc > 6 && !strcmp(argv[6], "resume");
+    int resumes = argc > 6 && !strcmp(argv[6], "resume"), compacts = argc > 6 && !strcmp(argv[6], "compact");
     settings.members = (uint32_t)strtoul(argv[2], 0, 10);
     settings.signer = argv[3][0] == '-' ? SIMPLEX_NOBODY : (uint32_t)strtoul(argv[3], 0, 10);
     settings.term_length = (uint32_t)strtoul(argv[4], 0, 10);
@@ -234,6 +271,7 @@ int main(int argc, char **argv) {
     for (uint32_t i = 0; i < settings.members; i++) leaders[i] = i;
     uint32_t status = simplex_member_start(&settings, leaders, settings.members, 0, 0, 0, &member);
     if (status) ends("start", status);
+    if (compacts) grow();
     char line[220];
     while (fgets(line, sizeof line, stdin)) {
         /* A word, another one behind it or after the view, and numbers. */
@@ -248,9 +286,17 @@ int main(int argc, char **argv) {
         if (!strcmp(word, "record")) printf("record %" PRIu64 "\n", simplex_member_entries(member, UINT64_MAX).stored.entries);
         else if (!strcmp(word, "view")) views();
         else if (!strcmp(word, "restart")) { if (resumes && !n[0]) resume(n[1]); else restart(n[0], 0, n[1]); }
-        else if (!strcmp(word, "restart-pruned")) restart(n[0], 1, n[1]);
-        else if (!answers(word, kind, n)) ends(word, SIMPLEX_NO_CALL);
+        else if (!strcmp(word, "restart-pruned")) {
+            uint32_t resumed = compacts ? go_on(n[1]) : 0;
+            /* Where a resume is refused, a restart in place is refused alike. */
+            if (resumed != restart(n[0], 1, n[1]) && resumed) ends("resume", resumed);
+            if (compacts) store(simplex_member_entries(member, 0), 0);
+        } else if (!answers(word, kind, n)) ends(word, SIMPLEX_NO_CALL);
+        if (compacts) grow();
+        if (compacts && !strcmp(word, "prune")) compact();
     }
+    if (compacts) fprintf(stderr, "%" PRIu64 " entries taken away\n", kept.taken);
+    free(kept.bytes);
     simplex_member_free(member);
     return 0;
 }

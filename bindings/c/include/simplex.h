@@ -24,7 +24,10 @@
  * library's memory leaves it but the handle. A reply is kept behind the handle until the next simplex_member_call, so that its bytes and
  * items can be read whenever there is memory for them; no reply is lost for want of memory.
  *
- * POINTERS. None may be null, but for a slice of length 0, whose pointer is not read; a handle that is null or was let go is undefined.
+ * POINTERS. None may be null, but for a slice of length 0, whose pointer is not read, and for a handle: of a null handle each function
+ * answers the status SIMPLEX_NO_HANDLE and does nothing. A handle that was let go is undefined, as memory that was freed is: it is the
+ * address of a member, so that a call goes straight there, and to tell a dead one from a new one at the same address takes a table of all
+ * handles with a lock, which the library has not. Set a handle to null where you let it go; the Rust package takes it from you.
  */
 #ifndef SIMPLEX_H
 #define SIMPLEX_H
@@ -40,7 +43,7 @@ extern "C" {
 #endif
 
 /* What simplex_version answers for this header: test it once, before anything else. */
-#define SIMPLEX_VERSION 1u
+#define SIMPLEX_VERSION 2u
 
 /* No member. */
 #define SIMPLEX_NOBODY UINT32_MAX
@@ -78,6 +81,8 @@ enum simplex_status {
     SIMPLEX_NO_ENTRY = 13,
     /* An entry is too long for a frame. */
     SIMPLEX_ENTRY_TOO_LONG = 14,
+    /* The handle is null: nothing was done, and nothing else in the answer has a meaning. */
+    SIMPLEX_NO_HANDLE = 15,
     /* The first rule of an engine's settings that is broken. */
     SIMPLEX_NO_PARTICIPANTS = 20,
     SIMPLEX_LEADER_TIMEOUT_ZERO = 21,
@@ -239,7 +244,7 @@ SIMPLEX_SIZE(struct simplex_context, 56);
 
 /* A reply. Where status is not SIMPLEX_OK no other field has a meaning. */
 struct simplex_reply {
-    uint32_t status; /* SIMPLEX_OK to SIMPLEX_NOT_MADE */
+    uint32_t status; /* SIMPLEX_OK to SIMPLEX_NOT_MADE, or SIMPLEX_NO_HANDLE, as each status below */
     uint32_t kind;   /* a simplex_reply_kind */
     uint32_t has;
     uint32_t flag;
@@ -335,8 +340,8 @@ struct simplex_found {
 SIMPLEX_SIZE(struct simplex_found, 72);
 
 struct simplex_item {
-    uint32_t has; /* 1: there is such an item */
-    uint32_t reserved;
+    uint32_t status; /* SIMPLEX_OK */
+    uint32_t has;    /* 1: there is such an item */
     uint64_t view;                    /* of SIMPLEX_DROPPED */
     struct simplex_fetch fetch;       /* of SIMPLEX_FETCHES */
     struct simplex_proposal proposal; /* of SIMPLEX_PROPOSALS */
@@ -345,10 +350,12 @@ SIMPLEX_SIZE(struct simplex_item, 88);
 
 /* A part of bytes: the first count count. */
 struct simplex_chunk {
+    uint32_t status; /* SIMPLEX_OK */
+    uint32_t reserved;
     uint64_t count;
     uint8_t bytes[1024];
 };
-SIMPLEX_SIZE(struct simplex_chunk, 1032);
+SIMPLEX_SIZE(struct simplex_chunk, 1040);
 
 /* A text: the first count bytes count. */
 struct simplex_text {
@@ -401,22 +408,32 @@ enum simplex_fetch_reason { SIMPLEX_MISSING_NULLIFICATION = 0, SIMPLEX_CERTIFICA
 enum simplex_settled_kind { SIMPLEX_NULLIFICATIONS = 0, SIMPLEX_NOTARIZATIONS = 1 };
 
 struct simplex_effect {
-    uint32_t kind; /* a simplex_effect_kind; 0: there is no such effect */
+    uint32_t status; /* SIMPLEX_OK */
+    uint32_t kind;   /* a simplex_effect_kind; 0: there is no such effect */
     uint32_t reason;
+    uint32_t reserved;
     uint64_t view, cause, end;
 };
-SIMPLEX_SIZE(struct simplex_effect, 32);
+SIMPLEX_SIZE(struct simplex_effect, 40);
 
 struct simplex_settled {
+    uint32_t status;        /* SIMPLEX_OK */
     uint32_t is_failed;
     uint32_t is_open;       /* 1: the view's fetch is open */
     uint32_t nullification; /* 1: no nullification of the view is left to ask for */
     uint32_t notarization;  /* 1: no notarization of the view is left to ask for */
     uint32_t uncertifiable; /* 1: the view's certification failed */
-    uint32_t reserved;
     uint64_t fetches;       /* how many fetches are open */
 };
 SIMPLEX_SIZE(struct simplex_settled, 32);
+
+struct simplex_outstanding {
+    uint32_t status; /* SIMPLEX_OK or SIMPLEX_OUT_OF_MEMORY */
+    uint32_t reserved;
+    uint64_t count;  /* how many fetches are open */
+    uint64_t bytes;  /* how many bytes are shown: eight each */
+};
+SIMPLEX_SIZE(struct simplex_outstanding, 24);
 
 struct simplex_served {
     uint32_t status; /* SIMPLEX_OK, SIMPLEX_OUT_OF_MEMORY or SIMPLEX_FAILED */
@@ -475,6 +492,15 @@ struct simplex_found simplex_member_certificate(simplex_member *at, uint32_t kin
  */
 struct simplex_entries simplex_member_entries(simplex_member *at, uint64_t count);
 
+/*
+ * Prunes the record within the life, behind SIMPLEX_PRUNE: takes away what lies far below the last finalized view, as a restart that prunes
+ * would, but for views that are tracked still. Shows all that is left, to be stored in place of the journal with its stored, in one step;
+ * from then on simplex_member_entries counts from the shorter record. The life goes on as it is. Also of a member that has failed. The bytes
+ * are SIMPLEX_SHOWN. After SIMPLEX_OUT_OF_MEMORY and SIMPLEX_ENTRY_TOO_LONG the record is pruned and not shown: ask for
+ * simplex_member_entries(.., 0).
+ */
+struct simplex_entries simplex_member_prune_record(simplex_member *at);
+
 /* What the member knows, and what it knows of a view. */
 struct simplex_view simplex_member_view(simplex_member *at, uint64_t view);
 
@@ -486,7 +512,7 @@ struct simplex_view simplex_member_view(simplex_member *at, uint64_t view);
 uint32_t simplex_member_restart(simplex_member *at, const struct simplex_restart *restart, const uint32_t *leaders, size_t leaders_len,
                                 const uint8_t *certificate, size_t certificate_len);
 
-/* Lets a member go. Its handle must not be used again. */
+/* Lets a member go; nothing where the handle is null. It must not be used again. */
 void simplex_member_free(simplex_member *at);
 
 /* The text that a vote signs, a simplex_subject_kind: what other members' votes are verified on. A nullify reads the round alone. */
@@ -516,10 +542,28 @@ struct simplex_settled simplex_resolver_settled(simplex_resolver *at, uint64_t v
  * the certificate's bytes. */
 struct simplex_served simplex_resolver_produce(simplex_resolver *at, uint64_t view);
 
-/* A part of what was served last, from the byte from on: at most 1024, and none where there are no more. */
+/* Shows the views whose fetch is open, rising, in eight bytes each, big-endian. simplex_outstanding_views reads them. */
+struct simplex_outstanding simplex_resolver_outstanding(simplex_resolver *at);
+
+/* A part of what was served or shown last, from the byte from on: at most 1024, and none where there are no more. */
 struct simplex_chunk simplex_resolver_bytes(simplex_resolver *at, uint64_t from);
 
-/* Lets a resolver go. Its handle must not be used again. */
+/* The views whose fetch is open, rising: the first room of them stand in views then, and count in the answer is how many there are. */
+static inline struct simplex_outstanding simplex_outstanding_views(simplex_resolver *at, uint64_t *views, size_t room) {
+    struct simplex_outstanding shown = simplex_resolver_outstanding(at);
+    size_t most = shown.status ? 0 : shown.count < room ? (size_t)shown.count : room;
+    for (size_t place = 0; place < most;) {
+        struct simplex_chunk chunk = simplex_resolver_bytes(at, 8 * (uint64_t)place);
+        for (size_t at_byte = 0; at_byte + 8 <= chunk.count && place < most; at_byte += 8, place++) {
+            views[place] = 0;
+            for (size_t i = 0; i < 8; i++) views[place] = views[place] << 8 | chunk.bytes[at_byte + i];
+        }
+        if (!chunk.count) break;
+    }
+    return shown;
+}
+
+/* Lets a resolver go; nothing where the handle is null. It must not be used again. */
 void simplex_resolver_free(simplex_resolver *at);
 
 #ifdef __cplusplus

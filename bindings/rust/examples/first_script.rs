@@ -3,11 +3,13 @@
 //!     cargo run --example first_script                                     docs/first-script.txt, as member 0 of 4
 //!     cargo run --example first_script -- voter N ME T OPTIMISTIC          the lines of standard input
 //!     cargo run --example first_script -- voter N ME T OPTIMISTIC resume   each `restart 0 NOW` by a resume from the journal's bytes
+//!     cargo run --example first_script -- voter N ME T OPTIMISTIC compact  with a journal, in whose place each `prune` puts what is left of the
+//!                                                                          record, and from which the member goes on before a `restart-pruned`
 
 use simplex_view_state::{
-    Added, Candidates, Certificate, Config, Context, Cut, Digest, EntryCount, Epoch, Finalization, Lacking, Member, Moment, Notarization,
-    Nullification, OpenError, Participant, Proposal, ProposalRequest, RecoverError, Refusal, Round, Terms, TimeoutReason, Token, Verify,
-    View, ViewDelta,
+    Added, Candidates, Certificate, Config, Context, Cut, Digest, Entries, EntriesError, EntryCount, Epoch, Finalization, Lacking, Member,
+    Moment, Notarization, Nullification, OpenError, Participant, Proposal, ProposalRequest, RecoverError, Refusal, Round, Terms,
+    TimeoutReason, Token, Verify, View, ViewDelta,
 };
 use std::error::Error;
 use std::io::{BufRead, BufReader, Write};
@@ -23,26 +25,41 @@ const FIRST_SCRIPT: &str = concat!(env!("CARGO_MANIFEST_DIR"), "/../../docs/firs
 fn main() -> Result<(), Box<dyn Error>> {
     let words: Vec<String> = env::args().skip(1).collect();
     let words: Vec<&str> = words.iter().map(String::as_str).collect();
-    let (config, lines, resumes): (_, Box<dyn BufRead>, _) = match words[..] {
+    let (config, lines, way): (_, Box<dyn BufRead>, _) = match words[..] {
         [] => (
             config("4", "0", "1", "0")?,
             Box::new(BufReader::new(fs::File::open(FIRST_SCRIPT)?)),
-            false,
+            None,
         ),
-        ["voter", members, me, terms, optimistic] => (config(members, me, terms, optimistic)?, Box::new(io::stdin().lock()), false),
-        ["voter", members, me, terms, optimistic, "resume"] => {
-            (config(members, me, terms, optimistic)?, Box::new(io::stdin().lock()), true)
+        ["voter", members, me, terms, optimistic] => (config(members, me, terms, optimistic)?, Box::new(io::stdin().lock()), None),
+        ["voter", members, me, terms, optimistic, way] => {
+            (config(members, me, terms, optimistic)?, Box::new(io::stdin().lock()), Some(way))
         }
-        _ => return Err("usage: first_script [voter N ME T OPTIMISTIC [resume]]".into()),
+        _ => return Err("usage: first_script [voter N ME T OPTIMISTIC [resume|compact]]".into()),
     };
-    let member = Member::start(&config, Moment::from_millis(0))?;
-    let mut voter = Voter { config, member, resumes };
+    let mut member = Member::start(&config, Moment::from_millis(0))?;
+    let journal = match way {
+        Some("compact") => Some(Journal {
+            kept: member.entries_since(EntryCount::ZERO)?,
+            taken: 0,
+        }),
+        _ => None,
+    };
+    let mut voter = Voter {
+        config,
+        member,
+        resumes: way == Some("resume"),
+        journal,
+    };
     let mut out = io::BufWriter::new(io::stdout().lock());
     for line in lines.lines() {
         let reply = voter.answer(&line?)?;
         writeln!(out, "{reply}")?;
     }
     out.flush()?;
+    if let Some(journal) = voter.journal {
+        eprintln!("{} entries taken away", journal.taken);
+    }
     Ok(())
 }
 
@@ -68,11 +85,47 @@ struct Voter {
     config: Config,
     member: Member,
     resumes: bool,
+    journal: Option<Journal>,
+}
+
+/// What the engine has stored, and how many entries were taken away of it.
+struct Journal {
+    kept: Entries,
+    taken: u64,
+}
+
+impl Journal {
+    /// Appends what the record has grown by.
+    fn grow(&mut self, member: &mut Member) -> Result<(), EntriesError> {
+        let grown = member.entries_since(self.kept.stored.entries)?;
+        self.kept.bytes.extend(grown.bytes);
+        self.kept.stored = grown.stored;
+        Ok(())
+    }
+
+    /// Prunes the record, and puts what is left of it in place of the journal.
+    fn compact(&mut self, member: &mut Member) -> Result<(), EntriesError> {
+        let before = self.kept.stored.entries;
+        self.kept = member.prune_record()?;
+        self.taken += before.get() - self.kept.stored.entries.get();
+        Ok(())
+    }
 }
 
 impl Voter {
-    /// The reply to a line.
+    /// The reply to a line, behind which the journal is kept.
     fn answer(&mut self, line: &str) -> Result<String, Box<dyn Error>> {
+        let reply = self.reply(line)?;
+        if let Some(journal) = &mut self.journal {
+            journal.grow(&mut self.member)?;
+            if line == "prune" {
+                journal.compact(&mut self.member)?;
+            }
+        }
+        Ok(reply)
+    }
+
+    fn reply(&mut self, line: &str) -> Result<String, Box<dyn Error>> {
         let words: Vec<&str> = line.split(' ').collect();
         match words[..] {
             ["restart", drop, now] => self.restart(number(drop)?, false, moment(now)?),
@@ -167,9 +220,28 @@ impl Voter {
                 return Ok("ok".into());
             }
         }
+        let resumed = self
+            .journal
+            .as_ref()
+            .map(|it| Member::resume(&self.config, now, &it.kept.stored, &it.kept.bytes));
+        let refused = match resumed {
+            Some(Ok(member)) => {
+                self.member = member;
+                None
+            }
+            Some(Err(error)) => Some(error),
+            None => None,
+        };
         // Where a resume is refused, a restart in place is refused alike, and leaves the member failed.
         let last = EntryCount::new(drop);
-        Ok(match self.member.restart(&self.config, now, Cut { last, prune }) {
+        let restarted = self.member.restart(&self.config, now, Cut { last, prune });
+        if refused.is_some() && refused != restarted.err() {
+            return Err("a resume is refused where a restart is not".into());
+        }
+        if let Some(journal) = &mut self.journal {
+            journal.kept = self.member.entries_since(EntryCount::ZERO)?;
+        }
+        Ok(match restarted {
             Ok(()) => "ok".into(),
             Err(OpenError::Recover(error)) => format!("refused {} {error:?}", place_of(error)),
             Err(error) => return Err(error.into()),

@@ -51,6 +51,10 @@ fn reply_to(resolver: &mut Resolver, line: &str) -> Result<String, Box<dyn Error
         }
         ["uncertifiable", v] => return Ok(resolver.is_uncertifiable(view(v)?).to_string()),
         ["open", v] => return Ok(resolver.is_open(view(v)?).to_string()),
+        ["outstanding"] => {
+            let views = resolver.outstanding()?;
+            return Ok(views.iter().fold("outstanding".to_string(), |text, view| format!("{text} {view}")));
+        }
         ["produce", v] => return Ok(if resolver.produce(view(v)?)?.is_some() { "some" } else { "none" }.into()),
         _ => return Err(format!("not a call: {line}").into()),
     };

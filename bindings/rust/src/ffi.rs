@@ -3,7 +3,7 @@
 use std::marker::PhantomData;
 
 /// What `simplex_version` answers for the structs below.
-pub(crate) const VERSION: u32 = 1;
+pub(crate) const VERSION: u32 = 2;
 
 /// No member.
 pub(crate) const NOBODY: u32 = u32::MAX;
@@ -162,8 +162,8 @@ pub(crate) struct Found {
 #[repr(C)]
 #[derive(Clone, Copy)]
 pub(crate) struct Item {
+    pub(crate) status: u32,
     pub(crate) has: u32,
-    pub(crate) reserved: u32,
     pub(crate) view: u64,
     pub(crate) fetch: Fetch,
     pub(crate) proposal: Proposal,
@@ -172,6 +172,8 @@ pub(crate) struct Item {
 #[repr(C)]
 #[derive(Clone, Copy)]
 pub(crate) struct Chunk {
+    pub(crate) status: u32,
+    pub(crate) reserved: u32,
     pub(crate) count: u64,
     pub(crate) bytes: [u8; 1024],
 }
@@ -213,8 +215,10 @@ pub(crate) struct Effects {
 #[repr(C)]
 #[derive(Clone, Copy)]
 pub(crate) struct Effect {
+    pub(crate) status: u32,
     pub(crate) kind: u32,
     pub(crate) reason: u32,
+    pub(crate) reserved: u32,
     pub(crate) view: u64,
     pub(crate) cause: u64,
     pub(crate) end: u64,
@@ -223,13 +227,22 @@ pub(crate) struct Effect {
 #[repr(C)]
 #[derive(Clone, Copy)]
 pub(crate) struct Settled {
+    pub(crate) status: u32,
     pub(crate) is_failed: u32,
     pub(crate) is_open: u32,
     pub(crate) nullification: u32,
     pub(crate) notarization: u32,
     pub(crate) uncertifiable: u32,
-    pub(crate) reserved: u32,
     pub(crate) fetches: u64,
+}
+
+#[repr(C)]
+#[derive(Clone, Copy)]
+pub(crate) struct Outstanding {
+    pub(crate) status: u32,
+    pub(crate) reserved: u32,
+    pub(crate) count: u64,
+    pub(crate) bytes: u64,
 }
 
 #[repr(C)]
@@ -257,10 +270,10 @@ pub(crate) struct Opaque {
 
 const _: () = assert!(size_of::<Call>() == 112 && size_of::<Reply>() == 176 && size_of::<Settings>() == 152);
 const _: () = assert!(size_of::<Restart>() == 176 && size_of::<Entries>() == 56 && size_of::<View>() == 128);
-const _: () = assert!(size_of::<Found>() == 72 && size_of::<Item>() == 88 && size_of::<Chunk>() == 1032);
+const _: () = assert!(size_of::<Found>() == 72 && size_of::<Item>() == 88 && size_of::<Chunk>() == 1040);
 const _: () = assert!(size_of::<Text>() == 72 && size_of::<Scan>() == 24 && size_of::<Stored>() == 40);
-const _: () = assert!(size_of::<Told>() == 64 && size_of::<Effects>() == 24 && size_of::<Effect>() == 32);
-const _: () = assert!(size_of::<Settled>() == 32 && size_of::<Served>() == 24);
+const _: () = assert!(size_of::<Told>() == 64 && size_of::<Effects>() == 24 && size_of::<Effect>() == 40);
+const _: () = assert!(size_of::<Settled>() == 32 && size_of::<Served>() == 24 && size_of::<Outstanding>() == 24);
 
 unsafe extern "C" {
     pub(crate) safe fn simplex_version() -> u32;
@@ -290,6 +303,7 @@ unsafe extern "C" {
     pub(crate) fn simplex_member_item(at: *mut Opaque, which: u32, index: u64) -> Item;
     pub(crate) fn simplex_member_certificate(at: *mut Opaque, kind: u32, view: u64) -> Found;
     pub(crate) fn simplex_member_entries(at: *mut Opaque, count: u64) -> Entries;
+    pub(crate) fn simplex_member_prune_record(at: *mut Opaque) -> Entries;
     pub(crate) fn simplex_member_view(at: *mut Opaque, view: u64) -> View;
     pub(crate) fn simplex_member_restart(
         at: *mut Opaque,
@@ -306,6 +320,7 @@ unsafe extern "C" {
     pub(crate) fn simplex_resolver_told(at: *mut OpaqueResolver, told: &Told, certificate: *const u8, certificate_len: usize) -> Effects;
     pub(crate) fn simplex_resolver_effect(at: *mut OpaqueResolver, index: u64) -> Effect;
     pub(crate) fn simplex_resolver_settled(at: *mut OpaqueResolver, view: u64) -> Settled;
+    pub(crate) fn simplex_resolver_outstanding(at: *mut OpaqueResolver) -> Outstanding;
     pub(crate) fn simplex_resolver_produce(at: *mut OpaqueResolver, view: u64) -> Served;
     pub(crate) fn simplex_resolver_bytes(at: *mut OpaqueResolver, from: u64) -> Chunk;
     pub(crate) fn simplex_resolver_free(at: *mut OpaqueResolver);

@@ -464,7 +464,7 @@ impl Member {
         })
     }
 
-    /// Forgets the views that are kept no longer, and answers them, rising. The record stays.
+    /// Forgets the views that are kept no longer, and answers them, rising. The record stays: [`Member::prune_record`].
     pub fn prune(&mut self) -> Answer<Vec<View>> {
         self.plain(kind::PRUNE)?;
         Ok(self.items(ffi::DROPPED, |item| View::new(item.view)))
@@ -474,6 +474,43 @@ impl Member {
     pub fn entries_since(&mut self, count: EntryCount) -> Result<Entries, EntriesError> {
         // SAFETY: the handle is this member's.
         let shown = unsafe { ffi::simplex_member_entries(self.at.as_ptr(), count.0) };
+        self.entries_of(&shown)
+    }
+
+    /// Takes away from the record what lies far below the last finalized view, as a restart that prunes would, but for views that are
+    /// tracked still; so [`Member::prune`] comes before it. Answers the whole record that is left, to be stored in place of the journal with
+    /// its `stored`, in one step; from then on [`Member::entries_since`] counts from the shorter record. The life goes on as it is. Also
+    /// of a member that has failed.
+    ///
+    /// After an error the record is pruned and not shown: ask for [`Member::entries_since`] of [`EntryCount::ZERO`].
+    ///
+    /// ```
+    /// use simplex_view_state::{Config, Digest, EntryCount, Epoch, Finalization, Member, Moment, Participant, Proposal, Round, View};
+    ///
+    /// let config = Config::new(4.try_into()?, Some(Participant::new(0)), Epoch::new(1), Digest::default());
+    /// let mut member = Member::start(&config, Moment::from_millis(0))?;
+    /// for view in 1..50 {
+    ///     let round = Round { epoch: Epoch::new(1), view: View::new(view) };
+    ///     let proposal = Proposal { round, parent: View::new(view - 1), payload: Digest::default() };
+    ///     member.add_finalization(&Finalization { proposal, certificate: vec![7] }, Moment::from_millis(view))?;
+    /// }
+    /// let whole = member.entries_since(EntryCount::ZERO)?;
+    /// member.prune()?;
+    /// let left = member.prune_record()?;
+    /// assert!(left.stored.entries < whole.stored.entries && left.bytes.len() < whole.bytes.len());
+    /// // Write left.bytes and left.stored to a new file, sync it, and rename it over the journal.
+    /// let resumed = Member::resume(&config, Moment::from_millis(60), &left.stored, &left.bytes)?;
+    /// assert_eq!(resumed.views(), member.views());
+    /// # Ok::<(), Box<dyn std::error::Error>>(())
+    /// ```
+    pub fn prune_record(&mut self) -> Result<Entries, EntriesError> {
+        // SAFETY: the handle is this member's.
+        let shown = unsafe { ffi::simplex_member_prune_record(self.at.as_ptr()) };
+        self.entries_of(&shown)
+    }
+
+    /// The entries that were shown.
+    fn entries_of(&self, shown: &ffi::Entries) -> Result<Entries, EntriesError> {
         match shown.status {
             0 => Ok(Entries {
                 bytes: self.bytes(ffi::SHOWN),

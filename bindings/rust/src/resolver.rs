@@ -56,6 +56,7 @@ pub enum FetchReason {
 /// let effects = resolver.updated(&Certificate::Nullification(Nullification { round, certificate: vec![7] }))?;
 /// assert!(effects.iter().any(|effect| matches!(effect, Effect::Fetch { view, .. } if *view == View::new(1))));
 /// assert!(resolver.is_open(View::new(1)) && !resolver.is_open(View::new(3)));
+/// assert_eq!(resolver.outstanding()?, [View::new(1), View::new(2)]);
 /// assert!(resolver.produce(View::new(3))?.is_some());
 /// # Ok::<(), Box<dyn std::error::Error>>(())
 /// ```
@@ -67,7 +68,7 @@ pub struct Resolver {
 unsafe impl Send for Resolver {}
 
 impl Resolver {
-    /// A resolver that starts from a member's whole journal, with its first fetches open ([`Resolver::is_open`]).
+    /// A resolver that starts from a member's whole journal, with its first fetches open ([`Resolver::outstanding`]).
     pub fn start(term_length: NonZeroU32, journal: &[u8]) -> Result<Resolver, OpenError> {
         if ffi::simplex_version() != ffi::VERSION {
             return Err(OpenError::OtherVersion);
@@ -167,6 +168,20 @@ impl Resolver {
         self.known(view).is_open != 0
     }
 
+    /// The views whose fetch is open, rising.
+    pub fn outstanding(&mut self) -> Answer<Vec<View>> {
+        // SAFETY: the handle is this resolver's.
+        let shown = unsafe { ffi::simplex_resolver_outstanding(self.at.as_ptr()) };
+        match Refusal::of(shown.status) {
+            None => Ok(self
+                .bytes()
+                .chunks_exact(8)
+                .map(|it| View::new(u64::from_be_bytes(it.try_into().expect("8 bytes"))))
+                .collect()),
+            Some(refusal) => Err(refusal),
+        }
+    }
+
     /// Whether no fetch is open.
     pub fn is_idle(&self) -> bool {
         self.known(View::GENESIS).fetches == 0
@@ -197,7 +212,7 @@ impl Resolver {
         }
     }
 
-    /// All of the bytes that were served last.
+    /// All of the bytes that were served or shown last.
     fn bytes(&self) -> Vec<u8> {
         let mut bytes = Vec::new();
         loop {

@@ -1,2 +1,3 @@
+pub mod Nulls
 pub mod Steps
 pub mod Values

@@ -30,3 +30,9 @@ pub use denote.Triple.Entry.{on_entry}
 pub use denote.Triple.Spec.{triple_of}
 pub use denote.Triple.Table.{framed}
 pub use denote.Triple.Walked.{Stays, walk_of, says, stay_dropped, Goes-dropped, ends_at}
+pub use Rattle.std.proofs.Common.{inl, inr}
+pub use lib.Dec.{lit<}
+pub use types.Kit.{fpick}
+pub use types.Run.{bin, lit, skips, branches, returns_within}
+pub use denote.RawPtr.{null_ptr, Testable, tests_null}
+pub use Rattle.simplex_c.proofs.Nulls.{null_or_not}

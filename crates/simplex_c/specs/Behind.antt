@@ -2,7 +2,7 @@
 use Rattle.std.specs.Prelude.{◌≡◌}
 use base.Fml.{Fml, ftrue, fex, fsep}
 use base.Fraction.{full_share}
-use denote.RawPtr.{Ptr, lies_at}
+use denote.RawPtr.{Ptr, block_ptr, null_ptr, Testable, lies_at}
 use Rattle.std.specs.Global.{Global}
 use Rattle.std_alloc.specs.Box.Ownership.{box_owns}
 use Rattle.std_heap.specs.contracts.impls.GlobalAllocator.TheImpl as global
@@ -11,27 +11,39 @@ use Rattle.simplex_flat.specs.contracts.held.Held as held
 use Rattle.simplex_flat.specs.declared.resolving.HeldResolver.{HeldResolver}
 use Rattle.simplex_flat.specs.contracts.resolving.HeldResolver as resolver
 
--- the member is at the pointer, and C may not touch it
+-- a fact, as a formula
+abbrev pub is_so : Type 0 → Fml
+is_so P = fex P (λ _. ftrue)
+
+-- a handle: null; or the member is at the pointer, and C may not touch it, and the pointer can be compared with null
 abbrev pub held_at : Ptr → Held → Fml
-held_at at now = lies_at held.the_row full_share at now
+held_at null_ptr now = ftrue
+held_at (block_ptr b o) now = fsep (is_so (Testable (block_ptr b o))) (lies_at held.the_row full_share (block_ptr b o) now)
 
--- some member is at the pointer of which this holds
-abbrev pub left_at : Ptr → (Held → Type 0) → Fml
-left_at at P = fex Held (λ now. fsep (fex (P now) (λ _. ftrue)) (held_at at now))
+-- some member is behind the handle of which this holds; or the handle is null, and this is answered
+abbrev pub left_at : Ptr → Type 0 → (Held → Type 0) → Fml
+left_at null_ptr answered P = is_so answered
+left_at (block_ptr b o) answered P = fex Held (λ now. fsep (is_so (P now)) (held_at (block_ptr b o) now))
 
--- the member is at the pointer, with the right to free its block
+-- a handle: null; or the member is at the pointer, with the right to free its block
 abbrev pub owned_at : Global → Ptr → Held → Fml
-owned_at alloc at now = box_owns (global.ghosts.dealloc_token alloc) held.the_row at now
+owned_at alloc null_ptr now = ftrue
+owned_at alloc (block_ptr b o) now =
+    fsep (is_so (Testable (block_ptr b o))) (box_owns (global.ghosts.dealloc_token alloc) held.the_row (block_ptr b o) now)
 
 -- the same of a resolver
 abbrev pub resolver_at : Ptr → HeldResolver → Fml
-resolver_at at now = lies_at resolver.the_row full_share at now
+resolver_at null_ptr now = ftrue
+resolver_at (block_ptr b o) now = fsep (is_so (Testable (block_ptr b o))) (lies_at resolver.the_row full_share (block_ptr b o) now)
 
-abbrev pub resolver_left_at : Ptr → (HeldResolver → Type 0) → Fml
-resolver_left_at at P = fex HeldResolver (λ now. fsep (fex (P now) (λ _. ftrue)) (resolver_at at now))
+abbrev pub resolver_left_at : Ptr → Type 0 → (HeldResolver → Type 0) → Fml
+resolver_left_at null_ptr answered P = is_so answered
+resolver_left_at (block_ptr b o) answered P = fex HeldResolver (λ now. fsep (is_so (P now)) (resolver_at (block_ptr b o) now))
 
 abbrev pub resolver_owned_at : Global → Ptr → HeldResolver → Fml
-resolver_owned_at alloc at now = box_owns (global.ghosts.dealloc_token alloc) resolver.the_row at now
+resolver_owned_at alloc null_ptr now = ftrue
+resolver_owned_at alloc (block_ptr b o) now =
+    fsep (is_so (Testable (block_ptr b o))) (box_owns (global.ghosts.dealloc_token alloc) resolver.the_row (block_ptr b o) now)
 
 -- nothing was changed, and this was read
 abbrev pub IsRead : {A : Type 0} → A → A → Type 0 → Type 0

@@ -1,16 +1,18 @@
-//! The functions that C calls. `held_at` says what a handle points to: a member that `simplex_member_start` or `simplex_member_resume`
-//! made, and that no other call has.
+//! The functions that C calls. `held_at` says what a handle is: null, or a pointer to a member that `simplex_member_start` or
+//! `simplex_member_resume` made, and that no other call has. At null each answers the status 15, and does nothing.
 
 ghost use Rattle.std.specs.Prelude.{◌≡◌, ◌≤◌};
 ghost use Rattle.std.specs.Borrow.{sem};
 ghost use Rattle.simplex_flat.specs.declared.held.Held.{Held};
 ghost use Rattle.simplex_flat.specs.Journals.{IsScan};
+ghost use Rattle.simplex_flat.specs.Pruning.{IsPruned};
 ghost use Rattle.simplex_flat.specs.Serving.{IsServed};
 ghost use Rattle.simplex_flat.specs.Showing.{IsChunkOf, IsEntries, IsFound, IsItem, IsText, IsView};
 ghost use Rattle.simplex_c.specs.Behind.{IsRead, held_at, left_at, owned_at};
 ghost use Rattle.simplex_c.specs.Opened.{IsRestartStatus, IsResumeStatus, IsStartStatus};
 
 use crate::loose::Loose;
+use simplex_flat::absent;
 use simplex_flat::flat::{FlatCall, FlatProposal, FlatReply, FlatSettings};
 use simplex_flat::held::Held;
 use simplex_flat::journal::scan;
@@ -25,9 +27,9 @@ use std::alloc::Global;
 /// The number that rises when a struct, a number or a function here changes its meaning.
 #[unsafe(no_mangle)]
 pub extern "C" fn simplex_version() -> u32
-    ensures { result ≡ 1 }
+    ensures { result ≡ 2 }
 {
-    1
+    2
 }
 
 /// Begins a member that never voted, and writes its handle. 0, or why there is none.
@@ -90,8 +92,11 @@ pub unsafe extern "C" fn simplex_member_call(
 ) -> FlatReply
     ghost held: { Held }
     requires* { sem 𝓛 (held_at at held) }
-    ensures* { sem 𝓛 (left_at at (λ now. IsServed held call.now certificate.now result now)) }
+    ensures* { sem 𝓛 (left_at at (result.status ≡ 15) (λ now. IsServed held call.now certificate.now result now)) }
 {
+    if at.is_null() {
+        return absent::reply();
+    }
     serve(unsafe { &mut *(at as *mut Held) }, call, certificate)
 }
 
@@ -106,8 +111,11 @@ fn serve(held: &mut Held, call: &FlatCall, certificate: &[u8]) -> FlatReply
 pub unsafe extern "C" fn simplex_member_bytes(at: *mut u8, which: u32, from: u64) -> FlatChunk
     ghost held: { Held }
     requires* { sem 𝓛 (held_at at held) }
-    ensures* { sem 𝓛 (left_at at (λ now. IsRead held now (IsChunkOf held which from result))) }
+    ensures* { sem 𝓛 (left_at at (result.status ≡ 15) (λ now. IsRead held now (IsChunkOf held which from result))) }
 {
+    if at.is_null() {
+        return absent::chunk();
+    }
     hand_chunk(unsafe { &mut *(at as *mut Held) }, which, from)
 }
 
@@ -122,8 +130,11 @@ fn hand_chunk(held: &mut Held, which: u32, from: u64) -> FlatChunk
 pub unsafe extern "C" fn simplex_member_item(at: *mut u8, which: u32, index: u64) -> FlatItem
     ghost held: { Held }
     requires* { sem 𝓛 (held_at at held) }
-    ensures* { sem 𝓛 (left_at at (λ now. IsRead held now (IsItem held.last which index result))) }
+    ensures* { sem 𝓛 (left_at at (result.status ≡ 15) (λ now. IsRead held now (IsItem held.last which index result))) }
 {
+    if at.is_null() {
+        return absent::item();
+    }
     hand_item(unsafe { &mut *(at as *mut Held) }, which, index)
 }
 
@@ -138,8 +149,11 @@ fn hand_item(held: &mut Held, which: u32, index: u64) -> FlatItem
 pub unsafe extern "C" fn simplex_member_certificate(at: *mut u8, kind: u32, view: u64) -> FlatFound
     ghost held: { Held }
     requires* { sem 𝓛 (held_at at held) }
-    ensures* { sem 𝓛 (left_at at (λ now. IsFound held kind view result now)) }
+    ensures* { sem 𝓛 (left_at at (result.status ≡ 15) (λ now. IsFound held kind view result now)) }
 {
+    if at.is_null() {
+        return absent::found();
+    }
     hand_certificate(unsafe { &mut *(at as *mut Held) }, kind, view)
 }
 
@@ -154,8 +168,11 @@ fn hand_certificate(held: &mut Held, kind: u32, view: u64) -> FlatFound
 pub unsafe extern "C" fn simplex_member_entries(at: *mut u8, count: u64) -> FlatEntries
     ghost held: { Held }
     requires* { sem 𝓛 (held_at at held) }
-    ensures* { sem 𝓛 (left_at at (λ now. IsEntries held count result now)) }
+    ensures* { sem 𝓛 (left_at at (result.status ≡ 15) (λ now. IsEntries held count result now)) }
 {
+    if at.is_null() {
+        return absent::entries();
+    }
     hand_entries(unsafe { &mut *(at as *mut Held) }, count)
 }
 
@@ -165,13 +182,35 @@ fn hand_entries(held: &mut Held, count: u64) -> FlatEntries
     held.entries(count)
 }
 
+/// Prunes the record within the life, and shows all that is left of it.
+#[unsafe(no_mangle)]
+pub unsafe extern "C" fn simplex_member_prune_record(at: *mut u8) -> FlatEntries
+    ghost held: { Held }
+    requires* { sem 𝓛 (held_at at held) }
+    ensures* { sem 𝓛 (left_at at (result.status ≡ 15) (λ now. IsPruned held result now)) }
+{
+    if at.is_null() {
+        return absent::entries();
+    }
+    hand_pruned(unsafe { &mut *(at as *mut Held) })
+}
+
+fn hand_pruned(held: &mut Held) -> FlatEntries
+    ensures { IsPruned held.old result held.new }
+{
+    held.prune_record()
+}
+
 /// What the member knows, and what it knows of a view.
 #[unsafe(no_mangle)]
 pub unsafe extern "C" fn simplex_member_view(at: *mut u8, view: u64) -> FlatView
     ghost held: { Held }
     requires* { sem 𝓛 (held_at at held) }
-    ensures* { sem 𝓛 (left_at at (λ now. IsRead held now (IsView held.member.facts view result))) }
+    ensures* { sem 𝓛 (left_at at (result.status ≡ 15) (λ now. IsRead held now (IsView held.member.facts view result))) }
 {
+    if at.is_null() {
+        return absent::view();
+    }
     hand_view(unsafe { &mut *(at as *mut Held) }, view)
 }
 
@@ -191,8 +230,11 @@ pub unsafe extern "C" fn simplex_member_restart(
 ) -> u32
     ghost held: { Held }
     requires* { sem 𝓛 (held_at at held) }
-    ensures* { sem 𝓛 (left_at at (λ now. IsRestartStatus held restart.now leaders.now certificate.now result now)) }
+    ensures* { sem 𝓛 (left_at at (result ≡ 15) (λ now. IsRestartStatus held restart.now leaders.now certificate.now result now)) }
 {
+    if at.is_null() {
+        return absent::status();
+    }
     begin_anew(
         unsafe { &mut *(at as *mut Held) },
         restart,
@@ -213,6 +255,9 @@ pub unsafe extern "C" fn simplex_member_free(alloc: Global, at: *mut u8)
     ghost held: { Held }
     requires* { sem 𝓛 (owned_at alloc at held) }
 {
+    if at.is_null() {
+        return;
+    }
     end(Loose {
         at: at as *mut Held,
         alloc,

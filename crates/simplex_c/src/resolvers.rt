@@ -1,16 +1,19 @@
-//! The functions of a resolver that C calls. `resolver_at` says what a handle points to: a resolver that `simplex_resolver_start` made,
-//! and that no other call has.
+//! The functions of a resolver that C calls. `resolver_at` says what a handle is: null, or a pointer to a resolver that
+//! `simplex_resolver_start` made, and that no other call has. At null each answers the status 15, and does nothing.
 
 ghost use Rattle.std.specs.Prelude.{◌≡◌, ◌≤◌};
 ghost use Rattle.std.specs.Borrow.{sem};
 ghost use Rattle.simplex_flat.specs.declared.resolving.HeldResolver.{HeldResolver};
-ghost use Rattle.simplex_flat.specs.Resolving.{IsEffectAt, IsHeard, IsServedFor, IsSettledAt};
+ghost use Rattle.simplex_flat.specs.Resolving.{AreOutstanding, IsEffectAt, IsHeard, IsServedFor, IsSettledAt};
 ghost use Rattle.simplex_flat.specs.Showing.{IsChunk};
 ghost use Rattle.simplex_c.specs.Behind.{IsRead, resolver_at, resolver_left_at, resolver_owned_at};
 ghost use Rattle.simplex_c.specs.Opened.{IsReplayStatus};
 
 use crate::loose::Loose;
-use simplex_flat::resolved::{FlatEffect, FlatEffects, FlatServed, FlatSettled, FlatTold};
+use simplex_flat::absent;
+use simplex_flat::resolved::{
+    FlatEffect, FlatEffects, FlatOutstanding, FlatServed, FlatSettled, FlatTold,
+};
 use simplex_flat::resolving::{HeldResolver, number_of_not_replayed};
 use simplex_flat::shown::FlatChunk;
 use std::alloc::Global;
@@ -53,8 +56,11 @@ pub unsafe extern "C" fn simplex_resolver_told(
 ) -> FlatEffects
     ghost held: { HeldResolver }
     requires* { sem 𝓛 (resolver_at at held) }
-    ensures* { sem 𝓛 (resolver_left_at at (λ now. IsHeard held told.now certificate.now result now)) }
+    ensures* { sem 𝓛 (resolver_left_at at (result.status ≡ 15) (λ now. IsHeard held told.now certificate.now result now)) }
 {
+    if at.is_null() {
+        return absent::effects();
+    }
     tell(
         unsafe { &mut *(at as *mut HeldResolver) },
         told,
@@ -73,8 +79,11 @@ fn tell(held: &mut HeldResolver, told: &FlatTold, certificate: &[u8]) -> FlatEff
 pub unsafe extern "C" fn simplex_resolver_effect(at: *mut u8, index: u64) -> FlatEffect
     ghost held: { HeldResolver }
     requires* { sem 𝓛 (resolver_at at held) }
-    ensures* { sem 𝓛 (resolver_left_at at (λ now. IsRead held now (IsEffectAt held.last.items index result))) }
+    ensures* { sem 𝓛 (resolver_left_at at (result.status ≡ 15) (λ now. IsRead held now (IsEffectAt held.last.items index result))) }
 {
+    if at.is_null() {
+        return absent::effect();
+    }
     hand_effect(unsafe { &mut *(at as *mut HeldResolver) }, index)
 }
 
@@ -89,8 +98,11 @@ fn hand_effect(held: &mut HeldResolver, index: u64) -> FlatEffect
 pub unsafe extern "C" fn simplex_resolver_settled(at: *mut u8, view: u64) -> FlatSettled
     ghost held: { HeldResolver }
     requires* { sem 𝓛 (resolver_at at held) }
-    ensures* { sem 𝓛 (resolver_left_at at (λ now. IsRead held now (IsSettledAt held.resolver view result))) }
+    ensures* { sem 𝓛 (resolver_left_at at (result.status ≡ 15) (λ now. IsRead held now (IsSettledAt held.resolver view result))) }
 {
+    if at.is_null() {
+        return absent::settled();
+    }
     hand_settled(unsafe { &mut *(at as *mut HeldResolver) }, view)
 }
 
@@ -100,13 +112,35 @@ fn hand_settled(held: &mut HeldResolver, view: u64) -> FlatSettled
     held.settled(view)
 }
 
+/// Shows the views whose fetch is open, rising.
+#[unsafe(no_mangle)]
+pub unsafe extern "C" fn simplex_resolver_outstanding(at: *mut u8) -> FlatOutstanding
+    ghost held: { HeldResolver }
+    requires* { sem 𝓛 (resolver_at at held) }
+    ensures* { sem 𝓛 (resolver_left_at at (result.status ≡ 15) (λ now. AreOutstanding held result now)) }
+{
+    if at.is_null() {
+        return absent::outstanding();
+    }
+    hand_outstanding(unsafe { &mut *(at as *mut HeldResolver) })
+}
+
+fn hand_outstanding(held: &mut HeldResolver) -> FlatOutstanding
+    ensures { AreOutstanding held.old result held.new }
+{
+    held.outstanding()
+}
+
 /// Shows what a peer is served for a view.
 #[unsafe(no_mangle)]
 pub unsafe extern "C" fn simplex_resolver_produce(at: *mut u8, view: u64) -> FlatServed
     ghost held: { HeldResolver }
     requires* { sem 𝓛 (resolver_at at held) }
-    ensures* { sem 𝓛 (resolver_left_at at (λ now. IsServedFor held view result now)) }
+    ensures* { sem 𝓛 (resolver_left_at at (result.status ≡ 15) (λ now. IsServedFor held view result now)) }
 {
+    if at.is_null() {
+        return absent::served();
+    }
     hand_served(unsafe { &mut *(at as *mut HeldResolver) }, view)
 }
 
@@ -121,8 +155,11 @@ fn hand_served(held: &mut HeldResolver, view: u64) -> FlatServed
 pub unsafe extern "C" fn simplex_resolver_bytes(at: *mut u8, from: u64) -> FlatChunk
     ghost held: { HeldResolver }
     requires* { sem 𝓛 (resolver_at at held) }
-    ensures* { sem 𝓛 (resolver_left_at at (λ now. IsRead held now (IsChunk held.served.items from result))) }
+    ensures* { sem 𝓛 (resolver_left_at at (result.status ≡ 15) (λ now. IsRead held now (IsChunk held.served.items from result))) }
 {
+    if at.is_null() {
+        return absent::chunk();
+    }
     hand_bytes(unsafe { &mut *(at as *mut HeldResolver) }, from)
 }
 
@@ -138,6 +175,9 @@ pub unsafe extern "C" fn simplex_resolver_free(alloc: Global, at: *mut u8)
     ghost held: { HeldResolver }
     requires* { sem 𝓛 (resolver_owned_at alloc at held) }
 {
+    if at.is_null() {
+        return;
+    }
     end(Loose {
         at: at as *mut HeldResolver,
         alloc,

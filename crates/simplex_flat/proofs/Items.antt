@@ -18,10 +18,10 @@ use Rattle.simplex_flat.specs.Showing.{IsItemOr}
 -- the item of a proposal that is there or not
 pub proposal_shown : (o : Option FlatProposal) (proposals : List (Proposal (BytesDigest 32))) (index : ℕ) (r : FlatItem)
     → MatchOption o (length proposals ≤ index) (IsProposalAt proposals index)
-    → MatchOption o (r.has ≡ 0) (λ it. (r.has ≡ 1) × (r.proposal ≡ it))
+    → MatchOption o (r.has ≡ 0) (λ it. (r.has ≡ 1) × (r.proposal ≡ it)) → r.status ≡ 0
     → IsItemOr r (length proposals ≤ index) (IsProposalAt proposals index r.proposal)
-proposal_shown None proposals index r at item = inl (item, at)
-proposal_shown (Some f) proposals index r at item = inr (item.0, subst (IsProposalAt proposals index) (sym item.1) at)
+proposal_shown None proposals index r at item status = (status, inl (item, at))
+proposal_shown (Some f) proposals index r at item status = (status, inr (item.0, subst (IsProposalAt proposals index) (sym item.1) at))
 
 -- where entries are lost, there are fewer than were closed
 pub fewer_than_closed : (beside : FlatStored) (stored : Stored) (entries : List HostArtifact) → IsStored beside stored

@@ -2,6 +2,7 @@ pub mod Calls
 pub mod Journals
 pub mod Numbers
 pub mod Opening
+pub mod Pruning
 pub mod Replies
 pub mod Resolving
 pub mod Serving

@@ -1,5 +1,8 @@
 -- How a resolver behind a handle starts, what it is told, and what it answers.
 use Rattle.std.specs.Prelude.{◌≡◌, ◌⊎◌, ◌<◌, ◌≤◌, ℕ, zero, suc, Bool, true, List, [], Option, Some, None, length, slice_get}
+use Rattle.std.specs.FinMap as map
+use Rattle.std.specs.Int.{w64, to_be_bytes}
+use Rattle.std.specs.List.{flat_map}
 use Rattle.simplex_types.specs.Certificates.{CertificateFacts, ProposalFacts, Notarized, Nullified, Finalized}
 use Rattle.simplex_types.specs.declared.reasons.FetchReason.{FetchReason}
 use Rattle.simplex_types.specs.declared.reasons.FetchReason.TheVariants as why
@@ -23,6 +26,7 @@ use Rattle.simplex_resolver.specs.Told.{LawfulResolverFacts, HasBeenTold, IsLeft
 use Rattle.simplex_flat.specs.declared.journal.NotRead.TheVariants as not_read
 use Rattle.simplex_flat.specs.declared.resolved.FlatEffect.{FlatEffect}
 use Rattle.simplex_flat.specs.declared.resolved.FlatEffects.{FlatEffects}
+use Rattle.simplex_flat.specs.declared.resolved.FlatOutstanding.{FlatOutstanding}
 use Rattle.simplex_flat.specs.declared.resolved.FlatServed.{FlatServed}
 use Rattle.simplex_flat.specs.declared.resolved.FlatSettled.{FlatSettled}
 use Rattle.simplex_flat.specs.declared.resolved.FlatTold.{FlatTold}
@@ -117,15 +121,30 @@ IsEffect (effect.Raised view) f = (f.kind ≡ 4) × (f.view ≡ view)
 
 -- the effect at an index, or none
 abbrev pub IsEffectAt : List Effect → ℕ → FlatEffect → Type 0
-IsEffectAt es index f = ((f.kind ≡ 0) × (length es ≤ index)) ⊎ ((e : Effect) × (slice_get es index ≡ Some e) × IsEffect e f)
+IsEffectAt es index f =
+    (f.status ≡ 0) × (((f.kind ≡ 0) × (length es ≤ index)) ⊎ ((e : Effect) × (slice_get es index ≡ Some e) × IsEffect e f))
 
 -- what is known of a view
 pub record IsSettledAt (r : LawfulResolverFacts) (view : ℕ) (f : FlatSettled) : Type 0 where
+  pub status : f.status ≡ 0
   pub failed : f.is_failed ≡ flag_number r.state.is_failed
   pub nullification : f.nullification ≡ flag_number (is_settled r.state view lacking.Nullification)
   pub notarization : f.notarization ≡ flag_number (is_settled r.state view lacking.Notarization)
+  pub uncertifiable : f.uncertifiable ≡ flag_number (map.contains_key r.state.uncertifiable view)
   pub opened : f.is_open ≡ flag_number (has r.open_fetches view)
   pub count : f.fetches ≡ length r.open_fetches
+
+-- views, in eight bytes each
+abbrev pub view_bytes : List ℕ → List ℕ
+view_bytes views = flat_map (λ v. to_be_bytes w64 v) views
+
+-- the views whose fetch is open are shown, rising; or there was no memory for them, and nothing is
+pub record AreOutstanding (old : HeldResolver) (r : FlatOutstanding) (new : HeldResolver) : Type 0 where
+  pub resolver : new.resolver ≡ old.resolver
+  pub last : new.last ≡ old.last
+  pub bytes : r.bytes ≡ length new.served.items
+  pub shown : ((r.status ≡ 0) × (r.count ≡ length old.resolver.open_fetches) × (new.served.items ≡ view_bytes old.resolver.open_fetches))
+      ⊎ ((r.status ≡ 1) × (new.served.items ≡ []))
 
 -- bytes are shown, or there was no memory for them
 abbrev pub IsShownOr : HeldResolver → List ℕ → FlatServed → HeldResolver → Type 0

@@ -142,17 +142,18 @@ pub record IsFound (old : Held) (kind view : ℕ) (r : FlatFound) (new : Held) :
 
 -- there is no such item, or this one
 abbrev pub IsItemOr : FlatItem → Type 0 → Type 0 → Type 0
-IsItemOr r none is = ((r.has ≡ 0) × none) ⊎ ((r.has ≡ 1) × is)
+IsItemOr r none is = (r.status ≡ 0) × (((r.has ≡ 0) × none) ⊎ ((r.has ≡ 1) × is))
 
 -- an item of a reply's lists
 abbrev pub IsItem : HostReply → ℕ → ℕ → FlatItem → Type 0
 IsItem reply (suc zero) index r = IsItemOr r (length (proposals_in reply) ≤ index) (IsProposalAt (proposals_in reply) index r.proposal)
 IsItem reply (suc (suc zero)) index r = IsItemOr r (length (fetches_in reply) ≤ index) (IsFetchAt (fetches_in reply) index r.fetch)
 IsItem reply (suc (suc (suc zero))) index r = IsItemOr r (length (dropped_in reply) ≤ index) (slice_get (dropped_in reply) index ≡ Some r.view)
-IsItem reply _ index r = r.has ≡ 0
+IsItem reply _ index r = (r.status ≡ 0) × (r.has ≡ 0)
 
 -- a part of bytes, from one on: as many as fit
 pub record IsChunk (bytes : List ℕ) (from : ℕ) (r : FlatChunk) : Type 0 where
+  pub status : r.status ≡ 0
   pub count : r.count ≡ length (take 1024 (drop from bytes))
   pub part : take r.count r.bytes ≡ take 1024 (drop from bytes)
 

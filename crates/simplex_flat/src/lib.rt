@@ -1,6 +1,7 @@
 //! The calls of a member as plain structs of numbers and bytes, for engines in other languages.
 #![tactic(auto)]
 
+pub mod absent;
 pub mod asking;
 pub mod call_kind;
 pub mod flat;
@@ -9,6 +10,7 @@ pub mod journal;
 pub mod moving;
 pub mod numbers;
 pub mod opening;
+pub mod pruning;
 pub mod replying;
 pub mod resolved;
 pub mod resolving;

@@ -34,12 +34,16 @@ pub struct FlatEffects {
 #[repr(C)]
 #[derive(Clone, Copy, Debug)]
 pub struct FlatEffect {
+    /// 0.
+    pub status: u32,
     /// 1: a nullification that covers `view` is to be fetched; 2: nothing is left to ask for at the views `view` to `end`; 3: each
     /// ask at or below `view` is settled; 4: each fetch at or below `view` ends. 0 where there is no such effect.
     pub kind: u32,
     /// Of 1 why: 0 for a missing nullification, 1 for a failed certification. Of 2 what is settled: 0 for nullifications, 1 for
     /// notarizations.
     pub reason: u32,
+    /// Nothing.
+    pub reserved: u32,
     pub view: u64,
     /// Of 1 the view of the certificate or verdict that called for it.
     pub cause: u64,
@@ -50,6 +54,8 @@ pub struct FlatEffect {
 #[repr(C)]
 #[derive(Clone, Copy, Debug)]
 pub struct FlatSettled {
+    /// 0.
+    pub status: u32,
     /// 1 where the resolver has failed.
     pub is_failed: u32,
     /// 1 where the view's fetch is open.
@@ -60,10 +66,22 @@ pub struct FlatSettled {
     pub notarization: u32,
     /// 1 where the view's certification failed.
     pub uncertifiable: u32,
-    /// Nothing.
-    pub reserved: u32,
     /// How many fetches are open.
     pub fetches: u64,
+}
+
+/// The views whose fetch is open, which wait behind the handle: eight bytes each, big-endian.
+#[repr(C)]
+#[derive(Clone, Copy, Debug)]
+pub struct FlatOutstanding {
+    /// 0; 1 where there was no memory for them.
+    pub status: u32,
+    /// Nothing.
+    pub reserved: u32,
+    /// How many there are.
+    pub count: u64,
+    /// How many bytes they are.
+    pub bytes: u64,
 }
 
 /// What a peer is served for a view, whose bytes wait behind the handle.

@@ -1,19 +1,21 @@
 //! A resolver behind a handle, with the effects of what it was told last, and what it last served.
 
-ghost use Rattle.std.specs.Prelude.{◌≡◌, ◌⊎◌, ◌≤◌, [], IfOk, IfErr, IfSome, MatchOption, length};
+ghost use Rattle.std.specs.Prelude.{◌≡◌, ◌⊎◌, ◌≤◌, ◌++◌, [], OnOk, IfOk, IfErr, IfSome, MatchOption, length};
 ghost use Rattle.simplex_types.specs.Certificates.{certificate_facts, notarization_facts};
 ghost use Rattle.simplex_types.specs.Viewed.{certificate_view};
 ghost use Rattle.simplex_codec.specs.Digests.{digest_bytes};
 ghost use Rattle.simplex_host.specs.Host.{certificate_bytes};
 ghost use Rattle.simplex_resolver.specs.Steps.{update, verdict};
 ghost use Rattle.simplex_flat.specs.Numbers.{fault_number, flag_number};
-ghost use Rattle.simplex_flat.specs.Resolving.{IsEffect, IsHandedIn, not_replayed_number};
+ghost use Rattle.simplex_flat.specs.Resolving.{IsEffect, IsHandedIn, not_replayed_number, view_bytes};
 ghost use Rattle.simplex_flat.specs.Showing.{IsChunk};
 
 use crate::asking::{finalization_of, notarization_of, nullification_of};
 use crate::journal::{NotRead, read_entries};
 use crate::numbers::{flag_of, number_of_fault, number_of_flag};
-use crate::resolved::{FlatEffect, FlatEffects, FlatServed, FlatSettled, FlatTold};
+use crate::resolved::{
+    FlatEffect, FlatEffects, FlatOutstanding, FlatServed, FlatSettled, FlatTold,
+};
 use crate::showing::chunk_of;
 use crate::shown::FlatChunk;
 use bytes::{BufMut, BytesMut};
@@ -23,6 +25,7 @@ use simplex_resolver::resolver::Effect;
 use simplex_types::reasons::{FetchReason, Kind};
 use simplex_types::types::{Certificate, Fault, Notarization, TermLength, View};
 use std::alloc::{AllocError, Global};
+use std::collections::BTreeSet;
 use std::num::NonZeroU32;
 
 /// A certificate of a member of the host.
@@ -49,7 +52,7 @@ pub struct HeldResolver {
 }
 
 impl HeldResolver {
-    ghost use Rattle.simplex_flat.specs.Resolving.{IsBegunFrom, IsEffectAt, IsHeard, IsHeardAs, IsNotBegunFrom, IsServedFor, IsSettledAt, IsShownOr};
+    ghost use Rattle.simplex_flat.specs.Resolving.{AreOutstanding, IsBegunFrom, IsEffectAt, IsHeard, IsHeardAs, IsNotBegunFrom, IsServedFor, IsSettledAt, IsShownOr};
 
     /// A resolver that starts from the bytes of a journal, with its first fetches open.
     pub fn start(
@@ -175,13 +178,35 @@ impl HeldResolver {
         let view = View::new(view);
         let state = self.resolver.state();
         FlatSettled {
+            status: 0,
             is_failed: number_of_flag(state.is_failed()),
             is_open: number_of_flag(self.resolver.fetches().contains(&view)),
             nullification: number_of_flag(state.settled(view, Kind::Nullification)),
             notarization: number_of_flag(state.settled(view, Kind::Notarization)),
             uncertifiable: number_of_flag(state.uncertifiable(view)),
-            reserved: 0,
             fetches: self.resolver.fetches().len() as u64,
+        }
+    }
+
+    /// Shows the views whose fetch is open, rising.
+    pub fn outstanding(&mut self) -> FlatOutstanding
+        ensures { AreOutstanding self.old result self.new }
+    {
+        self.served.clear();
+        if put_views(&mut self.served, self.resolver.fetches()).is_err() {
+            self.served.clear();
+            return FlatOutstanding {
+                status: 1,
+                reserved: 0,
+                count: 0,
+                bytes: 0,
+            };
+        }
+        FlatOutstanding {
+            status: 0,
+            reserved: 0,
+            count: self.resolver.fetches().len() as u64,
+            bytes: self.served.len() as u64,
         }
     }
 
@@ -221,6 +246,17 @@ impl HeldResolver {
     }
 }
 
+/// Views are written behind the bytes of `out`, eight bytes each.
+fn put_views(out: &mut BytesMut, views: &BTreeSet<View>) -> Result<(), AllocError>
+    ensures { OnOk result (out.new.items ≡ out.old.items ++ view_bytes views.now.keys) }
+{
+    let mut rest = views.iter();
+    while let Some(view) = rest.next().copied() {
+        out.put_u64(view.get())?;
+    }
+    Ok(())
+}
+
 /// The certificate that is handed in; none where no certificate has the kind.
 fn certificate_in(
     alloc: Global,
@@ -239,7 +275,7 @@ fn certificate_in(
     })
 }
 
-fn no_effects(status: u32) -> FlatEffects
+pub(crate) fn no_effects(status: u32) -> FlatEffects
     ensures { result.status ≡ status }
 {
     FlatEffects {
@@ -250,7 +286,7 @@ fn no_effects(status: u32) -> FlatEffects
     }
 }
 
-fn unserved(view: u64, status: u32) -> FlatServed
+pub(crate) fn unserved(view: u64, status: u32) -> FlatServed
     ensures status { result.status ≡ status }
     ensures nothing { (result.has ≡ 0) × (result.bytes ≡ 0) }
 {
@@ -263,7 +299,8 @@ fn unserved(view: u64, status: u32) -> FlatServed
 }
 
 fn flat_effect(effect: Effect) -> FlatEffect
-    ensures { IsEffect effect result }
+    ensures effect { IsEffect effect result }
+    ensures status { result.status ≡ 0 }
 {
     match effect {
         Effect::Fetch {
@@ -304,12 +341,14 @@ fn flat_effect(effect: Effect) -> FlatEffect
 }
 
 /// That there is no effect.
-fn no_effect() -> FlatEffect
-    ensures { result.kind ≡ 0 }
+pub(crate) fn no_effect() -> FlatEffect
+    ensures { (result.status ≡ 0) × (result.kind ≡ 0) }
 {
     FlatEffect {
+        status: 0,
         kind: 0,
         reason: 0,
+        reserved: 0,
         view: 0,
         cause: 0,
         end: 0,

@@ -195,7 +195,7 @@ fn number_of_index(index: Option<Participant>) -> u32
 }
 
 /// What stands in the place of what is known, where nothing is.
-fn no_view() -> FlatView {
+pub(crate) fn no_view() -> FlatView {
     FlatView {
         status: 0,
         leader: u32::MAX,
@@ -286,7 +286,7 @@ fn of_round(round: FlatRound) -> FlatProposal
 }
 
 /// That no certificate is found.
-fn unfound(status: u32) -> FlatFound
+pub(crate) fn unfound(status: u32) -> FlatFound
     ensures status { result.status ≡ status }
     ensures nothing { (result.has ≡ 0) × (result.bytes ≡ 0) }
 {
@@ -299,7 +299,8 @@ fn unfound(status: u32) -> FlatFound
 }
 
 fn proposal_item(proposal: Option<FlatProposal>) -> FlatItem
-    ensures { MatchOption proposal (result.has ≡ 0) (λ it. (result.has ≡ 1) × (result.proposal ≡ it)) }
+    ensures item { MatchOption proposal (result.has ≡ 0) (λ it. (result.has ≡ 1) × (result.proposal ≡ it)) }
+    ensures status { result.status ≡ 0 }
 {
     match proposal {
         Some(proposal) => FlatItem {
@@ -312,7 +313,8 @@ fn proposal_item(proposal: Option<FlatProposal>) -> FlatItem
 }
 
 fn fetch_item(fetch: Option<FlatFetch>) -> FlatItem
-    ensures { MatchOption fetch (result.has ≡ 0) (λ it. (result.has ≡ 1) × (result.fetch ≡ it)) }
+    ensures item { MatchOption fetch (result.has ≡ 0) (λ it. (result.has ≡ 1) × (result.fetch ≡ it)) }
+    ensures status { result.status ≡ 0 }
 {
     match fetch {
         Some(fetch) => FlatItem {
@@ -325,7 +327,8 @@ fn fetch_item(fetch: Option<FlatFetch>) -> FlatItem
 }
 
 fn view_item(view: Option<u64>) -> FlatItem
-    ensures { MatchOption view (result.has ≡ 0) (λ it. (result.has ≡ 1) × (result.view ≡ it)) }
+    ensures item { MatchOption view (result.has ≡ 0) (λ it. (result.has ≡ 1) × (result.view ≡ it)) }
+    ensures status { result.status ≡ 0 }
 {
     match view {
         Some(view) => FlatItem {
@@ -338,12 +341,12 @@ fn view_item(view: Option<u64>) -> FlatItem
 }
 
 /// That there is no item.
-fn no_item() -> FlatItem
-    ensures { result.has ≡ 0 }
+pub(crate) fn no_item() -> FlatItem
+    ensures { (result.status ≡ 0) × (result.has ≡ 0) }
 {
     FlatItem {
+        status: 0,
         has: 0,
-        reserved: 0,
         view: 0,
         fetch: FlatFetch {
             proposal: 0,
@@ -361,6 +364,8 @@ pub(crate) fn chunk_of(bytes: &[u8], from: u64) -> FlatChunk
     let mut chunk = [0; CHUNK];
     chunk[..part.len()].copy_from_slice(part);
     FlatChunk {
+        status: 0,
+        reserved: 0,
         count: part.len() as u64,
         bytes: chunk,
     }

@@ -102,10 +102,10 @@ pub struct FlatFound {
 #[repr(C)]
 #[derive(Clone, Copy)]
 pub struct FlatItem {
+    /// 0.
+    pub status: u32,
     /// 1 where there is such an item.
     pub has: u32,
-    /// Nothing.
-    pub reserved: u32,
     /// A view that was dropped.
     pub view: u64,
     /// A certificate that is to be fetched.
@@ -121,6 +121,10 @@ pub const CHUNK: usize = 1024;
 #[repr(C)]
 #[derive(Clone, Copy)]
 pub struct FlatChunk {
+    /// 0.
+    pub status: u32,
+    /// Nothing.
+    pub reserved: u32,
     pub count: u64,
     pub bytes: [u8; 1024],
 }

@@ -2,4 +2,4 @@ use Rattle.simplex_flat.proofs.Items.{proposal_shown}
 use Rattle.simplex_flat.proofs.held.Held.item.Goals as goal
 
 pub returns-in-1 : goal.returns-in-1
-returns-in-1 c = rw c.in-1.is (proposal_shown c.proposal_at.result _ _ c.proposal_item.result c.proposal_at.ensures c.proposal_item.ensures)
+returns-in-1 c = rw c.in-1.is (proposal_shown c.proposal_at.result _ _ c.proposal_item.result c.proposal_at.ensures c.proposal_item.ensures.item c.proposal_item.ensures.status)
