@@ -1,0 +1,3 @@
+mod Polls
+mod Counting
+mod Batching

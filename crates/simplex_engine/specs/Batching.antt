@@ -1,0 +1,67 @@
+-- The votes that a batcher holds, and what a further one comes to.
+use Rattle.std.specs.Prelude.{◌≡◌, ◌≢◌, ℕ, ◌<◌, ◌^◌, Bool, true, List, [], Option}
+use Rattle.simplex_types.specs.declared.types.messages.Subject.{Subject}
+use Rattle.simplex_types.specs.declared.types.messages.Subject.TheVariants as subject
+use Rattle.simplex_types.specs.Viewed.{subject_view}
+use Rattle.simplex_sorted.specs.Tracked.{at_or_above}
+use Rattle.simplex_engine.specs.declared.batcher.Batcher.{Batcher}
+use Rattle.simplex_engine.specs.declared.batcher.Counted.{Counted}
+use Rattle.simplex_engine.specs.declared.batcher.Counted.TheVariants.{Refused}
+use Rattle.simplex_engine.specs.declared.batcher.poll.Ballot.{Ballot}
+use Rattle.simplex_engine.specs.declared.votes.Vote.{Vote}
+use Rattle.simplex_engine.specs.Polls.{slots_at, HoldsTheSame}
+use Rattle.simplex_engine.specs.Counting.{IsCountedIn}
+
+-- the kinds of votes
+pub data Kind : Type 0 where
+  Notarizes : Kind
+  Nullifies : Kind
+  Finalizes : Kind
+
+-- the kind of a vote
+abbrev pub kind_of : {D : Type 0} → Subject D → Kind
+kind_of (subject.Notarize _) = Notarizes
+kind_of (subject.Nullify _) = Nullifies
+kind_of (subject.Finalize _) = Finalizes
+
+module _ {S D K G C : Type 0} where
+  -- the votes that are held of a kind and view, by member
+  abbrev pub held : Batcher S D K G C → Kind → ℕ → List (Option (Ballot D G))
+  held batcher Notarizes view = slots_at batcher.notarize view
+  held batcher Nullifies view = slots_at batcher.nullify view
+  held batcher Finalizes view = slots_at batcher.finalize view
+
+  -- no vote is held
+  abbrev pub HoldsNothing : Batcher S D K G C → Type 0
+  HoldsNothing batcher = (kind : Kind) (view : ℕ) → held batcher kind view ≡ []
+
+  -- the same votes are held
+  abbrev pub HoldsAllTheSame : Batcher S D K G C → Batcher S D K G C → Type 0
+  HoldsAllTheSame old new = (kind : Kind) (view : ℕ) → HoldsTheSame (held old kind view) (held new kind view)
+
+  -- of another kind or view than this one's the same votes are held
+  abbrev pub KeepsOthers : Subject D → Batcher S D K G C → Batcher S D K G C → Type 0
+  KeepsOthers subject old new = (kind : Kind) (view : ℕ) → (kind ≡ kind_of subject → view ≢ subject_view subject) → held new kind view ≡ held old kind view
+
+  -- the votes of the views below are forgotten, and no others
+  abbrev pub IsForgotten : ℕ → Batcher S D K G C → Batcher S D K G C → Type 0
+  IsForgotten lowest old new =
+      (new.notarize ≡ at_or_above old.notarize lowest) × (new.nullify ≡ at_or_above old.nullify lowest) × (new.finalize ≡ at_or_above old.finalize lowest)
+
+-- the view is admitted and the signer is one of the members, all of whom an index of 32 bits names
+pub record MayCount (members : ℕ) (is_admitted : Bool) (signer : ℕ) : Type 0 where
+  pub admitted : is_admitted ≡ true
+  pub of_a_member : signer < members
+  pub few : members < 2 ^ 32
+
+module _ {S D K G C : Type 0} (same : D → D → Bool) (IsMadeOf : Subject D → List (ℕ × G) → C → Type 0) (members : ℕ) (is_admitted : Bool) where
+  -- a vote that may count is counted among those of its kind and view, and no others change
+  pub record IsCountedAmong (old : Batcher S D K G C) (vote : Vote D G) (new : Batcher S D K G C) (answer : Counted S D K G C) : Type 0 where
+    pub may : MayCount members is_admitted vote.signer
+    pub counted : IsCountedIn same IsMadeOf members (held old (kind_of vote.subject) (subject_view vote.subject)) vote (held new (kind_of vote.subject) (subject_view vote.subject)) answer
+    pub others : KeepsOthers vote.subject old new
+
+  -- a vote that may not count is refused, and changes nothing
+  abbrev pub IsCounted : Batcher S D K G C → Vote D G → Batcher S D K G C → Counted S D K G C → Type 0
+  IsCounted old vote new Refused = (¬ MayCount members is_admitted vote.signer) × HoldsAllTheSame old new
+  IsCounted old vote new answer = IsCountedAmong old vote new answer

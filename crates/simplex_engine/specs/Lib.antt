@@ -1,0 +1,5 @@
+pub mod Subjects
+pub mod Quorums
+pub mod Polls
+pub mod Counting
+pub mod Batching

@@ -1,0 +1,12 @@
+-- What votes are on.
+use Rattle.std.specs.Prelude.{Bool, false}
+use Rattle.simplex_types.specs.declared.types.messages.Subject.{Subject}
+use Rattle.simplex_types.specs.declared.types.messages.Subject.TheVariants as subject
+use Rattle.simplex_types.specs.Proposal.{same_round, same_proposal}
+
+-- of one kind, on one proposal or round, by a test of payloads
+abbrev pub same_subject : {D : Type 0} → (D → D → Bool) → Subject D → Subject D → Bool
+same_subject same (subject.Notarize p) (subject.Notarize q) = same_proposal same p q
+same_subject same (subject.Nullify r) (subject.Nullify s) = same_round r s
+same_subject same (subject.Finalize p) (subject.Finalize q) = same_proposal same p q
+same_subject same _ _ = false

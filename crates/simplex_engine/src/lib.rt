@@ -1,0 +1,7 @@
+//! The engine of a member, without network, clock or disk: events in, and all that is to be carried out, in order.
+#![tactic(auto)]
+
+pub mod assembly;
+pub mod batcher;
+pub mod plain;
+pub mod votes;
