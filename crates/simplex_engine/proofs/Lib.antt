@@ -1,3 +1,4 @@
 mod Polls
 mod Counting
 mod Batching
+mod Earlier

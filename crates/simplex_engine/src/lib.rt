@@ -3,5 +3,6 @@
 
 pub mod assembly;
 pub mod batcher;
+pub mod fetches;
 pub mod plain;
 pub mod votes;
