@@ -2,3 +2,6 @@ mod Polls
 mod Counting
 mod Batching
 mod Earlier
+mod Behind
+mod Copying
+mod Lawfully

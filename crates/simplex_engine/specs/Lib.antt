@@ -5,3 +5,6 @@ pub mod Counting
 pub mod Batching
 pub mod Fetches
 pub mod Asking
+pub mod Entries
+pub mod Outputs
+pub mod Outboxes

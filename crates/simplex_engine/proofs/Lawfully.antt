@@ -1,0 +1,95 @@
+-- Calls of an outbox keep its law.
+use Rattle.std.proofs.Common.{◌≡◌, ℕ, Bool, true, false, List, [], ◌∷◌, ◌++◌, Option, Some, None, Result, Ok, Err, refl, ap, sym, ◌∙◌, subst, append_assoc, append-nil}
+use Rattle.std.specs.Prelude.{Contains, IfSome, IfOk, OnOk, OnErr, option_to_list}
+use Rattle.std.proofs.lemmas.Bool.{false≢true}
+use Rattle.simplex_types.specs.declared.types.messages.Artifact.{Artifact}
+use Rattle.simplex_engine.specs.declared.output.Output.{Output}
+use Rattle.simplex_engine.specs.declared.output.Output.TheVariants as output
+use Rattle.simplex_engine.specs.declared.outbox.Outbox.{Outbox}
+use Rattle.simplex_engine.specs.declared.votes.Vote.{Vote}
+use Rattle.simplex_engine.specs.Entries.{votes_in, newest_from}
+use Rattle.simplex_engine.specs.Outputs.{stored_in, storing, is_work, AreBehind}
+use Rattle.simplex_engine.specs.Outboxes.{IsLawful, HasBecome, HasStayed, IsStored, IsReplaced, IsRepeated}
+use Rattle.simplex_engine.proofs.Behind.{contains_left, votes_in-append, newest_recorded, stored_in-append, joined, storing_behind, stored_by}
+
+pub by_result : {X E : Type 0} (r : Result X E) {P Q R : Type 0} → OnOk r P → OnErr r Q → (P → R) → (Q → R) → R
+by_result (Ok x) ok err one other = one ok
+by_result (Err e) ok err one other = other err
+
+pub by_answer : {X E : Type 0} (r : Result X E) {P : X → Type 0} {Q R : Type 0} → IfOk r P → OnErr r Q → ((x : X) → P x → R) → (Q → R) → R
+by_answer (Ok x) ok err one other = one x ok
+by_answer (Err e) ok err one other = other err
+
+module _ {S D J K G C : Type 0} (given : List (Output S D J K G C)) (old new : Outbox S D J K G C) (lawful : IsLawful given old) where
+  abbrev before : List (Output S D J K G C)
+  before = given ++ old.queue.items
+
+  abbrev MayRepeat : List (Output S D J K G C) → Option (Vote D G) → Type 0
+  MayRepeat outs repeat = IfSome repeat (λ vote. Contains (votes_in (stored_in outs)) vote)
+
+  -- what is recorded once more is queued
+  seen : (more : List (Output S D J K G C)) → votes_in (stored_in (before ++ more)) ≡ votes_in (stored_in before) ++ votes_in (stored_in more)
+  seen more = ap votes_in (stored_in-append before more) ∙ votes_in-append (stored_in before) (stored_in more)
+
+  more_lawful : (more : List (Output S D J K G C)) (repeat : Option (Vote D G)) → HasBecome more repeat old new → AreBehind (stored_in before) more → MayRepeat (before ++ more) repeat → IsLawful given new
+  more_lawful more repeat become behind may =
+      let same : given ++ new.queue.items ≡ before ++ more = ap (λ q. given ++ q) become.queue ∙ sym (append_assoc given old.queue.items more) in
+      record {
+        behind = subst (AreBehind []) (sym same) (joined [] before more lawful.behind behind);
+        repeat = subst (λ outs. MayRepeat outs new.repeat) (sym same) (subst (MayRepeat (before ++ more)) (sym become.repeat_is) may);
+      }
+
+  wider : (more : List (Output S D J K G C)) (repeat : Option (Vote D G)) → MayRepeat before repeat → MayRepeat (before ++ more) repeat
+  wider more None may = tt
+  wider more (Some vote) may = subst (λ votes. Contains votes vote) (sym (seen more)) (contains_left (votes_in (stored_in before)) (votes_in (stored_in more)) vote may)
+
+  recorded : (more : List (Output S D J K G C)) (entries : List (Artifact S D K G C)) → stored_in more ≡ entries → MayRepeat (before ++ more) (newest_from old.repeat entries)
+  recorded more entries are =
+      subst (λ votes. IfSome (newest_from old.repeat entries) (λ vote. Contains votes vote)) (sym (seen more ∙ ap (λ es. votes_in (stored_in before) ++ votes_in es) are))
+      (newest_recorded old.repeat entries (votes_in (stored_in before)) lawful.repeat)
+
+  pub stayed_lawful : HasStayed old new → IsLawful given new
+  stayed_lawful stayed = record {
+    behind = subst (λ q. AreBehind [] (given ++ q)) (sym stayed.0) lawful.behind;
+    repeat = subst (λ q. MayRepeat (given ++ q) new.repeat) (sym stayed.0) (subst (MayRepeat before) (sym stayed.1) lawful.repeat);
+  }
+
+  pub stored_lawful : (bytes_of : C → List ℕ) (fresh : List (Artifact S D K G C)) → IsStored bytes_of fresh old new → IsLawful given new
+  stored_lawful bytes_of fresh stored = more_lawful (storing stored.0) (newest_from old.repeat stored.0.items) stored.2 (storing_behind J (stored_in before) stored.0) (recorded (storing stored.0) stored.0.items (stored_by J stored.0))
+
+  pub replaced_lawful : (bytes_of : C → List ℕ) (all : List (Artifact S D K G C)) (beside : J) → IsReplaced bytes_of all beside old new → IsLawful given new
+  replaced_lawful bytes_of all beside replaced = more_lawful (output.Replace replaced.0 beside ∷ []) (newest_from old.repeat replaced.0.items) replaced.2 (tt, tt) (recorded (output.Replace replaced.0 beside ∷ []) replaced.0.items (append-nil replaced.0.items))
+
+  repeated_by : (view : ℕ) (o : Option (Vote D G)) → old.repeat ≡ o → (sent : Bool) → IsRepeated view o sent old new → IsLawful given new
+  repeated_by view None is sent repeated = stayed_lawful repeated.1
+  repeated_by view (Some vote) is false repeated = stayed_lawful repeated.1
+  repeated_by view (Some vote) is true repeated = more_lawful (output.Vote vote ∷ []) old.repeat repeated.1 (subst (MayRepeat before) is lawful.repeat, tt) (wider (output.Vote vote ∷ []) old.repeat lawful.repeat)
+
+  pub repeated_lawful : (view : ℕ) (sent : Bool) → IsRepeated view old.repeat sent old new → IsLawful given new
+  repeated_lawful view sent repeated = repeated_by view old.repeat refl sent repeated
+
+  work_behind : (stored : List (Artifact S D K G C)) (work : Output S D J K G C) → is_work work ≡ true → AreBehind stored (work ∷ [])
+  work_behind stored (output.Store _) works = absurd (false≢true works)
+  work_behind stored (output.Replace _ _) works = absurd (false≢true works)
+  work_behind stored (output.Vote _) works = absurd (false≢true works)
+  work_behind stored (output.Broadcast _) works = (tt, tt)
+  work_behind stored (output.Verify _ _) works = (tt, tt)
+  work_behind stored (output.Build _) works = (tt, tt)
+  work_behind stored (output.StopBuilding _) works = (tt, tt)
+  work_behind stored (output.Certify _) works = (tt, tt)
+  work_behind stored (output.Fetch _) works = (tt, tt)
+  work_behind stored (output.Finalized _) works = (tt, tt)
+  work_behind stored (output.Equivocated _ _) works = (tt, tt)
+  work_behind stored (output.Forget _) works = (tt, tt)
+
+  pub pushed_lawful : (work : Output S D J K G C) → is_work work ≡ true → HasBecome (work ∷ []) old.repeat old new → IsLawful given new
+  pushed_lawful work works become = more_lawful (work ∷ []) old.repeat become (work_behind (stored_in before) work works) (wider (work ∷ []) old.repeat lawful.repeat)
+
+  -- what is given out
+  pub given_lawful : (out : Option (Output S D J K G C)) → old.queue.items ≡ option_to_list out ++ new.queue.items → new.repeat ≡ old.repeat → IsLawful (given ++ option_to_list out) new
+  given_lawful out front same =
+      let outs : before ≡ (given ++ option_to_list out) ++ new.queue.items = ap (λ q. given ++ q) front ∙ sym (append_assoc given (option_to_list out) new.queue.items) in
+      record {
+        behind = subst (AreBehind []) outs lawful.behind;
+        repeat = subst (λ all. MayRepeat all new.repeat) outs (subst (MayRepeat before) (sym same) lawful.repeat);
+      }

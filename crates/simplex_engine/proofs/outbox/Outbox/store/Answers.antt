@@ -1,0 +1,8 @@
+use Rattle.simplex_engine.proofs.Lawfully.{by_result, stored_lawful, stayed_lawful}
+use Rattle.simplex_engine.proofs.outbox.Outbox.store.Goals as goal
+
+pub returns-clause-goes_on : goal.returns-clause-goes_on
+returns-clause-goes_on g c = λ given lawful.
+    by_result c.queue_entries.result c.queue_entries.ensures.queued c.queue_entries.ensures.kept
+    (stored_lawful given c.args.self.now c.queue_entries.new.self lawful g.S.CertificateScheme.certificate_bytes c.args.fresh.now)
+    (stayed_lawful given c.args.self.now c.queue_entries.new.self lawful)

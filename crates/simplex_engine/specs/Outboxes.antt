@@ -1,0 +1,44 @@
+-- What an outbox has queued, and the law of all that it gives out.
+use Rattle.std.specs.Prelude.{◌≡◌, ◌≢◌, ℕ, Bool, true, false, List, [], ◌∷◌, ◌++◌, Option, Some, None, IfSome, Contains, Vec}
+use Rattle.std.specs.declared.alloc.Global.{Global}
+use Rattle.simplex_types.specs.Viewed.{subject_view}
+use Rattle.simplex_types.specs.declared.types.messages.Artifact.{Artifact}
+use Rattle.simplex_engine.specs.declared.outbox.Outbox.{Outbox}
+use Rattle.simplex_engine.specs.declared.output.Output.{Output}
+use Rattle.simplex_engine.specs.declared.output.Output.TheVariants as output
+use Rattle.simplex_engine.specs.declared.votes.Vote.{Vote}
+use Rattle.simplex_engine.specs.Entries.{votes_in, newest_from, AreCopies}
+use Rattle.simplex_engine.specs.Outputs.{stored_in, storing, AreBehind}
+
+module _ {S D J K G C : Type 0} where
+  -- over all that was given out and what is queued each vote stands behind an output that stores it, and so would the vote that
+  -- may be repeated
+  pub record IsLawful (given : List (Output S D J K G C)) (box : Outbox S D J K G C) : Type 0 where
+    pub behind : AreBehind [] (given ++ box.queue.items)
+    pub repeat : IfSome box.repeat (λ vote. Contains (votes_in (stored_in (given ++ box.queue.items))) vote)
+
+  -- these stand behind what was queued, and this vote may be repeated
+  pub record HasBecome (more : List (Output S D J K G C)) (repeat : Option (Vote D G)) (old new : Outbox S D J K G C) : Type 0 where
+    pub queue : new.queue.items ≡ old.queue.items ++ more
+    pub repeat_is : new.repeat ≡ repeat
+
+  -- nothing has changed
+  abbrev pub HasStayed : Outbox S D J K G C → Outbox S D J K G C → Type 0
+  HasStayed old new = (new.queue.items ≡ old.queue.items) × (new.repeat ≡ old.repeat)
+
+  -- copies of the entries are to be stored, and each vote among them leaves behind them
+  abbrev pub IsStored : (C → List ℕ) → List (Artifact S D K G C) → Outbox S D J K G C → Outbox S D J K G C → Type 0
+  IsStored bytes_of fresh old new =
+      (copies : Vec (Artifact S D K G C) Global) × AreCopies bytes_of fresh copies.items × HasBecome (storing copies) (newest_from old.repeat copies.items) old new
+
+  -- copies of the entries are to be stored in place of all
+  abbrev pub IsReplaced : (C → List ℕ) → List (Artifact S D K G C) → J → Outbox S D J K G C → Outbox S D J K G C → Type 0
+  IsReplaced bytes_of all beside old new =
+      (copies : Vec (Artifact S D K G C) Global) × AreCopies bytes_of all copies.items
+      × HasBecome (output.Replace copies beside ∷ []) (newest_from old.repeat copies.items) old new
+
+  -- the vote that may be repeated leaves once more, where it is one of the view; or else nothing does
+  abbrev pub IsRepeated : ℕ → Option (Vote D G) → Bool → Outbox S D J K G C → Outbox S D J K G C → Type 0
+  IsRepeated view (Some vote) true old new = (subject_view vote.subject ≡ view) × HasBecome (output.Vote vote ∷ []) old.repeat old new
+  IsRepeated view (Some vote) false old new = (subject_view vote.subject ≢ view) × HasStayed old new
+  IsRepeated view None sent old new = (sent ≡ false) × HasStayed old new

@@ -1,0 +1,40 @@
+-- What is given out: each vote behind what stores it.
+use Rattle.std.specs.Prelude.{Bool, true, false, List, [], ◌∷◌, ◌++◌, map, Contains, Vec}
+use Rattle.std.specs.declared.alloc.Global.{Global}
+use Rattle.simplex_types.specs.declared.types.messages.Artifact.{Artifact}
+use Rattle.simplex_engine.specs.declared.output.Output.{Output}
+use Rattle.simplex_engine.specs.declared.output.Output.TheVariants.{Store, Replace, Vote}
+use Rattle.simplex_engine.specs.Entries.{votes_in}
+
+module _ {S D J K G C : Type 0} where
+  -- the entries that an output stores
+  abbrev pub entries_in : Output S D J K G C → List (Artifact S D K G C)
+  entries_in (Store entries) = entries.items
+  entries_in (Replace entries _) = entries.items
+  entries_in _ = []
+
+  -- all that outputs store, in order
+  abbrev pub stored_in : List (Output S D J K G C) → List (Artifact S D K G C)
+  stored_in [] = []
+  stored_in (out ∷ rest) = entries_in out ++ stored_in rest
+
+  -- a vote is among what was stored before
+  abbrev pub IsBehind : List (Artifact S D K G C) → Output S D J K G C → Type 0
+  IsBehind stored (Vote vote) = Contains (votes_in stored) vote
+  IsBehind stored _ = Unit {0}
+
+  -- each vote stands behind an output that stores it, where this was stored before
+  abbrev pub AreBehind : List (Artifact S D K G C) → List (Output S D J K G C) → Type 0
+  AreBehind stored [] = Unit {0}
+  AreBehind stored (out ∷ rest) = IsBehind stored out × AreBehind (stored ++ entries_in out) rest
+
+  -- neither stores anything nor is a vote
+  abbrev pub is_work : Output S D J K G C → Bool
+  is_work (Store _) = false
+  is_work (Replace _ _) = false
+  is_work (Vote _) = false
+  is_work _ = true
+
+  -- entries to be stored, and behind them each vote among them
+  abbrev pub storing : Vec (Artifact S D K G C) Global → List (Output S D J K G C)
+  storing entries = Store entries ∷ map Vote (votes_in entries.items)
