@@ -5,3 +5,4 @@ mod Earlier
 mod Behind
 mod Copying
 mod Lawfully
+mod Given

@@ -1,5 +1,5 @@
 -- The votes that a batcher holds, and what a further one comes to.
-use Rattle.std.specs.Prelude.{◌≡◌, ◌≢◌, ℕ, ◌<◌, ◌^◌, Bool, true, List, [], Option}
+use Rattle.std.specs.Prelude.{◌≡◌, ◌≢◌, ℕ, ◌<◌, ◌^◌, Bool, true, List, [], Option, Some, Contains}
 use Rattle.simplex_types.specs.declared.types.messages.Subject.{Subject}
 use Rattle.simplex_types.specs.declared.types.messages.Subject.TheVariants as subject
 use Rattle.simplex_types.specs.Viewed.{subject_view}
@@ -9,7 +9,7 @@ use Rattle.simplex_engine.specs.declared.batcher.Counted.{Counted}
 use Rattle.simplex_engine.specs.declared.batcher.Counted.TheVariants.{Refused}
 use Rattle.simplex_engine.specs.declared.batcher.poll.Ballot.{Ballot}
 use Rattle.simplex_engine.specs.declared.votes.Vote.{Vote}
-use Rattle.simplex_engine.specs.Polls.{slots_at, HoldsTheSame}
+use Rattle.simplex_engine.specs.Polls.{ballot_of, slots_at, HoldsTheSame}
 use Rattle.simplex_engine.specs.Counting.{IsCountedIn}
 
 -- the kinds of votes
@@ -38,6 +38,12 @@ module _ {S D K G C : Type 0} where
   -- the same votes are held
   abbrev pub HoldsAllTheSame : Batcher S D K G C → Batcher S D K G C → Type 0
   HoldsAllTheSame old new = (kind : Kind) (view : ℕ) → HoldsTheSame (held old kind view) (held new kind view)
+
+  -- each vote that is held is one of those that were given
+  abbrev pub AreGiven : List (Vote D G) → Batcher S D K G C → Type 0
+  AreGiven given batcher =
+      (kind : Kind) (view member : ℕ) (ballot : Ballot D G)
+      → ballot_of (held batcher kind view) member ≡ Some ballot → Contains given (record { subject = ballot.subject; signer = member; signature = ballot.signature })
 
   -- of another kind or view than this one's the same votes are held
   abbrev pub KeepsOthers : Subject D → Batcher S D K G C → Batcher S D K G C → Type 0

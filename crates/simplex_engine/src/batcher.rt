@@ -5,7 +5,7 @@
 //! a vote which is refused changes nothing. It holds at most one vote of each kind of each member in each view that was
 //! admitted and is not forgotten. That a vote's signature is good is tested before.
 
-ghost use Rattle.std.specs.Prelude.{◌≡◌, ◌≢◌, ℕ, true, length, IfOk, OnOk, OnErr, MatchOption};
+ghost use Rattle.std.specs.Prelude.{◌≡◌, ◌≢◌, ◌++◌, ◌∷◌, [], ℕ, true, length, IfOk, OnOk, OnErr, MatchOption};
 ghost use Rattle.std.specs.FinMap as map;
 ghost use Rattle.simplex_types.specs.Viewed.{subject_view};
 ghost use Rattle.simplex_engine.specs.Polls.{slots_at, HoldsTheSame};
@@ -51,12 +51,13 @@ pub struct Batcher<S: CertificateScheme, D> {
 }
 
 impl<S: Assembly<D>, D: Digest> Batcher<S, D> {
-    ghost use Rattle.simplex_engine.specs.Batching.{held, kind_of, HoldsNothing, HoldsAllTheSame, KeepsOthers, MayCount, IsCounted, IsForgotten};
+    ghost use Rattle.simplex_engine.specs.Batching.{held, kind_of, AreGiven, HoldsNothing, HoldsAllTheSame, KeepsOthers, MayCount, IsCounted, IsForgotten};
 
     /// A batcher of the scheme's members that holds nothing.
     pub fn new(alloc: Global, scheme: S) -> Batcher<S, D>
         ensures scheme { result.scheme ≡ scheme }
         ensures nothing { HoldsNothing result }
+        ensures given { AreGiven [] result }
     {
         Batcher {
             alloc,
@@ -71,7 +72,24 @@ impl<S: Assembly<D>, D: Digest> Batcher<S, D> {
     ///
     /// A quorum is n - f of n members, of whom f are fewer than a third; a scheme of more than 2^32 - 1 members has none, and
     /// each vote is refused. Without memory nothing has changed, and the vote may be counted again.
+    ///
+    /// - `given`: of each member it holds votes alone that were handed in.
     pub fn count(
+        &mut self,
+        vote: Vote<D, S::Signature>,
+        is_admitted: bool,
+    ) -> Result<Counted<S, D>, AllocError>
+        ensures counted { IfOk result (IsCounted D.eq (S.IsMadeOf self.old.scheme) (length (S.participants self.old.scheme))
+            is_admitted self.old vote self.new) }
+        ensures kept { OnErr result (HoldsAllTheSame self.old self.new) }
+        ensures given { (given : _) → AreGiven given self.old → AreGiven (given ++ vote ∷ []) self.new }
+        ensures scheme { self.new.scheme ≡ self.old.scheme }
+    {
+        self.count_vote(vote, is_admitted)
+    }
+
+    /// Counts a vote, where it may count.
+    fn count_vote(
         &mut self,
         vote: Vote<D, S::Signature>,
         is_admitted: bool,
@@ -132,6 +150,7 @@ impl<S: Assembly<D>, D: Digest> Batcher<S, D> {
     /// Forgets the votes of the views below.
     pub fn forget(&mut self, lowest: View)
         ensures forgotten { IsForgotten lowest self.old self.new }
+        ensures given { (given : _) → AreGiven given self.old → AreGiven given self.new }
         ensures scheme { self.new.scheme ≡ self.old.scheme }
     {
         self.notarize.drop_below(lowest);
