@@ -6,3 +6,4 @@ mod Behind
 mod Copying
 mod Lawfully
 mod Given
+mod Good

@@ -1,12 +1,14 @@
 -- The votes that a batcher holds, and what a further one comes to.
-use Rattle.std.specs.Prelude.{◌≡◌, ◌≢◌, ℕ, ◌<◌, ◌^◌, Bool, true, List, [], Option, Some, Contains}
+use Rattle.std.specs.Prelude.{◌≡◌, ◌≢◌, ℕ, ◌<◌, ◌^◌, Bool, true, List, [], Option, Some, Contains, slice_get}
+use Rattle.simplex_types.specs.declared.types.messages.Certificate.{Certificate}
+use Rattle.simplex_types.specs.declared.types.messages.Certificate.TheVariants as certificate
 use Rattle.simplex_types.specs.declared.types.messages.Subject.{Subject}
 use Rattle.simplex_types.specs.declared.types.messages.Subject.TheVariants as subject
 use Rattle.simplex_types.specs.Viewed.{subject_view}
 use Rattle.simplex_sorted.specs.Tracked.{at_or_above}
 use Rattle.simplex_engine.specs.declared.batcher.Batcher.{Batcher}
 use Rattle.simplex_engine.specs.declared.batcher.Counted.{Counted}
-use Rattle.simplex_engine.specs.declared.batcher.Counted.TheVariants.{Refused}
+use Rattle.simplex_engine.specs.declared.batcher.Counted.TheVariants.{Refused, Certified}
 use Rattle.simplex_engine.specs.declared.batcher.poll.Ballot.{Ballot}
 use Rattle.simplex_engine.specs.declared.votes.Vote.{Vote}
 use Rattle.simplex_engine.specs.Polls.{ballot_of, slots_at, HoldsTheSame}
@@ -53,6 +55,21 @@ module _ {S D K G C : Type 0} where
   abbrev pub IsForgotten : ℕ → Batcher S D K G C → Batcher S D K G C → Type 0
   IsForgotten lowest old new =
       (new.notarize ≡ at_or_above old.notarize lowest) × (new.nullify ≡ at_or_above old.nullify lowest) × (new.finalize ≡ at_or_above old.finalize lowest)
+
+-- each vote is signed on its subject under its signer's key
+abbrev pub AreGood : {K D G : Type 0} → (K → Subject D → G → Type 0) → List K → List (Vote D G) → Type 0
+AreGood {K} {D} {G} is_signature keys votes = (vote : Vote D G) → Contains votes vote → (key : K) × (slice_get keys vote.signer ≡ Some key) × is_signature key vote.subject vote.signature
+
+-- the certificate is found good for what it is on
+abbrev pub is_found_good : {S D K G C : Type 0} → (Subject D → C → Bool) → Certificate S D K G C → Bool
+is_found_good accepts (certificate.Notarization n) = accepts (subject.Notarize n.proposal) n.certificate
+is_found_good accepts (certificate.Nullification n) = accepts (subject.Nullify n.round) n.certificate
+is_found_good accepts (certificate.Finalization f) = accepts (subject.Finalize f.proposal) f.certificate
+
+-- a certificate that is answered is found good
+abbrev pub IsGoodIfCertified : {S D K G C : Type 0} → (Subject D → C → Bool) → Counted S D K G C → Type 0
+IsGoodIfCertified accepts (Certified made) = is_found_good accepts made ≡ true
+IsGoodIfCertified accepts _ = Unit {0}
 
 -- the view is admitted and the signer is one of the members, all of whom an index of 32 bits names
 pub record MayCount (members : ℕ) (is_admitted : Bool) (signer : ℕ) : Type 0 where

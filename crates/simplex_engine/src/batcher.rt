@@ -51,7 +51,7 @@ pub struct Batcher<S: CertificateScheme, D> {
 }
 
 impl<S: Assembly<D>, D: Digest> Batcher<S, D> {
-    ghost use Rattle.simplex_engine.specs.Batching.{held, kind_of, AreGiven, HoldsNothing, HoldsAllTheSame, KeepsOthers, MayCount, IsCounted, IsForgotten};
+    ghost use Rattle.simplex_engine.specs.Batching.{held, kind_of, AreGiven, AreGood, IsGoodIfCertified, HoldsNothing, HoldsAllTheSame, KeepsOthers, MayCount, IsCounted, IsForgotten};
 
     /// A batcher of the scheme's members that holds nothing.
     pub fn new(alloc: Global, scheme: S) -> Batcher<S, D>
@@ -74,6 +74,7 @@ impl<S: Assembly<D>, D: Digest> Batcher<S, D> {
     /// each vote is refused. Without memory nothing has changed, and the vote may be counted again.
     ///
     /// - `given`: of each member it holds votes alone that were handed in.
+    /// - `good`: where each vote that was handed in is good, so is a certificate that is answered: `verify` finds it good.
     pub fn count(
         &mut self,
         vote: Vote<D, S::Signature>,
@@ -83,6 +84,9 @@ impl<S: Assembly<D>, D: Digest> Batcher<S, D> {
             is_admitted self.old vote self.new) }
         ensures kept { OnErr result (HoldsAllTheSame self.old self.new) }
         ensures given { (given : _) → AreGiven given self.old → AreGiven (given ++ vote ∷ []) self.new }
+        ensures good { (given : _) → AreGiven given self.old
+            → AreGood S.IsSignature (S.participants self.old.scheme) (given ++ vote ∷ [])
+            → IfOk result (IsGoodIfCertified (S.accepts self.old.scheme)) }
         ensures scheme { self.new.scheme ≡ self.old.scheme }
     {
         self.count_vote(vote, is_admitted)
