@@ -13,7 +13,7 @@ mod votes;
 
 use crate::output::Output;
 use crate::votes::Vote;
-use simplex_types::types::{Artifact, CertificateScheme, Digest, Fault, View, Viewable};
+use simplex_types::types::{Artifact, CertificateScheme, Digest, View, Viewable};
 use std::alloc::{AllocError, Global};
 use std::collections::VecDeque;
 use votes::{copies, copy_of, newest_nullify, votes_of};
@@ -46,8 +46,8 @@ impl<S: CertificateScheme, D: Digest, J: Drop> Outbox<S, D, J> {
     }
 
     /// Queues what a record has grown by: its entries are to be stored behind all others, and then each vote among them leaves.
-    /// The only fault is `OutOfMemory`, and then nothing has changed.
-    pub fn store(&mut self, fresh: &[Artifact<S, D>]) -> Result<(), Fault>
+    /// Without memory nothing has changed.
+    pub fn store(&mut self, fresh: &[Artifact<S, D>]) -> Result<(), AllocError>
         ensures queued { OnOk result (IsStored S.certificate_bytes fresh.now self.old self.new) }
         ensures kept { OnErr result (HasStayed self.old self.new) }
         ensures goes_on { (given : _) → IsLawful given self.old → IsLawful given self.new }
@@ -56,9 +56,8 @@ impl<S: CertificateScheme, D: Digest, J: Drop> Outbox<S, D, J> {
     }
 
     /// Queues a whole record, which is to be stored in place of all entries, in one step with what is stored beside it: at the
-    /// start of a life, and once the record was pruned. Its votes do not leave once more. The only fault is `OutOfMemory`, and
-    /// then nothing has changed.
-    pub fn replace(&mut self, all: &[Artifact<S, D>], beside: J) -> Result<(), Fault>
+    /// start of a life, and once the record was pruned. Its votes do not leave once more. Without memory nothing has changed.
+    pub fn replace(&mut self, all: &[Artifact<S, D>], beside: J) -> Result<(), AllocError>
         ensures queued { OnOk result (IsReplaced S.certificate_bytes all.now beside self.old self.new) }
         ensures kept { OnErr result (HasStayed self.old self.new) }
         ensures goes_on { (given : _) → IsLawful given self.old → IsLawful given self.new }
@@ -112,7 +111,7 @@ impl<S: CertificateScheme, D: Digest, J: Drop> Outbox<S, D, J> {
     {}
 
     /// Queues entries, and behind them the votes among them.
-    fn queue_entries(&mut self, fresh: &[Artifact<S, D>]) -> Result<(), Fault>
+    fn queue_entries(&mut self, fresh: &[Artifact<S, D>]) -> Result<(), AllocError>
         ensures queued { OnOk result (IsStored S.certificate_bytes fresh.now self.old self.new) }
         ensures kept { OnErr result (HasStayed self.old self.new) }
     {
@@ -121,12 +120,12 @@ impl<S: CertificateScheme, D: Digest, J: Drop> Outbox<S, D, J> {
         let batch = batch_of(self.alloc, entries)?;
         match self.queue_batch(batch, newest) {
             Ok(()) => Ok(()),
-            Err(_refused) => Err(Fault::OutOfMemory),
+            Err(refused) => Err(refused),
         }
     }
 
     /// Queues a record in place of all entries.
-    fn queue_record(&mut self, all: &[Artifact<S, D>], beside: J) -> Result<(), Fault>
+    fn queue_record(&mut self, all: &[Artifact<S, D>], beside: J) -> Result<(), AllocError>
         ensures queued { OnOk result (IsReplaced S.certificate_bytes all.now beside self.old self.new) }
         ensures kept { OnErr result (HasStayed self.old self.new) }
     {
@@ -135,7 +134,7 @@ impl<S: CertificateScheme, D: Digest, J: Drop> Outbox<S, D, J> {
         let batch = whole_batch(self.alloc, entries, beside)?;
         match self.queue_batch(batch, newest) {
             Ok(()) => Ok(()),
-            Err(_refused) => Err(Fault::OutOfMemory),
+            Err(refused) => Err(refused),
         }
     }
 
@@ -197,7 +196,7 @@ impl<S: CertificateScheme, D: Digest, J: Drop> Outbox<S, D, J> {
 fn batch_of<S: CertificateScheme, D: Digest, J: Drop>(
     alloc: Global,
     entries: Vec<Artifact<S, D>>,
-) -> Result<VecDeque<Output<S, D, J>>, Fault>
+) -> Result<VecDeque<Output<S, D, J>>, AllocError>
     ensures { IfOk result (λ batch. batch.items ≡ storing entries) }
 {
     let mut batch = VecDeque::new(alloc);
@@ -205,7 +204,7 @@ fn batch_of<S: CertificateScheme, D: Digest, J: Drop>(
     batch.push_back(Output::Store(entries))?;
     match batch.append(&mut votes) {
         Ok(()) => Ok(batch),
-        Err(_refused) => Err(Fault::OutOfMemory),
+        Err(refused) => Err(refused),
     }
 }
 
@@ -214,7 +213,7 @@ fn whole_batch<S: CertificateScheme, D: Digest, J: Drop>(
     alloc: Global,
     entries: Vec<Artifact<S, D>>,
     beside: J,
-) -> Result<VecDeque<Output<S, D, J>>, Fault>
+) -> Result<VecDeque<Output<S, D, J>>, AllocError>
     ensures { IfOk result (λ batch. batch.items ≡ output.Replace entries beside ∷ []) }
 {
     let mut batch = VecDeque::new(alloc);

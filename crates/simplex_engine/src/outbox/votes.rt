@@ -7,7 +7,7 @@ ghost use Rattle.simplex_engine.specs.declared.output.Output.TheVariants as outp
 
 use crate::output::Output;
 use crate::votes::Vote;
-use simplex_types::types::{Artifact, CertificateScheme, Digest, Fault, Subject};
+use simplex_types::types::{Artifact, CertificateScheme, Digest, Subject};
 use std::alloc::{AllocError, Global};
 use std::collections::VecDeque;
 
@@ -15,12 +15,15 @@ use std::collections::VecDeque;
 pub(super) fn copies<S: CertificateScheme, D: Digest>(
     alloc: Global,
     entries: &[Artifact<S, D>],
-) -> Result<Vec<Artifact<S, D>>, Fault>
+) -> Result<Vec<Artifact<S, D>>, AllocError>
     ensures { IfOk result (λ copies. AreCopies S.certificate_bytes entries.now copies.items) }
 {
     let mut copies = Vec::new(alloc);
     for entry in entries {
-        copies.push(entry.clone(alloc)?)?;
+        let Ok(copy) = entry.clone(alloc) else {
+            return Err(AllocError);
+        };
+        copies.push(copy)?;
     }
     Ok(copies)
 }
@@ -70,7 +73,7 @@ fn vote_in<S: CertificateScheme, D: Digest>(
 pub(super) fn votes_of<S: CertificateScheme, D: Digest, J: Drop>(
     alloc: Global,
     entries: &[Artifact<S, D>],
-) -> Result<VecDeque<Output<S, D, J>>, Fault>
+) -> Result<VecDeque<Output<S, D, J>>, AllocError>
     ensures { IfOk result (λ votes. votes.items ≡ map output.Vote (votes_in entries.now)) }
 {
     let mut votes = VecDeque::new(alloc);
@@ -85,7 +88,7 @@ fn push_vote<S: CertificateScheme, D: Digest, J: Drop>(
     alloc: Global,
     votes: &mut VecDeque<Output<S, D, J>>,
     entry: &Artifact<S, D>,
-) -> Result<(), Fault>
+) -> Result<(), AllocError>
     ensures { OnOk result (votes.new.items ≡ votes.old.items ++ map output.Vote (option_to_list (vote_in entry.now))) }
 {
     match vote_in(alloc, entry)? {
