@@ -24,7 +24,7 @@ from program import ROOT
 
 ENGINE = ROOT / "engine"
 SKIPPED = 77
-LEAST_TESTS = 31
+LEAST_TESTS = 32
 NETWORK = ("--nodes", "4", "--views", "200", "--faulty", "1", "--kill", "3", "--seed", "7")
 
 # A file, what stands there, what is put in its place, and what fails then.
@@ -38,6 +38,7 @@ WRONG_BODIES = (
     ("a damaged journal is taken for a cut one", "journal.rs", "Some(_) => Err(JournalError::Damaged(at)),", "Some(_) => Ok(None),"),
     ("a node that can't store goes on", "replica.rs", "Output::Store(entries) => self.parts.journal.append(&entries)?,",
      "Output::Store(entries) => drop(self.parts.journal.append(&entries)),"),
+    ("a record is made short and the journal kept", "replica.rs", "self.parts.journal.compact(&entries)?;", "drop(entries);"),
     ("two processes have one key", "start.rs", 'Err(TryLockError::WouldBlock) => Err(format!("another process has {}", folder.display()).into()),',
      "Err(TryLockError::WouldBlock) => Ok(file),"),
     ("the chain's clock is the machine's", "clock.rs", "self.ahead += by;", "self.ahead = Duration::ZERO; self.begun = Instant::now();"),

@@ -59,6 +59,8 @@ pub struct Order {
 pub enum Output {
     /// Append these entries to the journal, and wait until the disk has them before a vote behind them is sent.
     Store(Entries),
+    /// Replace the journal by these entries, in one step: the record was made short.
+    Compact(Entries),
     /// Sign the text, send the vote and count it.
     Vote(Order),
     /// Send a certificate to all.
@@ -95,6 +97,9 @@ const ON_ITS_WAY_MS: u64 = 25;
 /// After how long it is asked for again, of another member, in milliseconds.
 const RETRY_MS: u64 = 250;
 
+/// Above how many entries the record is made short, once it has doubled since the last time.
+const LEAST_COMPACTION: u64 = 2048;
+
 /// A member of the library, with its resolver, and what they asked for.
 pub struct Driver {
     member: Member,
@@ -102,6 +107,7 @@ pub struct Driver {
     config: Config,
     views: Views,
     stored: EntryCount,
+    compacted: u64,
     touched: BTreeSet<View>,
     builds: BTreeMap<View, Context>,
     fetches: Fetches,
@@ -124,6 +130,7 @@ impl Driver {
             member,
             resolver,
             stored,
+            compacted: stored.get(),
             touched: BTreeSet::new(),
             builds: BTreeMap::new(),
             fetches: Fetches::new(me, config.members.get(), RETRY_MS),
@@ -134,17 +141,16 @@ impl Driver {
             config,
         };
         driver.touched.insert(driver.views.current);
-        driver.open_fetches(now);
+        driver.open_fetches(now)?;
         Ok(driver)
     }
 
     /// The fetches that are open when a life begins.
-    fn open_fetches(&mut self, now: Moment) {
-        for view in self.views.last_finalized.get() + 1..=self.views.current.get() {
-            if self.resolver.is_open(View::new(view)) {
-                self.fetches.open(Wanted::Nullification(View::new(view)), self.next_member(), now);
-            }
+    fn open_fetches(&mut self, now: Moment) -> Result<(), Ended> {
+        for view in self.resolver.outstanding()? {
+            self.fetches.open(Wanted::Nullification(view), self.next_member(), now);
         }
+        Ok(())
     }
 
     fn next_member(&self) -> Participant {
@@ -476,8 +482,15 @@ impl Driver {
             .extend(due.into_iter().map(|(wanted, peer)| Output::Fetch(wanted, peer)));
     }
 
-    /// Hands out what the record has grown by, or all of it once it has grown long.
+    /// Hands out what the record has grown by, or all that is left of it once it has grown long and is made short.
     fn store(&mut self) -> Result<(), Ended> {
+        if self.member.stored().entries.get() > LEAST_COMPACTION.max(2 * self.compacted) {
+            let left = self.member.prune_record().map_err(|_| Refusal::OutOfMemory)?;
+            self.stored = left.stored.entries;
+            self.compacted = self.stored.get();
+            self.outputs.push(Output::Compact(left));
+            return Ok(());
+        }
         let entries = self.member.entries_since(self.stored).map_err(|_| Refusal::OutOfMemory)?;
         if entries.stored.entries > self.stored {
             self.stored = entries.stored.entries;

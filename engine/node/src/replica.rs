@@ -362,6 +362,10 @@ impl<A: Application> Replica<A> {
     fn carry_out(&mut self, output: Output) -> Outcome {
         match output {
             Output::Store(entries) => self.parts.journal.append(&entries)?,
+            Output::Compact(entries) => {
+                self.parts.journal.compact(&entries)?;
+                self.parts.counters.compactions.fetch_add(1, Relaxed);
+            }
             Output::Vote(order) => self.votes.push(order),
             Output::Broadcast(it) => self.parts.peers.send_to_all(&Message::Certificate(it)),
             Output::Verify(context, proposal) => self.verify(context, proposal)?,

@@ -166,6 +166,25 @@ fn nodes_that_are_killed_again_and_again() {
 }
 
 #[test]
+fn records_that_are_made_short_within_a_life() {
+    let mut quick = plan("short", 4);
+    quick.protocol.pace_ms = 0;
+    let mut network = begun(quick);
+    assert!(network.wait_for(&[0, 1, 2, 3], 900, START), "{}", logs(&network));
+    for index in 0..4 {
+        assert!(network.metric(index, "compactions").is_some_and(|it| it > 0), "node {index}");
+        assert!(network.metric(index, "record_entries").is_some_and(|it| it < 3000), "node {index}");
+    }
+    for victim in 0..4 {
+        network.kill(victim).expect("a process");
+        network.tear(victim, 20).expect("a journal");
+        network.begin(victim).expect("a process");
+        goes_on(&network, &[0, 1, 2, 3]);
+    }
+    ends_well(network, 1);
+}
+
+#[test]
 fn all_killed_at_once() {
     let mut network = begun(plan("all", 4));
     (0..4).for_each(|index| network.kill(index).expect("a process"));
