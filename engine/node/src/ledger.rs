@@ -5,11 +5,14 @@ use crate::blocks::{Block, now_us};
 use crate::crypto::digest;
 use simplex_view_state::{Context, Digest, View};
 use std::fs::{self, File, OpenOptions};
-use std::io::{self, Write};
+use std::io::{self, Read, Seek, SeekFrom, Write};
 use std::path::{Path, PathBuf};
 
 /// How many bytes a block holds.
 const CONTENT: usize = 256;
+
+/// How long a line of the chain is at most, in bytes.
+const LONGEST_LINE: u64 = 130;
 
 /// A line of the finalized chain.
 #[derive(Clone, Debug, PartialEq, Eq)]
@@ -36,6 +39,26 @@ pub fn read_chain(folder: &Path) -> io::Result<Vec<Link>> {
         Err(error) if error.kind() == io::ErrorKind::NotFound => Ok(Vec::new()),
         Err(error) => Err(error),
     }
+}
+
+/// The last lines of a folder's chain, at most so many.
+pub fn last_links(folder: &Path, most: usize) -> io::Result<Vec<Link>> {
+    let mut file = match File::open(path(folder)) {
+        Ok(file) => file,
+        Err(error) if error.kind() == io::ErrorKind::NotFound => return Ok(Vec::new()),
+        Err(error) => return Err(error),
+    };
+    let begin = file.metadata()?.len().saturating_sub(LONGEST_LINE * most as u64);
+    file.seek(SeekFrom::Start(begin))?;
+    let mut text = String::new();
+    file.read_to_string(&mut text)?;
+    let whole = if begin == 0 {
+        &text[..]
+    } else {
+        text.split_once('\n').map_or("", |it| it.1)
+    };
+    let links: Vec<Link> = whole.split_inclusive('\n').map_while(read_link).collect();
+    Ok(links[links.len().saturating_sub(most)..].to_vec())
 }
 
 fn read_link(line: &str) -> Option<Link> {

@@ -3,7 +3,7 @@
 use clap::Parser;
 use simplex_node::audit::{contradictions, disagreements, quantile};
 use simplex_node::faults::Fault;
-use simplex_node::ledger::Link;
+use simplex_node::ledger::{self, Link};
 use simplex_node::network::{Network, Plan, folder_of, program_beside};
 use simplex_node::picture::Grid;
 use simplex_node::settings::{Outcome, Protocol};
@@ -23,6 +23,9 @@ struct Arguments {
     /// How many views are to be finalized.
     #[arg(long, default_value_t = 200)]
     views: u64,
+    /// For how long it runs, in seconds, whatever is finalized; by default until the views are.
+    #[arg(long)]
+    seconds: Option<u64>,
     /// How many of the last nodes are faulty.
     #[arg(long, default_value_t = 0)]
     faulty: u32,
@@ -145,7 +148,7 @@ fn watch(network: &mut Network, arguments: &Arguments) -> Outcome<bool> {
     kills.reverse();
     let (begun, mut told, mut moved) = (Instant::now(), (Instant::now(), 0), (Instant::now(), 0));
     loop {
-        sleep(Duration::from_millis(20));
+        sleep(Duration::from_millis(50));
         let highest = network.highest(&honest);
         if highest > moved.1 {
             moved = (Instant::now(), highest);
@@ -161,7 +164,11 @@ fn watch(network: &mut Network, arguments: &Arguments) -> Outcome<bool> {
             println!("{}", line(network, begun.elapsed(), highest, rate)?);
             told = (Instant::now(), highest);
         }
-        if kills.is_empty() && network.wait_for(&honest, arguments.views, Duration::from_millis(1)) {
+        let is_over = match arguments.seconds {
+            Some(seconds) => begun.elapsed() >= Duration::from_secs(seconds),
+            None => kills.is_empty() && network.wait_for(&honest, arguments.views, Duration::from_millis(1)),
+        };
+        if is_over {
             return Ok(true);
         }
         if moved.0.elapsed() > STANDSTILL {
@@ -172,19 +179,25 @@ fn watch(network: &mut Network, arguments: &Arguments) -> Outcome<bool> {
 }
 
 fn line(network: &Network, elapsed: Duration, highest: u64, rate: f64) -> Outcome<String> {
-    let chains = network.chains()?;
-    let mut latencies: Vec<u64> = chains
-        .iter()
-        .flat_map(|chain| chain.iter().rev().take(200))
-        .map(|it| it.latency_us)
-        .collect();
+    let last = (0..network.lives.len() as u32).map(|index| ledger::last_links(&network.data(index), 200));
+    let last = last.collect::<Result<Vec<_>, _>>()?;
+    let mut latencies: Vec<u64> = last.iter().flatten().map(|it| it.latency_us).collect();
     latencies.sort_unstable();
     let restarts: u32 = network.lives.iter().map(|it| it - 1).sum();
+    let most = |name| {
+        (0..network.lives.len() as u32)
+            .filter_map(|index| network.metric(index, name))
+            .max()
+            .unwrap_or(0)
+    };
     Ok(format!(
-        "{:4.0} s  view {highest}, {rate:.0} a second, from build to final {:.1} ms (half), {:.1} ms (99 %), {restarts} restarts",
+        "{:4.0} s  view {highest}, {rate:.0} a second, from build to final {:.1} ms (half), {:.1} ms (99 %), {restarts} restarts, \
+         at most {} kB and {} entries a node",
         elapsed.as_secs_f64(),
         quantile(&latencies, 0.5) as f64 / 1000.0,
         quantile(&latencies, 0.99) as f64 / 1000.0,
+        most("resident_kb"),
+        most("record_entries"),
     ))
 }
 
