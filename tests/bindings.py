@@ -9,8 +9,8 @@ record, and from which the member goes on at each restart: the replies are those
 a byte. The package's own tests and lints run too. And both callers are built with two kinds of calls swapped, which the comparison has to
 find.
 
-    tests/bindings.py [--program PATH] [--archive PATH]     without an archive two are built, unproved, in a minute or two each: they have the
-                                                            same bytes
+    tests/bindings.py [--program PATH] [--archive PATH] [--again]     without an archive one is built, unproved, in a minute or two, and then
+                                                                      another, which has to have the same bytes; so too by --again
 
 It ends with status 1 where replies differ, or where less was tried than is asked for. Where `cargo` or `cc` is missing it says so in one
 line, and tries nothing of it."""
@@ -210,12 +210,11 @@ def try_all(given, room, pool):
     path = program.find(given.program, room)
     archive = given.archive and given.archive.resolve() or room / "libsimplex.a"
     faults = []
-    if not given.archive:
-        again = room / "again.a"
-        for made in (archive, again):
-            subprocess.run([BINDINGS / "build", "--unproved", "--out", made], check=True)
-        if archive.read_bytes() != again.read_bytes():
-            faults.append("two builds of the archive have other bytes")
+    again = room / "again.a"
+    for made in [archive] * (not given.archive) + [again] * (given.again or not given.archive):
+        subprocess.run([BINDINGS / "build", "--unproved", "--out", made], check=True)
+    if again.exists() and archive.read_bytes() != again.read_bytes():
+        faults.append("two builds of the archive have other bytes")
     target = room / "target"
     in_c, in_rust = compiled(BINDINGS / "c/examples/script.c", BINDINGS / "c/include", archive, room / "script"), rust_caller(BINDINGS / "rust", target, archive)
     callers = {"C": (in_c,), "Rust": (in_rust,), "C, resumed": (in_c, "resume"), "Rust, resumed": (in_rust, "resume")}
@@ -235,6 +234,7 @@ def main():
     parser = argparse.ArgumentParser(description=__doc__, formatter_class=argparse.RawDescriptionHelpFormatter)
     program.add_option(parser)
     parser.add_argument("--archive", type=Path, help="the library, if it is built already")
+    parser.add_argument("--again", action="store_true", help="the archive was built unproved: another build has to have the same bytes")
     parser.add_argument("--jobs", type=int, default=2, help="how many scripts go side by side")
     given = parser.parse_args()
     missing = [tool for tool in ("cargo", "cc") if not shutil.which(tool)]
