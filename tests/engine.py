@@ -24,7 +24,7 @@ from program import ROOT
 
 ENGINE = ROOT / "engine"
 SKIPPED = 77
-LEAST_TESTS = 32
+LEAST_TESTS = 34
 NETWORK = ("--nodes", "4", "--views", "200", "--faulty", "1", "--kill", "3", "--seed", "7")
 
 # A file, what stands there, what is put in its place, and what fails then.

@@ -1,4 +1,4 @@
-//! What a node is told at its start: a TOML file.
+//! What a node is told at its start: a TOML file. `engine/node.toml` is one, with reasons.
 
 use crate::faults::Trial;
 use serde::{Deserialize, Serialize};
@@ -172,4 +172,35 @@ impl Settings {
 /// The payload of genesis: the same for all members of an epoch.
 pub fn genesis(epoch: u64) -> Digest {
     crate::crypto::digest(format!("genesis of epoch {epoch}").as_bytes())
+}
+
+#[cfg(test)]
+mod tests {
+    use super::*;
+
+    const EXAMPLE: &str = include_str!("../../node.toml");
+
+    #[test]
+    fn the_example_says_what_stands_where_nothing_is_said() {
+        let all: Settings = toml::from_str(EXAMPLE).expect("settings");
+        let is_asked = |line: &&str| {
+            ["index", "data", "key", "[[members]]", "address"]
+                .iter()
+                .any(|it| line.starts_with(it))
+        };
+        let least: Settings = toml::from_str(&EXAMPLE.lines().filter(is_asked).collect::<Vec<_>>().join("\n")).expect("settings");
+        assert_eq!(format!("{all:?}"), format!("{least:?}"));
+        assert_eq!((all.members.len(), all.test()), (4, Ok(())));
+    }
+
+    #[test]
+    fn what_is_unknown_or_no_member_is_refused() {
+        assert!(toml::from_str::<Settings>(&format!("indices = 3\n{EXAMPLE}")).is_err());
+        let mut settings: Settings = toml::from_str(EXAMPLE).expect("settings");
+        settings.index = 4;
+        assert!(settings.test().is_err());
+        settings.index = 3;
+        settings.metrics = Some("10.0.0.1:9100".parse().expect("an address"));
+        assert!(settings.test().is_err());
+    }
 }
