@@ -199,6 +199,3 @@ fn open<D: Copy, G: Drop>(
         Err(_refused) => Err(AllocError),
     }
 }
-
-#[cfg(test)]
-mod tests;

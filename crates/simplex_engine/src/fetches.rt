@@ -262,6 +262,3 @@ fn first_of(earliest: Option<u64>, moment: u64) -> u64
         None => moment,
     }
 }
-
-#[cfg(test)]
-mod tests;

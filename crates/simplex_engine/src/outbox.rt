@@ -220,6 +220,3 @@ fn whole_batch<S: CertificateScheme, D: Digest, J: Drop>(
     batch.push_back(Output::Replace(entries, beside))?;
     Ok(batch)
 }
-
-#[cfg(test)]
-mod tests;
