@@ -251,6 +251,8 @@ fn a_node_that_joins_late_from_a_floor() {
     let floor = network.data(3).with_extension("floor");
     run(&["floor", "--config", text_of(&network.config(0)), "--out", text_of(&floor)], true);
     network.begin(0).expect("a process");
+    // What is finalized between the floor and its first view it has to ask for.
+    assert!(network.wait_for(&[0, 1, 2], 80, START), "{}", logs(&network));
     network.set(3, |it| it.floor = Some("3.floor".into())).expect("settings");
     network.begin(3).expect("a process");
     goes_on(&network, &[0, 1, 2, 3]);
