@@ -10,6 +10,7 @@ use std::io::{Read, Write};
 use std::net::{Ipv4Addr, SocketAddr, TcpListener, TcpStream};
 use std::path::{Path, PathBuf};
 use std::process::{Child, Command, Stdio};
+use std::sync::atomic::{AtomicU32, Ordering};
 use std::thread::sleep;
 use std::time::{Duration, Instant};
 
@@ -272,12 +273,24 @@ impl Drop for Network {
     }
 }
 
+/// Where the search for free ports goes on in this process: below those that connections begin at, so that nobody takes one meanwhile.
+static NEXT_PORT: AtomicU32 = AtomicU32::new(0);
+
 /// Addresses of this machine that nobody listens at.
 fn free_addresses(count: usize) -> Outcome<Vec<SocketAddr>> {
-    let listeners: Vec<TcpListener> = (0..count)
-        .map(|_| TcpListener::bind((Ipv4Addr::LOCALHOST, 0)))
-        .collect::<Result<_, _>>()?;
-    Ok(listeners.iter().map(TcpListener::local_addr).collect::<Result<_, _>>()?)
+    let begin = std::process::id() * 97;
+    let mut addresses = Vec::new();
+    for _ in 0..20_000 {
+        if addresses.len() == count {
+            return Ok(addresses);
+        }
+        let port = 10_000 + (begin + NEXT_PORT.fetch_add(1, Ordering::Relaxed)) % 20_000;
+        let address = SocketAddr::from((Ipv4Addr::LOCALHOST, port as u16));
+        if TcpListener::bind(address).is_ok() {
+            addresses.push(address);
+        }
+    }
+    Err("no port is free".into())
 }
 
 fn get_metrics(address: SocketAddr) -> Option<String> {

@@ -244,6 +244,9 @@ fn a_disk_that_is_full() {
 
 #[test]
 fn a_node_that_joins_late_from_a_floor() {
+    if std::env::var_os("SIMPLEX_LONG").is_none() {
+        return;
+    }
     let mut network = Network::new(plan("late", 4)).expect("keys and settings");
     (0..3).for_each(|index| network.begin(index).expect("a process"));
     assert!(network.wait_for(&[0, 1, 2], 40, START), "{}", logs(&network));
