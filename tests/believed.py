@@ -18,18 +18,18 @@ from program import ROOT
 PAGE = ROOT / "docs" / "GUARANTEES.md"
 
 # What the laws of networks take and the engine's contracts give.
-STORIES = [("simplex_laws", "Stories", name) for name in ("Story", "Ran", "deeds_of")]
+STORIES = [("simplex_laws", "Executions", name) for name in ("Execution", "IsExecution", "trace_of")]
 
 # Each statement: its name, what it is made of, and what cancels.
 STATEMENTS = [
     (
         "the first three clauses",
         [
-            ("simplex_laws", "Places", "OfEachNetwork"),
+            ("simplex_laws", "Replicas", "OfEachNetwork"),
             ("simplex_laws", "Agreement", "OneProposal"),
             ("simplex_laws", "Agreement", "FinalizedUncovered"),
             ("simplex_laws", "Agreement", "ParentNotBelow"),
-            ("simplex_laws", "Shown", "shown_deeds"),
+            ("simplex_laws", "Shown", "shown_trace"),
         ],
         STORIES,
     ),

@@ -63,15 +63,15 @@ class Wrong(NamedTuple):
 WRONG_DEFINITIONS = (
     Wrong(
         "a notarized parent is fetched all the same", "simplex_voter/specs/Certification.antt",
-        (("is_none (explicit_payload x q) && is_none (round_of x q).notarization", "is_none (explicit_payload x q)"),), VOTER,
+        (("is_none (explicit_ancestry_payload x q) && is_none (round_of x q).notarization", "is_none (explicit_ancestry_payload x q)"),), VOTER,
     ),
     Wrong(
         "a binding compares the payload alone", "simplex_voter/specs/Parents.antt",
-        (("(is_payload same (parent_payload x v p.parent) bound.1 ||", "(is_payload same (payload_for x v p.parent) bound.1 ||"),), VOTER,
+        (("(is_payload same (parent_payload_for x v p.parent) bound.1 ||", "(is_payload same (ancestry_payload_for_child x v p.parent) bound.1 ||"),), VOTER,
     ),
     Wrong(
         "a request is superseded though nothing else can be built on", "simplex_voter/specs/Proposing.antt",
-        (("is_some (preferred_parent same elect x context.round.view) && not (context_stands x context)", "not (context_stands x context)"),), VOTER,
+        (("is_some (find_parent same elect x context.round.view) && not (context_stands x context)", "not (context_stands x context)"),), VOTER,
     ),
     Wrong(
         "the lowest nullification of a term helps into the next one", "simplex_voter/specs/Serving.antt",
@@ -84,22 +84,22 @@ WRONG_DEFINITIONS = (
         (("if nat_le deadline timeout.0 && nat_lt now timeout.0", "if nat_lt deadline timeout.0 && nat_lt now timeout.0"),), VOTER,
     ),
     Wrong(
-        "a request to build stays open until a block is taken", "simplex_member/specs/Made.antt",
-        (("openings_after x o (Proposed v _ _) = without_context o v",
-          "openings_after x o (Proposed v payload _) = if option_map_or (λ context. proposed_answer same elect x context payload) (context_at o v) false"
+        "a request to build stays open until a block is taken", "simplex_member/specs/CallSemantics.antt",
+        (("outstanding_work_after x o (Proposed v _ _) = without_context o v",
+          "outstanding_work_after x o (Proposed v payload _) = if option_map_or (λ context. proposed_answer same elect x context payload) (context_at o v) false"
           " then without_context o v else o"),), MEMBER,
     ),
     Wrong(
-        "a verification stays open until its answer counts", "simplex_member/specs/Made.antt",
-        (("openings_after x o (Verified v) = without_verification o v",
-          "openings_after x o (Verified v) = if verified_answer same elect x v then without_verification o v else o"),), MEMBER,
+        "a verification stays open until its answer counts", "simplex_member/specs/CallSemantics.antt",
+        (("outstanding_work_after x o (Verified v) = without_verification o v",
+          "outstanding_work_after x o (Verified v) = if verified_answer same elect x v then without_verification o v else o"),), MEMBER,
     ),
     Wrong(
-        "the newest offers alone stay open", "simplex_member/specs/Openings.antt",
+        "the newest offers alone stay open", "simplex_member/specs/OutstandingWork.antt",
         (("insert_key nat_cmp views p.round.view) o.offered proposals", "insert_key nat_cmp views p.round.view) [] proposals"),), MEMBER,
     ),
     Wrong(
-        "a repeated vote is recorded again", "simplex_member/specs/Made.antt",
+        "a repeated vote is recorded again", "simplex_member/specs/CallSemantics.antt",
         (("unrepeated_vote (Some (retry, vote)) = if retry then [] else vote ∷ []", "unrepeated_vote (Some (retry, vote)) = vote ∷ []"),), MEMBER,
     ),
     Wrong(
@@ -123,11 +123,11 @@ WRONG_DEFINITIONS = (
           "if nat_lt (last_finalized x) v then Settled OfNotarization v v ∷ [] else []"),), RESOLVER,
     ),
     Wrong(
-        "a refused certificate counts as accepted", "simplex_laws/specs/Deeds.antt",
+        "a refused certificate counts as accepted", "simplex_laws/specs/Traces.antt",
         (("  accepted_by call _ = []", "  accepted_by call _ = handed_in call"),), LAWS,
     ),
     Wrong(
-        "a refused restart accepts its floor", "simplex_laws/specs/Deeds.antt",
+        "a refused restart accepts its floor", "simplex_laws/specs/Traces.antt",
         (("  accepted_at (Restarts r) _ = []", "  accepted_at (Restarts r) _ = of_floor r.start.floor"),), LAWS,
     ),
     Wrong(
@@ -154,11 +154,11 @@ WRONG_DEFINITIONS = (
          ("  IsEvidence (Finalize p) (Nullify round) = round.view ≡ p.round.view", "  IsEvidence (Finalize p) (Nullify round) = ⊥")), LAWS,
     ),
     Wrong(
-        "a start accepts no floor", "simplex_laws/specs/Stories.antt",
-        (("deeds_of s = of_floor s.start.floor ++ deeds_of_steps s.steps s.replies", "deeds_of s = deeds_of_steps s.steps s.replies"),), LAWS,
+        "a start accepts no floor", "simplex_laws/specs/Executions.antt",
+        (("trace_of s = of_floor s.start.floor ++ trace_of_steps s.steps s.replies", "trace_of s = trace_of_steps s.steps s.replies"),), LAWS,
     ),
     Wrong(
-        "a quorum has one vote less", "simplex_laws/specs/Places.antt",
+        "a quorum has one vote less", "simplex_laws/specs/Replicas.antt",
         (("quorum n = n - max_faults n", "quorum n = n - max_faults n - 1"),), LAWS,
     ),
     Wrong(
@@ -207,7 +207,7 @@ WRONG_DEFINITIONS = (
     ),
     Wrong(
         "a certificate that was asked for is asked for again", "simplex_voter/specs/Verifying.antt",
-        (("unless_asked r w kind = if is_last_request r w then Passed else Lacks w kind", "unless_asked r w kind = Lacks w kind"),), VOTER,
+        (("fetch_once r w kind = if is_last_request r w then NothingToDo else Lacks w kind", "fetch_once r w kind = Lacks w kind"),), VOTER,
     ),
     Wrong(
         "a third proposal hides that two were seen", "simplex_round/specs/Slot.antt",
@@ -334,15 +334,15 @@ WRONG_DEFINITIONS = (
     ),
     Wrong(
         "another member goes on in its place", "simplex_laws/specs/Continuations.antt",
-        (("(Honest t ∷ later) = StoryGoesOn s t × PlacesGoOn network later", "(Honest t ∷ later) = ⊤ × PlacesGoOn network later"),), PROGRESS,
+        (("(Honest t ∷ later) = ExecutionGoesOn s t × ReplicasGoOn network later", "(Honest t ∷ later) = ⊤ × ReplicasGoOn network later"),), PROGRESS,
     ),
     Wrong(
         "nothing is asked of honest members", "simplex_laws/specs/Continuations.antt",
-        (("EachHonest network P = (i : ℕ) (s : Story K L D) → slice_get network i ≡ Some (Honest s) → P i s", "EachHonest network P = ⊤"),), PROGRESS,
+        (("EachHonest network P = (i : ℕ) (s : Execution K L D) → slice_get network i ≡ Some (Honest s) → P i s", "EachHonest network P = ⊤"),), PROGRESS,
     ),
     Wrong(
         "an exchange changes the members", "simplex_progress/specs/Soon.antt",
-        (("    pub goes_on : PlacesGoOn network later\n", "    pub goes_on : PlacesGoOn network network\n"),), PROGRESS,
+        (("    pub goes_on : ReplicasGoOn network later\n", "    pub goes_on : ReplicasGoOn network network\n"),), PROGRESS,
     ),
     Wrong(
         "an exchange brings votes of its own", "simplex_progress/specs/Soon.antt",
@@ -354,7 +354,7 @@ WRONG_DEFINITIONS = (
     ),
     Wrong(
         "one exchange counts for two", "simplex_progress/specs/Soon.antt",
-        (("(between : List (Place K L D)) × IsExchange network between ×", "(half between : List (Place K L D)) × IsExchange network half × IsExchange half between ×"),),
+        (("(between : List (Replica K L D)) × IsExchange network between ×", "(half between : List (Replica K L D)) × IsExchange network half × IsExchange half between ×"),),
         PROGRESS,
     ),
     Wrong(

@@ -2,10 +2,10 @@
 use Rattle.std.specs.Prelude.{◌≡◌, List}
 use Rattle.simplex_types.specs.declared.types.messages.Proposal.{Proposal}
 use Rattle.simplex_types.specs.declared.types.messages.Subject.TheVariants.{Finalize}
-use Rattle.simplex_laws.specs.Deeds.{Deed}
+use Rattle.simplex_laws.specs.Traces.{TraceEvent}
 use Rattle.simplex_laws.specs.Lawful.{HasSigned}
 
 -- two that are of one view are for one proposal
-abbrev pub FinalizesOneProposal : {D : Type 0} → List (Deed D) → Type 0
-FinalizesOneProposal {D} deeds =
-    (p q : Proposal D) → HasSigned deeds (Finalize p) → HasSigned deeds (Finalize q) → p.round.view ≡ q.round.view → p ≡ q
+abbrev pub FinalizesOneProposal : {D : Type 0} → List (TraceEvent D) → Type 0
+FinalizesOneProposal {D} trace =
+    (p q : Proposal D) → HasSigned trace (Finalize p) → HasSigned trace (Finalize q) → p.round.view ≡ q.round.view → p ≡ q

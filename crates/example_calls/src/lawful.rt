@@ -3,7 +3,7 @@
 ghost use Rattle.std.specs.Prelude.{◌≡◌, true};
 ghost use Rattle.simplex_types.specs.declared.types.messages.Subject.TheVariants.{Finalize};
 ghost use Rattle.simplex_laws.specs.Living.{OfAllDone};
-ghost use Rattle.simplex_laws.specs.Places.{OfEachNetwork, Backed};
+ghost use Rattle.simplex_laws.specs.Replicas.{OfEachNetwork, Backed};
 ghost use Rattle.example_calls.specs.Finalizing.{FinalizesOneProposal};
 
 use simplex_lawful::lawful::LawfulMember;

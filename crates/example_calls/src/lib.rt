@@ -7,9 +7,9 @@ pub mod lawful;
 ghost use Rattle.std.specs.Prelude.{◌≡◌, ◌++◌, OnOk, IfOk, IfSome, IsNone};
 ghost use Rattle.simplex_voter.specs.Serving.{broadcast_notarization_answer};
 ghost use Rattle.simplex_member.specs.Calls.{told_finalize};
-ghost use Rattle.simplex_member.specs.Made.{vote_entry};
+ghost use Rattle.simplex_member.specs.CallSemantics.{vote_entry};
 ghost use Rattle.simplex_member.specs.Signed.{signed_finalize};
-ghost use Rattle.simplex_member.specs.Typed.{HasNoneLeft};
+ghost use Rattle.simplex_member.specs.MethodContracts.{HasNoneLeft};
 
 use simplex_member::member::{Member, Refusal};
 use simplex_types::reasons::TimeoutReason;

@@ -11,10 +11,10 @@ use Rattle.simplex_sorted.proofs.RisingEntries.{AllAbove, Rises, rises}
 use Rattle.simplex_types.specs.Window.{issuance_floor}
 use Rattle.simplex_round.specs.Round.{RoundFacts}
 use Rattle.simplex_voter.specs.Facts.{StateFacts, Elect}
-use Rattle.simplex_voter.specs.Windows.{is_start, in_window, is_open}
-use Rattle.simplex_voter.specs.Gaps.{is_gapless, first_gap}
-use Rattle.simplex_voter.specs.Payloads.{explicit_payload, optimistic_payload, is_handoff_parent}
-use Rattle.simplex_voter.specs.Parents.{at_view, spans, explicit_below, highest_explicit, payload_for, parent_payload, handoff, preferred_parent, IsAllowedParent}
+use Rattle.simplex_voter.specs.Windows.{is_term_start, in_issuance_window, is_open}
+use Rattle.simplex_voter.specs.Gaps.{is_gapless, first_unnullified_view}
+use Rattle.simplex_voter.specs.Payloads.{explicit_ancestry_payload, optimistic_ancestry_payload, is_handoff_parent}
+use Rattle.simplex_voter.specs.Parents.{at_view, has_valid_parent_span, explicit_below, highest_explicit, ancestry_payload_for_child, parent_payload_for, handoff, find_parent, IsAllowedParent}
 use Rattle.simplex_definitions.specs.Laws.{StandsBelow, IsHandedOff, KnowsFinalized}
 use Rattle.simplex_voter.proofs.Gaps.{cases_bool, and_parts, and_both, or_right, no_room}
 
@@ -31,36 +31,36 @@ guarded_some true o a e = (refl, e)
 guarded_some false o a e = absurd (false≢true (ap is_some e))
 
 module _ {K L D : Type 0} (x : StateFacts K L D) where
-  pub spans_parts : (v p : ℕ) → spans x v p ≡ true → (p < v) × (x.finalized ≤ p) × ((p + 1 == v || is_start x v) ≡ true)
-  unfolding spans
+  pub spans_parts : (v p : ℕ) → has_valid_parent_span x v p ≡ true → (p < v) × (x.finalized ≤ p) × ((p + 1 == v || is_term_start x v) ≡ true)
+  unfolding has_valid_parent_span
   spans_parts v p h =
       let last = and_parts (ltb p v && leb x.finalized p) _ h in
       let first = and_parts (ltb p v) _ last.0 in
       (grind (arith, nat_tests), grind (arith, nat_tests), last.1)
 
-  spans_both : (v p : ℕ) → p < v → x.finalized ≤ p → (p + 1 == v || is_start x v) ≡ true → spans x v p ≡ true
-  unfolding spans
+  spans_both : (v p : ℕ) → p < v → x.finalized ≤ p → (p + 1 == v || is_term_start x v) ≡ true → has_valid_parent_span x v p ≡ true
+  unfolding has_valid_parent_span
   spans_both v p low high one = and_both (ltb p v && leb x.finalized p) _ (and_both (ltb p v) _ (lt-ltb p v low) (le-leb x.finalized p high)) one
 
   -- there is no gap just below
   gapless_before : (v p : ℕ) → p + 1 ≡ v → is_gapless x p v ≡ true
-  unfolding first_gap
+  unfolding first_unnullified_view
   gapless_before v p before = ap is_none (no_room x p v before)
 
   -- a term's start is in no window
-  start_in_no_window : (v : ℕ) → is_start x v ≡ true → in_window x v ≡ false
-  unfolding in_window
+  start_in_no_window : (v : ℕ) → is_term_start x v ≡ true → in_issuance_window x v ≡ false
+  unfolding in_issuance_window
   start_in_no_window v start = ap (is_open x v) (no_floor v start)
     where
-      no_floor : (v : ℕ) → is_start x v ≡ true → issuance_floor x.terms.term_length x.terms.optimistic_views v ≡ None
+      no_floor : (v : ℕ) → is_term_start x v ≡ true → issuance_floor x.terms.term_length x.terms.optimistic_views v ≡ None
       no_floor v start = rw (start, or_middle (v == 0) (x.terms.optimistic_views == 0)) refl
 
 module _ {K L D : Type 0} (same : D → D → Bool) (elect : Elect L) (x : StateFacts K L D) where
-  pub allowed_stands : (v p : ℕ) (d : D) → IsAllowedParent same elect x v p d → StandsBelow x v p × (payload_for same elect x v p ≡ Some d)
-  unfolding parent_payload
+  pub allowed_stands : (v p : ℕ) (d : D) → IsAllowedParent same elect x v p d → StandsBelow x v p × (ancestry_payload_for_child same elect x v p ≡ Some d)
+  unfolding parent_payload_for
   allowed_stands v p d allowed =
-      let found = guarded_some (spans x v p && is_gapless x p v) _ d allowed in
-      let parts = and_parts (spans x v p) _ found.0 in
+      let found = guarded_some (has_valid_parent_span x v p && is_gapless x p v) _ d allowed in
+      let parts = and_parts (has_valid_parent_span x v p) _ found.0 in
       let span = spans_parts x v p parts.0 in (
         record {
           at_least_finalized = span.1;
@@ -71,21 +71,21 @@ module _ {K L D : Type 0} (same : D → D → Bool) (elect : Elect L) (x : State
         found.1,
       )
 
-  one_step : (v p : ℕ) → (is_start x v ≡ false → p + 1 ≡ v) → (p + 1 == v || is_start x v) ≡ true
-  one_step v p inside = elim (cases_bool (is_start x v)) [
+  one_step : (v p : ℕ) → (is_term_start x v ≡ false → p + 1 ≡ v) → (p + 1 == v || is_term_start x v) ≡ true
+  one_step v p inside = elim (cases_bool (is_term_start x v)) [
     | inl start ↦ or_right (p + 1 == v) _ start
     | inr within ↦ rw (eq-eqb (p + 1) v (inside within)) refl
   ]
 
-  pub standing_allowed : (v p : ℕ) (d : D) → StandsBelow x v p → payload_for same elect x v p ≡ Some d → IsAllowedParent same elect x v p d
-  unfolding parent_payload
+  pub standing_allowed : (v p : ℕ) (d : D) → StandsBelow x v p → ancestry_payload_for_child same elect x v p ≡ Some d → IsAllowedParent same elect x v p d
+  unfolding parent_payload_for
   standing_allowed v p d stands payload =
-      let span : spans x v p ≡ true = spans_both x v p stands.below stands.at_least_finalized (one_step v p stands.just_below) in
+      let span : has_valid_parent_span x v p ≡ true = spans_both x v p stands.below stands.at_least_finalized (one_step v p stands.just_below) in
       rw (span, stands.gapless) payload
 
   -- an explicit view below, with its payload
   Explicit : ℕ → ℕ × D → Type 0
-  Explicit v e = (e.0 < v) × (explicit_payload x e.0 ≡ Some e.1)
+  Explicit v e = (e.0 < v) × (explicit_ancestry_payload x e.0 ≡ Some e.1)
 
   view_with : (v : ℕ) (o : Option D) (e : ℕ × D) → at_view v o ≡ Some e → (e.0 ≡ v) × (o ≡ Some e.1)
   view_with v None e is = absurd (false≢true (ap is_some is))
@@ -97,9 +97,9 @@ module _ {K L D : Type 0} (same : D → D → Bool) (elect : Elect L) (x : State
   unfolding Explicit
   explicit_entry v a e is =
       let found = guarded_some (ltb a.0 v) _ e is in
-      let entry = view_with a.0 (explicit_payload x a.0) e found.1 in
+      let entry = view_with a.0 (explicit_ancestry_payload x a.0) e found.1 in
       let below : a.0 < v = grind (arith, nat_tests) in
-      (entry.0, (omega arith, ap (explicit_payload x) entry.0 ∙ entry.1))
+      (entry.0, (omega arith, ap (explicit_ancestry_payload x) entry.0 ∙ entry.1))
 
   same_some : (a b : ℕ × D) → Some a ≡ Some b → a ≡ b
   same_some a b e = ap (λ o. unwrap_or o a) e
@@ -123,7 +123,7 @@ module _ {K L D : Type 0} (same : D → D → Bool) (elect : Elect L) (x : State
         omega arith) e is
   ] refl is
 
-  last_not_below : (v m : ℕ) (es : List (ℕ × RoundFacts K D)) (start : Option (ℕ × D)) → Rises es → is_some (find nat_cmp m es) ≡ true → m < v → (d : D) → explicit_payload x m ≡ Some d → (e : ℕ × D) → last_or start (filter_map (explicit_below x v) es) ≡ Some e → m ≤ e.0
+  last_not_below : (v m : ℕ) (es : List (ℕ × RoundFacts K D)) (start : Option (ℕ × D)) → Rises es → is_some (find nat_cmp m es) ≡ true → m < v → (d : D) → explicit_ancestry_payload x m ≡ Some d → (e : ℕ × D) → last_or start (filter_map (explicit_below x v) es) ≡ Some e → m ≤ e.0
   last_not_below v m [] start rise here low d payload e is = absurd (false≢true here)
   last_not_below v m (a ∷ es) start rise here low d payload e is = elim (cases_bool (eqb m a.0)) [
     | inl same_view ↦
@@ -147,7 +147,7 @@ module _ {K L D : Type 0} (same : D → D → Bool) (elect : Elect L) (x : State
   true_from_T b e = subst T (sym e) tt
 
   genesis_explicit : (v : ℕ) → 0 < v → (e : ℕ × D) → at_view 0 x.genesis ≡ Some e → Explicit v e
-  unfolding Explicit explicit_payload
+  unfolding Explicit explicit_ancestry_payload
   genesis_explicit v some e is =
       let entry = view_with 0 x.genesis e is in
       (omega arith, rw entry.0 entry.1)
@@ -161,8 +161,8 @@ module _ {K L D : Type 0} (same : D → D → Bool) (elect : Elect L) (x : State
         last_not_below v x.finalized x.rounds (at_view 0 x.genesis) (rises x.rounds knows.in_order) (knows.known some) low payload.0 payload.1 e is
   ]
 
-  explicit_allowed : (v : ℕ) (e : ℕ × D) → is_start x v ≡ true → Explicit v e → x.finalized ≤ e.0 → is_gapless x e.0 v ≡ true → IsAllowedParent same elect x v e.0 e.1
-  unfolding Explicit payload_for
+  explicit_allowed : (v : ℕ) (e : ℕ × D) → is_term_start x v ≡ true → Explicit v e → x.finalized ≤ e.0 → is_gapless x e.0 v ≡ true → IsAllowedParent same elect x v e.0 e.1
+  unfolding Explicit ancestry_payload_for_child
   explicit_allowed v e start explicit high gapless =
       standing_allowed v e.0 e.1
       (record { at_least_finalized = high; below = explicit.0; just_below = λ inside. absurd (false≢true (sym inside ∙ start)); gapless = gapless })
@@ -171,14 +171,14 @@ module _ {K L D : Type 0} (same : D → D → Bool) (elect : Elect L) (x : State
   handed_off : (v p : ℕ) (d : D) → 0 < v → handoff same elect x (v - 1) ≡ Some (p, d) → IsHandedOff same elect x v p d
   handed_off v p d some is =
       let found = guarded_some (is_handoff_parent elect x (v - 1)) _ (p, d) is in
-      let entry = view_with (v - 1) (optimistic_payload same elect x (v - 1)) (p, d) found.1 in
+      let entry = view_with (v - 1) (optimistic_ancestry_payload same elect x (v - 1)) (p, d) found.1 in
       record {
         just_below = omega arith;
         handoff = ap (is_handoff_parent elect x) entry.0 ∙ found.0;
-        offered = ap (optimistic_payload same elect x) entry.0 ∙ entry.1;
+        offered = ap (optimistic_ancestry_payload same elect x) entry.0 ∙ entry.1;
       }
 
-  preferred_from : (v p : ℕ) (d : D) (o : Option (ℕ × D)) → highest_explicit x v ≡ o → KnowsFinalized x → x.finalized < v → is_start x v ≡ true → option_and_then (λ found. cond (is_gapless x found.0 v) (Some found) (handoff same elect x (v - 1))) o ≡ Some (p, d) → IsAllowedParent same elect x v p d ⊎ IsHandedOff same elect x v p d
+  preferred_from : (v p : ℕ) (d : D) (o : Option (ℕ × D)) → highest_explicit x v ≡ o → KnowsFinalized x → x.finalized < v → is_term_start x v ≡ true → option_and_then (λ found. cond (is_gapless x found.0 v) (Some found) (handoff same elect x (v - 1))) o ≡ Some (p, d) → IsAllowedParent same elect x v p d ⊎ IsHandedOff same elect x v p d
   preferred_from v p d None is knows low start e = absurd (false≢true (ap is_some e))
   preferred_from v p d (Some found) is knows low start e = elim (cases_bool (is_gapless x found.0 v)) [
     | inl gapless ↦
@@ -188,14 +188,14 @@ module _ {K L D : Type 0} (same : D → D → Bool) (elect : Elect L) (x : State
     | inr gap ↦ inr (handed_off v p d (omega arith) (rw gap at e))
   ]
 
-  pub preferred_stands : (v p : ℕ) (d : D) → KnowsFinalized x → x.finalized < v → preferred_parent same elect x v ≡ Some (p, d) → IsAllowedParent same elect x v p d ⊎ IsHandedOff same elect x v p d
-  unfolding preferred_parent
-  preferred_stands v p d knows low e = elim (cases_bool (is_start x v)) [
+  pub preferred_stands : (v p : ℕ) (d : D) → KnowsFinalized x → x.finalized < v → find_parent same elect x v ≡ Some (p, d) → IsAllowedParent same elect x v p d ⊎ IsHandedOff same elect x v p d
+  unfolding find_parent
+  preferred_stands v p d knows low e = elim (cases_bool (is_term_start x v)) [
     | inl start ↦ preferred_from v p d (highest_explicit x v) refl knows low start (rw start at e)
     | inr inside ↦
-        let entry = view_with (v - 1) (payload_for same elect x v (v - 1)) (p, d) (rw inside at e) in
+        let entry = view_with (v - 1) (ancestry_payload_for_child same elect x v (v - 1)) (p, d) (rw inside at e) in
         let before : p + 1 ≡ v = omega arith in
         inl (standing_allowed v p d
         (record { at_least_finalized = omega arith; below = omega arith; just_below = λ _. before; gapless = gapless_before x v p before })
-        (ap (payload_for same elect x v) entry.0 ∙ entry.1))
+        (ap (ancestry_payload_for_child same elect x v) entry.0 ∙ entry.1))
   ]

@@ -9,11 +9,11 @@ use Rattle.simplex_sorted.specs.Tracked.{at_or_above}
 use Rattle.simplex_types.specs.Window.{issuance_floor, AdmitsOutbound, AdmitsCertificate, AdmitsVote}
 use Rattle.simplex_types.specs.declared.types.messages.Proposal.{Proposal}
 use Rattle.simplex_voter.specs.Facts.{StateFacts, Elect}
-use Rattle.simplex_voter.specs.Windows.{is_start, admits_outbound, admits_certificate, admits_vote, viewport}
-use Rattle.simplex_voter.specs.Gaps.{is_covered, IsGapless, IsFirstGap, first_gap, is_gapless}
-use Rattle.simplex_voter.specs.Payloads.{explicit_payload, optimistic_payload, payload_by, is_handoff_parent}
-use Rattle.simplex_voter.specs.Parents.{payload_for, IsAllowedParent, preferred_parent}
-use Rattle.simplex_voter.specs.Rules.{may_notarize, may_nullify, may_finalize, required_parent, NotarizeRule, NullifyRule, FinalizeRule}
+use Rattle.simplex_voter.specs.Windows.{is_term_start, admits_outbound, admits_certificate, admits_vote, viewport}
+use Rattle.simplex_voter.specs.Gaps.{is_covered, IsGapless, IsFirstGap, first_unnullified_view, is_gapless}
+use Rattle.simplex_voter.specs.Payloads.{explicit_ancestry_payload, optimistic_ancestry_payload, payload_by, is_handoff_parent}
+use Rattle.simplex_voter.specs.Parents.{ancestry_payload_for_child, IsAllowedParent, find_parent}
+use Rattle.simplex_voter.specs.Rules.{may_notarize, may_nullify, may_finalize, required_certification_parent, NotarizeRule, NullifyRule, FinalizeRule}
 use Rattle.simplex_voter.specs.Leaders.{opened_views}
 use Rattle.simplex_voter.specs.Acceptance.{nullified_also}
 
@@ -26,7 +26,7 @@ CoveringStays K L D = (x : StateFacts K L D) (u w : ℕ) → is_covered x w ≡ 
 -- the first gap is the lowest uncovered view between, and where there is none each view between is covered
 abbrev pub FindsFirstGap : (K L D : Type 0) → Type 0
 FindsFirstGap K L D =
-    (x : StateFacts K L D) (p v : ℕ) → 0 < x.terms.term_length → MatchOption (first_gap x p v) (IsGapless x p v) (IsFirstGap x p v)
+    (x : StateFacts K L D) (p v : ℕ) → 0 < x.terms.term_length → MatchOption (first_unnullified_view x p v) (IsGapless x p v) (IsFirstGap x p v)
 
 -- two stretches without a gap join over a covered view
 abbrev pub GaplessJoins : (K L D : Type 0) → Type 0
@@ -39,7 +39,7 @@ GaplessJoins K L D =
 abbrev pub OptimisticPayloadIs : (K L D : Type 0) → Type 0
 OptimisticPayloadIs K L D =
     (same : D → D → Bool) (elect : Elect L) (x : StateFacts K L D) (v : ℕ)
-    → optimistic_payload same elect x v ≡ payload_by same elect x (optimistic_payload same elect x) v
+    → optimistic_ancestry_payload same elect x v ≡ payload_by same elect x (optimistic_ancestry_payload same elect x) v
 
 -- parents
 
@@ -47,26 +47,26 @@ OptimisticPayloadIs K L D =
 pub record StandsBelow {K L D : Type 0} (x : StateFacts K L D) (v p : ℕ) : Type 0 where
   pub at_least_finalized : x.finalized ≤ p
   pub below : p < v
-  pub just_below : is_start x v ≡ false → p + 1 ≡ v
+  pub just_below : is_term_start x v ≡ false → p + 1 ≡ v
   pub gapless : is_gapless x p v ≡ true
 
 -- a parent is allowed exactly where it may stand below the view and has the payload that the view may build on
 abbrev pub AllowedParentIs : (K L D : Type 0) → Type 0
 AllowedParentIs K L D =
     (same : D → D → Bool) (elect : Elect L) (x : StateFacts K L D) (v p : ℕ) (d : D)
-    → IsAllowedParent same elect x v p d ↔ (StandsBelow x v p × (payload_for same elect x v p ≡ Some d))
+    → IsAllowedParent same elect x v p d ↔ (StandsBelow x v p × (ancestry_payload_for_child same elect x v p ≡ Some d))
 
 -- the view before is offered to this member for a handoff
 pub record IsHandedOff {K L D : Type 0} (same : D → D → Bool) (elect : Elect L) (x : StateFacts K L D) (v p : ℕ) (d : D) : Type 0 where
   pub just_below : p + 1 ≡ v
   pub handoff : is_handoff_parent elect x p ≡ true
-  pub offered : optimistic_payload same elect x p ≡ Some d
+  pub offered : optimistic_ancestry_payload same elect x p ≡ Some d
 
 -- views are kept in order, and the last finalized one, if there is one, is known to be final
 pub record KnowsFinalized {K L D : Type 0} (x : StateFacts K L D) : Type 0 where
   pub in_order : is_sorted nat_cmp x.rounds ≡ true
   pub known : 0 < x.finalized → is_some (find nat_cmp x.finalized x.rounds) ≡ true
-  pub certified : 0 < x.finalized → is_some (explicit_payload x x.finalized) ≡ true
+  pub certified : 0 < x.finalized → is_some (explicit_ancestry_payload x x.finalized) ≡ true
 
 -- a preferred parent is allowed, or handed off
 abbrev pub PreferredParentStands : (K L D : Type 0) → Type 0
@@ -74,7 +74,7 @@ PreferredParentStands K L D =
     (same : D → D → Bool) (elect : Elect L) (x : StateFacts K L D) (v p : ℕ) (d : D)
     → KnowsFinalized x
     → x.finalized < v
-    → preferred_parent same elect x v ≡ Some (p, d)
+    → find_parent same elect x v ≡ Some (p, d)
     → IsAllowedParent same elect x v p d ⊎ IsHandedOff same elect x v p d
 
 -- the rules of votes, by their parts
@@ -96,7 +96,7 @@ MayFinalizeIs K L D = (elect : Elect L) (x : StateFacts K L D) (v : ℕ) → (ma
 -- what has to be certified first is the view before
 abbrev pub RequiredParentIsBefore : (K L D : Type 0) → Type 0
 RequiredParentIsBefore K L D =
-    (elect : Elect L) (x : StateFacts K L D) (v q : ℕ) (p : Proposal D) → 0 < v → required_parent elect x v p ≡ Some q → q + 1 ≡ v
+    (elect : Elect L) (x : StateFacts K L D) (v q : ℕ) (p : Proposal D) → 0 < v → required_certification_parent elect x v p ≡ Some q → q + 1 ≡ v
 
 -- windows
 

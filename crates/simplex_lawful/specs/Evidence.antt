@@ -5,7 +5,7 @@ use Rattle.simplex_types.specs.declared.types.messages.Artifact.TheVariants as a
 use Rattle.simplex_types.specs.declared.types.messages.Subject.{Subject}
 use Rattle.simplex_types.specs.declared.types.messages.Subject.TheVariants as subject
 use Rattle.simplex_laws.specs.Accountability.{IsEvidence}
-use Rattle.simplex_laws.specs.Deeds.{Deed}
+use Rattle.simplex_laws.specs.Traces.{TraceEvent}
 use Rattle.simplex_laws.specs.Lawful.{HasSigned, IsLawful}
 
 -- the vote that an artifact is, with the member that signed it
@@ -30,5 +30,5 @@ module _ {D : Type 0} where
   -- who signed both did not keep the voting rules, whatever else it did
   abbrev pub ShowsABrokenRule : Option (ℕ × Subject D) → Option (ℕ × Subject D) → Type 0
   ShowsABrokenRule (Some (i, a)) (Some (j, b)) =
-      (term_length : ℕ) (deeds : List (Deed D)) → HasSigned deeds a → HasSigned deeds b → IsLawful term_length deeds → ⊥
+      (term_length : ℕ) (trace : List (TraceEvent D)) → HasSigned trace a → HasSigned trace b → IsLawful term_length trace → ⊥
   ShowsABrokenRule _ _ = ⊥

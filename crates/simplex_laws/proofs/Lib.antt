@@ -5,6 +5,6 @@ pub mod votes
 pub mod records
 pub mod own_records
 pub mod agreement
-pub mod stories
+pub mod executions
 pub mod histories
 pub mod networks

@@ -1,7 +1,7 @@
 pub mod ComputedRuns
 pub mod Scripts
 pub mod Continuations
-pub mod Turns
+pub mod ScenarioSteps
 pub mod DividedNetwork
 pub mod LackingNetwork
 pub mod HandoffNetwork

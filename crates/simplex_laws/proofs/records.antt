@@ -1,6 +1,6 @@
-pub mod EntryDeeds
+pub mod EntryTraces
 pub mod EntriesStand
-pub mod DeedsShown
+pub mod TracesShown
 pub mod RecoveredVotes
 pub mod RecordedVotes
 pub mod Remembering

@@ -9,7 +9,7 @@ pub mod UnchangedRounds
 pub mod UnchangedProposals
 pub mod Proposals
 pub mod VotedParents
-pub mod Openings
+pub mod OutstandingWork
 pub mod NotarizeVotesShown
 pub mod NotarizeVotesByWork
 pub mod NotarizeVotesByCalls

@@ -7,10 +7,10 @@ use Rattle.simplex_types.specs.declared.types.messages.Subject.{Subject}
 use Rattle.simplex_types.specs.declared.types.messages.Subject.TheVariants.{Notarize, Nullify, Finalize}
 use Rattle.simplex_types.specs.declared.types.numbers.Round.{Round}
 use Rattle.simplex_voter.specs.Facts.{Elect}
-use Rattle.simplex_laws.specs.Deeds.{Deed, Accepts, Signs}
+use Rattle.simplex_laws.specs.Traces.{TraceEvent, Accepts, Signs}
 use Rattle.simplex_laws.specs.Lawful.{HasSigned, SignsAfter, HasCover, HasFinalizedBetween, IsLawful}
-use Rattle.simplex_laws.specs.Places.{AtLeastFrom, Place, Faulty, Honest, faults, Backed, max_faults, quorum}
-use Rattle.simplex_laws.specs.Stories.{Story, deeds_of, Ran}
+use Rattle.simplex_laws.specs.Replicas.{AtLeastFrom, Replica, Faulty, Honest, faults, Backed, max_faults, quorum}
+use Rattle.simplex_laws.specs.Executions.{Execution, trace_of, IsExecution}
 
 module _ {D : Type 0} where
   -- two proposals of one view
@@ -52,33 +52,33 @@ module _ {D : Type 0} where
   -- rules that a member breaks by a vote, each the negation of a rule of `IsLawful`
 
   -- it voted to finalize a proposal, and had accepted no notarization of it
-  abbrev pub FinalizesUnnotarized : List (Deed D) → Proposal D → Type 0
-  FinalizesUnnotarized deeds p =
-      (before : List (Deed D)) × SignsAfter deeds before (Finalize p) × (Contains before (Accepts (Notarize p)) → ⊥)
+  abbrev pub FinalizesUnnotarized : List (TraceEvent D) → Proposal D → Type 0
+  FinalizesUnnotarized trace p =
+      (before : List (TraceEvent D)) × SignsAfter trace before (Finalize p) × (Contains before (Accepts (Notarize p)) → ⊥)
 
   -- it voted for a proposal that skips a view, and had accepted no nullification that covers it
-  abbrev pub SkipsUncovered : ℕ → List (Deed D) → Proposal D → ℕ → Type 0
-  SkipsUncovered term_length deeds p skipped =
-      (before : List (Deed D))
-      × SignsAfter deeds before (Notarize p)
+  abbrev pub SkipsUncovered : ℕ → List (TraceEvent D) → Proposal D → ℕ → Type 0
+  SkipsUncovered term_length trace p skipped =
+      (before : List (TraceEvent D))
+      × SignsAfter trace before (Notarize p)
       × (p.parent < skipped)
       × (skipped < p.round.view)
       × (HasCover term_length before skipped → ⊥)
 
   -- it voted to nullify a view after it had voted to finalize one that this covers
-  abbrev pub NullifiesFinalized : ℕ → List (Deed D) → Round → Proposal D → Type 0
-  NullifiesFinalized term_length deeds round p =
-      (before : List (Deed D))
-      × SignsAfter deeds before (Nullify round)
+  abbrev pub NullifiesFinalized : ℕ → List (TraceEvent D) → Round → Proposal D → Type 0
+  NullifiesFinalized term_length trace round p =
+      (before : List (TraceEvent D))
+      × SignsAfter trace before (Nullify round)
       × HasSigned before (Finalize p)
       × (covers term_length round.view p.round.view ≡ true)
 
   -- it voted to finalize a view after it had voted to nullify an earlier one of the term, and had accepted no finalization of
   -- a view between
-  abbrev pub FinalizesPastNullify : ℕ → List (Deed D) → Round → Proposal D → Type 0
-  FinalizesPastNullify term_length deeds round p =
-      (before : List (Deed D))
-      × SignsAfter deeds before (Finalize p)
+  abbrev pub FinalizesPastNullify : ℕ → List (TraceEvent D) → Round → Proposal D → Type 0
+  FinalizesPastNullify term_length trace round p =
+      (before : List (TraceEvent D))
+      × SignsAfter trace before (Finalize p)
       × HasSigned before (Nullify round)
       × (round.view < p.round.view)
       × (covers term_length round.view p.round.view ≡ true)
@@ -86,30 +86,30 @@ module _ {D : Type 0} where
 
   -- which rule is broken by a vote for a proposal and one to finalize another, and by a vote to nullify and one to finalize
 
-  abbrev pub BreaksByFinal : ℕ → List (Deed D) → Proposal D → Proposal D → Type 0
-  BreaksByFinal term_length deeds p final = FinalizesUnnotarized deeds final ⊎ SkipsUncovered term_length deeds p final.round.view
+  abbrev pub BreaksByFinal : ℕ → List (TraceEvent D) → Proposal D → Proposal D → Type 0
+  BreaksByFinal term_length trace p final = FinalizesUnnotarized trace final ⊎ SkipsUncovered term_length trace p final.round.view
 
-  abbrev pub BreaksByNullify : ℕ → List (Deed D) → Round → Proposal D → Type 0
-  BreaksByNullify term_length deeds round final =
+  abbrev pub BreaksByNullify : ℕ → List (TraceEvent D) → Round → Proposal D → Type 0
+  BreaksByNullify term_length trace round final =
       (round.view ≡ final.round.view)
-      ⊎ NullifiesFinalized term_length deeds round final
-      ⊎ FinalizesPastNullify term_length deeds round final
+      ⊎ NullifiesFinalized term_length trace round final
+      ⊎ FinalizesPastNullify term_length trace round final
 
   -- a member that signed the votes of both of two certificates that contradict broke a rule by these: as evidence shows, or
   -- by what it had done and accepted before one of them
-  abbrev pub BreaksBy : ℕ → List (Deed D) → Subject D → Subject D → Type 0
-  BreaksBy term_length deeds (Notarize p) (Finalize final) = BreaksByFinal term_length deeds p final
-  BreaksBy term_length deeds (Finalize final) (Notarize p) = BreaksByFinal term_length deeds p final
-  BreaksBy term_length deeds (Nullify round) (Finalize final) = BreaksByNullify term_length deeds round final
-  BreaksBy term_length deeds (Finalize final) (Nullify round) = BreaksByNullify term_length deeds round final
-  BreaksBy term_length deeds a b = IsEvidence a b
+  abbrev pub BreaksBy : ℕ → List (TraceEvent D) → Subject D → Subject D → Type 0
+  BreaksBy term_length trace (Notarize p) (Finalize final) = BreaksByFinal term_length trace p final
+  BreaksBy term_length trace (Finalize final) (Notarize p) = BreaksByFinal term_length trace p final
+  BreaksBy term_length trace (Nullify round) (Finalize final) = BreaksByNullify term_length trace round final
+  BreaksBy term_length trace (Finalize final) (Nullify round) = BreaksByNullify term_length trace round final
+  BreaksBy term_length trace a b = IsEvidence a b
 
 -- before it signed one of the two votes it accepted a third certificate, which contradicts one of the two and is nearer to it
 -- than they are to each other
-pub record HasAcceptedNearer {D : Type 0} (term_length : ℕ) (a b : Subject D) (deeds : List (Deed D)) : Type 0 where
+pub record HasAcceptedNearer {D : Type 0} (term_length : ℕ) (a b : Subject D) (trace : List (TraceEvent D)) : Type 0 where
   pub third : Subject D
-  pub before : List (Deed D)
-  pub signs : SignsAfter deeds before a ⊎ SignsAfter deeds before b
+  pub before : List (TraceEvent D)
+  pub signs : SignsAfter trace before a ⊎ SignsAfter trace before b
   pub accepted : Contains before (Accepts third)
   pub nearer : (Contradicts term_length third a × (distance third a < distance a b))
       ⊎ (Contradicts term_length third b × (distance third b < distance a b))
@@ -117,50 +117,50 @@ pub record HasAcceptedNearer {D : Type 0} (term_length : ℕ) (a b : Subject D) 
 module _ {D : Type 0} where
   -- of a member nothing is known, as of a faulty one; or all that it did
 
-  -- this vote may be of the member at place `i`: nothing is known of it, or the vote is among its deeds
-  abbrev pub MayHaveVoted : Subject D → ℕ → Option (List (Deed D)) → Type 0
+  -- this vote may be of replica `i`: nothing is known of it, or the vote is in its trace
+  abbrev pub MayHaveVoted : Subject D → ℕ → Option (List (TraceEvent D)) → Type 0
   MayHaveVoted vote i None = ⊤
-  MayHaveVoted vote i (Some deeds) = Contains deeds (Signs i vote)
+  MayHaveVoted vote i (Some trace) = Contains trace (Signs i vote)
 
   -- n - f members may have given the vote that it certifies
-  abbrev pub MayBeCertified : List (Option (List (Deed D))) → Subject D → Type 0
+  abbrev pub MayBeCertified : List (Option (List (TraceEvent D))) → Subject D → Type 0
   MayBeCertified members vote = AtLeastFrom 0 (quorum (length members)) (MayHaveVoted vote) members
 
   -- so it is of each certificate that a member accepted of which something is known
-  abbrev pub AcceptCertified : List (Option (List (Deed D))) → Type 0
+  abbrev pub AcceptCertified : List (Option (List (TraceEvent D))) → Type 0
   AcceptCertified members =
-      (i : ℕ) (deeds : List (Deed D)) (certificate : Subject D)
-      → slice_get members i ≡ Some (Some deeds)
-      → Contains deeds (Accepts certificate)
+      (i : ℕ) (trace : List (TraceEvent D)) (certificate : Subject D)
+      → slice_get members i ≡ Some (Some trace)
+      → Contains trace (Accepts certificate)
       → MayBeCertified members certificate
 
-  -- the member at place `i` answers for both: nothing is known of it; or it signed both votes, and broke a rule by these or
+  -- replica `i` answers for both: nothing is known of it; or it signed both votes, and broke a rule by these or
   -- was misled by a third certificate
-  abbrev pub AnswersFor : ℕ → Subject D → Subject D → ℕ → Option (List (Deed D)) → Type 0
+  abbrev pub AnswersFor : ℕ → Subject D → Subject D → ℕ → Option (List (TraceEvent D)) → Type 0
   AnswersFor term_length a b i None = ⊤
-  AnswersFor term_length a b i (Some deeds) =
-      Contains deeds (Signs i a)
-      × Contains deeds (Signs i b)
-      × (BreaksBy term_length deeds a b ⊎ HasAcceptedNearer term_length a b deeds)
+  AnswersFor term_length a b i (Some trace) =
+      Contains trace (Signs i a)
+      × Contains trace (Signs i b)
+      × (BreaksBy term_length trace a b ⊎ HasAcceptedNearer term_length a b trace)
 
-  -- the member at place `i` signed both votes, and broke a rule by these
-  abbrev pub IsGuilty : ℕ → Subject D → Subject D → ℕ → Option (List (Deed D)) → Type 0
+  -- replica `i` signed both votes, and broke a rule by these
+  abbrev pub IsGuilty : ℕ → Subject D → Subject D → ℕ → Option (List (TraceEvent D)) → Type 0
   IsGuilty term_length a b i None = ⊥
-  IsGuilty term_length a b i (Some deeds) =
-      Contains deeds (Signs i a) × Contains deeds (Signs i b) × BreaksBy term_length deeds a b
+  IsGuilty term_length a b i (Some trace) =
+      Contains trace (Signs i a) × Contains trace (Signs i b) × BreaksBy term_length trace a b
 
   -- it did, or nothing is known of it
-  abbrev pub IsSuspect : ℕ → Subject D → Subject D → ℕ → Option (List (Deed D)) → Type 0
+  abbrev pub IsSuspect : ℕ → Subject D → Subject D → ℕ → Option (List (TraceEvent D)) → Type 0
   IsSuspect term_length a b i None = ⊤
-  IsSuspect term_length a b i (Some deeds) = IsGuilty term_length a b i (Some deeds)
+  IsSuspect term_length a b i (Some trace) = IsGuilty term_length a b i (Some trace)
 
   -- of so many nothing is known
-  abbrev pub unknowns : List (Option (List (Deed D))) → ℕ
+  abbrev pub unknowns : List (Option (List (TraceEvent D))) → ℕ
   unknowns members = count_by (λ member. not (is_some member)) members
 
 -- two certificates that contradict, no farther apart than two others, at which n - 2f members are unknown or broke a rule: of
--- those whose deeds are known so many fewer as nothing is known of
-pub record IsTraced {D : Type 0} (term_length : ℕ) (members : List (Option (List (Deed D)))) (a b : Subject D) : Type 0 where
+-- those whose trace is known so many fewer as nothing is known of
+pub record IsTraced {D : Type 0} (term_length : ℕ) (members : List (Option (List (TraceEvent D)))) (a b : Subject D) : Type 0 where
   pub first : Subject D
   pub second : Subject D
   pub contradict : Contradicts term_length first second
@@ -173,15 +173,15 @@ pub record IsTraced {D : Type 0} (term_length : ℕ) (members : List (Option (Li
 -- the third certificate is none of the two
 abbrev pub ThirdIsAnother : (D : Type 0) → Type 0
 ThirdIsAnother D =
-    (term_length : ℕ) (deeds : List (Deed D)) (a b : Subject D)
-    → (nearer : HasAcceptedNearer term_length a b deeds)
+    (term_length : ℕ) (trace : List (TraceEvent D)) (a b : Subject D)
+    → (nearer : HasAcceptedNearer term_length a b trace)
     → (nearer.third ≢ a) × (nearer.third ≢ b)
 
 -- who signed both votes of such evidence has broken a rule
 abbrev pub EvidenceHolds : (D : Type 0) → Type 0
 EvidenceHolds D =
-    (term_length : ℕ) (deeds : List (Deed D)) (a b : Subject D)
-    → IsEvidence a b → HasSigned deeds a → HasSigned deeds b → IsLawful term_length deeds → ⊥
+    (term_length : ℕ) (trace : List (TraceEvent D)) (a b : Subject D)
+    → IsEvidence a b → HasSigned trace a → HasSigned trace b → IsLawful term_length trace → ⊥
 
 -- certificates that contradict at no distance are evidence
 abbrev pub NearestIsEvidence : (D : Type 0) → Type 0
@@ -190,47 +190,47 @@ NearestIsEvidence D = (term_length : ℕ) (a b : Subject D) → Contradicts term
 -- what is called a broken rule is one
 abbrev pub BrokenRulesAreRules : (D : Type 0) → Type 0
 BrokenRulesAreRules D =
-    (term_length : ℕ) (deeds : List (Deed D)) (a b : Subject D)
-    → BreaksBy term_length deeds a b → HasSigned deeds a → HasSigned deeds b → IsLawful term_length deeds → ⊥
+    (term_length : ℕ) (trace : List (TraceEvent D)) (a b : Subject D)
+    → BreaksBy term_length trace a b → HasSigned trace a → HasSigned trace b → IsLawful term_length trace → ⊥
 
 -- n - 2f members answer for two certificates that contradict
 abbrev pub ContradictionsAreAnsweredFor : (D : Type 0) → Type 0
 ContradictionsAreAnsweredFor D =
-    (term_length : ℕ) (members : List (Option (List (Deed D)))) (a b : Subject D)
+    (term_length : ℕ) (members : List (Option (List (TraceEvent D)))) (a b : Subject D)
     → Contradicts term_length a b → MayBeCertified members a → MayBeCertified members b
     → AtLeastFrom 0 (length members - 2 * max_faults (length members)) (AnswersFor term_length a b) members
 
 -- and where each certificate that is known to be accepted may be there, broken rules are found
 abbrev pub ContradictionsAreTraced : (D : Type 0) → Type 0
 ContradictionsAreTraced D =
-    (term_length : ℕ) (members : List (Option (List (Deed D)))) (a b : Subject D)
+    (term_length : ℕ) (members : List (Option (List (TraceEvent D)))) (a b : Subject D)
     → AcceptCertified members → Contradicts term_length a b → MayBeCertified members a → MayBeCertified members b
     → IsTraced term_length members a b
 
 module _ {K L D : Type 0} where
-  -- what is known of a place: all that its member did, or of a faulty one nothing
-  abbrev pub known_of : Place K L D → Option (List (Deed D))
+  -- what is known of a replica: all that it did, or of a faulty one nothing
+  abbrev pub known_of : Replica K L D → Option (List (TraceEvent D))
   known_of Faulty = None
-  known_of (Honest s) = Some (deeds_of s)
+  known_of (Honest s) = Some (trace_of s)
 
 module _ {K L D : Type 0} (same : D → D → Bool) (elect : Elect L) where
-  -- however many are faulty: each other place runs as it says, and each certificate that one of these accepted is backed
-  pub record IsBackedNetwork (term_length : ℕ) (network : List (Place K L D)) : Type 0 where
-    pub honest : (i : ℕ) (s : Story K L D) → slice_get network i ≡ Some (Honest s) → Ran same elect term_length i s
-    pub backed : (i : ℕ) (s : Story K L D) (certificate : Subject D) → slice_get network i ≡ Some (Honest s)
-        → Contains (deeds_of s) (Accepts certificate) → Backed network certificate
+  -- however many are faulty: each other replica runs as it says, and each certificate that one of these accepted is backed
+  pub record IsBackedNetwork (term_length : ℕ) (network : List (Replica K L D)) : Type 0 where
+    pub honest : (i : ℕ) (s : Execution K L D) → slice_get network i ≡ Some (Honest s) → IsExecution same elect term_length i s
+    pub backed : (i : ℕ) (s : Execution K L D) (certificate : Subject D) → slice_get network i ≡ Some (Honest s)
+        → Contains (trace_of s) (Accepts certificate) → Backed network certificate
 
 module _ (K : Type 0) {L D : Type 0} (same : D → D → Bool) (elect : Elect L) where
-  -- where two backed certificates contradict, n - 2f places are faulty
+  -- where two backed certificates contradict, n - 2f replicas are faulty
   abbrev pub ContradictionsNeedFaults : Type 0
   ContradictionsNeedFaults =
-      (term_length : ℕ) (network : List (Place K L D)) (a b : Subject D)
+      (term_length : ℕ) (network : List (Replica K L D)) (a b : Subject D)
       → IsBackedNetwork same elect term_length network → Contradicts term_length a b → Backed network a → Backed network b
       → length network - 2 * max_faults (length network) ≤ faults network
 
-  -- and two are found that contradict, no farther apart, whose votes n - 2f places gave that are faulty or broke a rule by these
+  -- and two are found that contradict, no farther apart, whose votes n - 2f replicas gave that are faulty or broke a rule by these
   abbrev pub ContradictionsAreTracedInNetworks : Type 0
   ContradictionsAreTracedInNetworks =
-      (term_length : ℕ) (network : List (Place K L D)) (a b : Subject D)
+      (term_length : ℕ) (network : List (Replica K L D)) (a b : Subject D)
       → IsBackedNetwork same elect term_length network → Contradicts term_length a b → Backed network a → Backed network b
       → IsTraced term_length (map known_of network) a b

@@ -4,9 +4,9 @@ use Rattle.simplex_types.specs.Terms.{covers}
 use Rattle.simplex_types.specs.declared.types.messages.Proposal.{Proposal}
 use Rattle.simplex_types.specs.declared.types.messages.Subject.TheVariants as subject
 use Rattle.simplex_types.specs.declared.types.numbers.Round.{Round}
-use Rattle.simplex_laws.specs.Places.{Place, Backed}
+use Rattle.simplex_laws.specs.Replicas.{Replica, Backed}
 
-module _ {K L D : Type 0} (network : List (Place K L D)) where
+module _ {K L D : Type 0} (network : List (Replica K L D)) where
   -- a certificate of the proposal may exist
   abbrev pub Certified : Proposal D → Type 0
   Certified p = Backed network (subject.Notarize p) ⊎ Backed network (subject.Finalize p)

@@ -7,9 +7,9 @@ use Rattle.simplex_voter.specs.declared.voter.propose.ProposalRequest.TheVariant
 use Rattle.simplex_record.specs.Start.{StartFacts}
 use Rattle.simplex_member.specs.Calls.{TryPropose, Proposed, ConstructNotarize, Told, Requested, Answered}
 use Rattle.simplex_member.specs.Runs.{StepFacts, Calls}
-use Rattle.simplex_laws.specs.Places.{Place, Faulty, Honest}
-use Rattle.simplex_laws.specs.Stories.{Story}
-use Rattle.simplex_laws.specs.Turns.{proposal, certificate, notarize_vote, one, two, begin_at, story_from, context_of, hears, verifies, certifies, votes_for, finalizes}
+use Rattle.simplex_laws.specs.Replicas.{Replica, Faulty, Honest}
+use Rattle.simplex_laws.specs.Executions.{Execution}
+use Rattle.simplex_laws.specs.ScenarioSteps.{proposal, certificate, notarize_vote, one, two, begin_at, execution_from, context_of, hears, verifies, certifies, votes_for, finalizes}
 
 -- a start at genesis, with one view ahead that is voted for
 abbrev pub ahead_start : ℕ → StartFacts ℕ ℕ ℕ
@@ -39,18 +39,18 @@ abbrev pub ends_term : ℕ → List (StepFacts ℕ ℕ ℕ × Told ℕ ℕ)
 ends_term me = certifies two ++ votes_for me two ∷ []
 
 -- the next leader
-abbrev pub early : Story ℕ ℕ ℕ
-early = story_from (ahead_start 0) (votes_ahead 0 ++ takes_over_early ++ ends_term 0 ++ certifies three ++ finalizes 0 three)
+abbrev pub early : Execution ℕ ℕ ℕ
+early = execution_from (ahead_start 0) (votes_ahead 0 ++ takes_over_early ++ ends_term 0 ++ certifies three ++ finalizes 0 three)
 
 -- another member verifies the early proposal once view 2 is certified
-abbrev pub following_early : Story ℕ ℕ ℕ
-following_early = story_from (ahead_start 1) (votes_ahead 1 ++ ends_term 1 ++ hears three true ∷ verifies 1 0 three ++ certifies three ++ finalizes 1 three)
+abbrev pub following_early : Execution ℕ ℕ ℕ
+following_early = execution_from (ahead_start 1) (votes_ahead 1 ++ ends_term 1 ++ hears three true ∷ verifies 1 0 three ++ certifies three ++ finalizes 1 three)
 
 -- a third one starts late, at the finalization of view 2
-abbrev pub joining : Story ℕ ℕ ℕ
-joining = story_from (record (ahead_start 2) { floor = Finalized (certificate two) }) (
+abbrev pub joining : Execution ℕ ℕ ℕ
+joining = execution_from (record (ahead_start 2) { floor = Finalized (certificate two) }) (
     hears three true ∷ verifies 2 0 three ++ certifies three ++ finalizes 2 three)
 
 -- four members, of which the first leader is faulty
-abbrev pub voted_ahead : List (Place ℕ ℕ ℕ)
+abbrev pub voted_ahead : List (Replica ℕ ℕ ℕ)
 voted_ahead = Honest early ∷ Honest following_early ∷ Honest joining ∷ Faulty ∷ []

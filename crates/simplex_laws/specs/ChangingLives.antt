@@ -9,10 +9,10 @@ use Rattle.simplex_record.specs.declared.record.error.RecoverError.TheVariants a
 use Rattle.simplex_record.specs.Start.{StartFacts}
 use Rattle.simplex_member.specs.Calls.{AddNotarization, AddNullification, AddFinalization, TryVerify, Verified, ConstructNotarize, Certified, ConstructNullify, Told, Standing, Answered, Judged, Notarize, Nullify, Refused, NotAllowed, NotRestarted}
 use Rattle.simplex_member.specs.Runs.{StepFacts, Calls, Restarts}
-use Rattle.simplex_laws.specs.Places.{Place, Faulty, Honest}
+use Rattle.simplex_laws.specs.Replicas.{Replica, Faulty, Honest}
 use Rattle.simplex_laws.specs.Scripts.{start_at, restarts, votes_through, patient}
-use Rattle.simplex_laws.specs.Stories.{Story}
-use Rattle.simplex_laws.specs.Turns.{settings, set_up_as, context_of, proposal, certificate, nullification, one, two, story_from, hears, verifies, accepts_notarization, accepts, votes_for, may_not_finalize, accepts_finalization, votes_against, skips}
+use Rattle.simplex_laws.specs.Executions.{Execution}
+use Rattle.simplex_laws.specs.ScenarioSteps.{settings, set_up_as, context_of, proposal, certificate, nullification, one, two, execution_from, hears, verifies, accepts_notarization, accepts, votes_for, may_not_finalize, accepts_finalization, votes_against, skips}
 
 -- a restart that is refused by this error
 abbrev pub not_restarted : StartFacts ℕ ℕ ℕ → RecoverError → StepFacts ℕ ℕ ℕ × Told ℕ ℕ
@@ -41,8 +41,8 @@ refuses_certificates =
 
 -- a member refuses certificates, and a restart that asks for more views of its pruned record, by which it stays as it was; a
 -- restart at a floor of another epoch ends its life, and it refuses all until it restarts
-abbrev pub refusing : Story ℕ ℕ ℕ
-refusing = story_from (start_at 5 (Genesis 0) 1) (
+abbrev pub refusing : Execution ℕ ℕ ℕ
+refusing = execution_from (start_at 5 (Genesis 0) 1) (
     accepts one
     ++ votes_for 1 one
     ∷ accepts_finalization one
@@ -86,8 +86,8 @@ signs_nothing =
 
 -- a member without a key restarts with one, with other settings and at another floor; it certifies view 2 false, and gives it
 -- up. Its record has votes then, so that it does not restart without a key, but as it was set up first, with the key
-abbrev pub changing : Story ℕ ℕ ℕ
-changing = story_from keyless_start (
+abbrev pub changing : Execution ℕ ℕ ℕ
+changing = execution_from keyless_start (
     signs_nothing
     ++ restarts 0 false other_start
     ∷ votes_against 1 2
@@ -102,13 +102,13 @@ changing = story_from keyless_start (
     ∷ [])
 
 -- four members, of which the first leader is faulty, and two others vote through views 1 and 2
-abbrev pub with_refusing : List (Place ℕ ℕ ℕ)
+abbrev pub with_refusing : List (Replica ℕ ℕ ℕ)
 with_refusing = Honest (patient 0) ∷ Honest refusing ∷ Honest (patient 2) ∷ Faulty ∷ []
 
 -- a member votes for views 1 and 2, and gives the second one up
-abbrev pub giving_up : Story ℕ ℕ ℕ
-giving_up = story_from (start_at 5 (Genesis 0) 0) (votes_through 0 one ++ hears two true ∷ verifies 0 3 two ++ votes_against 0 2 ∷ [])
+abbrev pub giving_up : Execution ℕ ℕ ℕ
+giving_up = execution_from (start_at 5 (Genesis 0) 0) (votes_through 0 one ++ hears two true ∷ verifies 0 3 two ++ votes_against 0 2 ∷ [])
 
 -- four members, of which the first leader is faulty; one gives view 2 up, and another one votes through both views
-abbrev pub with_changing : List (Place ℕ ℕ ℕ)
+abbrev pub with_changing : List (Replica ℕ ℕ ℕ)
 with_changing = Honest giving_up ∷ Honest changing ∷ Honest (patient 2) ∷ Faulty ∷ []

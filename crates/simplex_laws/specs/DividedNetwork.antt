@@ -7,9 +7,9 @@ use Rattle.simplex_voter.specs.declared.voter.verify.Verify.TheVariants.{Ready}
 use Rattle.simplex_member.specs.Calls.{TryVerify, Verified, ConstructNotarize, Told, Notarize, Standing, Answered, Restarted}
 use Rattle.simplex_member.specs.Runs.{StepFacts, Calls, Restarts}
 use Rattle.simplex_laws.specs.Continuations.{and_then}
-use Rattle.simplex_laws.specs.Places.{Place, Faulty, Honest}
-use Rattle.simplex_laws.specs.Turns.{round, proposal, one, begin_at, begins_with, context_of, builds, hears, verifies, certifies, finalizes, gives_up, skips}
-use Rattle.simplex_laws.specs.Stories.{Story}
+use Rattle.simplex_laws.specs.Replicas.{Replica, Faulty, Honest}
+use Rattle.simplex_laws.specs.ScenarioSteps.{round, proposal, one, begin_at, begins_with, context_of, builds, hears, verifies, certifies, finalizes, gives_up, skips}
+use Rattle.simplex_laws.specs.Executions.{Execution}
 
 -- the leader's other proposal of view 1
 abbrev pub rival : Proposal ℕ
@@ -20,11 +20,11 @@ abbrev pub restarts_pruned : ℕ → StepFacts ℕ ℕ ℕ × Told ℕ ℕ
 restarts_pruned me = (Restarts (record { drop = 3; prune = true; start = begin_at 1 me }), Restarted)
 
 -- a member votes for the proposal that it hears of first, and restarts_pruned after the other one
-abbrev pub deceived : ℕ → Proposal ℕ → Proposal ℕ → Story ℕ ℕ ℕ
+abbrev pub deceived : ℕ → Proposal ℕ → Proposal ℕ → Execution ℕ ℕ ℕ
 deceived me p other = begins_with 1 me (hears p true ∷ verifies me 3 p ++ hears other false ∷ restarts_pruned me ∷ [])
 
 -- another hears of both, so it votes for none, and restarts_pruned
-abbrev pub warned : ℕ → Story ℕ ℕ ℕ
+abbrev pub warned : ℕ → Execution ℕ ℕ ℕ
 warned me = begins_with 1 me (
     hears one true
     ∷ hears rival false
@@ -35,7 +35,7 @@ warned me = begins_with 1 me (
     ∷ [])
 
 -- four members, of which the leader is faulty: each of its proposals has one vote of an honest member
-abbrev pub divided : List (Place ℕ ℕ ℕ)
+abbrev pub divided : List (Replica ℕ ℕ ℕ)
 divided = Honest (deceived 0 one rival) ∷ Honest (deceived 1 rival one) ∷ Honest (warned 2) ∷ Faulty ∷ []
 
 -- view 1 times out and is nullified; member 0 leads the next one, and builds on genesis
@@ -57,7 +57,7 @@ follows_past_conflict me at why =
     ++ finalizes me after_conflict
 
 -- all three finalize view 2
-abbrev pub united : List (Place ℕ ℕ ℕ)
+abbrev pub united : List (Replica ℕ ℕ ℕ)
 united =
     Honest (and_then (deceived 0 one rival) (leads_past_conflict 0 2000 CertificationTimeout))
     ∷ Honest (and_then (deceived 1 rival one) (follows_past_conflict 1 2000 CertificationTimeout))

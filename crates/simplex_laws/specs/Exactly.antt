@@ -10,8 +10,8 @@ use Rattle.simplex_member.specs.Lives.{MemberFacts}
 use Rattle.simplex_member.specs.Runs.{StepFacts, Calls, IsStep}
 use Rattle.simplex_record.specs.Start.{new_state}
 use Rattle.simplex_member.specs.Start.{started_member}
-use Rattle.simplex_laws.specs.Deeds.{Deed, Signs, signed_in}
-use Rattle.simplex_laws.specs.Stories.{Story}
+use Rattle.simplex_laws.specs.Traces.{TraceEvent, Signs, signed_in}
+use Rattle.simplex_laws.specs.Executions.{Execution}
 
 -- a call is refused for a fault
 abbrev pub is_refused : {K D : Type 0} → Told K D → Bool
@@ -20,15 +20,15 @@ is_refused _ = false
 
 module _ {D : Type 0} where
   -- the vote on this, by the member that the scheme signs as
-  abbrev pub IsSignedFor : Option ℕ → Option (Subject D) → Deed D → Type 0
+  abbrev pub IsSignedFor : Option ℕ → Option (Subject D) → TraceEvent D → Type 0
   IsSignedFor me about d = (i : ℕ) × (vote : Subject D) × (me ≡ Some i) × (about ≡ Some vote) × (d ≡ Signs i vote)
 
 module _ {K D : Type 0} where
   -- a vote is told only where its rule holds, and so signed; and where the rule holds and there is a key it is told, unless
   -- the call is refused
   pub record IsExact (Rule : Type 0) (me : Option ℕ) (about : Option (Subject D)) (told : Told K D) : Type 0 where
-    pub only : (d : Deed D) → Contains (signed_in told) d → Rule × IsSignedFor me about d
-    pub due : (d : Deed D) → is_refused told ≡ false → Rule → IsSignedFor me about d → signed_in told ≡ d ∷ []
+    pub only : (d : TraceEvent D) → Contains (signed_in told) d → Rule × IsSignedFor me about d
+    pub due : (d : TraceEvent D) → is_refused told ≡ false → Rule → IsSignedFor me about d → signed_in told ≡ d ∷ []
 
 -- the proposal that is held of a view
 abbrev pub proposal_at : {K L D : Type 0} → StateFacts K L D → ℕ → Option (Proposal D)
@@ -52,5 +52,5 @@ module _ {K L D : Type 0} (same : D → D → Bool) (elect : Elect L) where
       ExactAt m.life step told × ((next : MemberFacts K L D) × IsStep same elect m step told next × RunsExactly next steps replies)
 
   -- so it is from the start on
-  abbrev pub SignsExactly : Story K L D → Type 0
+  abbrev pub SignsExactly : Execution K L D → Type 0
   SignsExactly s = RunsExactly (started_member same elect (new_state s.start.setup) s.start.floor s.start.now) s.steps s.replies

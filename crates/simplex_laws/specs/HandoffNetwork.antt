@@ -8,9 +8,9 @@ use Rattle.simplex_voter.specs.declared.voter.verify.Verify.TheVariants.{Resolve
 use Rattle.simplex_member.specs.Calls.{TryPropose, Proposed, ConstructNotarize, TryVerify, Told, Requested, Answered, Standing}
 use Rattle.simplex_member.specs.Runs.{StepFacts, Calls}
 use Rattle.simplex_laws.specs.Continuations.{and_then}
-use Rattle.simplex_laws.specs.Places.{Place, Faulty, Honest}
-use Rattle.simplex_laws.specs.Turns.{proposal, notarize_vote, two, begins_with, first_view, context_of, builds, hears, verifies, certifies, finalizes, gives_up, skips}
-use Rattle.simplex_laws.specs.Stories.{Story}
+use Rattle.simplex_laws.specs.Replicas.{Replica, Faulty, Honest}
+use Rattle.simplex_laws.specs.ScenarioSteps.{proposal, notarize_vote, two, begins_with, first_view, context_of, builds, hears, verifies, certifies, finalizes, gives_up, skips}
+use Rattle.simplex_laws.specs.Executions.{Execution}
 
 -- view 3, which starts a term, is built on view 2 before that is certified
 abbrev pub handed_over : Proposal ℕ
@@ -18,7 +18,7 @@ handed_over = proposal 3 2
 
 -- member 0 alone hears of the proposal of view 2, votes for it and for its own one on it, and has no vote left in view 3 when
 -- view 2 is nullified
-abbrev pub takes_over : Story ℕ ℕ ℕ
+abbrev pub takes_over : Execution ℕ ℕ ℕ
 takes_over = begins_with 2 0 (
     first_view 0
     ++ hears two true
@@ -31,7 +31,7 @@ takes_over = begins_with 2 0 (
     ∷ [])
 
 -- the others can't verify that one, since view 2 has no notarization
-abbrev pub can_not_verify : ℕ → Story ℕ ℕ ℕ
+abbrev pub can_not_verify : ℕ → Execution ℕ ℕ ℕ
 can_not_verify me = begins_with 2 me (
     first_view me
     ++ gives_up me 2 1000 LeaderTimeout
@@ -41,7 +41,7 @@ can_not_verify me = begins_with 2 me (
     ∷ [])
 
 -- four members, of which the first leader is faulty
-abbrev pub taken_over : List (Place ℕ ℕ ℕ)
+abbrev pub taken_over : List (Replica ℕ ℕ ℕ)
 taken_over = Honest takes_over ∷ Honest (can_not_verify 1) ∷ Honest (can_not_verify 2) ∷ Faulty ∷ []
 
 -- the rest of the term is nullified; member 1 leads the next term, and builds on view 1
@@ -61,7 +61,7 @@ abbrev pub follows_past_handoff : ℕ → List (StepFacts ℕ ℕ ℕ × Told �
 follows_past_handoff me = leaves_term me ++ hears after_handoff true ∷ verifies me 1 after_handoff ++ certifies after_handoff ++ finalizes me after_handoff
 
 -- all three finalize view 5
-abbrev pub gone_on : List (Place ℕ ℕ ℕ)
+abbrev pub gone_on : List (Replica ℕ ℕ ℕ)
 gone_on =
     Honest (and_then takes_over (follows_past_handoff 0))
     ∷ Honest (and_then (can_not_verify 1) (leads_past_handoff 1))

@@ -3,7 +3,7 @@ use Rattle.std.specs.Prelude.{◌≡◌, ℕ, Bool, ◌-◌, nat_lt, if◌then�
 use Rattle.simplex_types.specs.Certificates.{ArtifactFacts, Verdict, Accepted, Notarized, Nullified, Finalized}
 use Rattle.simplex_voter.specs.Facts.{StateFacts, Elect}
 use Rattle.simplex_member.specs.Calls.{CallFacts, Told, Refused, NotAllowed, NotRestarted}
-use Rattle.simplex_member.specs.Openings.{Openings}
+use Rattle.simplex_member.specs.OutstandingWork.{OutstandingWork}
 use Rattle.simplex_record.specs.Entries.{entry_view}
 use Rattle.simplex_laws.specs.Events.{Event, History, SetFloor, AddNotarization, AddNullification, AddFinalization, Certified, Replay, IsEvent, after_event, with_event, events_of}
 use Rattle.simplex_member.specs.Lives.{MemberFacts, IsCall}
@@ -13,7 +13,7 @@ use Rattle.simplex_member.specs.Runs.{StepFacts, Calls, Prunes, Restarts, IsStep
 use Rattle.simplex_laws.specs.Shows.{Shows}
 use Rattle.simplex_record.specs.Start.{Setup, StartFacts, new_state}
 use Rattle.simplex_member.specs.Start.{started_member}
-use Rattle.simplex_laws.specs.Sums.{finalized_by_events}
+use Rattle.simplex_laws.specs.HistoryFolds.{finalized_by_events}
 
 -- an entry is taken again: a certificate is added before it is replayed, and a verdict is given after that
 abbrev pub retaken_events : {K D : Type 0} → ℕ → ArtifactFacts D → List (Event K D)
@@ -29,7 +29,7 @@ module _ {K L D : Type 0} where
   with_events history new = record history { events = new ++ history.events }
 
   -- with the call, by what is open then, unless it is refused
-  abbrev pub with_call_events : History K L D → Openings K D → CallFacts D → Told K D → History K L D
+  abbrev pub with_call_events : History K L D → OutstandingWork K D → CallFacts D → Told K D → History K L D
   with_call_events history o call (Refused _) = history
   with_call_events history o call NotAllowed = history
   with_call_events history o call _ = with_events history (events_of o call)
@@ -65,7 +65,7 @@ module _ {K L D : Type 0} (same : D → D → Bool) (elect : Elect L) where
   LeadsTo m history (Calls call ∷ steps) (told ∷ rest) last end =
       (next : MemberFacts K L D)
       × IsStep same elect m (Calls call) told next
-      × LeadsTo next (with_call_events history m.openings call told) steps rest last end
+      × LeadsTo next (with_call_events history m.outstanding_work call told) steps rest last end
   LeadsTo m history (Prunes ∷ steps) (told ∷ rest) last end =
       (next : MemberFacts K L D) × IsStep same elect m Prunes told next × LeadsTo next history steps rest last end
   LeadsTo m history (Restarts r ∷ steps) (NotRestarted error ∷ rest) last end =
@@ -94,7 +94,7 @@ module _ (K : Type 0) {L D : Type 0} (same : D → D → Bool) (elect : Elect L)
       (history : History K L D) (m left : MemberFacts K L D) (call : CallFacts D) (told : Told K D)
       → IsShown same elect history m
       → IsCall same elect m call told left
-      → IsShown same elect (with_call_events history m.openings call told) left
+      → IsShown same elect (with_call_events history m.outstanding_work call told) left
 
   -- a recovery that is not refused is shown by the history that it begins
   abbrev pub RecoveriesAreShown : Type 0

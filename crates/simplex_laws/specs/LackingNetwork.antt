@@ -7,9 +7,9 @@ use Rattle.simplex_voter.specs.declared.voter.verify.Verify.TheVariants.{Resolve
 use Rattle.simplex_member.specs.Calls.{AddNotarization, CertifyCandidates, TryVerify, Told, Added, Candidates, Standing}
 use Rattle.simplex_member.specs.Runs.{StepFacts, Calls}
 use Rattle.simplex_laws.specs.Continuations.{and_then}
-use Rattle.simplex_laws.specs.Places.{Place, Faulty, Honest}
-use Rattle.simplex_laws.specs.Turns.{proposal, certificate, one, two, begins_with, first_view, builds, hears, verifies, certifies, finalizes, gives_up, skips}
-use Rattle.simplex_laws.specs.Stories.{Story}
+use Rattle.simplex_laws.specs.Replicas.{Replica, Faulty, Honest}
+use Rattle.simplex_laws.specs.ScenarioSteps.{proposal, certificate, one, two, begins_with, first_view, builds, hears, verifies, certifies, finalizes, gives_up, skips}
+use Rattle.simplex_laws.specs.Executions.{Execution}
 
 -- view 3 is built on view 1
 abbrev pub over_two : Proposal ℕ
@@ -23,7 +23,7 @@ second_view me =
     ∷ gives_up me 2 2000 CertificationTimeout
 
 -- member 0 leads view 2, and lacks the nullification of it when it is to verify the next proposal
-abbrev pub lacks_nullification : Story ℕ ℕ ℕ
+abbrev pub lacks_nullification : Execution ℕ ℕ ℕ
 lacks_nullification = begins_with 1 0 (
     first_view 0
     ++ builds 0 two
@@ -33,11 +33,11 @@ lacks_nullification = begins_with 1 0 (
     ∷ [])
 
 -- member 1 leads view 3, has the nullification of view 2, and builds on view 1
-abbrev pub skips_two : Story ℕ ℕ ℕ
+abbrev pub skips_two : Execution ℕ ℕ ℕ
 skips_two = begins_with 1 1 (first_view 1 ++ hears two true ∷ verifies 1 0 two ++ second_view 1 ++ skips 2 ∷ builds 1 over_two)
 
 -- member 2 heard of no certificate but that nullification, and lacks the notarization of view 1
-abbrev pub member_without_notarization : Story ℕ ℕ ℕ
+abbrev pub member_without_notarization : Execution ℕ ℕ ℕ
 member_without_notarization = begins_with 1 2 (
     hears one true
     ∷ verifies 2 3 one
@@ -47,7 +47,7 @@ member_without_notarization = begins_with 1 2 (
     ∷ [])
 
 -- four members, of which the first leader is faulty
-abbrev pub lacking : List (Place ℕ ℕ ℕ)
+abbrev pub lacking : List (Replica ℕ ℕ ℕ)
 lacking = Honest lacks_nullification ∷ Honest skips_two ∷ Honest member_without_notarization ∷ Faulty ∷ []
 
 -- a member certifies view 3 and finalizes it
@@ -63,7 +63,7 @@ abbrev pub has_notarization : List (StepFacts ℕ ℕ ℕ × Told ℕ ℕ)
 has_notarization = certifies one ++ verifies 2 1 over_two ++ finishes 2
 
 -- all three finalize view 3
-abbrev pub supplied : List (Place ℕ ℕ ℕ)
+abbrev pub supplied : List (Replica ℕ ℕ ℕ)
 supplied =
     Honest (and_then lacks_nullification has_nullification)
     ∷ Honest (and_then skips_two (finishes 1))

@@ -11,10 +11,10 @@ use Rattle.simplex_voter.specs.Facts.{StateFacts, Elect, round_of, round_number}
 use Rattle.simplex_voter.specs.Leaders.{opened_views, with_elected_leader}
 use Rattle.simplex_voter.specs.Payloads.{is_elected_early}
 use Rattle.simplex_voter.specs.Rules.{may_notarize, may_nullify, may_finalize}
-use Rattle.simplex_voter.specs.Windows.{in_window}
+use Rattle.simplex_voter.specs.Windows.{in_issuance_window}
 use Rattle.simplex_record.specs.Entries.{entry_view}
 use Rattle.simplex_laws.specs.Events.{Event, SetFloor, AddNotarization, AddNullification, AddFinalization, ConstructNotarize, ConstructNullify, ConstructFinalize, SetProposal, Replay}
-use Rattle.simplex_laws.specs.Sums.{has_view}
+use Rattle.simplex_laws.specs.HistoryFolds.{has_view}
 
 module _ {K L D : Type 0} where
   -- the member of the same index
@@ -60,14 +60,14 @@ module _ {K L D : Type 0} (elect : Elect L) where
   -- the leader that a proposal or an own vote of w gives the view: in its window the next view takes the leader of w
   abbrev pub leads_after : StateFacts K L D → Bool → ℕ → ℕ → Option (Leader K)
   leads_after x voted w v =
-      if in_window x (w + 1)
+      if in_issuance_window x (w + 1)
       then (if v == w + 1 then same_member x (round_of x w).leader else None)
       else (if takes_over x voted (w + 1) then elected_leader x v (w + 1) None else None)
 
   -- a proposal or an own vote of w has the next view tracked, where it gets a leader
   abbrev pub tracks_after : StateFacts K L D → Bool → ℕ → ℕ → Bool
   tracks_after x voted w v =
-      v == w + 1 && (if in_window x (w + 1) then is_some (round_of x w).leader else takes_over x voted (w + 1))
+      v == w + 1 && (if in_issuance_window x (w + 1) then is_some (round_of x w).leader else takes_over x voted (w + 1))
 
 module _ {K L D : Type 0} (same : D → D → Bool) (elect : Elect L) where
   -- the leader that an event gives a view that has none

@@ -1,11 +1,11 @@
-pub mod Deeds
+pub mod Traces
 pub mod Lawful
 pub mod Accountability
 pub mod TermLengths
 pub mod LifeLaws
 pub mod Outside
 pub mod Events
-pub mod Sums
+pub mod HistoryFolds
 pub mod OwnWork
 pub mod Shows
 pub mod Histories
@@ -13,9 +13,9 @@ pub mod Leading
 pub mod Requested
 pub mod ShownRounds
 pub mod Timing
-pub mod Stories
+pub mod Executions
 pub mod Exactly
-pub mod Places
+pub mod Replicas
 pub mod Agreement
 pub mod Living
 pub mod Resumes
@@ -23,7 +23,7 @@ pub mod Shown
 pub mod Scripts
 pub mod Progress
 pub mod Continuations
-pub mod Turns
+pub mod ScenarioSteps
 pub mod DividedNetwork
 pub mod LackingNetwork
 pub mod HandoffNetwork

@@ -15,14 +15,14 @@ use Rattle.simplex_record.specs.Recovery.{recover_error}
 use Rattle.simplex_member.specs.Runs.{StepFacts, steps_of, IsRun}
 use Rattle.simplex_record.specs.Start.{StartFacts, start_facts, new_state}
 use Rattle.simplex_member.specs.Start.{started_member}
-use Rattle.simplex_laws.specs.Deeds.{Deed}
+use Rattle.simplex_laws.specs.Traces.{TraceEvent}
 use Rattle.simplex_laws.specs.Shown.{floor_in, begun_by, IsSetUpAs}
-use Rattle.simplex_laws.specs.Stories.{Story, deeds_of, LivesAs, Ran}
+use Rattle.simplex_laws.specs.Executions.{Execution, trace_of, LivesAs, IsExecution}
 
--- what came to a member of the code and what it answered, as a story
-abbrev pub story_of : {S L D K G C : Type 0} → (S → Option ℕ) → (S → List K) → (L → Terms) → (L → Bool) → (C → List ℕ) → Start S L D K G C
-    → List (Step S L D K G C) → List (Reply S D K G C) → Story K L D
-story_of me members terms elects_early bytes_of start steps replies = record {
+-- what came to a member of the code and what it answered, as an execution
+abbrev pub execution_of : {S L D K G C : Type 0} → (S → Option ℕ) → (S → List K) → (L → Terms) → (L → Bool) → (C → List ℕ) → Start S L D K G C
+    → List (Step S L D K G C) → List (Reply S D K G C) → Execution K L D
+execution_of me members terms elects_early bytes_of start steps replies = record {
   start = start_facts me members terms elects_early bytes_of start;
   steps = steps_of me members terms elects_early bytes_of steps;
   replies = map (told bytes_of) replies;
@@ -30,38 +30,38 @@ story_of me members terms elects_early bytes_of start steps replies = record {
 
 module _ {K L D : Type 0} where
   -- nothing came yet
-  abbrev pub new_story : StartFacts K L D → Story K L D
-  new_story start = record { start = start; steps = []; replies = [] }
+  abbrev pub new_execution : StartFacts K L D → Execution K L D
+  new_execution start = record { start = start; steps = []; replies = [] }
 
   -- one step more
-  abbrev pub with_step : Story K L D → StepFacts K L D → Told K D → Story K L D
+  abbrev pub with_step : Execution K L D → StepFacts K L D → Told K D → Execution K L D
   with_step s step told = record s { steps = s.steps ++ step ∷ []; replies = s.replies ++ told ∷ [] }
 
 module _ {K L D : Type 0} (same : D → D → Bool) (elect : Elect L) where
-  -- this is the story of the member so far, as member `i` of a network
-  pub record HasStory (term_length i : ℕ) (s : Story K L D) (m : MemberFacts K L D) : Type 0 where
+  -- this is the execution of the member so far, as member `i` of a network
+  pub record HasExecution (term_length i : ℕ) (s : Execution K L D) (m : MemberFacts K L D) : Type 0 where
     pub lives : LivesAs term_length i s.start s.steps
     pub accepted : recover_error same (new_state s.start.setup) s.start.floor s.start.now [] ≡ None
     pub run : IsRun same elect (started_member same elect (new_state s.start.setup) s.start.floor s.start.now) s.steps s.replies m
 
   -- this is all that the member accepted and signed so far, as member `i` of a network
-  pub record HasDone (term_length i : ℕ) (all : List (Deed D)) (m : MemberFacts K L D) : Type 0 where
-    pub story : Story K L D
-    pub told : HasStory term_length i story m
-    pub same_deeds : deeds_of story ≡ all
+  pub record HasDone (term_length i : ℕ) (all : List (TraceEvent D)) (m : MemberFacts K L D) : Type 0 where
+    pub execution : Execution K L D
+    pub told : HasExecution term_length i execution m
+    pub same_trace : trace_of execution ≡ all
 
-  -- these deeds are done besides
-  abbrev pub DoesMore : MemberFacts K L D → List (Deed D) → MemberFacts K L D → Type 0
-  DoesMore m more next = (term_length i : ℕ) (all : List (Deed D)) → HasDone term_length i all m → HasDone term_length i (all ++ more) next
+  -- this trace is done besides
+  abbrev pub DoesMore : MemberFacts K L D → List (TraceEvent D) → MemberFacts K L D → Type 0
+  DoesMore m more next = (term_length i : ℕ) (all : List (TraceEvent D)) → HasDone term_length i all m → HasDone term_length i (all ++ more) next
 
   -- of whatever it has done so far, as whichever member
-  abbrev pub OfAllDone : MemberFacts K L D → (ℕ → ℕ → List (Deed D) → Type 0) → Type 0
-  OfAllDone m Holds = (term_length i : ℕ) (all : List (Deed D)) → HasDone term_length i all m → Holds term_length i all
+  abbrev pub OfAllDone : MemberFacts K L D → (ℕ → ℕ → List (TraceEvent D) → Type 0) → Type 0
+  OfAllDone m Holds = (term_length i : ℕ) (all : List (TraceEvent D)) → HasDone term_length i all m → Holds term_length i all
 
 module _ (K : Type 0) {L D : Type 0} (same : D → D → Bool) (elect : Elect L) where
-  -- a network may have a member `i` with these deeds
-  abbrev pub MayBeDoneBy : ℕ → ℕ → List (Deed D) → Type 0
-  MayBeDoneBy term_length i all = (s : Story K L D) × Ran same elect term_length i s × (deeds_of s ≡ all)
+  -- a network may have a member `i` with this trace
+  abbrev pub MayBeDoneBy : ℕ → ℕ → List (TraceEvent D) → Type 0
+  MayBeDoneBy term_length i all = (s : Execution K L D) × IsExecution same elect term_length i s × (trace_of s ≡ all)
 
 module _ {S L D K G C : Type 0} (same : D → D → Bool) (elect : Elect L) (me : S → Option ℕ) (terms : L → Terms) where
   -- a member that begins with this start has accepted the floor's finalization
@@ -71,7 +71,7 @@ module _ {S L D K G C : Type 0} (same : D → D → Bool) (elect : Elect L) (me 
   -- one that begins again with this start has, where it succeeds, accepted the floor's finalization besides
   abbrev pub HasBegunAgain : {E : Type 0} → MemberFacts K L D → Start S L D K G C → Result (Unit {0}) E → MemberFacts K L D → Type 0
   HasBegunAgain m start result next =
-      (term_length i : ℕ) (all : List (Deed D))
+      (term_length i : ℕ) (all : List (TraceEvent D))
       → IsSetUpAs me terms term_length i start
       → HasDone same elect term_length i all m
       → HasDone same elect term_length i (all ++ begun_by start result) next

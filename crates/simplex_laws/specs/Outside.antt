@@ -16,7 +16,7 @@ use Rattle.simplex_member.specs.Restarts.{RestartFacts, IsByView, cut_member, Is
 use Rattle.simplex_member.specs.Runs.{StepFacts, Calls, IsRun, EndsRunFrom}
 use Rattle.simplex_record.specs.Start.{StartFacts, new_state}
 use Rattle.simplex_member.specs.Start.{started_member}
-use Rattle.simplex_laws.specs.Deeds.{Deed, Accepts, of_floor, deeds_of_steps}
+use Rattle.simplex_laws.specs.Traces.{TraceEvent, Accepts, of_floor, trace_of_steps}
 use Rattle.simplex_laws.specs.Lawful.{HasSigned}
 use Rattle.simplex_laws.specs.TermLengths.{HasTerms, KeepTerms}
 
@@ -43,18 +43,18 @@ VerdictsFollowNotarizations {K} {L} {D} m =
     → (c : ProposalFacts D) × Contains before (Accepted (Notarized c)) × (c.proposal.round.view ≡ round.view)
 
 -- a notarization was accepted whose proposal names no earlier view as its parent
-abbrev pub AcceptedParentAbove : {D : Type 0} → List (Deed D) → Type 0
-AcceptedParentAbove {D} deeds = (p : Proposal D) × Contains deeds (Accepts (subject.Notarize p)) × (p.round.view ≤ p.parent)
+abbrev pub AcceptedParentAbove : {D : Type 0} → List (TraceEvent D) → Type 0
+AcceptedParentAbove {D} trace = (p : Proposal D) × Contains trace (Accepts (subject.Notarize p)) × (p.round.view ≤ p.parent)
 
 -- the proposal's payload was handed in as what this member built in its view
 abbrev pub HasBuiltIn : {K L D : Type 0} → List (StepFacts K L D) → Proposal D → Type 0
 HasBuiltIn steps p = (now : ℕ) × Contains steps (Calls (Proposed p.round.view p.payload now))
 
 -- the member voted in a view above each that a certificate may have: to nullify it, or to notarize what it built there
-abbrev pub VotedTooHigh : {K L D : Type 0} → List (StepFacts K L D) → List (Deed D) → Type 0
-VotedTooHigh {K} {L} {D} steps deeds =
-    ((round : Round) × HasSigned deeds (subject.Nullify round) × (2 ^ 63 ≤ round.view))
-    ⊎ ((p : Proposal D) × HasSigned deeds (subject.Notarize p) × (2 ^ 63 ≤ p.round.view) × HasBuiltIn steps p)
+abbrev pub VotedTooHigh : {K L D : Type 0} → List (StepFacts K L D) → List (TraceEvent D) → Type 0
+VotedTooHigh {K} {L} {D} steps trace =
+    ((round : Round) × HasSigned trace (subject.Nullify round) × (2 ^ 63 ≤ round.view))
+    ⊎ ((p : Proposal D) × HasSigned trace (subject.Notarize p) × (2 ^ 63 ≤ p.round.view) × HasBuiltIn steps p)
 
 -- a floor's finalization names such a view
 abbrev pub is_floor_too_large : {D : Type 0} → FloorFacts D → Bool
@@ -94,7 +94,7 @@ module _ (K : Type 0) {L D : Type 0} (same : D → D → Bool) (elect : Elect L)
       → (next : RestartFacts K L D) (copy : List (ArtifactFacts D))
       → IsByView (cut_member end next.drop next.prune).entries copy
       → recover_error same (new_state next.start.setup) next.start.floor next.start.now copy ≡ Some error.ParentNotBelow
-      → AcceptedParentAbove (of_floor start.floor ++ deeds_of_steps steps replies)
+      → AcceptedParentAbove (of_floor start.floor ++ trace_of_steps steps replies)
 
   -- of a run whose start is taken, it is refused for a view that is too large only where the next floor names one, or where the
   -- member voted in one
@@ -108,7 +108,7 @@ module _ (K : Type 0) {L D : Type 0} (same : D → D → Bool) (elect : Elect L)
       → (next : RestartFacts K L D) (copy : List (ArtifactFacts D))
       → IsByView (cut_member end next.drop next.prune).entries copy
       → recover_error same (new_state next.start.setup) next.start.floor next.start.now copy ≡ Some error.ViewTooLarge
-      → (is_floor_too_large next.start.floor ≡ true) ⊎ VotedTooHigh steps (of_floor start.floor ++ deeds_of_steps steps replies)
+      → (is_floor_too_large next.start.floor ≡ true) ⊎ VotedTooHigh steps (of_floor start.floor ++ trace_of_steps steps replies)
 
   -- so is a run, at its start or at one of its restarts
   abbrev pub RunsAreExcused : Type 0

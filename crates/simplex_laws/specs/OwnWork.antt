@@ -12,7 +12,7 @@ use Rattle.simplex_voter.specs.Facts.{StateFacts, Elect, round_of}
 use Rattle.simplex_voter.specs.Proposing.{proposal_of, proposed_answer}
 use Rattle.simplex_voter.specs.Rules.{may_notarize, may_nullify, may_finalize}
 use Rattle.simplex_laws.specs.Events.{Event, after_event, SetFloor, AddNotarization, AddFinalization, ConstructNotarize, ConstructNullify, ConstructFinalize, SetProposal, Proposed, BroadcastNotarization, BroadcastNullification, BroadcastFinalization, Replay}
-use Rattle.simplex_laws.specs.Sums.{at, or_new}
+use Rattle.simplex_laws.specs.HistoryFolds.{at, or_new}
 
 -- another proposal than the held one
 abbrev pub contradicts : {D : Type 0} → (D → D → Bool) → Option (Proposal D) → Option (Proposal D) → Bool

@@ -13,9 +13,9 @@ use Rattle.simplex_voter.specs.declared.voter.verify.Verify.TheVariants.{Ready}
 use Rattle.simplex_record.specs.Start.{StartFacts}
 use Rattle.simplex_member.specs.Calls.{AddNotarization, AddFinalization, SetProposal, TryPropose, Proposed, TryVerify, Verified, ConstructNotarize, Certified, ConstructFinalize, Told, Added, Judged, Finalize, Notarize, Standing, Answered, Requested}
 use Rattle.simplex_member.specs.Runs.{StepFacts, Calls}
-use Rattle.simplex_laws.specs.Places.{Place, Faulty, Honest}
-use Rattle.simplex_laws.specs.Stories.{Story}
-use Rattle.simplex_laws.specs.Turns.{settings, round}
+use Rattle.simplex_laws.specs.Replicas.{Replica, Faulty, Honest}
+use Rattle.simplex_laws.specs.Executions.{Execution}
+use Rattle.simplex_laws.specs.ScenarioSteps.{settings, round}
 
 -- a step of a member of plain parts, with its reply
 abbrev pub PlainStep : Type 0
@@ -71,19 +71,19 @@ plain_votes payload me =
     ∷ []
 
 -- a member's start, and its steps
-abbrev pub plain_story : PlainElector → PlainDigest → ℕ → List PlainStep → Story PlainKey PlainElector PlainDigest
-plain_story elector payload me steps = record { start = plain_start elector payload me; steps = map (λ e. e.0) steps; replies = map (λ e. e.1) steps }
+abbrev pub plain_execution : PlainElector → PlainDigest → ℕ → List PlainStep → Execution PlainKey PlainElector PlainDigest
+plain_execution elector payload me steps = record { start = plain_start elector payload me; steps = map (λ e. e.0) steps; replies = map (λ e. e.1) steps }
 
 -- the leader
-abbrev pub plain_leader : PlainElector → PlainDigest → Story PlainKey PlainElector PlainDigest
-plain_leader elector payload = plain_story elector payload 0 (plain_builds payload ++ plain_votes payload 0)
+abbrev pub plain_leader : PlainElector → PlainDigest → Execution PlainKey PlainElector PlainDigest
+plain_leader elector payload = plain_execution elector payload 0 (plain_builds payload ++ plain_votes payload 0)
 
 -- another member
-abbrev pub plain_follower : PlainElector → PlainDigest → ℕ → Story PlainKey PlainElector PlainDigest
-plain_follower elector payload me = plain_story elector payload me (plain_verifies payload ++ plain_votes payload me)
+abbrev pub plain_follower : PlainElector → PlainDigest → ℕ → Execution PlainKey PlainElector PlainDigest
+plain_follower elector payload me = plain_execution elector payload me (plain_verifies payload ++ plain_votes payload me)
 
 -- four members, of which the last one is faulty
-abbrev pub plain_four : PlainElector → PlainDigest → List (Place PlainKey PlainElector PlainDigest)
+abbrev pub plain_four : PlainElector → PlainDigest → List (Replica PlainKey PlainElector PlainDigest)
 plain_four elector payload =
     Honest (plain_leader elector payload)
     ∷ Honest (plain_follower elector payload 1)

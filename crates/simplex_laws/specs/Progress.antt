@@ -6,18 +6,18 @@ use Rattle.simplex_voter.specs.Facts.{StateFacts, Elect, round_number, round_of}
 use Rattle.simplex_voter.specs.Refusals.{has_late_deadline, is_too_large, names_too_large}
 use Rattle.simplex_member.specs.Allowed.{is_allowed, fault_of}
 use Rattle.simplex_member.specs.Calls.{CallFacts, AddNullification, AddFinalization, Certified}
-use Rattle.simplex_member.specs.Made.{after_call}
-use Rattle.simplex_member.specs.Openings.{Openings}
+use Rattle.simplex_member.specs.CallSemantics.{after_call}
+use Rattle.simplex_member.specs.OutstandingWork.{OutstandingWork}
 
 module _ {K L D : Type 0} (same : D → D → Bool) (elect : Elect L) where
   -- the call may be made, no fault is due, and the current view lies behind it
-  pub record GoesPast (x : StateFacts K L D) (o : Openings K D) (call : CallFacts D) : Type 0 where
+  pub record GoesPast (x : StateFacts K L D) (o : OutstandingWork K D) (call : CallFacts D) : Type 0 where
     pub allowed : is_allowed x o call ≡ true
     pub no_fault : fault_of x call ≡ None
     pub past : x.current < (after_call same elect x o call).current
 
   -- each certificate that ends the current view does, at this moment
-  pub record CallsGoPast (x : StateFacts K L D) (o : Openings K D) (now : ℕ) : Type 0 where
+  pub record CallsGoPast (x : StateFacts K L D) (o : OutstandingWork K D) (now : ℕ) : Type 0 where
     pub nullification : (c : NullificationFacts) → c.round ≡ round_number x x.current → GoesPast x o (AddNullification c now)
     pub finalization : (c : ProposalFacts D) → c.proposal.round ≡ round_number x x.current → names_too_large c.proposal ≡ false
         → GoesPast x o (AddFinalization c now)
@@ -27,4 +27,4 @@ module _ {K L D : Type 0} (same : D → D → Bool) (elect : Elect L) where
 
   -- while the view is below 2^63, and the deadlines of the view that is entered fit in 64 bits
   abbrev pub CanBeLeft : StateFacts K L D → Type 0
-  CanBeLeft x = (o : Openings K D) (now : ℕ) → is_too_large x.current ≡ false → has_late_deadline x now ≡ false → CallsGoPast x o now
+  CanBeLeft x = (o : OutstandingWork K D) (now : ℕ) → is_too_large x.current ≡ false → has_late_deadline x now ≡ false → CallsGoPast x o now

@@ -11,12 +11,12 @@ use Rattle.simplex_round.specs.Round.{is_nullify, token_of}
 use Rattle.simplex_round.specs.Slot.{is_unequivocated, holds_or_empty}
 use Rattle.simplex_voter.specs.Certification.{waits_for}
 use Rattle.simplex_voter.specs.Facts.{StateFacts, Elect, round_of, is_tracked}
-use Rattle.simplex_voter.specs.Parents.{binding_matches}
+use Rattle.simplex_voter.specs.Parents.{verification_matches}
 use Rattle.simplex_voter.specs.Proposing.{request_context, proposal_of, proposed_answer, propose_answer, supersede_answer}
 use Rattle.simplex_voter.specs.Replay.{restored_binding}
 use Rattle.simplex_voter.specs.Verifying.{was_scanned, standing}
 use Rattle.simplex_voter.specs.declared.voter.verify.Standing.{Standing}
-use Rattle.simplex_voter.specs.declared.voter.verify.Standing.TheVariants.{Passed, Invalid, Lacks, Ready}
+use Rattle.simplex_voter.specs.declared.voter.verify.Standing.TheVariants.{NothingToDo, Invalid, Lacks, Ready}
 use Rattle.simplex_laws.specs.Events.{Event, SetFloor, AddNotarization, AddFinalization, Certified, TryPropose, Proposed, Supersede, Release, TryVerify, Verified, VerificationFailed, CertifyCandidates, SetCertifyHandle, Replay}
 use Rattle.simplex_laws.specs.OwnWork.{contradicts, first_certificate_by, hears, owns}
 
@@ -91,8 +91,8 @@ module _ {K L D : Type 0} (same : D → D → Bool) (elect : Elect L) where
   -- how the proposal of the view stands where a scan for proposals to verify comes to it
   abbrev pub standing_by_event : ℕ → StateFacts K L D → Event K D → Standing D
   standing_by_event v x TryVerify =
-      if was_scanned same elect x v then standing same elect x (v, round_of x v) else Passed
-  standing_by_event v x _ = Passed
+      if was_scanned same elect x v then standing same elect x (v, round_of x v) else NothingToDo
+  standing_by_event v x _ = NothingToDo
 
   -- this member's own proposal is taken: nothing else is held
   abbrev pub takes_own : ℕ → StateFacts K L D → Event K D → Bool
@@ -105,7 +105,7 @@ module _ {K L D : Type 0} (same : D → D → Bool) (elect : Elect L) where
   -- the held proposal is marked as verified
   abbrev pub marks : ℕ → StateFacts K L D → Event K D → Option Bool
   marks v x (Verified w) =
-      if is_at x v w && binding_matches same elect x w && not (is_nullify (round_of x w).decision)
+      if is_at x v w && verification_matches same elect x w && not (is_nullify (round_of x w).decision)
       then Some (is_unequivocated (round_of x w).slot)
       else None
   marks v x _ = None
@@ -140,8 +140,8 @@ module _ {K L D : Type 0} (same : D → D → Bool) (elect : Elect L) where
       if v == context.round.view && proposed_answer same elect x context payload
       then Some (Some (proposal_of context payload, context.parent.1))
       else None
-  binds v x (Verified w) = if is_at x v w && not (binding_matches same elect x w) then Some None else None
-  binds v x (VerificationFailed w _ _) = if is_at x v w && not (binding_matches same elect x w) then Some None else None
+  binds v x (Verified w) = if is_at x v w && not (verification_matches same elect x w) then Some None else None
+  binds v x (VerificationFailed w _ _) = if is_at x v w && not (verification_matches same elect x w) then Some None else None
   binds v x (Replay (NotarizeVote p _)) =
       if v == p.round.view then option_map (λ bound. Some bound) (restored_binding x p) else None
   binds v x e = bound_by (round_of x v).slot.held (standing_by_event v x e)

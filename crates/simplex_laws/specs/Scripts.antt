@@ -7,10 +7,10 @@ use Rattle.simplex_voter.specs.Facts.{Elect}
 use Rattle.simplex_member.specs.Calls.{Prune, Told, Dropped, Done, Restarted}
 use Rattle.simplex_member.specs.Runs.{StepFacts, Calls, Prunes, Restarts}
 use Rattle.simplex_record.specs.Start.{StartFacts}
-use Rattle.simplex_laws.specs.Deeds.{Deed, Signs}
-use Rattle.simplex_laws.specs.Places.{Place, Faulty, Honest}
-use Rattle.simplex_laws.specs.Stories.{Story, deeds_of}
-use Rattle.simplex_laws.specs.Turns.{set_up_as, round, proposal, certificate, one, two, story_from, hears, verifies, accepts_notarization, accepts, votes_for, may_not_finalize, accepts_finalization, votes_against, skips}
+use Rattle.simplex_laws.specs.Traces.{TraceEvent, Signs}
+use Rattle.simplex_laws.specs.Replicas.{Replica, Faulty, Honest}
+use Rattle.simplex_laws.specs.Executions.{Execution, trace_of}
+use Rattle.simplex_laws.specs.ScenarioSteps.{set_up_as, round, proposal, certificate, one, two, execution_from, hears, verifies, accepts_notarization, accepts, votes_for, may_not_finalize, accepts_finalization, votes_against, skips}
 
 -- member 3 leads each view
 abbrev pub leader : Elect ℕ
@@ -30,8 +30,8 @@ restarts drop prune start = (Restarts (record { drop = drop; prune = prune; star
 
 -- a term of five views: a member votes to nullify view 1 and may finalize neither it nor the next one, until it accepts the
 -- finalization of view 1
-abbrev pub impatient : Story ℕ ℕ ℕ
-impatient = story_from (start_at 5 (Genesis 0) 0) (
+abbrev pub impatient : Execution ℕ ℕ ℕ
+impatient = execution_from (start_at 5 (Genesis 0) 0) (
     votes_against 0 1
     ∷ accepts one
     ++ may_not_finalize 1
@@ -42,13 +42,13 @@ impatient = story_from (start_at 5 (Genesis 0) 0) (
     ∷ [])
 
 -- another one verifies both proposals and votes for each to the end
-abbrev pub patient : ℕ → Story ℕ ℕ ℕ
-patient me = story_from (start_at 5 (Genesis 0) me) (votes_through me one ++ votes_through me two)
+abbrev pub patient : ℕ → Execution ℕ ℕ ℕ
+patient me = execution_from (start_at 5 (Genesis 0) me) (votes_through me one ++ votes_through me two)
 
 -- a third one does the same, and restarts between the two: the finalization that came after its last vote is dropped, so that
 -- it is new again, but not the vote; and its record is pruned
-abbrev pub forgetful : Story ℕ ℕ ℕ
-forgetful = story_from (start_at 5 (Genesis 0) 2) (
+abbrev pub forgetful : Execution ℕ ℕ ℕ
+forgetful = execution_from (start_at 5 (Genesis 0) 2) (
     votes_through 2 one
     ++ accepts_finalization one
     ∷ restarts 5 true (start_at 5 (Genesis 0) 2)
@@ -57,15 +57,15 @@ forgetful = story_from (start_at 5 (Genesis 0) 2) (
     ∷ votes_through 2 two)
 
 -- four members, of which the leader is faulty
-abbrev pub four : List (Place ℕ ℕ ℕ)
+abbrev pub four : List (Replica ℕ ℕ ℕ)
 four = Honest impatient ∷ Honest (patient 1) ∷ Honest forgetful ∷ Faulty ∷ []
 
 -- the same with two of four faulty: more than f = 1, and not fewer than n - 2f = 2
-abbrev pub overrun : List (Place ℕ ℕ ℕ)
+abbrev pub overrun : List (Replica ℕ ℕ ℕ)
 overrun = Honest impatient ∷ Honest (patient 1) ∷ Faulty ∷ Faulty ∷ []
 
 -- a member that votes to nullify view 1 and to finalize it
-abbrev pub two_faced : ℕ → List (Deed ℕ)
+abbrev pub two_faced : ℕ → List (TraceEvent ℕ)
 two_faced me =
     Signs me (subject.Nullify (round 1))
     ∷ Signs me (subject.Notarize one)
@@ -75,14 +75,14 @@ two_faced me =
     ∷ []
 
 -- what is known of these four, where one of the faulty ones is this member, and of the other one nothing is
-abbrev pub known_of_overrun : List (Option (List (Deed ℕ)))
-known_of_overrun = Some (deeds_of impatient) ∷ Some (deeds_of (patient 1)) ∷ Some (two_faced 2) ∷ None ∷ []
+abbrev pub known_of_overrun : List (Option (List (TraceEvent ℕ)))
+known_of_overrun = Some (trace_of impatient) ∷ Some (trace_of (patient 1)) ∷ Some (two_faced 2) ∷ None ∷ []
 
 -- a member restarts three times: first the notarization that came after its last vote is dropped, so that it is new again,
 -- but not the vote; then its record has been pruned within the life, behind the views that the state drops; then it starts at a
 -- finalized floor
-abbrev pub restarting : Story ℕ ℕ ℕ
-restarting = story_from (start_at 5 (Genesis 0) 1) (
+abbrev pub restarting : Execution ℕ ℕ ℕ
+restarting = execution_from (start_at 5 (Genesis 0) 1) (
     accepts one
     ++ votes_for 1 one
     ∷ accepts_notarization two
@@ -101,8 +101,8 @@ restarting = story_from (start_at 5 (Genesis 0) 1) (
     ∷ [])
 
 -- terms of one view: view 3 is built on view 1, over view 2, for which there is a nullification
-abbrev pub skipping : ℕ → Story ℕ ℕ ℕ
-skipping me = story_from (start_at 1 (Genesis 0) me) (
+abbrev pub skipping : ℕ → Execution ℕ ℕ ℕ
+skipping me = execution_from (start_at 1 (Genesis 0) me) (
     hears one true
     ∷ verifies me 3 one
     ++ accepts one
@@ -111,5 +111,5 @@ skipping me = story_from (start_at 1 (Genesis 0) me) (
     ∷ votes_through me (proposal 3 1))
 
 -- five members, of which two are faulty: more than f = 1, but fewer than n - 2f = 3
-abbrev pub five : List (Place ℕ ℕ ℕ)
+abbrev pub five : List (Replica ℕ ℕ ℕ)
 five = Honest (skipping 0) ∷ Honest (skipping 1) ∷ Honest (skipping 2) ∷ Faulty ∷ Faulty ∷ []

@@ -7,7 +7,7 @@ use Rattle.simplex_laws.specs.Events.{History}
 use Rattle.simplex_laws.specs.Leading.{leader_by_event}
 use Rattle.simplex_laws.specs.OwnWork.{was_done, first_said, last_said, held_in, conflict_in, hands_out_notarization, hands_out_nullification, hands_out_finalization, decides_notarize}
 use Rattle.simplex_laws.specs.Requested.{verifies, asks_to_build, asks_to_verify, asks_for, binds, certifies}
-use Rattle.simplex_laws.specs.Sums.{notarization_in, nullification_in, finalization_in}
+use Rattle.simplex_laws.specs.HistoryFolds.{notarization_in, nullification_in, finalization_in}
 use Rattle.simplex_laws.specs.Timing.{enters, proposes, decision_in}
 
 module _ {K L D : Type 0} (same : D → D → Bool) (elect : Elect L) where

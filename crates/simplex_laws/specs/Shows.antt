@@ -10,7 +10,7 @@ use Rattle.simplex_laws.specs.Leading.{tracks}
 use Rattle.simplex_laws.specs.OwnWork.{facts_after, was_done, last_said, casts_nullify}
 use Rattle.simplex_laws.specs.Requested.{names}
 use Rattle.simplex_laws.specs.ShownRounds.{round_in}
-use Rattle.simplex_laws.specs.Sums.{verdict_in, is_nullified_in, genesis_in, moment_in, finalized_by_events, current_in, kept_in, has_view}
+use Rattle.simplex_laws.specs.HistoryFolds.{verdict_in, is_nullified_in, genesis_in, moment_in, finalized_by_events, current_in, kept_in, has_view}
 use Rattle.simplex_laws.specs.Timing.{enters}
 
 -- the verdict that was given

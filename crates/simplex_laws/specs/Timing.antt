@@ -7,13 +7,13 @@ use Rattle.simplex_round.specs.declared.round.Decision.{Decision}
 use Rattle.simplex_round.specs.declared.round.Decision.TheVariants as decision
 use Rattle.simplex_round.specs.Round.{awaits_retry}
 use Rattle.simplex_voter.specs.Facts.{StateFacts, Elect, round_of, is_tracked}
-use Rattle.simplex_voter.specs.Parents.{binding_matches}
+use Rattle.simplex_voter.specs.Parents.{verification_matches}
 use Rattle.simplex_voter.specs.Proposing.{proposed_answer}
 use Rattle.simplex_voter.specs.Timeouts.{is_contradicted}
 use Rattle.simplex_laws.specs.Events.{Event, Certified, Proposed, TryVerify, VerificationFailed, TriggerTimeout, NextTimeout}
 use Rattle.simplex_laws.specs.OwnWork.{facts_after, was_done, first_said, last_said, decides_nullify, decides_finalize}
 use Rattle.simplex_laws.specs.Requested.{is_at, is_invalid, standing_by_event}
-use Rattle.simplex_laws.specs.Sums.{entered_by, moment_by}
+use Rattle.simplex_laws.specs.HistoryFolds.{entered_by, moment_by}
 
 module _ {K L D : Type 0} where
   -- a timeout for this reason is triggered: the view is not passed, is tracked, and its leader isn't known to be active
@@ -45,7 +45,7 @@ module _ {K L D : Type 0} (same : D → D → Bool) (elect : Elect L) where
       if is_at x v w && nat_le x.current w then Some (now, FailedCertification) else None
   latches v x TryVerify = if is_invalid (standing_by_event same elect v x TryVerify) then Some (x.moment, InvalidProposal) else None
   latches v x (VerificationFailed w reason now) =
-      if v == w && binding_matches same elect x w && triggers x w reason then Some (now, reason) else None
+      if v == w && verification_matches same elect x w && triggers x w reason then Some (now, reason) else None
   latches v x (TriggerTimeout w reason now) = if v == w && triggers x w reason then Some (now, reason) else None
   latches v x _ = None
 

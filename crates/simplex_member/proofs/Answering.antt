@@ -10,15 +10,15 @@ use Rattle.simplex_voter.specs.Refusals.{is_started}
 use Rattle.simplex_member.specs.Allowed.{is_allowed, fault_of, needs_room, may_fall}
 use Rattle.simplex_member.specs.Calls.{CallFacts, Told, Refused, NotAllowed}
 use Rattle.simplex_member.specs.Lives.{MemberFacts, without_life, with_call, IsCall}
-use Rattle.simplex_member.specs.Made.{answer, after_call, openings_after, recorded_by}
-use Rattle.simplex_member.specs.Openings.{Openings}
+use Rattle.simplex_member.specs.CallSemantics.{answer, after_call, outstanding_work_after, recorded_by}
+use Rattle.simplex_member.specs.OutstandingWork.{OutstandingWork}
 use Rattle.simplex_member.specs.Parts.{IsWant, IsLoss}
-use Rattle.simplex_member.specs.Typed.{IsAnswered}
+use Rattle.simplex_member.specs.MethodContracts.{IsAnswered}
 use Rattle.simplex_member.proofs.GoingCalls.{goes}
 
 module _ {K L D : Type 0} (same : D → D → Bool) (elect : Elect L) (x : StateFacts K L D) where
   -- the state that is left goes on
-  pub call_goes_on : (o : Openings K D) (call : CallFacts D) (y : StateFacts K L D) → y ≡ after_call same elect x o call → x.failed ≡ false → is_started x ≡ true → (y.failed ≡ false) × (is_started y ≡ true)
+  pub call_goes_on : (o : OutstandingWork K D) (call : CallFacts D) (y : StateFacts K L D) → y ≡ after_call same elect x o call → x.failed ≡ false → is_started x ≡ true → (y.failed ≡ false) × (is_started y ≡ true)
   call_goes_on o call y is going started = let g = goes same elect x o call in rw is (g.failed ∙ going, g.started started)
 
 -- the state is lost only by a call that may find no memory
@@ -46,19 +46,19 @@ module _ {K L D : Type 0} (same : D → D → Bool) (elect : Elect L) (m : Membe
   failed_call dead = rw dead (refl, refl)
 
   module _ (x : StateFacts K L D) (alive : m.life ≡ Some x) where
-    pub forbidden_call : is_allowed x m.openings call ≡ false → IsCall same elect m call NotAllowed m
+    pub forbidden_call : is_allowed x m.outstanding_work call ≡ false → IsCall same elect m call NotAllowed m
     unfolding IsCall
     forbidden_call not_allowed = rw (alive, not_allowed) (inl (refl, refl))
 
     -- an answer, with what is left
-    pub answered_call : (told : Told K D) (y : StateFacts K L D) (p : Openings K D) (entries : List (ArtifactFacts D)) → is_allowed x m.openings call ≡ true → fault_of x call ≡ None
-        → told ≡ answer same elect x m.openings call → y ≡ after_call same elect x m.openings call → p ≡ openings_after same elect x m.openings call → entries ≡ m.entries ++ recorded_by same elect x call
-        → IsCall same elect m call told (record m { life = Some y; openings = p; entries = entries })
+    pub answered_call : (told : Told K D) (y : StateFacts K L D) (p : OutstandingWork K D) (entries : List (ArtifactFacts D)) → is_allowed x m.outstanding_work call ≡ true → fault_of x call ≡ None
+        → told ≡ answer same elect x m.outstanding_work call → y ≡ after_call same elect x m.outstanding_work call → p ≡ outstanding_work_after same elect x m.outstanding_work call → entries ≡ m.entries ++ recorded_by same elect x call
+        → IsCall same elect m call told (record m { life = Some y; outstanding_work = p; entries = entries })
     unfolding IsCall
     answered_call told y p entries allowed no_fault is after open_now recorded = rw (alive, allowed, no_fault, is, after, open_now, recorded) (inl (refl, refl))
 
     -- a fault that was due, or want of memory, with nothing changed
-    pub refused_call : (found : Fault) → is_allowed x m.openings call ≡ true → (fault_of x call ≡ Some found) ⊎ IsWant (needs_room x call) found → IsCall same elect m call (Refused found) m
+    pub refused_call : (found : Fault) → is_allowed x m.outstanding_work call ≡ true → (fault_of x call ≡ Some found) ⊎ IsWant (needs_room x call) found → IsCall same elect m call (Refused found) m
     unfolding IsCall
     refused_call found allowed (inl due) = rw (alive, allowed, due) (inl (refl, refl))
     refused_call found allowed (inr want) = wanting (needs_room x call) refl want
@@ -68,19 +68,19 @@ module _ {K L D : Type 0} (same : D → D → Bool) (elect : Elect L) (m : Membe
         wanting false needs memory = absurd memory
 
     -- the state is lost for want of memory
-    pub lost_call : is_allowed x m.openings call ≡ true → fault_of x call ≡ None → may_fall x call ≡ true → IsCall same elect m call (Refused fault.OutOfMemory) (without_life m)
+    pub lost_call : is_allowed x m.outstanding_work call ≡ true → fault_of x call ≡ None → may_fall x call ≡ true → IsCall same elect m call (Refused fault.OutOfMemory) (without_life m)
     unfolding IsCall
     lost_call allowed no_fault falls = rw alive (inr (allowed, refl, inr (no_fault, falls, refl)))
 
     -- an answer, as a caller reads it
-    pub answered_so : (told : Told K D) (left : MemberFacts K L D) → is_allowed x m.openings call ≡ true → fault_of x call ≡ None
-        → told ≡ answer same elect x m.openings call → left ≡ with_call same elect x m call → IsAnswered same elect m call told left
+    pub answered_so : (told : Told K D) (left : MemberFacts K L D) → is_allowed x m.outstanding_work call ≡ true → fault_of x call ≡ None
+        → told ≡ answer same elect x m.outstanding_work call → left ≡ with_call same elect x m call → IsAnswered same elect m call told left
     answered_so told left allowed no_fault is left_so = record { state = x; alive = alive; allowed = allowed; not_due = no_fault; told_so = is; left_so = left_so }
 
     -- where such a call records nothing
-    pub answered_unrecorded : (told : Told K D) (y : StateFacts K L D) (o : Openings K D) → is_allowed x m.openings call ≡ true → fault_of x call ≡ None
-        → told ≡ answer same elect x m.openings call → y ≡ after_call same elect x m.openings call → o ≡ openings_after same elect x m.openings call → recorded_by same elect x call ≡ []
-        → IsAnswered same elect m call told (record m { life = Some y; openings = o })
+    pub answered_unrecorded : (told : Told K D) (y : StateFacts K L D) (o : OutstandingWork K D) → is_allowed x m.outstanding_work call ≡ true → fault_of x call ≡ None
+        → told ≡ answer same elect x m.outstanding_work call → y ≡ after_call same elect x m.outstanding_work call → o ≡ outstanding_work_after same elect x m.outstanding_work call → recorded_by same elect x call ≡ []
+        → IsAnswered same elect m call told (record m { life = Some y; outstanding_work = o })
     answered_unrecorded told y o allowed no_fault is after opened none = answered_so told _ allowed no_fault is (rw (after, opened, none, append-nil m.entries) refl)
 
   -- what is answered so is a call

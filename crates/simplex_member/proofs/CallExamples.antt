@@ -8,13 +8,13 @@ use Rattle.simplex_types.specs.declared.types.messages.Context.{Context}
 use Rattle.simplex_voter.specs.declared.voter.propose.ProposalRequest.TheVariants as request
 use Rattle.simplex_voter.specs.declared.voter.verify.Verify.TheVariants as verify
 use Rattle.simplex_voter.specs.Facts.{StateFacts, new_facts}
-use Rattle.simplex_voter.specs.Gaps.{first_gap}
-use Rattle.simplex_voter.specs.Parents.{spans, payload_for, parent_payload, preferred_parent, may_stand, binding_matches}
-use Rattle.simplex_voter.specs.Payloads.{explicit_payload, optimistic_payload, is_handoff_parent, serves, follows}
+use Rattle.simplex_voter.specs.Gaps.{first_unnullified_view}
+use Rattle.simplex_voter.specs.Parents.{has_valid_parent_span, ancestry_payload_for_child, parent_payload_for, find_parent, captured_parent_valid, verification_matches}
+use Rattle.simplex_voter.specs.Payloads.{explicit_ancestry_payload, optimistic_ancestry_payload, is_handoff_parent, is_voted_ancestor, can_chain_on}
 use Rattle.simplex_voter.specs.Proposing.{propose_answer, proposed_answer}
-use Rattle.simplex_voter.specs.Rules.{may_notarize, may_nullify, may_finalize, is_gated, required_parent}
+use Rattle.simplex_voter.specs.Rules.{may_notarize, may_nullify, may_finalize, has_conflicting_nullify, required_certification_parent}
 use Rattle.simplex_voter.specs.Verifying.{standing}
-use Rattle.simplex_voter.specs.Windows.{is_admitted, in_window}
+use Rattle.simplex_voter.specs.Windows.{is_admitted, in_issuance_window}
 use Rattle.simplex_member.specs.Calls.{CallFacts, AddNotarization, SetProposal, TryPropose, Proposed, TryVerify, Verified, CertifyCandidates, SetCertifyHandle, ConstructNullify, Told, Added, Requested, Answered, Standing, Candidates, Nullify, Done, Refused, NotAllowed}
 use Rattle.simplex_member.specs.Lives.{MemberFacts, reply_of, left_of}
 use Rattle.simplex_member.specs.Start.{started_member}
@@ -41,7 +41,7 @@ started me = started_at (Genesis 0) me
 -- what a call is told, and what it leaves; nothing is told in these of a member that has failed
 abbrev told : Option State → Member → CallFacts ℕ → Told ℕ ℕ
 told None m call = NotAllowed
-told (Some x) m call = reply_of nat_eq in_turn x m.openings call
+told (Some x) m call = reply_of nat_eq in_turn x m.outstanding_work call
 
 abbrev next : Option State → Member → CallFacts ℕ → Member
 next None m call = m
@@ -49,7 +49,7 @@ next (Some x) m call = left_of nat_eq in_turn x m call
 
 -- what some calls are told, one after another
 unfoldable replies_of : Member → List (CallFacts ℕ) → List (Told ℕ ℕ)
-unfolding standing propose_answer proposed_answer preferred_parent may_stand spans payload_for first_gap explicit_payload optimistic_payload is_handoff_parent serves follows in_window is_admitted binding_matches parent_payload may_notarize may_nullify may_finalize is_gated required_parent
+unfolding standing propose_answer proposed_answer find_parent captured_parent_valid has_valid_parent_span ancestry_payload_for_child first_unnullified_view explicit_ancestry_payload optimistic_ancestry_payload is_handoff_parent is_voted_ancestor can_chain_on in_issuance_window is_admitted verification_matches parent_payload_for may_notarize may_nullify may_finalize has_conflicting_nullify required_certification_parent
 replies_of m [] = []
 replies_of m (call ∷ calls) = told m.life m call ∷ replies_of (next m.life m call) calls
 

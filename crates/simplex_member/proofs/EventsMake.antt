@@ -7,8 +7,8 @@ use Rattle.simplex_record.specs.Events.{Event, Proposed, Supersede, after_event}
 use Rattle.simplex_member.specs.Calls as calls
 use Rattle.simplex_member.specs.Calls.{CallFacts}
 use Rattle.simplex_member.specs.Events.{in_context, events_of}
-use Rattle.simplex_member.specs.Made.{after_call}
-use Rattle.simplex_member.specs.Openings.{Openings, context_at}
+use Rattle.simplex_member.specs.CallSemantics.{after_call}
+use Rattle.simplex_member.specs.OutstandingWork.{OutstandingWork, context_at}
 
 module _ {K L D : Type 0} (same : D → D → Bool) (elect : Elect L) (x : StateFacts K L D) where
   -- a call is at most one event
@@ -24,11 +24,11 @@ module _ {K L D : Type 0} (same : D → D → Bool) (elect : Elect L) (x : State
   in_context_is f event is None = refl
   in_context_is f event is (Some c) = is c
 
-  pub call_is : (o : Openings K D) (call : CallFacts D) → after_call same elect x o call ≡ after_one (events_of o call)
+  pub call_is : (o : OutstandingWork K D) (call : CallFacts D) → after_call same elect x o call ≡ after_one (events_of o call)
   call_is o (calls.Proposed v payload now) = in_context_is _ (λ c. Proposed c payload now) (λ c. refl) (context_at o v)
   call_is o (calls.SupersedeProposalRequest v) = in_context_is _ Supersede (λ c. refl) (context_at o v)
   call_is o _ = refl
 
   -- what holds of each event in any case, of each call
-  pub call_by_any : (o : Openings K D) (P : StateFacts K L D → Type 0) → P x → ((e : Event K D) → P (after_event same elect x e)) → (call : CallFacts D) → P (after_call same elect x o call)
+  pub call_by_any : (o : OutstandingWork K D) (P : StateFacts K L D → Type 0) → P x → ((e : Event K D) → P (after_event same elect x e)) → (call : CallFacts D) → P (after_call same elect x o call)
   call_by_any o P still each call = subst P (sym (call_is o call)) (by_any P still each (events_of o call))

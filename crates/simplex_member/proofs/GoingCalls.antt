@@ -2,11 +2,11 @@
 use Rattle.std.proofs.Common.{Bool}
 use Rattle.simplex_voter.specs.Facts.{StateFacts, Elect}
 use Rattle.simplex_member.specs.Calls.{CallFacts}
-use Rattle.simplex_member.specs.Made.{after_call}
-use Rattle.simplex_member.specs.Openings.{Openings}
+use Rattle.simplex_member.specs.CallSemantics.{after_call}
+use Rattle.simplex_member.specs.OutstandingWork.{OutstandingWork}
 use Rattle.simplex_member.proofs.EventsMake.{call_by_any}
 use Rattle.simplex_record.proofs.Going.{Goes, stays, event_goes}
 
 module _ {K L D : Type 0} (same : D → D → Bool) (elect : Elect L) (x : StateFacts K L D) where
-  pub goes : (o : Openings K D) (call : CallFacts D) → Goes x (after_call same elect x o call)
+  pub goes : (o : OutstandingWork K D) (call : CallFacts D) → Goes x (after_call same elect x o call)
   goes o call = call_by_any same elect x o (Goes x) (stays x) (event_goes same elect x) call

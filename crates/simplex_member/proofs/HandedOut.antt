@@ -11,7 +11,7 @@ use Rattle.simplex_voter.specs.Facts.{StateFacts, Elect, round_at, round_of, wit
 use Rattle.simplex_voter.specs.Serving.{broadcast_notarization_answer, after_broadcast_notarization, broadcast_nullification_answer, after_broadcast_nullification, broadcast_finalization_answer, after_broadcast_finalization}
 use Rattle.simplex_member.specs.Calls.{BroadcastNotarization, BroadcastNullification, BroadcastFinalization, Told, Handed}
 use Rattle.simplex_member.specs.Lives.{MemberFacts}
-use Rattle.simplex_member.specs.Typed.{IsAnswered, HasNoneLeft}
+use Rattle.simplex_member.specs.MethodContracts.{IsAnswered, HasNoneLeft}
 use Rattle.simplex_member.proofs.Voted.{at_life, from_life}
 
 abbrev handed_told : {K D : Type 0} → Option (CertificateFacts D) → Told K D

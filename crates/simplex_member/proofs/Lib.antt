@@ -6,7 +6,7 @@ pub mod Runs
 pub mod EventsMake
 pub mod GoingCalls
 pub mod Answering
-pub mod Typed
+pub mod MethodContracts
 pub mod Pruning
 pub mod Parts
 pub mod Voted

@@ -8,7 +8,7 @@ use Rattle.std.specs.Ordering.{nat_cmp, eq_by_cmp}
 use Rattle.std.proofs.lemmas.Bool.Decides.{nat_tests}
 use Rattle.simplex_sorted.proofs.Maps.{entries-remove}
 use Rattle.simplex_voter.proofs.RoundsKept.{filter-keys}
-use Rattle.simplex_member.specs.Openings.{all_but, is_among, views_of}
+use Rattle.simplex_member.specs.OutstandingWork.{all_but, is_among, views_of}
 
 is_eq : (x y : ℕ) → eq_by_cmp nat_cmp x y ≡ eqb x y
 is_eq x y = grind (arith, nat_tests)

@@ -17,16 +17,16 @@ use Rattle.simplex_voter.specs.Refusals.{is_started, first_fault, HasFailed}
 use Rattle.simplex_member.specs.Allowed.{is_allowed, fault_of, may_fall}
 use Rattle.simplex_member.specs.Calls.{CallFacts, Told, Refused, NotAllowed}
 use Rattle.simplex_member.specs.Lives.{MemberFacts, living, open_while, IsCall}
-use Rattle.simplex_member.specs.Made.{answer, after_call, openings_after, recorded_by}
-use Rattle.simplex_member.specs.Openings.{Openings}
+use Rattle.simplex_member.specs.CallSemantics.{answer, after_call, outstanding_work_after, recorded_by}
+use Rattle.simplex_member.specs.OutstandingWork.{OutstandingWork}
 use Rattle.simplex_member.specs.Parts.{EndsCall, ended, is_lost, part_of, KeepsOpen}
-use Rattle.simplex_member.specs.Typed.{told_of, IfAnswered, Keeps, IsAnswered}
+use Rattle.simplex_member.specs.MethodContracts.{told_of, IfAnswered, Keeps, IsAnswered}
 use Rattle.simplex_member.specs.declared.member.refusal.Refusal.{Refusal}
 use Rattle.simplex_member.specs.declared.member.refusal.Refusal.TheVariants as refusal
 use Rattle.simplex_member.specs.declared.member.call_error.CallError.{CallError}
 use Rattle.simplex_member.specs.declared.member.call_error.CallError.TheVariants as error
 use Rattle.simplex_member.proofs.Answering.{call_goes_on, answered_call, refused_call, lost_call, losing}
-use Rattle.simplex_member.proofs.Typed.{typed}
+use Rattle.simplex_member.proofs.MethodContracts.{typed}
 
 -- a vote that is signed is a signed reply
 module _ {S L D K G C : Type 0} (is_signature : K → Subject D → G → Type 0) (x : StateFacts K L D) where
@@ -58,7 +58,7 @@ same_on_err (Ok t) a = tt
 same_on_err (Err e) a = a
 
 -- what opens and closes nothing leaves it open
-pub kept_shut : {K D T : Type 0} (o : Openings K D) (r : Result T CallError) → IfErr r (KeepsOpen o o)
+pub kept_shut : {K D T : Type 0} (o : OutstandingWork K D) (r : Result T CallError) → IfErr r (KeepsOpen o o)
 kept_shut o (Ok t) = tt
 kept_shut o (Err (error.Refused due)) = refl
 kept_shut o (Err error.Lost) = tt
@@ -80,7 +80,7 @@ pub ended_recorded : {T V A : Type 0} (tell : T → V) (told : V) (entry : V →
 ended_recorded tell told entry before after (Ok t) is recorded = rw is recorded
 ended_recorded tell told entry before after (Err e) is recorded = tt
 
-module _ {K L D T : Type 0} (same : D → D → Bool) (elect : Elect L) (x : StateFacts K L D) (o : Openings K D) (call : CallFacts D) where
+module _ {K L D T : Type 0} (same : D → D → Bool) (elect : Elect L) (x : StateFacts K L D) (o : OutstandingWork K D) (call : CallFacts D) where
   -- a state that is kept goes on
   pub part_goes_on : (r : Result T CallError) (y : StateFacts K L D) → OnOk r (y ≡ after_call same elect x o call) → IfErr r (EndsCall call x y)
       → x.failed ≡ false → is_started x ≡ true → is_lost r ≡ false → (y.failed ≡ false) × (is_started y ≡ true)
@@ -91,19 +91,19 @@ module _ {K L D T : Type 0} (same : D → D → Bool) (elect : Elect L) (x : Sta
 module _ {K L D T : Type 0} (same : D → D → Bool) (elect : Elect L) (m : MemberFacts K L D) (call : CallFacts D) (tell : T → Told K D) where
   -- what a part ensures of a call, and what the state is after it, what is open and what is recorded
   module _ (x : StateFacts K L D) where
-    pub record Part (r : Result T CallError) (y : StateFacts K L D) (o : Openings K D) (entries : List (ArtifactFacts D)) : Type 0 where
+    pub record Part (r : Result T CallError) (y : StateFacts K L D) (o : OutstandingWork K D) (entries : List (ArtifactFacts D)) : Type 0 where
       pub due : OnOk r (fault_of x call ≡ None)
-      pub answer : IfOk r (λ t. tell t ≡ answer same elect x m.openings call)
-      pub after : OnOk r (y ≡ after_call same elect x m.openings call)
-      pub opened : OnOk r (o ≡ openings_after same elect x m.openings call)
+      pub answer : IfOk r (λ t. tell t ≡ answer same elect x m.outstanding_work call)
+      pub after : OnOk r (y ≡ after_call same elect x m.outstanding_work call)
+      pub opened : OnOk r (o ≡ outstanding_work_after same elect x m.outstanding_work call)
       pub recorded : OnOk r (entries ≡ m.entries ++ recorded_by same elect x call)
       pub refused : IfErr r (EndsCall call x y)
-      pub kept_open : IfErr r (KeepsOpen m.openings o)
+      pub kept_open : IfErr r (KeepsOpen m.outstanding_work o)
       pub same_record : OnErr r (entries ≡ m.entries)
 
     -- so it is the call, with what is left of the member
-    pub part_made : m.life ≡ Some x → is_allowed x m.openings call ≡ true → (r : Result T CallError) (y : StateFacts K L D) (o : Openings K D) (entries : List (ArtifactFacts D)) → Part r y o entries
-        → IsCall same elect m call (told_of tell (ended r)) (record m { life = living (is_lost r) y; openings = open_while (is_lost r) o; entries = entries })
+    pub part_made : m.life ≡ Some x → is_allowed x m.outstanding_work call ≡ true → (r : Result T CallError) (y : StateFacts K L D) (o : OutstandingWork K D) (entries : List (ArtifactFacts D)) → Part r y o entries
+        → IsCall same elect m call (told_of tell (ended r)) (record m { life = living (is_lost r) y; outstanding_work = open_while (is_lost r) o; entries = entries })
     part_made alive allowed (Ok t) y o entries p = answered_call same elect m call x alive (tell t) y o entries allowed p.due p.answer p.after p.opened p.recorded
     part_made alive allowed (Err (error.Refused due)) y o entries p = rw (p.refused.1, p.same_record, p.kept_open, ← alive) (refused_call same elect m call x alive due allowed p.refused.0)
     part_made alive allowed (Err error.Lost) y o entries p = let l = losing x call (fault_of x call) p.refused in rw p.same_record (lost_call same elect m call x alive allowed l.0 l.1)
@@ -111,9 +111,9 @@ module _ {K L D T : Type 0} (same : D → D → Bool) (elect : Elect L) (m : Mem
     -- a call of the state is such a part, where it opens and records nothing
     pub part_of_state : (r : Result T Fault) (y : StateFacts K L D) (failed too_large late : Bool) → fault_of x call ≡ first_fault failed too_large late
         → IfSome (first_fault failed too_large late) (λ due. (r ≡ Err due) × (y ≡ x))
-        → IfOk r (λ t. tell t ≡ answer same elect x m.openings call) → OnOk r (y ≡ after_call same elect x m.openings call)
+        → IfOk r (λ t. tell t ≡ answer same elect x m.outstanding_work call) → OnOk r (y ≡ after_call same elect x m.outstanding_work call)
         → (first_fault failed too_large late ≡ None → IfErr r (λ found. (found ≡ fault.OutOfMemory) × HasFailed x y))
-        → may_fall x call ≡ true → openings_after same elect x m.openings call ≡ m.openings → recorded_by same elect x call ≡ [] → Part (part_of r) y m.openings m.entries
+        → may_fall x call ≡ true → outstanding_work_after same elect x m.outstanding_work call ≡ m.outstanding_work → recorded_by same elect x call ≡ [] → Part (part_of r) y m.outstanding_work m.entries
     part_of_state r y true _ _ is refused told after falls loses shut none = rw refused.0 (record { due = tt; answer = tt; after = tt; opened = tt; recorded = tt; refused = (inl is, refused.1); kept_open = refl; same_record = refl })
     part_of_state r y false true _ is refused told after falls loses shut none = rw refused.0 (record { due = tt; answer = tt; after = tt; opened = tt; recorded = tt; refused = (inl is, refused.1); kept_open = refl; same_record = refl })
     part_of_state r y false false true is refused told after falls loses shut none = rw refused.0 (record { due = tt; answer = tt; after = tt; opened = tt; recorded = tt; refused = (inl is, refused.1); kept_open = refl; same_record = refl })

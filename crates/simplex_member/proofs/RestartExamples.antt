@@ -4,7 +4,7 @@ use Rattle.simplex_types.specs.Config.{Genesis}
 use Rattle.simplex_voter.specs.Facts.{StateFacts, new_facts}
 use Rattle.simplex_voter.specs.Windows.{min_active}
 use Rattle.simplex_voter.specs.Serving.{notarization_of, prune_answer, after_prune}
-use Rattle.simplex_member.specs.Openings.{no_openings}
+use Rattle.simplex_member.specs.OutstandingWork.{no_outstanding_work}
 use Rattle.simplex_record.specs.Cuts.{may_drop, pruned_entries}
 use Rattle.simplex_member.specs.Journal.{has_lost}
 use Rattle.simplex_member.specs.Lives.{MemberFacts}
@@ -19,7 +19,7 @@ Member = MemberFacts ℕ ℕ ℕ
 
 -- a member that failed, whose record was not pruned yet
 abbrev member : List Entry → Member
-member entries = record { life = None; openings = no_openings; entries = entries; closed = 0; is_pruned = false; retention = 10; least_retention = 10 }
+member entries = record { life = None; outstanding_work = no_outstanding_work; entries = entries; closed = 0; is_pruned = false; retention = 10; least_retention = 10 }
 
 -- what was pruned is gone, and what stays is closed
 behind_the_finalized_view : (cut_member (member (nullify 1 ∷ finalization 20 ∷ [])) 0 true).entries ≡ finalization 20 ∷ []

@@ -15,7 +15,7 @@ use Rattle.simplex_record.specs.declared.record.error.RecoverError.TheVariants a
 use Rattle.simplex_record.specs.Check.{stands}
 use Rattle.simplex_record.specs.Entries.{entries_of, entry_view}
 use Rattle.simplex_voter.specs.Facts.{StateFacts, Elect}
-use Rattle.simplex_member.specs.Openings.{no_openings}
+use Rattle.simplex_member.specs.OutstandingWork.{no_outstanding_work}
 use Rattle.simplex_member.specs.Lives.{MemberFacts, without_life}
 use Rattle.simplex_member.specs.Remade.{IsRefusedBy, IsRemadeBy}
 use Rattle.simplex_record.specs.Recovery.{recover_error, is_finalization, with_finalization_entry, with_floor}
@@ -89,7 +89,7 @@ module _ {K L D : Type 0} (same : D → D → Bool) (elect : Elect L) (m : Membe
 
   -- one whose new state is made
   pub gone_on : (x : StateFacts K L D) (entries : List (ArtifactFacts D)) → IsRemadeBy same elect start m.entries x → entries ≡ with_floor m.entries start.floor
-      → GoesOn same elect m start (Ok tt) (record m { life = Some x; openings = no_openings; entries = entries; retention = start.setup.settings.view_retention; least_retention = min m.least_retention start.setup.settings.view_retention })
+      → GoesOn same elect m start (Ok tt) (record m { life = Some x; outstanding_work = no_outstanding_work; entries = entries; retention = start.setup.settings.view_retention; least_retention = min m.least_retention start.setup.settings.view_retention })
   gone_on x entries (copy, by_view, accepted, is) kept = inr (copy, by_view, rw (accepted, is, kept) (refl, refl))
 
 -- what is said of a value that is there, besides what holds where one is

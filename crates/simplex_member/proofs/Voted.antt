@@ -14,8 +14,8 @@ use Rattle.simplex_voter.proofs.Rules.{nullify_parts, notarize_round, finalize_p
 use Rattle.simplex_voter.proofs.Proposals.{round_of-prepared}
 use Rattle.simplex_member.specs.Calls.{ConstructNotarize, ConstructNullify, ConstructFinalize, Told, Notarize, Nullify, Finalize}
 use Rattle.simplex_member.specs.Lives.{MemberFacts}
-use Rattle.simplex_member.specs.Made.{nullify_vote, notarize_vote, finalize_vote}
-use Rattle.simplex_member.specs.Typed.{IsAnswered, HasNotarized, HasNullified, HasFinalized}
+use Rattle.simplex_member.specs.CallSemantics.{nullify_vote, notarize_vote, finalize_vote}
+use Rattle.simplex_member.specs.MethodContracts.{IsAnswered, HasNotarized, HasNullified, HasFinalized}
 use Rattle.simplex_record.proofs.Growing.{round_of-same}
 
 -- what is told alike is the same

@@ -9,7 +9,7 @@ use Rattle.simplex_voter.specs.Serving.{best_certificate, broadcast_notarization
 use Rattle.simplex_voter.specs.Timeouts.{has_timeout, next_timeout_refusal}
 use Rattle.simplex_voter.specs.Verifying.{takes_proposal}
 use Rattle.simplex_member.specs.Calls.{CallFacts, AddNotarization, AddNullification, AddFinalization, SetProposal, TryPropose, Proposed, SupersedeProposalRequest, PendingHandoffAbandonment, TryVerify, Verified, VerificationFailed, ConstructNotarize, CertifyCandidates, SetCertifyHandle, Certified, ConstructNullify, ConstructFinalize, BroadcastNotarization, BroadcastNullification, BroadcastFinalization, GetBestCertificate, NextTimeout, Prune}
-use Rattle.simplex_member.specs.Openings.{Openings, context_at, is_verifying, is_offered}
+use Rattle.simplex_member.specs.OutstandingWork.{OutstandingWork, context_at, is_verifying, is_offered}
 
 module _ {K L D : Type 0} where
   -- what a call asks of the state alone: a certificate or a proposal of this epoch and of a view that is kept, a token where
@@ -26,7 +26,7 @@ module _ {K L D : Type 0} where
 
   -- what a call asks of its caller: an open request to build, a proposal that is being verified, an offer that has no verdict;
   -- and of the state
-  abbrev pub is_allowed : StateFacts K L D → Openings K D → CallFacts D → Bool
+  abbrev pub is_allowed : StateFacts K L D → OutstandingWork K D → CallFacts D → Bool
   is_allowed x o (Proposed v _ _) = is_some (context_at o v)
   is_allowed x o (SupersedeProposalRequest v) = is_some (context_at o v)
   is_allowed x o (PendingHandoffAbandonment v) = is_some (context_at o v)

@@ -4,7 +4,7 @@ use Rattle.simplex_types.specs.declared.types.messages.Context.{Context}
 use Rattle.simplex_record.specs.Events.{Event, AddNotarization, AddNullification, AddFinalization, Certified, ConstructNotarize, ConstructNullify, ConstructFinalize, SetProposal, TryPropose, Proposed, Supersede, Release, TryVerify, Verified, VerificationFailed, CertifyCandidates, SetCertifyHandle, TriggerTimeout, NextTimeout, BroadcastNotarization, BroadcastNullification, BroadcastFinalization, Prune}
 use Rattle.simplex_member.specs.Calls as calls
 use Rattle.simplex_member.specs.Calls.{CallFacts}
-use Rattle.simplex_member.specs.Openings.{Openings, context_at}
+use Rattle.simplex_member.specs.OutstandingWork.{OutstandingWork, context_at}
 
 -- the event of what a call does in a context, where one is open
 abbrev pub in_context : {K D : Type 0} → (Context D K → Event K D) → Option (Context D K) → List (Event K D)
@@ -12,7 +12,7 @@ in_context event None = []
 in_context event (Some context) = event context ∷ []
 
 -- the events of a call of a member, with what it has open then: one, but for a call that changes nothing
-abbrev pub events_of : {K D : Type 0} → Openings K D → CallFacts D → List (Event K D)
+abbrev pub events_of : {K D : Type 0} → OutstandingWork K D → CallFacts D → List (Event K D)
 events_of o (calls.AddNotarization c) = AddNotarization c ∷ []
 events_of o (calls.AddNullification c now) = AddNullification c now ∷ []
 events_of o (calls.AddFinalization c now) = AddFinalization c now ∷ []

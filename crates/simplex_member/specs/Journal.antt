@@ -5,7 +5,7 @@ use Rattle.simplex_voter.specs.Facts.{Elect}
 use Rattle.simplex_member.specs.declared.member.journal.Stored.{Stored}
 use Rattle.simplex_member.specs.declared.member.resume.ResumeError.{ResumeError}
 use Rattle.simplex_member.specs.declared.member.resume.ResumeError.TheVariants as error
-use Rattle.simplex_member.specs.Openings.{no_openings}
+use Rattle.simplex_member.specs.OutstandingWork.{no_outstanding_work}
 use Rattle.simplex_member.specs.Lives.{MemberFacts, SignedMember}
 use Rattle.simplex_member.specs.Restarts.{RestartFacts, IsRestart}
 use Rattle.simplex_record.specs.Cuts.{is_vote}
@@ -21,7 +21,7 @@ module _ {K L D : Type 0} where
   abbrev pub stored_facts : Stored → List (ArtifactFacts D) → MemberFacts K L D
   stored_facts stored entries = record {
     life = None;
-    openings = no_openings;
+    outstanding_work = no_outstanding_work;
     entries = entries;
     closed = stored.closed;
     is_pruned = stored.is_pruned;

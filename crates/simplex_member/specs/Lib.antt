@@ -3,10 +3,10 @@ pub mod Calls
 pub mod Allowed
 pub mod Signed
 pub mod Waiting
-pub mod Openings
-pub mod Made
+pub mod OutstandingWork
+pub mod CallSemantics
 pub mod Lives
-pub mod Typed
+pub mod MethodContracts
 pub mod Start
 pub mod Restarts
 pub mod Journal

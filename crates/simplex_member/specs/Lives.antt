@@ -7,15 +7,15 @@ use Rattle.simplex_voter.specs.Facts.{StateFacts, Elect}
 use Rattle.simplex_record.specs.Votes.{SignedVote}
 use Rattle.simplex_member.specs.Allowed.{is_allowed, fault_of, needs_room, may_fall}
 use Rattle.simplex_member.specs.Calls.{CallFacts, Told, Refused, NotAllowed}
-use Rattle.simplex_member.specs.Made.{answer, after_call, openings_after, recorded_by}
-use Rattle.simplex_member.specs.Openings.{Openings, no_openings}
+use Rattle.simplex_member.specs.CallSemantics.{answer, after_call, outstanding_work_after, recorded_by}
+use Rattle.simplex_member.specs.OutstandingWork.{OutstandingWork, no_outstanding_work}
 
 -- what is known of a member
 pub record MemberFacts (K L D : Type 0) : Type 0 where
   -- what its state knows; none while the member has failed
   pub life : Option (StateFacts K L D)
   -- what it has open of its state's answers
-  pub openings : Openings K D
+  pub outstanding_work : OutstandingWork K D
   -- its record, oldest entry first
   pub entries : List (ArtifactFacts D)
   -- how many of its first entries no later drop takes
@@ -37,8 +37,8 @@ abbrev pub living : {K L D : Type 0} → Bool → StateFacts K L D → Option (S
 living failed x = if failed then None else Some x
 
 -- nothing is open once the member has failed
-abbrev pub open_while : {K D : Type 0} → Bool → Openings K D → Openings K D
-open_while failed o = if failed then no_openings else o
+abbrev pub open_while : {K D : Type 0} → Bool → OutstandingWork K D → OutstandingWork K D
+open_while failed o = if failed then no_outstanding_work else o
 
 module _ {K D : Type 0} where
   -- told, unless a fault is due
@@ -49,7 +49,7 @@ module _ {K D : Type 0} where
 module _ {K L D : Type 0} where
   -- the record stays, and what is known of it
   abbrev pub without_life : MemberFacts K L D → MemberFacts K L D
-  without_life m = record m { life = None; openings = no_openings }
+  without_life m = record m { life = None; outstanding_work = no_outstanding_work }
 
   -- its record is as it was, with more behind it
   abbrev pub HasGrown : MemberFacts K L D → MemberFacts K L D → Type 0
@@ -62,20 +62,20 @@ module _ {K L D : Type 0} where
 
 module _ {K L D : Type 0} (same : D → D → Bool) (elect : Elect L) where
   -- what a living member tells
-  abbrev pub reply_of : StateFacts K L D → Openings K D → CallFacts D → Told K D
+  abbrev pub reply_of : StateFacts K L D → OutstandingWork K D → CallFacts D → Told K D
   reply_of x o call = if is_allowed x o call then unless_refused (fault_of x call) (answer same elect x o call) else NotAllowed
 
   -- with what a call makes of the state and of what is open, and with what the record grows by
   abbrev pub with_call : StateFacts K L D → MemberFacts K L D → CallFacts D → MemberFacts K L D
   with_call x m call = record m {
-    life = Some (after_call same elect x m.openings call);
-    openings = openings_after same elect x m.openings call;
+    life = Some (after_call same elect x m.outstanding_work call);
+    outstanding_work = outstanding_work_after same elect x m.outstanding_work call;
     entries = m.entries ++ recorded_by same elect x call;
   }
 
   -- what is left of a living member
   abbrev pub left_of : StateFacts K L D → MemberFacts K L D → CallFacts D → MemberFacts K L D
-  left_of x m call = if is_allowed x m.openings call then unless_kept (fault_of x call) m (with_call x m call) else m
+  left_of x m call = if is_allowed x m.outstanding_work call then unless_kept (fault_of x call) m (with_call x m call) else m
 
   -- what want of memory leaves: there was no room before the state was called, and nothing has changed; or no fault was due,
   -- and the member has failed
@@ -87,8 +87,8 @@ module _ {K L D : Type 0} (same : D → D → Bool) (elect : Elect L) where
   -- a living member answers by the definitions, or memory was wanting of a call that is allowed
   abbrev pub Answers : StateFacts K L D → MemberFacts K L D → CallFacts D → Told K D → MemberFacts K L D → Type 0
   Answers x m call told left =
-      ((told ≡ reply_of x m.openings call) × (left ≡ left_of x m call))
-      ⊎ ((is_allowed x m.openings call ≡ true) × (told ≡ Refused fault.OutOfMemory) × IsLeftWanting x m call left)
+      ((told ≡ reply_of x m.outstanding_work call) × (left ≡ left_of x m call))
+      ⊎ ((is_allowed x m.outstanding_work call ≡ true) × (told ≡ Refused fault.OutOfMemory) × IsLeftWanting x m call left)
 
   -- a member that has failed refuses each call, and stays as it was
   abbrev pub AnswersAlive : Option (StateFacts K L D) → MemberFacts K L D → CallFacts D → Told K D → MemberFacts K L D → Type 0

@@ -5,7 +5,7 @@ use Rattle.simplex_types.specs.declared.types.fault.Fault.TheVariants.{OutOfMemo
 use Rattle.simplex_voter.specs.Facts.{StateFacts}
 use Rattle.simplex_member.specs.Allowed.{fault_of, needs_room, may_fall}
 use Rattle.simplex_member.specs.Calls.{CallFacts}
-use Rattle.simplex_member.specs.Openings.{Openings}
+use Rattle.simplex_member.specs.OutstandingWork.{OutstandingWork}
 use Rattle.simplex_member.specs.declared.member.refusal.Refusal.{Refusal}
 use Rattle.simplex_member.specs.declared.member.refusal.Refusal.TheVariants as refusal
 use Rattle.simplex_member.specs.declared.member.call_error.CallError.{CallError}
@@ -62,6 +62,6 @@ module _ {K L D : Type 0} where
   EndsCall call x y error = Ends (needs_room x call) (may_fall x call) (fault_of x call) x y error
 
 -- what is open stays so, unless the state is lost
-abbrev pub KeepsOpen : {K D : Type 0} → Openings K D → Openings K D → CallError → Type 0
+abbrev pub KeepsOpen : {K D : Type 0} → OutstandingWork K D → OutstandingWork K D → CallError → Type 0
 KeepsOpen o left (Refused fault) = left ≡ o
 KeepsOpen o left Lost = Unit {0}

@@ -9,7 +9,7 @@ use Rattle.simplex_record.specs.declared.record.error.RecoverError.{RecoverError
 use Rattle.simplex_record.specs.declared.record.error.RecoverError.TheVariants as error
 use Rattle.simplex_record.specs.Entries.{entry_view}
 use Rattle.simplex_record.specs.Cuts.{without_last, pruned_entries}
-use Rattle.simplex_member.specs.Openings.{no_openings}
+use Rattle.simplex_member.specs.OutstandingWork.{no_outstanding_work}
 use Rattle.simplex_member.specs.Lives.{MemberFacts, without_life}
 use Rattle.simplex_record.specs.Votes.{SignedVote, pruned_votes}
 use Rattle.simplex_record.specs.Recovery.{recovered_state, recover_error, with_floor}
@@ -64,7 +64,7 @@ module _ {K L D : Type 0} (same : D → D → Bool) (elect : Elect L) where
   abbrev pub new_life : MemberFacts K L D → StartFacts K L D → List (ArtifactFacts D) → MemberFacts K L D
   new_life m start copy = record m {
     life = Some (recovered_state same elect (new_state start.setup) start.floor start.now copy);
-    openings = no_openings;
+    outstanding_work = no_outstanding_work;
     entries = with_floor m.entries start.floor;
     retention = start.setup.settings.view_retention;
     least_retention = min m.least_retention start.setup.settings.view_retention;

@@ -5,7 +5,7 @@ mod calls;
 mod handing;
 mod journal;
 mod life;
-mod openings;
+mod outstanding_work;
 mod parts;
 mod pruning;
 mod refusal;

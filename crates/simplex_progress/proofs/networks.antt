@@ -1,5 +1,5 @@
 pub mod Followed
-pub mod Places
+pub mod Replicas
 pub mod Continued
 pub mod FreshStarts
 pub mod Together

@@ -6,32 +6,32 @@ use Rattle.simplex_types.specs.declared.types.messages.Subject.TheVariants.{Nota
 use Rattle.simplex_voter.specs.Facts.{Elect}
 use Rattle.simplex_member.specs.Calls.{SetProposal, Proposed}
 use Rattle.simplex_member.specs.Runs.{Calls}
-use Rattle.simplex_laws.specs.Continuations.{PlacesGoOn, EachHonest, SomeHonest, HonestlyBacked, GoesOnToFinalize}
-use Rattle.simplex_laws.specs.Deeds.{Deed, Accepts, Signs}
-use Rattle.simplex_laws.specs.Places.{Place, Honest, faults, max_faults, Backed, IsNetworkOf}
-use Rattle.simplex_laws.specs.Stories.{Story, deeds_of}
+use Rattle.simplex_laws.specs.Continuations.{ReplicasGoOn, EachHonest, SomeHonest, HonestlyBacked, GoesOnToFinalize}
+use Rattle.simplex_laws.specs.Traces.{TraceEvent, Accepts, Signs}
+use Rattle.simplex_laws.specs.Replicas.{Replica, Honest, faults, max_faults, Backed, IsNetworkOf}
+use Rattle.simplex_laws.specs.Executions.{Execution, trace_of}
 use Rattle.simplex_progress.specs.Soon.{Exchanges}
 
 module _ {K L D : Type 0} where
   -- an honest member accepted the certificate, was handed the proposal as one of the view, gave its payload as built, or voted for it
-  abbrev pub IsAccepted : Subject D → List (Place K L D) → Type 0
-  IsAccepted c network = SomeHonest network (λ i s. Contains (deeds_of s) (Accepts c))
+  abbrev pub IsAccepted : Subject D → List (Replica K L D) → Type 0
+  IsAccepted c network = SomeHonest network (λ i s. Contains (trace_of s) (Accepts c))
 
-  abbrev pub IsHeard : ℕ → Proposal D → List (Place K L D) → Type 0
+  abbrev pub IsHeard : ℕ → Proposal D → List (Replica K L D) → Type 0
   IsHeard v p network = SomeHonest network (λ i s. Contains s.steps (Calls (SetProposal v p)))
 
-  abbrev pub IsGiven : Proposal D → List (Place K L D) → Type 0
+  abbrev pub IsGiven : Proposal D → List (Replica K L D) → Type 0
   IsGiven p network = SomeHonest network (λ i s. (now : ℕ) × Contains s.steps (Calls (Proposed p.round.view p.payload now)))
 
-  abbrev pub IsVotedFor : Proposal D → List (Place K L D) → Type 0
-  IsVotedFor p network = SomeHonest network (λ i s. Contains (deeds_of s) (Signs i (Notarize p)))
+  abbrev pub IsVotedFor : Proposal D → List (Replica K L D) → Type 0
+  IsVotedFor p network = SomeHonest network (λ i s. Contains (trace_of s) (Signs i (Notarize p)))
 
   -- what no honest member had accepted before, and the honest ones of this network don't make alone, none accepted later
-  abbrev pub AcceptsNoForged : (before voting later : List (Place K L D)) → Type 0
+  abbrev pub AcceptsNoForged : (before voting later : List (Replica K L D)) → Type 0
   AcceptsNoForged before voting later = (c : Subject D) → (IsAccepted c before → ⊥) → (HonestlyBacked voting c → ⊥) → IsAccepted c later → ⊥
 
   -- what none had been handed before, and none of this network voted for, or none gave as built, none was handed later
-  abbrev pub HearsNoForged : (before building later : List (Place K L D)) → Type 0
+  abbrev pub HearsNoForged : (before building later : List (Replica K L D)) → Type 0
   HearsNoForged before building later =
       (v : ℕ) (p : Proposal D) → (IsHeard v p before → ⊥) → (IsVotedFor p building → ⊥) ⊎ (IsGiven p building → ⊥) → IsHeard v p later → ⊥
 
@@ -40,51 +40,51 @@ module _ (K : Type 0) {L D : Type 0} (same : D → D → Bool) (elect : Elect L)
   -- honest ones have done what they had done
   abbrev pub MembersGoOn : Type 0
   MembersGoOn =
-      (term_length : ℕ) (network later : List (Place K L D)) (final : Proposal D)
+      (term_length : ℕ) (network later : List (Replica K L D)) (final : Proposal D)
       → IsNetworkOf same elect term_length network
       → GoesOnToFinalize same elect term_length network later final
       → IsNetworkOf same elect term_length later × (length later ≡ length network) × (faults later ≡ faults network)
-      × EachHonest network (λ i s. (t : Story K L D) × (slice_get later i ≡ Some (Honest t)) × (t.start ≡ s.start)
-      × ((d : Deed D) → Contains (deeds_of s) d → Contains (deeds_of t) d))
+      × EachHonest network (λ i s. (t : Execution K L D) × (slice_get later i ≡ Some (Honest t)) × (t.start ≡ s.start)
+      × ((d : TraceEvent D) → Contains (trace_of s) d → Contains (trace_of t) d))
 
   -- no proposal of the finalized view or above could be finalized before; now each honest member has signed the vote to finalize
   -- this one and accepted its finalization, which the honest members alone make
   abbrev pub FinalizationsAreNew : Type 0
   FinalizationsAreNew =
-      (term_length : ℕ) (network later : List (Place K L D)) (final : Proposal D)
+      (term_length : ℕ) (network later : List (Replica K L D)) (final : Proposal D)
       → IsNetworkOf same elect term_length network
       → GoesOnToFinalize same elect term_length network later final
       → ((p : Proposal D) → final.round.view ≤ p.round.view → Backed network (Finalize p) → ⊥)
-      × EachHonest later (λ i t. Contains (deeds_of t) (Signs i (Finalize final)) × Contains (deeds_of t) (Accepts (Finalize final))
+      × EachHonest later (λ i t. Contains (trace_of t) (Signs i (Finalize final)) × Contains (trace_of t) (Accepts (Finalize final))
       × HonestlyBacked later (Finalize final))
 
   -- and nothing came that faulty members made
   abbrev pub NothingIsForged : Type 0
   NothingIsForged =
-      (term_length : ℕ) (network later : List (Place K L D)) (final : Proposal D)
+      (term_length : ℕ) (network later : List (Replica K L D)) (final : Proposal D)
       → GoesOnToFinalize same elect term_length network later final
       → AcceptsNoForged network later later × HearsNoForged network later later
 
   -- so where more than f are faulty, and any member is honest, no network goes on to finalize
   abbrev pub TooManyAreFaulty : Type 0
   TooManyAreFaulty =
-      (term_length : ℕ) (network later : List (Place K L D)) (final : Proposal D)
+      (term_length : ℕ) (network later : List (Replica K L D)) (final : Proposal D)
       → IsNetworkOf same elect term_length network
       → max_faults (length network) < faults network
       → EachHonest network (λ i s. GoesOnToFinalize same elect term_length network later final → ⊥)
 
   -- by exchanges of messages a network goes on
   abbrev pub ExchangesGoOn : Type 0
-  ExchangesGoOn = (count : ℕ) (network later : List (Place K L D)) → Exchanges count network later → PlacesGoOn network later
+  ExchangesGoOn = (count : ℕ) (network later : List (Replica K L D)) → Exchanges count network later → ReplicasGoOn network later
 
   -- one brings what had been signed or built before it
   abbrev pub ExchangesBringWhatWas : Type 0
   ExchangesBringWhatWas =
-      (network later : List (Place K L D)) → Exchanges 1 network later → AcceptsNoForged network network later × HearsNoForged network network later
+      (network later : List (Replica K L D)) → Exchanges 1 network later → AcceptsNoForged network network later × HearsNoForged network network later
 
   -- so no view is finalized within one, where any member is honest
   abbrev pub OneExchangeIsTooFew : Type 0
   OneExchangeIsTooFew =
-      (term_length : ℕ) (network later : List (Place K L D)) (final : Proposal D)
+      (term_length : ℕ) (network later : List (Replica K L D)) (final : Proposal D)
       → IsNetworkOf same elect term_length network
       → EachHonest later (λ i t. Exchanges 1 network later → GoesOnToFinalize same elect term_length network later final → ⊥)

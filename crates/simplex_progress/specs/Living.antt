@@ -7,8 +7,8 @@ use Rattle.simplex_member.specs.Runs.{IsRun}
 use Rattle.simplex_member.specs.Start.{started_member}
 use Rattle.simplex_record.specs.Start.{new_state}
 use Rattle.simplex_laws.specs.Continuations.{EachHonest}
-use Rattle.simplex_laws.specs.Places.{Place}
-use Rattle.simplex_laws.specs.Stories.{Story}
+use Rattle.simplex_laws.specs.Replicas.{Replica}
+use Rattle.simplex_laws.specs.Executions.{Execution}
 
 module _ {K L D : Type 0} where
   -- the member's life is set up as this one of the network's, and a view that is entered at moment 0 has deadlines in time
@@ -20,13 +20,13 @@ module _ {K L D : Type 0} where
     pub on_time : has_late_deadline x 0 ≡ false
 
 module _ {K L D : Type 0} (same : D → D → Bool) (elect : Elect L) where
-  -- the story leads to a member that lives, and this is what its state knows
-  abbrev pub LivesWith : Story K L D → StateFacts K L D → Type 0
+  -- the execution leads to a member that lives, and this is what its state knows
+  abbrev pub LivesWith : Execution K L D → StateFacts K L D → Type 0
   LivesWith s x =
       (m : MemberFacts K L D)
       × IsRun same elect (started_member same elect (new_state s.start.setup) s.start.floor s.start.now) s.steps s.replies m
       × (m.life ≡ Some x)
 
   -- each honest member of the network lives with such a state
-  abbrev pub EachLives : List (Place K L D) → (ℕ → StateFacts K L D → Type 0) → Type 0
+  abbrev pub EachLives : List (Replica K L D) → (ℕ → StateFacts K L D → Type 0) → Type 0
   EachLives network P = EachHonest network (λ i s. (x : StateFacts K L D) × LivesWith s x × P i x)

@@ -5,17 +5,17 @@ use Rattle.simplex_types.specs.declared.types.messages.Proposal.{Proposal}
 use Rattle.simplex_types.specs.declared.types.messages.Subject.{Subject}
 use Rattle.simplex_voter.specs.Facts.{Elect}
 use Rattle.simplex_voter.specs.Refusals.{is_too_large}
-use Rattle.simplex_laws.specs.Continuations.{PlacesGoOn, EachHonest, SomeHonest, HasAccepted, HasHeard, HonestlyBacked, GoesOnToFinalize}
-use Rattle.simplex_laws.specs.Places.{Place, Honest, faults, max_faults, IsNetworkOf}
-use Rattle.simplex_laws.specs.Stories.{Story}
+use Rattle.simplex_laws.specs.Continuations.{ReplicasGoOn, EachHonest, SomeHonest, HasAccepted, HasHeard, HonestlyBacked, GoesOnToFinalize}
+use Rattle.simplex_laws.specs.Replicas.{Replica, Honest, faults, max_faults, IsNetworkOf}
+use Rattle.simplex_laws.specs.Executions.{Execution}
 use Rattle.simplex_progress.specs.Living.{IsSetUpAs, EachLives}
 use Rattle.simplex_progress.specs.Standing.{StandsBefore, proposal_in}
 use Rattle.simplex_progress.specs.Together.{terms_on}
 
 module _ {K L D : Type 0} (same : D → D → Bool) (elect : Elect L) where
   -- the network may go on, by what its honest members do alone, to where each of them stands at one view, on one parent
-  pub record Meets (term_length epoch : ℕ) (elector : L) (network later : List (Place K L D)) (parent view start : ℕ) : Type 0 where
-    pub goes_on : PlacesGoOn network later
+  pub record Meets (term_length epoch : ℕ) (elector : L) (network later : List (Replica K L D)) (parent view start : ℕ) : Type 0 where
+    pub goes_on : ReplicasGoOn network later
     pub runs : IsNetworkOf same elect term_length later
     -- a certificate that an honest member accepts was accepted by an honest one before, or honest ones alone make it
     pub certificates : EachHonest later (λ i s. (c : Subject D) → HasAccepted c i s → SomeHonest network (HasAccepted c) ⊎ HonestlyBacked later c)
@@ -27,7 +27,7 @@ module _ (K : Type 0) {L D : Type 0} (same : D → D → Bool) (elect : Elect L)
   -- from there they go on together; so from the first network a view is finalized that is above all that could be before
   abbrev pub WhoMeetsGoesOn : Type 0
   WhoMeetsGoesOn =
-      (term_length epoch leader parent view start terms : ℕ) (elector : L) (network between : List (Place K L D)) (payload : D)
+      (term_length epoch leader parent view start terms : ℕ) (elector : L) (network between : List (Replica K L D)) (payload : D)
       → IsNetworkOf same elect term_length network
       → faults network ≤ max_faults (length network)
       → Meets same elect term_length epoch elector network between parent view start
@@ -35,5 +35,5 @@ module _ (K : Type 0) {L D : Type 0} (same : D → D → Bool) (elect : Elect L)
       → start ≡ term_start term_length start
       → is_too_large start ≡ false
       → ((bytes : List ℕ) → elect elector (record { epoch = epoch; view = start }) (Some bytes) ≡ leader)
-      → (s : Story K L D) × (slice_get network leader ≡ Some (Honest s))
-      → (later : List (Place K L D)) × GoesOnToFinalize same elect term_length network later (proposal_in epoch start parent payload)
+      → (s : Execution K L D) × (slice_get network leader ≡ Some (Honest s))
+      → (later : List (Replica K L D)) × GoesOnToFinalize same elect term_length network later (proposal_in epoch start parent payload)

@@ -5,18 +5,18 @@ use Rattle.simplex_types.specs.declared.types.messages.Proposal.{Proposal}
 use Rattle.simplex_voter.specs.Facts.{is_tracked}
 use Rattle.simplex_voter.specs.Refusals.{is_too_large}
 use Rattle.simplex_laws.specs.Continuations.{GoesOnToFinalize}
-use Rattle.simplex_laws.specs.Places.{Place, Faulty, Honest}
-use Rattle.simplex_laws.specs.Stories.{Story}
-use Rattle.simplex_laws.specs.Turns.{in_turn, begin_at, story_from}
+use Rattle.simplex_laws.specs.Replicas.{Replica, Faulty, Honest}
+use Rattle.simplex_laws.specs.Executions.{Execution}
+use Rattle.simplex_laws.specs.ScenarioSteps.{in_turn, begin_at, execution_from}
 use Rattle.simplex_progress.specs.Going.{AreConsistent}
 use Rattle.simplex_progress.specs.Living.{IsSetUpAs, EachLives}
 
 -- a member of five, in terms of one view, that did nothing yet
-abbrev pub idle_of_five : ℕ → Story ℕ ℕ ℕ
-idle_of_five me = story_from (record (begin_at 1 me) { setup = record (begin_at 1 me).setup { members = 0 ∷ 1 ∷ 2 ∷ 3 ∷ 4 ∷ [] } }) []
+abbrev pub idle_of_five : ℕ → Execution ℕ ℕ ℕ
+idle_of_five me = execution_from (record (begin_at 1 me) { setup = record (begin_at 1 me).setup { members = 0 ∷ 1 ∷ 2 ∷ 3 ∷ 4 ∷ [] } }) []
 
 -- two of the five are faulty: more than f = 1, but fewer than n - 2f = 3
-abbrev pub with_two_faulty : List (Place ℕ ℕ ℕ)
+abbrev pub with_two_faulty : List (Replica ℕ ℕ ℕ)
 with_two_faulty = Faulty ∷ Faulty ∷ Honest (idle_of_five 2) ∷ Honest (idle_of_five 3) ∷ Honest (idle_of_five 4) ∷ []
 
 -- all that is asked of it, where view 4 is to be finalized, but that at most f are faulty
@@ -27,8 +27,8 @@ MayGoOnOtherwise =
     × (4 ≡ term_start 1 4)
     × (is_too_large 4 ≡ false)
     × ((bytes : List ℕ) → in_turn 1 (record { epoch = 1; view = 4 }) (Some bytes) ≡ 2)
-    × (s : Story ℕ ℕ ℕ) × (slice_get with_two_faulty 2 ≡ Some (Honest s))
+    × (s : Execution ℕ ℕ ℕ) × (slice_get with_two_faulty 2 ≡ Some (Honest s))
 
 -- it goes on to finalize nothing
 abbrev pub IsStuck : Type 0
-IsStuck = (later : List (Place ℕ ℕ ℕ)) (final : Proposal ℕ) → GoesOnToFinalize nat_eq in_turn 1 with_two_faulty later final → ⊥
+IsStuck = (later : List (Replica ℕ ℕ ℕ)) (final : Proposal ℕ) → GoesOnToFinalize nat_eq in_turn 1 with_two_faulty later final → ⊥

@@ -6,12 +6,12 @@ use Rattle.simplex_types.specs.declared.types.messages.Subject.TheVariants as su
 use Rattle.simplex_types.specs.declared.types.numbers.Round.{Round}
 use Rattle.simplex_round.specs.Round.{is_judged}
 use Rattle.simplex_voter.specs.Facts.{StateFacts, Elect, round_of}
-use Rattle.simplex_voter.specs.Payloads.{explicit_payload}
+use Rattle.simplex_voter.specs.Payloads.{explicit_ancestry_payload}
 use Rattle.simplex_member.specs.Calls.{Told, Judged}
-use Rattle.simplex_laws.specs.Continuations.{StoryGoesOn}
-use Rattle.simplex_laws.specs.Deeds.{Deed, Accepts}
+use Rattle.simplex_laws.specs.Continuations.{ExecutionGoesOn}
+use Rattle.simplex_laws.specs.Traces.{TraceEvent, Accepts}
 use Rattle.simplex_laws.specs.Lawful.{HasSigned, SignsAfter}
-use Rattle.simplex_laws.specs.Stories.{Story, deeds_of, OfEachMember}
+use Rattle.simplex_laws.specs.Executions.{Execution, trace_of, OfEachMember}
 use Rattle.simplex_progress.specs.Living.{LivesWith}
 
 -- the verdict that a reply tells, with the proposal whose notarization was held
@@ -25,7 +25,7 @@ judged_in [] = []
 judged_in (told ∷ replies) = judged_by told ++ judged_in replies
 
 -- all verdicts that a member was told, oldest first
-abbrev pub judged_of : {K L D : Type 0} → Story K L D → List (Bool × Proposal D)
+abbrev pub judged_of : {K L D : Type 0} → Execution K L D → List (Bool × Proposal D)
 judged_of s = judged_in s.replies
 
 -- a view of this epoch
@@ -34,8 +34,8 @@ IsIn epoch view round = (round.view ≡ view) × (round.epoch ≡ epoch)
 
 module _ {D : Type 0} where
   -- a finalization of the view was accepted
-  abbrev pub HasFinalized : ℕ → List (Deed D) → ℕ → Type 0
-  HasFinalized epoch deeds view = (p : Proposal D) × Contains deeds (Accepts (subject.Finalize p)) × IsIn epoch view p.round
+  abbrev pub HasFinalized : ℕ → List (TraceEvent D) → ℕ → Type 0
+  HasFinalized epoch trace view = (p : Proposal D) × Contains trace (Accepts (subject.Finalize p)) × IsIn epoch view p.round
 
   -- this verdict was told on a proposal of the view
   abbrev pub HasJudged : Bool → ℕ → List (Bool × Proposal D) → ℕ → Type 0
@@ -46,41 +46,41 @@ module _ {D : Type 0} where
   HasCertified epoch verdicts view = HasJudged true epoch verdicts view
 
   -- a nullification of the view was accepted
-  abbrev pub HasNullified : ℕ → List (Deed D) → ℕ → Type 0
-  HasNullified epoch deeds view = (round : Round) × Contains deeds (Accepts (subject.Nullify round)) × IsIn epoch view round
+  abbrev pub HasNullified : ℕ → List (TraceEvent D) → ℕ → Type 0
+  HasNullified epoch trace view = (round : Round) × Contains trace (Accepts (subject.Nullify round)) × IsIn epoch view round
 
 -- a view is the first one, or lies just above one that was finalized or certified, or begins the term after one that was nullified
-pub data IsLedTo {D : Type 0} (term_length epoch : ℕ) (deeds : List (Deed D)) (verdicts : List (Bool × Proposal D)) (view : ℕ) : Type 0 where
-  First : view ≡ 1 → IsLedTo term_length epoch deeds verdicts view
-  PastFinalized : (below : ℕ) → HasFinalized epoch deeds below → view ≡ below + 1 → IsLedTo term_length epoch deeds verdicts view
-  PastCertified : (below : ℕ) → HasCertified epoch verdicts below → view ≡ below + 1 → IsLedTo term_length epoch deeds verdicts view
-  PastNullified : (below : ℕ) → HasNullified epoch deeds below → view ≡ next_term_start term_length below → IsLedTo term_length epoch deeds verdicts view
+pub data IsLedTo {D : Type 0} (term_length epoch : ℕ) (trace : List (TraceEvent D)) (verdicts : List (Bool × Proposal D)) (view : ℕ) : Type 0 where
+  First : view ≡ 1 → IsLedTo term_length epoch trace verdicts view
+  PastFinalized : (below : ℕ) → HasFinalized epoch trace below → view ≡ below + 1 → IsLedTo term_length epoch trace verdicts view
+  PastCertified : (below : ℕ) → HasCertified epoch verdicts below → view ≡ below + 1 → IsLedTo term_length epoch trace verdicts view
+  PastNullified : (below : ℕ) → HasNullified epoch trace below → view ≡ next_term_start term_length below → IsLedTo term_length epoch trace verdicts view
 
 module _ (K : Type 0) {L D : Type 0} (same : D → D → Bool) (elect : Elect L) where
   -- where a member lives, its current view was led to in its epoch
   abbrev pub CurrentViewsAreLedTo : Type 0
   CurrentViewsAreLedTo =
       OfEachMember K same elect (λ term_length s. (x : StateFacts K L D) → LivesWith same elect s x
-      → IsLedTo term_length x.settings.epoch (deeds_of s) (judged_of s) x.current)
+      → IsLedTo term_length x.settings.epoch (trace_of s) (judged_of s) x.current)
 
   -- where a member lives, each view that a proposal may be built on, but genesis, was finalized or certified
   abbrev pub ExplicitViewsAreAccepted : Type 0
   ExplicitViewsAreAccepted =
       OfEachMember K same elect (λ term_length s. (x : StateFacts K L D) → LivesWith same elect s x
-      → (v : ℕ) (payload : D) → 0 < v → explicit_payload x v ≡ Some payload
-      → HasFinalized x.settings.epoch (deeds_of s) v ⊎ HasCertified x.settings.epoch (judged_of s) v)
+      → (v : ℕ) (payload : D) → 0 < v → explicit_ancestry_payload x v ≡ Some payload
+      → HasFinalized x.settings.epoch (trace_of s) v ⊎ HasCertified x.settings.epoch (judged_of s) v)
 
   -- each view that a member voted to nullify was led to in the vote's epoch
   abbrev pub NullifiedViewsAreLedTo : Type 0
   NullifiedViewsAreLedTo =
-      OfEachMember K same elect (λ term_length s. (round : Round) → HasSigned (deeds_of s) (subject.Nullify round)
-      → IsLedTo term_length round.epoch (deeds_of s) (judged_of s) round.view)
+      OfEachMember K same elect (λ term_length s. (round : Round) → HasSigned (trace_of s) (subject.Nullify round)
+      → IsLedTo term_length round.epoch (trace_of s) (judged_of s) round.view)
 
-  -- and before that vote: by what the member had done and was told in the story up to it
+  -- and before that vote: by what the member had done and was told in the execution up to it
   abbrev pub NullifyVotesComeAfter : Type 0
   NullifyVotesComeAfter =
-      OfEachMember K same elect (λ term_length s. (before : List (Deed D)) (round : Round) → SignsAfter (deeds_of s) before (subject.Nullify round)
-      → (earlier : Story K L D) × StoryGoesOn earlier s × (deeds_of earlier ≡ before)
+      OfEachMember K same elect (λ term_length s. (before : List (TraceEvent D)) (round : Round) → SignsAfter (trace_of s) before (subject.Nullify round)
+      → (earlier : Execution K L D) × ExecutionGoesOn earlier s × (trace_of earlier ≡ before)
       × IsLedTo term_length round.epoch before (judged_of earlier) round.view)
 
   -- where a member lives, each verdict that stands was told
@@ -93,4 +93,4 @@ module _ (K : Type 0) {L D : Type 0} (same : D → D → Bool) (elect : Elect L)
   abbrev pub JudgedAreNotarized : Type 0
   JudgedAreNotarized =
       OfEachMember K same elect (λ term_length s. (success : Bool) (p : Proposal D) → Contains (judged_of s) (success, p)
-      → Contains (deeds_of s) (Accepts (subject.Notarize p)))
+      → Contains (trace_of s) (Accepts (subject.Notarize p)))

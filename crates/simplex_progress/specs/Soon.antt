@@ -5,8 +5,8 @@ use Rattle.simplex_types.specs.declared.types.messages.Proposal.{Proposal}
 use Rattle.simplex_types.specs.declared.types.messages.Subject.{Subject}
 use Rattle.simplex_voter.specs.Facts.{StateFacts, Elect, is_tracked}
 use Rattle.simplex_voter.specs.Refusals.{is_too_large}
-use Rattle.simplex_laws.specs.Continuations.{PlacesGoOn, EachHonest, SomeHonest, HasAccepted, HasHeard, HasBuilt, HonestlyBacked, GoesOnToFinalize}
-use Rattle.simplex_laws.specs.Places.{Place, faults, max_faults, IsNetworkOf}
+use Rattle.simplex_laws.specs.Continuations.{ReplicasGoOn, EachHonest, SomeHonest, HasAccepted, HasHeard, HasBuilt, HonestlyBacked, GoesOnToFinalize}
+use Rattle.simplex_laws.specs.Replicas.{Replica, faults, max_faults, IsNetworkOf}
 use Rattle.simplex_progress.specs.Going.{AreConsistent, MayGoOn}
 use Rattle.simplex_progress.specs.Living.{IsSetUpAs, LivesWith, EachLives}
 use Rattle.simplex_progress.specs.Standing.{proposal_in}
@@ -15,26 +15,26 @@ use Rattle.simplex_progress.specs.Together.{terms_on}
 module _ {K L D : Type 0} where
   -- one exchange of messages: what comes to an honest member was accepted, handed in or built by an honest one before, or is made
   -- of votes that honest ones had signed before
-  pub record IsExchange (network later : List (Place K L D)) : Type 0 where
-    pub goes_on : PlacesGoOn network later
+  pub record IsExchange (network later : List (Replica K L D)) : Type 0 where
+    pub goes_on : ReplicasGoOn network later
     pub certificates : EachHonest later (λ i s. (c : Subject D) → HasAccepted c i s → SomeHonest network (HasAccepted c) ⊎ HonestlyBacked network c)
     pub proposals : EachHonest later (λ i s. (v : ℕ) (p : Proposal D) → HasHeard v p s
         → SomeHonest network (λ j t. HasHeard v p t) ⊎ SomeHonest network (HasBuilt p))
 
   -- so many, one after another
-  abbrev pub Exchanges : ℕ → List (Place K L D) → List (Place K L D) → Type 0
+  abbrev pub Exchanges : ℕ → List (Replica K L D) → List (Replica K L D) → Type 0
   Exchanges zero network later = later ≡ network
-  Exchanges (suc count) network later = (between : List (Place K L D)) × IsExchange network between × Exchanges count between later
+  Exchanges (suc count) network later = (between : List (Replica K L D)) × IsExchange network between × Exchanges count between later
 
 module _ (K : Type 0) {L D : Type 0} (same : D → D → Bool) (elect : Elect L) where
   -- from a network with an honest member at most so many terms before the start's, it takes one for each of these terms, and four
   abbrev pub IsFinalizedSoon : Type 0
   IsFinalizedSoon =
-      (term_length epoch leader start terms : ℕ) (elector : L) (network : List (Place K L D)) (payload : D)
+      (term_length epoch leader start terms : ℕ) (elector : L) (network : List (Replica K L D)) (payload : D)
       → IsNetworkOf same elect term_length network
       → MayGoOn same elect term_length network epoch elector leader start
       → SomeHonest network (λ i s. (x : StateFacts K L D) → LivesWith same elect s x → term_index term_length start ≤ term_index term_length x.current + terms)
-      → (later : List (Place K L D)) × (parent : ℕ)
+      → (later : List (Replica K L D)) × (parent : ℕ)
       × Exchanges (terms + 4) network later
       × GoesOnToFinalize same elect term_length network later (proposal_in epoch start parent payload)
 
@@ -42,7 +42,7 @@ module _ (K : Type 0) {L D : Type 0} (same : D → D → Bool) (elect : Elect L)
   -- and it takes one for each term that is skipped, and f + 5
   abbrev pub IsFinalizedInTurn : Type 0
   IsFinalizedInTurn =
-      (term_length epoch view turn skipped : ℕ) (elector : L) (network : List (Place K L D)) (payload : D)
+      (term_length epoch view turn skipped : ℕ) (elector : L) (network : List (Replica K L D)) (payload : D)
       → IsNetworkOf same elect term_length network
       → (0 < length network)
       → (faults network ≤ max_faults (length network))
@@ -52,6 +52,6 @@ module _ (K : Type 0) {L D : Type 0} (same : D → D → Bool) (elect : Elect L)
       → AreConsistent same elect epoch network
       → ((v : ℕ) (bytes : List ℕ) → elect elector (record { epoch = epoch; view = v }) (Some bytes) ≡ (term_index term_length v + turn) % length network)
       → is_too_large (terms_on term_length (suc (skipped + max_faults (length network))) view) ≡ false
-      → (later : List (Place K L D)) × (parent : ℕ) × (start : ℕ)
+      → (later : List (Replica K L D)) × (parent : ℕ) × (start : ℕ)
       × Exchanges (skipped + max_faults (length network) + 5) network later
       × GoesOnToFinalize same elect term_length network later (proposal_in epoch start parent payload)

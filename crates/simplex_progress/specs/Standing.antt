@@ -8,7 +8,7 @@ use Rattle.simplex_round.specs.Slot.{empty_slot}
 use Rattle.simplex_voter.specs.Facts.{StateFacts, round_at, is_tracked}
 use Rattle.simplex_voter.specs.Gaps.{is_gapless}
 use Rattle.simplex_voter.specs.Parents.{highest_explicit}
-use Rattle.simplex_voter.specs.Payloads.{explicit_payload}
+use Rattle.simplex_voter.specs.Payloads.{explicit_ancestry_payload}
 
 -- the proposal of a view in an epoch
 abbrev pub proposal_in : {D : Type 0} → ℕ → ℕ → ℕ → D → Proposal D
@@ -35,7 +35,7 @@ module _ {K L D : Type 0} where
     pub below : parent < view
     pub not_passed : x.finalized ≤ parent
     pub payload : D
-    pub explicit : explicit_payload x parent ≡ Some payload
+    pub explicit : explicit_ancestry_payload x parent ≡ Some payload
     pub gapless : is_gapless x parent view ≡ true
 
   -- the member builds on that parent: no higher one is explicit
@@ -48,4 +48,4 @@ module _ {K L D : Type 0} where
     pub stands : CanStandOn parent view x
     pub untouched : is_tracked x start ≡ false
     -- none above the parent is certified or finalized
-    pub highest : (v : ℕ) → parent < v → explicit_payload x v ≡ None
+    pub highest : (v : ℕ) → parent < v → explicit_ancestry_payload x v ≡ None

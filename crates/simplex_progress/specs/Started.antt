@@ -2,22 +2,22 @@
 use Rattle.std.specs.Prelude.{ℕ, List, [], ◌∷◌, nat_eq}
 use Rattle.simplex_voter.specs.Facts.{StateFacts}
 use Rattle.simplex_laws.specs.Continuations.{GoesOnToFinalize}
-use Rattle.simplex_laws.specs.Places.{Place, Faulty, Honest}
-use Rattle.simplex_laws.specs.Stories.{Story}
-use Rattle.simplex_laws.specs.Turns.{in_turn, begins_with}
+use Rattle.simplex_laws.specs.Replicas.{Replica, Faulty, Honest}
+use Rattle.simplex_laws.specs.Executions.{Execution}
+use Rattle.simplex_laws.specs.ScenarioSteps.{in_turn, begins_with}
 use Rattle.simplex_progress.specs.Living.{IsSetUpAs}
 use Rattle.simplex_progress.specs.Standing.{IsFreshStart, CanStandOn, StandsBefore, proposal_in}
 
 -- a member that did nothing yet
-abbrev pub idle : ℕ → Story ℕ ℕ ℕ
+abbrev pub idle : ℕ → Execution ℕ ℕ ℕ
 idle me = begins_with 1 me []
 
 -- the leader of view 1 is honest
-abbrev pub with_first_leader : List (Place ℕ ℕ ℕ)
+abbrev pub with_first_leader : List (Replica ℕ ℕ ℕ)
 with_first_leader = Faulty ∷ Honest (idle 1) ∷ Honest (idle 2) ∷ Honest (idle 3) ∷ []
 
 -- only that of view 2 is
-abbrev pub with_second_leader : List (Place ℕ ℕ ℕ)
+abbrev pub with_second_leader : List (Replica ℕ ℕ ℕ)
 with_second_leader = Honest (idle 0) ∷ Honest (idle 1) ∷ Honest (idle 2) ∷ Faulty ∷ []
 
 -- what each knows: it stands at view 1, which nobody touched, on genesis
@@ -29,5 +29,5 @@ abbrev pub StandsBeforeSecond : ℕ → StateFacts ℕ ℕ ℕ → Type 0
 StandsBeforeSecond i x = IsSetUpAs 1 4 1 i x × StandsBefore 0 1 2 x
 
 -- the network goes on to finalize this view, on genesis
-abbrev pub Finalizes : List (Place ℕ ℕ ℕ) → ℕ → Type 0
-Finalizes network view = (later : List (Place ℕ ℕ ℕ)) × GoesOnToFinalize nat_eq in_turn 1 network later (proposal_in 1 view 0 7)
+abbrev pub Finalizes : List (Replica ℕ ℕ ℕ) → ℕ → Type 0
+Finalizes network view = (later : List (Replica ℕ ℕ ℕ)) × GoesOnToFinalize nat_eq in_turn 1 network later (proposal_in 1 view 0 7)

@@ -4,8 +4,8 @@ use Rattle.simplex_types.specs.Terms.{term_start, next_term_start}
 use Rattle.simplex_voter.specs.Facts.{Elect}
 use Rattle.simplex_voter.specs.Refusals.{is_too_large}
 use Rattle.simplex_laws.specs.Continuations.{GoesOnToFinalize}
-use Rattle.simplex_laws.specs.Places.{Place, Honest, faults, max_faults, IsNetworkOf}
-use Rattle.simplex_laws.specs.Stories.{Story}
+use Rattle.simplex_laws.specs.Replicas.{Replica, Honest, faults, max_faults, IsNetworkOf}
+use Rattle.simplex_laws.specs.Executions.{Execution}
 use Rattle.simplex_progress.specs.Living.{IsSetUpAs, EachLives}
 use Rattle.simplex_progress.specs.Standing.{StandsBefore, proposal_in}
 
@@ -18,13 +18,13 @@ module _ (K : Type 0) {L D : Type 0} (same : D → D → Bool) (elect : Elect L)
   -- they give up each view up to the start of a correct leader's term, and finalize that
   abbrev pub TogetherTheyGoOn : Type 0
   TogetherTheyGoOn =
-      (term_length epoch leader parent view start terms : ℕ) (elector : L) (network : List (Place K L D)) (payload : D)
+      (term_length epoch leader parent view start terms : ℕ) (elector : L) (network : List (Replica K L D)) (payload : D)
       → IsNetworkOf same elect term_length network
       → faults network ≤ max_faults (length network)
       → start ≡ terms_on term_length (suc terms) view
       → start ≡ term_start term_length start
       → is_too_large start ≡ false
       → ((bytes : List ℕ) → elect elector (record { epoch = epoch; view = start }) (Some bytes) ≡ leader)
-      → (s : Story K L D) × (slice_get network leader ≡ Some (Honest s))
+      → (s : Execution K L D) × (slice_get network leader ≡ Some (Honest s))
       → EachLives same elect network (λ i x. IsSetUpAs epoch (length network) elector i x × StandsBefore parent view start x)
-      → (later : List (Place K L D)) × GoesOnToFinalize same elect term_length network later (proposal_in epoch start parent payload)
+      → (later : List (Replica K L D)) × GoesOnToFinalize same elect term_length network later (proposal_in epoch start parent payload)

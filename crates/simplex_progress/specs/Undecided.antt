@@ -3,7 +3,7 @@ use Rattle.std.specs.Prelude.{◌≡◌, ℕ, ◌≤◌, Bool, true, false}
 use Rattle.simplex_round.specs.Round.{is_finalize}
 use Rattle.simplex_voter.specs.Facts.{StateFacts, Elect, round_of}
 use Rattle.simplex_voter.specs.Rules.{may_nullify}
-use Rattle.simplex_laws.specs.Stories.{OfEachMember}
+use Rattle.simplex_laws.specs.Executions.{OfEachMember}
 use Rattle.simplex_progress.specs.Living.{LivesWith}
 
 module _ (K : Type 0) {L D : Type 0} (same : D → D → Bool) (elect : Elect L) where

@@ -20,14 +20,14 @@ use Rattle.simplex_round.specs.declared.round.Decision.{Decision}
 use Rattle.simplex_round.specs.Slot.{after_own, after_vote, after_mark, holds_or_empty}
 use Rattle.simplex_round.specs.Round.{RoundFacts, new_round, with_decision_deadlines, leader_at, is_nullify, is_finalize, is_pending, is_judged, is_verified_slot, with_latch, with_recovered, awaits_retry, after_nullify}
 use Rattle.simplex_voter.specs.Facts.{StateFacts, Elect, round_at, round_of, round_number, is_tracked, with_round, with_tracked}
-use Rattle.simplex_voter.specs.Windows.{in_window}
+use Rattle.simplex_voter.specs.Windows.{in_issuance_window}
 use Rattle.simplex_voter.specs.Payloads.{is_elected_early}
 use Rattle.simplex_voter.specs.Entering.{at_moment, with_view_entered, entered_round}
 use Rattle.simplex_voter.specs.Leaders.{has_leader, with_leader_at, with_leader_of, with_window_leaders, with_elected_leader, with_next_view_ready}
 use Rattle.simplex_voter.specs.Timeouts.{with_timeout, is_contradicted, round_with_retry}
 use Rattle.simplex_voter.specs.Certification.{named_also, with_finalized_view, waits_for, with_waiting_candidate, with_verdict, verdict_taken, after_certified, takes_verdict, takes_certify_handle, after_set_certify_handle}
 use Rattle.simplex_voter.specs.Acceptance.{with_notarization_at, with_nullification_at, with_finalization_at, after_add_notarization, after_add_nullification, after_add_finalization, after_set_genesis, after_set_floor}
-use Rattle.simplex_voter.specs.Parents.{binding_matches}
+use Rattle.simplex_voter.specs.Parents.{verification_matches}
 use Rattle.simplex_voter.specs.Rules.{may_notarize, may_nullify, may_finalize}
 use Rattle.simplex_voter.specs.Votes.{nullify_cast, finalize_cast, after_construct_notarize, after_construct_nullify, after_construct_finalize}
 use Rattle.simplex_voter.specs.declared.voter.propose.ProposalRequest.{ProposalRequest}
@@ -117,7 +117,7 @@ module _ {K L D : Type 0} {same : D → D → Bool} {elect : Elect L} {low : ℕ
   to_prepared {y} v over path =
       let later = with_elected_leader elect y (v + 1) None in
       let own = (round_of y v).notarize_decided && is_elected_early elect y (v + 1) in
-      either (in_window y (v + 1)) (with_leader_of y v (v + 1)) (if own then later else y) (λ opens. to_inherited v (v + 1) (omega arith) path)
+      either (in_issuance_window y (v + 1)) (with_leader_of y v (v + 1)) (if own then later else y) (λ opens. to_inherited v (v + 1) (omega arith) path)
       (λ shut. either own later y (λ mine. to_elected (v + 1) None (omega arith) path) (λ other. path))
 
   -- entries, timeouts and what waits for certification
@@ -311,17 +311,17 @@ module _ {K L D : Type 0} (same : D → D → Bool) (elect : Elect L) (low : ℕ
       by_round None is = absurd (false≢true is)
       by_round (Some r) is = refl
 
-  verified_path : (v : ℕ) → To (Verified v) (if binding_matches same elect x v then with_tracked x v (with_mark (round_of x v)) else without_binding x v)
+  verified_path : (v : ℕ) → To (Verified v) (if verification_matches same elect x v then with_tracked x v (with_mark (round_of x v)) else without_binding x v)
   verified_path v =
       let r = round_of x v in
-      either (binding_matches same elect x v) (with_tracked x v (with_mark r)) (without_binding x v)
+      either (verification_matches same elect x v) (with_tracked x v (with_mark r)) (without_binding x v)
       (λ bound. put_tracked_either v (is_nullify r.decision) r (record r { slot = after_mark r.slot }) (λ given_up. step.Kept) (λ free. step.Marked refl bound free) Still)
       (λ loose. put_tracked v _ (step.Unbound refl) Still)
 
-  failed_path : (v : ℕ) (reason : TimeoutReason) (now : ℕ) → To (VerificationFailed v reason now) (if binding_matches same elect x v then with_timeout (at_moment x now) v reason now else without_binding (at_moment x now) v)
+  failed_path : (v : ℕ) (reason : TimeoutReason) (now : ℕ) → To (VerificationFailed v reason now) (if verification_matches same elect x v then with_timeout (at_moment x now) v reason now else without_binding (at_moment x now) v)
   failed_path v reason now =
       let m = moved (VerificationFailed v reason now) now in
-      either (binding_matches same elect x v) (with_timeout (at_moment x now) v reason now) (without_binding (at_moment x now) v) (λ bound. to_triggered v reason now m) (λ loose. put_tracked v _ (step.Unbound refl) m)
+      either (verification_matches same elect x v) (with_timeout (at_moment x now) v reason now) (without_binding (at_moment x now) v) (λ bound. to_triggered v reason now m) (λ loose. put_tracked v _ (step.Unbound refl) m)
 
   pub handle_path : (v token : ℕ) → To (SetCertifyHandle v token) (after_set_certify_handle x v token)
   handle_path v token = put_tracked v _ (step.Certifying token refl (λ takes. handle_fits x v takes)) Still

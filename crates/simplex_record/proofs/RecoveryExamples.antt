@@ -5,7 +5,7 @@ use Rattle.simplex_types.specs.Terms.{term_index}
 use Rattle.simplex_types.specs.Config.{FloorFacts, Genesis}
 use Rattle.simplex_voter.specs.Facts.{Settings, StateFacts, Elect, new_facts}
 use Rattle.simplex_voter.specs.Windows.{is_admitted}
-use Rattle.simplex_voter.specs.Rules.{may_nullify, may_finalize, is_gated, required_parent}
+use Rattle.simplex_voter.specs.Rules.{may_nullify, may_finalize, has_conflicting_nullify, required_certification_parent}
 use Rattle.simplex_voter.specs.Serving.{notarization_of, nullification_of}
 use Rattle.simplex_voter.specs.Votes.{nullify_answer, finalize_answer}
 use Rattle.simplex_record.specs.declared.record.error.RecoverError.TheVariants as error
@@ -61,11 +61,11 @@ unfolding recovered_state after_kept_entry may_nullify
 nullify_again = refl
 
 no_finalize : finalize_answer in_turn (state_of (Genesis 0) (nullify 1 ∷ notarization 1 ∷ verdict 1 true ∷ [])) 1 ≡ None
-unfolding recovered_state after_kept_entry may_finalize is_admitted is_gated required_parent
+unfolding recovered_state after_kept_entry may_finalize is_admitted has_conflicting_nullify required_certification_parent
 no_finalize = refl
 
 finalize_once : finalize_answer in_turn (state_of (Genesis 0) (notarization 1 ∷ verdict 1 true ∷ finalize 1 ∷ [])) 1 ≡ None
-unfolding recovered_state after_kept_entry may_finalize is_admitted is_gated required_parent
+unfolding recovered_state after_kept_entry may_finalize is_admitted has_conflicting_nullify required_certification_parent
 finalize_once = refl
 
 -- a deadline that passes 64 bits, behind the rules of the record

@@ -20,7 +20,7 @@ use Rattle.simplex_voter.specs.Facts.{StateFacts, Elect, round_of, is_tracked, w
 use Rattle.simplex_voter.specs.Entering.{at_moment, entered_round}
 use Rattle.simplex_voter.specs.Certification.{without_token}
 use Rattle.simplex_voter.specs.Acceptance.{nullified_also}
-use Rattle.simplex_voter.specs.Parents.{binding_matches}
+use Rattle.simplex_voter.specs.Parents.{verification_matches}
 use Rattle.simplex_voter.specs.Rules.{may_notarize}
 use Rattle.simplex_voter.specs.Proposing.{build_requested, proposed_round, proposed_answer}
 use Rattle.simplex_voter.specs.Verifying.{standing, verifying_round, with_request, scan_left}
@@ -125,7 +125,7 @@ module _ {K L D : Type 0} (same : D → D → Bool) (elect : Elect L) (begun : S
     Retried : (now interval : ℕ) → e ≡ NextTimeout now → awaits_retry r ≡ true → RoundStep x v r (record r { decision = decision.Nullify (Some (now + interval)) })
     -- proposals
     Heard : (p : Proposal D) → proposal_by e ≡ Some (v, p) → is_nullify r.decision ≡ false → RoundStep x v r (record r { slot = after_vote (same_proposal same) r.slot p })
-    Marked : e ≡ Verified v → binding_matches same elect begun v ≡ true → is_nullify r.decision ≡ false → RoundStep x v r (record r { slot = after_mark r.slot })
+    Marked : e ≡ Verified v → verification_matches same elect begun v ≡ true → is_nullify r.decision ≡ false → RoundStep x v r (record r { slot = after_mark r.slot })
     Asked : (requested : Bool) → RoundStep x v r (record r { slot = build_requested requested r.slot })
     Built : (context : Context D K) (payload : D) (now : ℕ) → e ≡ Proposed context payload now → proposed_answer same elect begun context payload ≡ true → context.round.view ≡ v → RoundStep x v r (proposed_round same r context payload now)
     Requested : (w : ℕ) → e ≡ TryVerify → RoundStep x v r (with_request r w)

@@ -1,3 +1,3 @@
 pub mod Growing
-pub mod VoterStories
+pub mod VoterExecutions
 pub mod ResolverFetches

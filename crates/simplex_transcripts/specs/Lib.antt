@@ -1,2 +1,2 @@
-pub mod VoterStories
+pub mod VoterExecutions
 pub mod ResolverFetches

@@ -1,8 +1,8 @@
 //! What a voter's transcript tells of its member.
 
-ghost use Rattle.simplex_transcripts.specs.VoterStories.{VoterTranscriptsAreLawful};
+ghost use Rattle.simplex_transcripts.specs.VoterExecutions.{VoterTranscriptsAreLawful};
 
-/// The lines that a voter has answered, from its start on, are a story of its member. It does nothing: its contract is the
+/// The lines that a voter has answered, from its start on, are an execution of its member. It does nothing: its contract is the
 /// law.
 ///
 /// For whatever lines `serve` has answered, by its `Transcribes`, there are a start at genesis of the network that the

@@ -11,7 +11,7 @@ use Rattle.simplex_round.specs.Round.{RoundFacts, should_propose}
 use Rattle.simplex_voter.specs.declared.voter.propose.ProposalRequest.{ProposalRequest}
 use Rattle.simplex_voter.specs.Facts.{StateFacts, Elect}
 use Rattle.simplex_voter.specs.Windows.{is_admitted}
-use Rattle.simplex_voter.specs.Parents.{preferred_parent}
+use Rattle.simplex_voter.specs.Parents.{find_parent}
 use Rattle.simplex_voter.specs.Proposing.{views_within, request_on, request_in, propose_answer}
 use Rattle.simplex_voter.proofs.Scanning.{far_off}
 
@@ -83,7 +83,7 @@ module _ {K L D : Type 0} (same : D → D → Bool) (elect : Elect L) (x : State
   no_request : (v : ℕ) (r : RoundFacts K D) → is_admitted x v ≡ false → request_in same elect x (v, r) ≡ None
   no_request v r not_admitted = rw not_admitted (by_test (should_propose r))
     where
-      by_test : (b : Bool) → cond (false && b) (option_and_then (request_on same x v r) (preferred_parent same elect x v)) None ≡ None
+      by_test : (b : Bool) → cond (false && b) (option_and_then (request_on same x v r) (find_parent same elect x v)) None ≡ None
       by_test true = refl
       by_test false = refl
 

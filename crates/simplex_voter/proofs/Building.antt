@@ -12,8 +12,8 @@ use Rattle.simplex_round.specs.Round.{RoundFacts, new_round, should_propose}
 use Rattle.simplex_voter.specs.declared.voter.propose.ProposalRequest.{ProposalRequest}
 use Rattle.simplex_voter.specs.declared.voter.propose.ProposalRequest.TheVariants.{Prepare, Propose}
 use Rattle.simplex_voter.specs.Facts.{StateFacts, Elect, round_of, round_number}
-use Rattle.simplex_voter.specs.Windows.{is_start, is_admitted}
-use Rattle.simplex_voter.specs.Parents.{preferred_parent}
+use Rattle.simplex_voter.specs.Windows.{is_term_start, is_admitted}
+use Rattle.simplex_voter.specs.Parents.{find_parent}
 use Rattle.simplex_voter.specs.Proposing.{request_context, context_on, parent_certified, voted_nullify, request_on, request_in, views_ahead, propose_answer}
 use Rattle.simplex_voter.proofs.Gaps.{and_parts}
 use Rattle.simplex_voter.proofs.Found.{found_each, found_filtered, first_giver}
@@ -21,7 +21,7 @@ use Rattle.simplex_voter.proofs.Found.{found_each, found_filtered, first_giver}
 module _ {K L D : Type 0} (same : D → D → Bool) (elect : Elect L) (x : StateFacts K L D) where
   -- what is requested on a parent is for the view
   request_view : (v : ℕ) (r : RoundFacts K D) (parent : ℕ × D) (request : ProposalRequest D K) → request_on same x v r parent ≡ Some request → (request_context request).round.view ≡ v
-  request_view v r parent request is = by_start (is_start x v && not (parent_certified same x parent)) is
+  request_view v r parent request is = by_start (is_term_start x v && not (parent_certified same x parent)) is
     where
       led_by : (make : Context D K → ProposalRequest D K) → ((c : Context D K) → request_context (make c) ≡ c) → (o : Option (Leader K)) → option_map (λ l. make (context_on x v parent l)) o ≡ Some request → (request_context request).round.view ≡ v
       led_by make same_context None is = absurd (false≢true (ap is_some is))
@@ -43,8 +43,8 @@ module _ {K L D : Type 0} (same : D → D → Bool) (elect : Elect L) (x : State
       on_parent None is = absurd (false≢true (ap is_some is))
       on_parent (Some parent) is = request_view e.0 e.1 parent request is
 
-      by_test : (b : Bool) → (is_admitted x e.0 && should_propose e.1) ≡ b → (if b then option_and_then (request_on same x e.0 e.1) (preferred_parent same elect x e.0) else None) ≡ Some request → (should_propose e.1 ≡ true) × ((request_context request).round.view ≡ e.0)
-      by_test true so is = ((and_parts (is_admitted x e.0) (should_propose e.1) so).1, on_parent (preferred_parent same elect x e.0) is)
+      by_test : (b : Bool) → (is_admitted x e.0 && should_propose e.1) ≡ b → (if b then option_and_then (request_on same x e.0 e.1) (find_parent same elect x e.0) else None) ≡ Some request → (should_propose e.1 ≡ true) × ((request_context request).round.view ≡ e.0)
+      by_test true so is = ((and_parts (is_admitted x e.0) (should_propose e.1) so).1, on_parent (find_parent same elect x e.0) is)
       by_test false other is = absurd (false≢true (ap is_some is))
 
   pub request_ready : is_sorted nat_cmp x.rounds ≡ true → (answer : Option (ProposalRequest D K)) → answer ≡ propose_answer same elect x → IfSome answer (λ request. should_propose (round_of x (request_context request).round.view) ≡ true)

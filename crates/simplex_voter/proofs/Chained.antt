@@ -8,9 +8,9 @@ use Rattle.simplex_voter.specs.declared.voter.chains.Basis.{Basis}
 use Rattle.simplex_voter.specs.declared.voter.chains.Basis.TheVariants.{Certain, Vote}
 use Rattle.simplex_voter.specs.Facts.{StateFacts, Elect, round_at}
 use Rattle.simplex_voter.specs.Windows.{is_notarized}
-use Rattle.simplex_voter.specs.Payloads.{serves, follows, is_bound_to, voted_payload, served_payload, optimistic_payload}
+use Rattle.simplex_voter.specs.Payloads.{is_voted_ancestor, can_chain_on, is_bound_to, voted_payload, served_payload, optimistic_ancestry_payload}
 use Rattle.simplex_voter.specs.Chains.{payload_of, unrefused_payload, basis_of, basis_at}
-use Rattle.simplex_voter.proofs.Payloads.{follows-below, optimistic_payload-is}
+use Rattle.simplex_voter.proofs.Payloads.{can_chain_on-below, optimistic_payload-is}
 
 -- a vote that was bound to this payload of its parent, if to one, stands on another
 abbrev pub holds : {D : Type 0} → (D → D → Bool) → Option D → D → Bool
@@ -32,21 +32,21 @@ module _ {K L D : Type 0} (elect : Elect L) (x : StateFacts K L D) (v : ℕ) (b 
           let at : b ≡ Certain d = cc in
           rw at (omega arith)
 
-      by_test : (r : RoundFacts K D) (p : Proposal D) (t : Bool) → follows x v p.parent ≡ t → Some b ≡ option_map (λ q. Vote q (option_map (λ bound. bound.1) r.binding)) (cond t (Some p) None) → reach b ≤ v
+      by_test : (r : RoundFacts K D) (p : Proposal D) (t : Bool) → can_chain_on x v p.parent ≡ t → Some b ≡ option_map (λ q. Vote q (option_map (λ bound. bound.1) r.binding)) (cond t (Some p) None) → reach b ≤ v
       by_test r p true test same_one =
           let at : b ≡ Vote p (option_map (λ bound. bound.1) r.binding) = cc in
-          let low = follows-below x v p.parent test in
+          let low = can_chain_on-below x v p.parent test in
           rw at (omega (arith, low))
       by_test r p false test same_one = let bad : Some b ≡ None = same_one in cc
 
-      by_service : (r : RoundFacts K D) (t : Bool) (held : Option (Proposal D)) → Some b ≡ option_map (λ q. Vote q (option_map (λ bound. bound.1) r.binding)) (cond t (option_and_then (λ p. cond (follows x v p.parent) (Some p) None) held) None) → reach b ≤ v
+      by_service : (r : RoundFacts K D) (t : Bool) (held : Option (Proposal D)) → Some b ≡ option_map (λ q. Vote q (option_map (λ bound. bound.1) r.binding)) (cond t (option_and_then (λ p. cond (can_chain_on x v p.parent) (Some p) None) held) None) → reach b ≤ v
       by_service r true None same_one = let bad : Some b ≡ None = same_one in cc
-      by_service r true (Some p) same_one = by_test r p (follows x v p.parent) refl same_one
+      by_service r true (Some p) same_one = by_test r p (can_chain_on x v p.parent) refl same_one
       by_service r false held same_one = let bad : Some b ≡ None = same_one in cc
 
-      by_notarized : (r : RoundFacts K D) (t : Bool) → Some b ≡ cond t (option_map (λ d. Certain d) (unrefused_payload x v r)) (option_map (λ q. Vote q (option_map (λ bound. bound.1) r.binding)) (cond (serves elect x v r) (option_and_then (λ p. cond (follows x v p.parent) (Some p) None) r.slot.held) None)) → reach b ≤ v
+      by_notarized : (r : RoundFacts K D) (t : Bool) → Some b ≡ cond t (option_map (λ d. Certain d) (unrefused_payload x v r)) (option_map (λ q. Vote q (option_map (λ bound. bound.1) r.binding)) (cond (is_voted_ancestor elect x v r) (option_and_then (λ p. cond (can_chain_on x v p.parent) (Some p) None) r.slot.held) None)) → reach b ≤ v
       by_notarized r true same_one = certain _ same_one
-      by_notarized r false same_one = by_service r (serves elect x v r) r.slot.held same_one
+      by_notarized r false same_one = by_service r (is_voted_ancestor elect x v r) r.slot.held same_one
 
       by_round : (o : Option (RoundFacts K D)) → Some b ≡ option_and_then (basis_of elect x v) o → reach b ≤ v
       by_round None same_one = let bad : Some b ≡ None = same_one in cc
@@ -58,7 +58,7 @@ module _ {K L D : Type 0} (elect : Elect L) (x : StateFacts K L D) (v : ℕ) (b 
 
 module _ {K L D : Type 0} (same : D → D → Bool) (elect : Elect L) (x : StateFacts K L D) where
   abbrev offers : ℕ → Option D
-  offers = optimistic_payload same elect x
+  offers = optimistic_ancestry_payload same elect x
 
   -- what a view offers that rests on this
   abbrev pub rests : Basis D → Option D
@@ -80,14 +80,14 @@ module _ {K L D : Type 0} (same : D → D → Bool) (elect : Elect L) (x : State
       by_test r p true = by_binding p r.binding
       by_test r p false = refl
 
-      by_service : (r : RoundFacts K D) (t : Bool) (held : Option (Proposal D)) → cond t (option_and_then (voted_payload same elect x offers v r) held) None ≡ option_and_then rests (option_map (λ q. Vote q (option_map (λ bound. bound.1) r.binding)) (cond t (option_and_then (λ p. cond (follows x v p.parent) (Some p) None) held) None))
+      by_service : (r : RoundFacts K D) (t : Bool) (held : Option (Proposal D)) → cond t (option_and_then (voted_payload same elect x offers v r) held) None ≡ option_and_then rests (option_map (λ q. Vote q (option_map (λ bound. bound.1) r.binding)) (cond t (option_and_then (λ p. cond (can_chain_on x v p.parent) (Some p) None) held) None))
       by_service r true None = refl
-      by_service r true (Some p) = by_test r p (follows x v p.parent)
+      by_service r true (Some p) = by_test r p (can_chain_on x v p.parent)
       by_service r false held = refl
 
-      by_notarized : (r : RoundFacts K D) (t : Bool) → cond t (unrefused_payload x v r) (cond (serves elect x v r) (option_and_then (voted_payload same elect x offers v r) r.slot.held) None) ≡ option_and_then rests (cond t (option_map (λ d. Certain d) (unrefused_payload x v r)) (option_map (λ q. Vote q (option_map (λ bound. bound.1) r.binding)) (cond (serves elect x v r) (option_and_then (λ p. cond (follows x v p.parent) (Some p) None) r.slot.held) None)))
+      by_notarized : (r : RoundFacts K D) (t : Bool) → cond t (unrefused_payload x v r) (cond (is_voted_ancestor elect x v r) (option_and_then (voted_payload same elect x offers v r) r.slot.held) None) ≡ option_and_then rests (cond t (option_map (λ d. Certain d) (unrefused_payload x v r)) (option_map (λ q. Vote q (option_map (λ bound. bound.1) r.binding)) (cond (is_voted_ancestor elect x v r) (option_and_then (λ p. cond (can_chain_on x v p.parent) (Some p) None) r.slot.held) None)))
       by_notarized r true = certain (unrefused_payload x v r)
-      by_notarized r false = by_service r (serves elect x v r) r.slot.held
+      by_notarized r false = by_service r (is_voted_ancestor elect x v r) r.slot.held
 
       by_round : (o : Option (RoundFacts K D)) → option_and_then (served_payload same elect x offers v) o ≡ option_and_then rests (option_and_then (basis_of elect x v) o)
       by_round None = refl
@@ -112,7 +112,7 @@ module _ {K L D : Type 0} (same : D → D → Bool) (elect : Elect L) (x : State
 
   -- the walk from v has come to what rests on this, and what v offers is decided there
   abbrev pub Stands : ℕ → Basis D → Basis D → Type 0
-  Stands v top b = optimistic_payload same elect x v ≡ cond (is_some (rests b)) (Some (payload_of top)) None
+  Stands v top b = optimistic_ancestry_payload same elect x v ≡ cond (is_some (rests b)) (Some (payload_of top)) None
 
   pub nothing : (v : ℕ) → None ≡ basis_at elect x v → None ≡ offers v
   nothing v none = sym (offers-rests v ∙ ap (option_and_then rests) (sym none))

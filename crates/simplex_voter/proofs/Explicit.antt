@@ -7,7 +7,7 @@ use Rattle.std.proofs.lemmas.List.Elements.{filter_map-append}
 use Rattle.simplex_round.specs.Round.{RoundFacts}
 use Rattle.simplex_voter.specs.Facts.{StateFacts, round_at}
 use Rattle.simplex_voter.specs.Rounds.{is_explicit}
-use Rattle.simplex_voter.specs.Payloads.{certified_payload, explicit_payload}
+use Rattle.simplex_voter.specs.Payloads.{certified_payload, explicit_ancestry_payload}
 use Rattle.simplex_voter.specs.Parents.{at_view, explicit_at, explicit_below, highest_explicit}
 
 module _ {A : Type 0} where
@@ -50,8 +50,8 @@ module _ {K L D : Type 0} (x : StateFacts K L D) where
   not_explicit r is = rw is refl
 
   -- a view above genesis that is not explicit has no explicit payload
-  pub no_explicit : (w : ℕ) → 0 < w → ((r : RoundFacts K D) → round_at x w ≡ Some r → is_explicit r ≡ false) → explicit_payload x w ≡ None
-  unfolding explicit_payload
+  pub no_explicit : (w : ℕ) → 0 < w → ((r : RoundFacts K D) → round_at x w ≡ Some r → is_explicit r ≡ false) → explicit_ancestry_payload x w ≡ None
+  unfolding explicit_ancestry_payload
   no_explicit w above rest = rw (ne_eqb w 0 (λ is. omega arith)) (by_round (round_at x w) refl)
     where
       by_round : (found : Option (RoundFacts K D)) → round_at x w ≡ found → option_and_then certified_payload found ≡ None
@@ -59,7 +59,7 @@ module _ {K L D : Type 0} (x : StateFacts K L D) where
       by_round (Some r) is = not_explicit r (rest r is)
 
 -- from `end` up to v no view has an explicit payload
-module _ {K L D : Type 0} (x : StateFacts K L D) (v end : ℕ) (not_above : end ≤ v) (quiet : (w : ℕ) → end ≤ w → w < v → explicit_payload x w ≡ None) where
+module _ {K L D : Type 0} (x : StateFacts K L D) (v end : ℕ) (not_above : end ≤ v) (quiet : (w : ℕ) → end ≤ w → w < v → explicit_ancestry_payload x w ≡ None) where
   explicit_kept : (es : List (ℕ × RoundFacts K D)) → filter_map (explicit_at x) (filter (λ e. ltb e.0 end) es) ≡ filter_map (explicit_below x v) es
   explicit_kept [] = refl
   explicit_kept (e ∷ es) = elim (cases_lt e.0 end) [

@@ -12,7 +12,7 @@ use Rattle.simplex_types.proofs.Covers.{same_start}
 use Rattle.simplex_sorted.proofs.Gaps.{next_above}
 use Rattle.simplex_voter.specs.Facts.{StateFacts}
 use Rattle.simplex_voter.specs.Acceptance.{nullified_also}
-use Rattle.simplex_voter.specs.Gaps.{is_covered, IsGapless, IsFirstGap, lower_of, lowest, gap_starts, is_gap, first_gap}
+use Rattle.simplex_voter.specs.Gaps.{is_covered, IsGapless, IsFirstGap, lower_of, lowest, gap_starts, is_gap, first_unnullified_view}
 
 pub cases_bool : (b : Bool) → (b ≡ true) ⊎ (b ≡ false)
 cases_bool true = inl refl
@@ -184,8 +184,8 @@ module _ {K L D : Type 0} (x : StateFacts K L D) where
         ];
       }
 
-  pub first_gap-is : (p v : ℕ) → 0 < length → MatchOption (first_gap x p v) (IsGapless x p v) (IsFirstGap x p v)
-  unfolding first_gap
+  pub first_gap-is : (p v : ℕ) → 0 < length → MatchOption (first_unnullified_view x p v) (IsGapless x p v) (IsFirstGap x p v)
+  unfolding first_unnullified_view
   first_gap-is p v some = found_gap p v some _ refl
 
   pub gapless_joins : (p v w : ℕ) → IsGapless x p v → is_covered x v ≡ true → IsGapless x v w → IsGapless x p w

@@ -12,7 +12,7 @@ use Rattle.simplex_types.specs.Terms.{covers}
 use Rattle.simplex_sorted.proofs.RisingEntries.{Rises}
 use Rattle.simplex_sorted.proofs.Maps.{entries-retain_keys, map_rises}
 use Rattle.simplex_voter.specs.Facts.{StateFacts}
-use Rattle.simplex_voter.specs.Rules.{is_gated}
+use Rattle.simplex_voter.specs.Rules.{has_conflicting_nullify}
 use Rattle.simplex_voter.proofs.Gaps.{cases_bool}
 
 pub gt_is : (a b : ℕ) → is_gt (nat_cmp a b) ≡ ltb b a
@@ -51,13 +51,13 @@ module _ {V : Type 0} where
       ∙ above_by_last t (fin.entries k) (map_rises k)
 
 module _ {K L D : Type 0} (x : StateFacts K L D) (m : TermMap (Unit {0})) (v : ℕ) (shown : x.nullify_votes ≡ fin.keys m.by_view) (same : m.term_length ≡ x.terms.term_length) where
-  gate_is : (found : Option (ℕ × Unit {0})) → found ≡ covering_below m v → option_map_or (λ e. ltb x.finalized e.0) found false ≡ is_gated x v
-  unfolding is_gated
+  gate_is : (found : Option (ℕ × Unit {0})) → found ≡ covering_below m v → option_map_or (λ e. ltb x.finalized e.0) found false ≡ has_conflicting_nullify x v
+  unfolding has_conflicting_nullify
   gate_is found is =
       rw (is, shown, ← same) (sym (above_by_last_kept x.finalized m.by_view (λ u. ltb u v && covers m.term_length u v)))
 
-  pub gated_by : (e : ℕ × Unit {0}) → Some e ≡ covering_below m v → is_gt (nat_cmp e.0 x.finalized) ≡ is_gated x v
+  pub gated_by : (e : ℕ × Unit {0}) → Some e ≡ covering_below m v → is_gt (nat_cmp e.0 x.finalized) ≡ has_conflicting_nullify x v
   gated_by e is = gt_is e.0 x.finalized ∙ gate_is (Some e) is
 
-  pub not_gated : None ≡ covering_below m v → false ≡ is_gated x v
+  pub not_gated : None ≡ covering_below m v → false ≡ has_conflicting_nullify x v
   not_gated is = gate_is None is

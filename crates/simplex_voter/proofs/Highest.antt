@@ -7,7 +7,7 @@ use Rattle.simplex_sorted.specs.ByTerm.{TermMap, covering}
 use Rattle.simplex_types.specs.Terms.{covers}
 use Rattle.simplex_sorted.proofs.Maps.{entries-retain_keys}
 use Rattle.simplex_voter.specs.Facts.{StateFacts}
-use Rattle.simplex_voter.specs.Serving.{highest_nullified}
+use Rattle.simplex_voter.specs.Serving.{highest_nullification_in_term}
 use Rattle.simplex_voter.proofs.RoundsKept.{filter-keys}
 
 -- the last key is that of the last entry
@@ -19,7 +19,7 @@ last_key (e ∷ d ∷ es) =
     rw behind (last_key (d ∷ es))
 
 module _ {K L D : Type 0} (x : StateFacts K L D) (m : TermMap (Unit {0})) (v : ℕ) (shown : x.nullified ≡ fin.keys m.by_view) (same : m.term_length ≡ x.terms.term_length) where
-  highest_is : (found : Option (ℕ × Unit {0})) → found ≡ covering m v → option_map (λ e. e.0) found ≡ highest_nullified x v
+  highest_is : (found : Option (ℕ × Unit {0})) → found ≡ covering m v → option_map (λ e. e.0) found ≡ highest_nullification_in_term x v
   highest_is found is =
       let kept = fin.retain_keys m.by_view (λ u. covers m.term_length u v) in
       rw (is, shown, ← same) (
@@ -27,8 +27,8 @@ module _ {K L D : Type 0} (x : StateFacts K L D) (m : TermMap (Unit {0})) (v : �
       ∙ ap (λ es. last_or None (map (λ e. e.0) es)) (entries-retain_keys m.by_view (λ u. covers m.term_length u v))
       ∙ ap (last_or None) (filter-keys (λ u. covers m.term_length u v) (fin.entries m.by_view)))
 
-  pub highest_there : (e : ℕ × Unit {0}) → Some e ≡ covering m v → Some e.0 ≡ highest_nullified x v
+  pub highest_there : (e : ℕ × Unit {0}) → Some e ≡ covering m v → Some e.0 ≡ highest_nullification_in_term x v
   highest_there e is = highest_is (Some e) is
 
-  pub highest_none : None ≡ covering m v → None ≡ highest_nullified x v
+  pub highest_none : None ≡ covering m v → None ≡ highest_nullification_in_term x v
   highest_none is = highest_is None is

@@ -9,7 +9,7 @@ use Rattle.simplex_sorted.proofs.Maps.{is_eq-nat_cmp}
 use Rattle.simplex_types.specs.declared.types.messages.Proposal.{Proposal}
 use Rattle.simplex_round.specs.Round.{RoundFacts}
 use Rattle.simplex_voter.specs.Facts.{StateFacts, Elect, round_at}
-use Rattle.simplex_voter.specs.Payloads.{follows, is_bound_to, voted_payload, served_payload, payload_by, payload_within, optimistic_payload}
+use Rattle.simplex_voter.specs.Payloads.{can_chain_on, is_bound_to, voted_payload, served_payload, payload_by, payload_within, optimistic_ancestry_payload}
 use Rattle.simplex_voter.proofs.Gaps.{cases_bool, and_parts}
 
 -- how many entries stand at or below a view
@@ -74,9 +74,9 @@ each_same : {A B : Type 0} (f g : A → Option B) (o : Option A) → ((a : A) �
 each_same f g None h = refl
 each_same f g (Some a) h = h a refl
 
-pub follows-below : {K L D : Type 0} (x : StateFacts K L D) (v p : ℕ) → follows x v p ≡ true → p < v
-unfolding follows
-follows-below x v p h =
+pub can_chain_on-below : {K L D : Type 0} (x : StateFacts K L D) (v p : ℕ) → can_chain_on x v p ≡ true → p < v
+unfolding can_chain_on
+can_chain_on-below x v p h =
     let parts = and_parts (leb x.finalized p && ltb p v) _ h in
     let low = and_parts (leb x.finalized p) _ parts.0 in
     grind (arith, nat_tests)
@@ -84,8 +84,8 @@ follows-below x v p h =
 module _ {K L D : Type 0} (same : D → D → Bool) (elect : Elect L) (x : StateFacts K L D) where
   voted_same : (f g : ℕ → Option D) (v : ℕ) (r : RoundFacts K D) (h : Proposal D) → ((p : ℕ) → p < v → f p ≡ g p) → voted_payload same elect x f v r h ≡ voted_payload same elect x g v r h
   voted_same f g v r h alike =
-      guarded (follows x v h.parent) _ _ None
-      (λ b. ap (option_and_then (λ d. cond (is_bound_to same r.binding d) (Some h.payload) None)) (alike h.parent (follows-below x v h.parent b)))
+      guarded (can_chain_on x v h.parent) _ _ None
+      (λ b. ap (option_and_then (λ d. cond (is_bound_to same r.binding d) (Some h.payload) None)) (alike h.parent (can_chain_on-below x v h.parent b)))
 
   served_same : (f g : ℕ → Option D) (v : ℕ) (r : RoundFacts K D) → ((p : ℕ) → p < v → f p ≡ g p) → served_payload same elect x f v r ≡ served_payload same elect x g v r
   served_same f g v r alike =
@@ -113,9 +113,9 @@ module _ {K L D : Type 0} (same : D → D → Bool) (elect : Elect L) (x : State
   one_less (suc m) some = (m, refl)
 
   -- the rule, as it is read
-  pub optimistic_payload-is : (v : ℕ) → optimistic_payload same elect x v ≡ payload_by same elect x (optimistic_payload same elect x) v
-  unfolding optimistic_payload
-  optimistic_payload-is v = by_same (payload_within same elect x (length x.rounds)) (optimistic_payload same elect x) v (λ p low tracked.
+  pub optimistic_payload-is : (v : ℕ) → optimistic_ancestry_payload same elect x v ≡ payload_by same elect x (optimistic_ancestry_payload same elect x) v
+  unfolding optimistic_ancestry_payload
+  optimistic_payload-is v = by_same (payload_within same elect x (length x.rounds)) (optimistic_ancestry_payload same elect x) v (λ p low tracked.
       let fewer = rank-below x.rounds p v low tracked in
       let all = rank-le x.rounds v in
       let less = one_less (length x.rounds) (omega arith) in

@@ -3,7 +3,7 @@ use Rattle.std.proofs.Common.{◌≡◌, ℕ, ◌+◌, Bool, true, false, cond, 
 use Rattle.std.specs.Option.{option_map_or}
 use Rattle.simplex_round.specs.declared.round.Leader.{Leader}
 use Rattle.simplex_voter.specs.Facts.{StateFacts, Elect, round_of}
-use Rattle.simplex_voter.specs.Windows.{in_window}
+use Rattle.simplex_voter.specs.Windows.{in_issuance_window}
 use Rattle.simplex_voter.specs.Payloads.{is_elected_early}
 use Rattle.simplex_voter.specs.Leaders.{with_leader_at, with_leader_of, with_elected_leader, with_next_view_ready}
 use Rattle.simplex_voter.proofs.Elsewhere.{round_of-led, round_of-elected, not_next}
@@ -11,7 +11,7 @@ use Rattle.simplex_voter.proofs.Elsewhere.{round_of-led, round_of-elected, not_n
 -- what readies the view above leaves the round of a view
 module _ {K L D : Type 0} (elect : Elect L) (x : StateFacts K L D) (v : ℕ) where
   pub round_of-prepared : round_of (with_next_view_ready elect x v) v ≡ round_of x v
-  round_of-prepared = by_window (in_window x (v + 1))
+  round_of-prepared = by_window (in_issuance_window x (v + 1))
     where
       by_leader : (leader : Option (Leader K)) → round_of (option_map_or (λ l. with_leader_at x (v + 1) l.idx) leader x) v ≡ round_of x v
       by_leader None = refl

@@ -7,8 +7,8 @@ use Rattle.simplex_types.specs.declared.types.messages.Proposal.{Proposal}
 use Rattle.simplex_round.specs.Round.{is_pending, is_nullify, can_notarize, can_finalize}
 use Rattle.simplex_round.specs.Slot.{is_unequivocated}
 use Rattle.simplex_voter.specs.Facts.{StateFacts, Elect, round_of}
-use Rattle.simplex_voter.specs.Windows.{is_start, is_admitted, in_window}
-use Rattle.simplex_voter.specs.Rules.{may_notarize, may_nullify, may_finalize, is_gated, has_required_parent, required_parent, has_ancestry, NotarizeRule, NullifyRule, FinalizeRule}
+use Rattle.simplex_voter.specs.Windows.{is_term_start, is_admitted, in_issuance_window}
+use Rattle.simplex_voter.specs.Rules.{may_notarize, may_nullify, may_finalize, has_conflicting_nullify, has_required_parent, required_certification_parent, has_ancestry, NotarizeRule, NullifyRule, FinalizeRule}
 use Rattle.simplex_voter.proofs.Gaps.{cases_bool, and_parts, and_both, not_true}
 
 not_false : (b : Bool) → b ≡ false → not b ≡ true
@@ -42,8 +42,8 @@ module _ {K L D : Type 0} (elect : Elect L) (x : StateFacts K L D) (v : ℕ) whe
   unfolding may_finalize
   finalize_parts h =
       let r = round_of x v in
-      let a = and_parts (ltb x.finalized v && is_admitted x v && not (is_gated x v) && has_required_parent elect x v) _ h in
-      let b = and_parts (ltb x.finalized v && is_admitted x v && not (is_gated x v)) _ a.0 in
+      let a = and_parts (ltb x.finalized v && is_admitted x v && not (has_conflicting_nullify x v) && has_required_parent elect x v) _ h in
+      let b = and_parts (ltb x.finalized v && is_admitted x v && not (has_conflicting_nullify x v)) _ a.0 in
       let c = and_parts (ltb x.finalized v && is_admitted x v) _ b.0 in
       let d = and_parts (ltb x.finalized v) _ c.0 in
       let e = and_parts (is_pending r.decision && is_unequivocated r.slot && is_some r.notarization) _ a.1 in
@@ -63,7 +63,7 @@ module _ {K L D : Type 0} (elect : Elect L) (x : StateFacts K L D) (v : ℕ) whe
   -- what the rule asks of the view's own round
   pub finalize_round : may_finalize elect x v ≡ true → can_finalize (round_of x v) ≡ true
   unfolding may_finalize
-  finalize_round h = (and_parts (ltb x.finalized v && is_admitted x v && not (is_gated x v) && has_required_parent elect x v) _ h).1
+  finalize_round h = (and_parts (ltb x.finalized v && is_admitted x v && not (has_conflicting_nullify x v) && has_required_parent elect x v) _ h).1
 
   pub finalize_whole : FinalizeRule elect x v → may_finalize elect x v ≡ true
   unfolding may_finalize
@@ -93,14 +93,14 @@ module _ {K L D : Type 0} (same : D → D → Bool) (elect : Elect L) (x : State
         first_vote = not_true _ e.0;
         no_nullify = not_true _ e.1;
         verified = d.1;
-        ancestry = or_if (in_window x v) _ b.1;
+        ancestry = or_if (in_issuance_window x v) _ b.1;
         bound = a.1;
       }
 
   pub notarize_whole : NotarizeRule same elect x v → may_notarize same elect x v ≡ true
   unfolding may_notarize
   notarize_whole rule =
-      let ancestry : has_ancestry same elect x v ≡ true = if_or (in_window x v) _ rule.ancestry in
+      let ancestry : has_ancestry same elect x v ≡ true = if_or (in_issuance_window x v) _ rule.ancestry in
       and_both _ _ (and_both _ _ (and_both _ _ rule.admitted (rw (rule.first_vote, rule.no_nullify, rule.verified) refl)) ancestry) rule.bound
 
 if_some : (b : Bool) (p q : ℕ) → cond b (Some p) None ≡ Some q → (b ≡ true) × (p ≡ q)
@@ -113,9 +113,9 @@ just_below p v q b e =
     let before : p + 1 ≡ v = eqb-true (p + 1) v (and_parts (p + 1 == v) b parts.0).0 in
     omega arith
 
-pub required_before : {K L D : Type 0} (elect : Elect L) (x : StateFacts K L D) (v q : ℕ) (p : Proposal D) → 0 < v → required_parent elect x v p ≡ Some q → q + 1 ≡ v
-unfolding required_parent
-required_before elect x v q p some e = elim (cases_bool (is_start x v)) [
+pub required_before : {K L D : Type 0} (elect : Elect L) (x : StateFacts K L D) (v q : ℕ) (p : Proposal D) → 0 < v → required_certification_parent elect x v p ≡ Some q → q + 1 ≡ v
+unfolding required_certification_parent
+required_before elect x v q p some e = elim (cases_bool (is_term_start x v)) [
   | inl start ↦ just_below p.parent v q _ (rw start at e)
   | inr inside ↦
       let same_view : v - 1 ≡ q = some_same _ _ (rw inside at e) in

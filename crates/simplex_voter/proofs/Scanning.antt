@@ -16,7 +16,7 @@ use Rattle.simplex_types.specs.declared.types.messages.Proposal.{Proposal}
 use Rattle.simplex_round.specs.declared.round.Leader.{Leader}
 use Rattle.simplex_round.specs.Round.{RoundFacts, new_round, pending_proposal}
 use Rattle.simplex_voter.specs.declared.voter.verify.Standing.{Standing}
-use Rattle.simplex_voter.specs.declared.voter.verify.Standing.TheVariants.{Passed, Invalid, Lacks, Ready}
+use Rattle.simplex_voter.specs.declared.voter.verify.Standing.TheVariants.{NothingToDo, Invalid, Lacks, Ready}
 use Rattle.simplex_voter.specs.declared.voter.verify.Verify.{Verify}
 use Rattle.simplex_voter.specs.declared.voter.verify.Verify.TheVariants as verify
 use Rattle.simplex_types.specs.declared.reasons.Kind.{Kind}
@@ -154,7 +154,7 @@ module _ {K L D : Type 0} (same : D → D → Bool) (elect : Elect L) where
   unfolding standing
   passed_by x v r here none =
       let at : round_of x v ≡ r = ap (λ o. unwrap_or o (new_round x.me x.members (round_number x v))) (sym here) in
-      let passes : standing same elect x (v, r) ≡ Passed = ap (λ o. cond (is_admitted x v) (option_map_or (λ (found : Leader K × Proposal D). parent_standing same elect x v r found.1.parent) o Passed) Passed) (sym none) ∙ either (is_admitted x v) Passed in
+      let passes : standing same elect x (v, r) ≡ NothingToDo = ap (λ o. cond (is_admitted x v) (option_map_or (λ (found : Leader K × Proposal D). parent_standing same elect x v r found.1.parent) o NothingToDo) NothingToDo) (sym none) ∙ either (is_admitted x v) NothingToDo in
       sym (ap (λ s. left_at x (v, s) (standing same elect x (v, s))) at ∙ ap (left_at x (v, r)) passes)
 
   -- a tracked view is left by how it stands
@@ -185,7 +185,7 @@ module _ {K L D : Type 0} (same : D → D → Bool) (elect : Elect L) where
       where
         by_standing : (s : Standing D) → is_answered s ≡ false → (o : Option (Leader K × Proposal D)) → option_and_then (answer_at e.0 s) o ≡ None
         by_standing s silent None = refl
-        by_standing Passed silent (Some found) = refl
+        by_standing NothingToDo silent (Some found) = refl
         by_standing Invalid silent (Some found) = refl
         by_standing (Lacks w kind) silent (Some found) = absurd (false≢true (sym silent))
         by_standing (Ready d) silent (Some found) = absurd (false≢true (sym silent))
@@ -195,12 +195,12 @@ module _ {K L D : Type 0} (same : D → D → Bool) (elect : Elect L) where
     answered_some e answered = by_admitted (is_admitted x e.0) (pending_proposal e.1) answered
       where
         by_standing : (s : Standing D) (found : Leader K × Proposal D) → is_answered s ≡ true → is_some (answer_at e.0 s found) ≡ true
-        by_standing Passed found answered = absurd (false≢true answered)
+        by_standing NothingToDo found answered = absurd (false≢true answered)
         by_standing Invalid found answered = absurd (false≢true answered)
         by_standing (Lacks w kind) found answered = refl
         by_standing (Ready d) found answered = refl
 
-        by_admitted : (b : Bool) (o : Option (Leader K × Proposal D)) → is_answered (cond b (option_map_or (λ found. parent_standing same elect x e.0 e.1 found.1.parent) o Passed) Passed) ≡ true → is_some (option_and_then (answer_at e.0 (cond b (option_map_or (λ found. parent_standing same elect x e.0 e.1 found.1.parent) o Passed) Passed)) o) ≡ true
+        by_admitted : (b : Bool) (o : Option (Leader K × Proposal D)) → is_answered (cond b (option_map_or (λ found. parent_standing same elect x e.0 e.1 found.1.parent) o NothingToDo) NothingToDo) ≡ true → is_some (option_and_then (answer_at e.0 (cond b (option_map_or (λ found. parent_standing same elect x e.0 e.1 found.1.parent) o NothingToDo) NothingToDo)) o) ≡ true
         by_admitted true None answered = absurd (false≢true answered)
         by_admitted true (Some found) answered = by_standing (parent_standing same elect x e.0 e.1 found.1.parent) found answered
         by_admitted false o answered = absurd (false≢true answered)
@@ -253,7 +253,7 @@ module _ {K L D : Type 0} (same : D → D → Bool) (elect : Elect L) where
       ];
     }
       where
-        passes : (q : ℕ) (r : RoundFacts K D) → is_admitted x q ≡ false → stands q r ≡ Passed
+        passes : (q : ℕ) (r : RoundFacts K D) → is_admitted x q ≡ false → stands q r ≡ NothingToDo
         passes q r not_admitted = rw not_admitted refl
 
         left_alike : (q : ℕ) (r : RoundFacts K D) → left_until n q r ≡ left_until m q r
@@ -329,7 +329,7 @@ module _ {K L D : Type 0} (same : D → D → Bool) (elect : Elect L) where
     -- where the scan has come, proposals stand as they stood
     module _ (ordered : is_sorted nat_cmp x.rounds ≡ true) (y : StateFacts K L D) (n : ℕ) (passed : IsScanned y n) (kept : is_sorted nat_cmp y.rounds ≡ true) where
       undecided_left : (s : Standing D) (r : RoundFacts K D) (now : ℕ) → is_answered s ≡ false → undecided (round_left r now s) ≡ undecided r
-      undecided_left Passed r now silent = refl
+      undecided_left NothingToDo r now silent = refl
       undecided_left Invalid r now silent = refl
       undecided_left (Lacks w kind) r now silent = absurd (false≢true (sym silent))
       undecided_left (Ready d) r now silent = absurd (false≢true (sym silent))
@@ -398,13 +398,13 @@ module _ {K L D : Type 0} (same : D → D → Bool) (elect : Elect L) where
         moment_same = ap (λ (z : StateFacts K L D). z.moment) passed.others
 
         left_others : (s : Standing D) → record (left_at y (v, r) s) { rounds = x.rounds } ≡ x
-        left_others Passed = passed.others
+        left_others NothingToDo = passed.others
         left_others Invalid = passed.others
         left_others (Lacks w kind) = passed.others
         left_others (Ready d) = passed.others
 
         left_sorted : (s : Standing D) → is_sorted nat_cmp (left_at y (v, r) s).rounds ≡ true
-        left_sorted Passed = kept
+        left_sorted NothingToDo = kept
         left_sorted Invalid = sorted-put y.rounds v _ kept
         left_sorted (Lacks w kind) = sorted-put y.rounds v _ kept
         left_sorted (Ready d) = sorted-put y.rounds v _ kept
@@ -413,7 +413,7 @@ module _ {K L D : Type 0} (same : D → D → Bool) (elect : Elect L) where
         put_each t q = find-put nat_cmp nat_cmp_total q v t y.rounds ∙ ap (λ b. cond b (Some t) (round_at y q)) (is_eq-nat_cmp q v)
 
         left_each : (s : Standing D) (q : ℕ) → round_at (left_at y (v, r) s) q ≡ cond (eqb q v) (Some (round_left r y.moment s)) (round_at y q)
-        left_each Passed q = elim (cases_eq q v) [
+        left_each NothingToDo q = elim (cases_eq q v) [
           | inl at ↦ ap (λ k. find nat_cmp k y.rounds) at ∙ here ∙ sym (ap (λ b. cond b (Some r) (round_at y q)) (eq-eqb q v at))
           | inr apart ↦ sym (ap (λ b. cond b (Some r) (round_at y q)) (ne_eqb q v apart))
         ]

@@ -9,13 +9,13 @@ use Rattle.simplex_round.specs.declared.round.Decision.TheVariants.{Pending}
 use Rattle.simplex_round.specs.declared.round.Leader.{Leader}
 use Rattle.simplex_round.specs.Round.{RoundFacts, pending_proposal}
 use Rattle.simplex_types.specs.declared.reasons.Kind.TheVariants.{Nullification}
-use Rattle.simplex_voter.specs.declared.voter.verify.Standing.TheVariants.{Passed, Invalid}
+use Rattle.simplex_voter.specs.declared.voter.verify.Standing.TheVariants.{NothingToDo, Invalid}
 use Rattle.simplex_voter.specs.Facts.{StateFacts, Elect, round_at}
-use Rattle.simplex_voter.specs.Gaps.{first_gap}
-use Rattle.simplex_voter.specs.Windows.{is_open, in_window, is_admitted}
-use Rattle.simplex_voter.specs.Payloads.{certified_payload, has_failed, explicit_payload, is_handoff_parent, serves, follows, voted_payload, served_payload, payload_by, payload_within, optimistic_payload}
-use Rattle.simplex_voter.specs.Parents.{spans, payload_for}
-use Rattle.simplex_voter.specs.Verifying.{unless_asked, payload_standing, parent_standing, standing}
+use Rattle.simplex_voter.specs.Gaps.{first_unnullified_view}
+use Rattle.simplex_voter.specs.Windows.{is_open, in_issuance_window, is_admitted}
+use Rattle.simplex_voter.specs.Payloads.{certified_payload, has_failed_optimistic_ancestry, explicit_ancestry_payload, is_handoff_parent, is_voted_ancestor, can_chain_on, voted_payload, served_payload, payload_by, payload_within, optimistic_ancestry_payload}
+use Rattle.simplex_voter.specs.Parents.{has_valid_parent_span, ancestry_payload_for_child}
+use Rattle.simplex_voter.specs.Verifying.{fetch_once, payload_standing, parent_standing, standing}
 use Rattle.simplex_voter.proofs.Walked.{find-changed}
 
 module _ {K D : Type 0} where
@@ -39,22 +39,22 @@ module _ {K L D : Type 0} (x : StateFacts K L D) where
   abbrev pub open_facts : StateFacts K L D
   open_facts = record x { rounds = undecided_rounds x.rounds }
 
-  open_window : (v : ℕ) → in_window open_facts v ≡ in_window x v
-  unfolding in_window
+  open_window : (v : ℕ) → in_issuance_window open_facts v ≡ in_issuance_window x v
+  unfolding in_issuance_window
   open_window v = by_floor (issuance_floor x.terms.term_length x.terms.optimistic_views v)
     where
       by_floor : (o : Option ℕ) → is_open open_facts v o ≡ is_open x v o
       by_floor None = refl
       by_floor (Some floor) = ap (λ b. (floor == 0) || b) (any_undecided _ (λ e. refl) x.rounds)
 
-  open_failed : (v : ℕ) → has_failed open_facts v ≡ has_failed x v
+  open_failed : (v : ℕ) → has_failed_optimistic_ancestry open_facts v ≡ has_failed_optimistic_ancestry x v
   open_failed v = any_undecided _ (λ e. refl) x.rounds
 
   open_found : (v : ℕ) → round_at open_facts v ≡ option_map undecided (round_at x v)
   open_found v = find-changed (λ u r. undecided r) v x.rounds
 
-  open_explicit : (v : ℕ) → explicit_payload open_facts v ≡ explicit_payload x v
-  unfolding explicit_payload
+  open_explicit : (v : ℕ) → explicit_ancestry_payload open_facts v ≡ explicit_ancestry_payload x v
+  unfolding explicit_ancestry_payload
   open_explicit v = rw (open_found v) (ap (cond (v == 0) x.genesis) (by_found (round_at x v)))
     where
       by_found : (o : Option (RoundFacts K D)) → option_and_then certified_payload (option_map undecided o) ≡ option_and_then certified_payload o
@@ -66,12 +66,12 @@ module _ {K L D : Type 0} (x : StateFacts K L D) where
     unfolding is_handoff_parent
     open_handoff v = refl
 
-    open_serves : (v : ℕ) (r : RoundFacts K D) → serves elect open_facts v (undecided r) ≡ serves elect x v r
-    unfolding serves
+    open_serves : (v : ℕ) (r : RoundFacts K D) → is_voted_ancestor elect open_facts v (undecided r) ≡ is_voted_ancestor elect x v r
+    unfolding is_voted_ancestor
     open_serves v r = rw (open_window (v + 1), open_handoff v) refl
 
-  open_follows : (v p : ℕ) → follows open_facts v p ≡ follows x v p
-  unfolding follows first_gap
+  open_follows : (v p : ℕ) → can_chain_on open_facts v p ≡ can_chain_on x v p
+  unfolding can_chain_on first_unnullified_view
   open_follows v p = refl
 
 module _ {K L D : Type 0} (same : D → D → Bool) (elect : Elect L) (x : StateFacts K L D) where
@@ -97,26 +97,26 @@ module _ {K L D : Type 0} (same : D → D → Bool) (elect : Elect L) (x : State
   open_within zero v = refl
   open_within (suc steps) v = open_by (payload_within same elect (open_facts x) steps) (payload_within same elect x steps) (open_within steps) v
 
-  open_payload : (v : ℕ) → optimistic_payload same elect (open_facts x) v ≡ optimistic_payload same elect x v
-  unfolding optimistic_payload
+  open_payload : (v : ℕ) → optimistic_ancestry_payload same elect (open_facts x) v ≡ optimistic_ancestry_payload same elect x v
+  unfolding optimistic_ancestry_payload
   open_payload v = ap (λ n. payload_within same elect (open_facts x) (suc n) v) (length-undecided x.rounds) ∙ open_within (suc (length x.rounds)) v
 
-  open_payload_for : (v p : ℕ) → payload_for same elect (open_facts x) v p ≡ payload_for same elect x v p
-  unfolding payload_for
+  open_payload_for : (v p : ℕ) → ancestry_payload_for_child same elect (open_facts x) v p ≡ ancestry_payload_for_child same elect x v p
+  unfolding ancestry_payload_for_child
   open_payload_for v p = rw (open_window x v, open_payload p, open_explicit x p) refl
 
   open_payload_standing : (v : ℕ) (r : RoundFacts K D) (p : ℕ) → payload_standing same elect (open_facts x) v r p ≡ payload_standing same elect x v r p
   open_payload_standing v r p = rw (open_payload_for v p, open_window x v) refl
 
   open_parent_standing : (v : ℕ) (r : RoundFacts K D) (p : ℕ) → parent_standing same elect (open_facts x) v r p ≡ parent_standing same elect x v r p
-  unfolding spans first_gap
-  open_parent_standing v r p = ap (λ s. cond (spans x v p) (option_map_or (λ w. unless_asked r w Nullification) (first_gap x p v) s) Invalid) (open_payload_standing v r p)
+  unfolding has_valid_parent_span first_unnullified_view
+  open_parent_standing v r p = ap (λ s. cond (has_valid_parent_span x v p) (option_map_or (λ w. fetch_once r w Nullification) (first_unnullified_view x p v) s) Invalid) (open_payload_standing v r p)
 
   -- how a proposal stands is the same without what was decided
   pub open_standing : (e : ℕ × RoundFacts K D) → standing same elect (open_facts x) e ≡ standing same elect x e
   unfolding standing is_admitted
-  open_standing e = ap (λ s. cond (is_admitted x e.0) s Passed) (by_pending (pending_proposal e.1))
+  open_standing e = ap (λ s. cond (is_admitted x e.0) s NothingToDo) (by_pending (pending_proposal e.1))
     where
-      by_pending : (o : Option (Leader K × Proposal D)) → option_map_or (λ found. parent_standing same elect (open_facts x) e.0 e.1 found.1.parent) o Passed ≡ option_map_or (λ found. parent_standing same elect x e.0 e.1 found.1.parent) o Passed
+      by_pending : (o : Option (Leader K × Proposal D)) → option_map_or (λ found. parent_standing same elect (open_facts x) e.0 e.1 found.1.parent) o NothingToDo ≡ option_map_or (λ found. parent_standing same elect x e.0 e.1 found.1.parent) o NothingToDo
       by_pending None = refl
       by_pending (Some found) = open_parent_standing e.0 e.1 found.1.parent

@@ -14,9 +14,9 @@ use Rattle.simplex_round.specs.Round.{RoundFacts, certifiable_proposal, certifie
 use Rattle.simplex_voter.specs.declared.voter.candidates.CertificateFetch.{CertificateFetch}
 use Rattle.simplex_voter.specs.Facts.{StateFacts, Elect, round_at, round_of, is_tracked, with_round, with_tracked}
 use Rattle.simplex_voter.specs.Refusals.{first_fault, enters_late, is_started}
-use Rattle.simplex_voter.specs.Payloads.{explicit_payload}
-use Rattle.simplex_voter.specs.Parents.{spans}
-use Rattle.simplex_voter.specs.Rules.{required_parent}
+use Rattle.simplex_voter.specs.Payloads.{explicit_ancestry_payload}
+use Rattle.simplex_voter.specs.Parents.{has_valid_parent_span}
+use Rattle.simplex_voter.specs.Rules.{required_certification_parent}
 use Rattle.simplex_voter.specs.Entering.{with_view_entered, at_moment}
 use Rattle.simplex_voter.specs.Timeouts.{with_timeout}
 
@@ -45,36 +45,36 @@ module _ {K L D : Type 0} (elect : Elect L) where
   abbrev pub waits_for : StateFacts K L D → ℕ → RoundFacts K D → Bool
   waits_for x p r =
       is_some r.notarization
-      && option_map_or (λ h. option_map_or (λ q. q == p) (required_parent elect x (p + 1) h) false) r.slot.held false
+      && option_map_or (λ h. option_map_or (λ q. q == p) (required_certification_parent elect x (p + 1) h) false) r.slot.held false
 
   -- once p is certified or finalized, the view above it that waited for p is a candidate again
   abbrev pub with_waiting_candidate : StateFacts K L D → ℕ → StateFacts K L D
   with_waiting_candidate x p = if option_map_or (waits_for x p) (round_at x (p + 1)) false then named_also x (p + 1) else x
 
   -- what the proposal requires is certified
-  abbrev pub has_certified_parent : StateFacts K L D → ℕ → Proposal D → Bool
-  has_certified_parent x v p =
-      option_map_or (λ q. spans x v p.parent && is_some (explicit_payload x q)) (required_parent elect x v p) true
+  abbrev pub certification_parent_ready : StateFacts K L D → ℕ → Proposal D → Bool
+  certification_parent_ready x v p =
+      option_map_or (λ q. has_valid_parent_span x v p.parent && is_some (explicit_ancestry_payload x q)) (required_certification_parent elect x v p) true
 
   -- what the proposal requires is neither certified nor even notarized, and the proposal is not invalid for good
-  abbrev pub fetch_for : StateFacts K L D → ℕ → Proposal D → Option CertificateFetch
-  fetch_for x v p =
+  abbrev pub certification_fetch : StateFacts K L D → ℕ → Proposal D → Option CertificateFetch
+  certification_fetch x v p =
       option_and_then
-      (λ q. if spans x v p.parent && is_none (explicit_payload x q) && is_none (round_of x q).notarization
+      (λ q. if has_valid_parent_span x v p.parent && is_none (explicit_ancestry_payload x q) && is_none (round_of x q).notarization
       then Some (record { proposal = p.round.view; view = q })
       else None)
-      (required_parent elect x v p)
+      (required_certification_parent elect x v p)
 
   -- what is to be fetched before the proposal of a view can be certified
   abbrev pub fetched_of : StateFacts K L D → ℕ → Option CertificateFetch
-  fetched_of x v = option_and_then (fetch_for x v) (round_of x v).slot.held
+  fetched_of x v = option_and_then (certification_fetch x v) (round_of x v).slot.held
 
 module _ {K L D : Type 0} (same : D → D → Bool) (elect : Elect L) where
   -- the proposal of a view that is offered for certification
   abbrev pub offered_of : StateFacts K L D → ℕ → Option (Proposal D)
   offered_of x v =
       option_and_then
-      (λ p. if nat_lt p.parent v && has_certified_parent elect x v p then Some p else None)
+      (λ p. if nat_lt p.parent v && certification_parent_ready elect x v p then Some p else None)
       (certifiable_proposal (same_proposal same) (round_of x v))
 
   -- `certify_candidates`: what is offered of the views that wait, and what they have to fetch, by rising view; none waits then

@@ -39,9 +39,9 @@ module _ {K L D : Type 0} where
   is_gap x p v w = nat_lt p w && nat_lt w v && not (is_covered x w)
 
   -- the lowest uncovered view strictly between, by looking at the views alone where a gap may begin
-  unfoldable pub first_gap : StateFacts K L D → ℕ → ℕ → Option ℕ
-  first_gap x p v = lowest (filter (is_gap x p v) (gap_starts x p))
+  unfoldable pub first_unnullified_view : StateFacts K L D → ℕ → ℕ → Option ℕ
+  first_unnullified_view x p v = lowest (filter (is_gap x p v) (gap_starts x p))
 
   -- the test of `IsGapless`
   abbrev pub is_gapless : StateFacts K L D → ℕ → ℕ → Bool
-  is_gapless x p v = is_none (first_gap x p v)
+  is_gapless x p v = is_none (first_unnullified_view x p v)

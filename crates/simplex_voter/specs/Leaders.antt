@@ -5,7 +5,7 @@ use Rattle.std.specs.Option.{option_map_or}
 use Rattle.simplex_types.specs.Terms.{term_end}
 use Rattle.simplex_round.specs.Round.{leader_at}
 use Rattle.simplex_voter.specs.Facts.{StateFacts, Elect, round_of, with_round, round_number}
-use Rattle.simplex_voter.specs.Windows.{in_window}
+use Rattle.simplex_voter.specs.Windows.{in_issuance_window}
 use Rattle.simplex_voter.specs.Payloads.{is_elected_early}
 
 module _ {K L D : Type 0} where
@@ -41,6 +41,6 @@ module _ {K L D : Type 0} (elect : Elect L) where
   -- start, after its own vote, a member that is elected early takes it over
   abbrev pub with_next_view_ready : StateFacts K L D → ℕ → StateFacts K L D
   with_next_view_ready x v =
-      if in_window x (v + 1)
+      if in_issuance_window x (v + 1)
       then with_leader_of x v (v + 1)
       else (if (round_of x v).notarize_decided && is_elected_early elect x (v + 1) then with_elected_leader x (v + 1) None else x)

@@ -14,9 +14,9 @@ use Rattle.simplex_round.specs.Round.{RoundFacts, is_nullify, should_propose}
 use Rattle.simplex_voter.specs.declared.voter.propose.ProposalRequest.{ProposalRequest}
 use Rattle.simplex_voter.specs.declared.voter.propose.ProposalRequest.TheVariants.{Prepare, Propose}
 use Rattle.simplex_voter.specs.Facts.{StateFacts, Elect, round_at, round_of, round_number, with_round, with_tracked}
-use Rattle.simplex_voter.specs.Windows.{is_start, is_admitted}
-use Rattle.simplex_voter.specs.Payloads.{explicit_payload}
-use Rattle.simplex_voter.specs.Parents.{is_payload, preferred_parent, may_stand}
+use Rattle.simplex_voter.specs.Windows.{is_term_start, is_admitted}
+use Rattle.simplex_voter.specs.Payloads.{explicit_ancestry_payload}
+use Rattle.simplex_voter.specs.Parents.{is_payload, find_parent, captured_parent_valid}
 use Rattle.simplex_voter.specs.Entering.{at_moment}
 
 -- the context that a request is for
@@ -74,12 +74,12 @@ module _ {K L D : Type 0} where
 module _ {K L D : Type 0} (same : D → D → Bool) where
   -- the view is certified or finalized with just this payload
   abbrev pub parent_certified : StateFacts K L D → ℕ × D → Bool
-  parent_certified x parent = is_payload same (explicit_payload x parent.0) parent.1
+  parent_certified x parent = is_payload same (explicit_ancestry_payload x parent.0) parent.1
 
   -- a term's start on a parent that isn't certified is only prepared, and not while this member gives up the current view
   abbrev pub request_on : StateFacts K L D → ℕ → RoundFacts K D → ℕ × D → Option (ProposalRequest D K)
   request_on x v r parent =
-      if is_start x v && not (parent_certified x parent)
+      if is_term_start x v && not (parent_certified x parent)
       then (if voted_nullify x x.current then None else option_map (λ l. Prepare (context_on x v parent l)) r.leader)
       else option_map (λ l. Propose (context_on x v parent l)) r.leader
 
@@ -88,7 +88,7 @@ module _ {K L D : Type 0} (same : D → D → Bool) (elect : Elect L) where
   abbrev pub request_in : StateFacts K L D → ℕ × RoundFacts K D → Option (ProposalRequest D K)
   request_in x e =
       if is_admitted x e.0 && should_propose e.1
-      then option_and_then (request_on same x e.0 e.1) (preferred_parent same elect x e.0)
+      then option_and_then (request_on same x e.0 e.1) (find_parent same elect x e.0)
       else None
 
   -- `try_propose`: the request of the lowest view ahead that has one
@@ -102,7 +102,7 @@ module _ {K L D : Type 0} (same : D → D → Bool) (elect : Elect L) where
 
   -- the parent that a context captured still stands
   abbrev pub context_stands : StateFacts K L D → Context D K → Bool
-  context_stands x context = may_stand same elect x context.round.view context.parent.0 context.parent.1
+  context_stands x context = captured_parent_valid same elect x context.round.view context.parent.0 context.parent.1
 
   -- `proposed`: whether the built proposal is recorded
   unfoldable pub proposed_answer : StateFacts K L D → Context D K → D → Bool
@@ -123,7 +123,7 @@ module _ {K L D : Type 0} (same : D → D → Bool) (elect : Elect L) where
   -- `supersede_proposal_request`: another parent can be built on, and the captured one no longer
   abbrev pub supersede_answer : StateFacts K L D → Context D K → Bool
   supersede_answer x context =
-      is_some (preferred_parent same elect x context.round.view) && not (context_stands x context)
+      is_some (find_parent same elect x context.round.view) && not (context_stands x context)
 
   -- a request that is superseded is released
   abbrev pub after_supersede : StateFacts K L D → Context D K → StateFacts K L D

@@ -7,7 +7,7 @@ use Rattle.simplex_types.specs.Certificates.{ProposalFacts, NullificationFacts, 
 use Rattle.simplex_types.specs.declared.types.messages.Proposal.{Proposal}
 use Rattle.simplex_round.specs.Round.{once, forwardable, start_of, elapsed, token_of, is_aborted}
 use Rattle.simplex_voter.specs.Facts.{StateFacts, round_at, round_of, with_tracked}
-use Rattle.simplex_voter.specs.Windows.{is_start, min_active}
+use Rattle.simplex_voter.specs.Windows.{is_term_start, min_active}
 
 module _ {K L D : Type 0} where
   -- the plain getters, of a view that is tracked
@@ -81,12 +81,12 @@ module _ {K L D : Type 0} where
       with_tracked x v (record r { finalization_broadcast = r.finalization_broadcast || is_some r.finalization })
 
   -- the highest nullified view that covers a view
-  abbrev pub highest_nullified : StateFacts K L D → ℕ → Option ℕ
-  highest_nullified x v = last_or None (filter (λ u. covers x.terms.term_length u v) x.nullified)
+  abbrev pub highest_nullification_in_term : StateFacts K L D → ℕ → Option ℕ
+  highest_nullification_in_term x v = last_or None (filter (λ u. covers x.terms.term_length u v) x.nullified)
 
   -- the nullification held there, where a term begins above
   abbrev pub entry_nullification : StateFacts K L D → ℕ → Option NullificationFacts
-  entry_nullification x v = if is_start x x.current then option_and_then (nullification_of x) (highest_nullified x v) else None
+  entry_nullification x v = if is_term_start x x.current then option_and_then (nullification_of x) (highest_nullification_in_term x v) else None
 
   -- of a view the finalization, else where a term begins above it that term's nullification, else the notarization
   abbrev pub entry_certificate : StateFacts K L D → ℕ → Option (CertificateFacts D)

@@ -13,13 +13,13 @@ use Rattle.simplex_round.specs.declared.round.Leader.{Leader}
 use Rattle.simplex_round.specs.Slot.{after_vote, after_mark, is_unverified}
 use Rattle.simplex_round.specs.Round.{RoundFacts, is_nullify, pending_proposal, with_latch, is_last_request}
 use Rattle.simplex_voter.specs.declared.voter.verify.Standing.{Standing}
-use Rattle.simplex_voter.specs.declared.voter.verify.Standing.TheVariants.{Passed, Invalid, Lacks, Ready}
+use Rattle.simplex_voter.specs.declared.voter.verify.Standing.TheVariants.{NothingToDo, Invalid, Lacks, Ready}
 use Rattle.simplex_voter.specs.declared.voter.verify.Verify.{Verify}
 use Rattle.simplex_voter.specs.declared.voter.verify.Verify.TheVariants as verify
 use Rattle.simplex_voter.specs.Facts.{StateFacts, Elect, round_at, round_of, with_round, with_tracked}
-use Rattle.simplex_voter.specs.Gaps.{first_gap}
-use Rattle.simplex_voter.specs.Windows.{in_window, is_admitted}
-use Rattle.simplex_voter.specs.Parents.{spans, payload_for, binding_matches}
+use Rattle.simplex_voter.specs.Gaps.{first_unnullified_view}
+use Rattle.simplex_voter.specs.Windows.{in_issuance_window, is_admitted}
+use Rattle.simplex_voter.specs.Parents.{has_valid_parent_span, ancestry_payload_for_child, verification_matches}
 use Rattle.simplex_voter.specs.Proposing.{views_ahead}
 use Rattle.simplex_voter.specs.Leaders.{with_next_view_ready}
 use Rattle.simplex_voter.specs.Entering.{at_moment}
@@ -27,8 +27,8 @@ use Rattle.simplex_voter.specs.Refusals.{takes_round}
 use Rattle.simplex_voter.specs.Timeouts.{with_timeout}
 
 -- a certificate is asked for, unless its view was the last one asked for
-abbrev pub unless_asked : {K D : Type 0} → RoundFacts K D → ℕ → Kind → Standing D
-unless_asked r w kind = if is_last_request r w then Passed else Lacks w kind
+abbrev pub fetch_once : {K D : Type 0} → RoundFacts K D → ℕ → Kind → Standing D
+fetch_once r w kind = if is_last_request r w then NothingToDo else Lacks w kind
 
 -- the held proposal is given out to be verified, bound to its parent's payload
 abbrev pub verifying_round : {K D : Type 0} → RoundFacts K D → D → RoundFacts K D
@@ -45,14 +45,14 @@ with_nothing_bound r = record r { binding = None }
 
 -- what the scan leaves of a round of this standing
 abbrev pub round_left : {K D : Type 0} → RoundFacts K D → ℕ → Standing D → RoundFacts K D
-round_left r now Passed = r
+round_left r now NothingToDo = r
 round_left r now Invalid = with_latch r now InvalidProposal
 round_left r now (Lacks w kind) = with_request r w
 round_left r now (Ready d) = verifying_round r d
 
 -- the scan ends here: something is to be fetched or verified
 abbrev pub is_answered : {D : Type 0} → Standing D → Bool
-is_answered Passed = false
+is_answered NothingToDo = false
 is_answered Invalid = false
 is_answered (Lacks w kind) = true
 is_answered (Ready d) = true
@@ -68,7 +68,7 @@ verify_context found d = record { round = found.1.round; leader = found.0.key; p
 
 -- the answer at a view of this standing, with its leader and proposal
 abbrev pub answer_at : {K D : Type 0} → ℕ → Standing D → Leader K × Proposal D → Option (Verify D K)
-answer_at v Passed found = None
+answer_at v NothingToDo found = None
 answer_at v Invalid found = None
 answer_at v (Lacks w kind) found = Some (verify.Resolve v w kind found.0.key)
 answer_at v (Ready d) found = Some (verify.Ready (verify_context found d) found.1)
@@ -80,7 +80,7 @@ is_new_proposal r = not (is_nullify r.decision) && is_none r.slot.held
 module _ {K L D : Type 0} where
   -- what the scan leaves where it comes to a view of this standing
   abbrev pub left_at : StateFacts K L D → ℕ × RoundFacts K D → Standing D → StateFacts K L D
-  left_at x e Passed = x
+  left_at x e NothingToDo = x
   left_at x e Invalid = with_round x e.0 (with_latch e.1 x.moment InvalidProposal)
   left_at x e (Lacks w kind) = with_round x e.0 (with_request e.1 w)
   left_at x e (Ready d) = with_round x e.0 (verifying_round e.1 d)
@@ -116,21 +116,21 @@ module _ {K L D : Type 0} (same : D → D → Bool) (elect : Elect L) where
   -- above no gap the parent's payload is ready, or inside the window still forming, or its notarization is lacking
   abbrev pub payload_standing : StateFacts K L D → ℕ → RoundFacts K D → ℕ → Standing D
   payload_standing x v r p =
-      option_map_or Ready (payload_for same elect x v p) (if in_window x v then Passed else unless_asked r p Notarization)
+      option_map_or Ready (ancestry_payload_for_child same elect x v p) (if in_issuance_window x v then NothingToDo else fetch_once r p Notarization)
 
   -- how a proposal stands by its parent: the first gap is to be closed first
   abbrev pub parent_standing : StateFacts K L D → ℕ → RoundFacts K D → ℕ → Standing D
   parent_standing x v r p =
-      if spans x v p
-      then option_map_or (λ w. unless_asked r w Nullification) (first_gap x p v) (payload_standing x v r p)
+      if has_valid_parent_span x v p
+      then option_map_or (λ w. fetch_once r w Nullification) (first_unnullified_view x p v) (payload_standing x v r p)
       else Invalid
 
   -- how a view stands: another leads it, this member may work there, and its proposal was not verified yet
   unfoldable pub standing : StateFacts K L D → ℕ × RoundFacts K D → Standing D
   standing x e =
       if is_admitted x e.0
-      then option_map_or (λ found. parent_standing x e.0 e.1 found.1.parent) (pending_proposal e.1) Passed
-      else Passed
+      then option_map_or (λ found. parent_standing x e.0 e.1 found.1.parent) (pending_proposal e.1) NothingToDo
+      else NothingToDo
 
   -- what is answered where the scan comes to this view
   abbrev pub answer_in : StateFacts K L D → ℕ × RoundFacts K D → Option (Verify D K)
@@ -159,15 +159,15 @@ module _ {K L D : Type 0} (same : D → D → Bool) (elect : Elect L) where
   -- `verified`: whether the held proposal is marked; an answer for what is no longer bound takes the binding away
   abbrev pub verified_answer : StateFacts K L D → ℕ → Bool
   verified_answer x v =
-      binding_matches same elect x v
+      verification_matches same elect x v
       && option_map_or (λ r. not (is_nullify r.decision) && is_unverified r.slot) (round_at x v) false
 
   -- the application found the proposal valid: it is marked where its binding matches, else that is forgotten
   abbrev pub after_verified : StateFacts K L D → ℕ → StateFacts K L D
   after_verified x v =
-      if binding_matches same elect x v then with_tracked x v (with_mark (round_of x v)) else without_binding x v
+      if verification_matches same elect x v then with_tracked x v (with_mark (round_of x v)) else without_binding x v
 
   -- `verification_failed`
   abbrev pub after_verification_failed : StateFacts K L D → ℕ → TimeoutReason → ℕ → StateFacts K L D
   after_verification_failed x v reason now =
-      if binding_matches same elect x v then with_timeout (at_moment x now) v reason now else without_binding (at_moment x now) v
+      if verification_matches same elect x v then with_timeout (at_moment x now) v reason now else without_binding (at_moment x now) v

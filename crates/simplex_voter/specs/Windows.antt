@@ -24,8 +24,8 @@ module _ {K L D : Type 0} where
   is_me x member = signs_as x.me member
 
   -- the view starts a term
-  abbrev pub is_start : StateFacts K L D → ℕ → Bool
-  is_start x v = v == term_start x.terms.term_length v
+  abbrev pub is_term_start : StateFacts K L D → ℕ → Bool
+  is_term_start x v = v == term_start x.terms.term_length v
 
   -- a vote of this member for the view may go out
   unfoldable pub is_admitted : StateFacts K L D → ℕ → Bool
@@ -37,8 +37,8 @@ module _ {K L D : Type 0} where
   is_open x v (Some floor) = floor == 0 || list_any (λ e. nat_le floor e.0 && nat_lt e.0 v && is_notarized e.1) x.rounds
 
   -- the view may build on a parent that is not certified yet, since one not far below it in its term is notarized
-  unfoldable pub in_window : StateFacts K L D → ℕ → Bool
-  in_window x v = is_open x v (issuance_floor x.terms.term_length x.terms.optimistic_views v)
+  unfoldable pub in_issuance_window : StateFacts K L D → ℕ → Bool
+  in_issuance_window x v = is_open x v (issuance_floor x.terms.term_length x.terms.optimistic_views v)
 
   -- the views that are kept
   abbrev pub viewport : StateFacts K L D → Viewport

@@ -3,15 +3,15 @@ use Rattle.std.specs.Prelude.{◌≡◌, ℕ, true, false, [], ◌∷◌, Some, 
 use Rattle.std.proofs.Common.{refl}
 use Rattle.simplex_round.specs.declared.round.Certification.TheVariants.{Outstanding, Aborted}
 use Rattle.simplex_round.specs.declared.round.Decision.TheVariants as decision
-use Rattle.simplex_voter.specs.Windows.{in_window}
+use Rattle.simplex_voter.specs.Windows.{in_issuance_window}
 use Rattle.simplex_types.specs.Config.{Genesis, Finalized}
 use Rattle.simplex_voter.specs.Refusals.{takes_round}
 use Rattle.simplex_voter.specs.Acceptance.{takes_floor}
 use Rattle.simplex_voter.specs.Verifying.{takes_proposal}
 use Rattle.simplex_round.specs.Round.{leader_at}
-use Rattle.simplex_voter.specs.Parents.{binding_matches}
+use Rattle.simplex_voter.specs.Parents.{verification_matches}
 use Rattle.simplex_voter.specs.Facts.{Elect, round_of, with_round}
-use Rattle.simplex_voter.specs.Payloads.{optimistic_payload}
+use Rattle.simplex_voter.specs.Payloads.{optimistic_ancestry_payload}
 use Rattle.simplex_types.specs.declared.reasons.TimeoutReason.TheVariants.{MissingProposal}
 use Rattle.simplex_voter.specs.Entering.{with_view_entered}
 use Rattle.simplex_voter.specs.Leaders.{with_elected_leader, opened_views}
@@ -20,12 +20,12 @@ use Rattle.simplex_definitions.proofs.Examples.Scripts.{State, context, same, fr
 use Rattle.simplex_definitions.proofs.Examples.Scripts.Call.{Candidates, Certified, AddNotarization, AddNullification, Trigger, AddFinalization, SetProposal, TryPropose, Proposed, TryVerify, Verified, SetCertifyHandle, Notarize, Finalize}
 
 -- without a window two replayed votes are no chain, though the second ends a term that this member takes over
-no_chain_without_window : optimistic_payload same in_turn (recovered (voter 1 2 0) 0 (voted_notarize 1 1 0 7 ∷ voted_notarize 1 2 1 9 ∷ [])) 2 ≡ None
+no_chain_without_window : optimistic_ancestry_payload same in_turn (recovered (voter 1 2 0) 0 (voted_notarize 1 1 0 7 ∷ voted_notarize 1 2 1 9 ∷ [])) 2 ≡ None
 unfolding replies_of
 no_chain_without_window = refl
 
 -- with a window they are
-chain_in_window : optimistic_payload same in_turn (recovered (voter 1 2 1) 0 (voted_notarize 1 1 0 7 ∷ voted_notarize 1 2 1 9 ∷ [])) 2 ≡ Some 9
+chain_in_window : optimistic_ancestry_payload same in_turn (recovered (voter 1 2 1) 0 (voted_notarize 1 1 0 7 ∷ voted_notarize 1 2 1 9 ∷ [])) 2 ≡ Some 9
 unfolding replies_of
 chain_in_window = refl
 
@@ -70,12 +70,12 @@ abbrev handed_off : State
 handed_off = fold after_call (voter 1 1 0) (SetProposal 1 0 7 ∷ TryVerify ∷ Verified 1 ∷ Notarize 1 ∷ TryPropose ∷ Proposed (context 2 1 1 7) 8 3 ∷ [])
 
 -- what it was bound to holds for the leader
-leaders_binding : binding_matches same in_turn handed_off 2 ≡ true
+leaders_binding : verification_matches same in_turn handed_off 2 ≡ true
 unfolding replies_of
 leaders_binding = refl
 
 -- and for nobody else
-others_binding : binding_matches same in_turn (with_round handed_off 2 (record (round_of handed_off 2) { leader = leader_at handed_off.members 3 })) 2 ≡ false
+others_binding : verification_matches same in_turn (with_round handed_off 2 (record (round_of handed_off 2) { leader = leader_at handed_off.members 3 })) 2 ≡ false
 unfolding replies_of
 others_binding = refl
 
@@ -104,17 +104,17 @@ unfolding replies_of
 aborted = refl
 
 -- a notarization opens the windows of the views above it, and not its own
-notarized_windows : map (in_window (after_call (voter 0 5 1) (AddNotarization 3 2 4))) (3 ∷ 4 ∷ 5 ∷ []) ≡ false ∷ true ∷ true ∷ []
+notarized_windows : map (in_issuance_window (after_call (voter 0 5 1) (AddNotarization 3 2 4))) (3 ∷ 4 ∷ 5 ∷ []) ≡ false ∷ true ∷ true ∷ []
 unfolding replies_of
 notarized_windows = refl
 
 -- no window reaches below the term's start, however many views are voted for ahead
-no_window_below_the_term : map (in_window (after_call (voter 0 5 2) (AddNotarization 4 3 2))) (5 ∷ 6 ∷ 7 ∷ []) ≡ true ∷ false ∷ false ∷ []
+no_window_below_the_term : map (in_issuance_window (after_call (voter 0 5 2) (AddNotarization 4 3 2))) (5 ∷ 6 ∷ 7 ∷ []) ≡ true ∷ false ∷ false ∷ []
 unfolding replies_of
 no_window_below_the_term = refl
 
 -- a finalization opens them too
-finalized_windows : map (in_window (after_call (voter 0 5 1) (AddFinalization 3 2 4 5))) (3 ∷ 4 ∷ 5 ∷ []) ≡ false ∷ true ∷ true ∷ []
+finalized_windows : map (in_issuance_window (after_call (voter 0 5 1) (AddFinalization 3 2 4 5))) (3 ∷ 4 ∷ 5 ∷ []) ≡ false ∷ true ∷ true ∷ []
 unfolding replies_of
 finalized_windows = refl
 

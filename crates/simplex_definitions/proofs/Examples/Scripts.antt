@@ -13,11 +13,11 @@ use Rattle.simplex_types.specs.declared.reasons.TimeoutReason.{TimeoutReason}
 use Rattle.simplex_types.specs.declared.reasons.HandoffAbandonedReason.{HandoffAbandonedReason}
 use Rattle.simplex_voter.specs.declared.voter.candidates.CertificateFetch.{CertificateFetch}
 use Rattle.simplex_voter.specs.Facts.{Settings, StateFacts, Elect, new_facts}
-use Rattle.simplex_voter.specs.Gaps.{first_gap}
-use Rattle.simplex_voter.specs.Windows.{admits_vote, min_active, is_admitted, in_window}
-use Rattle.simplex_voter.specs.Payloads.{explicit_payload, is_handoff_parent, serves, follows, optimistic_payload}
-use Rattle.simplex_voter.specs.Parents.{spans, payload_for, parent_payload, preferred_parent, may_stand, binding_matches}
-use Rattle.simplex_voter.specs.Rules.{may_nullify, is_gated, required_parent, may_finalize, may_notarize}
+use Rattle.simplex_voter.specs.Gaps.{first_unnullified_view}
+use Rattle.simplex_voter.specs.Windows.{admits_vote, min_active, is_admitted, in_issuance_window}
+use Rattle.simplex_voter.specs.Payloads.{explicit_ancestry_payload, is_handoff_parent, is_voted_ancestor, can_chain_on, optimistic_ancestry_payload}
+use Rattle.simplex_voter.specs.Parents.{has_valid_parent_span, ancestry_payload_for_child, parent_payload_for, find_parent, captured_parent_valid, verification_matches}
+use Rattle.simplex_voter.specs.Rules.{may_nullify, has_conflicting_nullify, required_certification_parent, may_finalize, may_notarize}
 use Rattle.simplex_voter.specs.Refusals.{plain_refusal, proposal_refusal, takes_round}
 use Rattle.simplex_voter.specs.Timeouts.{after_trigger_timeout, next_timeout_answer, after_next_timeout, next_timeout_refusal, has_timeout}
 use Rattle.simplex_voter.specs.Certification.{candidates_answer, after_candidates, after_set_certify_handle, takes_certify_handle, certified_answer, after_certified, certified_refusal, takes_verdict}
@@ -233,7 +233,7 @@ was_taken _ = true
 
 -- what a list of calls is answered
 unfoldable pub replies_of : State → List Call → List Reply
-unfolding first_gap is_admitted in_window explicit_payload is_handoff_parent serves follows optimistic_payload spans payload_for parent_payload preferred_parent may_stand binding_matches may_nullify is_gated required_parent may_finalize may_notarize propose_answer proposed_answer standing
+unfolding first_unnullified_view is_admitted in_issuance_window explicit_ancestry_payload is_handoff_parent is_voted_ancestor can_chain_on optimistic_ancestry_payload has_valid_parent_span ancestry_payload_for_child parent_payload_for find_parent captured_parent_valid verification_matches may_nullify has_conflicting_nullify required_certification_parent may_finalize may_notarize propose_answer proposed_answer standing
 replies_of x [] = []
 replies_of x (call ∷ calls) =
     let reply = reply_to x call in

@@ -1,13 +1,13 @@
-//! Members whose deeds so far keep the laws, by the code's own steps and replies: a whole run, and a member that goes on.
+//! Members whose trace so far keeps the laws, by the code's own steps and replies: a whole run, and a member that goes on.
 
 ghost use Rattle.std.specs.Prelude.{◌≡◌, ℕ, IfOk, IfErr, IfSome, length};
 ghost use Rattle.simplex_member.specs.Runs.{AreSetUp, EndsRunFrom, steps_of};
 ghost use Rattle.simplex_record.specs.Start.{start_facts};
 ghost use Rattle.simplex_laws.specs.Exactly.{SignsExactly};
-ghost use Rattle.simplex_laws.specs.Living.{story_of};
+ghost use Rattle.simplex_laws.specs.Living.{execution_of};
 ghost use Rattle.simplex_laws.specs.Lawful.{IsLawful};
-ghost use Rattle.simplex_laws.specs.Shown.{shown_deeds, AreSetUpAs};
-ghost use Rattle.simplex_laws.specs.Stories.{deeds_of, Ran};
+ghost use Rattle.simplex_laws.specs.Shown.{shown_trace, AreSetUpAs};
+ghost use Rattle.simplex_laws.specs.Executions.{trace_of, IsExecution};
 
 use simplex_member::member::{Call, Member, RecoverError, Reply, Restart, Start, Step, run};
 use simplex_types::types::{CertificateScheme, Digest, Elector, Scheme};
@@ -19,7 +19,7 @@ use std::marker::Model;
 /// - `exact`: each request for a vote is answered exactly by its rule, and nothing else by a vote.
 /// - `ran`: where each life has terms of one length, not 0, and signs as member `i` or not at all, `AreSetUpAs`, this is what
 ///   member `i` of a network does, so `agreement` tells of it.
-/// - `shows`: its deeds are the certificates and the votes that the steps and the replies show: each certificate that a call
+/// - `shows`: its trace is the certificates and the votes that the steps and the replies show: each certificate that a call
 ///   hands in and is told whether it is new, the floor's finalization of the start and of each restart that succeeds, and each
 ///   vote in a reply.
 /// - `lawful`: they keep the voting rules, over all its lives.
@@ -33,15 +33,15 @@ pub fn run_lawfully<S: Scheme<D>, L: Elector<S>, D: Digest>(
     requires restarted { AreSetUp S.participants L.members steps.items }
     ensures exact { IfOk result (λ replies.
         SignsExactly D.eq L.elect
-        (story_of S.me S.participants L.terms L.elects_early S.certificate_bytes start steps.items replies.items)) }
+        (execution_of S.me S.participants L.terms L.elects_early S.certificate_bytes start steps.items replies.items)) }
     ensures ran { IfOk result (λ replies. (term_length i : ℕ) → AreSetUpAs S.me L.terms term_length i start steps.items
-        → Ran D.eq L.elect term_length i
-        (story_of S.me S.participants L.terms L.elects_early S.certificate_bytes start steps.items replies.items)) }
+        → IsExecution D.eq L.elect term_length i
+        (execution_of S.me S.participants L.terms L.elects_early S.certificate_bytes start steps.items replies.items)) }
     ensures shows { IfOk result (λ replies.
-        deeds_of (story_of S.me S.participants L.terms L.elects_early S.certificate_bytes start steps.items replies.items)
-        ≡ shown_deeds start steps.items replies.items) }
+        trace_of (execution_of S.me S.participants L.terms L.elects_early S.certificate_bytes start steps.items replies.items)
+        ≡ shown_trace start steps.items replies.items) }
     ensures lawful { IfOk result (λ replies. (term_length i : ℕ) → AreSetUpAs S.me L.terms term_length i start steps.items
-        → IsLawful term_length (shown_deeds start steps.items replies.items)) }
+        → IsLawful term_length (shown_trace start steps.items replies.items)) }
     ensures ended { IfErr result (EndsRunFrom D.eq L.elect
         (start_facts S.me S.participants L.terms L.elects_early S.certificate_bytes start)
         (steps_of S.me S.participants L.terms L.elects_early S.certificate_bytes steps.items)) }
@@ -51,7 +51,7 @@ pub fn run_lawfully<S: Scheme<D>, L: Elector<S>, D: Digest>(
 
 /// A member that a driver keeps, with the law of its votes at each moment.
 ///
-/// `HasDone` says which deeds it has done so far, and as which member of a network: `start` begins the list, `resume` goes on
+/// `HasDone` says what its trace is so far, and as which member of a network: `start` begins the list, `resume` goes on
 /// with that of an ended member, each method says what it adds, read off its arguments and its reply, and `keeps_the_laws` says
 /// what holds of the whole.
 #[derive(Drop)]
@@ -155,7 +155,7 @@ impl<S: Scheme<D>, L: Elector<S>, D: Digest> LawfulMember<S, L, D> {
 
     /// The laws of all that the member has done so far. It does nothing: its contract is the law.
     ///
-    /// - `lawful`: its deeds keep the voting rules, over all its lives.
+    /// - `lawful`: its trace keeps the voting rules, over all its lives.
     /// - `ran`: a network of `agreement` may have it as member `i`.
     pub fn keeps_the_laws(&self)
         ensures lawful { OfAllDone D.eq L.elect self.now.facts (λ term_length i all. IsLawful term_length all) }

@@ -16,15 +16,15 @@ use Rattle.simplex_types.proofs.Covers.{covers_parts}
 use Rattle.simplex_types.proofs.Proposal.{same_proposal-true, same_proposal-refl}
 use Rattle.simplex_voter.specs.Facts.{Elect}
 use Rattle.simplex_laws.specs.Accountability.{AreRivals, Contradicts, distance, BreaksBy, BreaksByFinal, BreaksByNullify, HasAcceptedNearer, MayHaveVoted, MayBeCertified, AcceptCertified, AnswersFor, IsGuilty, IsSuspect, unknowns, IsTraced, known_of, IsBackedNetwork, ContradictionsAreAnsweredFor, ContradictionsAreTraced, BrokenRulesAreRules, EvidenceHolds, NearestIsEvidence, ThirdIsAnother, ContradictionsNeedFaults, ContradictionsAreTracedInNetworks}
-use Rattle.simplex_laws.specs.Deeds.{Deed, Accepts, Signs}
+use Rattle.simplex_laws.specs.Traces.{TraceEvent, Accepts, Signs}
 use Rattle.simplex_laws.specs.Lawful.{HasSigned, HasCover, HasFinalizedBetween, IsLawful}
-use Rattle.simplex_laws.specs.Places.{Place, Faulty, Honest, faults, AtLeastFrom, MayHaveSigned, Backed, max_faults, quorum}
-use Rattle.simplex_laws.specs.Stories.{Story, deeds_of}
+use Rattle.simplex_laws.specs.Replicas.{Replica, Faulty, Honest, faults, AtLeastFrom, MayHaveSigned, Backed, max_faults, quorum}
+use Rattle.simplex_laws.specs.Executions.{Execution, trace_of}
 use Rattle.simplex_laws.proofs.lists.Splits.{Contains-cons_rest, Contains-cases}
 use Rattle.simplex_laws.proofs.agreement.TwoVotes.{covers_between, one_notarized, one_finalized}
 use Rattle.simplex_laws.proofs.agreement.Quorums.{AtLeastFrom-both, AtLeastFrom-map, shared_member}
 use Rattle.simplex_laws.proofs.agreement.VoteOrder.{Same, First, Second, in_order, voted, earlier}
-use Rattle.simplex_laws.proofs.records.RunsLawful.{story_lawful}
+use Rattle.simplex_laws.proofs.records.RunsLawful.{execution_lawful}
 
 -- what was accepted can be looked up
 
@@ -55,56 +55,56 @@ is_between low high view = elim (cases_lt view low) [
 module _ {D : Type 0} where
   -- a nullification that covers a view
 
-  abbrev Covering : ℕ → ℕ → Deed D → Type 0
+  abbrev Covering : ℕ → ℕ → TraceEvent D → Type 0
   Covering term_length view (Accepts (subject.Nullify round)) = covers term_length round.view view ≡ true
   Covering term_length view _ = ⊥
 
-  covering : (term_length view : ℕ) (deed : Deed D) → Decided (Covering term_length view deed)
+  covering : (term_length view : ℕ) (trace_event : TraceEvent D) → Decided (Covering term_length view trace_event)
   covering term_length view (Accepts (subject.Nullify round)) = is_true (covers term_length round.view view)
   covering term_length view (Accepts (subject.Notarize p)) = inr (λ h. h)
   covering term_length view (Accepts (subject.Finalize p)) = inr (λ h. h)
   covering term_length view (Signs signer vote) = inr (λ h. h)
 
-  covered : (term_length view : ℕ) (deeds : List (Deed D)) (deed : Deed D) → Contains deeds deed → Covering term_length view deed → HasCover term_length deeds view
-  covered term_length view deeds (Accepts (subject.Nullify round)) h is = (round, h, is)
-  covered term_length view deeds (Accepts (subject.Notarize p)) h is = absurd is
-  covered term_length view deeds (Accepts (subject.Finalize p)) h is = absurd is
-  covered term_length view deeds (Signs signer vote) h is = absurd is
+  covered : (term_length view : ℕ) (trace : List (TraceEvent D)) (trace_event : TraceEvent D) → Contains trace trace_event → Covering term_length view trace_event → HasCover term_length trace view
+  covered term_length view trace (Accepts (subject.Nullify round)) h is = (round, h, is)
+  covered term_length view trace (Accepts (subject.Notarize p)) h is = absurd is
+  covered term_length view trace (Accepts (subject.Finalize p)) h is = absurd is
+  covered term_length view trace (Signs signer vote) h is = absurd is
 
-  uncovered : (term_length view : ℕ) (deeds : List (Deed D)) → ((deed : Deed D) → Contains deeds deed → Covering term_length view deed → ⊥) → HasCover term_length deeds view → ⊥
-  uncovered term_length view deeds none (round, h, is) = none (Accepts (subject.Nullify round)) h is
+  uncovered : (term_length view : ℕ) (trace : List (TraceEvent D)) → ((trace_event : TraceEvent D) → Contains trace trace_event → Covering term_length view trace_event → ⊥) → HasCover term_length trace view → ⊥
+  uncovered term_length view trace none (round, h, is) = none (Accepts (subject.Nullify round)) h is
 
-  has_cover : (term_length view : ℕ) (deeds : List (Deed D)) → Decided (HasCover term_length deeds view)
-  has_cover term_length view deeds = elim (look_up (Covering term_length view) (covering term_length view) deeds) [
-    | inl found ↦ inl (covered term_length view deeds found.0 found.1 found.2)
-    | inr none ↦ inr (uncovered term_length view deeds none)
+  has_cover : (term_length view : ℕ) (trace : List (TraceEvent D)) → Decided (HasCover term_length trace view)
+  has_cover term_length view trace = elim (look_up (Covering term_length view) (covering term_length view) trace) [
+    | inl found ↦ inl (covered term_length view trace found.0 found.1 found.2)
+    | inr none ↦ inr (uncovered term_length view trace none)
   ]
 
   -- a finalization of a view between two others
 
-  abbrev FinalBetween : ℕ → ℕ → Deed D → Type 0
+  abbrev FinalBetween : ℕ → ℕ → TraceEvent D → Type 0
   FinalBetween low high (Accepts (subject.Finalize final)) = (low ≤ final.round.view) × (final.round.view < high)
   FinalBetween low high _ = ⊥
 
-  final_between : (low high : ℕ) (deed : Deed D) → Decided (FinalBetween low high deed)
+  final_between : (low high : ℕ) (trace_event : TraceEvent D) → Decided (FinalBetween low high trace_event)
   final_between low high (Accepts (subject.Finalize final)) = is_between low high final.round.view
   final_between low high (Accepts (subject.Notarize p)) = inr (λ h. h)
   final_between low high (Accepts (subject.Nullify round)) = inr (λ h. h)
   final_between low high (Signs signer vote) = inr (λ h. h)
 
-  finalized : (low high : ℕ) (deeds : List (Deed D)) (deed : Deed D) → Contains deeds deed → FinalBetween low high deed → HasFinalizedBetween deeds low high
-  finalized low high deeds (Accepts (subject.Finalize final)) h is = (final, h, is.0, is.1)
-  finalized low high deeds (Accepts (subject.Notarize p)) h is = absurd is
-  finalized low high deeds (Accepts (subject.Nullify round)) h is = absurd is
-  finalized low high deeds (Signs signer vote) h is = absurd is
+  finalized : (low high : ℕ) (trace : List (TraceEvent D)) (trace_event : TraceEvent D) → Contains trace trace_event → FinalBetween low high trace_event → HasFinalizedBetween trace low high
+  finalized low high trace (Accepts (subject.Finalize final)) h is = (final, h, is.0, is.1)
+  finalized low high trace (Accepts (subject.Notarize p)) h is = absurd is
+  finalized low high trace (Accepts (subject.Nullify round)) h is = absurd is
+  finalized low high trace (Signs signer vote) h is = absurd is
 
-  unfinalized : (low high : ℕ) (deeds : List (Deed D)) → ((deed : Deed D) → Contains deeds deed → FinalBetween low high deed → ⊥) → HasFinalizedBetween deeds low high → ⊥
-  unfinalized low high deeds none (final, h, from, below) = none (Accepts (subject.Finalize final)) h (from, below)
+  unfinalized : (low high : ℕ) (trace : List (TraceEvent D)) → ((trace_event : TraceEvent D) → Contains trace trace_event → FinalBetween low high trace_event → ⊥) → HasFinalizedBetween trace low high → ⊥
+  unfinalized low high trace none (final, h, from, below) = none (Accepts (subject.Finalize final)) h (from, below)
 
-  has_final_between : (low high : ℕ) (deeds : List (Deed D)) → Decided (HasFinalizedBetween deeds low high)
-  has_final_between low high deeds = elim (look_up (FinalBetween low high) (final_between low high) deeds) [
-    | inl found ↦ inl (finalized low high deeds found.0 found.1 found.2)
-    | inr none ↦ inr (unfinalized low high deeds none)
+  has_final_between : (low high : ℕ) (trace : List (TraceEvent D)) → Decided (HasFinalizedBetween trace low high)
+  has_final_between low high trace = elim (look_up (FinalBetween low high) (final_between low high) trace) [
+    | inl found ↦ inl (finalized low high trace found.0 found.1 found.2)
+    | inr none ↦ inr (unfinalized low high trace none)
   ]
 
 module _ {D : Type 0} (same : D → D → Bool) (decides : (d e : D) → same d e ≡ true → d ≡ e) (itself : (d : D) → same d d ≡ true) where
@@ -122,28 +122,28 @@ module _ {D : Type 0} (same : D → D → Bool) (decides : (d e : D) → same d 
     | inr other ↦ inr (λ (e : Accepts (subject.Notarize q) ≡ Accepts (subject.Notarize p)). other (cc))
   ]
 
-  notarizes : (p : Proposal D) (deed : Deed D) → Decided (deed ≡ Accepts (subject.Notarize p))
+  notarizes : (p : Proposal D) (trace_event : TraceEvent D) → Decided (trace_event ≡ Accepts (subject.Notarize p))
   notarizes p (Accepts (subject.Notarize q)) = of_proposal p q
   notarizes p (Accepts (subject.Nullify round)) = inr (λ (e : Accepts (subject.Nullify round) ≡ Accepts (subject.Notarize p)). absurd (cc))
   notarizes p (Accepts (subject.Finalize q)) = inr (λ (e : Accepts (subject.Finalize q) ≡ Accepts (subject.Notarize p)). absurd (cc))
   notarizes p (Signs signer vote) = inr (λ (e : Signs signer vote ≡ Accepts (subject.Notarize p)). absurd (cc))
 
-  has_notarization : (p : Proposal D) (deeds : List (Deed D)) → Decided (Contains deeds (Accepts (subject.Notarize p)))
-  has_notarization p deeds = elim (look_up (λ deed. deed ≡ Accepts (subject.Notarize p)) (notarizes p) deeds) [
-    | inl found ↦ inl (subst (Contains deeds) found.2 found.1)
+  has_notarization : (p : Proposal D) (trace : List (TraceEvent D)) → Decided (Contains trace (Accepts (subject.Notarize p)))
+  has_notarization p trace = elim (look_up (λ trace_event. trace_event ≡ Accepts (subject.Notarize p)) (notarizes p) trace) [
+    | inl found ↦ inl (subst (Contains trace) found.2 found.1)
     | inr none ↦ inr (λ h. none (Accepts (subject.Notarize p)) h refl)
   ]
 
 -- a member that signed both votes broke a rule by these, or accepted a nearer contradiction
 
-module _ {D : Type 0} (same : D → D → Bool) (decides : (d e : D) → same d e ≡ true → d ≡ e) (itself : (d : D) → same d d ≡ true) (term_length : ℕ) (deeds : List (Deed D)) where
+module _ {D : Type 0} (same : D → D → Bool) (decides : (d e : D) → same d e ≡ true → d ≡ e) (itself : (d : D) → same d d ≡ true) (term_length : ℕ) (trace : List (TraceEvent D)) where
   abbrev Answered : Subject D → Subject D → Type 0
-  Answered a b = BreaksBy term_length deeds a b ⊎ HasAcceptedNearer term_length a b deeds
+  Answered a b = BreaksBy term_length trace a b ⊎ HasAcceptedNearer term_length a b trace
 
   -- it finalized a proposal and notarized its rival
-  by_rival : (p final : Proposal D) → HasSigned deeds (subject.Finalize final) → AreRivals p final → Answered (subject.Notarize p) (subject.Finalize final)
+  by_rival : (p final : Proposal D) → HasSigned trace (subject.Finalize final) → AreRivals p final → Answered (subject.Notarize p) (subject.Finalize final)
   by_rival p final has_final rivals =
-      let signs = voted deeds (subject.Finalize final) has_final in
+      let signs = voted trace (subject.Finalize final) has_final in
       elim (has_notarization same decides itself final signs.0) [
         | inr none ↦ inl (inl (signs.0, signs.1, none))
         | inl notarized ↦ inr (record {
@@ -156,9 +156,9 @@ module _ {D : Type 0} (same : D → D → Bool) (decides : (d e : D) → same d 
       ]
 
   -- it voted past a finalized view
-  by_skip : (p final : Proposal D) → HasSigned deeds (subject.Notarize p) → p.parent < final.round.view → final.round.view < p.round.view → Answered (subject.Notarize p) (subject.Finalize final)
+  by_skip : (p final : Proposal D) → HasSigned trace (subject.Notarize p) → p.parent < final.round.view → final.round.view < p.round.view → Answered (subject.Notarize p) (subject.Finalize final)
   by_skip p final has_p low high =
-      let signs = voted deeds (subject.Notarize p) has_p in
+      let signs = voted trace (subject.Notarize p) has_p in
       elim (has_cover term_length final.round.view signs.0) [
         | inr none ↦ inl (inr (signs.0, signs.1, low, high, none))
         | inl cover ↦ inr (record {
@@ -170,14 +170,14 @@ module _ {D : Type 0} (same : D → D → Bool) (decides : (d e : D) → same d 
         })
       ]
 
-  notarized_finalized : (p final : Proposal D) → HasSigned deeds (subject.Notarize p) → HasSigned deeds (subject.Finalize final) → Contradicts term_length (subject.Notarize p) (subject.Finalize final) → Answered (subject.Notarize p) (subject.Finalize final)
+  notarized_finalized : (p final : Proposal D) → HasSigned trace (subject.Notarize p) → HasSigned trace (subject.Finalize final) → Contradicts term_length (subject.Notarize p) (subject.Finalize final) → Answered (subject.Notarize p) (subject.Finalize final)
   notarized_finalized p final has_p has_final (inl rivals) = by_rival p final has_final rivals
   notarized_finalized p final has_p has_final (inr past) = by_skip p final has_p past.0 past.1
 
   -- it nullified a view and finalized it or a later one of its term
-  nullified_finalized : (round : Round) (final : Proposal D) → HasSigned deeds (subject.Nullify round) → HasSigned deeds (subject.Finalize final) → covers term_length round.view final.round.view ≡ true → Answered (subject.Nullify round) (subject.Finalize final)
+  nullified_finalized : (round : Round) (final : Proposal D) → HasSigned trace (subject.Nullify round) → HasSigned trace (subject.Finalize final) → covers term_length round.view final.round.view ≡ true → Answered (subject.Nullify round) (subject.Finalize final)
   nullified_finalized round final has_null has_fin covering_it =
-      elim (in_order deeds (subject.Nullify round) (subject.Finalize final) has_null has_fin) [
+      elim (in_order trace (subject.Nullify round) (subject.Finalize final) has_null has_fin) [
         | Same e ↦ absurd (cc)
         | Second before at h ↦ inl (inr (inl (before, at, h, covering_it)))
         | First before at h ↦ elim (cases_eq round.view final.round.view) [
@@ -202,7 +202,7 @@ module _ {D : Type 0} (same : D → D → Bool) (decides : (d e : D) → same d 
 
   -- the two in the other order
 
-  turned : (a b : Subject D) → distance a b ≡ distance b a → HasAcceptedNearer term_length a b deeds → HasAcceptedNearer term_length b a deeds
+  turned : (a b : Subject D) → distance a b ≡ distance b a → HasAcceptedNearer term_length a b trace → HasAcceptedNearer term_length b a trace
   turned a b as_far nearer = record {
     third = nearer.third;
     before = nearer.before;
@@ -222,7 +222,7 @@ module _ {D : Type 0} (same : D → D → Bool) (decides : (d e : D) → same d 
   nullify_last round final (inl breaks) = inl breaks
   nullify_last round final (inr nearer) = inr (turned (subject.Nullify round) (subject.Finalize final) refl nearer)
 
-  both_signed : (a b : Subject D) → Contradicts term_length a b → HasSigned deeds a → HasSigned deeds b → Answered a b
+  both_signed : (a b : Subject D) → Contradicts term_length a b → HasSigned trace a → HasSigned trace b → Answered a b
   both_signed (subject.Notarize p) (subject.Notarize q) against has_a has_b = inl against
   both_signed (subject.Notarize p) (subject.Nullify round) against has_a has_b = absurd against
   both_signed (subject.Notarize p) (subject.Finalize final) against has_a has_b = notarized_finalized p final has_a has_b against
@@ -235,37 +235,37 @@ module _ {D : Type 0} (same : D → D → Bool) (decides : (d e : D) → same d 
 
 -- broken rules are rules
 
-module _ {D : Type 0} (term_length : ℕ) (deeds : List (Deed D)) (lawful : IsLawful term_length deeds) where
-  none_by_final : (p final : Proposal D) → BreaksByFinal term_length deeds p final → ⊥
+module _ {D : Type 0} (term_length : ℕ) (trace : List (TraceEvent D)) (lawful : IsLawful term_length trace) where
+  none_by_final : (p final : Proposal D) → BreaksByFinal term_length trace p final → ⊥
   none_by_final p final (inl (before, at, none)) = none (lawful.finalizes_notarized before final at)
   none_by_final p final (inr (before, at, low, high, none)) = none (lawful.gapless before p final.round.view at low high)
 
-  none_by_nullify : (round : Round) (final : Proposal D) → HasSigned deeds (subject.Nullify round) → HasSigned deeds (subject.Finalize final) → BreaksByNullify term_length deeds round final → ⊥
+  none_by_nullify : (round : Round) (final : Proposal D) → HasSigned trace (subject.Nullify round) → HasSigned trace (subject.Finalize final) → BreaksByNullify term_length trace round final → ⊥
   none_by_nullify round final has_null has_fin (inl here) = lawful.not_both round final has_null has_fin here
   none_by_nullify round final has_null has_fin (inr (inl (before, at, h, covering_it))) = false≢true (sym (lawful.nullifies_ahead before round final at h) ∙ covering_it)
   none_by_nullify round final has_null has_fin (inr (inr (before, at, h, above, covering_it, none))) = none (lawful.finalizes_past_nullify before final round at h above covering_it)
 
 pub broken_rules : {D : Type 0} → BrokenRulesAreRules D
-broken_rules term_length deeds (subject.Notarize p) (subject.Notarize q) breaks has_a has_b lawful = breaks.1 (one_notarized term_length deeds p q lawful has_a has_b breaks.0)
-broken_rules term_length deeds (subject.Notarize p) (subject.Nullify round) breaks has_a has_b lawful = breaks
-broken_rules term_length deeds (subject.Notarize p) (subject.Finalize final) breaks has_a has_b lawful = none_by_final term_length deeds lawful p final breaks
-broken_rules term_length deeds (subject.Nullify round) (subject.Notarize p) breaks has_a has_b lawful = breaks
-broken_rules term_length deeds (subject.Nullify round) (subject.Nullify other) breaks has_a has_b lawful = breaks
-broken_rules term_length deeds (subject.Nullify round) (subject.Finalize final) breaks has_a has_b lawful = none_by_nullify term_length deeds lawful round final has_a has_b breaks
-broken_rules term_length deeds (subject.Finalize final) (subject.Notarize p) breaks has_a has_b lawful = none_by_final term_length deeds lawful p final breaks
-broken_rules term_length deeds (subject.Finalize final) (subject.Nullify round) breaks has_a has_b lawful = none_by_nullify term_length deeds lawful round final has_b has_a breaks
-broken_rules term_length deeds (subject.Finalize p) (subject.Finalize q) breaks has_a has_b lawful = breaks.1 (one_finalized term_length deeds p q lawful has_a has_b breaks.0)
+broken_rules term_length trace (subject.Notarize p) (subject.Notarize q) breaks has_a has_b lawful = breaks.1 (one_notarized term_length trace p q lawful has_a has_b breaks.0)
+broken_rules term_length trace (subject.Notarize p) (subject.Nullify round) breaks has_a has_b lawful = breaks
+broken_rules term_length trace (subject.Notarize p) (subject.Finalize final) breaks has_a has_b lawful = none_by_final term_length trace lawful p final breaks
+broken_rules term_length trace (subject.Nullify round) (subject.Notarize p) breaks has_a has_b lawful = breaks
+broken_rules term_length trace (subject.Nullify round) (subject.Nullify other) breaks has_a has_b lawful = breaks
+broken_rules term_length trace (subject.Nullify round) (subject.Finalize final) breaks has_a has_b lawful = none_by_nullify term_length trace lawful round final has_a has_b breaks
+broken_rules term_length trace (subject.Finalize final) (subject.Notarize p) breaks has_a has_b lawful = none_by_final term_length trace lawful p final breaks
+broken_rules term_length trace (subject.Finalize final) (subject.Nullify round) breaks has_a has_b lawful = none_by_nullify term_length trace lawful round final has_b has_a breaks
+broken_rules term_length trace (subject.Finalize p) (subject.Finalize q) breaks has_a has_b lawful = breaks.1 (one_finalized term_length trace p q lawful has_a has_b breaks.0)
 
 pub evidence_holds : {D : Type 0} → EvidenceHolds D
-evidence_holds term_length deeds (subject.Notarize p) (subject.Notarize q) shows has_a has_b lawful = shows.1 (one_notarized term_length deeds p q lawful has_a has_b shows.0)
-evidence_holds term_length deeds (subject.Notarize p) (subject.Nullify round) shows has_a has_b lawful = shows
-evidence_holds term_length deeds (subject.Notarize p) (subject.Finalize final) shows has_a has_b lawful = shows
-evidence_holds term_length deeds (subject.Nullify round) (subject.Notarize p) shows has_a has_b lawful = shows
-evidence_holds term_length deeds (subject.Nullify round) (subject.Nullify other) shows has_a has_b lawful = shows
-evidence_holds term_length deeds (subject.Nullify round) (subject.Finalize final) shows has_a has_b lawful = lawful.not_both round final has_a has_b shows
-evidence_holds term_length deeds (subject.Finalize final) (subject.Notarize p) shows has_a has_b lawful = shows
-evidence_holds term_length deeds (subject.Finalize final) (subject.Nullify round) shows has_a has_b lawful = lawful.not_both round final has_b has_a shows
-evidence_holds term_length deeds (subject.Finalize p) (subject.Finalize q) shows has_a has_b lawful = shows.1 (one_finalized term_length deeds p q lawful has_a has_b shows.0)
+evidence_holds term_length trace (subject.Notarize p) (subject.Notarize q) shows has_a has_b lawful = shows.1 (one_notarized term_length trace p q lawful has_a has_b shows.0)
+evidence_holds term_length trace (subject.Notarize p) (subject.Nullify round) shows has_a has_b lawful = shows
+evidence_holds term_length trace (subject.Notarize p) (subject.Finalize final) shows has_a has_b lawful = shows
+evidence_holds term_length trace (subject.Nullify round) (subject.Notarize p) shows has_a has_b lawful = shows
+evidence_holds term_length trace (subject.Nullify round) (subject.Nullify other) shows has_a has_b lawful = shows
+evidence_holds term_length trace (subject.Nullify round) (subject.Finalize final) shows has_a has_b lawful = lawful.not_both round final has_a has_b shows
+evidence_holds term_length trace (subject.Finalize final) (subject.Notarize p) shows has_a has_b lawful = shows
+evidence_holds term_length trace (subject.Finalize final) (subject.Nullify round) shows has_a has_b lawful = lawful.not_both round final has_b has_a shows
+evidence_holds term_length trace (subject.Finalize p) (subject.Finalize q) shows has_a has_b lawful = shows.1 (one_finalized term_length trace p q lawful has_a has_b shows.0)
 
 pub nearest_is_evidence : {D : Type 0} → NearestIsEvidence D
 nearest_is_evidence term_length (subject.Notarize p) (subject.Notarize q) against none = against
@@ -309,7 +309,7 @@ module _ {D : Type 0} where
   not_second term_length a b (inr h) = not_itself term_length b h.0
 
 pub third_is_another : {D : Type 0} → ThirdIsAnother D
-third_is_another {D} term_length deeds a b nearer = (
+third_is_another {D} term_length trace a b nearer = (
   λ (first : nearer.third ≡ a). not_first term_length a b (subst (Nearer term_length a b) first nearer.nearer),
   λ (second : nearer.third ≡ b). not_second term_length a b (subst (Nearer term_length a b) second nearer.nearer),
 )
@@ -334,25 +334,25 @@ module _ {X : Type 0} where
   ]
 
 module _ {D : Type 0} (term_length : ℕ) (a b : Subject D) where
-  one_more_unknown : (m : Option (List (Deed D))) (members : List (Option (List (Deed D)))) → unknowns (m ∷ members) ≡ cond (not (is_some m)) 1 0 + unknowns members
-  one_more_unknown m members = sum_by-cons (λ (n : Option (List (Deed D))). cond (not (is_some n)) 1 0) m members
+  one_more_unknown : (m : Option (List (TraceEvent D))) (members : List (Option (List (TraceEvent D)))) → unknowns (m ∷ members) ≡ cond (not (is_some m)) 1 0 + unknowns members
+  one_more_unknown m members = sum_by-cons (λ (n : Option (List (TraceEvent D))). cond (not (is_some n)) 1 0) m members
 
   -- of the suspects those that are known are guilty
-  known_guilty : (i count fewer : ℕ) (members : List (Option (List (Deed D)))) → fewer + unknowns members ≤ count → AtLeastFrom i count (IsSuspect term_length a b) members → AtLeastFrom i fewer (IsGuilty term_length a b) members
+  known_guilty : (i count fewer : ℕ) (members : List (Option (List (TraceEvent D)))) → fewer + unknowns members ≤ count → AtLeastFrom i count (IsSuspect term_length a b) members → AtLeastFrom i fewer (IsGuilty term_length a b) members
   known_guilty i count zero members less h = tt
   known_guilty i zero (suc fewer) members less h = absurd (omega arith)
   known_guilty i (suc count) (suc fewer) [] less h = absurd h
   known_guilty i (suc count) (suc fewer) (None ∷ members) less (inl h) = inr (known_guilty (suc i) count (suc fewer) members (omega (arith, one_more_unknown None members)) h.1)
   known_guilty i (suc count) (suc fewer) (None ∷ members) less (inr h) = inr (known_guilty (suc i) (suc count) (suc fewer) members (omega (arith, one_more_unknown None members)) h)
-  known_guilty i (suc count) (suc fewer) (Some deeds ∷ members) less (inl h) = inl (h.0, known_guilty (suc i) count fewer members (omega (arith, one_more_unknown (Some deeds) members)) h.1)
-  known_guilty i (suc count) (suc fewer) (Some deeds ∷ members) less (inr h) = inr (known_guilty (suc i) (suc count) (suc fewer) members (omega (arith, one_more_unknown (Some deeds) members)) h)
+  known_guilty i (suc count) (suc fewer) (Some trace ∷ members) less (inl h) = inl (h.0, known_guilty (suc i) count fewer members (omega (arith, one_more_unknown (Some trace) members)) h.1)
+  known_guilty i (suc count) (suc fewer) (Some trace ∷ members) less (inr h) = inr (known_guilty (suc i) (suc count) (suc fewer) members (omega (arith, one_more_unknown (Some trace) members)) h)
 
 -- the two laws
 
 module _ {D : Type 0} (same : D → D → Bool) (decides : (d e : D) → same d e ≡ true → d ≡ e) (itself : (d : D) → same d d ≡ true) where
-  answers : (term_length : ℕ) (a b : Subject D) → Contradicts term_length a b → (i : ℕ) (member : Option (List (Deed D))) → MayHaveVoted a i member × MayHaveVoted b i member → AnswersFor term_length a b i member
+  answers : (term_length : ℕ) (a b : Subject D) → Contradicts term_length a b → (i : ℕ) (member : Option (List (TraceEvent D))) → MayHaveVoted a i member × MayHaveVoted b i member → AnswersFor term_length a b i member
   answers term_length a b against i None both = tt
-  answers term_length a b against i (Some deeds) both = (both.0, both.1, both_signed same decides itself term_length deeds a b against (i, both.0) (i, both.1))
+  answers term_length a b against i (Some trace) both = (both.0, both.1, both_signed same decides itself term_length trace a b against (i, both.0) (i, both.1))
 
   pub answered_for : ContradictionsAreAnsweredFor D
   answered_for term_length members a b against has_a has_b =
@@ -361,20 +361,20 @@ module _ {D : Type 0} (same : D → D → Bool) (decides : (d e : D) → same d 
       AtLeastFrom-map (λ j m. MayHaveVoted a j m × MayHaveVoted b j m) (AnswersFor term_length a b) 0 (n - 2 * max_faults n) members (answers term_length a b against) both
 
   -- who accepted a nearer contradiction
-  abbrev Misled : ℕ → Subject D → Subject D → Option (List (Deed D)) → Type 0
+  abbrev Misled : ℕ → Subject D → Subject D → Option (List (TraceEvent D)) → Type 0
   Misled term_length a b None = ⊥
-  Misled term_length a b (Some deeds) = HasAcceptedNearer term_length a b deeds
+  Misled term_length a b (Some trace) = HasAcceptedNearer term_length a b trace
 
-  guilty_or_misled : (term_length : ℕ) (a b : Subject D) (i : ℕ) (member : Option (List (Deed D))) → AnswersFor term_length a b i member → IsSuspect term_length a b i member ⊎ Misled term_length a b member
+  guilty_or_misled : (term_length : ℕ) (a b : Subject D) (i : ℕ) (member : Option (List (TraceEvent D))) → AnswersFor term_length a b i member → IsSuspect term_length a b i member ⊎ Misled term_length a b member
   guilty_or_misled term_length a b i None answer = inl tt
-  guilty_or_misled term_length a b i (Some deeds) (has_a, has_b, inl breaks) = inl (has_a, has_b, breaks)
-  guilty_or_misled term_length a b i (Some deeds) (has_a, has_b, inr nearer) = inr nearer
+  guilty_or_misled term_length a b i (Some trace) (has_a, has_b, inl breaks) = inl (has_a, has_b, breaks)
+  guilty_or_misled term_length a b i (Some trace) (has_a, has_b, inr nearer) = inr nearer
 
-  module _ (term_length : ℕ) (members : List (Option (List (Deed D)))) (accept : AcceptCertified members) where
-    third_certified : (a b : Subject D) (deeds : List (Deed D)) (k : ℕ) → slice_get members k ≡ Some (Some deeds) → (nearer : HasAcceptedNearer term_length a b deeds) → MayBeCertified members nearer.third
-    third_certified a b deeds k at nearer = accept k deeds nearer.third at (elim nearer.signs [
-      | inl by_a ↦ earlier deeds nearer.before a (Accepts nearer.third) by_a nearer.accepted
-      | inr by_b ↦ earlier deeds nearer.before b (Accepts nearer.third) by_b nearer.accepted
+  module _ (term_length : ℕ) (members : List (Option (List (TraceEvent D)))) (accept : AcceptCertified members) where
+    third_certified : (a b : Subject D) (trace : List (TraceEvent D)) (k : ℕ) → slice_get members k ≡ Some (Some trace) → (nearer : HasAcceptedNearer term_length a b trace) → MayBeCertified members nearer.third
+    third_certified a b trace k at nearer = accept k trace nearer.third at (elim nearer.signs [
+      | inl by_a ↦ earlier trace nearer.before a (Accepts nearer.third) by_a nearer.accepted
+      | inr by_b ↦ earlier trace nearer.before b (Accepts nearer.third) by_b nearer.accepted
     ])
 
     guilty_of : (a b : Subject D) → AtLeastFrom 0 (length members - 2 * max_faults (length members)) (IsSuspect term_length a b) members → AtLeastFrom 0 (length members - 2 * max_faults (length members) - unknowns members) (IsGuilty term_length a b) members
@@ -401,17 +401,17 @@ module _ {D : Type 0} (same : D → D → Bool) (decides : (d e : D) → same d 
     Traces bound = (a b : Subject D) → distance a b < bound → Contradicts term_length a b → MayBeCertified members a → MayBeCertified members b → IsTraced term_length members a b
 
     -- from one that a member accepted on
-    from_third : (bound : ℕ) → Traces bound → (a b : Subject D) → distance a b < suc bound → MayBeCertified members a → MayBeCertified members b → (deeds : List (Deed D)) (k : ℕ) → slice_get members k ≡ Some (Some deeds) → HasAcceptedNearer term_length a b deeds → IsTraced term_length members a b
-    from_third bound traces a b less has_a has_b deeds k at nearer =
-        let third = third_certified a b deeds k at nearer in
+    from_third : (bound : ℕ) → Traces bound → (a b : Subject D) → distance a b < suc bound → MayBeCertified members a → MayBeCertified members b → (trace : List (TraceEvent D)) (k : ℕ) → slice_get members k ≡ Some (Some trace) → HasAcceptedNearer term_length a b trace → IsTraced term_length members a b
+    from_third bound traces a b less has_a has_b trace k at nearer =
+        let third = third_certified a b trace k at nearer in
         elim nearer.nearer [
           | inl h ↦ (let closer = h.1 in farther a b nearer.third a (omega (arith, closer)) (traces nearer.third a (omega (arith, closer, less)) h.0 third has_a))
           | inr h ↦ (let closer = h.1 in farther a b nearer.third b (omega (arith, closer)) (traces nearer.third b (omega (arith, closer, less)) h.0 third has_b))
         ]
 
-    from_misled : (bound : ℕ) → Traces bound → (a b : Subject D) → distance a b < suc bound → MayBeCertified members a → MayBeCertified members b → (k : ℕ) (member : Option (List (Deed D))) → slice_get members k ≡ Some member → Misled term_length a b member → IsTraced term_length members a b
+    from_misled : (bound : ℕ) → Traces bound → (a b : Subject D) → distance a b < suc bound → MayBeCertified members a → MayBeCertified members b → (k : ℕ) (member : Option (List (TraceEvent D))) → slice_get members k ≡ Some member → Misled term_length a b member → IsTraced term_length members a b
     from_misled bound traces a b less has_a has_b k None at misled = absurd misled
-    from_misled bound traces a b less has_a has_b k (Some deeds) at misled = from_third bound traces a b less has_a has_b deeds k at misled
+    from_misled bound traces a b less has_a has_b k (Some trace) at misled = from_third bound traces a b less has_a has_b trace k at misled
 
     trace : (bound : ℕ) → Traces bound
     trace zero a b less against has_a has_b = absurd (omega arith)
@@ -436,21 +436,21 @@ module _ {D : Type 0} (same : D → D → Bool) (decides : (d e : D) → same d 
 
 -- members that keep the rules answer for none, so the others are as many as two quorums share
 
-module _ {K L D : Type 0} (same : D → D → Bool) (decides : (d e : D) → same d e ≡ true → d ≡ e) (itself : (d : D) → same d d ≡ true) (elect : Elect L) (term_length : ℕ) (network : List (Place K L D)) (good : IsBackedNetwork same elect term_length network) (few : faults network < length network - 2 * max_faults (length network)) where
-  third_backed : (a b : Subject D) (k : ℕ) (s : Story K L D) → slice_get network k ≡ Some (Honest s) → (nearer : HasAcceptedNearer term_length a b (deeds_of s)) → Backed network nearer.third
+module _ {K L D : Type 0} (same : D → D → Bool) (decides : (d e : D) → same d e ≡ true → d ≡ e) (itself : (d : D) → same d d ≡ true) (elect : Elect L) (term_length : ℕ) (network : List (Replica K L D)) (good : IsBackedNetwork same elect term_length network) (few : faults network < length network - 2 * max_faults (length network)) where
+  third_backed : (a b : Subject D) (k : ℕ) (s : Execution K L D) → slice_get network k ≡ Some (Honest s) → (nearer : HasAcceptedNearer term_length a b (trace_of s)) → Backed network nearer.third
   third_backed a b k s at nearer = good.backed k s nearer.third at (elim nearer.signs [
-    | inl by_a ↦ earlier (deeds_of s) nearer.before a (Accepts nearer.third) by_a nearer.accepted
-    | inr by_b ↦ earlier (deeds_of s) nearer.before b (Accepts nearer.third) by_b nearer.accepted
+    | inl by_a ↦ earlier (trace_of s) nearer.before a (Accepts nearer.third) by_a nearer.accepted
+    | inr by_b ↦ earlier (trace_of s) nearer.before b (Accepts nearer.third) by_b nearer.accepted
   ])
 
   abbrev NoneWithin : ℕ → Type 0
   NoneWithin bound = (a b : Subject D) → distance a b < bound → Contradicts term_length a b → Backed network a → Backed network b → ⊥
 
-  none_by : (bound : ℕ) → NoneWithin bound → (a b : Subject D) → distance a b < suc bound → Contradicts term_length a b → Backed network a → Backed network b → (k : ℕ) (s : Story K L D) → slice_get network k ≡ Some (Honest s) → HasSigned (deeds_of s) a → HasSigned (deeds_of s) b → ⊥
+  none_by : (bound : ℕ) → NoneWithin bound → (a b : Subject D) → distance a b < suc bound → Contradicts term_length a b → Backed network a → Backed network b → (k : ℕ) (s : Execution K L D) → slice_get network k ≡ Some (Honest s) → HasSigned (trace_of s) a → HasSigned (trace_of s) b → ⊥
   none_by bound none a b less against has_a has_b k s at by_a by_b =
-      let lawful = story_lawful same decides elect term_length k s (good.honest k s at) in
-      elim (both_signed same decides itself term_length (deeds_of s) a b against by_a by_b) [
-        | inl breaks ↦ broken_rules term_length (deeds_of s) a b breaks by_a by_b lawful
+      let lawful = execution_lawful same decides elect term_length k s (good.honest k s at) in
+      elim (both_signed same decides itself term_length (trace_of s) a b against by_a by_b) [
+        | inl breaks ↦ broken_rules term_length (trace_of s) a b breaks by_a by_b lawful
         | inr nearer ↦
             (let third = third_backed a b k s at nearer in
             elim nearer.nearer [
@@ -476,25 +476,25 @@ module _ {K L D : Type 0} (same : D → D → Bool) (decides : (d e : D) → sam
 -- in a network the members of which are known as far as they are honest, each accepted certificate is backed
 
 module _ {K L D : Type 0} where
-  known_signed : (vote : Subject D) (network : List (Place K L D)) (i count : ℕ) → AtLeastFrom i count (MayHaveSigned vote) network → AtLeastFrom i count (MayHaveVoted vote) (map known_of network)
+  known_signed : (vote : Subject D) (network : List (Replica K L D)) (i count : ℕ) → AtLeastFrom i count (MayHaveSigned vote) network → AtLeastFrom i count (MayHaveVoted vote) (map known_of network)
   known_signed vote network i zero h = tt
   known_signed vote [] i (suc count) h = absurd h
   known_signed vote (Faulty ∷ network) i (suc count) (inl h) = inl (tt, known_signed vote network (suc i) count h.1)
   known_signed vote (Honest s ∷ network) i (suc count) (inl h) = inl (h.0, known_signed vote network (suc i) count h.1)
-  known_signed vote (place ∷ network) i (suc count) (inr h) = inr (known_signed vote network (suc i) (suc count) h)
+  known_signed vote (replica ∷ network) i (suc count) (inr h) = inr (known_signed vote network (suc i) (suc count) h)
 
-  backed_certified : (vote : Subject D) (network : List (Place K L D)) → Backed network vote → MayBeCertified (map known_of network) vote
+  backed_certified : (vote : Subject D) (network : List (Replica K L D)) → Backed network vote → MayBeCertified (map known_of network) vote
   backed_certified vote network backed = rw (length-map network known_of) (known_signed vote network 0 (quorum (length network)) backed)
 
-  known_honest : (place : Option (Place K L D)) (deeds : List (Deed D)) → option_map known_of place ≡ Some (Some deeds) → (s : Story K L D) × (place ≡ Some (Honest s)) × (deeds_of s ≡ deeds)
-  known_honest None deeds is = absurd (let no : ⊥ = cc in no)
-  known_honest (Some Faulty) deeds is = absurd (let no : ⊥ = cc in no)
-  known_honest (Some (Honest s)) deeds is = (s, refl, ap (λ o. unwrap_or (unwrap_or o None) deeds) is)
+  known_honest : (replica : Option (Replica K L D)) (trace : List (TraceEvent D)) → option_map known_of replica ≡ Some (Some trace) → (s : Execution K L D) × (replica ≡ Some (Honest s)) × (trace_of s ≡ trace)
+  known_honest None trace is = absurd (let no : ⊥ = cc in no)
+  known_honest (Some Faulty) trace is = absurd (let no : ⊥ = cc in no)
+  known_honest (Some (Honest s)) trace is = (s, refl, ap (λ o. unwrap_or (unwrap_or o None) trace) is)
 
 module _ {K L D : Type 0} (same : D → D → Bool) (elect : Elect L) where
-  accept_certified : (term_length : ℕ) (network : List (Place K L D)) → IsBackedNetwork same elect term_length network → AcceptCertified (map known_of network)
-  accept_certified term_length network good i deeds certificate at accepted =
-      let found = known_honest (slice_get network i) deeds (sym (slice_get-map known_of network i) ∙ at) in
+  accept_certified : (term_length : ℕ) (network : List (Replica K L D)) → IsBackedNetwork same elect term_length network → AcceptCertified (map known_of network)
+  accept_certified term_length network good i trace certificate at accepted =
+      let found = known_honest (slice_get network i) trace (sym (slice_get-map known_of network i) ∙ at) in
       backed_certified certificate network (good.backed i found.0 certificate found.1 (subst (λ d. Contains d (Accepts certificate)) (sym found.2) accepted))
 
 module _ {K L D : Type 0} (same : D → D → Bool) (decides : (d e : D) → same d e ≡ true → d ≡ e) (itself : (d : D) → same d d ≡ true) (elect : Elect L) where

@@ -11,12 +11,12 @@ use Rattle.simplex_types.specs.Terms.{covers}
 use Rattle.simplex_types.proofs.Covers.{covers_parts}
 use Rattle.simplex_voter.specs.Facts.{Elect}
 use Rattle.simplex_laws.specs.Agreement.{Certified, OneProposal, FinalizedUncovered, ParentBefore, ParentNotBelow, FinalizedNotarized, Chain, ChainHoldsFinalized}
-use Rattle.simplex_laws.specs.Deeds.{Deed, Accepts}
+use Rattle.simplex_laws.specs.Traces.{TraceEvent, Accepts}
 use Rattle.simplex_laws.specs.Lawful.{SignsAfter, IsLawful}
-use Rattle.simplex_laws.specs.Places.{Place, Honest, Backed, IsNetworkOf}
-use Rattle.simplex_laws.specs.Stories.{Story, deeds_of}
+use Rattle.simplex_laws.specs.Replicas.{Replica, Honest, Backed, IsNetworkOf}
+use Rattle.simplex_laws.specs.Executions.{Execution, trace_of}
 use Rattle.simplex_laws.proofs.agreement.Quorums.{shared_member}
-use Rattle.simplex_laws.proofs.records.RunsLawful.{story_lawful}
+use Rattle.simplex_laws.proofs.records.RunsLawful.{execution_lawful}
 use Rattle.simplex_laws.proofs.lists.Splits.{Contains-cons_rest, Contains-cases}
 use Rattle.simplex_laws.proofs.agreement.TwoVotes.{covers_between, one_notarized}
 use Rattle.simplex_laws.proofs.agreement.VoteOrder.{Same, First, Second, in_order, voted, earlier}
@@ -30,19 +30,19 @@ is_only : {X : Type 0} (y x : X) → Contains (y ∷ []) x → y ≡ x
 is_only y x (zero, less, same) = same
 is_only y x (suc k, less, same) = absurd (omega arith)
 
-module _ {K L D : Type 0} (same : D → D → Bool) (decides : (d e : D) → same d e ≡ true → d ≡ e) (elect : Elect L) (term_length : ℕ) (network : List (Place K L D)) (good : IsNetworkOf same elect term_length network) where
-  lawful : (k : ℕ) (s : Story K L D) → slice_get network k ≡ Some (Honest s) → IsLawful term_length (deeds_of s)
-  lawful k s at = story_lawful same decides elect term_length k s (good.honest k s at)
+module _ {K L D : Type 0} (same : D → D → Bool) (decides : (d e : D) → same d e ≡ true → d ≡ e) (elect : Elect L) (term_length : ℕ) (network : List (Replica K L D)) (good : IsNetworkOf same elect term_length network) where
+  lawful : (k : ℕ) (s : Execution K L D) → slice_get network k ≡ Some (Honest s) → IsLawful term_length (trace_of s)
+  lawful k s at = execution_lawful same decides elect term_length k s (good.honest k s at)
 
   -- what an honest member accepted before a vote is backed
-  backed_before : (k : ℕ) (s : Story K L D) (before : List (Deed D)) (vote certificate : Subject D) → slice_get network k ≡ Some (Honest s) → SignsAfter (deeds_of s) before vote → Contains before (Accepts certificate) → Backed network certificate
-  backed_before k s before vote certificate at signs accepted = good.backed k s certificate at (earlier (deeds_of s) before vote (Accepts certificate) signs accepted)
+  backed_before : (k : ℕ) (s : Execution K L D) (before : List (TraceEvent D)) (vote certificate : Subject D) → slice_get network k ≡ Some (Honest s) → SignsAfter (trace_of s) before vote → Contains before (Accepts certificate) → Backed network certificate
+  backed_before k s before vote certificate at signs accepted = good.backed k s certificate at (earlier (trace_of s) before vote (Accepts certificate) signs accepted)
 
   -- a backed finalization's proposal has a backed notarization
   pub finalized_notarized : FinalizedNotarized network
   finalized_notarized final finalized =
       let m = shared_member network (subject.Finalize final) (subject.Finalize final) good.few_faulty finalized finalized in
-      let signs = voted (deeds_of m.1) (subject.Finalize final) m.3 in
+      let signs = voted (trace_of m.1) (subject.Finalize final) m.3 in
       backed_before m.0 m.1 signs.0 (subject.Finalize final) (subject.Notarize final) m.2 signs.1 ((lawful m.0 m.1 m.2).finalizes_notarized signs.0 final signs.1)
 
   certified_notarized : (p : Proposal D) → Certified network p → Backed network (subject.Notarize p)
@@ -52,16 +52,16 @@ module _ {K L D : Type 0} (same : D → D → Bool) (decides : (d e : D) → sam
   pub one_proposal : OneProposal network
   one_proposal p q has_p has_q at =
       let m = shared_member network (subject.Notarize p) (subject.Notarize q) good.few_faulty (certified_notarized p has_p) (certified_notarized q has_q) in
-      one_notarized term_length (deeds_of m.1) p q (lawful m.0 m.1 m.2) m.3 m.4 at
+      one_notarized term_length (trace_of m.1) p q (lawful m.0 m.1 m.2) m.3 m.4 at
 
   -- no nullification covers a finalized view below a bound
   uncovered_below : (bound : ℕ) (final : Proposal D) (round : Round) → final.round.view < bound → Backed network (subject.Finalize final) → Backed network (subject.Nullify round) → covers term_length round.view final.round.view ≡ true → ⊥
   uncovered_below zero final round less finalized nullified covering = absurd (omega arith)
   uncovered_below (suc bound) final round less finalized nullified covering =
       let m = shared_member network (subject.Nullify round) (subject.Finalize final) good.few_faulty nullified finalized in
-      let deeds : List (Deed D) = deeds_of m.1 in
-      let keeps : IsLawful term_length deeds = lawful m.0 m.1 m.2 in
-      elim (in_order deeds (subject.Nullify round) (subject.Finalize final) m.3 m.4) [
+      let trace : List (TraceEvent D) = trace_of m.1 in
+      let keeps : IsLawful term_length trace = lawful m.0 m.1 m.2 in
+      elim (in_order trace (subject.Nullify round) (subject.Finalize final) m.3 m.4) [
         | Same e ↦ absurd (cc)
         | First before at h ↦
             (let apart : round.view ≢ final.round.view = keeps.not_both round final m.3 m.4 in
@@ -83,7 +83,7 @@ module _ {K L D : Type 0} (same : D → D → Bool) (decides : (d e : D) → sam
   parent_earlier : (p : Proposal D) → Backed network (subject.Notarize p) → p.parent < p.round.view
   parent_earlier p notarized =
       let m = shared_member network (subject.Notarize p) (subject.Notarize p) good.few_faulty notarized notarized in
-      let signs = voted (deeds_of m.1) (subject.Notarize p) m.3 in
+      let signs = voted (trace_of m.1) (subject.Notarize p) m.3 in
       (lawful m.0 m.1 m.2).parent_before signs.0 p signs.1
 
   pub parent_before : ParentBefore network
@@ -93,7 +93,7 @@ module _ {K L D : Type 0} (same : D → D → Bool) (decides : (d e : D) → sam
   not_skipped : (final p : Proposal D) → Backed network (subject.Finalize final) → Backed network (subject.Notarize p) → p.parent < final.round.view → final.round.view < p.round.view → ⊥
   not_skipped final p finalized notarized low high =
       let m = shared_member network (subject.Notarize p) (subject.Notarize p) good.few_faulty notarized notarized in
-      let signs = voted (deeds_of m.1) (subject.Notarize p) m.3 in
+      let signs = voted (trace_of m.1) (subject.Notarize p) m.3 in
       let cover = (lawful m.0 m.1 m.2).gapless signs.0 p final.round.view signs.1 low high in
       let nullified = backed_before m.0 m.1 signs.0 (subject.Notarize p) (subject.Nullify cover.0) m.2 signs.1 cover.1 in
       false≢true (sym (finalized_uncovered final cover.0 finalized nullified) ∙ cover.2)

@@ -18,16 +18,16 @@ use Rattle.simplex_voter.proofs.Rules.{nullify_parts, nullify_whole, finalize_pa
 use Rattle.simplex_record.specs.declared.record.error.RecoverError.{RecoverError}
 use Rattle.simplex_member.specs.Allowed.{is_allowed, fault_of}
 use Rattle.simplex_member.specs.Calls.{CallFacts, ConstructNotarize, ConstructNullify, ConstructFinalize, Told, Nullify, Finalize, Notarize, Refused, NotAllowed, Done}
-use Rattle.simplex_member.specs.Made.{answer}
+use Rattle.simplex_member.specs.CallSemantics.{answer}
 use Rattle.simplex_member.specs.Lives.{MemberFacts, IsCall, AnswersAlive, reply_of, unless_refused}
-use Rattle.simplex_member.specs.Openings.{Openings}
+use Rattle.simplex_member.specs.OutstandingWork.{OutstandingWork}
 use Rattle.simplex_member.specs.Runs.{StepFacts, Calls, Prunes, Restarts, restart_told, IsStep, IsRun, IsRunFrom}
 use Rattle.simplex_member.specs.Restarts.{RestartFacts}
 use Rattle.simplex_record.specs.Start.{new_state}
 use Rattle.simplex_member.specs.Start.{started_member}
 use Rattle.simplex_laws.specs.Exactly.{is_refused, IsSignedFor, IsExact, proposal_at, ExactAt, RunsExactly, SignsExactly}
-use Rattle.simplex_laws.specs.Deeds.{Deed, Signs, signed_in}
-use Rattle.simplex_laws.specs.Stories.{Story}
+use Rattle.simplex_laws.specs.Traces.{TraceEvent, Signs, signed_in}
+use Rattle.simplex_laws.specs.Executions.{Execution}
 
 is_only : {X : Type 0} (y x : X) → Contains (y ∷ []) x → y ≡ x
 is_only y x (zero, less, same) = same
@@ -41,9 +41,9 @@ no_subject vote e = absurd (cc)
 
 module _ {K D : Type 0} where
   -- no vote is told, since there is no key, the rule doesn't hold, or the call is refused
-  untold : (Rule : Type 0) (me : Option ℕ) (about : Option (Subject D)) (told : Told K D) → signed_in told ≡ [] → ((d : Deed D) → is_refused told ≡ false → Rule → IsSignedFor me about d → ⊥) → IsExact Rule me about told
+  untold : (Rule : Type 0) (me : Option ℕ) (about : Option (Subject D)) (told : Told K D) → signed_in told ≡ [] → ((d : TraceEvent D) → is_refused told ≡ false → Rule → IsSignedFor me about d → ⊥) → IsExact Rule me about told
   untold Rule me about told none never = record {
-    only = λ d h. absurd (let g : Contains [] d = subst (λ (ds : List (Deed D)). Contains ds d) none h in omega (arith, g.1));
+    only = λ d h. absurd (let g : Contains [] d = subst (λ (ds : List (TraceEvent D)). Contains ds d) none h in omega (arith, g.1));
     due = λ d kept rule signed. absurd (never d kept rule signed);
   }
 
@@ -53,7 +53,7 @@ module _ {K D : Type 0} where
   -- one is
   told_so : (Rule : Type 0) (m : ℕ) (about : Subject D) (told : Told K D) → Rule → signed_in told ≡ Signs m about ∷ [] → IsExact Rule (Some m) (Some about) told
   told_so Rule m about told holds is = record {
-    only = λ d h. (let e : Signs m about ≡ d = is_only _ d (subst (λ (ds : List (Deed D)). Contains ds d) is h) in (holds, (m, about, refl, refl, sym e)));
+    only = λ d h. (let e : Signs m about ≡ d = is_only _ d (subst (λ (ds : List (TraceEvent D)). Contains ds d) is h) in (holds, (m, about, refl, refl, sym e)));
     due = λ d kept rule signed. (
         let key : Some m ≡ Some signed.0 = signed.2 in
         let on : Some about ≡ Some signed.1 = signed.3 in
@@ -104,7 +104,7 @@ module _ {K L D : Type 0} (same : D → D → Bool) (elect : Elect L) where
   call_refused x (ConstructNotarize v) f = refused (NotarizeRule same elect x v) x.me (option_map subject.Notarize (proposal_at x v)) f
   call_refused x _ f = refl
 
-  call_told : (x : StateFacts K L D) (o : Openings K D) (call : CallFacts D) → ExactAt same elect (Some x) (Calls call) (reply_of same elect x o call)
+  call_told : (x : StateFacts K L D) (o : OutstandingWork K D) (call : CallFacts D) → ExactAt same elect (Some x) (Calls call) (reply_of same elect x o call)
   call_told x o (ConstructNullify v) = by_fault (plain_refusal x)
     where
       by_fault : (f : Option Fault) → IsExact (NullifyRule x v) x.me (Some (subject.Nullify (round_number x v))) (unless_refused f (answer same elect x o (ConstructNullify v)))
@@ -128,7 +128,7 @@ module _ {K L D : Type 0} (same : D → D → Bool) (elect : Elect L) where
     where
       by_life : (o : Option (StateFacts K L D)) → AnswersAlive same elect o m call told next → ExactAt same elect o (Calls call) told
       by_life None (tells, leaves) = rw tells refl
-      by_life (Some x) (inl (tells, leaves)) = rw tells (call_told x m.openings call)
+      by_life (Some x) (inl (tells, leaves)) = rw tells (call_told x m.outstanding_work call)
       by_life (Some x) (inr (allowed, tells, leaves)) = rw tells (call_refused x call fault.OutOfMemory)
 
   pub restart_exact : (life : Option (StateFacts K L D)) (r : RestartFacts K L D) (result : Result (Unit {0}) RecoverError) → ExactAt same elect life (Restarts r) (restart_told result)
@@ -151,6 +151,6 @@ module _ {K L D : Type 0} (same : D → D → Bool) (elect : Elect L) where
   exact_steps m end (step ∷ steps) (told ∷ replies) (next, is_step, run) =
       (step_exact m next step told is_step, (next, is_step, exact_steps next end steps replies run))
 
-  pub run_exact : (s : Story K L D) → IsRunFrom same elect s.start s.steps s.replies → SignsExactly same elect s
+  pub run_exact : (s : Execution K L D) → IsRunFrom same elect s.start s.steps s.replies → SignsExactly same elect s
   unfolding IsRunFrom
   run_exact s (accepted, end, run) = exact_steps (started_member same elect (new_state s.start.setup) s.start.floor s.start.now) end s.steps s.replies run

@@ -4,8 +4,8 @@ use Rattle.std.proofs.Common.{◌≡◌, ℕ, zero, suc, ◌+◌, ◌-◌, ◌*�
 use Rattle.std.proofs.lemmas.List.Sums.{sum_by-cons}
 use Rattle.simplex_types.specs.declared.types.messages.Subject.{Subject}
 use Rattle.simplex_laws.specs.Lawful.{HasSigned}
-use Rattle.simplex_laws.specs.Places.{Place, Faulty, Honest, is_faulty, faults, FewFaulty, AtLeastFrom, MayHaveSigned, Backed, max_faults, quorum}
-use Rattle.simplex_laws.specs.Stories.{Story, deeds_of}
+use Rattle.simplex_laws.specs.Replicas.{Replica, Faulty, Honest, is_faulty, faults, FewFaulty, AtLeastFrom, MayHaveSigned, Backed, max_faults, quorum}
+use Rattle.simplex_laws.specs.Executions.{Execution, trace_of}
 
 module _ {X : Type 0} where
   -- the items that have P are no more than the items
@@ -34,11 +34,11 @@ module _ {X : Type 0} where
   AtLeastFrom-map P Q i (suc count) (x ∷ xs) f (inr h) = inr (AtLeastFrom-map P Q (suc i) (suc count) xs f h)
 
 module _ {K L D : Type 0} where
-  one_more : (p : Place K L D) (network : List (Place K L D)) → faults (p ∷ network) ≡ cond (is_faulty p) 1 0 + faults network
-  one_more p network = sum_by-cons (λ (q : Place K L D). cond (is_faulty q) 1 0) p network
+  one_more : (p : Replica K L D) (network : List (Replica K L D)) → faults (p ∷ network) ≡ cond (is_faulty p) 1 0 + faults network
+  one_more p network = sum_by-cons (λ (q : Replica K L D). cond (is_faulty q) 1 0) p network
 
   -- one of more members than are faulty is honest
-  honest_one : (Q : ℕ → Place K L D → Type 0) (i count : ℕ) (network : List (Place K L D)) → AtLeastFrom i count Q network → faults network < count → (j k : ℕ) × (s : Story K L D) × (slice_get network k ≡ Some (Honest s)) × Q j (Honest s)
+  honest_one : (Q : ℕ → Replica K L D → Type 0) (i count : ℕ) (network : List (Replica K L D)) → AtLeastFrom i count Q network → faults network < count → (j k : ℕ) × (s : Execution K L D) × (slice_get network k ≡ Some (Honest s)) × Q j (Honest s)
   honest_one Q i zero network h less = absurd (omega arith)
   honest_one Q i (suc count) [] h less = absurd h
   honest_one Q i (suc count) (Faulty ∷ network) (inl h) less =
@@ -53,7 +53,7 @@ module _ {K L D : Type 0} where
       (found.0, suc found.1, found.2, found.3, found.4)
 
   -- two backed subjects share an honest member that signed both
-  pub shared_member : (network : List (Place K L D)) (a b : Subject D) → FewFaulty network → Backed network a → Backed network b → (k : ℕ) × (s : Story K L D) × (slice_get network k ≡ Some (Honest s)) × HasSigned (deeds_of s) a × HasSigned (deeds_of s) b
+  pub shared_member : (network : List (Replica K L D)) (a b : Subject D) → FewFaulty network → Backed network a → Backed network b → (k : ℕ) × (s : Execution K L D) × (slice_get network k ≡ Some (Honest s)) × HasSigned (trace_of s) a × HasSigned (trace_of s) b
   shared_member network a b few h k =
       let n = length network in
       let signed = MayHaveSigned in

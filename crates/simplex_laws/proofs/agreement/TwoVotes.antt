@@ -8,7 +8,7 @@ use Rattle.simplex_types.specs.declared.types.messages.Proposal.{Proposal}
 use Rattle.simplex_types.specs.declared.types.messages.Subject.TheVariants as subject
 use Rattle.simplex_types.specs.Terms.{covers}
 use Rattle.simplex_types.proofs.Covers.{covers_parts, covers_from}
-use Rattle.simplex_laws.specs.Deeds.{Deed}
+use Rattle.simplex_laws.specs.Traces.{TraceEvent}
 use Rattle.simplex_laws.specs.Lawful.{HasSigned, IsLawful}
 use Rattle.simplex_laws.proofs.agreement.VoteOrder.{Same, First, Second, in_order}
 
@@ -29,9 +29,9 @@ notarize_same : {D : Type 0} (p q : Proposal D) → subject.Notarize p ≡ subje
 notarize_same p q e = cc
 
 -- two notarize votes of one member in one view have one proposal
-pub one_notarized : {D : Type 0} (term_length : ℕ) (deeds : List (Deed D)) (p q : Proposal D) → IsLawful term_length deeds → HasSigned deeds (subject.Notarize p) → HasSigned deeds (subject.Notarize q) → p.round.view ≡ q.round.view → p ≡ q
-one_notarized term_length deeds p q lawful has_p has_q same =
-    elim (in_order deeds (subject.Notarize p) (subject.Notarize q) has_p has_q) [
+pub one_notarized : {D : Type 0} (term_length : ℕ) (trace : List (TraceEvent D)) (p q : Proposal D) → IsLawful term_length trace → HasSigned trace (subject.Notarize p) → HasSigned trace (subject.Notarize q) → p.round.view ≡ q.round.view → p ≡ q
+one_notarized term_length trace p q lawful has_p has_q same =
+    elim (in_order trace (subject.Notarize p) (subject.Notarize q) has_p has_q) [
       | Same e ↦ notarize_same p q e
       | First before at h ↦ absurd (lawful.one_notarize before q p at h same)
       | Second before at h ↦ absurd (lawful.one_notarize before p q at h (sym same))
@@ -41,9 +41,9 @@ finalize_same : {D : Type 0} (p q : Proposal D) → subject.Finalize p ≡ subje
 finalize_same p q e = cc
 
 -- two votes of one member to finalize a view have one proposal
-pub one_finalized : {D : Type 0} (term_length : ℕ) (deeds : List (Deed D)) (p q : Proposal D) → IsLawful term_length deeds → HasSigned deeds (subject.Finalize p) → HasSigned deeds (subject.Finalize q) → p.round.view ≡ q.round.view → p ≡ q
-one_finalized term_length deeds p q lawful has_p has_q same =
-    elim (in_order deeds (subject.Finalize p) (subject.Finalize q) has_p has_q) [
+pub one_finalized : {D : Type 0} (term_length : ℕ) (trace : List (TraceEvent D)) (p q : Proposal D) → IsLawful term_length trace → HasSigned trace (subject.Finalize p) → HasSigned trace (subject.Finalize q) → p.round.view ≡ q.round.view → p ≡ q
+one_finalized term_length trace p q lawful has_p has_q same =
+    elim (in_order trace (subject.Finalize p) (subject.Finalize q) has_p has_q) [
       | Same e ↦ finalize_same p q e
       | First before at h ↦ absurd (lawful.one_finalize before q p at h same)
       | Second before at h ↦ absurd (lawful.one_finalize before p q at h (sym same))

@@ -8,7 +8,7 @@ use Rattle.simplex_round.specs.Round.{RoundFacts, new_round}
 use Rattle.simplex_voter.specs.Facts.{StateFacts, Elect, round_of, round_number}
 use Rattle.simplex_voter.specs.Proposing.{proposal_of}
 use Rattle.simplex_laws.specs.Events.{Event, after_event, Proposed}
-use Rattle.simplex_laws.specs.Sums.{or_new}
+use Rattle.simplex_laws.specs.HistoryFolds.{or_new}
 use Rattle.simplex_laws.proofs.frames.EachRound.{rounds_or_gone}
 use Rattle.simplex_laws.proofs.histories.FollowingHanded.{settled_held}
 use Rattle.simplex_laws.proofs.histories.FollowingVotes.{own_held, heard_held}

@@ -15,8 +15,8 @@ use Rattle.simplex_member.specs.Calls as calls
 use Rattle.simplex_member.specs.Allowed.{is_allowed}
 use Rattle.simplex_member.specs.Calls.{CallFacts}
 use Rattle.simplex_record.specs.Entries.{entry_view}
-use Rattle.simplex_member.specs.Made.{after_call}
-use Rattle.simplex_member.specs.Openings.{Openings, context_at, is_offered}
+use Rattle.simplex_member.specs.CallSemantics.{after_call}
+use Rattle.simplex_member.specs.OutstandingWork.{OutstandingWork, context_at, is_offered}
 use Rattle.simplex_record.specs.Recovery.{after_replaying, after_entry, after_kept_entry, after_entries, recovered_state}
 use Rattle.simplex_laws.specs.Events.{Event, IsEvent, after_event, SetFloor, AddNotarization, AddNullification, AddFinalization, Certified, Proposed, Supersede, Replay, in_context, events_of}
 use Rattle.simplex_record.proofs.Steps.{IsSilent}
@@ -41,7 +41,7 @@ module _ {K L D : Type 0} (same : D → D → Bool) (elect : Elect L) (x : State
   in_context_taken event taken None = tt
   in_context_taken event taken (Some c) = ((taken c).0, (taken c).1, refl)
 
-  call_taken : (o : Openings K D) (call : CallFacts D) → is_allowed x o call ≡ true → IsOneTaken (events_of o call)
+  call_taken : (o : OutstandingWork K D) (call : CallFacts D) → is_allowed x o call ≡ true → IsOneTaken (events_of o call)
   call_taken o (calls.AddNotarization c) is = (is, refl, refl)
   call_taken o (calls.AddNullification c now) is = (is, refl, refl)
   call_taken o (calls.AddFinalization c now) is = (is, refl, refl)
@@ -55,7 +55,7 @@ module _ {K L D : Type 0} (same : D → D → Bool) (elect : Elect L) (x : State
   call_taken o _ is = (tt, refl, refl)
 
   -- what holds of no change and of each event that is taken holds of a call that is allowed
-  pub call_by_event : (o : Openings K D) (P : List (Event K D) → StateFacts K L D → Type 0) → P [] x → ((e : Event K D) → IsEvent x e → is_floor e ≡ false → P (e ∷ []) (after_event same elect x e)) → (call : CallFacts D) → is_allowed x o call ≡ true → P (events_of o call) (after_call same elect x o call)
+  pub call_by_event : (o : OutstandingWork K D) (P : List (Event K D) → StateFacts K L D → Type 0) → P [] x → ((e : Event K D) → IsEvent x e → is_floor e ≡ false → P (e ∷ []) (after_event same elect x e)) → (call : CallFacts D) → is_allowed x o call ≡ true → P (events_of o call) (after_call same elect x o call)
   call_by_event o P still each call allowed = subst (P (events_of o call)) (sym (call_is same elect x o call)) (by_one P still each (events_of o call) (call_taken o call allowed))
 
 -- calls on the work of a view are silent
@@ -69,7 +69,7 @@ module _ {K D : Type 0} where
   in_context_silent event silent None = tt
   in_context_silent event silent (Some c) = (silent c, tt)
 
-  pub work_silent : (o : Openings K D) (call : CallFacts D) → is_work call ≡ true → AreSilent (events_of o call)
+  pub work_silent : (o : OutstandingWork K D) (call : CallFacts D) → is_work call ≡ true → AreSilent (events_of o call)
   work_silent o (calls.Proposed v payload now) work = in_context_silent (λ c. Proposed c payload now) (λ c. record { notarization = refl; nullification = refl; finalization = refl; verdict = refl; note = refl; nullify = refl; finalize = refl; final = refl; prune = refl }) (context_at o v)
   work_silent o (calls.SupersedeProposalRequest v) work = in_context_silent Supersede (λ c. record { notarization = refl; nullification = refl; finalization = refl; verdict = refl; note = refl; nullify = refl; finalize = refl; final = refl; prune = refl }) (context_at o v)
   work_silent o (calls.PendingHandoffAbandonment v) work = tt

@@ -15,7 +15,7 @@ use Rattle.simplex_voter.proofs.Gaps.{and_parts}
 use Rattle.simplex_voter.proofs.Rules.{nullify_parts}
 use Rattle.simplex_record.specs.Recovery.{as_artifact}
 use Rattle.simplex_laws.specs.Events.{Event, IsEvent, after_event, AddNullification, ConstructNullify, Prune, Replay}
-use Rattle.simplex_laws.specs.Sums.{covers_from, is_prune, has_view}
+use Rattle.simplex_laws.specs.HistoryFolds.{covers_from, is_prune, has_view}
 use Rattle.simplex_laws.specs.OwnWork.{casts_nullify}
 use Rattle.simplex_laws.proofs.histories.FollowingHanded.{and_false}
 

@@ -10,12 +10,12 @@ use Rattle.simplex_voter.specs.Windows.{min_active}
 use Rattle.simplex_voter.specs.Certification.{without_token}
 use Rattle.simplex_voter.specs.Serving.{after_prune}
 use Rattle.simplex_voter.specs.declared.voter.verify.Standing.{Standing}
-use Rattle.simplex_voter.specs.declared.voter.verify.Standing.TheVariants.{Passed, Invalid, Lacks, Ready}
+use Rattle.simplex_voter.specs.declared.voter.verify.Standing.TheVariants.{NothingToDo, Invalid, Lacks, Ready}
 use Rattle.simplex_voter.specs.Verifying.{standing, round_left, was_scanned, scan_left}
 use Rattle.simplex_types.specs.declared.reasons.TimeoutReason.TheVariants.{InvalidProposal}
 use Rattle.simplex_voter.proofs.Elsewhere.{round_of-with_round}
 use Rattle.simplex_laws.specs.Events.{Event, after_event, TryVerify, Prune}
-use Rattle.simplex_laws.specs.Sums.{is_prune}
+use Rattle.simplex_laws.specs.HistoryFolds.{is_prune}
 use Rattle.simplex_record.proofs.Rounds.{round_put, round_changed}
 use Rattle.simplex_laws.proofs.votes.NullifyVotes.{tied}
 use Rattle.simplex_record.proofs.Steps as step
@@ -52,7 +52,7 @@ module _ {K L D : Type 0} (same : D → D → Bool) (elect : Elect L) (begun : S
     where
       by_standing : (b : Bool) (s : Standing D) → standing same elect begun (w, r) ≡ s → RoundStep same elect begun e x w r (if b then round_left r begun.moment s else r)
       by_standing false s stands = step.Kept
-      by_standing true Passed stands = step.Kept
+      by_standing true NothingToDo stands = step.Kept
       by_standing true Invalid stands = step.Latched begun.moment InvalidProposal
       by_standing true (Lacks u kind) stands = step.Requested u is
       by_standing true (Ready d) stands = step.Verifying d is stands

@@ -14,8 +14,8 @@ use Rattle.simplex_voter.specs.Certification.{without_token}
 use Rattle.simplex_voter.specs.Verifying.{scan_left}
 use Rattle.simplex_voter.proofs.Walked.{sorted-changed}
 use Rattle.simplex_member.specs.Calls.{CallFacts}
-use Rattle.simplex_member.specs.Made.{after_call}
-use Rattle.simplex_member.specs.Openings.{Openings}
+use Rattle.simplex_member.specs.CallSemantics.{after_call}
+use Rattle.simplex_member.specs.OutstandingWork.{OutstandingWork}
 use Rattle.simplex_record.specs.Recovery.{recovered_state}
 use Rattle.simplex_laws.specs.Events.{Event, after_event}
 use Rattle.simplex_member.proofs.EventsMake.{call_by_any}
@@ -38,7 +38,7 @@ module _ {K L D : Type 0} (same : D → D → Bool) (elect : Elect L) where
   pub event_in_order : (x : StateFacts K L D) (e : Event K D) → InOrder x → InOrder (after_event same elect x e)
   event_in_order x e ordered = along same elect x e 0 InOrder (step_in_order x e) x (after_event same elect x e) (event_path same elect 0 x e (omega arith) (asked_of_all x e)) ordered
 
-module _ {K L D : Type 0} (same : D → D → Bool) (elect : Elect L) (x : StateFacts K L D) (o : Openings K D) (ordered : InOrder x) where
+module _ {K L D : Type 0} (same : D → D → Bool) (elect : Elect L) (x : StateFacts K L D) (o : OutstandingWork K D) (ordered : InOrder x) where
   pub order_call : (call : CallFacts D) → InOrder (after_call same elect x o call)
   order_call call = call_by_any same elect x o InOrder ordered (λ e. event_in_order same elect x e ordered) call
 

@@ -9,11 +9,11 @@ use Rattle.simplex_voter.specs.Entering.{at_moment}
 use Rattle.simplex_voter.specs.Certification.{with_finalized_view}
 use Rattle.simplex_voter.specs.Acceptance.{after_add_finalization}
 use Rattle.simplex_member.specs.Calls.{CallFacts}
-use Rattle.simplex_member.specs.Made.{after_call}
-use Rattle.simplex_member.specs.Openings.{Openings}
+use Rattle.simplex_member.specs.CallSemantics.{after_call}
+use Rattle.simplex_member.specs.OutstandingWork.{OutstandingWork}
 use Rattle.simplex_laws.specs.Events.{Event, AddFinalization, after_event}
 use Rattle.simplex_laws.specs.LifeLaws.{NeverFalls}
-use Rattle.simplex_laws.specs.Sums.{finalized_by_event}
+use Rattle.simplex_laws.specs.HistoryFolds.{finalized_by_event}
 use Rattle.simplex_member.proofs.EventsMake.{call_by_any}
 use Rattle.simplex_record.proofs.Paths.{event_path, asked_of_all, from_raised}
 use Rattle.simplex_record.proofs.Steps.{Step, Path, Reaches, Raises, Still, along}
@@ -71,7 +71,7 @@ module _ {K L D : Type 0} (same : D → D → Bool) (elect : Elect L) (x : State
       keeps y z _ p = p
 
 module _ {K L D : Type 0} (same : D → D → Bool) (elect : Elect L) (x : StateFacts K L D) where
-  pub call_goes : (o : Openings K D) (call : CallFacts D) → GoesOn x (after_call same elect x o call)
+  pub call_goes : (o : OutstandingWork K D) (call : CallFacts D) → GoesOn x (after_call same elect x o call)
   call_goes o call = call_by_any same elect x o (GoesOn x) (goes_still x) (λ e. event_goes same elect x e) call
 
 -- finalizations

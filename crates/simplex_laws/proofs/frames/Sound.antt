@@ -15,7 +15,7 @@ use Rattle.simplex_voter.specs.Acceptance.{after_add_finalization, after_set_flo
 use Rattle.simplex_laws.specs.Events as event
 use Rattle.simplex_laws.specs.Events.{Event, after_event}
 use Rattle.simplex_laws.specs.LifeLaws.{Kind, Notarization, Nullification, Finalization}
-use Rattle.simplex_laws.specs.Sums.{finalized_by_event, is_prune}
+use Rattle.simplex_laws.specs.HistoryFolds.{finalized_by_event, is_prune}
 use Rattle.simplex_laws.proofs.frames.Fresh.{IsFresh}
 use Rattle.simplex_laws.proofs.frames.CallsMake.{is_floor}
 use Rattle.simplex_laws.proofs.frames.EachRound.{IsGone}

@@ -24,12 +24,12 @@ use Rattle.simplex_voter.proofs.Gaps.{and_parts}
 use Rattle.simplex_member.specs.Allowed.{is_allowed}
 use Rattle.simplex_member.specs.Calls.{CallFacts, Prune, Dropped}
 use Rattle.simplex_record.specs.Entries.{entry_view}
-use Rattle.simplex_member.specs.Made.{answer, after_call}
-use Rattle.simplex_member.specs.Openings.{Openings}
+use Rattle.simplex_member.specs.CallSemantics.{answer, after_call}
+use Rattle.simplex_member.specs.OutstandingWork.{OutstandingWork}
 use Rattle.simplex_record.specs.Recovery.{as_artifact}
 use Rattle.simplex_laws.specs.Events as event
 use Rattle.simplex_laws.specs.Events.{Event, IsEvent, after_event}
-use Rattle.simplex_laws.specs.Sums.{is_prune}
+use Rattle.simplex_laws.specs.HistoryFolds.{is_prune}
 use Rattle.simplex_laws.proofs.frames.CallsMake.{call_by_event}
 use Rattle.simplex_laws.proofs.frames.EachRound.{pruned_view}
 use Rattle.simplex_record.proofs.Paths.{AskedFrom, event_path}
@@ -104,7 +104,7 @@ module _ {K L D : Type 0} (same : D → D → Bool) (elect : Elect L) (low : ℕ
   pub event_clear : (e : Event K D) → IsEvent x e → IsClear low (after_event same elect x e)
   event_clear e takes = clear_along same elect low x e reached (asked_in_life x low e under reached some clear takes) clear
 
-  pub call_clear : (o : Openings K D) (call : CallFacts D) → is_allowed x o call ≡ true → IsClear low (after_call same elect x o call)
+  pub call_clear : (o : OutstandingWork K D) (call : CallFacts D) → is_allowed x o call ≡ true → IsClear low (after_call same elect x o call)
   call_clear o call allowed = call_by_event same elect x o (λ es y. IsClear low y) clear (λ e takes none. event_clear e takes) call allowed
 
 -- prunes
@@ -128,7 +128,7 @@ module _ {K L D : Type 0} (same : D → D → Bool) (elect : Elect L) (x : State
   event_dropped _ v below = absurd (omega (arith, below))
 
   -- only a prune is told what was dropped
-  pub call_drops : (o : Openings K D) (call : CallFacts D) (views : List ℕ) (v : ℕ) → answer same elect x o call ≡ Dropped views → Contains views v → (v < min_active x) × IsClear (min_active x) (after_call same elect x o call)
+  pub call_drops : (o : OutstandingWork K D) (call : CallFacts D) (views : List ℕ) (v : ℕ) → answer same elect x o call ≡ Dropped views → Contains views v → (v < min_active x) × IsClear (min_active x) (after_call same elect x o call)
   call_drops o Prune views v tells among =
       let same_views : prune_answer x ≡ views = cc in
       let under = key_passes (λ u. nat_lt u (min_active x)) v x.rounds (subst (λ vs. Contains vs v) (sym same_views) among) in

@@ -11,7 +11,7 @@ use Rattle.simplex_voter.specs.Facts.{StateFacts, Elect, round_at, round_of, is_
 use Rattle.simplex_voter.specs.Certification.{takes_verdict}
 use Rattle.simplex_voter.proofs.Gaps.{and_parts}
 use Rattle.simplex_laws.specs.Events.{Event, History, with_event, IsEvent, after_event, SetFloor, AddFinalization, Certified, Replay}
-use Rattle.simplex_laws.specs.Sums.{or_new, verdict_of_event, entered_by, finalized_by_event, moment_by, latest, is_prune, covers_from, sets_genesis, verdict_in, is_notarized_in, finalized_by_events, current_in, kept_in, has_view}
+use Rattle.simplex_laws.specs.HistoryFolds.{or_new, verdict_of_event, entered_by, finalized_by_event, moment_by, latest, is_prune, covers_from, sets_genesis, verdict_in, is_notarized_in, finalized_by_events, current_in, kept_in, has_view}
 use Rattle.simplex_laws.specs.OwnWork.{was_done, casts_nullify}
 use Rattle.simplex_laws.specs.Leading.{tracks}
 use Rattle.simplex_laws.specs.Requested.{names}

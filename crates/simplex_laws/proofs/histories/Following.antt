@@ -11,7 +11,7 @@ use Rattle.simplex_round.specs.Round.{RoundFacts, new_round}
 use Rattle.simplex_voter.specs.Facts.{StateFacts, Elect, round_at, round_of, round_number, is_tracked, with_round}
 use Rattle.simplex_voter.specs.Windows.{min_active}
 use Rattle.simplex_laws.specs.Events.{Event}
-use Rattle.simplex_laws.specs.Sums.{notarizes, nullifies, finalizes, verdict_of_event, covers_from, sets_genesis, finalized_by_event, entered_by, moment_by, is_prune, or_new, has_view}
+use Rattle.simplex_laws.specs.HistoryFolds.{notarizes, nullifies, finalizes, verdict_of_event, covers_from, sets_genesis, finalized_by_event, entered_by, moment_by, is_prune, or_new, has_view}
 use Rattle.simplex_laws.specs.OwnWork.{contradicts, hands_out_notarization, hands_out_nullification, hands_out_finalization, decides_nullify, casts_nullify, first_certificate_by, hears, decides_finalize, decides_notarize, owns}
 use Rattle.simplex_record.proofs.Growing.{round_of-put, round_of-same}
 use Rattle.simplex_laws.proofs.votes.NullifyVotes.{tied}

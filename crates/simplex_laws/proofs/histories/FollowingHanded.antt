@@ -24,7 +24,7 @@ use Rattle.simplex_voter.specs.Acceptance.{with_notarization_at, with_nullificat
 use Rattle.simplex_voter.proofs.Elsewhere.{round_of-with_round}
 use Rattle.simplex_voter.proofs.Gaps.{and_parts}
 use Rattle.simplex_laws.specs.Events.{SetFloor, AddNotarization, AddNullification, AddFinalization, Certified}
-use Rattle.simplex_laws.specs.Sums.{entered_by, has_view}
+use Rattle.simplex_laws.specs.HistoryFolds.{entered_by, has_view}
 use Rattle.simplex_laws.specs.OwnWork.{contradicts}
 use Rattle.simplex_laws.specs.Shows.{verdict_of}
 use Rattle.simplex_record.proofs.Growing.{round_of-same}

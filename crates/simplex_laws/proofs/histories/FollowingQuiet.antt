@@ -18,9 +18,9 @@ use Rattle.simplex_voter.specs.Timeouts.{with_timeout, round_with_retry, after_t
 use Rattle.simplex_voter.specs.Certification.{takes_certify_handle, after_candidates, after_set_certify_handle}
 use Rattle.simplex_voter.specs.declared.voter.propose.ProposalRequest.{ProposalRequest}
 use Rattle.simplex_voter.specs.declared.voter.verify.Standing.{Standing}
-use Rattle.simplex_voter.specs.declared.voter.verify.Standing.TheVariants.{Passed, Invalid, Lacks, Ready}
+use Rattle.simplex_voter.specs.declared.voter.verify.Standing.TheVariants.{NothingToDo, Invalid, Lacks, Ready}
 use Rattle.simplex_voter.specs.Proposing.{request_context, build_requested, with_build, propose_answer, after_try_propose, supersede_answer, after_supersede, after_release}
-use Rattle.simplex_voter.specs.Parents.{binding_matches}
+use Rattle.simplex_voter.specs.Parents.{verification_matches}
 use Rattle.simplex_voter.specs.Verifying.{round_left, standing, was_scanned, scan_left, without_binding, with_mark, after_try_verify, after_verified, after_verification_failed}
 use Rattle.simplex_voter.proofs.Gaps.{and_parts}
 use Rattle.simplex_laws.specs.Shows.{verdict_of}
@@ -62,7 +62,7 @@ module _ {K L D : Type 0} (x : StateFacts K L D) where
   pub verified_quiet : (same : D → D → Bool) (elect : Elect L) (v : ℕ) → Quiet x (after_verified same elect x v)
   verified_quiet same elect v =
       let r = round_of x v in
-      quiet_where x (binding_matches same elect x v) (with_tracked x v (with_mark r)) (without_binding x v)
+      quiet_where x (verification_matches same elect x v) (with_tracked x v (with_mark r)) (without_binding x v)
       (tracked_quiet x v (with_mark r) (alike_where r (is_nullify r.decision) r (record r { slot = after_mark r.slot }) (alike r) refl))
       (without_binding_quiet v)
 
@@ -82,7 +82,7 @@ module _ {K L D : Type 0} (x : StateFacts K L D) where
       by_standing : (r : RoundFacts K D) (b : Bool) (s : Standing D) → Alike r (if b then round_left r x.moment s else r)
       by_standing r true Invalid = latch_alike r x.moment InvalidProposal
       by_standing r false s = alike r
-      by_standing r true Passed = alike r
+      by_standing r true NothingToDo = alike r
       by_standing r true (Lacks w kind) = alike r
       by_standing r true (Ready d) = alike r
 
@@ -129,5 +129,5 @@ module _ {K L D : Type 0} (x : StateFacts K L D) where
   failed_leaves same elect v reason now =
       let a = at_moment x now in
       then_quiet now x.current x.finalized x a (after_verification_failed same elect x v reason now) (moment_leaves x now)
-      (quiet_where a (binding_matches same elect x v) (with_timeout a v reason now) (without_binding a v) (triggered_quiet a v reason now)
+      (quiet_where a (verification_matches same elect x v) (with_timeout a v reason now) (without_binding a v) (triggered_quiet a v reason now)
       (tracked_quiet a v (record (round_of a v) { binding = None }) refl))

@@ -14,7 +14,7 @@ use Rattle.simplex_voter.specs.Leaders.{with_next_view_ready}
 use Rattle.simplex_voter.specs.Replay.{TakesReplay, bound_again, restored_binding}
 use Rattle.simplex_record.specs.Recovery.{as_artifact, after_replaying}
 use Rattle.simplex_laws.specs.Events.{Event, IsEvent, after_event, SetFloor, AddNotarization, AddNullification, AddFinalization, Certified, ConstructNotarize, ConstructNullify, ConstructFinalize, SetProposal, TryPropose, Proposed, Supersede, Release, TryVerify, Verified, VerificationFailed, CertifyCandidates, SetCertifyHandle, TriggerTimeout, NextTimeout, BroadcastNotarization, BroadcastNullification, BroadcastFinalization, Prune, Replay}
-use Rattle.simplex_laws.specs.Sums.{moment_by}
+use Rattle.simplex_laws.specs.HistoryFolds.{moment_by}
 use Rattle.simplex_laws.proofs.histories.Leaving.{known_of, Leaves, quiet, prepared_quiet}
 use Rattle.simplex_laws.proofs.histories.Following.{adds, IsElsewhere, IsOfRounds, Follows, among_noted, put_alone, put_follows, round_follows, silent_follows}
 use Rattle.simplex_laws.proofs.histories.FollowingHanded.{verdict_first, notarization_follows, finalization_follows, floor_finalization_follows, nullification_follows, genesis_follows, verdict_follows}

@@ -27,7 +27,7 @@ use Rattle.simplex_voter.specs.Verifying.{with_proposal, after_set_proposal}
 use Rattle.simplex_voter.specs.Serving.{after_broadcast_notarization, after_broadcast_nullification, after_broadcast_finalization, after_prune}
 use Rattle.simplex_voter.proofs.Rules.{nullify_parts, finalize_parts}
 use Rattle.simplex_laws.specs.Events.{ConstructNotarize, ConstructNullify, ConstructFinalize, SetProposal, Proposed, BroadcastNotarization, BroadcastNullification, BroadcastFinalization, Prune}
-use Rattle.simplex_laws.specs.Sums.{or_new, has_view}
+use Rattle.simplex_laws.specs.HistoryFolds.{or_new, has_view}
 use Rattle.simplex_laws.specs.OwnWork.{contradicts}
 use Rattle.simplex_laws.proofs.votes.NullifyVotes.{tied}
 use Rattle.simplex_laws.proofs.histories.Leaving.{known_of, Quiet, quiet, moment_leaves, prepared_quiet}

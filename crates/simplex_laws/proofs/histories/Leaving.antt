@@ -14,7 +14,7 @@ use Rattle.simplex_round.specs.declared.round.Certification.{Certification}
 use Rattle.simplex_round.specs.declared.round.Certification.TheVariants as certification
 use Rattle.simplex_round.specs.Round.{RoundFacts, leader_at, with_latch, is_nullify, is_finalize, token_of, after_abort}
 use Rattle.simplex_voter.specs.Facts.{StateFacts, Elect, round_at, round_of, round_number, is_tracked, with_round, with_tracked}
-use Rattle.simplex_voter.specs.Windows.{in_window}
+use Rattle.simplex_voter.specs.Windows.{in_issuance_window}
 use Rattle.simplex_voter.specs.Payloads.{is_elected_early}
 use Rattle.simplex_voter.specs.Entering.{at_moment, with_view_entered, entered_round}
 use Rattle.simplex_voter.specs.Leaders.{has_leader, with_leader_at, with_leader_of, opened_views, with_window_leaders, with_elected_leader, with_next_view_ready}
@@ -223,7 +223,7 @@ module _ {K L D : Type 0} (elect : Elect L) where
   pub prepared_quiet : (x : StateFacts K L D) (v : ℕ) → Quiet x (with_next_view_ready elect x v)
   prepared_quiet x v =
       let later = with_elected_leader elect x (v + 1) None in
-      quiet_where x (in_window x (v + 1)) (with_leader_of x v (v + 1)) _ (inherited_quiet x v (v + 1))
+      quiet_where x (in_issuance_window x (v + 1)) (with_leader_of x v (v + 1)) _ (inherited_quiet x v (v + 1))
       (quiet_where x ((round_of x v).notarize_decided && is_elected_early elect x (v + 1)) later x (elected_quiet x (v + 1) None) (quiet x))
 
   pub woken_quiet : (x : StateFacts K L D) (p : ℕ) → Quiet x (with_waiting_candidate elect x p)

@@ -9,11 +9,11 @@ use Rattle.simplex_voter.specs.Facts.{StateFacts, Elect}
 use Rattle.simplex_voter.specs.Windows.{min_active}
 use Rattle.simplex_voter.specs.Acceptance.{after_set_floor, after_add_notarization, after_add_nullification, after_add_finalization}
 use Rattle.simplex_record.specs.declared.record.error.RecoverError.{RecoverError}
-use Rattle.simplex_member.specs.Openings.{Openings}
+use Rattle.simplex_member.specs.OutstandingWork.{OutstandingWork}
 use Rattle.simplex_member.specs.Calls as calls
 use Rattle.simplex_member.specs.Calls.{CallFacts, Told, Restarted, NotRestarted}
 use Rattle.simplex_member.specs.Allowed.{is_allowed, fault_of}
-use Rattle.simplex_member.specs.Made.{answer, after_call}
+use Rattle.simplex_member.specs.CallSemantics.{answer, after_call}
 use Rattle.simplex_record.specs.Check.{first_error, recovery_floor_rules, first_broken_after, first_recover_error}
 use Rattle.simplex_record.specs.Entries.{entry_view, entries_of}
 use Rattle.simplex_laws.specs.Events.{History, with_event, SetFloor, AddNotarization, AddNullification, AddFinalization, Certified, Replay, events_of}
@@ -25,7 +25,7 @@ use Rattle.simplex_member.specs.Runs.{StepFacts, Calls, Prunes, Restarts, restar
 use Rattle.simplex_laws.specs.Shows.{Shows}
 use Rattle.simplex_record.specs.Start.{Setup, StartFacts, new_state}
 use Rattle.simplex_member.specs.Start.{started_member}
-use Rattle.simplex_laws.specs.Sums.{finalized_by_events}
+use Rattle.simplex_laws.specs.HistoryFolds.{finalized_by_events}
 use Rattle.simplex_record.proofs.Allowing.{new_bears}
 use Rattle.simplex_record.proofs.Bearing.{BearsAll}
 use Rattle.simplex_laws.proofs.frames.CallsMake.{call_by_event}
@@ -77,13 +77,13 @@ module _ {K L D : Type 0} (same : D → D → Bool) (elect : Elect L) where
   }
 
   -- what is answered is not refused
-  told_events : (history : History K L D) (x : StateFacts K L D) (o : Openings K D) (call : CallFacts D) → with_call_events history o call (answer same elect x o call) ≡ with_events history (events_of o call)
+  told_events : (history : History K L D) (x : StateFacts K L D) (o : OutstandingWork K D) (call : CallFacts D) → with_call_events history o call (answer same elect x o call) ≡ with_events history (events_of o call)
   told_events history x o calls.GetBestCertificate = refl
   told_events history x o _ = refl
 
 module _ {K L D : Type 0} (same : D → D → Bool) (decides : (d e : D) → same d e ≡ true → d ≡ e) (elect : Elect L) (history : History K L D) (x : StateFacts K L D) (shows : Shows same elect history x) where
   -- a call makes of the facts what its events make of them
-  call_shown : (o : Openings K D) (call : CallFacts D) → is_allowed x o call ≡ true → Shows same elect (with_events history (events_of o call)) (after_call same elect x o call)
+  call_shown : (o : OutstandingWork K D) (call : CallFacts D) → is_allowed x o call ≡ true → Shows same elect (with_events history (events_of o call)) (after_call same elect x o call)
   call_shown o call allowed = call_by_event same elect x o (λ es y. Shows same elect (with_events history es) y) shows (λ e takes floor. event_shown same elect history x shows decides e takes) call allowed
 
   -- an entry that is taken again
@@ -153,22 +153,22 @@ module _ {K L D : Type 0} (same : D → D → Bool) (decides : (d e : D) → sam
 module _ {K L D : Type 0} (same : D → D → Bool) (decides : (d e : D) → same d e ≡ true → d ≡ e) (elect : Elect L) (m : MemberFacts K L D) where
   -- a call
 
-  answered : (history : History K L D) (call : CallFacts D) (x : StateFacts K L D) → IsShown same elect history m → Shows same elect history x → IsShown same elect (with_call_events history m.openings call (reply_of same elect x m.openings call)) (left_of same elect x m call)
-  answered history call x shown shows = by_allowed (is_allowed x m.openings call) refl
+  answered : (history : History K L D) (call : CallFacts D) (x : StateFacts K L D) → IsShown same elect history m → Shows same elect history x → IsShown same elect (with_call_events history m.outstanding_work call (reply_of same elect x m.outstanding_work call)) (left_of same elect x m call)
+  answered history call x shown shows = by_allowed (is_allowed x m.outstanding_work call) refl
     where
-      by_fault : (o : Option Fault) → fault_of x call ≡ o → is_allowed x m.openings call ≡ true → IsShown same elect (with_call_events history m.openings call (reply_of same elect x m.openings call)) (left_of same elect x m call)
-      by_fault None no_fault allowed = rw (allowed, no_fault) (subst (λ h. Shows same elect h (after_call same elect x m.openings call)) (sym (told_events same elect history x m.openings call)) (call_shown same decides elect history x shows m.openings call allowed))
+      by_fault : (o : Option Fault) → fault_of x call ≡ o → is_allowed x m.outstanding_work call ≡ true → IsShown same elect (with_call_events history m.outstanding_work call (reply_of same elect x m.outstanding_work call)) (left_of same elect x m call)
+      by_fault None no_fault allowed = rw (allowed, no_fault) (subst (λ h. Shows same elect h (after_call same elect x m.outstanding_work call)) (sym (told_events same elect history x m.outstanding_work call)) (call_shown same decides elect history x shows m.outstanding_work call allowed))
       by_fault (Some f) refused allowed = rw (allowed, refused) shown
 
-      by_allowed : (b : Bool) → is_allowed x m.openings call ≡ b → IsShown same elect (with_call_events history m.openings call (reply_of same elect x m.openings call)) (left_of same elect x m call)
+      by_allowed : (b : Bool) → is_allowed x m.outstanding_work call ≡ b → IsShown same elect (with_call_events history m.outstanding_work call (reply_of same elect x m.outstanding_work call)) (left_of same elect x m call)
       by_allowed true allowed = by_fault (fault_of x call) refl allowed
       by_allowed false not_allowed = rw not_allowed shown
 
-  pub called_shown : (history : History K L D) (left : MemberFacts K L D) (call : CallFacts D) (told : Told K D) → IsShown same elect history m → IsCall same elect m call told left → IsShown same elect (with_call_events history m.openings call told) left
+  pub called_shown : (history : History K L D) (left : MemberFacts K L D) (call : CallFacts D) (told : Told K D) → IsShown same elect history m → IsCall same elect m call told left → IsShown same elect (with_call_events history m.outstanding_work call told) left
   unfolding IsCall
   called_shown history left call told shown is_call = by_life m.life refl is_call
     where
-      by_life : (o : Option (StateFacts K L D)) → m.life ≡ o → AnswersAlive same elect o m call told left → IsShown same elect (with_call_events history m.openings call told) left
+      by_life : (o : Option (StateFacts K L D)) → m.life ≡ o → AnswersAlive same elect o m call told left → IsShown same elect (with_call_events history m.outstanding_work call told) left
       by_life None dead (tells, leaves) = rw (tells, leaves) shown
       by_life (Some x) alive (inl (tells, leaves)) = rw (tells, leaves) (answered history call x shown (subst (λ o. MatchOption o (Unit {0}) (Shows same elect history)) alive shown))
       by_life (Some x) alive (inr (_, tells, inl (_, leaves))) = rw (tells, leaves) shown
@@ -218,7 +218,7 @@ module _ {K L D : Type 0} (same : D → D → Bool) (decides : (d e : D) → sam
   run_shown [] (told ∷ replies) history m end shown run = absurd run
   run_shown (step ∷ steps) [] history m end shown run = absurd run
   run_shown (Calls call ∷ steps) (told ∷ replies) history m end shown (next, is_step, rest) =
-      let later = run_shown steps replies (with_call_events history m.openings call told) next end (called_shown same decides elect m history next call told shown is_step) rest in
+      let later = run_shown steps replies (with_call_events history m.outstanding_work call told) next end (called_shown same decides elect m history next call told shown is_step) rest in
       (later.0, (next, is_step, later.1), later.2)
   run_shown (Prunes ∷ steps) (told ∷ replies) history m end shown (next, is_step, rest) =
       let still : IsShown same elect history next = rw is_step.1 shown in

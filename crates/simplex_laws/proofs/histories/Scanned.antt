@@ -13,7 +13,7 @@ use Rattle.simplex_voter.specs.Facts.{StateFacts, Elect, round_at, round_of, rou
 use Rattle.simplex_voter.specs.Proposing.{views_ahead}
 use Rattle.simplex_voter.specs.Verifying.{through, is_answered, round_left, standing, was_scanned, scan_left, after_try_verify}
 use Rattle.simplex_voter.proofs.Walked.{find-changed}
-use Rattle.simplex_laws.proofs.votes.Openings.{any_of_kept}
+use Rattle.simplex_laws.proofs.votes.OutstandingWork.{any_of_kept}
 use Rattle.simplex_record.proofs.Rounds.{tracked_changed}
 use Rattle.simplex_laws.proofs.lists.Splits.{Contains-cases, Contains-cons_rest}
 

@@ -13,7 +13,7 @@ use Rattle.simplex_laws.specs.Leading.{leader_by_event}
 use Rattle.simplex_laws.specs.OwnWork.{facts_after, was_done, first_said, last_said, held_in, conflict_in, contradicts, first_certificate_by, hears, owns, hands_out_notarization, hands_out_nullification, hands_out_finalization, decides_notarize, decides_nullify, decides_finalize}
 use Rattle.simplex_laws.specs.Requested.{verifies, asks_to_build, asks_to_verify, asks_for, binds, certifies}
 use Rattle.simplex_laws.specs.ShownRounds.{round_in}
-use Rattle.simplex_laws.specs.Sums.{or_new, notarizes, nullifies, finalizes}
+use Rattle.simplex_laws.specs.HistoryFolds.{or_new, notarizes, nullifies, finalizes}
 use Rattle.simplex_laws.specs.Timing.{enters, proposes, latches, retries, retry_in, decision_in}
 use Rattle.simplex_laws.proofs.histories.Following.{adds}
 use Rattle.simplex_laws.proofs.histories.Leaving.{known_of}

@@ -11,7 +11,7 @@ use Rattle.simplex_round.specs.Round.{is_finalize}
 use Rattle.simplex_voter.specs.Facts.{Settings, StateFacts, Elect}
 use Rattle.simplex_laws.specs.Events.{Event, History}
 use Rattle.simplex_laws.specs.OwnWork.{facts_after, was_done, first_said, last_said}
-use Rattle.simplex_laws.specs.Sums.{or_new}
+use Rattle.simplex_laws.specs.HistoryFolds.{or_new}
 use Rattle.simplex_laws.proofs.histories.Worked.{timed}
 
 -- a decision that is told by what was said so far

@@ -7,8 +7,8 @@ use Rattle.simplex_voter.specs.Facts.{StateFacts, Elect}
 use Rattle.simplex_voter.specs.Serving.{broadcast_notarization_answer, broadcast_nullification_answer, broadcast_finalization_answer}
 use Rattle.simplex_member.specs.Calls.{CallFacts, BroadcastNotarization, BroadcastNullification, BroadcastFinalization, GetBestCertificate, Told, Handed}
 use Rattle.simplex_record.specs.Entries.{certificate_round}
-use Rattle.simplex_member.specs.Made.{answer}
-use Rattle.simplex_member.specs.Openings.{Openings}
+use Rattle.simplex_member.specs.CallSemantics.{answer}
+use Rattle.simplex_member.specs.OutstandingWork.{OutstandingWork}
 use Rattle.simplex_laws.specs.LifeLaws.{Kind, Notarization, Nullification, Finalization, kind_of, IsAsAsked}
 use Rattle.simplex_laws.proofs.frames.Sound.{IsPlaced}
 use Rattle.simplex_laws.proofs.lives.HandedOut.{asked}
@@ -63,7 +63,7 @@ nothing_asked K told Nullification v c asks tells = absurd (cc)
 nothing_asked K told Finalization v c asks tells = absurd (cc)
 
 module _ {K L D : Type 0} (same : D → D → Bool) (elect : Elect L) where
-  pub call_as_asked : (x : StateFacts K L D) (o : Openings K D) (call : CallFacts D) → IsPlaced x → IsAsAsked call (answer same elect x o call)
+  pub call_as_asked : (x : StateFacts K L D) (o : OutstandingWork K D) (call : CallFacts D) → IsPlaced x → IsAsAsked call (answer same elect x o call)
   call_as_asked x o (BroadcastNotarization v) placed = notarization_right x placed v
   call_as_asked x o (BroadcastNullification v) placed = nullification_right x placed v
   call_as_asked x o (BroadcastFinalization v) placed = finalization_right x placed v

@@ -8,8 +8,8 @@ use Rattle.simplex_member.specs.Allowed.{is_allowed}
 use Rattle.simplex_member.specs.Calls.{CallFacts, Told, Refused, NotAllowed}
 use Rattle.simplex_laws.specs.LifeLaws.{IsLife, WhileAlive, IsDropped, ConflictsStay}
 use Rattle.simplex_member.specs.Lives.{MemberFacts, IsCall}
-use Rattle.simplex_member.specs.Made.{answer, after_call}
-use Rattle.simplex_member.specs.Openings.{Openings}
+use Rattle.simplex_member.specs.CallSemantics.{answer, after_call}
+use Rattle.simplex_member.specs.OutstandingWork.{OutstandingWork}
 use Rattle.simplex_laws.proofs.lists.Splits.{Contains-cons_rest}
 use Rattle.simplex_laws.proofs.frames.Rising.{floor_goes, call_goes}
 use Rattle.simplex_laws.proofs.lives.Lasting.{call_lasts}
@@ -45,7 +45,7 @@ module _ {K L D : Type 0} where
       ]
 
 module _ {K L D : Type 0} (same : D → D → Bool) (elect : Elect L) where
-  call_keeps : (call : CallFacts D) (x : StateFacts K L D) (o : Openings K D) → is_allowed x o call ≡ true → Keeps (answer same elect x o call ∷ []) x (after_call same elect x o call)
+  call_keeps : (call : CallFacts D) (x : StateFacts K L D) (o : OutstandingWork K D) → is_allowed x o call ≡ true → Keeps (answer same elect x o call ∷ []) x (after_call same elect x o call)
   call_keeps call x o allowed = record { floor = floor; conflicts = conflicts }
     where
       floor : min_active x ≤ min_active (after_call same elect x o call)

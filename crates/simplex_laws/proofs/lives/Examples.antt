@@ -5,15 +5,15 @@ use Rattle.std.specs.List.{fold}
 use Rattle.simplex_types.specs.Config.{Genesis}
 use Rattle.simplex_types.specs.Certificates.{ProposalFacts}
 use Rattle.simplex_voter.specs.Facts.{StateFacts, new_facts, is_tracked}
-use Rattle.simplex_voter.specs.Windows.{min_active, in_window}
-use Rattle.simplex_voter.specs.Parents.{binding_matches}
+use Rattle.simplex_voter.specs.Windows.{min_active, in_issuance_window}
+use Rattle.simplex_voter.specs.Parents.{verification_matches}
 use Rattle.simplex_voter.specs.Acceptance.{after_set_floor}
 use Rattle.simplex_voter.specs.Serving.{prune_answer}
 use Rattle.simplex_member.specs.Allowed.{is_allowed}
 use Rattle.simplex_member.specs.Calls.{CallFacts, AddNotarization, AddNullification, AddFinalization, SetProposal, ReleaseProposalRequest, Verified, BroadcastNotarization, BroadcastFinalization, GetBestCertificate, Prune, Told}
-use Rattle.simplex_member.specs.Made.{answer, after_call}
+use Rattle.simplex_member.specs.CallSemantics.{answer, after_call}
 use Rattle.simplex_laws.specs.LifeLaws.{has_conflict, Kind, Notarization, Finalization, handed_in}
-use Rattle.simplex_member.specs.Openings.{no_openings}
+use Rattle.simplex_member.specs.OutstandingWork.{no_outstanding_work}
 use Rattle.simplex_record.proofs.Examples.{proposal}
 use Rattle.simplex_record.proofs.RecoveryExamples.{in_turn, settings}
 
@@ -33,11 +33,11 @@ begun_in term_length =
 
 -- what allowed calls leave, and what they are told; none of them is answered by what is open
 abbrev after_all : State → List Call → State
-after_all x calls = fold (λ y call. after_call nat_eq in_turn y no_openings call) x calls
+after_all x calls = fold (λ y call. after_call nat_eq in_turn y no_outstanding_work call) x calls
 
 abbrev replies_from : State → List Call → List Reply
 replies_from x [] = []
-replies_from x (call ∷ calls) = answer nat_eq in_turn x no_openings call ∷ replies_from (after_call nat_eq in_turn x no_openings call) calls
+replies_from x (call ∷ calls) = answer nat_eq in_turn x no_outstanding_work call ∷ replies_from (after_call nat_eq in_turn x no_outstanding_work call) calls
 
 abbrev after : List Call → State
 after calls = after_all (begun_in 1) calls
@@ -103,7 +103,7 @@ untracked_now = refl
 kept_from : min_active pruned ≡ 15
 kept_from = refl
 
-not_again : is_allowed pruned no_openings (AddNotarization (certificate 1 0)) ≡ false
+not_again : is_allowed pruned no_outstanding_work (AddNotarization (certificate 1 0)) ≡ false
 not_again = refl
 
 -- another proposal that a vote shows contradicts too, and an answer of a verification settles nothing
@@ -112,15 +112,15 @@ abbrev seen_twice : State
 seen_twice = after_all (begun_in 1) (SetProposal 1 (proposal 1 0 7) ∷ SetProposal 1 (proposal 1 0 9) ∷ [])
 
 one_seen : has_conflict (after_all (begun_in 1) (SetProposal 1 (proposal 1 0 7) ∷ SetProposal 1 (proposal 1 0 7) ∷ [])) 1 ≡ false
-unfolding in_window
+unfolding in_issuance_window
 one_seen = refl
 
 two_seen : has_conflict seen_twice 1 ≡ true
-unfolding in_window
+unfolding in_issuance_window
 two_seen = refl
 
 never_settled : has_conflict (after_all seen_twice (Verified 1 ∷ SetProposal 1 (proposal 1 0 7) ∷ ReleaseProposalRequest 1 ∷ [])) 1 ≡ true
-unfolding in_window binding_matches
+unfolding in_issuance_window verification_matches
 never_settled = refl
 
 -- a view that was dropped isn't tracked again, but where terms have no view: a nullification leads to view 1 there

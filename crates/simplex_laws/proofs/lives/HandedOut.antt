@@ -14,8 +14,8 @@ use Rattle.simplex_member.specs.Allowed.{is_allowed}
 use Rattle.simplex_member.specs.Calls.{CallFacts, BroadcastNotarization, BroadcastNullification, BroadcastFinalization, GetBestCertificate, Told, Handed, Refused}
 use Rattle.simplex_laws.specs.LifeLaws.{IsLife, Kind, Notarization, Nullification, Finalization, asked_by, handed_by, handed_in, HandedOnce}
 use Rattle.simplex_member.specs.Lives.{MemberFacts, IsCall}
-use Rattle.simplex_member.specs.Made.{answer, after_call}
-use Rattle.simplex_member.specs.Openings.{Openings}
+use Rattle.simplex_member.specs.CallSemantics.{answer, after_call}
+use Rattle.simplex_member.specs.OutstandingWork.{OutstandingWork}
 use Rattle.simplex_laws.proofs.lives.Lasting.{is_handed, standing_view, handed, none_comes, brings_kept, event_lasts}
 use Rattle.simplex_laws.proofs.frames.CallsMake.{is_floor, call_by_event}
 use Rattle.simplex_laws.proofs.frames.Rising.{floor_goes, event_goes}
@@ -156,10 +156,10 @@ module _ {K L D : Type 0} (same : D → D → Bool) (elect : Elect L) where
         ]
       ]
 
-  call_spends : (x : StateFacts K L D) → (o : Openings K D) (call : CallFacts D) → is_allowed x o call ≡ true → (kind : Kind) (v : ℕ) → IsSpent kind v x → IsSpent kind v (after_call same elect x o call)
+  call_spends : (x : StateFacts K L D) → (o : OutstandingWork K D) (call : CallFacts D) → is_allowed x o call ≡ true → (kind : Kind) (v : ℕ) → IsSpent kind v x → IsSpent kind v (after_call same elect x o call)
   call_spends x o call allowed = call_by_event same elect x o (λ es y. (kind : Kind) (v : ℕ) → IsSpent kind v x → IsSpent kind v y) (λ kind v spent. spent) (λ e. event_spends x e) call allowed
 
-  call_hands : (x : StateFacts K L D) (o : Openings K D) (call : CallFacts D) (kind : Kind) → Hands kind (handed_by kind call (answer same elect x o call)) x (after_call same elect x o call)
+  call_hands : (x : StateFacts K L D) (o : OutstandingWork K D) (call : CallFacts D) (kind : Kind) → Hands kind (handed_by kind call (answer same elect x o call)) x (after_call same elect x o call)
   call_hands x o (BroadcastNotarization v) kind = hands_notarization x v kind
   call_hands x o (BroadcastNullification v) kind = hands_nullification x v kind
   call_hands x o (BroadcastFinalization v) kind = hands_finalization x v kind

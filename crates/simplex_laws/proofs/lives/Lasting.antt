@@ -16,8 +16,8 @@ use Rattle.simplex_laws.specs.Events as event
 use Rattle.simplex_laws.specs.Events.{Event, IsEvent, after_event, in_context, events_of}
 use Rattle.simplex_member.specs.Allowed.{is_allowed}
 use Rattle.simplex_member.specs.Calls.{CallFacts, Proposed, SupersedeProposalRequest, Prune, Told}
-use Rattle.simplex_member.specs.Made.{answer, after_call}
-use Rattle.simplex_member.specs.Openings.{Openings, context_at}
+use Rattle.simplex_member.specs.CallSemantics.{answer, after_call}
+use Rattle.simplex_member.specs.OutstandingWork.{OutstandingWork, context_at}
 use Rattle.simplex_voter.specs.Serving.{prune_answer}
 use Rattle.simplex_sorted.proofs.Maps.{is_eq-nat_cmp}
 use Rattle.std.specs.FinMap.Entries.{find}
@@ -25,7 +25,7 @@ use Rattle.std.specs.Ordering.{nat_cmp}
 use Rattle.std.specs.List.{list_any}
 use Rattle.std.proofs.lemmas.Bool.Decides.{nat_tests}
 use Rattle.simplex_laws.specs.LifeLaws.{Kind, Notarization, Nullification, Finalization, IsDropped}
-use Rattle.simplex_laws.specs.Sums.{is_prune}
+use Rattle.simplex_laws.specs.HistoryFolds.{is_prune}
 use Rattle.simplex_laws.proofs.frames.CallsMake.{is_floor, call_by_event}
 use Rattle.simplex_laws.proofs.lists.Splits.{Contains-cons_rest}
 use Rattle.simplex_laws.proofs.frames.EachRound.{IsGone, rounds_or_gone}
@@ -221,7 +221,7 @@ module _ {K L D : Type 0} (same : D → D → Bool) (elect : Elect L) (x : State
   taken_lasts : (e : Event K D) → IsEvent x e → is_floor e ≡ false → AllLast x (e ∷ []) (after_event same elect x e)
   taken_lasts e takes none v = elim (event_lasts same elect x e (min_active x) (brings_kept x e takes none) v) [ inl lasts ↦ inl lasts | inr (prunes, gone) ↦ inr (rw prunes refl, gone) ]
 
-  pub call_lasts : (o : Openings K D) (call : CallFacts D) → is_allowed x o call ≡ true → (v : ℕ) → RoundLasts (min_active x) v (round_of x v) (round_of (after_call same elect x o call) v) ⊎ Drops x (after_call same elect x o call) (answer same elect x o call) v
+  pub call_lasts : (o : OutstandingWork K D) (call : CallFacts D) → is_allowed x o call ≡ true → (v : ℕ) → RoundLasts (min_active x) v (round_of x v) (round_of (after_call same elect x o call) v) ⊎ Drops x (after_call same elect x o call) (answer same elect x o call) v
   call_lasts o call allowed v = elim (call_by_event same elect x o (AllLast x) (none_lasts x) taken_lasts call allowed v) [
     | inl lasts ↦ inl lasts
     | inr (prunes, gone) ↦ inr (record { gone = gone; dropped = λ tracked. told call prunes gone.below tracked })

@@ -15,11 +15,11 @@ use Rattle.simplex_voter.specs.Timeouts.{has_timeout, has_skip_budget, or_stalle
 use Rattle.simplex_voter.proofs.Gaps.{and_parts, not_true}
 use Rattle.simplex_member.specs.Calls.{NextTimeout, Told, TimesOut}
 use Rattle.simplex_member.specs.Lives.{MemberFacts, IsCall, AnswersAlive, unless_refused}
-use Rattle.simplex_member.specs.Openings.{Openings}
+use Rattle.simplex_member.specs.OutstandingWork.{OutstandingWork}
 use Rattle.simplex_member.specs.Runs.{StepFacts, Calls, Prunes, Restarts, IsStep, IsRun}
 use Rattle.simplex_member.specs.Start.{started_member}
 use Rattle.simplex_record.specs.Start.{StartFacts, new_state}
-use Rattle.simplex_laws.specs.Deeds.{Deed, of_floor, deeds_at, deeds_of_steps}
+use Rattle.simplex_laws.specs.Traces.{TraceEvent, of_floor, trace_at, trace_of_steps}
 use Rattle.simplex_laws.specs.LifeLaws.{CurrentTimesOut, IsPolled, PollsAreAnswered}
 use Rattle.simplex_laws.specs.TermLengths.{HasTerms, KeepTerms}
 use Rattle.simplex_laws.proofs.frames.Fresh.{fresh_state}
@@ -28,8 +28,8 @@ use Rattle.simplex_laws.proofs.lives.TimingOut.{TimesOut as Timed, floor_times_o
 use Rattle.simplex_laws.proofs.records.RunsLawful.{LivesOn, MemberLives, step_lives, run_lives, start_lives}
 
 -- a view that is certified or decided to be finalized lies below the current one
-has_its_timeout : {K L D : Type 0} (term_length : ℕ) (deeds : List (Deed D)) (closed kept : ℕ) (entries : List (ArtifactFacts D)) (o : Openings K D) (x : StateFacts K L D) → Timed x → LivesOn term_length deeds closed kept entries o (Some x) → has_timeout x ≡ true
-has_its_timeout term_length deeds closed kept entries o x timed lives =
+has_its_timeout : {K L D : Type 0} (term_length : ℕ) (trace : List (TraceEvent D)) (closed kept : ℕ) (entries : List (ArtifactFacts D)) (o : OutstandingWork K D) (x : StateFacts K L D) → Timed x → LivesOn term_length trace closed kept entries o (Some x) → has_timeout x ≡ true
+has_its_timeout term_length trace closed kept entries o x timed lives =
     let here = lives.keeps.stays.stands.rounds x.current in
     elim (says_timeout x timed) [
       | inl times_out ↦ times_out
@@ -92,12 +92,12 @@ module _ {K L D : Type 0} (same : D → D → Bool) (decides : (d e : D) → sam
       let lives = run_lives same decides elect term_length begins.some steps replies (of_floor start.floor) _ end keep (start_lives same decides elect term_length start begins) run in
       by_life lives.0 end.life (run_induction same elect term_length Timed (floor_times_out same elect term_length) (event_times_out same elect) start steps replies end begins keep run) lives.1
     where
-      deeds : List (Deed D)
-      deeds = of_floor start.floor ++ deeds_of_steps steps replies
+      trace : List (TraceEvent D)
+      trace = of_floor start.floor ++ trace_of_steps steps replies
 
-      by_life : (kept : ℕ) (life : Option (StateFacts K L D)) → HoldsIn Timed life → LivesOn term_length deeds end.closed kept end.entries end.openings life → MatchOption life (Unit {0}) CurrentTimesOut
+      by_life : (kept : ℕ) (life : Option (StateFacts K L D)) → HoldsIn Timed life → LivesOn term_length trace end.closed kept end.entries end.outstanding_work life → MatchOption life (Unit {0}) CurrentTimesOut
       by_life kept None timed lives = tt
-      by_life kept (Some x) timed lives = record { ahead = timed.ahead; timeout = has_its_timeout term_length deeds end.closed kept end.entries end.openings x timed lives }
+      by_life kept (Some x) timed lives = record { ahead = timed.ahead; timeout = has_its_timeout term_length trace end.closed kept end.entries end.outstanding_work x timed lives }
 
 module _ {K L D : Type 0} (same : D → D → Bool) (decides : (d e : D) → same d e ≡ true → d ≡ e) (elect : Elect L) (term_length : ℕ) (some : 0 < term_length) where
   step_times_out : (step : StepFacts K L D) (steps : List (StepFacts K L D)) (told : Told K D) (m next : MemberFacts K L D) → KeepTerms term_length (step ∷ steps) → HoldsIn Timed m.life → IsStep same elect m step told next → HoldsIn Timed next.life
@@ -105,18 +105,18 @@ module _ {K L D : Type 0} (same : D → D → Bool) (decides : (d e : D) → sam
   step_times_out Prunes steps told m next keep timed is_step = rw is_step.1 timed
   step_times_out (Restarts r) steps told m next keep timed is_step = restart_keeps same elect term_length Timed (floor_times_out same elect term_length) (event_times_out same elect) m r is_step.0 next keep.0 timed is_step.1
 
-  step_answered : (step : StepFacts K L D) (told : Told K D) (deeds : List (Deed D)) (m next : MemberFacts K L D) → HoldsIn Timed m.life → MemberLives term_length deeds m → IsStep same elect m step told next → IsPolled step told
-  step_answered (Calls (NextTimeout now)) told deeds m next timed lives is_step =
-      poll_answered same elect m next now told (λ x alive. has_its_timeout term_length deeds m.closed lives.0 m.entries m.openings x (subst (HoldsIn Timed) alive timed) (subst (LivesOn term_length deeds m.closed lives.0 m.entries m.openings) alive lives.1)) is_step
-  step_answered _ told deeds m next timed lives is_step = tt
+  step_answered : (step : StepFacts K L D) (told : Told K D) (trace : List (TraceEvent D)) (m next : MemberFacts K L D) → HoldsIn Timed m.life → MemberLives term_length trace m → IsStep same elect m step told next → IsPolled step told
+  step_answered (Calls (NextTimeout now)) told trace m next timed lives is_step =
+      poll_answered same elect m next now told (λ x alive. has_its_timeout term_length trace m.closed lives.0 m.entries m.outstanding_work x (subst (HoldsIn Timed) alive timed) (subst (LivesOn term_length trace m.closed lives.0 m.entries m.outstanding_work) alive lives.1)) is_step
+  step_answered _ told trace m next timed lives is_step = tt
 
-  run_polls : (steps : List (StepFacts K L D)) (replies : List (Told K D)) (deeds : List (Deed D)) (m end : MemberFacts K L D) → KeepTerms term_length steps → HoldsIn Timed m.life → MemberLives term_length deeds m → IsRun same elect m steps replies end → PollsAreAnswered steps replies
-  run_polls [] replies deeds m end keep timed lives run = tt
-  run_polls (step ∷ steps) [] deeds m end keep timed lives run = tt
-  run_polls (step ∷ steps) (told ∷ replies) deeds m end keep timed lives (next, is_step, rest) =
-      let kept = step_lives same decides elect term_length some step steps told deeds m next keep lives is_step in (
-        step_answered step told deeds m next timed lives is_step,
-        run_polls steps replies (deeds ++ deeds_at step told) next end kept.0 (step_times_out step steps told m next keep timed is_step) kept.1 rest,
+  run_polls : (steps : List (StepFacts K L D)) (replies : List (Told K D)) (trace : List (TraceEvent D)) (m end : MemberFacts K L D) → KeepTerms term_length steps → HoldsIn Timed m.life → MemberLives term_length trace m → IsRun same elect m steps replies end → PollsAreAnswered steps replies
+  run_polls [] replies trace m end keep timed lives run = tt
+  run_polls (step ∷ steps) [] trace m end keep timed lives run = tt
+  run_polls (step ∷ steps) (told ∷ replies) trace m end keep timed lives (next, is_step, rest) =
+      let kept = step_lives same decides elect term_length some step steps told trace m next keep lives is_step in (
+        step_answered step told trace m next timed lives is_step,
+        run_polls steps replies (trace ++ trace_at step told) next end kept.0 (step_times_out step steps told m next keep timed is_step) kept.1 rest,
       )
 
 module _ {K L D : Type 0} (same : D → D → Bool) (decides : (d e : D) → same d e ≡ true → d ≡ e) (elect : Elect L) where

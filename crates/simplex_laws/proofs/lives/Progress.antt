@@ -18,7 +18,7 @@ use Rattle.simplex_voter.specs.Refusals.{first_fault, is_too_large, names_too_la
 use Rattle.simplex_voter.specs.Windows.{min_active}
 use Rattle.simplex_member.specs.Calls.{Told, AddNullification, AddFinalization, Certified}
 use Rattle.simplex_member.specs.Lives.{MemberFacts}
-use Rattle.simplex_member.specs.Openings.{Openings}
+use Rattle.simplex_member.specs.OutstandingWork.{OutstandingWork}
 use Rattle.simplex_member.specs.Runs.{StepFacts, IsRun}
 use Rattle.simplex_record.specs.Start.{StartFacts, new_state}
 use Rattle.simplex_member.specs.Start.{started_member}
@@ -63,7 +63,7 @@ module _ {K L D : Type 0} (same : D → D → Bool) (elect : Elect L) (term_leng
       let ahead = goes.sound.ahead in
       next_above x.terms.term_length x.current (subst (λ t. 0 < t) (sym goes.sound.terms) some) (omega (arith, ahead))
 
-  module _ (o : Openings K D) (now : ℕ) (small : is_too_large x.current ≡ false) (early : has_late_deadline x now ≡ false) where
+  module _ (o : OutstandingWork K D) (now : ℕ) (small : is_too_large x.current ≡ false) (early : has_late_deadline x now ≡ false) where
     nullification_goes : (c : NullificationFacts) → c.round ≡ round_number x x.current → GoesPast same elect x o (AddNullification c now)
     nullification_goes c at =
         let next = next_term_start x.terms.term_length c.round.view in

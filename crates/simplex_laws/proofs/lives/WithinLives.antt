@@ -7,8 +7,8 @@ use Rattle.simplex_member.specs.Allowed.{is_allowed, fault_of}
 use Rattle.simplex_member.specs.Calls.{CallFacts, Told, Refused, NotAllowed}
 use Rattle.simplex_laws.specs.LifeLaws.{IsLife, WhileAlive, NeverFalls}
 use Rattle.simplex_member.specs.Lives.{MemberFacts, IsCall, AnswersAlive, reply_of, left_of}
-use Rattle.simplex_member.specs.Made.{answer, after_call}
-use Rattle.simplex_member.specs.Openings.{Openings}
+use Rattle.simplex_member.specs.CallSemantics.{answer, after_call}
+use Rattle.simplex_member.specs.OutstandingWork.{OutstandingWork}
 use Rattle.simplex_laws.proofs.frames.Rising.{never_fell, falls_never, never_falls, call_goes}
 
 module _ {K L D : Type 0} where
@@ -29,21 +29,21 @@ module _ {K L D : Type 0} (same : D → D → Bool) (elect : Elect L) where
   module _ (Holds : CallFacts D → Told K D → StateFacts K L D → StateFacts K L D → Type 0)
       (refused : (call : CallFacts D) (fault : Fault) (x : StateFacts K L D) → Holds call (Refused fault) x x)
       (not_allowed : (call : CallFacts D) (x : StateFacts K L D) → Holds call NotAllowed x x)
-      (answered : (call : CallFacts D) (x : StateFacts K L D) (o : Openings K D) → is_allowed x o call ≡ true → Holds call (answer same elect x o call) x (after_call same elect x o call)) where
+      (answered : (call : CallFacts D) (x : StateFacts K L D) (o : OutstandingWork K D) → is_allowed x o call ≡ true → Holds call (answer same elect x o call) x (after_call same elect x o call)) where
     -- the call is refused and leaves no state, or it leads from one state to another
     abbrev pub Outcome : MemberFacts K L D → CallFacts D → Told K D → MemberFacts K L D → Type 0
     Outcome m call told left =
         ((fault : Fault) × (told ≡ Refused fault) × (left.life ≡ None))
         ⊎ ((x y : StateFacts K L D) × (m.life ≡ Some x) × (left.life ≡ Some y) × Holds call told x y)
 
-    living_call : (m : MemberFacts K L D) (call : CallFacts D) (x : StateFacts K L D) → m.life ≡ Some x → (y : StateFacts K L D) × ((left_of same elect x m call).life ≡ Some y) × Holds call (reply_of same elect x m.openings call) x y
-    living_call m call x alive = by_allowed (is_allowed x m.openings call) refl
+    living_call : (m : MemberFacts K L D) (call : CallFacts D) (x : StateFacts K L D) → m.life ≡ Some x → (y : StateFacts K L D) × ((left_of same elect x m call).life ≡ Some y) × Holds call (reply_of same elect x m.outstanding_work call) x y
+    living_call m call x alive = by_allowed (is_allowed x m.outstanding_work call) refl
       where
-        by_fault : (o : Option Fault) → fault_of x call ≡ o → is_allowed x m.openings call ≡ true → (y : StateFacts K L D) × ((left_of same elect x m call).life ≡ Some y) × Holds call (reply_of same elect x m.openings call) x y
-        by_fault None no_fault allowed = rw (allowed, no_fault) (after_call same elect x m.openings call, refl, answered call x m.openings allowed)
+        by_fault : (o : Option Fault) → fault_of x call ≡ o → is_allowed x m.outstanding_work call ≡ true → (y : StateFacts K L D) × ((left_of same elect x m call).life ≡ Some y) × Holds call (reply_of same elect x m.outstanding_work call) x y
+        by_fault None no_fault allowed = rw (allowed, no_fault) (after_call same elect x m.outstanding_work call, refl, answered call x m.outstanding_work allowed)
         by_fault (Some f) due allowed = rw (allowed, due) (x, alive, refused call f x)
 
-        by_allowed : (b : Bool) → is_allowed x m.openings call ≡ b → (y : StateFacts K L D) × ((left_of same elect x m call).life ≡ Some y) × Holds call (reply_of same elect x m.openings call) x y
+        by_allowed : (b : Bool) → is_allowed x m.outstanding_work call ≡ b → (y : StateFacts K L D) × ((left_of same elect x m call).life ≡ Some y) × Holds call (reply_of same elect x m.outstanding_work call) x y
         by_allowed true allowed = by_fault (fault_of x call) refl allowed
         by_allowed false refuses = rw refuses (x, alive, not_allowed call x)
 

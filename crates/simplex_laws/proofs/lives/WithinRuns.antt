@@ -9,8 +9,8 @@ use Rattle.simplex_member.specs.Allowed.{is_allowed}
 use Rattle.simplex_member.specs.Calls.{CallFacts, Told, Dropped, Refused, NotAllowed}
 use Rattle.simplex_laws.specs.LifeLaws.{IsLife, IsLifeOfRun, WhileAlive, IsDropped, ConflictsStay, DroppedForGood, HandedOnce, IsAsAsked, HandedAsAsked}
 use Rattle.simplex_member.specs.Lives.{MemberFacts, IsCall}
-use Rattle.simplex_member.specs.Made.{answer, after_call}
-use Rattle.simplex_member.specs.Openings.{Openings}
+use Rattle.simplex_member.specs.CallSemantics.{answer, after_call}
+use Rattle.simplex_member.specs.OutstandingWork.{OutstandingWork}
 use Rattle.simplex_member.specs.Runs.{StepFacts, Calls, IsRun, IsRunFrom}
 use Rattle.simplex_record.specs.Start.{StartFacts, new_state}
 use Rattle.simplex_member.specs.Start.{started_member}
@@ -18,7 +18,7 @@ use Rattle.simplex_laws.specs.TermLengths.{HasTerms, KeepTerms}
 use Rattle.simplex_laws.proofs.lives.Conflicts.{Keeps, life_keeps}
 use Rattle.simplex_laws.proofs.lives.HandedOut.{life_hands_once}
 use Rattle.simplex_laws.proofs.lives.AsAsked.{call_as_asked}
-use Rattle.simplex_laws.proofs.records.DeedsShown.{only_one}
+use Rattle.simplex_laws.proofs.records.TracesShown.{only_one}
 use Rattle.simplex_laws.proofs.lists.Splits.{Contains-cases}
 use Rattle.simplex_laws.proofs.frames.Untracked.{IsClear, call_clear, call_drops}
 use Rattle.simplex_member.proofs.EventsMake.{call_by_any}
@@ -62,10 +62,10 @@ module _ {K L D : Type 0} where
       ]
 
 module _ {K L D : Type 0} (same : D → D → Bool) (elect : Elect L) (term_length : ℕ) where
-  call_sound : (call : CallFacts D) (x : StateFacts K L D) (o : Openings K D) → IsSound term_length x → IsSound term_length (after_call same elect x o call)
+  call_sound : (call : CallFacts D) (x : StateFacts K L D) (o : OutstandingWork K D) → IsSound term_length x → IsSound term_length (after_call same elect x o call)
   call_sound call x o sound = call_by_any same elect x o (IsSound term_length) sound (λ e. event_sound same elect term_length x e sound) call
 
-  call_away : 0 < term_length → (call : CallFacts D) (x : StateFacts K L D) (o : Openings K D) → is_allowed x o call ≡ true → SoundlyAway term_length (answer same elect x o call ∷ []) x (after_call same elect x o call)
+  call_away : 0 < term_length → (call : CallFacts D) (x : StateFacts K L D) (o : OutstandingWork K D) → is_allowed x o call ≡ true → SoundlyAway term_length (answer same elect x o call ∷ []) x (after_call same elect x o call)
   call_away some call x o allowed sound =
       let floor = floor_goes x _ (call_goes same elect x o call) in (
         call_sound call x o sound,

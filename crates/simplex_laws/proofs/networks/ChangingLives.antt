@@ -2,35 +2,35 @@
 -- Members of whom much is refused, and whose lives differ, run as they are told.
 use Rattle.std.proofs.Common.{◌≡◌, refl, ℕ, inl, inr, true, false, List, [], ◌∷◌, ◌++◌, nat_eq, arith}
 use Rattle.simplex_types.specs.Certificates.{ArtifactFacts, NullifyVote, FinalizeVote, Verdict, Accepted, Notarized, Nullified, Finalized as CertifiedFinal}
-use Rattle.simplex_voter.specs.Gaps.{first_gap}
-use Rattle.simplex_voter.specs.Parents.{spans, payload_for, parent_payload, binding_matches}
-use Rattle.simplex_voter.specs.Payloads.{explicit_payload, optimistic_payload, is_handoff_parent, serves, follows}
-use Rattle.simplex_voter.specs.Rules.{may_notarize, may_nullify, may_finalize, is_gated, required_parent}
+use Rattle.simplex_voter.specs.Gaps.{first_unnullified_view}
+use Rattle.simplex_voter.specs.Parents.{has_valid_parent_span, ancestry_payload_for_child, parent_payload_for, verification_matches}
+use Rattle.simplex_voter.specs.Payloads.{explicit_ancestry_payload, optimistic_ancestry_payload, is_handoff_parent, is_voted_ancestor, can_chain_on}
+use Rattle.simplex_voter.specs.Rules.{may_notarize, may_nullify, may_finalize, has_conflicting_nullify, required_certification_parent}
 use Rattle.simplex_voter.specs.Verifying.{standing}
-use Rattle.simplex_voter.specs.Windows.{is_admitted, in_window}
+use Rattle.simplex_voter.specs.Windows.{is_admitted, in_issuance_window}
 use Rattle.simplex_member.specs.Calls.{Told}
 use Rattle.simplex_record.specs.Check.{first_recover_error}
 use Rattle.simplex_record.specs.Cuts.{may_drop, pruned_entries}
 use Rattle.simplex_record.specs.Entries.{entry_view}
 use Rattle.simplex_record.specs.Recovery.{recovered_state, after_kept_entry}
 use Rattle.simplex_laws.specs.ChangingLives.{wider_start, refusing, keyless_start, other_start, changing, with_refusing, giving_up, with_changing}
-use Rattle.simplex_laws.specs.Places.{FewFaulty, IsNetworkOf}
+use Rattle.simplex_laws.specs.Replicas.{FewFaulty, IsNetworkOf}
 use Rattle.simplex_laws.specs.Scripts.{leader, patient}
-use Rattle.simplex_laws.specs.Stories.{Story, BeginsAs, Ran}
-use Rattle.simplex_laws.specs.Turns.{round, certificate, nullification, one, two}
+use Rattle.simplex_laws.specs.Executions.{Execution, BeginsAs, IsExecution}
+use Rattle.simplex_laws.specs.ScenarioSteps.{round, certificate, nullification, one, two}
 use Rattle.simplex_laws.proofs.networks.Continuations.{network_of}
 use Rattle.simplex_laws.proofs.networks.Scripts.{patient_ran}
 use Rattle.simplex_laws.proofs.networks.ComputedRuns.{replies_from, Fits, begun, fits_run_from, rises, each_begins}
 
 -- what the steps are told, and that the record rises at each restart
-abbrev told_from : Story ℕ ℕ ℕ → List (Told ℕ ℕ)
+abbrev told_from : Execution ℕ ℕ ℕ → List (Told ℕ ℕ)
 told_from s = replies_from nat_eq leader (begun nat_eq leader s.start) s.steps
 
-abbrev FitsFrom : Story ℕ ℕ ℕ → Type 0
+abbrev FitsFrom : Execution ℕ ℕ ℕ → Type 0
 FitsFrom s = Fits nat_eq leader (begun nat_eq leader s.start) s.steps
 
 refusing_told : told_from refusing ≡ refusing.replies
-unfolding first_recover_error recovered_state after_kept_entry may_drop pruned_entries spans payload_for first_gap explicit_payload in_window is_admitted binding_matches parent_payload may_notarize may_nullify may_finalize is_gated required_parent
+unfolding first_recover_error recovered_state after_kept_entry may_drop pruned_entries has_valid_parent_span ancestry_payload_for_child first_unnullified_view explicit_ancestry_payload in_issuance_window is_admitted verification_matches parent_payload_for may_notarize may_nullify may_finalize has_conflicting_nullify required_certification_parent
 refusing_told = refl
 
 -- what is left of the record at the first two restarts, and at the others
@@ -41,13 +41,13 @@ abbrev notarized_second : List (ArtifactFacts ℕ)
 notarized_second = finalized_first ++ Accepted (Notarized (certificate two)) ∷ []
 
 refusing_fits : FitsFrom refusing
-unfolding first_recover_error recovered_state after_kept_entry may_drop pruned_entries spans payload_for first_gap explicit_payload in_window is_admitted binding_matches parent_payload may_notarize may_nullify may_finalize is_gated required_parent
+unfolding first_recover_error recovered_state after_kept_entry may_drop pruned_entries has_valid_parent_span ancestry_payload_for_child first_unnullified_view explicit_ancestry_payload in_issuance_window is_admitted verification_matches parent_payload_for may_notarize may_nullify may_finalize has_conflicting_nullify required_certification_parent
 refusing_fits = (
   rises entry_view 0 finalized_first refl,
   (rises entry_view 0 finalized_first refl, (rises entry_view 0 notarized_second refl, (rises entry_view 0 notarized_second refl, tt))),
 )
 
-pub refusing_ran : Ran nat_eq leader 5 1 refusing
+pub refusing_ran : IsExecution nat_eq leader 5 1 refusing
 unfolding first_recover_error
 refusing_ran =
     let begins : BeginsAs 5 1 refusing.start.setup = record { terms = record { terms = refl; some = omega arith }; signs_as = inl refl } in
@@ -58,7 +58,7 @@ refusing_ran =
     }
 
 changing_told : told_from changing ≡ changing.replies
-unfolding first_recover_error recovered_state after_kept_entry may_drop pruned_entries standing spans payload_for first_gap explicit_payload in_window is_admitted binding_matches parent_payload may_notarize may_nullify may_finalize is_gated required_parent optimistic_payload is_handoff_parent serves follows
+unfolding first_recover_error recovered_state after_kept_entry may_drop pruned_entries standing has_valid_parent_span ancestry_payload_for_child first_unnullified_view explicit_ancestry_payload in_issuance_window is_admitted verification_matches parent_payload_for may_notarize may_nullify may_finalize has_conflicting_nullify required_certification_parent optimistic_ancestry_payload is_handoff_parent is_voted_ancestor can_chain_on
 changing_told = refl
 
 -- what is left of the record at the first restart, and at the others
@@ -76,10 +76,10 @@ with_a_vote =
     ∷ []
 
 changing_fits : FitsFrom changing
-unfolding first_recover_error recovered_state after_kept_entry may_drop pruned_entries standing spans payload_for first_gap explicit_payload in_window is_admitted binding_matches parent_payload may_notarize may_nullify may_finalize is_gated required_parent optimistic_payload is_handoff_parent serves follows
+unfolding first_recover_error recovered_state after_kept_entry may_drop pruned_entries standing has_valid_parent_span ancestry_payload_for_child first_unnullified_view explicit_ancestry_payload in_issuance_window is_admitted verification_matches parent_payload_for may_notarize may_nullify may_finalize has_conflicting_nullify required_certification_parent optimistic_ancestry_payload is_handoff_parent is_voted_ancestor can_chain_on
 changing_fits = (rises entry_view 0 without_votes refl, (rises entry_view 0 with_a_vote refl, (rises entry_view 0 with_a_vote refl, tt)))
 
-pub changing_ran : Ran nat_eq leader 5 1 changing
+pub changing_ran : IsExecution nat_eq leader 5 1 changing
 unfolding first_recover_error
 changing_ran =
     let keyless : BeginsAs 5 1 keyless_start.setup = record { terms = record { terms = refl; some = omega arith }; signs_as = inr refl } in
@@ -93,18 +93,18 @@ changing_ran =
 -- the networks that they are members of
 
 patient_told_0 : told_from (patient 0) ≡ (patient 0).replies
-unfolding standing spans payload_for first_gap explicit_payload in_window is_admitted binding_matches parent_payload may_notarize may_nullify may_finalize is_gated required_parent
+unfolding standing has_valid_parent_span ancestry_payload_for_child first_unnullified_view explicit_ancestry_payload in_issuance_window is_admitted verification_matches parent_payload_for may_notarize may_nullify may_finalize has_conflicting_nullify required_certification_parent
 patient_told_0 = refl
 
 patient_told_2 : told_from (patient 2) ≡ (patient 2).replies
-unfolding standing spans payload_for first_gap explicit_payload in_window is_admitted binding_matches parent_payload may_notarize may_nullify may_finalize is_gated required_parent
+unfolding standing has_valid_parent_span ancestry_payload_for_child first_unnullified_view explicit_ancestry_payload in_issuance_window is_admitted verification_matches parent_payload_for may_notarize may_nullify may_finalize has_conflicting_nullify required_certification_parent
 patient_told_2 = refl
 
 giving_up_told : told_from giving_up ≡ giving_up.replies
-unfolding standing spans payload_for first_gap explicit_payload in_window is_admitted binding_matches parent_payload may_notarize may_nullify may_finalize is_gated required_parent
+unfolding standing has_valid_parent_span ancestry_payload_for_child first_unnullified_view explicit_ancestry_payload in_issuance_window is_admitted verification_matches parent_payload_for may_notarize may_nullify may_finalize has_conflicting_nullify required_certification_parent
 giving_up_told = refl
 
-giving_up_ran : Ran nat_eq leader 5 0 giving_up
+giving_up_ran : IsExecution nat_eq leader 5 0 giving_up
 unfolding first_recover_error
 giving_up_ran =
     let begins : BeginsAs 5 0 giving_up.start.setup = record { terms = record { terms = refl; some = omega arith }; signs_as = inl refl } in

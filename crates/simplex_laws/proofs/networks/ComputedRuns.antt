@@ -19,7 +19,7 @@ use Rattle.simplex_member.specs.Runs.{StepFacts, Calls, Prunes, Restarts, restar
 use Rattle.simplex_record.specs.Start.{StartFacts, new_state}
 use Rattle.simplex_member.specs.Pruning.{pruned_member}
 use Rattle.simplex_member.specs.Start.{started_member}
-use Rattle.simplex_laws.specs.Stories.{Story, BeginsAs}
+use Rattle.simplex_laws.specs.Executions.{Execution, BeginsAs}
 use Rattle.simplex_laws.proofs.lists.Splits.{Contains-cases}
 
 -- what a restart answers, by whether the retention grows and the error that is due
@@ -54,7 +54,7 @@ module _ {K L D : Type 0} (same : D → D → Bool) (elect : Elect L) where
   reply_then life m Prunes = Done
   reply_then life m (Restarts r) = told_restart (grows_at m r) (due_error m r)
   reply_then None m (Calls call) = Refused fault.Failed
-  reply_then (Some x) m (Calls call) = reply_of same elect x m.openings call
+  reply_then (Some x) m (Calls call) = reply_of same elect x m.outstanding_work call
 
   -- and what is left
   abbrev pub next_then : Option (StateFacts K L D) → MemberFacts K L D → StepFacts K L D → MemberFacts K L D
@@ -113,7 +113,7 @@ module _ {K L D : Type 0} (same : D → D → Bool) (elect : Elect L) where
   abbrev pub begun : StartFacts K L D → MemberFacts K L D
   begun start = started_member same elect (new_state start.setup) start.floor start.now
 
-  pub fits_run_from : (s : Story K L D) → recover_error same (new_state s.start.setup) s.start.floor s.start.now [] ≡ None → Fits (begun s.start) s.steps → replies_from (begun s.start) s.steps ≡ s.replies → IsRunFrom same elect s.start s.steps s.replies
+  pub fits_run_from : (s : Execution K L D) → recover_error same (new_state s.start.setup) s.start.floor s.start.now [] ≡ None → Fits (begun s.start) s.steps → replies_from (begun s.start) s.steps ≡ s.replies → IsRunFrom same elect s.start s.steps s.replies
   unfolding IsRunFrom
   fits_run_from s none fits is = (none, end_from (begun s.start) s.steps, subst (λ (told : List (Told K D)). IsRun same elect (begun s.start) s.steps told (end_from (begun s.start) s.steps)) is (fits_run (begun s.start) s.steps fits))
 

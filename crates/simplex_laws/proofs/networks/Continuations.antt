@@ -18,15 +18,15 @@ use Rattle.simplex_voter.proofs.Gaps.{and_parts}
 use Rattle.simplex_member.specs.Calls.{SetProposal, Proposed, Told}
 use Rattle.simplex_member.specs.Runs.{StepFacts, Calls, Restarts}
 use Rattle.simplex_laws.specs.Accountability.{IsBackedNetwork}
-use Rattle.simplex_laws.specs.Continuations.{and_then, PlacesGoOn, EachHonest, SomeHonest, HasSignedAs, HasAccepted, HasHeard, HasBuilt, IsHonestlySigned, HonestlyBacked, GoesOnToFinalize}
-use Rattle.simplex_laws.specs.Deeds.{Deed, Accepts, Signs}
-use Rattle.simplex_laws.specs.Places.{Place, Faulty, Honest, FewFaulty, AtLeastFrom, quorum, MayHaveSigned, Backed, IsNetworkOf}
-use Rattle.simplex_laws.specs.Stories.{Story, deeds_of, Ran}
+use Rattle.simplex_laws.specs.Continuations.{and_then, ReplicasGoOn, EachHonest, SomeHonest, HasSignedAs, HasAccepted, HasHeard, HasBuilt, IsHonestlySigned, HonestlyBacked, GoesOnToFinalize}
+use Rattle.simplex_laws.specs.Traces.{TraceEvent, Accepts, Signs}
+use Rattle.simplex_laws.specs.Replicas.{Replica, Faulty, Honest, FewFaulty, AtLeastFrom, quorum, MayHaveSigned, Backed, IsNetworkOf}
+use Rattle.simplex_laws.specs.Executions.{Execution, trace_of, IsExecution}
 use Rattle.simplex_laws.proofs.agreement.Quorums.{shared_member}
 use Rattle.simplex_laws.proofs.lists.Splits.{Contains-cases}
 use Rattle.simplex_laws.proofs.lives.WithinRuns.{run_from_before}
 
--- equal votes, deeds and proposals handed in
+-- equal votes, events and proposals handed in
 
 abbrev same_subject : Subject ℕ → Subject ℕ → Bool
 same_subject (Notarize p) (Notarize q) = same_proposal nat_eq p q
@@ -54,25 +54,25 @@ same_subject-true (Nullify r) (Nullify s) is = ap Nullify (same_round-true r s i
 same_subject-true (Finalize p) (Finalize q) is = ap Finalize (one_proposal p q is)
 same_subject-true _ _ is = absurd (false≢true is)
 
-abbrev pub same_deed : Deed ℕ → Deed ℕ → Bool
-same_deed (Accepts c) (Accepts d) = same_subject c d
-same_deed (Signs i vote) (Signs j other) = i == j && same_subject vote other
-same_deed _ _ = false
+abbrev pub same_trace_event : TraceEvent ℕ → TraceEvent ℕ → Bool
+same_trace_event (Accepts c) (Accepts d) = same_subject c d
+same_trace_event (Signs i vote) (Signs j other) = i == j && same_subject vote other
+same_trace_event _ _ = false
 
-pub same_deed-true : (d e : Deed ℕ) → same_deed d e ≡ true → d ≡ e
-same_deed-true (Accepts c) (Accepts d) is = ap Accepts (same_subject-true c d is)
-same_deed-true (Signs i vote) (Signs j other) is =
+pub same_trace_event-true : (d e : TraceEvent ℕ) → same_trace_event d e ≡ true → d ≡ e
+same_trace_event-true (Accepts c) (Accepts d) is = ap Accepts (same_subject-true c d is)
+same_trace_event-true (Signs i vote) (Signs j other) is =
     let parts = and_parts (i == j) (same_subject vote other) is in
     let signer : i ≡ j = eqb-true i j parts.0 in
     let about : vote ≡ other = same_subject-true vote other parts.1 in
     cc
-same_deed-true _ _ is = absurd (false≢true is)
+same_trace_event-true _ _ is = absurd (false≢true is)
 
-abbrev pub has_done : Deed ℕ → Story ℕ ℕ ℕ → Bool
-has_done d s = list_any (same_deed d) (deeds_of s)
+abbrev pub has_done : TraceEvent ℕ → Execution ℕ ℕ ℕ → Bool
+has_done d s = list_any (same_trace_event d) (trace_of s)
 
-pub done : (d : Deed ℕ) (s : Story ℕ ℕ ℕ) → has_done d s ≡ true → Contains (deeds_of s) d
-done d s is = Contains-from_any same_deed-true d (deeds_of s) is
+pub done : (d : TraceEvent ℕ) (s : Execution ℕ ℕ ℕ) → has_done d s ≡ true → Contains (trace_of s) d
+done d s is = Contains-from_any same_trace_event-true d (trace_of s) is
 
 -- steps by which a proposal is handed in or built
 abbrev same_step : StepFacts ℕ ℕ ℕ → StepFacts ℕ ℕ ℕ → Bool
@@ -95,13 +95,13 @@ same_step-true (Calls (Proposed v d now)) (Calls (Proposed w e moment)) is =
     cc
 same_step-true _ _ is = absurd (false≢true is)
 
-abbrev has_step : StepFacts ℕ ℕ ℕ → Story ℕ ℕ ℕ → Bool
+abbrev has_step : StepFacts ℕ ℕ ℕ → Execution ℕ ℕ ℕ → Bool
 has_step step s = list_any (same_step step) s.steps
 
-stepped : (step : StepFacts ℕ ℕ ℕ) (s : Story ℕ ℕ ℕ) → has_step step s ≡ true → Contains s.steps step
+stepped : (step : StepFacts ℕ ℕ ℕ) (s : Execution ℕ ℕ ℕ) → has_step step s ≡ true → Contains s.steps step
 stepped step s is = Contains-from_any same_step-true step s.steps is
 
--- tests of items, of counts and of places
+-- tests of items, of counts and of replicas
 
 module _ {X : Type 0} where
   abbrev pub each_one : (X → Bool) → List X → Bool
@@ -129,14 +129,14 @@ module _ {X : Type 0} where
   enough-true P test shows i (suc count) (x ∷ xs) is =
       by_first P i count x xs (test i x) (enough (suc i) count test xs) (enough (suc i) (suc count) test xs) (shows i x) (enough-true P test shows (suc i) count xs) (enough-true P test shows (suc i) (suc count) xs) is
 
--- the first place is place j
+-- the first replica is replica j
 
-abbrev each_honest : (ℕ → Story ℕ ℕ ℕ → Bool) → ℕ → List (Place ℕ ℕ ℕ) → Bool
+abbrev each_honest : (ℕ → Execution ℕ ℕ ℕ → Bool) → ℕ → List (Replica ℕ ℕ ℕ) → Bool
 each_honest test j [] = true
 each_honest test j (Faulty ∷ network) = each_honest test (suc j) network
 each_honest test j (Honest s ∷ network) = test j s && each_honest test (suc j) network
 
-each_honest-true : (test : ℕ → Story ℕ ℕ ℕ → Bool) (j : ℕ) (network : List (Place ℕ ℕ ℕ)) → each_honest test j network ≡ true → (i : ℕ) (s : Story ℕ ℕ ℕ) → slice_get network i ≡ Some (Honest s) → test (j + i) s ≡ true
+each_honest-true : (test : ℕ → Execution ℕ ℕ ℕ → Bool) (j : ℕ) (network : List (Replica ℕ ℕ ℕ)) → each_honest test j network ≡ true → (i : ℕ) (s : Execution ℕ ℕ ℕ) → slice_get network i ≡ Some (Honest s) → test (j + i) s ≡ true
 each_honest-true test j [] is i s at = absurd (cc)
 each_honest-true test j (Faulty ∷ network) is zero s at = absurd (cc)
 each_honest-true test j (Faulty ∷ network) is (suc i) s at = subst (λ k. test k s ≡ true) (omega arith) (each_honest-true test (suc j) network is i s at)
@@ -147,12 +147,12 @@ each_honest-true test j (Honest t ∷ network) is zero s at =
 each_honest-true test j (Honest t ∷ network) is (suc i) s at =
     subst (λ k. test k s ≡ true) (omega arith) (each_honest-true test (suc j) network (and_parts (test j t) (each_honest test (suc j) network) is).1 i s at)
 
-abbrev some_honest : (ℕ → Story ℕ ℕ ℕ → Bool) → ℕ → List (Place ℕ ℕ ℕ) → Bool
+abbrev some_honest : (ℕ → Execution ℕ ℕ ℕ → Bool) → ℕ → List (Replica ℕ ℕ ℕ) → Bool
 some_honest test j [] = false
 some_honest test j (Faulty ∷ network) = some_honest test (suc j) network
 some_honest test j (Honest s ∷ network) = test j s || some_honest test (suc j) network
 
-some_honest-true : (test : ℕ → Story ℕ ℕ ℕ → Bool) (j : ℕ) (network : List (Place ℕ ℕ ℕ)) → some_honest test j network ≡ true → (i : ℕ) × (s : Story ℕ ℕ ℕ) × (slice_get network i ≡ Some (Honest s)) × (test (j + i) s ≡ true)
+some_honest-true : (test : ℕ → Execution ℕ ℕ ℕ → Bool) (j : ℕ) (network : List (Replica ℕ ℕ ℕ)) → some_honest test j network ≡ true → (i : ℕ) × (s : Execution ℕ ℕ ℕ) × (slice_get network i ≡ Some (Honest s)) × (test (j + i) s ≡ true)
 some_honest-true test j [] is = absurd (false≢true is)
 some_honest-true test j (Faulty ∷ network) is =
     let found = some_honest-true test (suc j) network is in
@@ -166,23 +166,23 @@ some_honest-true test j (Honest s ∷ network) is = elim (or_cases (test j s) (s
 
 -- what backs a certificate
 
-abbrev may_have_signed : Subject ℕ → ℕ → Place ℕ ℕ ℕ → Bool
+abbrev may_have_signed : Subject ℕ → ℕ → Replica ℕ ℕ ℕ → Bool
 may_have_signed vote i Faulty = true
 may_have_signed vote i (Honest s) = has_done (Signs i vote) s
 
-signed_so : (vote : Subject ℕ) (i : ℕ) (p : Place ℕ ℕ ℕ) → may_have_signed vote i p ≡ true → MayHaveSigned vote i p
+signed_so : (vote : Subject ℕ) (i : ℕ) (p : Replica ℕ ℕ ℕ) → may_have_signed vote i p ≡ true → MayHaveSigned vote i p
 signed_so vote i Faulty is = tt
 signed_so vote i (Honest s) is = done (Signs i vote) s is
 
-abbrev is_honestly_signed : Subject ℕ → ℕ → Place ℕ ℕ ℕ → Bool
+abbrev is_honestly_signed : Subject ℕ → ℕ → Replica ℕ ℕ ℕ → Bool
 is_honestly_signed vote i Faulty = false
 is_honestly_signed vote i (Honest s) = has_done (Signs i vote) s
 
-honestly_so : (vote : Subject ℕ) (i : ℕ) (p : Place ℕ ℕ ℕ) → is_honestly_signed vote i p ≡ true → IsHonestlySigned vote i p
+honestly_so : (vote : Subject ℕ) (i : ℕ) (p : Replica ℕ ℕ ℕ) → is_honestly_signed vote i p ≡ true → IsHonestlySigned vote i p
 honestly_so vote i Faulty is = absurd (false≢true is)
 honestly_so vote i (Honest s) is = done (Signs i vote) s is
 
-module _ (network : List (Place ℕ ℕ ℕ)) where
+module _ (network : List (Replica ℕ ℕ ℕ)) where
   abbrev pub is_backed : Subject ℕ → Bool
   is_backed vote = enough 0 (quorum (length network)) (may_have_signed vote) network
 
@@ -197,25 +197,25 @@ module _ (network : List (Place ℕ ℕ ℕ)) where
 
 -- a certificate is not among those that were accepted
 
-abbrev is_other : Subject ℕ → Deed ℕ → Bool
+abbrev is_other : Subject ℕ → TraceEvent ℕ → Bool
 is_other c (Accepts d) = not (same_subject c d)
 is_other c (Signs i vote) = true
 
-pub not_accepted : (c : Subject ℕ) (s : Story ℕ ℕ ℕ) → same_subject c c ≡ true → each_one (is_other c) (deeds_of s) ≡ true → Contains (deeds_of s) (Accepts c) → ⊥
-not_accepted c s itself others h = false≢true (sym (ap not itself) ∙ each_one-true (is_other c) (deeds_of s) others (Accepts c) h)
+pub not_accepted : (c : Subject ℕ) (s : Execution ℕ ℕ ℕ) → same_subject c c ≡ true → each_one (is_other c) (trace_of s) ≡ true → Contains (trace_of s) (Accepts c) → ⊥
+not_accepted c s itself others h = false≢true (sym (ap not itself) ∙ each_one-true (is_other c) (trace_of s) others (Accepts c) h)
 
 -- each certificate that honest members accept passes a test
 
-abbrev pub passes : (Subject ℕ → Bool) → Deed ℕ → Bool
+abbrev pub passes : (Subject ℕ → Bool) → TraceEvent ℕ → Bool
 passes test (Accepts c) = test c
 passes test (Signs i vote) = true
 
-abbrev pub each_accepted : (Subject ℕ → Bool) → List (Place ℕ ℕ ℕ) → Bool
-each_accepted test network = each_honest (λ i s. each_one (passes test) (deeds_of s)) 0 network
+abbrev pub each_accepted : (Subject ℕ → Bool) → List (Replica ℕ ℕ ℕ) → Bool
+each_accepted test network = each_honest (λ i s. each_one (passes test) (trace_of s)) 0 network
 
-pub accepted_so : (test : Subject ℕ → Bool) (network : List (Place ℕ ℕ ℕ)) → each_accepted test network ≡ true → EachHonest network (λ i s. (c : Subject ℕ) → HasAccepted c i s → test c ≡ true)
+pub accepted_so : (test : Subject ℕ → Bool) (network : List (Replica ℕ ℕ ℕ)) → each_accepted test network ≡ true → EachHonest network (λ i s. (c : Subject ℕ) → HasAccepted c i s → test c ≡ true)
 accepted_so test network is i s at c h =
-    each_one-true (passes test) (deeds_of s) (each_honest-true (λ j t. each_one (passes test) (deeds_of t)) 0 network is i s at) (Accepts c) h
+    each_one-true (passes test) (trace_of s) (each_honest-true (λ j t. each_one (passes test) (trace_of t)) 0 network is i s at) (Accepts c) h
 
 -- each proposal that is handed to them does
 
@@ -223,58 +223,58 @@ abbrev passes_handing : (ℕ → Proposal ℕ → Bool) → StepFacts ℕ ℕ �
 passes_handing test (Calls (SetProposal v p)) = test v p
 passes_handing test _ = true
 
-abbrev each_heard : (ℕ → Proposal ℕ → Bool) → List (Place ℕ ℕ ℕ) → Bool
+abbrev each_heard : (ℕ → Proposal ℕ → Bool) → List (Replica ℕ ℕ ℕ) → Bool
 each_heard test network = each_honest (λ i s. each_one (passes_handing test) s.steps) 0 network
 
-heard_so : (test : ℕ → Proposal ℕ → Bool) (network : List (Place ℕ ℕ ℕ)) → each_heard test network ≡ true → EachHonest network (λ i s. (v : ℕ) (p : Proposal ℕ) → HasHeard v p s → test v p ≡ true)
+heard_so : (test : ℕ → Proposal ℕ → Bool) (network : List (Replica ℕ ℕ ℕ)) → each_heard test network ≡ true → EachHonest network (λ i s. (v : ℕ) (p : Proposal ℕ) → HasHeard v p s → test v p ≡ true)
 heard_so test network is i s at v p h =
     each_one-true (passes_handing test) s.steps (each_honest-true (λ j t. each_one (passes_handing test) t.steps) 0 network is i s at) (Calls (SetProposal v p)) h
 
 -- a vote is of a view below this one
 
-abbrev pub notarizes_below : ℕ → Deed ℕ → Bool
+abbrev pub notarizes_below : ℕ → TraceEvent ℕ → Bool
 notarizes_below high (Signs i (Notarize p)) = nat_lt p.round.view high
 notarizes_below high _ = true
 
-abbrev finalizes_below : ℕ → Deed ℕ → Bool
+abbrev finalizes_below : ℕ → TraceEvent ℕ → Bool
 finalizes_below high (Signs i (Finalize p)) = nat_lt p.round.view high
 finalizes_below high _ = true
 
 -- runs
 
 module _ (elect : Elect ℕ) (term_length : ℕ) where
-  abbrev pub AllRan : ℕ → List (Place ℕ ℕ ℕ) → Type 0
-  AllRan j [] = Unit {0}
-  AllRan j (Faulty ∷ network) = AllRan (suc j) network
-  AllRan j (Honest s ∷ network) = Ran nat_eq elect term_length j s × AllRan (suc j) network
+  abbrev pub AreExecutions : ℕ → List (Replica ℕ ℕ ℕ) → Type 0
+  AreExecutions j [] = Unit {0}
+  AreExecutions j (Faulty ∷ network) = AreExecutions (suc j) network
+  AreExecutions j (Honest s ∷ network) = IsExecution nat_eq elect term_length j s × AreExecutions (suc j) network
 
-  each_ran : (j : ℕ) (network : List (Place ℕ ℕ ℕ)) → AllRan j network → (i : ℕ) (s : Story ℕ ℕ ℕ) → slice_get network i ≡ Some (Honest s) → Ran nat_eq elect term_length (j + i) s
+  each_ran : (j : ℕ) (network : List (Replica ℕ ℕ ℕ)) → AreExecutions j network → (i : ℕ) (s : Execution ℕ ℕ ℕ) → slice_get network i ≡ Some (Honest s) → IsExecution nat_eq elect term_length (j + i) s
   each_ran j [] all i s at = absurd (cc)
   each_ran j (Faulty ∷ network) all zero s at = absurd (cc)
-  each_ran j (Faulty ∷ network) all (suc i) s at = subst (λ k. Ran nat_eq elect term_length k s) (omega arith) (each_ran (suc j) network all i s at)
+  each_ran j (Faulty ∷ network) all (suc i) s at = subst (λ k. IsExecution nat_eq elect term_length k s) (omega arith) (each_ran (suc j) network all i s at)
   each_ran j (Honest t ∷ network) all zero s at =
       let same : t ≡ s = cc in
       let index : j ≡ j + 0 = omega arith in
-      subst (λ k. Ran nat_eq elect term_length k s) index (subst (λ u. Ran nat_eq elect term_length j u) same all.0)
-  each_ran j (Honest t ∷ network) all (suc i) s at = subst (λ k. Ran nat_eq elect term_length k s) (omega arith) (each_ran (suc j) network all.1 i s at)
+      subst (λ k. IsExecution nat_eq elect term_length k s) index (subst (λ u. IsExecution nat_eq elect term_length j u) same all.0)
+  each_ran j (Honest t ∷ network) all (suc i) s at = subst (λ k. IsExecution nat_eq elect term_length k s) (omega arith) (each_ran (suc j) network all.1 i s at)
 
   -- a network whose members ran, and whose accepted certificates are backed
-  pub network_of : (network : List (Place ℕ ℕ ℕ)) → FewFaulty network → AllRan 0 network → each_accepted (is_backed network) network ≡ true → IsNetworkOf nat_eq elect term_length network
+  pub network_of : (network : List (Replica ℕ ℕ ℕ)) → FewFaulty network → AreExecutions 0 network → each_accepted (is_backed network) network ≡ true → IsNetworkOf nat_eq elect term_length network
   network_of network few all backed = record {
     few_faulty = few;
-    honest = λ i s at. subst (λ k. Ran nat_eq elect term_length k s) (omega arith) (each_ran 0 network all i s at);
+    honest = λ i s at. subst (λ k. IsExecution nat_eq elect term_length k s) (omega arith) (each_ran 0 network all i s at);
     backed = λ i s c at h. backed_so network c (accepted_so (is_backed network) network backed i s at c h);
   }
 
   -- the same, however many are faulty
-  pub backed_network_of : (network : List (Place ℕ ℕ ℕ)) → AllRan 0 network → each_accepted (is_backed network) network ≡ true → IsBackedNetwork nat_eq elect term_length network
+  pub backed_network_of : (network : List (Replica ℕ ℕ ℕ)) → AreExecutions 0 network → each_accepted (is_backed network) network ≡ true → IsBackedNetwork nat_eq elect term_length network
   backed_network_of network all backed = record {
-    honest = λ i s at. subst (λ k. Ran nat_eq elect term_length k s) (omega arith) (each_ran 0 network all i s at);
+    honest = λ i s at. subst (λ k. IsExecution nat_eq elect term_length k s) (omega arith) (each_ran 0 network all i s at);
     backed = λ i s c at h. backed_so network c (accepted_so (is_backed network) network backed i s at c h);
   }
 
   -- the beginning of a run is one
-  ran_before : (i : ℕ) (s : Story ℕ ℕ ℕ) (more : List (StepFacts ℕ ℕ ℕ × Told ℕ ℕ)) → length s.steps ≡ length s.replies → Ran nat_eq elect term_length i (and_then s more) → Ran nat_eq elect term_length i s
+  ran_before : (i : ℕ) (s : Execution ℕ ℕ ℕ) (more : List (StepFacts ℕ ℕ ℕ × Told ℕ ℕ)) → length s.steps ≡ length s.replies → IsExecution nat_eq elect term_length i (and_then s more) → IsExecution nat_eq elect term_length i s
   ran_before i s more as_many ran = record {
     lives = record {
       first = ran.lives.first;
@@ -283,12 +283,12 @@ module _ (elect : Elect ℕ) (term_length : ℕ) where
     run = run_from_before nat_eq elect s.start s.steps (map (λ e. e.0) more) s.replies (map (λ e. e.1) more) as_many ran.run;
   }
 
-  abbrev pub have_replies : List (Place ℕ ℕ ℕ) → Bool
+  abbrev pub have_replies : List (Replica ℕ ℕ ℕ) → Bool
   have_replies [] = true
   have_replies (Faulty ∷ network) = have_replies network
   have_replies (Honest s ∷ network) = length s.steps == length s.replies && have_replies network
 
-  pub all_ran_before : (j : ℕ) (network later : List (Place ℕ ℕ ℕ)) → have_replies network ≡ true → PlacesGoOn network later → AllRan j later → AllRan j network
+  pub all_ran_before : (j : ℕ) (network later : List (Replica ℕ ℕ ℕ)) → have_replies network ≡ true → ReplicasGoOn network later → AreExecutions j later → AreExecutions j network
   all_ran_before j [] [] full goes all = tt
   all_ran_before j [] (p ∷ later) full goes all = absurd goes
   all_ran_before j (Faulty ∷ network) [] full goes all = absurd goes
@@ -296,14 +296,14 @@ module _ (elect : Elect ℕ) (term_length : ℕ) where
   all_ran_before j (Faulty ∷ network) (Faulty ∷ later) full goes all = all_ran_before (suc j) network later full goes all
   all_ran_before j (Faulty ∷ network) (Honest t ∷ later) full goes all = absurd goes
   all_ran_before j (Honest s ∷ network) (Faulty ∷ later) full goes all = absurd goes
-  all_ran_before j (Honest s ∷ network) (Honest t ∷ later) full (story, goes) all =
+  all_ran_before j (Honest s ∷ network) (Honest t ∷ later) full (execution, goes) all =
       let parts = and_parts (length s.steps == length s.replies) (have_replies network) full in (
-        ran_before j s story.0 (eqb-true (length s.steps) (length s.replies) parts.0) (subst (λ u. Ran nat_eq elect term_length j u) story.1 all.0),
+        ran_before j s execution.0 (eqb-true (length s.steps) (length s.replies) parts.0) (subst (λ u. IsExecution nat_eq elect term_length j u) execution.1 all.0),
         all_ran_before (suc j) network later parts.1 goes all.1,
       )
 
   -- a network that goes on as a later one
-  module _ (network later : List (Place ℕ ℕ ℕ)) (final : Proposal ℕ) where
+  module _ (network later : List (Replica ℕ ℕ ℕ)) (final : Proposal ℕ) where
     abbrev comes_from_honest : Subject ℕ → Bool
     comes_from_honest c = some_honest (λ i s. has_done (Accepts c) s) 0 network || is_honestly_backed later c
 
@@ -313,10 +313,10 @@ module _ (elect : Elect ℕ) (term_length : ℕ) where
       | inr made ↦ inr (honestly_backed_so later c made)
     ]
 
-    abbrev has_built : Proposal ℕ → ℕ → Story ℕ ℕ ℕ → Bool
+    abbrev has_built : Proposal ℕ → ℕ → Execution ℕ ℕ ℕ → Bool
     has_built p i s = has_step (Calls (Proposed p.round.view p.payload 0)) s && has_done (Signs i (Notarize p)) s
 
-    built : (p : Proposal ℕ) (i : ℕ) (s : Story ℕ ℕ ℕ) → has_built p i s ≡ true → HasBuilt p i s
+    built : (p : Proposal ℕ) (i : ℕ) (s : Execution ℕ ℕ ℕ) → has_built p i s ≡ true → HasBuilt p i s
     built p i s is =
         let parts = and_parts (has_step (Calls (Proposed p.round.view p.payload 0)) s) (has_done (Signs i (Notarize p)) s) is in
         ((0, stepped (Calls (Proposed p.round.view p.payload 0)) s parts.0), done (Signs i (Notarize p)) s parts.1)
@@ -335,7 +335,7 @@ module _ (elect : Elect ℕ) (term_length : ℕ) where
           inr (found.0, found.1, found.2, subst (λ k. HasBuilt p k found.1) index (built p (0 + found.0) found.1 found.3)))
     ]
 
-    abbrev is_finalized : ℕ → Story ℕ ℕ ℕ → Bool
+    abbrev is_finalized : ℕ → Execution ℕ ℕ ℕ → Bool
     is_finalized i s = has_done (Signs i (Finalize final)) s && has_done (Accepts (Finalize final)) s
 
     finalized_so : each_honest is_finalized 0 later ≡ true → EachHonest later (λ i s. HasSignedAs (Finalize final) i s × HasAccepted (Finalize final) i s)
@@ -346,12 +346,12 @@ module _ (elect : Elect ℕ) (term_length : ℕ) where
         (done (Signs i (Finalize final)) s parts.0, done (Accepts (Finalize final)) s parts.1)
 
     abbrev are_finalized_below : Bool
-    are_finalized_below = each_honest (λ i s. each_one (finalizes_below final.round.view) (deeds_of s)) 0 network
+    are_finalized_below = each_honest (λ i s. each_one (finalizes_below final.round.view) (trace_of s)) 0 network
 
     new_so : FewFaulty network → are_finalized_below ≡ true → (p : Proposal ℕ) → Backed network (Finalize p) → p.round.view < final.round.view
     new_so few is p backed =
         let found = shared_member network (Finalize p) (Finalize p) few backed backed in
-        let below = each_one-true (finalizes_below final.round.view) (deeds_of found.1) (each_honest-true (λ i s. each_one (finalizes_below final.round.view) (deeds_of s)) 0 network is found.0 found.1 found.2) (Signs found.3.0 (Finalize p)) found.3.1 in
+        let below = each_one-true (finalizes_below final.round.view) (trace_of found.1) (each_honest-true (λ i s. each_one (finalizes_below final.round.view) (trace_of s)) 0 network is found.0 found.1 found.2) (Signs found.3.0 (Finalize p)) found.3.1 in
         ltb-true p.round.view final.round.view below
 
     -- what is computed of it
@@ -362,7 +362,7 @@ module _ (elect : Elect ℕ) (term_length : ℕ) where
       pub finalized : each_honest is_finalized 0 later ≡ true
       pub new : are_finalized_below ≡ true
 
-    pub goes_on_so : FewFaulty network → FewFaulty later → PlacesGoOn network later → AllRan 0 later → PassesTests → GoesOnToFinalize nat_eq elect term_length network later final
+    pub goes_on_so : FewFaulty network → FewFaulty later → ReplicasGoOn network later → AreExecutions 0 later → PassesTests → GoesOnToFinalize nat_eq elect term_length network later final
     goes_on_so few later_few goes all tests = record {
       goes_on = goes;
       runs = network_of later later_few all tests.backed;

@@ -2,52 +2,52 @@
 -- The network in which certificates are lacking goes on.
 use Rattle.std.proofs.Common.{◌≡◌, refl, ℕ, inl, nat_eq, arith}
 use Rattle.simplex_types.specs.declared.types.messages.Subject.TheVariants.{Notarize, Nullify}
-use Rattle.simplex_voter.specs.Gaps.{first_gap}
-use Rattle.simplex_voter.specs.Parents.{spans, payload_for, parent_payload, preferred_parent, may_stand, binding_matches}
-use Rattle.simplex_voter.specs.Payloads.{explicit_payload, optimistic_payload, is_handoff_parent, serves, follows}
+use Rattle.simplex_voter.specs.Gaps.{first_unnullified_view}
+use Rattle.simplex_voter.specs.Parents.{has_valid_parent_span, ancestry_payload_for_child, parent_payload_for, find_parent, captured_parent_valid, verification_matches}
+use Rattle.simplex_voter.specs.Payloads.{explicit_ancestry_payload, optimistic_ancestry_payload, is_handoff_parent, is_voted_ancestor, can_chain_on}
 use Rattle.simplex_voter.specs.Proposing.{propose_answer, proposed_answer}
-use Rattle.simplex_voter.specs.Rules.{may_notarize, may_nullify, may_finalize, is_gated, required_parent}
+use Rattle.simplex_voter.specs.Rules.{may_notarize, may_nullify, may_finalize, has_conflicting_nullify, required_certification_parent}
 use Rattle.simplex_voter.specs.Verifying.{standing}
-use Rattle.simplex_voter.specs.Windows.{is_admitted, in_window}
+use Rattle.simplex_voter.specs.Windows.{is_admitted, in_issuance_window}
 use Rattle.simplex_record.specs.Check.{first_recover_error}
-use Rattle.simplex_laws.specs.Continuations.{and_then, HasAccepted, PlacesGoOn, GoesOnToFinalize}
+use Rattle.simplex_laws.specs.Continuations.{and_then, HasAccepted, ReplicasGoOn, GoesOnToFinalize}
 use Rattle.simplex_laws.specs.LackingNetwork.{lacks_nullification, skips_two, member_without_notarization, lacking, finishes, has_nullification, has_notarization, supplied, over_two}
-use Rattle.simplex_laws.specs.Places.{FewFaulty, IsNetworkOf}
-use Rattle.simplex_laws.specs.Turns.{round, one, in_turn}
-use Rattle.simplex_laws.specs.Stories.{Story, Ran}
-use Rattle.simplex_laws.proofs.networks.Continuations.{not_accepted, AllRan, all_ran_before, network_of, goes_on_so}
-use Rattle.simplex_laws.proofs.networks.Turns.{begins, told_in, ran_as_told}
+use Rattle.simplex_laws.specs.Replicas.{FewFaulty, IsNetworkOf}
+use Rattle.simplex_laws.specs.ScenarioSteps.{round, one, in_turn}
+use Rattle.simplex_laws.specs.Executions.{Execution, IsExecution}
+use Rattle.simplex_laws.proofs.networks.Continuations.{not_accepted, AreExecutions, all_ran_before, network_of, goes_on_so}
+use Rattle.simplex_laws.proofs.networks.ScenarioSteps.{begins, told_in, ran_as_told}
 
-abbrev supplied_first : Story ℕ ℕ ℕ
+abbrev supplied_first : Execution ℕ ℕ ℕ
 supplied_first = and_then lacks_nullification has_nullification
 
-abbrev supplied_second : Story ℕ ℕ ℕ
+abbrev supplied_second : Execution ℕ ℕ ℕ
 supplied_second = and_then skips_two (finishes 1)
 
-abbrev supplied_third : Story ℕ ℕ ℕ
+abbrev supplied_third : Execution ℕ ℕ ℕ
 supplied_third = and_then member_without_notarization has_notarization
 
 supplied_first_told : told_in supplied_first ≡ supplied_first.replies
-unfolding standing propose_answer proposed_answer preferred_parent may_stand spans payload_for first_gap explicit_payload optimistic_payload is_handoff_parent serves follows in_window is_admitted binding_matches parent_payload may_notarize may_nullify may_finalize is_gated required_parent
+unfolding standing propose_answer proposed_answer find_parent captured_parent_valid has_valid_parent_span ancestry_payload_for_child first_unnullified_view explicit_ancestry_payload optimistic_ancestry_payload is_handoff_parent is_voted_ancestor can_chain_on in_issuance_window is_admitted verification_matches parent_payload_for may_notarize may_nullify may_finalize has_conflicting_nullify required_certification_parent
 supplied_first_told = refl
 
 supplied_second_told : told_in supplied_second ≡ supplied_second.replies
-unfolding standing propose_answer proposed_answer preferred_parent may_stand spans payload_for first_gap explicit_payload optimistic_payload is_handoff_parent serves follows in_window is_admitted binding_matches parent_payload may_notarize may_nullify may_finalize is_gated required_parent
+unfolding standing propose_answer proposed_answer find_parent captured_parent_valid has_valid_parent_span ancestry_payload_for_child first_unnullified_view explicit_ancestry_payload optimistic_ancestry_payload is_handoff_parent is_voted_ancestor can_chain_on in_issuance_window is_admitted verification_matches parent_payload_for may_notarize may_nullify may_finalize has_conflicting_nullify required_certification_parent
 supplied_second_told = refl
 
 supplied_third_told : told_in supplied_third ≡ supplied_third.replies
-unfolding standing propose_answer proposed_answer preferred_parent may_stand spans payload_for first_gap explicit_payload optimistic_payload is_handoff_parent serves follows in_window is_admitted binding_matches parent_payload may_notarize may_nullify may_finalize is_gated required_parent
+unfolding standing propose_answer proposed_answer find_parent captured_parent_valid has_valid_parent_span ancestry_payload_for_child first_unnullified_view explicit_ancestry_payload optimistic_ancestry_payload is_handoff_parent is_voted_ancestor can_chain_on in_issuance_window is_admitted verification_matches parent_payload_for may_notarize may_nullify may_finalize has_conflicting_nullify required_certification_parent
 supplied_third_told = refl
 
-supplied_first_ran : Ran nat_eq in_turn 1 0 supplied_first
+supplied_first_ran : IsExecution nat_eq in_turn 1 0 supplied_first
 unfolding first_recover_error
 supplied_first_ran = ran_as_told 1 0 supplied_first (begins 1 0 (omega arith)) tt refl tt supplied_first_told
 
-supplied_second_ran : Ran nat_eq in_turn 1 1 supplied_second
+supplied_second_ran : IsExecution nat_eq in_turn 1 1 supplied_second
 unfolding first_recover_error
 supplied_second_ran = ran_as_told 1 1 supplied_second (begins 1 1 (omega arith)) tt refl tt supplied_second_told
 
-supplied_third_ran : Ran nat_eq in_turn 1 2 supplied_third
+supplied_third_ran : IsExecution nat_eq in_turn 1 2 supplied_third
 unfolding first_recover_error
 supplied_third_ran = ran_as_told 1 2 supplied_third (begins 1 2 (omega arith)) tt refl tt supplied_third_told
 
@@ -57,10 +57,10 @@ few = inl (omega arith, omega arith)
 later_few : FewFaulty supplied
 later_few = inl (omega arith, omega arith)
 
-goes : PlacesGoOn lacking supplied
+goes : ReplicasGoOn lacking supplied
 goes = ((has_nullification, refl), ((finishes 1, refl), ((has_notarization, refl), tt)))
 
-all_ran : AllRan in_turn 1 0 supplied
+all_ran : AreExecutions in_turn 1 0 supplied
 all_ran = (supplied_first_ran, (supplied_second_ran, (supplied_third_ran, tt)))
 
 pub lacking_network : IsNetworkOf nat_eq in_turn 1 lacking

@@ -5,38 +5,38 @@ use Rattle.simplex_types.specs.Certificates.{ArtifactFacts, NotarizeVote, Finali
 use Rattle.simplex_types.specs.Config.{FloorFacts, Genesis, Finalized}
 use Rattle.simplex_types.specs.declared.types.messages.Subject.{Subject}
 use Rattle.simplex_types.specs.declared.types.messages.Subject.TheVariants as subject
-use Rattle.simplex_voter.specs.Windows.{is_admitted, in_window}
-use Rattle.simplex_voter.specs.Gaps.{first_gap}
-use Rattle.simplex_voter.specs.Payloads.{explicit_payload}
-use Rattle.simplex_voter.specs.Parents.{spans, payload_for, parent_payload, binding_matches}
-use Rattle.simplex_voter.specs.Rules.{may_notarize, may_nullify, may_finalize, is_gated, required_parent}
+use Rattle.simplex_voter.specs.Windows.{is_admitted, in_issuance_window}
+use Rattle.simplex_voter.specs.Gaps.{first_unnullified_view}
+use Rattle.simplex_voter.specs.Payloads.{explicit_ancestry_payload}
+use Rattle.simplex_voter.specs.Parents.{has_valid_parent_span, ancestry_payload_for_child, parent_payload_for, verification_matches}
+use Rattle.simplex_voter.specs.Rules.{may_notarize, may_nullify, may_finalize, has_conflicting_nullify, required_certification_parent}
 use Rattle.simplex_voter.specs.Verifying.{standing}
 use Rattle.simplex_member.specs.Calls.{Told}
 use Rattle.simplex_record.specs.Check.{first_recover_error}
 use Rattle.simplex_record.specs.Cuts.{may_drop, pruned_entries}
 use Rattle.simplex_record.specs.Entries.{entry_view}
 use Rattle.simplex_record.specs.Recovery.{recovered_state, after_kept_entry}
-use Rattle.simplex_laws.specs.Places.{Honest, Backed, IsNetworkOf}
+use Rattle.simplex_laws.specs.Replicas.{Honest, Backed, IsNetworkOf}
 use Rattle.simplex_laws.specs.Accountability.{AcceptCertified, MayBeCertified, HasAcceptedNearer, IsBackedNetwork}
 use Rattle.simplex_laws.specs.Scripts.{leader, start_at, impatient, patient, forgetful, four, overrun, two_faced, known_of_overrun, restarting, skipping, five}
-use Rattle.simplex_laws.specs.Turns.{round, proposal, certificate, one, two}
-use Rattle.simplex_laws.specs.Deeds.{Accepts, Signs}
-use Rattle.simplex_laws.specs.Stories.{Story, deeds_of, BeginsAs, Ran}
+use Rattle.simplex_laws.specs.ScenarioSteps.{round, proposal, certificate, one, two}
+use Rattle.simplex_laws.specs.Traces.{Accepts, Signs}
+use Rattle.simplex_laws.specs.Executions.{Execution, trace_of, BeginsAs, IsExecution}
 use Rattle.simplex_laws.proofs.networks.ComputedRuns.{replies_from, Fits, begun, fits_run_from, rises, each_begins}
 
 pub begins : (term_length me : ℕ) (floor : FloorFacts ℕ) → 0 < term_length → BeginsAs term_length me (start_at term_length floor me).setup
 begins term_length me floor some = record { terms = record { terms = refl; some = some }; signs_as = inl refl }
 
 module _ where
-  abbrev from_start : Story ℕ ℕ ℕ → List (Told ℕ ℕ)
+  abbrev from_start : Execution ℕ ℕ ℕ → List (Told ℕ ℕ)
   from_start s = replies_from nat_eq leader (begun nat_eq leader s.start) s.steps
 
   impatient_told : from_start impatient ≡ impatient.replies
-  unfolding spans payload_for first_gap explicit_payload in_window is_admitted binding_matches parent_payload may_notarize may_nullify may_finalize is_gated required_parent
+  unfolding has_valid_parent_span ancestry_payload_for_child first_unnullified_view explicit_ancestry_payload in_issuance_window is_admitted verification_matches parent_payload_for may_notarize may_nullify may_finalize has_conflicting_nullify required_certification_parent
   impatient_told = refl
 
   patient_told_1 : from_start (patient 1) ≡ (patient 1).replies
-  unfolding standing spans payload_for first_gap explicit_payload in_window is_admitted binding_matches parent_payload may_notarize may_nullify may_finalize is_gated required_parent
+  unfolding standing has_valid_parent_span ancestry_payload_for_child first_unnullified_view explicit_ancestry_payload in_issuance_window is_admitted verification_matches parent_payload_for may_notarize may_nullify may_finalize has_conflicting_nullify required_certification_parent
   patient_told_1 = refl
 
   -- what is left of the record at the restart of the third member
@@ -44,14 +44,14 @@ module _ where
   kept = NotarizeVote one 2 ∷ Accepted (Notarized (certificate one)) ∷ Verdict (round 1) true ∷ FinalizeVote one 2 ∷ []
 
   forgetful_told : from_start (forgetful) ≡ (forgetful).replies
-  unfolding first_recover_error recovered_state after_kept_entry may_drop pruned_entries standing spans payload_for first_gap explicit_payload in_window is_admitted binding_matches parent_payload may_notarize may_nullify may_finalize is_gated required_parent
+  unfolding first_recover_error recovered_state after_kept_entry may_drop pruned_entries standing has_valid_parent_span ancestry_payload_for_child first_unnullified_view explicit_ancestry_payload in_issuance_window is_admitted verification_matches parent_payload_for may_notarize may_nullify may_finalize has_conflicting_nullify required_certification_parent
   forgetful_told = refl
 
   forgetful_fits : Fits nat_eq leader (begun nat_eq leader (forgetful).start) (forgetful).steps
-  unfolding first_recover_error recovered_state after_kept_entry may_drop pruned_entries standing spans payload_for first_gap explicit_payload in_window is_admitted binding_matches parent_payload may_notarize may_nullify may_finalize is_gated required_parent
+  unfolding first_recover_error recovered_state after_kept_entry may_drop pruned_entries standing has_valid_parent_span ancestry_payload_for_child first_unnullified_view explicit_ancestry_payload in_issuance_window is_admitted verification_matches parent_payload_for may_notarize may_nullify may_finalize has_conflicting_nullify required_certification_parent
   forgetful_fits = (rises entry_view 0 kept refl, tt)
 
-  pub forgetful_ran : Ran nat_eq leader 5 2 (forgetful)
+  pub forgetful_ran : IsExecution nat_eq leader 5 2 (forgetful)
   unfolding first_recover_error
   forgetful_ran = record {
     lives = record { first = begins 5 2 (Genesis 0) (omega arith); later = each_begins 5 2 (forgetful).steps (begins 5 2 (Genesis 0) (omega arith), tt) };
@@ -59,15 +59,15 @@ module _ where
   }
 
   skipping_told_0 : from_start (skipping 0) ≡ (skipping 0).replies
-  unfolding standing spans payload_for first_gap explicit_payload in_window is_admitted binding_matches parent_payload may_notarize may_nullify may_finalize is_gated required_parent
+  unfolding standing has_valid_parent_span ancestry_payload_for_child first_unnullified_view explicit_ancestry_payload in_issuance_window is_admitted verification_matches parent_payload_for may_notarize may_nullify may_finalize has_conflicting_nullify required_certification_parent
   skipping_told_0 = refl
 
   skipping_told_1 : from_start (skipping 1) ≡ (skipping 1).replies
-  unfolding standing spans payload_for first_gap explicit_payload in_window is_admitted binding_matches parent_payload may_notarize may_nullify may_finalize is_gated required_parent
+  unfolding standing has_valid_parent_span ancestry_payload_for_child first_unnullified_view explicit_ancestry_payload in_issuance_window is_admitted verification_matches parent_payload_for may_notarize may_nullify may_finalize has_conflicting_nullify required_certification_parent
   skipping_told_1 = refl
 
   skipping_told_2 : from_start (skipping 2) ≡ (skipping 2).replies
-  unfolding standing spans payload_for first_gap explicit_payload in_window is_admitted binding_matches parent_payload may_notarize may_nullify may_finalize is_gated required_parent
+  unfolding standing has_valid_parent_span ancestry_payload_for_child first_unnullified_view explicit_ancestry_payload in_issuance_window is_admitted verification_matches parent_payload_for may_notarize may_nullify may_finalize has_conflicting_nullify required_certification_parent
   skipping_told_2 = refl
 
   -- what is left of the record at the first restart, and at each later one
@@ -78,38 +78,38 @@ module _ where
   twice = Accepted (Notarized (certificate two)) ∷ Verdict (round 2) true ∷ FinalizeVote two 1 ∷ Accepted (CertifiedFinal (certificate (proposal 3 2))) ∷ []
 
   restarting_told : from_start restarting ≡ restarting.replies
-  unfolding first_recover_error recovered_state after_kept_entry may_drop pruned_entries standing spans payload_for first_gap explicit_payload in_window is_admitted binding_matches parent_payload may_notarize may_nullify may_finalize is_gated required_parent
+  unfolding first_recover_error recovered_state after_kept_entry may_drop pruned_entries standing has_valid_parent_span ancestry_payload_for_child first_unnullified_view explicit_ancestry_payload in_issuance_window is_admitted verification_matches parent_payload_for may_notarize may_nullify may_finalize has_conflicting_nullify required_certification_parent
   restarting_told = refl
 
   restarting_fits : Fits nat_eq leader (begun nat_eq leader restarting.start) restarting.steps
-  unfolding first_recover_error recovered_state after_kept_entry may_drop pruned_entries standing spans payload_for first_gap explicit_payload in_window is_admitted binding_matches parent_payload may_notarize may_nullify may_finalize is_gated required_parent
+  unfolding first_recover_error recovered_state after_kept_entry may_drop pruned_entries standing has_valid_parent_span ancestry_payload_for_child first_unnullified_view explicit_ancestry_payload in_issuance_window is_admitted verification_matches parent_payload_for may_notarize may_nullify may_finalize has_conflicting_nullify required_certification_parent
   restarting_fits = (rises entry_view 0 once refl, (rises entry_view 0 twice refl, (rises entry_view 0 twice refl, tt)))
 
-  pub impatient_ran : Ran nat_eq leader 5 0 impatient
+  pub impatient_ran : IsExecution nat_eq leader 5 0 impatient
   unfolding first_recover_error
   impatient_ran = record {
     lives = record { first = begins 5 0 (Genesis 0) (omega arith); later = each_begins 5 0 impatient.steps tt };
     run = fits_run_from nat_eq leader impatient refl tt impatient_told;
   }
 
-  pub patient_ran : (me : ℕ) → from_start (patient me) ≡ (patient me).replies → Ran nat_eq leader 5 me (patient me)
+  pub patient_ran : (me : ℕ) → from_start (patient me) ≡ (patient me).replies → IsExecution nat_eq leader 5 me (patient me)
   unfolding first_recover_error
   patient_ran me told = record {
     lives = record { first = begins 5 me (Genesis 0) (omega arith); later = each_begins 5 me (patient me).steps tt };
     run = fits_run_from nat_eq leader (patient me) refl tt told;
   }
 
-  skipping_ran : (me : ℕ) → from_start (skipping me) ≡ (skipping me).replies → Ran nat_eq leader 1 me (skipping me)
+  skipping_ran : (me : ℕ) → from_start (skipping me) ≡ (skipping me).replies → IsExecution nat_eq leader 1 me (skipping me)
   unfolding first_recover_error
   skipping_ran me told = record {
     lives = record { first = begins 1 me (Genesis 0) (omega arith); later = each_begins 1 me (skipping me).steps tt };
     run = fits_run_from nat_eq leader (skipping me) refl tt told;
   }
 
-  pub skipping_ran_1 : Ran nat_eq leader 1 1 (skipping 1)
+  pub skipping_ran_1 : IsExecution nat_eq leader 1 1 (skipping 1)
   skipping_ran_1 = skipping_ran 1 skipping_told_1
 
-  pub restarting_ran : Ran nat_eq leader 5 1 restarting
+  pub restarting_ran : IsExecution nat_eq leader 5 1 restarting
   unfolding first_recover_error
   restarting_ran = record {
     lives = record { first = begins 5 1 (Genesis 0) (omega arith); later = each_begins 5 1 restarting.steps (begins 5 1 (Genesis 0) (omega arith), (begins 5 1 (Genesis 0) (omega arith), (begins 5 1 (Finalized (certificate (proposal 4 3))) (omega arith), tt))) };
@@ -135,7 +135,7 @@ module _ where
 
   -- what holds of each certificate that one accepts
 
-  impatient_accepts : (P : Subject ℕ → Type 0) → P (subject.Notarize one) → P (subject.Notarize two) → P (subject.Finalize one) → (c : Subject ℕ) → Contains (deeds_of impatient) (Accepts c) → P c
+  impatient_accepts : (P : Subject ℕ → Type 0) → P (subject.Notarize one) → P (subject.Notarize two) → P (subject.Finalize one) → (c : Subject ℕ) → Contains (trace_of impatient) (Accepts c) → P c
   impatient_accepts P n m f c (zero, less, same) = absurd (cc)
   impatient_accepts P n m f c (suc zero, less, same) = (let e : subject.Notarize one ≡ c = cc in subst P e n)
   impatient_accepts P n m f c (suc (suc zero), less, same) = (let e : subject.Notarize two ≡ c = cc in subst P e m)
@@ -143,7 +143,7 @@ module _ where
   impatient_accepts P n m f c (suc (suc (suc (suc zero))), less, same) = absurd (cc)
   impatient_accepts P n m f c (suc (suc (suc (suc (suc k)))), less, same) = absurd (omega arith)
 
-  patient_accepts : (me : ℕ) (P : Subject ℕ → Type 0) → P (subject.Notarize one) → P (subject.Notarize two) → (c : Subject ℕ) → Contains (deeds_of (patient me)) (Accepts c) → P c
+  patient_accepts : (me : ℕ) (P : Subject ℕ → Type 0) → P (subject.Notarize one) → P (subject.Notarize two) → (c : Subject ℕ) → Contains (trace_of (patient me)) (Accepts c) → P c
   patient_accepts me P n m c (zero, less, same) = absurd (cc)
   patient_accepts me P n m c (suc zero, less, same) = (let e : subject.Notarize one ≡ c = cc in subst P e n)
   patient_accepts me P n m c (suc (suc zero), less, same) = absurd (cc)
@@ -152,7 +152,7 @@ module _ where
   patient_accepts me P n m c (suc (suc (suc (suc (suc zero)))), less, same) = absurd (cc)
   patient_accepts me P n m c (suc (suc (suc (suc (suc (suc k))))), less, same) = absurd (omega arith)
 
-  forgetful_accepts : (c : Subject ℕ) → Contains (deeds_of (forgetful)) (Accepts c) → FourBack c
+  forgetful_accepts : (c : Subject ℕ) → Contains (trace_of (forgetful)) (Accepts c) → FourBack c
   forgetful_accepts c (zero, less, same) = absurd (cc)
   forgetful_accepts c (suc zero, less, same) = (let e : subject.Notarize one ≡ c = cc in subst FourBack e notarized_one)
   forgetful_accepts c (suc (suc zero), less, same) = absurd (cc)
@@ -163,19 +163,19 @@ module _ where
   forgetful_accepts c (suc (suc (suc (suc (suc (suc (suc zero)))))), less, same) = absurd (cc)
   forgetful_accepts c (suc (suc (suc (suc (suc (suc (suc (suc k))))))), less, same) = absurd (omega arith)
 
-  -- what holds of each honest place holds of the story at it
-  four_places : (P : ℕ → Story ℕ ℕ ℕ → Type 0) → P 0 impatient → P 1 (patient 1) → P 2 (forgetful) → (i : ℕ) (s : Story ℕ ℕ ℕ) → slice_get four i ≡ Some (Honest s) → P i s
-  four_places P a b c zero s is = (let e : impatient ≡ s = cc in subst (λ t. P 0 t) e a)
-  four_places P a b c (suc zero) s is = (let e : patient 1 ≡ s = cc in subst (λ t. P 1 t) e b)
-  four_places P a b c (suc (suc zero)) s is = (let e : forgetful ≡ s = cc in subst (λ t. P 2 t) e c)
-  four_places P a b c (suc (suc (suc zero))) s is = absurd (cc)
-  four_places P a b c (suc (suc (suc (suc k)))) s is = absurd (cc)
+  -- what holds of each honest replica holds of its execution
+  four_replicas : (P : ℕ → Execution ℕ ℕ ℕ → Type 0) → P 0 impatient → P 1 (patient 1) → P 2 (forgetful) → (i : ℕ) (s : Execution ℕ ℕ ℕ) → slice_get four i ≡ Some (Honest s) → P i s
+  four_replicas P a b c zero s is = (let e : impatient ≡ s = cc in subst (λ t. P 0 t) e a)
+  four_replicas P a b c (suc zero) s is = (let e : patient 1 ≡ s = cc in subst (λ t. P 1 t) e b)
+  four_replicas P a b c (suc (suc zero)) s is = (let e : forgetful ≡ s = cc in subst (λ t. P 2 t) e c)
+  four_replicas P a b c (suc (suc (suc zero))) s is = absurd (cc)
+  four_replicas P a b c (suc (suc (suc (suc k)))) s is = absurd (cc)
 
   pub four_network : IsNetworkOf nat_eq leader 5 four
   four_network = record {
     few_faulty = inl (omega arith, omega arith);
-    honest = four_places (λ i s. Ran nat_eq leader 5 i s) impatient_ran (patient_ran 1 patient_told_1) forgetful_ran;
-    backed = λ i s c at h. four_places (λ j t. (d : Subject ℕ) → Contains (deeds_of t) (Accepts d) → FourBack d) (impatient_accepts FourBack notarized_one notarized_two finalized_one) (patient_accepts 1 FourBack notarized_one notarized_two) forgetful_accepts i s at c h;
+    honest = four_replicas (λ i s. IsExecution nat_eq leader 5 i s) impatient_ran (patient_ran 1 patient_told_1) forgetful_ran;
+    backed = λ i s c at h. four_replicas (λ j t. (d : Subject ℕ) → Contains (trace_of t) (Accepts d) → FourBack d) (impatient_accepts FourBack notarized_one notarized_two finalized_one) (patient_accepts 1 FourBack notarized_one notarized_two) forgetful_accepts i s at c h;
   }
 
   -- with two faulty members
@@ -198,17 +198,17 @@ module _ where
   overrun_final : OverrunBack (subject.Finalize one)
   overrun_final = inr (inl ((2, omega arith, refl), inl (tt, inl (tt, tt))))
 
-  overrun_places : (P : ℕ → Story ℕ ℕ ℕ → Type 0) → P 0 impatient → P 1 (patient 1) → (i : ℕ) (s : Story ℕ ℕ ℕ) → slice_get overrun i ≡ Some (Honest s) → P i s
-  overrun_places P a b zero s is = (let e : impatient ≡ s = cc in subst (λ t. P 0 t) e a)
-  overrun_places P a b (suc zero) s is = (let e : patient 1 ≡ s = cc in subst (λ t. P 1 t) e b)
-  overrun_places P a b (suc (suc zero)) s is = absurd (cc)
-  overrun_places P a b (suc (suc (suc zero))) s is = absurd (cc)
-  overrun_places P a b (suc (suc (suc (suc k)))) s is = absurd (cc)
+  overrun_replicas : (P : ℕ → Execution ℕ ℕ ℕ → Type 0) → P 0 impatient → P 1 (patient 1) → (i : ℕ) (s : Execution ℕ ℕ ℕ) → slice_get overrun i ≡ Some (Honest s) → P i s
+  overrun_replicas P a b zero s is = (let e : impatient ≡ s = cc in subst (λ t. P 0 t) e a)
+  overrun_replicas P a b (suc zero) s is = (let e : patient 1 ≡ s = cc in subst (λ t. P 1 t) e b)
+  overrun_replicas P a b (suc (suc zero)) s is = absurd (cc)
+  overrun_replicas P a b (suc (suc (suc zero))) s is = absurd (cc)
+  overrun_replicas P a b (suc (suc (suc (suc k)))) s is = absurd (cc)
 
   pub overrun_network : IsBackedNetwork nat_eq leader 5 overrun
   overrun_network = record {
-    honest = overrun_places (λ i s. Ran nat_eq leader 5 i s) impatient_ran (patient_ran 1 patient_told_1);
-    backed = λ i s c at h. overrun_places (λ j t. (d : Subject ℕ) → Contains (deeds_of t) (Accepts d) → OverrunBack d) (impatient_accepts OverrunBack overrun_one overrun_two overrun_final) (patient_accepts 1 OverrunBack overrun_one overrun_two) i s at c h;
+    honest = overrun_replicas (λ i s. IsExecution nat_eq leader 5 i s) impatient_ran (patient_ran 1 patient_told_1);
+    backed = λ i s c at h. overrun_replicas (λ j t. (d : Subject ℕ) → Contains (trace_of t) (Accepts d) → OverrunBack d) (impatient_accepts OverrunBack overrun_one overrun_two overrun_final) (patient_accepts 1 OverrunBack overrun_one overrun_two) i s at c h;
   }
 
   -- what is known of them
@@ -240,14 +240,14 @@ module _ where
   two_faced_accepts me c (suc (suc (suc (suc (suc k)))), less, same) = omega arith
 
   pub known_accept : AcceptCertified known_of_overrun
-  known_accept zero deeds c at h = (let e : deeds ≡ deeds_of impatient = cc in impatient_accepts KnownBack known_one known_two known_final c (subst (λ ds. Contains ds (Accepts c)) e h))
-  known_accept (suc zero) deeds c at h = (let e : deeds ≡ deeds_of (patient 1) = cc in patient_accepts 1 KnownBack known_one known_two c (subst (λ ds. Contains ds (Accepts c)) e h))
-  known_accept (suc (suc zero)) deeds c at h = (let e : deeds ≡ two_faced 2 = cc in absurd (two_faced_accepts 2 c (subst (λ ds. Contains ds (Accepts c)) e h)))
-  known_accept (suc (suc (suc zero))) deeds c at h = absurd (cc)
-  known_accept (suc (suc (suc (suc k)))) deeds c at h = absurd (cc)
+  known_accept zero trace c at h = (let e : trace ≡ trace_of impatient = cc in impatient_accepts KnownBack known_one known_two known_final c (subst (λ ds. Contains ds (Accepts c)) e h))
+  known_accept (suc zero) trace c at h = (let e : trace ≡ trace_of (patient 1) = cc in patient_accepts 1 KnownBack known_one known_two c (subst (λ ds. Contains ds (Accepts c)) e h))
+  known_accept (suc (suc zero)) trace c at h = (let e : trace ≡ two_faced 2 = cc in absurd (two_faced_accepts 2 c (subst (λ ds. Contains ds (Accepts c)) e h)))
+  known_accept (suc (suc (suc zero))) trace c at h = absurd (cc)
+  known_accept (suc (suc (suc (suc k)))) trace c at h = absurd (cc)
 
   -- the first member finalized view 2 past its vote to nullify view 1, by the finalization of view 1
-  pub misled_by_final : (nearer : HasAcceptedNearer 5 (subject.Nullify (round 1)) (subject.Finalize two) (deeds_of impatient)) × (nearer.third ≡ subject.Finalize one)
+  pub misled_by_final : (nearer : HasAcceptedNearer 5 (subject.Nullify (round 1)) (subject.Finalize two) (trace_of impatient)) × (nearer.third ≡ subject.Finalize one)
   misled_by_final = (
     record {
       third = subject.Finalize one;
@@ -274,7 +274,7 @@ module _ where
   pub five_finalize_three : FiveBack (subject.Finalize (proposal 3 1))
   five_finalize_three = inl ((6, omega arith, refl), inl ((6, omega arith, refl), inl ((6, omega arith, refl), inl (tt, tt))))
 
-  skipping_accepts : (me : ℕ) (c : Subject ℕ) → Contains (deeds_of (skipping me)) (Accepts c) → FiveBack c
+  skipping_accepts : (me : ℕ) (c : Subject ℕ) → Contains (trace_of (skipping me)) (Accepts c) → FiveBack c
   skipping_accepts me c (zero, less, same) = absurd (cc)
   skipping_accepts me c (suc zero, less, same) = (let e : subject.Notarize one ≡ c = cc in subst FiveBack e five_notarize_one)
   skipping_accepts me c (suc (suc zero), less, same) = absurd (cc)
@@ -284,17 +284,17 @@ module _ where
   skipping_accepts me c (suc (suc (suc (suc (suc (suc zero))))), less, same) = absurd (cc)
   skipping_accepts me c (suc (suc (suc (suc (suc (suc (suc k)))))), less, same) = absurd (omega arith)
 
-  five_places : (P : ℕ → Story ℕ ℕ ℕ → Type 0) → P 0 (skipping 0) → P 1 (skipping 1) → P 2 (skipping 2) → (i : ℕ) (s : Story ℕ ℕ ℕ) → slice_get five i ≡ Some (Honest s) → P i s
-  five_places P a b c zero s is = (let e : skipping 0 ≡ s = cc in subst (λ t. P 0 t) e a)
-  five_places P a b c (suc zero) s is = (let e : skipping 1 ≡ s = cc in subst (λ t. P 1 t) e b)
-  five_places P a b c (suc (suc zero)) s is = (let e : skipping 2 ≡ s = cc in subst (λ t. P 2 t) e c)
-  five_places P a b c (suc (suc (suc zero))) s is = absurd (cc)
-  five_places P a b c (suc (suc (suc (suc zero)))) s is = absurd (cc)
-  five_places P a b c (suc (suc (suc (suc (suc k))))) s is = absurd (cc)
+  five_replicas : (P : ℕ → Execution ℕ ℕ ℕ → Type 0) → P 0 (skipping 0) → P 1 (skipping 1) → P 2 (skipping 2) → (i : ℕ) (s : Execution ℕ ℕ ℕ) → slice_get five i ≡ Some (Honest s) → P i s
+  five_replicas P a b c zero s is = (let e : skipping 0 ≡ s = cc in subst (λ t. P 0 t) e a)
+  five_replicas P a b c (suc zero) s is = (let e : skipping 1 ≡ s = cc in subst (λ t. P 1 t) e b)
+  five_replicas P a b c (suc (suc zero)) s is = (let e : skipping 2 ≡ s = cc in subst (λ t. P 2 t) e c)
+  five_replicas P a b c (suc (suc (suc zero))) s is = absurd (cc)
+  five_replicas P a b c (suc (suc (suc (suc zero)))) s is = absurd (cc)
+  five_replicas P a b c (suc (suc (suc (suc (suc k))))) s is = absurd (cc)
 
   pub five_network : IsNetworkOf nat_eq leader 1 five
   five_network = record {
     few_faulty = inr (omega arith);
-    honest = five_places (λ i s. Ran nat_eq leader 1 i s) (skipping_ran 0 skipping_told_0) skipping_ran_1 (skipping_ran 2 skipping_told_2);
-    backed = λ i s c at h. five_places (λ j t. (d : Subject ℕ) → Contains (deeds_of t) (Accepts d) → FiveBack d) (skipping_accepts 0) (skipping_accepts 1) (skipping_accepts 2) i s at c h;
+    honest = five_replicas (λ i s. IsExecution nat_eq leader 1 i s) (skipping_ran 0 skipping_told_0) skipping_ran_1 (skipping_ran 2 skipping_told_2);
+    backed = λ i s c at h. five_replicas (λ j t. (d : Subject ℕ) → Contains (trace_of t) (Accepts d) → FiveBack d) (skipping_accepts 0) (skipping_accepts 1) (skipping_accepts 2) i s at c h;
   }

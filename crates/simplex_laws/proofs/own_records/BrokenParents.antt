@@ -12,11 +12,11 @@ use Rattle.simplex_record.specs.declared.record.error.RecoverError.{RecoverError
 use Rattle.simplex_record.specs.declared.record.error.RecoverError.TheVariants as error
 use Rattle.simplex_record.specs.Check.{first_error, beside_rules, vote_rules, own_rules, recovery_floor_rules, entry_rules, first_broken_after, first_recover_error}
 use Rattle.simplex_record.specs.Recovery.{recover_error}
-use Rattle.simplex_laws.specs.Deeds.{Deed, Accepts}
+use Rattle.simplex_laws.specs.Traces.{TraceEvent, Accepts}
 use Rattle.simplex_laws.specs.Lawful.{IsLawful, HasSigned}
 use Rattle.simplex_laws.specs.Outside.{AcceptedParentAbove}
 use Rattle.simplex_laws.proofs.own_records.BrokenRules.{OfBroken, first_broken, broken_joined, from_either}
-use Rattle.simplex_laws.proofs.records.DeedsShown.{only_one}
+use Rattle.simplex_laws.proofs.records.TracesShown.{only_one}
 use Rattle.simplex_laws.proofs.lists.Splits.{Contains-cons_rest}
 use Rattle.simplex_laws.proofs.agreement.VoteOrder.{voted, earlier}
 
@@ -72,27 +72,27 @@ module _ {D : Type 0} (same : D → D → Bool) (epoch : ℕ) (me : Option ℕ) 
   of_floor (Genesis payload) = tt
   of_floor (Finalized c) = (λ _ is. absurd (cc), (λ _ is. absurd (cc), (λ _ is. absurd (cc), tt)))
 
-module _ {K L D : Type 0} (same : D → D → Bool) (term_length : ℕ) (deeds : List (Deed D)) (lawful : IsLawful term_length deeds) where
+module _ {K L D : Type 0} (same : D → D → Bool) (term_length : ℕ) (trace : List (TraceEvent D)) (lawful : IsLawful term_length trace) where
   -- a vote to notarize names an earlier view, and behind one to finalize stands a notarization
   pub parent_accepted : (x : StateFacts K L D) (floor : FloorFacts D) (now : ℕ) (entries : List (ArtifactFacts D))
-      → ((p : Proposal D) (m : ℕ) → Contains entries (NotarizeVote p m) → HasSigned deeds (subject.Notarize p))
-      → ((p : Proposal D) (m : ℕ) → Contains entries (FinalizeVote p m) → HasSigned deeds (subject.Finalize p))
+      → ((p : Proposal D) (m : ℕ) → Contains entries (NotarizeVote p m) → HasSigned trace (subject.Notarize p))
+      → ((p : Proposal D) (m : ℕ) → Contains entries (FinalizeVote p m) → HasSigned trace (subject.Finalize p))
       → recover_error same x floor now entries ≡ Some error.ParentNotBelow
-      → AcceptedParentAbove deeds
+      → AcceptedParentAbove trace
   unfolding first_recover_error
   parent_accepted x floor now entries notarize_cast finalize_cast is = elim (from_either (first_recover_error same x.settings.epoch x.me floor entries) (if has_late_deadline x now then Some error.TimeOverflow else None) error.ParentNotBelow is) [
     | inr late ↦ absurd (late_elsewhere (has_late_deadline x now) late)
     | inl broken ↦ elim (from_either (first_error (recovery_floor_rules x.settings.epoch floor)) (first_broken_after same x.settings.epoch x.me [] entries) error.ParentNotBelow broken) [
-      | inl in_floor ↦ first_broken (IfParent same x.settings.epoch x.me (AcceptedParentAbove deeds)) (recovery_floor_rules x.settings.epoch floor) error.ParentNotBelow (of_floor same x.settings.epoch x.me (AcceptedParentAbove deeds) floor) in_floor refl
-      | inr in_entries ↦ of_entries same x.settings.epoch x.me (AcceptedParentAbove deeds) [] entries error.ParentNotBelow votes in_entries refl
+      | inl in_floor ↦ first_broken (IfParent same x.settings.epoch x.me (AcceptedParentAbove trace)) (recovery_floor_rules x.settings.epoch floor) error.ParentNotBelow (of_floor same x.settings.epoch x.me (AcceptedParentAbove trace) floor) in_floor refl
+      | inr in_entries ↦ of_entries same x.settings.epoch x.me (AcceptedParentAbove trace) [] entries error.ParentNotBelow votes in_entries refl
     ]
   ]
     where
-      votes : (p : Proposal D) → HasVote entries p → p.round.view ≤ p.parent → AcceptedParentAbove deeds
+      votes : (p : Proposal D) → HasVote entries p → p.round.view ≤ p.parent → AcceptedParentAbove trace
       votes p (m, inl h) above =
-          let signs = voted deeds (subject.Notarize p) (notarize_cast p m h) in
+          let signs = voted trace (subject.Notarize p) (notarize_cast p m h) in
           let below = lawful.parent_before signs.0 p signs.1 in
           absurd (omega arith)
       votes p (m, inr h) above =
-          let signs = voted deeds (subject.Finalize p) (finalize_cast p m h) in
-          (p, earlier deeds signs.0 (subject.Finalize p) (Accepts (subject.Notarize p)) signs.1 (lawful.finalizes_notarized signs.0 p signs.1), above)
+          let signs = voted trace (subject.Finalize p) (finalize_cast p m h) in
+          (p, earlier trace signs.0 (subject.Finalize p) (Accepts (subject.Notarize p)) signs.1 (lawful.finalizes_notarized signs.0 p signs.1), above)

@@ -19,8 +19,8 @@ use Rattle.simplex_member.specs.Calls as calls
 use Rattle.simplex_member.specs.Calls.{CallFacts}
 use Rattle.simplex_record.specs.Check.{first_error, beside_rules, own_rules, recovery_floor_rules, entry_rules, first_broken_after, first_recover_error}
 use Rattle.simplex_record.specs.Entries.{entry_view}
-use Rattle.simplex_member.specs.Made.{after_call}
-use Rattle.simplex_member.specs.Openings.{Openings, context_at}
+use Rattle.simplex_member.specs.CallSemantics.{after_call}
+use Rattle.simplex_member.specs.OutstandingWork.{OutstandingWork, context_at}
 use Rattle.simplex_record.specs.Recovery.{recover_error, after_replaying, after_entry, after_kept_entry, after_entries, recovered_state}
 use Rattle.simplex_member.specs.Runs.{StepFacts, Calls}
 use Rattle.simplex_record.specs.Start.{Setup, new_state}
@@ -30,7 +30,7 @@ use Rattle.simplex_laws.proofs.frames.BuiltProposals.{Brings, AllHeld, event_hel
 use Rattle.simplex_laws.proofs.frames.CallsMake.{call_by_event}
 use Rattle.simplex_laws.proofs.own_records.HighViews.{entry_too_large}
 use Rattle.simplex_laws.proofs.records.NewLives.{first_none}
-use Rattle.simplex_laws.proofs.votes.Openings.{ArePlaced}
+use Rattle.simplex_laws.proofs.votes.OutstandingWork.{ArePlaced}
 use Rattle.simplex_laws.proofs.own_records.SmallViews.{no_fault}
 use Rattle.simplex_record.proofs.Steps.{notarization_by, finalization_by, proposal_by, note_by}
 
@@ -63,7 +63,7 @@ module _ {K D : Type 0} (Q : Proposal D → Type 0) where
 
 -- calls
 
-module _ {K L D : Type 0} (past : List (StepFacts K L D)) (x : StateFacts K L D) (o : Openings K D) (placed : ArePlaced o) where
+module _ {K L D : Type 0} (past : List (StepFacts K L D)) (x : StateFacts K L D) (o : OutstandingWork K D) (placed : ArePlaced o) where
   abbrev now_past : CallFacts D → List (StepFacts K L D)
   now_past call = past ++ Calls call ∷ []
 
@@ -127,7 +127,7 @@ module _ {K L D : Type 0} (past : List (StepFacts K L D)) (x : StateFacts K L D)
   call_brings _ none = (brings_nothing (IsBuilt (now_past _)) refl refl refl refl (λ d other moment says. absurd (cc)), tt)
 
 module _ {K L D : Type 0} (same : D → D → Bool) (decides : (d e : D) → same d e ≡ true → d ≡ e) (elect : Elect L) where
-  pub call_held : (past : List (StepFacts K L D)) (x : StateFacts K L D) (o : Openings K D) (call : CallFacts D) → ArePlaced o → is_allowed x o call ≡ true → fault_of x call ≡ None → AllHeld (IsBuilt past) x → AllHeld (IsBuilt (past ++ Calls call ∷ [])) (after_call same elect x o call)
+  pub call_held : (past : List (StepFacts K L D)) (x : StateFacts K L D) (o : OutstandingWork K D) (call : CallFacts D) → ArePlaced o → is_allowed x o call ≡ true → fault_of x call ≡ None → AllHeld (IsBuilt past) x → AllHeld (IsBuilt (past ++ Calls call ∷ [])) (after_call same elect x o call)
   call_held past x o call placed allowed none all =
       let Q : Proposal D → Type 0 = IsBuilt (past ++ Calls call ∷ []) in
       let before : AllHeld Q x = λ v p is. built_still past (Calls call ∷ []) p (all v p is) in

@@ -15,22 +15,22 @@ use Rattle.simplex_record.specs.declared.record.error.RecoverError.{RecoverError
 use Rattle.simplex_record.specs.declared.record.error.RecoverError.TheVariants as error
 use Rattle.simplex_record.specs.Check.{first_error, beside_rules, own_rules, recovery_floor_rules, entry_rules, first_broken_after, first_recover_error}
 use Rattle.simplex_record.specs.Recovery.{recover_error}
-use Rattle.simplex_laws.specs.Deeds.{Deed, Accepts}
+use Rattle.simplex_laws.specs.Traces.{TraceEvent, Accepts}
 use Rattle.simplex_laws.specs.Lawful.{IsLawful, HasSigned}
 use Rattle.simplex_laws.specs.Outside.{is_floor_too_large}
 use Rattle.simplex_laws.proofs.own_records.BrokenRules.{OfBroken, first_broken, broken_joined, from_either}
 use Rattle.simplex_laws.proofs.own_records.Recorded.{OwnRecord}
-use Rattle.simplex_laws.proofs.records.DeedsShown.{Remembers}
-use Rattle.simplex_laws.proofs.records.EntryDeeds.{subject_of}
+use Rattle.simplex_laws.proofs.records.TracesShown.{Remembers}
+use Rattle.simplex_laws.proofs.records.EntryTraces.{subject_of}
 use Rattle.simplex_laws.proofs.own_records.SmallViews.{subject_too_large, AreSmall}
 use Rattle.simplex_laws.proofs.lists.Splits.{Contains-cons_rest}
 use Rattle.simplex_laws.proofs.agreement.VoteOrder.{voted, earlier, Contains-split}
 
 -- the member voted to nullify or to notarize a view that is too large
-abbrev pub HasHighVote : {D : Type 0} → List (Deed D) → Type 0
-HasHighVote {D} deeds =
-    ((round : Round) × HasSigned deeds (subject.Nullify round) × (2 ^ 63 ≤ round.view))
-    ⊎ ((p : Proposal D) × HasSigned deeds (subject.Notarize p) × (2 ^ 63 ≤ p.round.view))
+abbrev pub HasHighVote : {D : Type 0} → List (TraceEvent D) → Type 0
+HasHighVote {D} trace =
+    ((round : Round) × HasSigned trace (subject.Nullify round) × (2 ^ 63 ≤ round.view))
+    ⊎ ((p : Proposal D) × HasSigned trace (subject.Notarize p) × (2 ^ 63 ≤ p.round.view))
 
 -- an entry names a view that is too large
 abbrev pub entry_too_large : {D : Type 0} → ArtifactFacts D → Bool
@@ -75,8 +75,8 @@ module _ {D : Type 0} (same : D → D → Bool) (epoch : ℕ) (me : Option ℕ) 
   of_floor (Genesis payload) claim = tt
   of_floor (FinalizedFloor c) claim = (λ _ is. absurd (cc), (λ _ is. absurd (cc), (λ broken is. claim broken, tt)))
 
-module _ {D : Type 0} (term_length : ℕ) (deeds : List (Deed D)) (lawful : IsLawful term_length deeds) (small : AreSmall deeds) (kept : ℕ) (entries : List (ArtifactFacts D)) (remembers : Remembers deeds kept entries) (own : OwnRecord deeds entries) where
-  fine : (b : Bool) → b ≡ false → b ≡ true → HasHighVote deeds
+module _ {D : Type 0} (term_length : ℕ) (trace : List (TraceEvent D)) (lawful : IsLawful term_length trace) (small : AreSmall trace) (kept : ℕ) (entries : List (ArtifactFacts D)) (remembers : Remembers trace kept entries) (own : OwnRecord trace entries) where
+  fine : (b : Bool) → b ≡ false → b ≡ true → HasHighVote trace
   fine b kept_small large = absurd (false≢true (sym kept_small ∙ large))
 
   certificate_small : (c : CertificateFacts D) → Contains entries (Accepted c) → subject_too_large (subject_of c) ≡ false
@@ -84,10 +84,10 @@ module _ {D : Type 0} (term_length : ℕ) (deeds : List (Deed D)) (lawful : IsLa
 
   -- what is too large is a vote to nullify or to notarize: a certificate was accepted, behind a verdict and a vote to finalize
   -- stands the notarization
-  too_large_voted : (e : ArtifactFacts D) → Contains entries e → entry_too_large e ≡ true → HasHighVote deeds
+  too_large_voted : (e : ArtifactFacts D) → Contains entries e → entry_too_large e ≡ true → HasHighVote trace
   too_large_voted (NotarizeVote p m) h large =
       let signs = own.notarize_cast p m h in
-      let before = voted deeds (subject.Notarize p) signs in
+      let before = voted trace (subject.Notarize p) signs in
       let below = lawful.parent_before before.0 p before.1 in
       elim (or_cases (is_too_large p.round.view) (is_too_large p.parent) large) [
         | inl view ↦ inr (p, signs, leb-true (2 ^ 63) p.round.view view)
@@ -95,8 +95,8 @@ module _ {D : Type 0} (term_length : ℕ) (deeds : List (Deed D)) (lawful : IsLa
       ]
   too_large_voted (NullifyVote round m) h large = inl (round, remembers.nullify_cast round m h, leb-true (2 ^ 63) round.view large)
   too_large_voted (FinalizeVote p m) h large =
-      let before = voted deeds (subject.Finalize p) (remembers.finalize_cast p m h) in
-      let accepted = earlier deeds before.0 (subject.Finalize p) (Accepts (subject.Notarize p)) before.1 (lawful.finalizes_notarized before.0 p before.1) in
+      let before = voted trace (subject.Finalize p) (remembers.finalize_cast p m h) in
+      let accepted = earlier trace before.0 (subject.Finalize p) (Accepts (subject.Notarize p)) before.1 (lawful.finalizes_notarized before.0 p before.1) in
       fine (names_too_large p) (small (subject.Notarize p) accepted) large
   too_large_voted (Verdict round success) h large =
       let split = Contains-split entries (Verdict round success) h in
@@ -107,12 +107,12 @@ module _ {D : Type 0} (term_length : ℕ) (deeds : List (Deed D)) (lawful : IsLa
       fine (is_too_large round.view) (subst (λ v. is_too_large v ≡ false) c.2 parts.0) large
   too_large_voted (Accepted c) h large = fine (subject_too_large (subject_of c)) (certificate_small c h) large
 
-  pub view_voted : {K L : Type 0} (same : D → D → Bool) (x : StateFacts K L D) (floor : FloorFacts D) (now : ℕ) → recover_error same x floor now entries ≡ Some error.ViewTooLarge → (is_floor_too_large floor ≡ true) ⊎ HasHighVote deeds
+  pub view_voted : {K L : Type 0} (same : D → D → Bool) (x : StateFacts K L D) (floor : FloorFacts D) (now : ℕ) → recover_error same x floor now entries ≡ Some error.ViewTooLarge → (is_floor_too_large floor ≡ true) ⊎ HasHighVote trace
   unfolding first_recover_error
   view_voted same x floor now is = elim (from_either (first_recover_error same x.settings.epoch x.me floor entries) (if has_late_deadline x now then Some error.TimeOverflow else None) error.ViewTooLarge is) [
     | inr late ↦ absurd (late_elsewhere (has_late_deadline x now) late)
     | inl broken ↦ elim (from_either (first_error (recovery_floor_rules x.settings.epoch floor)) (first_broken_after same x.settings.epoch x.me [] entries) error.ViewTooLarge broken) [
-      | inl in_floor ↦ first_broken (IfView same x.settings.epoch x.me ((is_floor_too_large floor ≡ true) ⊎ HasHighVote deeds)) (recovery_floor_rules x.settings.epoch floor) error.ViewTooLarge (of_floor same x.settings.epoch x.me ((is_floor_too_large floor ≡ true) ⊎ HasHighVote deeds) floor (λ large. inl large)) in_floor refl
-      | inr in_entries ↦ of_entries same x.settings.epoch x.me ((is_floor_too_large floor ≡ true) ⊎ HasHighVote deeds) [] entries error.ViewTooLarge (λ e h large. inr (too_large_voted e h large)) in_entries refl
+      | inl in_floor ↦ first_broken (IfView same x.settings.epoch x.me ((is_floor_too_large floor ≡ true) ⊎ HasHighVote trace)) (recovery_floor_rules x.settings.epoch floor) error.ViewTooLarge (of_floor same x.settings.epoch x.me ((is_floor_too_large floor ≡ true) ⊎ HasHighVote trace) floor (λ large. inl large)) in_floor refl
+      | inr in_entries ↦ of_entries same x.settings.epoch x.me ((is_floor_too_large floor ≡ true) ⊎ HasHighVote trace) [] entries error.ViewTooLarge (λ e h large. inr (too_large_voted e h large)) in_entries refl
     ]
   ]

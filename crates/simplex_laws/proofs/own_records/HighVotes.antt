@@ -24,7 +24,7 @@ use Rattle.simplex_member.specs.Runs.{StepFacts, Calls, Prunes, Restarts, restar
 use Rattle.simplex_record.specs.Start.{StartFacts, new_state}
 use Rattle.simplex_member.specs.Pruning.{pruned_member}
 use Rattle.simplex_member.specs.Start.{started_member}
-use Rattle.simplex_laws.specs.Deeds.{Deed, Signs, handed_in, of_floor, signed_in, accepted_by, deeds_of_call, deeds_at, deeds_of_steps}
+use Rattle.simplex_laws.specs.Traces.{TraceEvent, Signs, handed_in, of_floor, signed_in, accepted_by, trace_of_call, trace_at, trace_of_steps}
 use Rattle.simplex_laws.specs.Exactly.{ExactAt, proposal_at}
 use Rattle.simplex_laws.specs.Lawful.{HasSigned}
 use Rattle.simplex_laws.specs.Outside.{VotedTooHigh, is_floor_too_large}
@@ -33,7 +33,7 @@ use Rattle.simplex_laws.proofs.own_records.BuiltHigh.{IsBuilt, built_still, call
 use Rattle.simplex_laws.proofs.frames.BuiltProposals.{AllHeld}
 use Rattle.simplex_laws.proofs.agreement.Exactly.{call_exact}
 use Rattle.simplex_laws.proofs.own_records.Runs.{KeepsRecord, called, pruned, restarted, run_own, start_own, copy_high}
-use Rattle.simplex_laws.proofs.records.DeedsShown.{only_one}
+use Rattle.simplex_laws.proofs.records.TracesShown.{only_one}
 use Rattle.simplex_laws.proofs.records.RunsLawful.{LivesOn}
 use Rattle.simplex_laws.proofs.lists.Signed.{signed_cases}
 use Rattle.simplex_laws.proofs.own_records.SmallViews.{small_both, floor_small, steps_small}
@@ -44,9 +44,9 @@ HoldsBuilt past None = Unit {0}
 HoldsBuilt past (Some x) = AllHeld (IsBuilt past) x
 
 -- and so was what it voted to notarize
-pub record VotesBuilt {K L D : Type 0} (past : List (StepFacts K L D)) (deeds : List (Deed D)) (m : MemberFacts K L D) : Type 0 where
+pub record VotesBuilt {K L D : Type 0} (past : List (StepFacts K L D)) (trace : List (TraceEvent D)) (m : MemberFacts K L D) : Type 0 where
   pub holds : HoldsBuilt past m.life
-  pub voted : (p : Proposal D) → HasSigned deeds (subject.Notarize p) → IsBuilt past p
+  pub voted : (p : Proposal D) → HasSigned trace (subject.Notarize p) → IsBuilt past p
 
 -- what is accepted is no vote
 
@@ -85,7 +85,7 @@ module _ {K L D : Type 0} (same : D → D → Bool) (elect : Elect L) where
   noted_held x _ told i p exact h = absurd (let none = subst (λ ds. Contains ds (Signs i (subject.Notarize p))) exact h in omega (arith, none.1))
 
 module _ {K L D : Type 0} where
-  restart_signs_none : (r : RestartFacts K L D) (result : Result (Unit {0}) RecoverError) (i : ℕ) (vote : Subject D) → Contains (deeds_at (Restarts r) (restart_told {K = K} {D = D} result)) (Signs i vote) → ⊥
+  restart_signs_none : (r : RestartFacts K L D) (result : Result (Unit {0}) RecoverError) (i : ℕ) (vote : Subject D) → Contains (trace_at (Restarts r) (restart_told {K = K} {D = D} result)) (Signs i vote) → ⊥
   restart_signs_none r (Ok done) i vote h = elim (Contains-append_cases (of_floor r.start.floor) [] (Signs i vote) h) [ inl of_start ↦ floor_signs_none r.start.floor i vote of_start | inr none ↦ absurd (omega (arith, none.1)) ]
   restart_signs_none r (Err e) i vote h = absurd (omega (arith, h.1))
 
@@ -93,22 +93,22 @@ module _ {K L D : Type 0} where
   holds_still past more None holds = tt
   holds_still past more (Some x) holds = λ v p is. built_still past more p (holds v p is)
 
-module _ {K L D : Type 0} (same : D → D → Bool) (decides : (d e : D) → same d e ≡ true → d ≡ e) (elect : Elect L) (term_length : ℕ) (past : List (StepFacts K L D)) (deeds : List (Deed D)) (m : MemberFacts K L D) (own : KeepsRecord term_length deeds m) (votes : VotesBuilt past deeds m) where
+module _ {K L D : Type 0} (same : D → D → Bool) (decides : (d e : D) → same d e ≡ true → d ≡ e) (elect : Elect L) (term_length : ℕ) (past : List (StepFacts K L D)) (trace : List (TraceEvent D)) (m : MemberFacts K L D) (own : KeepsRecord term_length trace m) (votes : VotesBuilt past trace m) where
   -- a call
 
   answered : (call : CallFacts D) (x : StateFacts K L D) → m.life ≡ Some x → HoldsBuilt (past ++ Calls call ∷ []) (left_of same elect x m call).life
-  answered call x alive = by_allowed (is_allowed x m.openings call) refl
+  answered call x alive = by_allowed (is_allowed x m.outstanding_work call) refl
     where
       as_before : HoldsBuilt (past ++ Calls call ∷ []) m.life
       as_before = holds_still past (Calls call ∷ []) m.life votes.holds
 
-      by_fault : (f : Option Fault) → fault_of x call ≡ f → is_allowed x m.openings call ≡ true → HoldsBuilt (past ++ Calls call ∷ []) (left_of same elect x m call).life
+      by_fault : (f : Option Fault) → fault_of x call ≡ f → is_allowed x m.outstanding_work call ≡ true → HoldsBuilt (past ++ Calls call ∷ []) (left_of same elect x m call).life
       by_fault (Some f) refused allowed = rw (allowed, refused) as_before
       by_fault None no_fault allowed =
-          let living = subst (λ life. LivesOn term_length deeds m.closed own.lives.0 m.entries m.openings life) alive own.lives.1 in
-          rw (allowed, no_fault) (call_held same decides elect past x m.openings call living.noted.2.contexts_placed allowed no_fault (subst (λ life. HoldsBuilt past life) alive votes.holds))
+          let living = subst (λ life. LivesOn term_length trace m.closed own.lives.0 m.entries m.outstanding_work life) alive own.lives.1 in
+          rw (allowed, no_fault) (call_held same decides elect past x m.outstanding_work call living.noted.2.contexts_placed allowed no_fault (subst (λ life. HoldsBuilt past life) alive votes.holds))
 
-      by_allowed : (b : Bool) → is_allowed x m.openings call ≡ b → HoldsBuilt (past ++ Calls call ∷ []) (left_of same elect x m call).life
+      by_allowed : (b : Bool) → is_allowed x m.outstanding_work call ≡ b → HoldsBuilt (past ++ Calls call ∷ []) (left_of same elect x m call).life
       by_allowed true allowed = by_fault (fault_of x call) refl allowed
       by_allowed false not_allowed = rw not_allowed as_before
 
@@ -126,10 +126,10 @@ module _ {K L D : Type 0} (same : D → D → Bool) (decides : (d e : D) → sam
   new_vote call told i p None holds exact h = absurd (let none = subst (λ ds. Contains ds (Signs i (subject.Notarize p))) exact h in omega (arith, none.1))
   new_vote call told i p (Some x) holds exact h = let found = noted_held same elect x call told i p exact h in holds found.0 p found.1
 
-  pub call_builds : (call : CallFacts D) (told : Told K D) (next : MemberFacts K L D) → IsCall same elect m call told next → VotesBuilt (past ++ Calls call ∷ []) (deeds ++ deeds_of_call call told) next
+  pub call_builds : (call : CallFacts D) (told : Told K D) (next : MemberFacts K L D) → IsCall same elect m call told next → VotesBuilt (past ++ Calls call ∷ []) (trace ++ trace_of_call call told) next
   call_builds call told next is_call = record {
     holds = call_holds call told next is_call;
-    voted = λ p h. built_still past (Calls call ∷ []) p (elim (signed_cases deeds (deeds_of_call call told) (subject.Notarize p) h) [
+    voted = λ p h. built_still past (Calls call ∷ []) p (elim (signed_cases trace (trace_of_call call told) (subject.Notarize p) h) [
       | inl old ↦ votes.voted p old
       | inr new ↦ elim (Contains-append_cases (accepted_by call told) (signed_in told) (Signs new.0 (subject.Notarize p)) new.1) [
         | inl accepted ↦ absurd (accepted_signs_none call told new.0 (subject.Notarize p) accepted)
@@ -158,18 +158,18 @@ module _ {K L D : Type 0} (same : D → D → Bool) (decides : (d e : D) → sam
       by_test true (is, leaves) = rw leaves (holds_still past (Restarts r ∷ []) m.life votes.holds)
       by_test false goes = goes_on_holds (cut_member m r.drop r.prune) next r result goes
 
-  pub restart_builds : (next : MemberFacts K L D) (r : RestartFacts K L D) (result : Result (Unit {0}) RecoverError) → IsRestart same elect m r result next → VotesBuilt (past ++ Restarts r ∷ []) (deeds ++ deeds_at (Restarts r) (restart_told {K = K} {D = D} result)) next
+  pub restart_builds : (next : MemberFacts K L D) (r : RestartFacts K L D) (result : Result (Unit {0}) RecoverError) → IsRestart same elect m r result next → VotesBuilt (past ++ Restarts r ∷ []) (trace ++ trace_at (Restarts r) (restart_told {K = K} {D = D} result)) next
   restart_builds next r result restarts = record {
     holds = restart_holds next r result restarts;
-    voted = λ p h. built_still past (Restarts r ∷ []) p (elim (signed_cases deeds (deeds_at (Restarts r) (restart_told {K = K} {D = D} result)) (subject.Notarize p) h) [
+    voted = λ p h. built_still past (Restarts r ∷ []) p (elim (signed_cases trace (trace_at (Restarts r) (restart_told {K = K} {D = D} result)) (subject.Notarize p) h) [
       | inl old ↦ votes.voted p old
       | inr new ↦ absurd (restart_signs_none r result new.0 (subject.Notarize p) new.1)
     ]);
   }
 
   -- a pruning within the life
-  pub prune_builds : VotesBuilt (past ++ Prunes ∷ []) (deeds ++ []) (pruned_member m)
-  prune_builds = subst (λ all. VotesBuilt (past ++ Prunes ∷ []) all (pruned_member m)) (sym (append-nil deeds)) (record {
+  pub prune_builds : VotesBuilt (past ++ Prunes ∷ []) (trace ++ []) (pruned_member m)
+  prune_builds = subst (λ all. VotesBuilt (past ++ Prunes ∷ []) all (pruned_member m)) (sym (append-nil trace)) (record {
     holds = holds_still past (Prunes ∷ []) m.life votes.holds;
     voted = λ p h. built_still past (Prunes ∷ []) p (votes.voted p h);
   })
@@ -177,33 +177,33 @@ module _ {K L D : Type 0} (same : D → D → Bool) (decides : (d e : D) → sam
 -- a run
 
 module _ {K L D : Type 0} (same : D → D → Bool) (decides : (d e : D) → same d e ≡ true → d ≡ e) (itself : (d : D) → same d d ≡ true) (elect : Elect L) (term_length : ℕ) (some : 0 < term_length) where
-  one_more : (past : List (StepFacts K L D)) (step : StepFacts K L D) (steps : List (StepFacts K L D)) (deeds at rest : List (Deed D)) (end : MemberFacts K L D) → VotesBuilt ((past ++ step ∷ []) ++ steps) ((deeds ++ at) ++ rest) end → VotesBuilt (past ++ step ∷ steps) (deeds ++ (at ++ rest)) end
-  one_more past step steps deeds at rest end votes =
-      subst (λ all. VotesBuilt (past ++ step ∷ steps) all end) (append_assoc deeds at rest)
-      (subst (λ all. VotesBuilt all ((deeds ++ at) ++ rest) end) (append_assoc past (step ∷ []) steps) votes)
+  one_more : (past : List (StepFacts K L D)) (step : StepFacts K L D) (steps : List (StepFacts K L D)) (trace at rest : List (TraceEvent D)) (end : MemberFacts K L D) → VotesBuilt ((past ++ step ∷ []) ++ steps) ((trace ++ at) ++ rest) end → VotesBuilt (past ++ step ∷ steps) (trace ++ (at ++ rest)) end
+  one_more past step steps trace at rest end votes =
+      subst (λ all. VotesBuilt (past ++ step ∷ steps) all end) (append_assoc trace at rest)
+      (subst (λ all. VotesBuilt all ((trace ++ at) ++ rest) end) (append_assoc past (step ∷ []) steps) votes)
 
-  run_builds : (steps : List (StepFacts K L D)) (replies : List (Told K D)) (past : List (StepFacts K L D)) (deeds : List (Deed D)) (m end : MemberFacts K L D) → KeepTerms term_length steps → KeepsRecord term_length deeds m → VotesBuilt past deeds m → IsRun same elect m steps replies end → VotesBuilt (past ++ steps) (deeds ++ deeds_of_steps steps replies) end
-  run_builds [] [] past deeds m end fresh own votes run =
-      subst (λ all. VotesBuilt all (deeds ++ []) end) (sym (append-nil past)) (subst (λ all. VotesBuilt past all end) (sym (append-nil deeds)) (subst (λ n. VotesBuilt past deeds n) run votes))
-  run_builds [] (told ∷ replies) past deeds m end fresh own votes run = absurd run
-  run_builds (step ∷ steps) [] past deeds m end fresh own votes run = absurd run
-  run_builds (Calls call ∷ steps) (told ∷ replies) past deeds m end fresh own votes (next, is_step, rest) =
-      one_more past (Calls call) steps deeds (deeds_at {L = L} (Calls call) told) (deeds_of_steps steps replies) end
-      (run_builds steps replies (past ++ Calls call ∷ []) (deeds ++ deeds_of_call call told) next end fresh
-      (called same decides itself elect term_length some deeds m next call told own is_step)
-      (call_builds same decides elect term_length past deeds m own votes call told next is_step)
+  run_builds : (steps : List (StepFacts K L D)) (replies : List (Told K D)) (past : List (StepFacts K L D)) (trace : List (TraceEvent D)) (m end : MemberFacts K L D) → KeepTerms term_length steps → KeepsRecord term_length trace m → VotesBuilt past trace m → IsRun same elect m steps replies end → VotesBuilt (past ++ steps) (trace ++ trace_of_steps steps replies) end
+  run_builds [] [] past trace m end fresh own votes run =
+      subst (λ all. VotesBuilt all (trace ++ []) end) (sym (append-nil past)) (subst (λ all. VotesBuilt past all end) (sym (append-nil trace)) (subst (λ n. VotesBuilt past trace n) run votes))
+  run_builds [] (told ∷ replies) past trace m end fresh own votes run = absurd run
+  run_builds (step ∷ steps) [] past trace m end fresh own votes run = absurd run
+  run_builds (Calls call ∷ steps) (told ∷ replies) past trace m end fresh own votes (next, is_step, rest) =
+      one_more past (Calls call) steps trace (trace_at {L = L} (Calls call) told) (trace_of_steps steps replies) end
+      (run_builds steps replies (past ++ Calls call ∷ []) (trace ++ trace_of_call call told) next end fresh
+      (called same decides itself elect term_length some trace m next call told own is_step)
+      (call_builds same decides elect term_length past trace m own votes call told next is_step)
       rest)
-  run_builds (Prunes ∷ steps) (told ∷ replies) past deeds m end fresh own votes (next, (tells, leaves), rest) =
-      rw tells (one_more past Prunes steps deeds [] (deeds_of_steps steps replies) end
-      (run_builds steps replies (past ++ Prunes ∷ []) (deeds ++ []) next end fresh
-      (rw leaves (pruned same decides itself elect term_length some deeds m own))
-      (rw leaves (prune_builds same decides elect term_length past deeds m own votes))
+  run_builds (Prunes ∷ steps) (told ∷ replies) past trace m end fresh own votes (next, (tells, leaves), rest) =
+      rw tells (one_more past Prunes steps trace [] (trace_of_steps steps replies) end
+      (run_builds steps replies (past ++ Prunes ∷ []) (trace ++ []) next end fresh
+      (rw leaves (pruned same decides itself elect term_length some trace m own))
+      (rw leaves (prune_builds same decides elect term_length past trace m own votes))
       rest))
-  run_builds (Restarts r ∷ steps) (told ∷ replies) past deeds m end fresh own votes (next, (result, restarts, tells), rest) =
-      one_more past (Restarts r) steps deeds (deeds_at (Restarts r) told) (deeds_of_steps steps replies) end
-      (run_builds steps replies (past ++ Restarts r ∷ []) (deeds ++ deeds_at (Restarts r) told) next end fresh.1
-      (restarted same decides itself elect term_length some deeds m next r told fresh.0 own (result, restarts, tells))
-      (subst (λ reply. VotesBuilt (past ++ Restarts r ∷ []) (deeds ++ deeds_at (Restarts r) reply) next) (sym tells) (restart_builds same decides elect term_length past deeds m own votes next r result restarts))
+  run_builds (Restarts r ∷ steps) (told ∷ replies) past trace m end fresh own votes (next, (result, restarts, tells), rest) =
+      one_more past (Restarts r) steps trace (trace_at (Restarts r) told) (trace_of_steps steps replies) end
+      (run_builds steps replies (past ++ Restarts r ∷ []) (trace ++ trace_at (Restarts r) told) next end fresh.1
+      (restarted same decides itself elect term_length some trace m next r told fresh.0 own (result, restarts, tells))
+      (subst (λ reply. VotesBuilt (past ++ Restarts r ∷ []) (trace ++ trace_at (Restarts r) reply) next) (sym tells) (restart_builds same decides elect term_length past trace m own votes next r result restarts))
       rest)
 
 module _ {K L D : Type 0} (same : D → D → Bool) (decides : (d e : D) → same d e ≡ true → d ≡ e) (itself : (d : D) → same d d ≡ true) (elect : Elect L) (term_length : ℕ) (start : StartFacts K L D) (begins : HasTerms term_length start.setup) (accepted : recover_error same (new_state start.setup) start.floor start.now [] ≡ None) where
@@ -218,15 +218,15 @@ module _ {K L D : Type 0} (same : D → D → Bool) (decides : (d e : D) → sam
 
   -- a copy of a member's own record is refused for a view that is too large only where the next floor names one, or the member
   -- voted in one
-  pub own_high_voted : (steps : List (StepFacts K L D)) (replies : List (Told K D)) (end : MemberFacts K L D) (next : RestartFacts K L D) (copy : List (ArtifactFacts D)) → KeepTerms term_length steps → IsRun same elect (started_member same elect (new_state start.setup) start.floor start.now) steps replies end → IsByView (cut_member end next.drop next.prune).entries copy → recover_error same (new_state next.start.setup) next.start.floor next.start.now copy ≡ Some error.ViewTooLarge → (is_floor_too_large next.start.floor ≡ true) ⊎ VotedTooHigh steps (of_floor start.floor ++ deeds_of_steps steps replies)
+  pub own_high_voted : (steps : List (StepFacts K L D)) (replies : List (Told K D)) (end : MemberFacts K L D) (next : RestartFacts K L D) (copy : List (ArtifactFacts D)) → KeepTerms term_length steps → IsRun same elect (started_member same elect (new_state start.setup) start.floor start.now) steps replies end → IsByView (cut_member end next.drop next.prune).entries copy → recover_error same (new_state next.start.setup) next.start.floor next.start.now copy ≡ Some error.ViewTooLarge → (is_floor_too_large next.start.floor ≡ true) ⊎ VotedTooHigh steps (of_floor start.floor ++ trace_of_steps steps replies)
   own_high_voted steps replies end next copy fresh run by_view is =
       let begun = started_member same elect (new_state start.setup) start.floor start.now in
-      let deeds = of_floor start.floor ++ deeds_of_steps steps replies in
+      let trace = of_floor start.floor ++ trace_of_steps steps replies in
       let first = start_own same decides itself elect term_length start begins in
       let own = run_own same decides itself elect term_length begins.some steps replies (of_floor start.floor) begun end fresh first run in
-      let small = small_both (of_floor start.floor) (deeds_of_steps steps replies) (floor_small same (new_state start.setup) start.floor start.now [] accepted) (steps_small same elect steps replies begun end run) in
+      let small = small_both (of_floor start.floor) (trace_of_steps steps replies) (floor_small same (new_state start.setup) start.floor start.now [] accepted) (steps_small same elect steps replies begun end run) in
       let built = run_builds same decides itself elect term_length begins.some steps replies [] (of_floor start.floor) begun end fresh first start_builds run in
-      elim (copy_high same decides itself elect term_length begins.some deeds end next copy small own by_view is) [
+      elim (copy_high same decides itself elect term_length begins.some trace end next copy small own by_view is) [
         | inl floor ↦ inl floor
         | inr (inl nullified) ↦ inr (inl nullified)
         | inr (inr (p, signed, high)) ↦ inr (inr (p, signed, high, built.voted p signed (le-leb (2 ^ 63) p.round.view high)))

@@ -10,39 +10,39 @@ use Rattle.simplex_types.specs.declared.types.messages.Proposal.{Proposal}
 use Rattle.simplex_types.specs.declared.types.messages.Subject.{Subject}
 use Rattle.simplex_types.specs.declared.types.messages.Subject.TheVariants as subject
 use Rattle.simplex_types.specs.declared.types.numbers.Round.{Round}
-use Rattle.simplex_member.specs.Made.{if_new}
+use Rattle.simplex_member.specs.CallSemantics.{if_new}
 use Rattle.simplex_record.specs.Check.{stands}
 use Rattle.simplex_record.specs.Entries.{entry_view}
 use Rattle.simplex_record.specs.Recovery.{is_finalization, with_floor}
-use Rattle.simplex_laws.specs.Deeds.{Deed}
+use Rattle.simplex_laws.specs.Traces.{TraceEvent}
 use Rattle.simplex_laws.specs.Lawful.{HasSigned, SignsAfter, IsLawful}
 use Rattle.simplex_laws.proofs.lists.Signed.{signed_left}
 use Rattle.simplex_laws.proofs.lists.Filters.{filter_split, filter_middle, Contains-filter, Contains-filtered, filtered_passes}
-use Rattle.simplex_laws.proofs.records.DeedsShown.{Remembers, only_one}
+use Rattle.simplex_laws.proofs.records.TracesShown.{Remembers, only_one}
 use Rattle.simplex_laws.proofs.records.Remembering.{append_split, none_split}
 use Rattle.simplex_laws.proofs.own_records.EntriesFit.{HoldTogether}
 use Rattle.simplex_laws.proofs.agreement.VoteOrder.{Order, Same, First, Second, in_order, Contains-middle}
 
 -- each verdict stands behind a notarization of its view, a view's verdicts agree, and each vote to notarize was cast
-pub record OwnRecord {D : Type 0} (deeds : List (Deed D)) (entries : List (ArtifactFacts D)) : Type 0 where
+pub record OwnRecord {D : Type 0} (trace : List (TraceEvent D)) (entries : List (ArtifactFacts D)) : Type 0 where
   pub notarized : (before after : List (ArtifactFacts D)) (round : Round) (success : Bool) → entries ≡ before ++ Verdict round success ∷ after → (c : ProposalFacts D) × Contains before (Accepted (Notarized c)) × (c.proposal.round.view ≡ round.view)
   pub one_verdict : (round other : Round) (success given : Bool) → Contains entries (Verdict round success) → Contains entries (Verdict other given) → round.view ≡ other.view → success ≡ given
-  pub notarize_cast : (p : Proposal D) (m : ℕ) → Contains entries (NotarizeVote p m) → HasSigned deeds (subject.Notarize p)
+  pub notarize_cast : (p : Proposal D) (m : ℕ) → Contains entries (NotarizeVote p m) → HasSigned trace (subject.Notarize p)
 
 -- two votes of one kind are one, or the later one is for another view
-one_of : {D : Type 0} (deeds : List (Deed D)) (vote : Proposal D → Subject D) (p q : Proposal D) → ((before : List (Deed D)) (r s : Proposal D) → SignsAfter deeds before (vote r) → HasSigned before (vote s) → s.round.view ≡ r.round.view → ⊥) → (vote p ≡ vote q → p ≡ q) → Order deeds (vote p) (vote q) → p.round.view ≡ q.round.view → p ≡ q
-one_of deeds vote p q apart one (Same is) at = one is
-one_of deeds vote p q apart one (First before cast old) at = absurd (apart before q p cast old at)
-one_of deeds vote p q apart one (Second before cast old) at = absurd (apart before p q cast old (sym at))
+one_of : {D : Type 0} (trace : List (TraceEvent D)) (vote : Proposal D → Subject D) (p q : Proposal D) → ((before : List (TraceEvent D)) (r s : Proposal D) → SignsAfter trace before (vote r) → HasSigned before (vote s) → s.round.view ≡ r.round.view → ⊥) → (vote p ≡ vote q → p ≡ q) → Order trace (vote p) (vote q) → p.round.view ≡ q.round.view → p ≡ q
+one_of trace vote p q apart one (Same is) at = one is
+one_of trace vote p q apart one (First before cast old) at = absurd (apart before q p cast old at)
+one_of trace vote p q apart one (Second before cast old) at = absurd (apart before p q cast old (sym at))
 
-module _ {D : Type 0} (term_length : ℕ) (deeds : List (Deed D)) (kept : ℕ) (entries : List (ArtifactFacts D)) where
-  -- such a record of lawful deeds holds together
-  pub own_together : IsLawful term_length deeds → Remembers deeds kept entries → OwnRecord deeds entries → HoldTogether entries
+module _ {D : Type 0} (term_length : ℕ) (trace : List (TraceEvent D)) (kept : ℕ) (entries : List (ArtifactFacts D)) where
+  -- such a record of a lawful trace holds together
+  pub own_together : IsLawful term_length trace → Remembers trace kept entries → OwnRecord trace entries → HoldTogether entries
   own_together lawful remembers own = record {
     notarized = own.notarized;
     one_verdict = own.one_verdict;
-    one_notarize = λ p q m n there here. one_of deeds subject.Notarize p q lawful.one_notarize (λ is. cc) (in_order deeds (subject.Notarize p) (subject.Notarize q) (own.notarize_cast p m there) (own.notarize_cast q n here));
-    one_finalize = λ p q m n there here. one_of deeds subject.Finalize p q lawful.one_finalize (λ is. cc) (in_order deeds (subject.Finalize p) (subject.Finalize q) (remembers.finalize_cast p m there) (remembers.finalize_cast q n here));
+    one_notarize = λ p q m n there here. one_of trace subject.Notarize p q lawful.one_notarize (λ is. cc) (in_order trace (subject.Notarize p) (subject.Notarize q) (own.notarize_cast p m there) (own.notarize_cast q n here));
+    one_finalize = λ p q m n there here. one_of trace subject.Finalize p q lawful.one_finalize (λ is. cc) (in_order trace (subject.Finalize p) (subject.Finalize q) (remembers.finalize_cast p m there) (remembers.finalize_cast q n here));
     not_both = λ round p m n there here. lawful.not_both round p (remembers.nullify_cast round m there) (remembers.finalize_cast p n here);
     judged = remembers.judged;
   }
@@ -94,11 +94,11 @@ own_nothing = record {
   notarize_cast = λ p m h. absurd (omega (arith, h.1));
 }
 
-module _ {D : Type 0} (deeds : List (Deed D)) (entries : List (ArtifactFacts D)) (own : OwnRecord deeds entries) where
+module _ {D : Type 0} (trace : List (TraceEvent D)) (entries : List (ArtifactFacts D)) (own : OwnRecord trace entries) where
   -- growth
 
   -- no verdict, and votes to notarize that were cast
-  pub own_silent : (more : List (Deed D)) (new : List (ArtifactFacts D)) → HasNoVerdict new → ((p : Proposal D) (m : ℕ) → Contains new (NotarizeVote p m) → HasSigned (deeds ++ more) (subject.Notarize p)) → OwnRecord (deeds ++ more) (entries ++ new)
+  pub own_silent : (more : List (TraceEvent D)) (new : List (ArtifactFacts D)) → HasNoVerdict new → ((p : Proposal D) (m : ℕ) → Contains new (NotarizeVote p m) → HasSigned (trace ++ more) (subject.Notarize p)) → OwnRecord (trace ++ more) (entries ++ new)
   own_silent more new silent cast = record {
     notarized = λ before after round success split. elim (append_split entries new before after (Verdict round success) split) [
       | inl old ↦ own.notarized before old.0 round success old.1
@@ -106,7 +106,7 @@ module _ {D : Type 0} (deeds : List (Deed D)) (entries : List (ArtifactFacts D))
     ];
     one_verdict = λ round other success given h k. own.one_verdict round other success given (old_verdict round success h) (old_verdict other given k);
     notarize_cast = λ p m h. elim (Contains-append_cases entries new (NotarizeVote p m) h) [
-      | inl old ↦ signed_left deeds more (subject.Notarize p) (own.notarize_cast p m old)
+      | inl old ↦ signed_left trace more (subject.Notarize p) (own.notarize_cast p m old)
       | inr late ↦ cast p m late
     ];
   }
@@ -117,11 +117,11 @@ module _ {D : Type 0} (deeds : List (Deed D)) (entries : List (ArtifactFacts D))
         | inr late ↦ absurd (silent round success late)
       ]
 
-  pub own_quiet : (more : List (Deed D)) (new : List (ArtifactFacts D)) → AreQuiet new → OwnRecord (deeds ++ more) (entries ++ new)
+  pub own_quiet : (more : List (TraceEvent D)) (new : List (ArtifactFacts D)) → AreQuiet new → OwnRecord (trace ++ more) (entries ++ new)
   own_quiet more new quiet = own_silent more new (no_verdict new quiet) (λ p m h. absurd (none_weighed new (NotarizeVote p m) quiet refl h))
 
   -- a verdict of a view that has its notarization, and no other verdict
-  pub own_verdict : (more : List (Deed D)) (round : Round) (success : Bool) → (c : ProposalFacts D) × Contains entries (Accepted (Notarized c)) × (c.proposal.round.view ≡ round.view) → ((other : Round) (given : Bool) → Contains entries (Verdict other given) → other.view ≡ round.view → given ≡ success) → OwnRecord (deeds ++ more) (entries ++ Verdict round success ∷ [])
+  pub own_verdict : (more : List (TraceEvent D)) (round : Round) (success : Bool) → (c : ProposalFacts D) × Contains entries (Accepted (Notarized c)) × (c.proposal.round.view ≡ round.view) → ((other : Round) (given : Bool) → Contains entries (Verdict other given) → other.view ≡ round.view → given ≡ success) → OwnRecord (trace ++ more) (entries ++ Verdict round success ∷ [])
   own_verdict more round success notarization agree = record {
     notarized = λ before after other given split. elim (append_split entries new before after (Verdict other given) split) [
       | inl old ↦ own.notarized before old.0 other given old.1
@@ -141,7 +141,7 @@ module _ {D : Type 0} (deeds : List (Deed D)) (entries : List (ArtifactFacts D))
       ]
     ];
     notarize_cast = λ p m h. elim (Contains-append_cases entries new (NotarizeVote p m) h) [
-      | inl old ↦ signed_left deeds more (subject.Notarize p) (own.notarize_cast p m old)
+      | inl old ↦ signed_left trace more (subject.Notarize p) (own.notarize_cast p m old)
       | inr late ↦ absurd (let e = only_one (Verdict round success) (NotarizeVote p m) late in cc)
     ];
   }
@@ -156,19 +156,19 @@ module _ {D : Type 0} (deeds : List (Deed D)) (entries : List (ArtifactFacts D))
       one other given h = let e : Verdict round success ≡ verdict other given = only_one (verdict round success) (verdict other given) h in (cc, cc)
 
   -- with the floor's finalization
-  pub own_floor : (more : List (Deed D)) (floor : FloorFacts D) → OwnRecord (deeds ++ more) (with_floor entries floor)
+  pub own_floor : (more : List (TraceEvent D)) (floor : FloorFacts D) → OwnRecord (trace ++ more) (with_floor entries floor)
   own_floor more (Genesis payload) = wider
     where
-      wider : OwnRecord (deeds ++ more) entries
-      wider = record { notarized = own.notarized; one_verdict = own.one_verdict; notarize_cast = λ p m h. signed_left deeds more (subject.Notarize p) (own.notarize_cast p m h) }
+      wider : OwnRecord (trace ++ more) entries
+      wider = record { notarized = own.notarized; one_verdict = own.one_verdict; notarize_cast = λ p m h. signed_left trace more (subject.Notarize p) (own.notarize_cast p m h) }
   own_floor more (FinalizedFloor c) = by_record (stands c.proposal.round.view is_finalization entries) refl
     where
-      by_record : (b : Bool) → stands c.proposal.round.view is_finalization entries ≡ b → OwnRecord (deeds ++ more) (with_floor entries (FinalizedFloor c))
-      by_record true is = rw is (record { notarized = own.notarized; one_verdict = own.one_verdict; notarize_cast = λ p m h. signed_left deeds more (subject.Notarize p) (own.notarize_cast p m h) })
+      by_record : (b : Bool) → stands c.proposal.round.view is_finalization entries ≡ b → OwnRecord (trace ++ more) (with_floor entries (FinalizedFloor c))
+      by_record true is = rw is (record { notarized = own.notarized; one_verdict = own.one_verdict; notarize_cast = λ p m h. signed_left trace more (subject.Notarize p) (own.notarize_cast p m h) })
       by_record false is = rw is (own_quiet more (Accepted (Finalized c) ∷ []) (quiet_one (Accepted (Finalized c)) refl))
 
   -- without last entries
-  pub own_left : (left tail : List (ArtifactFacts D)) → entries ≡ left ++ tail → OwnRecord deeds left
+  pub own_left : (left tail : List (ArtifactFacts D)) → entries ≡ left ++ tail → OwnRecord trace left
   own_left left tail split = record {
     notarized = λ before after round success is. own.notarized before (after ++ tail) round success (split ∙ (ap (λ es. es ++ tail) is ∙ append_assoc before (Verdict round success ∷ after) tail));
     one_verdict = λ round other success given h k. own.one_verdict round other success given (there (Verdict round success) h) (there (Verdict other given) k);
@@ -179,7 +179,7 @@ module _ {D : Type 0} (deeds : List (Deed D)) (entries : List (ArtifactFacts D))
       there e h = subst (λ es. Contains es e) (sym split) (Contains-append_left left tail e h)
 
   -- without the entries of some views
-  pub own_bounded : (stays : ℕ → Bool) → OwnRecord deeds (filter (λ e. stays (entry_view e)) entries)
+  pub own_bounded : (stays : ℕ → Bool) → OwnRecord trace (filter (λ e. stays (entry_view e)) entries)
   own_bounded stays = record {
     notarized = λ before after round success split.
         (let whole = filter_split test entries before after (Verdict round success) split in
@@ -196,7 +196,7 @@ module _ {D : Type 0} (deeds : List (Deed D)) (entries : List (ArtifactFacts D))
       test e = stays (entry_view e)
 
   -- a copy with the entries of each view in their order
-  pub own_copy : (copy : List (ArtifactFacts D)) → ((v : ℕ) → filter (λ e. entry_view e == v) copy ≡ filter (λ e. entry_view e == v) entries) → OwnRecord deeds copy
+  pub own_copy : (copy : List (ArtifactFacts D)) → ((v : ℕ) → filter (λ e. entry_view e == v) copy ≡ filter (λ e. entry_view e == v) entries) → OwnRecord trace copy
   own_copy copy of_each_view = record {
     notarized = λ before after round success split.
         (let v = round.view in

@@ -17,13 +17,13 @@ use Rattle.simplex_voter.specs.Acceptance.{after_add_notarization, after_add_nul
 use Rattle.simplex_record.specs.Entries.{entry_view}
 use Rattle.simplex_record.specs.Recovery.{after_replaying, after_entry, after_kept_entry, after_entries, recovered_state}
 use Rattle.simplex_laws.proofs.lists.Filters.{Contains-filter, Contains-filtered, filtered_passes}
-use Rattle.simplex_laws.proofs.records.DeedsShown.{only_one}
+use Rattle.simplex_laws.proofs.records.TracesShown.{only_one}
 use Rattle.simplex_laws.proofs.own_records.Recorded.{HasNoVerdict}
 use Rattle.simplex_laws.proofs.lists.Splits.{Contains-cons_rest}
 use Rattle.simplex_laws.proofs.own_records.EntriesFit.{Rises, rises_from}
 use Rattle.simplex_laws.specs.Events as event
 use Rattle.simplex_laws.specs.Events.{Event, IsEvent, after_event}
-use Rattle.simplex_laws.specs.Sums.{finalized_by_event}
+use Rattle.simplex_laws.specs.HistoryFolds.{finalized_by_event}
 use Rattle.simplex_record.proofs.Rounds.{round_put}
 use Rattle.simplex_laws.proofs.frames.Rising.{event_goes, event_finalizes}
 use Rattle.simplex_record.proofs.Steps.{notarization_by, verdict_by}

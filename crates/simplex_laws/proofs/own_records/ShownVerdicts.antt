@@ -18,11 +18,11 @@ use Rattle.simplex_voter.specs.Votes.{nullify_answer, finalize_answer}
 use Rattle.simplex_voter.proofs.Gaps.{and_parts, not_true}
 use Rattle.simplex_member.specs.Calls.{CallFacts, AddNotarization, AddNullification, AddFinalization, Certified, ConstructNullify, ConstructFinalize, BroadcastNotarization, BroadcastNullification, BroadcastFinalization, GetBestCertificate, Prune}
 use Rattle.simplex_member.specs.Allowed.{is_allowed}
-use Rattle.simplex_member.specs.Made.{nullify_vote, finalize_vote, if_new, unrepeated_vote, vote_entry, answer, after_call, recorded_by}
-use Rattle.simplex_member.specs.Openings.{Openings}
-use Rattle.simplex_laws.specs.Deeds.{Deed, deeds_of_call}
+use Rattle.simplex_member.specs.CallSemantics.{nullify_vote, finalize_vote, if_new, unrepeated_vote, vote_entry, answer, after_call, recorded_by}
+use Rattle.simplex_member.specs.OutstandingWork.{OutstandingWork}
+use Rattle.simplex_laws.specs.Traces.{TraceEvent, trace_of_call}
 use Rattle.simplex_laws.proofs.own_records.Recorded.{OwnRecord, AreQuiet, quiet_none, quiet_newly, HasNoVerdict, no_verdict, own_quiet, own_verdict}
-use Rattle.simplex_laws.proofs.records.DeedsShown.{only_one}
+use Rattle.simplex_laws.proofs.records.TracesShown.{only_one}
 use Rattle.simplex_laws.proofs.frames.CallsOnWork.{is_work}
 use Rattle.simplex_laws.specs.Events as event
 use Rattle.simplex_laws.specs.Events.{Event, IsEvent, after_event}
@@ -58,34 +58,34 @@ module _ {K L D : Type 0} (x : StateFacts K L D) (v : ℕ) (success : Bool) wher
       by_round (Some r) none = absurd (false≢true (sym none))
 
 -- the record's verdicts stay in order, and the state shows them
-pub record Tells {K L D : Type 0} (deeds : List (Deed D)) (entries : List (ArtifactFacts D)) (x : StateFacts K L D) : Type 0 where
-  pub own : OwnRecord deeds entries
+pub record Tells {K L D : Type 0} (trace : List (TraceEvent D)) (entries : List (ArtifactFacts D)) (x : StateFacts K L D) : Type 0 where
+  pub own : OwnRecord trace entries
   pub shows : Shows entries x
 
-module _ {K L D : Type 0} (same : D → D → Bool) (elect : Elect L) (deeds : List (Deed D)) (entries : List (ArtifactFacts D)) (x : StateFacts K L D) (tells : Tells deeds entries x) where
+module _ {K L D : Type 0} (same : D → D → Bool) (elect : Elect L) (trace : List (TraceEvent D)) (entries : List (ArtifactFacts D)) (x : StateFacts K L D) (tells : Tells trace entries x) where
   -- an event that brings neither notarization nor verdict, where none is recorded
   pub quiet_shows : (new : List (ArtifactFacts D)) (e : Event K D) → IsEvent x e → notarization_by e ≡ None → verdict_by e ≡ None → HasNoVerdict new → Shows (entries ++ new) (after_event same elect x e)
   quiet_shows new e takes no_notarization no_judgement silent =
       event_shows same elect x e (λ v token is. takes) entries (entries ++ new) (λ c is. absurd (cc)) (λ round given success h is. absurd (cc)) (λ a h. Contains-append_left entries new a h) (λ c is none. absurd (cc))
       (λ round success h. elim (Contains-append_cases entries new (Verdict round success) h) [ inl old ↦ inl old | inr late ↦ absurd (silent round success late) ]) tells.shows
 
-  pub quiet_told : (more : List (Deed D)) (new : List (ArtifactFacts D)) (e : Event K D) → IsEvent x e → notarization_by e ≡ None → verdict_by e ≡ None → AreQuiet new → Tells (deeds ++ more) (entries ++ new) (after_event same elect x e)
-  quiet_told more new e takes no_notarization no_judgement quiet = record { own = own_quiet deeds entries tells.own more new quiet; shows = quiet_shows new e takes no_notarization no_judgement (no_verdict new quiet) }
+  pub quiet_told : (more : List (TraceEvent D)) (new : List (ArtifactFacts D)) (e : Event K D) → IsEvent x e → notarization_by e ≡ None → verdict_by e ≡ None → AreQuiet new → Tells (trace ++ more) (entries ++ new) (after_event same elect x e)
+  quiet_told more new e takes no_notarization no_judgement quiet = record { own = own_quiet trace entries tells.own more new quiet; shows = quiet_shows new e takes no_notarization no_judgement (no_verdict new quiet) }
 
-  notarization_told : (more : List (Deed D)) (c : ProposalFacts D) → takes_proposal_certificate x c ≡ true → Tells (deeds ++ more) (entries ++ if_new (notarization_added same elect x c).0 (Accepted (Notarized c))) (after_add_notarization same elect x c)
+  notarization_told : (more : List (TraceEvent D)) (c : ProposalFacts D) → takes_proposal_certificate x c ≡ true → Tells (trace ++ more) (entries ++ if_new (notarization_added same elect x c).0 (Accepted (Notarized c))) (after_add_notarization same elect x c)
   notarization_told more c takes =
       let is_new = (notarization_added same elect x c).0 in
       let entry : ArtifactFacts D = Accepted (Notarized c) in
       let e : Event K D = event.AddNotarization c in
       let quiet = quiet_newly is_new entry refl in
       record {
-        own = own_quiet deeds entries tells.own more (if_new is_new entry) quiet;
+        own = own_quiet trace entries tells.own more (if_new is_new entry) quiet;
         shows = event_shows same elect x e (λ v token is. takes) entries (entries ++ if_new is_new entry) (brings_kept x e takes refl).notarization (λ round given success h is. absurd (cc)) (λ a h. Contains-append_left entries (if_new is_new entry) a h)
             (λ d is none. (let alike : c ≡ d = cc in subst (λ (f : ProposalFacts D). Contains (entries ++ if_new is_new entry) (Accepted (Notarized f))) alike (let here : is_some (round_of x c.proposal.round.view).notarization ≡ false = subst (λ (f : ProposalFacts D). is_some (round_of x f.proposal.round.view).notarization ≡ false) (sym alike) none in rw here (Contains-append_right entries (entry ∷ []) entry (0, omega arith, refl)))))
             (λ round success h. elim (Contains-append_cases entries (if_new is_new entry) (Verdict round success) h) [ inl old ↦ inl old | inr late ↦ absurd (no_verdict (if_new is_new entry) quiet round success late) ]) tells.shows;
       }
 
-  verdict_told : (more : List (Deed D)) (v : ℕ) (success : Bool) (now : ℕ) → takes_verdict x v success ≡ true → Tells (deeds ++ more) (entries ++ if_new (is_first_verdict x v) (Verdict (round_number x v) success)) (after_certified elect x v success now)
+  verdict_told : (more : List (TraceEvent D)) (v : ℕ) (success : Bool) (now : ℕ) → takes_verdict x v success ≡ true → Tells (trace ++ more) (entries ++ if_new (is_first_verdict x v) (Verdict (round_number x v) success)) (after_certified elect x v success now)
   verdict_told more v success now takes = by_tracked (is_tracked x v) refl
     where
       entry : ArtifactFacts D
@@ -117,19 +117,19 @@ module _ {K L D : Type 0} (same : D → D → Bool) (elect : Elect L) (deeds : L
                 (subst (λ b. is_judged b (round_of (after_certified elect x v success now) v).certification ≡ true) one.1 (verdict_stands same elect x v success now tracked)))
           ]) tells.shows
 
-      by_first : is_tracked x v ≡ true → (b : Bool) → Tells (deeds ++ more) (entries ++ if_new b entry) (after_certified elect x v success now)
-      by_first tracked false = record { own = own_quiet deeds entries tells.own more [] quiet_none; shows = shown tracked [] (λ round given h. absurd (omega (arith, h.1))) }
+      by_first : is_tracked x v ≡ true → (b : Bool) → Tells (trace ++ more) (entries ++ if_new b entry) (after_certified elect x v success now)
+      by_first tracked false = record { own = own_quiet trace entries tells.own more [] quiet_none; shows = shown tracked [] (λ round given h. absurd (omega (arith, h.1))) }
       by_first tracked true =
           let c = tells.shows.notarized v (taken_beside x v success tracked takes).0 in
-          record { own = own_verdict deeds entries tells.own more (round_number x v) success c (agree tracked); shows = shown tracked (entry ∷ []) same_verdict_as }
+          record { own = own_verdict trace entries tells.own more (round_number x v) success c (agree tracked); shows = shown tracked (entry ∷ []) same_verdict_as }
 
-      by_tracked : (b : Bool) → is_tracked x v ≡ b → Tells (deeds ++ more) (entries ++ if_new (is_first_verdict x v) entry) (after_certified elect x v success now)
+      by_tracked : (b : Bool) → is_tracked x v ≡ b → Tells (trace ++ more) (entries ++ if_new (is_first_verdict x v) entry) (after_certified elect x v success now)
       by_tracked true tracked = by_first tracked (is_first_verdict x v)
       by_tracked false untracked =
           let later = untracked_later x v success untracked in
-          rw (later, untracked) (record { own = own_quiet deeds entries tells.own more [] quiet_none; shows = shows_more entries [] (at_moment x now) (no_verdict [] quiet_none) (record { notarized = tells.shows.notarized; judged = tells.shows.judged }) })
+          rw (later, untracked) (record { own = own_quiet trace entries tells.own more [] quiet_none; shows = shows_more entries [] (at_moment x now) (no_verdict [] quiet_none) (record { notarized = tells.shows.notarized; judged = tells.shows.judged }) })
 
-module _ {K L D : Type 0} (same : D → D → Bool) (elect : Elect L) (deeds : List (Deed D)) (entries : List (ArtifactFacts D)) (x : StateFacts K L D) (tells : Tells deeds entries x) where
+module _ {K L D : Type 0} (same : D → D → Bool) (elect : Elect L) (trace : List (TraceEvent D)) (entries : List (ArtifactFacts D)) (x : StateFacts K L D) (tells : Tells trace entries x) where
   quiet_nullify : (v : ℕ) → AreQuiet (unrepeated_vote (nullify_vote x v))
   quiet_nullify v = by_key x.me (nullify_answer x v)
     where
@@ -147,20 +147,20 @@ module _ {K L D : Type 0} (same : D → D → Bool) (elect : Elect L) (deeds : L
       by_key (Some m) None = quiet_none
       by_key (Some m) (Some p) = quiet_newly true (FinalizeVote p m) refl
 
-  told : (more : List (Deed D)) (new : List (ArtifactFacts D)) (e : Event K D) → IsEvent x e → notarization_by e ≡ None → verdict_by e ≡ None → AreQuiet new → Tells (deeds ++ more) (entries ++ new) (after_event same elect x e)
-  told = quiet_told same elect deeds entries x tells
+  told : (more : List (TraceEvent D)) (new : List (ArtifactFacts D)) (e : Event K D) → IsEvent x e → notarization_by e ≡ None → verdict_by e ≡ None → AreQuiet new → Tells (trace ++ more) (entries ++ new) (after_event same elect x e)
+  told = quiet_told same elect trace entries x tells
 
   -- each call that is allowed and not refused, and not on the work of a view
-  pub plain_told : (o : Openings K D) (call : CallFacts D) → is_work call ≡ false → is_allowed x o call ≡ true → Tells (deeds ++ deeds_of_call call (answer same elect x o call)) (entries ++ recorded_by same elect x call) (after_call same elect x o call)
-  plain_told o (AddNotarization c) plain allowed = notarization_told same elect deeds entries x tells _ c allowed
+  pub plain_told : (o : OutstandingWork K D) (call : CallFacts D) → is_work call ≡ false → is_allowed x o call ≡ true → Tells (trace ++ trace_of_call call (answer same elect x o call)) (entries ++ recorded_by same elect x call) (after_call same elect x o call)
+  plain_told o (AddNotarization c) plain allowed = notarization_told same elect trace entries x tells _ c allowed
   plain_told o (AddNullification c now) plain allowed = told _ _ (event.AddNullification c now) allowed refl refl (quiet_newly (nullification_added x c) (Accepted (Nullified c)) refl)
   plain_told o (AddFinalization c now) plain allowed = told _ _ (event.AddFinalization c now) allowed refl refl (quiet_newly (finalization_added same elect x c).0 (Accepted (Finalized c)) refl)
-  plain_told o (Certified v success now) plain allowed = verdict_told same elect deeds entries x tells _ v success now allowed
+  plain_told o (Certified v success now) plain allowed = verdict_told same elect trace entries x tells _ v success now allowed
   plain_told o (ConstructNullify v) plain allowed = told _ _ (event.ConstructNullify v) tt refl refl (quiet_nullify v)
   plain_told o (ConstructFinalize v) plain allowed = told _ _ (event.ConstructFinalize v) tt refl refl (quiet_finalize v)
   plain_told o (BroadcastNotarization v) plain allowed = told _ [] (event.BroadcastNotarization v) tt refl refl quiet_none
   plain_told o (BroadcastNullification v) plain allowed = told _ [] (event.BroadcastNullification v) tt refl refl quiet_none
   plain_told o (BroadcastFinalization v) plain allowed = told _ [] (event.BroadcastFinalization v) tt refl refl quiet_none
-  plain_told o GetBestCertificate plain allowed = record { own = own_quiet deeds entries tells.own [] [] quiet_none; shows = shows_more entries [] x (no_verdict [] quiet_none) tells.shows }
+  plain_told o GetBestCertificate plain allowed = record { own = own_quiet trace entries tells.own [] [] quiet_none; shows = shows_more entries [] x (no_verdict [] quiet_none) tells.shows }
   plain_told o Prune plain allowed = told _ [] event.Prune tt refl refl quiet_none
   plain_told o _ plain allowed = absurd (true≢false plain)

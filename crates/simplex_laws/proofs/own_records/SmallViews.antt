@@ -17,14 +17,14 @@ use Rattle.simplex_member.specs.Calls as calls
 use Rattle.simplex_member.specs.Calls.{CallFacts, AddNotarization, AddNullification, AddFinalization, Told, Added, AddedNullification, Nullify, Finalize, Notarize}
 use Rattle.simplex_record.specs.Check.{first_error, recovery_floor_rules, first_broken_after, first_recover_error}
 use Rattle.simplex_member.specs.Lives.{MemberFacts, IsCall, AnswersAlive, reply_of, unless_refused, without_life}
-use Rattle.simplex_member.specs.Made.{answer}
+use Rattle.simplex_member.specs.CallSemantics.{answer}
 use Rattle.simplex_record.specs.Recovery.{recover_error}
 use Rattle.simplex_member.specs.Restarts.{RestartFacts, cut_member, new_life, retention_grows, GoesOn, IsRestart, IsRestartWhere}
 use Rattle.simplex_member.specs.Runs.{StepFacts, Calls, Prunes, Restarts, restart_told, IsRun}
 use Rattle.simplex_record.specs.Start.{new_state}
-use Rattle.simplex_laws.specs.Deeds.{Deed, Accepts, handed_in, of_floor, of_vote, signed_in, accepted_by, deeds_of_call, deeds_at, deeds_of_steps}
+use Rattle.simplex_laws.specs.Traces.{TraceEvent, Accepts, handed_in, of_floor, of_vote, signed_in, accepted_by, trace_of_call, trace_at, trace_of_steps}
 use Rattle.simplex_laws.proofs.records.NewLives.{first_none}
-use Rattle.simplex_laws.proofs.records.DeedsShown.{only_one}
+use Rattle.simplex_laws.proofs.records.TracesShown.{only_one}
 
 -- a certificate names a view that is too large
 abbrev pub subject_too_large : {D : Type 0} → Subject D → Bool
@@ -33,8 +33,8 @@ subject_too_large (subject.Nullify round) = is_too_large round.view
 subject_too_large (subject.Finalize p) = names_too_large p
 
 -- no certificate that was accepted does
-abbrev pub AreSmall : {D : Type 0} → List (Deed D) → Type 0
-AreSmall {D} deeds = (c : Subject D) → Contains deeds (Accepts c) → subject_too_large c ≡ false
+abbrev pub AreSmall : {D : Type 0} → List (TraceEvent D) → Type 0
+AreSmall {D} trace = (c : Subject D) → Contains trace (Accepts c) → subject_too_large c ≡ false
 
 module _ {D : Type 0} where
   small_none : AreSmall {D = D} []
@@ -46,8 +46,8 @@ module _ {D : Type 0} where
       let same : certificate ≡ c = cc in
       subst (λ d. subject_too_large d ≡ false) same small
 
-  pub small_both : (deeds more : List (Deed D)) → AreSmall deeds → AreSmall more → AreSmall (deeds ++ more)
-  small_both deeds more small also c h = elim (Contains-append_cases deeds more (Accepts c) h) [ inl old ↦ small c old | inr new ↦ also c new ]
+  pub small_both : (trace more : List (TraceEvent D)) → AreSmall trace → AreSmall more → AreSmall (trace ++ more)
+  small_both trace more small also c h = elim (Contains-append_cases trace more (Accepts c) h) [ inl old ↦ small c old | inr new ↦ also c new ]
 
   vote_accepts_none : (e : ArtifactFacts D) → AreSmall (of_vote e)
   vote_accepts_none (NotarizeVote p m) c h = (let is = only_one _ (Accepts c) h in absurd (cc))
@@ -104,53 +104,53 @@ module _ {K D : Type 0} where
   signed_small _ = small_none
 
 module _ {K L D : Type 0} (same : D → D → Bool) (elect : Elect L) where
-  replied_small : (x : StateFacts K L D) (m : MemberFacts K L D) (call : CallFacts D) → AreSmall (deeds_of_call call (reply_of same elect x m.openings call))
-  replied_small x m call = by_allowed (is_allowed x m.openings call) (fault_of x call) refl
+  replied_small : (x : StateFacts K L D) (m : MemberFacts K L D) (call : CallFacts D) → AreSmall (trace_of_call call (reply_of same elect x m.outstanding_work call))
+  replied_small x m call = by_allowed (is_allowed x m.outstanding_work call) (fault_of x call) refl
     where
-      by_allowed : (b : Bool) (f : Option Fault) → fault_of x call ≡ f → AreSmall (deeds_of_call call (if b then unless_refused f (answer same elect x m.openings call) else calls.NotAllowed))
+      by_allowed : (b : Bool) (f : Option Fault) → fault_of x call ≡ f → AreSmall (trace_of_call call (if b then unless_refused f (answer same elect x m.outstanding_work call) else calls.NotAllowed))
       by_allowed false f is = small_none
       by_allowed true (Some f) is = small_none
       by_allowed true None is =
-          let told = answer same elect x m.openings call in
+          let told = answer same elect x m.outstanding_work call in
           small_both (accepted_by call told) (signed_in told) (accepted_small call told (handed_small x call is)) (signed_small told)
 
-  call_small : (m next : MemberFacts K L D) (call : CallFacts D) (told : Told K D) → IsCall same elect m call told next → AreSmall (deeds_of_call call told)
+  call_small : (m next : MemberFacts K L D) (call : CallFacts D) (told : Told K D) → IsCall same elect m call told next → AreSmall (trace_of_call call told)
   unfolding IsCall
   call_small m next call told is_call = by_life m.life is_call
     where
-      by_life : (o : Option (StateFacts K L D)) → AnswersAlive same elect o m call told next → AreSmall (deeds_of_call call told)
+      by_life : (o : Option (StateFacts K L D)) → AnswersAlive same elect o m call told next → AreSmall (trace_of_call call told)
       by_life None (tells, leaves) = rw tells small_none
       by_life (Some x) (inl (tells, leaves)) = rw tells (replied_small x m call)
       by_life (Some x) (inr (wants, tells, leaves)) = rw tells small_none
 
   -- a restart
 
-  goes_on_small : (n left : MemberFacts K L D) (r : RestartFacts K L D) (result : Result (Unit {0}) RecoverError) → GoesOn same elect n r.start result left → AreSmall (deeds_at (Restarts r) (restart_told {K = K} {D = D} result))
+  goes_on_small : (n left : MemberFacts K L D) (r : RestartFacts K L D) (result : Result (Unit {0}) RecoverError) → GoesOn same elect n r.start result left → AreSmall (trace_at (Restarts r) (restart_told {K = K} {D = D} result))
   goes_on_small n left r result (inl (is, leaves)) = rw is small_none
   goes_on_small n left r result (inr (copy, by_view, goes)) = by_error (recover_error same (new_state r.start.setup) r.start.floor r.start.now copy) refl goes
     where
-      by_error : (o : Option RecoverError) → recover_error same (new_state r.start.setup) r.start.floor r.start.now copy ≡ o → MatchOption o ((result ≡ Ok tt) × (left ≡ new_life same elect n r.start copy)) (λ e. (result ≡ Err e) × (left ≡ without_life n)) → AreSmall (deeds_at (Restarts r) (restart_told {K = K} {D = D} result))
+      by_error : (o : Option RecoverError) → recover_error same (new_state r.start.setup) r.start.floor r.start.now copy ≡ o → MatchOption o ((result ≡ Ok tt) × (left ≡ new_life same elect n r.start copy)) (λ e. (result ≡ Err e) × (left ≡ without_life n)) → AreSmall (trace_at (Restarts r) (restart_told {K = K} {D = D} result))
       by_error None none (is, leaves) = rw is (small_both (of_floor r.start.floor) [] (floor_small same (new_state r.start.setup) r.start.floor r.start.now copy none) small_none)
       by_error (Some e) due (is, leaves) = rw is small_none
 
-  restart_small : (m next : MemberFacts K L D) (r : RestartFacts K L D) (result : Result (Unit {0}) RecoverError) → IsRestart same elect m r result next → AreSmall (deeds_at (Restarts r) (restart_told {K = K} {D = D} result))
+  restart_small : (m next : MemberFacts K L D) (r : RestartFacts K L D) (result : Result (Unit {0}) RecoverError) → IsRestart same elect m r result next → AreSmall (trace_at (Restarts r) (restart_told {K = K} {D = D} result))
   unfolding IsRestart
   restart_small m next r result restarts = by_test (retention_grows m r.prune r.start.setup.settings.view_retention) restarts
     where
-      by_test : (b : Bool) → IsRestartWhere same elect b m r result next → AreSmall (deeds_at (Restarts r) (restart_told {K = K} {D = D} result))
+      by_test : (b : Bool) → IsRestartWhere same elect b m r result next → AreSmall (trace_at (Restarts r) (restart_told {K = K} {D = D} result))
       by_test true (is, leaves) = rw is small_none
       by_test false goes = goes_on_small (cut_member m r.drop r.prune) next r result goes
 
   -- a run
-  pub steps_small : (steps : List (StepFacts K L D)) (replies : List (Told K D)) (m end : MemberFacts K L D) → IsRun same elect m steps replies end → AreSmall (deeds_of_steps steps replies)
+  pub steps_small : (steps : List (StepFacts K L D)) (replies : List (Told K D)) (m end : MemberFacts K L D) → IsRun same elect m steps replies end → AreSmall (trace_of_steps steps replies)
   steps_small [] [] m end run = small_none
   steps_small [] (told ∷ replies) m end run = absurd run
   steps_small (step ∷ steps) [] m end run = absurd run
   steps_small (Calls call ∷ steps) (told ∷ replies) m end (next, is_call, rest) =
-      small_both (deeds_at {L = L} (Calls call) told) (deeds_of_steps steps replies) (call_small m next call told is_call) (steps_small steps replies next end rest)
+      small_both (trace_at {L = L} (Calls call) told) (trace_of_steps steps replies) (call_small m next call told is_call) (steps_small steps replies next end rest)
   steps_small (Prunes ∷ steps) (told ∷ replies) m end (next, (tells, leaves), rest) =
       rw tells (steps_small steps replies next end rest)
   steps_small (Restarts r ∷ steps) (told ∷ replies) m end (next, (result, restarts, tells), rest) =
-      small_both (deeds_at (Restarts r) told) (deeds_of_steps steps replies)
+      small_both (trace_at (Restarts r) told) (trace_of_steps steps replies)
       (rw tells (restart_small m next r result restarts))
       (steps_small steps replies next end rest)

@@ -13,7 +13,7 @@ use Rattle.simplex_voter.specs.Entering.{at_moment}
 use Rattle.simplex_voter.specs.Certification.{with_verdict, verdict_taken, after_certified}
 use Rattle.simplex_laws.specs.Events as event
 use Rattle.simplex_laws.specs.Events.{Event, IsEvent, after_event}
-use Rattle.simplex_laws.specs.Sums.{is_prune}
+use Rattle.simplex_laws.specs.HistoryFolds.{is_prune}
 use Rattle.simplex_laws.proofs.frames.EachRound.{IsGone, rounds_along, rounds_or_gone}
 use Rattle.simplex_record.proofs.Rounds.{round_put}
 use Rattle.simplex_record.proofs.Paths.{event_path, asked_of_all, from_judged}

@@ -11,20 +11,20 @@ use Rattle.simplex_types.specs.declared.types.messages.Subject.TheVariants as su
 use Rattle.simplex_voter.specs.Votes.{notarize_answer}
 use Rattle.simplex_member.specs.Allowed.{is_allowed}
 use Rattle.simplex_member.specs.Calls.{CallFacts, ConstructNotarize, Notarize}
-use Rattle.simplex_member.specs.Openings.{Openings}
-use Rattle.simplex_member.specs.Made.{notarize_vote, vote_entry, answer, after_call, recorded_by}
-use Rattle.simplex_laws.specs.Deeds.{Deed, Signs, signed_in, deeds_of_call}
+use Rattle.simplex_member.specs.OutstandingWork.{OutstandingWork}
+use Rattle.simplex_member.specs.CallSemantics.{notarize_vote, vote_entry, answer, after_call, recorded_by}
+use Rattle.simplex_laws.specs.Traces.{TraceEvent, Signs, signed_in, trace_of_call}
 use Rattle.simplex_laws.specs.Lawful.{HasSigned}
 use Rattle.simplex_laws.proofs.lists.Signed.{signed_last}
 use Rattle.simplex_laws.proofs.frames.CallsOnWork.{is_work, is_silent}
-use Rattle.simplex_laws.proofs.records.CallsKeepRules.{silent_deeds, silent_record}
-use Rattle.simplex_laws.proofs.records.DeedsShown.{only_one}
+use Rattle.simplex_laws.proofs.records.CallsKeepRules.{silent_trace, silent_record}
+use Rattle.simplex_laws.proofs.records.TracesShown.{only_one}
 use Rattle.simplex_laws.proofs.own_records.Recorded.{HasNoVerdict, quiet_none, no_verdict, own_quiet, own_silent}
 use Rattle.simplex_laws.proofs.frames.CallsMake.{AreSilent, work_silent, call_by_event}
 use Rattle.simplex_laws.proofs.own_records.ShownVerdicts.{Tells, shows_more, quiet_shows, plain_told}
 use Rattle.simplex_laws.proofs.own_records.Verdicts.{Shows}
 
-module _ {K L D : Type 0} (same : D → D → Bool) (elect : Elect L) (deeds : List (Deed D)) (entries : List (ArtifactFacts D)) (x : StateFacts K L D) (o : Openings K D) (tells : Tells deeds entries x) where
+module _ {K L D : Type 0} (same : D → D → Bool) (elect : Elect L) (trace : List (TraceEvent D)) (entries : List (ArtifactFacts D)) (x : StateFacts K L D) (o : OutstandingWork K D) (tells : Tells trace entries x) where
   -- what is shown after a call, whatever it records but a verdict
   abbrev pub Left : StateFacts K L D → Type 0
   Left y = (new : List (ArtifactFacts D)) → HasNoVerdict new → Shows (entries ++ new) y
@@ -32,27 +32,27 @@ module _ {K L D : Type 0} (same : D → D → Bool) (elect : Elect L) (deeds : L
   work_left : (call : CallFacts D) → is_work call ≡ true → is_allowed x o call ≡ true → Left (after_call same elect x o call)
   work_left call work allowed =
       call_by_event same elect x o (λ es y. AreSilent es → Left y) (λ silent new none. shows_more entries new x none tells.shows)
-      (λ e takes none silent new nothing. quiet_shows same elect deeds entries x tells new e takes silent.0.notarization silent.0.verdict nothing) call allowed (work_silent o call work)
+      (λ e takes none silent new nothing. quiet_shows same elect trace entries x tells new e takes silent.0.notarization silent.0.verdict nothing) call allowed (work_silent o call work)
 
   -- what a vote to notarize records is cast
-  notarize_told : (call : CallFacts D) (vote : Option (ArtifactFacts D)) → Left (after_call same elect x o call) → ((e : ArtifactFacts D) → vote ≡ Some e → (p : Proposal D) × (m : ℕ) × (e ≡ NotarizeVote p m)) → Tells (deeds ++ signed_in {K = K} (Notarize vote)) (entries ++ vote_entry vote) (after_call same elect x o call)
+  notarize_told : (call : CallFacts D) (vote : Option (ArtifactFacts D)) → Left (after_call same elect x o call) → ((e : ArtifactFacts D) → vote ≡ Some e → (p : Proposal D) × (m : ℕ) × (e ≡ NotarizeVote p m)) → Tells (trace ++ signed_in {K = K} (Notarize vote)) (entries ++ vote_entry vote) (after_call same elect x o call)
   notarize_told call None left is = record {
-    own = own_quiet deeds entries tells.own [] [] quiet_none;
+    own = own_quiet trace entries tells.own [] [] quiet_none;
     shows = left [] (no_verdict [] quiet_none);
   }
   notarize_told call (Some e) left is =
       let one = is e refl in
-      subst (λ f. Tells (deeds ++ signed_in {K = K} (Notarize (Some f))) (entries ++ f ∷ []) (after_call same elect x o call)) (sym one.2) (recorded one.0 one.1)
+      subst (λ f. Tells (trace ++ signed_in {K = K} (Notarize (Some f))) (entries ++ f ∷ []) (after_call same elect x o call)) (sym one.2) (recorded one.0 one.1)
     where
-      recorded : (p : Proposal D) (m : ℕ) → Tells (deeds ++ Signs m (subject.Notarize p) ∷ []) (entries ++ NotarizeVote p m ∷ []) (after_call same elect x o call)
+      recorded : (p : Proposal D) (m : ℕ) → Tells (trace ++ Signs m (subject.Notarize p) ∷ []) (entries ++ NotarizeVote p m ∷ []) (after_call same elect x o call)
       recorded p m =
           let new : List (ArtifactFacts D) = NotarizeVote p m ∷ [] in
           let silent : HasNoVerdict new = λ round success h. (let f = only_one (NotarizeVote p m) (Verdict round success) h in cc) in
           record {
-            own = own_silent deeds entries tells.own (Signs m (subject.Notarize p) ∷ []) new silent (λ q n h.
+            own = own_silent trace entries tells.own (Signs m (subject.Notarize p) ∷ []) new silent (λ q n h.
                 (let f = only_one (NotarizeVote p m) (NotarizeVote q n) h in
                 let same_proposal_cast : p ≡ q = cc in
-                subst (λ (k : Proposal D). HasSigned (deeds ++ Signs m (subject.Notarize p) ∷ []) (subject.Notarize k)) same_proposal_cast (signed_last deeds m (subject.Notarize p))));
+                subst (λ (k : Proposal D). HasSigned (trace ++ Signs m (subject.Notarize p) ∷ []) (subject.Notarize k)) same_proposal_cast (signed_last trace m (subject.Notarize p))));
             shows = left new silent;
           }
 
@@ -65,7 +65,7 @@ module _ {K L D : Type 0} (same : D → D → Bool) (elect : Elect L) (deeds : L
       by_key (Some m) (Some p) told = (p, m, sym (ap (λ f. unwrap_or f e) told))
 
   abbrev pub CallTells : CallFacts D → Type 0
-  CallTells call = Tells (deeds ++ deeds_of_call call (answer same elect x o call)) (entries ++ recorded_by same elect x call) (after_call same elect x o call)
+  CallTells call = Tells (trace ++ trace_of_call call (answer same elect x o call)) (entries ++ recorded_by same elect x call) (after_call same elect x o call)
 
   -- each call that is allowed and not refused
   pub call_told : (call : CallFacts D) → is_allowed x o call ≡ true → CallTells call
@@ -74,12 +74,12 @@ module _ {K L D : Type 0} (same : D → D → Bool) (elect : Elect L) (deeds : L
       by_silence : (w : CallFacts D) (b : Bool) → is_silent w ≡ b → is_work w ≡ true → Left (after_call same elect x o w) → CallTells w
       by_silence w true silent work left =
           let y = after_call same elect x o w in
-          subst (λ a. Tells (deeds ++ a) (entries ++ recorded_by same elect x w) y) (sym (silent_deeds same elect x o w silent))
-          (subst (λ es. Tells (deeds ++ []) (entries ++ es) y) (sym (silent_record same elect x o w silent))
-          (record { own = own_quiet deeds entries tells.own [] [] quiet_none; shows = left [] (no_verdict [] quiet_none) }))
+          subst (λ a. Tells (trace ++ a) (entries ++ recorded_by same elect x w) y) (sym (silent_trace same elect x o w silent))
+          (subst (λ es. Tells (trace ++ []) (entries ++ es) y) (sym (silent_record same elect x o w silent))
+          (record { own = own_quiet trace entries tells.own [] [] quiet_none; shows = left [] (no_verdict [] quiet_none) }))
       by_silence (ConstructNotarize v) false loud work left = notarize_told (ConstructNotarize v) (notarize_vote same elect x v) left (is_notarize v)
       by_silence _ false loud work left = absurd (cc)
 
       by_kind : (b : Bool) → is_work call ≡ b → CallTells call
       by_kind true work = by_silence call (is_silent call) refl work (work_left call work allowed)
-      by_kind false plain = plain_told same elect deeds entries x tells o call plain allowed
+      by_kind false plain = plain_told same elect trace entries x tells o call plain allowed

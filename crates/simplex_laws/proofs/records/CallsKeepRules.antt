@@ -14,9 +14,9 @@ use Rattle.simplex_voter.proofs.Gaps.{and_parts}
 use Rattle.simplex_voter.proofs.Rules.{notarize_parts}
 use Rattle.simplex_member.specs.Allowed.{is_allowed}
 use Rattle.simplex_member.specs.Calls.{CallFacts, AddNotarization, AddNullification, AddFinalization, ConstructNotarize, Certified, ConstructNullify, ConstructFinalize, BroadcastNotarization, BroadcastNullification, BroadcastFinalization, GetBestCertificate, Prune, Notarize}
-use Rattle.simplex_member.specs.Openings.{Openings}
-use Rattle.simplex_member.specs.Made.{notarize_vote, vote_entry, answer, after_call, openings_after, recorded_by}
-use Rattle.simplex_laws.specs.Deeds.{Deed, Signs, signed_in, deeds_of_call}
+use Rattle.simplex_member.specs.OutstandingWork.{OutstandingWork}
+use Rattle.simplex_member.specs.CallSemantics.{notarize_vote, vote_entry, answer, after_call, outstanding_work_after, recorded_by}
+use Rattle.simplex_laws.specs.Traces.{TraceEvent, Signs, signed_in, trace_of_call}
 use Rattle.simplex_laws.proofs.lists.Signed.{only_signed}
 use Rattle.simplex_laws.proofs.agreement.Lawful.{lawful_push}
 use Rattle.simplex_laws.proofs.votes.LifeCalls.{no_key, no_rule}
@@ -24,9 +24,9 @@ use Rattle.simplex_laws.proofs.records.RecordedVotes.{Marked, marked_more, quiet
 use Rattle.simplex_laws.proofs.frames.CallsMake.{AreSilent, work_silent, call_by_event}
 use Rattle.simplex_laws.proofs.votes.Standing.{Stays}
 use Rattle.simplex_laws.proofs.votes.StandingSteps.{silent_suits, stays_on}
-use Rattle.simplex_laws.proofs.records.DeedsShown.{only_one}
+use Rattle.simplex_laws.proofs.records.TracesShown.{only_one}
 use Rattle.simplex_laws.proofs.records.Remembering.{Grows, remembers_more, single_split}
-use Rattle.simplex_laws.proofs.records.EntryDeeds.{notarize_cast_stays}
+use Rattle.simplex_laws.proofs.records.EntryTraces.{notarize_cast_stays}
 use Rattle.simplex_laws.proofs.frames.InOrder.{order_call}
 use Rattle.simplex_laws.proofs.votes.NotarizeVotesShown.{NotesStand}
 use Rattle.simplex_laws.proofs.records.NotarizeVotesRemembered.{notes_cast}
@@ -36,8 +36,8 @@ use Rattle.simplex_laws.proofs.votes.NotarizeVotes.{notarize_silent, notarize_to
 use Rattle.simplex_laws.proofs.records.NewLives.{Living, high_more, within_more, plain_lives}
 
 -- a vote to notarize is recorded
-grows_notarize : {D : Type 0} (deeds : List (Deed D)) (entries : List (ArtifactFacts D)) (p : Proposal D) (m : ℕ) → Grows deeds (Signs m (subject.Notarize p) ∷ []) entries (NotarizeVote p m ∷ [])
-grows_notarize deeds entries p m = record {
+grows_notarize : {D : Type 0} (trace : List (TraceEvent D)) (entries : List (ArtifactFacts D)) (p : Proposal D) (m : ℕ) → Grows trace (Signs m (subject.Notarize p) ∷ []) entries (NotarizeVote p m ∷ [])
+grows_notarize trace entries p m = record {
   accepted = λ c h. absurd (let e = only_one (NotarizeVote p m) (Accepted c) h in cc);
   nullify_cast = λ r n h. absurd (let e = only_one (NotarizeVote p m) (NullifyVote r n) h in cc);
   finalize_cast = λ q n h. absurd (let e = only_one (NotarizeVote p m) (FinalizeVote q n) h in cc);
@@ -46,22 +46,22 @@ grows_notarize deeds entries p m = record {
   judged = λ before after q n split. absurd (let e = single_split before after (NotarizeVote p m) (FinalizeVote q n) split in cc);
 }
 
-module _ {K L D : Type 0} (same : D → D → Bool) (elect : Elect L) (x : StateFacts K L D) (o : Openings K D) where
-  -- a call on the work of a view that is no vote to notarize is no deed, and records nothing
-  pub silent_deeds : (call : CallFacts D) → is_silent call ≡ true → deeds_of_call call (answer same elect x o call) ≡ []
-  silent_deeds (ConstructNotarize v) silent = absurd (false≢true silent)
-  silent_deeds (AddNotarization c) silent = absurd (false≢true silent)
-  silent_deeds (AddNullification c now) silent = absurd (false≢true silent)
-  silent_deeds (AddFinalization c now) silent = absurd (false≢true silent)
-  silent_deeds (Certified v success now) silent = absurd (false≢true silent)
-  silent_deeds (ConstructNullify v) silent = absurd (false≢true silent)
-  silent_deeds (ConstructFinalize v) silent = absurd (false≢true silent)
-  silent_deeds (BroadcastNotarization v) silent = absurd (false≢true silent)
-  silent_deeds (BroadcastNullification v) silent = absurd (false≢true silent)
-  silent_deeds (BroadcastFinalization v) silent = absurd (false≢true silent)
-  silent_deeds GetBestCertificate silent = absurd (false≢true silent)
-  silent_deeds Prune silent = absurd (false≢true silent)
-  silent_deeds _ silent = refl
+module _ {K L D : Type 0} (same : D → D → Bool) (elect : Elect L) (x : StateFacts K L D) (o : OutstandingWork K D) where
+  -- a call on the work of a view that is no vote to notarize is no event of the trace, and records nothing
+  pub silent_trace : (call : CallFacts D) → is_silent call ≡ true → trace_of_call call (answer same elect x o call) ≡ []
+  silent_trace (ConstructNotarize v) silent = absurd (false≢true silent)
+  silent_trace (AddNotarization c) silent = absurd (false≢true silent)
+  silent_trace (AddNullification c now) silent = absurd (false≢true silent)
+  silent_trace (AddFinalization c now) silent = absurd (false≢true silent)
+  silent_trace (Certified v success now) silent = absurd (false≢true silent)
+  silent_trace (ConstructNullify v) silent = absurd (false≢true silent)
+  silent_trace (ConstructFinalize v) silent = absurd (false≢true silent)
+  silent_trace (BroadcastNotarization v) silent = absurd (false≢true silent)
+  silent_trace (BroadcastNullification v) silent = absurd (false≢true silent)
+  silent_trace (BroadcastFinalization v) silent = absurd (false≢true silent)
+  silent_trace GetBestCertificate silent = absurd (false≢true silent)
+  silent_trace Prune silent = absurd (false≢true silent)
+  silent_trace _ silent = refl
 
   pub silent_record : (call : CallFacts D) → is_silent call ≡ true → recorded_by same elect x call ≡ []
   silent_record (ConstructNotarize v) silent = absurd (false≢true silent)
@@ -78,24 +78,24 @@ module _ {K L D : Type 0} (same : D → D → Bool) (elect : Elect L) (x : State
   silent_record Prune silent = absurd (false≢true silent)
   silent_record _ silent = refl
 
-module _ {K L D : Type 0} (same : D → D → Bool) (decides : (d e : D) → same d e ≡ true → d ≡ e) (elect : Elect L) (term_length : ℕ) (some : 0 < term_length) (deeds : List (Deed D)) (closed kept : ℕ) (entries : List (ArtifactFacts D)) (o : Openings K D) (x : StateFacts K L D) (living : Living term_length deeds closed kept entries o x) where
-  -- with no deed and nothing recorded
-  nothing_done : (next : Openings K D) (y : StateFacts K L D) → Living term_length deeds closed kept entries next y → Living term_length (deeds ++ []) closed kept (entries ++ []) next y
-  nothing_done next y lives = subst (λ a. Living term_length a closed kept (entries ++ []) next y) (sym (append-nil deeds)) (subst (λ es. Living term_length deeds closed kept es next y) (sym (append-nil entries)) lives)
+module _ {K L D : Type 0} (same : D → D → Bool) (decides : (d e : D) → same d e ≡ true → d ≡ e) (elect : Elect L) (term_length : ℕ) (some : 0 < term_length) (trace : List (TraceEvent D)) (closed kept : ℕ) (entries : List (ArtifactFacts D)) (o : OutstandingWork K D) (x : StateFacts K L D) (living : Living term_length trace closed kept entries o x) where
+  -- with no event and nothing recorded
+  nothing_done : (next : OutstandingWork K D) (y : StateFacts K L D) → Living term_length trace closed kept entries next y → Living term_length (trace ++ []) closed kept (entries ++ []) next y
+  nothing_done next y lives = subst (λ a. Living term_length a closed kept (entries ++ []) next y) (sym (append-nil trace)) (subst (λ es. Living term_length trace closed kept es next y) (sym (append-nil entries)) lives)
 
   -- what stands of the votes and what the record shows, after a call on the work of a view
 
-  stays_worked : (call : CallFacts D) → is_work call ≡ true → is_allowed x o call ≡ true → Stays term_length deeds (after_call same elect x o call)
+  stays_worked : (call : CallFacts D) → is_work call ≡ true → is_allowed x o call ≡ true → Stays term_length trace (after_call same elect x o call)
   stays_worked call work allowed =
-      call_by_event same elect x o (λ es y. AreSilent es → Stays term_length deeds y) (λ silent. living.keeps.stays)
-      (λ e takes floor silent. stays_on same decides elect term_length deeds x e (silent_suits deeds _ x e silent.0) living.keeps.stays) call allowed (work_silent o call work)
+      call_by_event same elect x o (λ es y. AreSilent es → Stays term_length trace y) (λ silent. living.keeps.stays)
+      (λ e takes floor silent. stays_on same decides elect term_length trace x e (silent_suits trace _ x e silent.0) living.keeps.stays) call allowed (work_silent o call work)
 
   marked_worked : (call : CallFacts D) → is_work call ≡ true → is_allowed x o call ≡ true → Marked entries (after_call same elect x o call)
   marked_worked call work allowed =
       call_by_event same elect x o (λ es y. AreSilent es → Marked entries y) (λ silent. living.follows.marked)
       (λ e takes floor silent. quiet_marked same elect x e entries silent.0.verdict silent.0.nullify living.follows.marked) call allowed (work_silent o call work)
 
-  silent_lives : (call : CallFacts D) → is_allowed x o call ≡ true → is_silent call ≡ true → Living term_length deeds closed kept entries (openings_after same elect x o call) (after_call same elect x o call)
+  silent_lives : (call : CallFacts D) → is_allowed x o call ≡ true → is_silent call ≡ true → Living term_length trace closed kept entries (outstanding_work_after same elect x o call) (after_call same elect x o call)
   silent_lives call allowed silent =
       let noted = living.noted in
       record {
@@ -103,14 +103,14 @@ module _ {K L D : Type 0} (same : D → D → Bool) (decides : (d e : D) → sam
         follows = record { remembers = living.follows.remembers; marked = marked_worked call (silent_work call silent) allowed };
         in_order = order_call same elect x o living.in_order call;
         notes = living.notes;
-        noted = (noted.0, noted.1, work_notes same decides elect noted.0 noted.1 deeds o x noted.2 call living.in_order allowed silent);
+        noted = (noted.0, noted.1, work_notes same decides elect noted.0 noted.1 trace o x noted.2 call living.in_order allowed silent);
         high = living.high;
         within = living.within;
       }
 
   -- a vote to notarize
 
-  decided_lives : (v : ℕ) → (base low : ℕ) → NotesStand base low deeds o (after_construct_notarize same elect x v) → Living term_length deeds closed kept entries o (after_construct_notarize same elect x v)
+  decided_lives : (v : ℕ) → (base low : ℕ) → NotesStand base low trace o (after_construct_notarize same elect x v) → Living term_length trace closed kept entries o (after_construct_notarize same elect x v)
   decided_lives v base low noted =
       let y = after_construct_notarize same elect x v in
       record {
@@ -123,7 +123,7 @@ module _ {K L D : Type 0} (same : D → D → Bool) (decides : (d e : D) → sam
         within = living.within;
       }
 
-  cast_lives : (v m : ℕ) (h : Proposal D) → may_notarize same elect x v ≡ true → (round_of x v).slot.held ≡ Some h → Living term_length (deeds ++ Signs m (subject.Notarize h) ∷ []) closed kept (entries ++ NotarizeVote h m ∷ []) o (after_construct_notarize same elect x v)
+  cast_lives : (v m : ℕ) (h : Proposal D) → may_notarize same elect x v ≡ true → (round_of x v).slot.held ≡ Some h → Living term_length (trace ++ Signs m (subject.Notarize h) ∷ []) closed kept (entries ++ NotarizeVote h m ∷ []) o (after_construct_notarize same elect x v)
   cast_lives v m h may holds =
       let y = after_construct_notarize same elect x v in
       let vote : ArtifactFacts D = NotarizeVote h m in
@@ -132,27 +132,27 @@ module _ {K L D : Type 0} (same : D → D → Bool) (decides : (d e : D) → sam
       let terms = living.keeps.stays.stands.terms in
       record {
         keeps = record {
-          lawful = lawful_push term_length deeds (Signs m (subject.Notarize h)) living.keeps.lawful (notarize_allowed same decides elect term_length noted.0 noted.1 deeds o x positive terms noted.2 v may h holds);
-          stays = notarize_cast_stays term_length deeds y (stays_worked (ConstructNotarize v) refl refl) h m;
+          lawful = lawful_push term_length trace (Signs m (subject.Notarize h)) living.keeps.lawful (notarize_allowed same decides elect term_length noted.0 noted.1 trace o x positive terms noted.2 v may h holds);
+          stays = notarize_cast_stays term_length trace y (stays_worked (ConstructNotarize v) refl refl) h m;
         };
         follows = record {
-          remembers = remembers_more deeds entries kept (Signs m (subject.Notarize h) ∷ []) (vote ∷ []) (grows_notarize deeds entries h m) living.follows.remembers;
+          remembers = remembers_more trace entries kept (Signs m (subject.Notarize h) ∷ []) (vote ∷ []) (grows_notarize trace entries h m) living.follows.remembers;
           marked = marked_more entries (vote ∷ []) y (marked_worked (ConstructNotarize v) refl refl);
         };
         in_order = order_call same elect x o living.in_order (ConstructNotarize v);
-        notes = notes_cast deeds kept entries h m living.notes;
-        noted = (noted.0, noted.1, rw may (notarize_noted same decides elect term_length noted.0 noted.1 deeds o x positive terms noted.2 v may h m holds));
+        notes = notes_cast trace kept entries h m living.notes;
+        noted = (noted.0, noted.1, rw may (notarize_noted same decides elect term_length noted.0 noted.1 trace o x positive terms noted.2 v may h m holds));
         high = high_more closed kept entries (vote ∷ []) living.high;
         within = within_more closed entries (vote ∷ []) living.within;
       }
 
   abbrev pub ToldLives : ℕ → Option (ArtifactFacts D) → Type 0
-  ToldLives v vote = Living term_length (deeds ++ signed_in {K = K} (Notarize vote)) closed kept (entries ++ vote_entry vote) o (after_construct_notarize same elect x v)
+  ToldLives v vote = Living term_length (trace ++ signed_in {K = K} (Notarize vote)) closed kept (entries ++ vote_entry vote) o (after_construct_notarize same elect x v)
 
   notarize_lives : (v : ℕ) → ToldLives v (notarize_vote same elect x v)
   notarize_lives v = by_rule (may_notarize same elect x v) refl
     where
-      untold : (base low : ℕ) → NotesStand base low deeds o (after_construct_notarize same elect x v) → notarize_vote same elect x v ≡ None → ToldLives v (notarize_vote same elect x v)
+      untold : (base low : ℕ) → NotesStand base low trace o (after_construct_notarize same elect x v) → notarize_vote same elect x v ≡ None → ToldLives v (notarize_vote same elect x v)
       untold base low noted silent = subst (ToldLives v) (sym silent) (nothing_done o (after_construct_notarize same elect x v) (decided_lives v base low noted))
 
       by_held : (m : ℕ) (q : Option (Proposal D)) → (round_of x v).slot.held ≡ q → x.me ≡ Some m → may_notarize same elect x v ≡ true → ToldLives v (notarize_vote same elect x v)
@@ -166,8 +166,8 @@ module _ {K L D : Type 0} (same : D → D → Bool) (decides : (d e : D) → sam
       by_key None me may =
           let noted = living.noted in
           let positive : 0 < x.terms.term_length = omega (arith, some, living.keeps.stays.stands.terms) in
-          let tracked = voted_tracked same decides elect term_length noted.0 noted.1 deeds o x positive living.keeps.stays.stands.terms noted.2 v may in
-          untold noted.0 noted.1 (rw may (decided_notes same decides elect noted.0 noted.1 deeds o x noted.2 v may tracked)) (notarize_silent same elect x v (no_key (may_notarize same elect x v) x.me me))
+          let tracked = voted_tracked same decides elect term_length noted.0 noted.1 trace o x positive living.keeps.stays.stands.terms noted.2 v may in
+          untold noted.0 noted.1 (rw may (decided_notes same decides elect noted.0 noted.1 trace o x noted.2 v may tracked)) (notarize_silent same elect x v (no_key (may_notarize same elect x v) x.me me))
       by_key (Some m) me may = by_held m (round_of x v).slot.held refl me may
 
       by_rule : (b : Bool) → may_notarize same elect x v ≡ b → ToldLives v (notarize_vote same elect x v)
@@ -176,14 +176,14 @@ module _ {K L D : Type 0} (same : D → D → Bool) (decides : (d e : D) → sam
 
   -- a call that is allowed and not refused
   abbrev pub CallLives : CallFacts D → Type 0
-  CallLives call = Living term_length (deeds ++ deeds_of_call call (answer same elect x o call)) closed kept (entries ++ recorded_by same elect x call) (openings_after same elect x o call) (after_call same elect x o call)
+  CallLives call = Living term_length (trace ++ trace_of_call call (answer same elect x o call)) closed kept (entries ++ recorded_by same elect x call) (outstanding_work_after same elect x o call) (after_call same elect x o call)
 
   silent_call : (call : CallFacts D) → is_allowed x o call ≡ true → is_silent call ≡ true → CallLives call
   silent_call call allowed silent =
-      let next = openings_after same elect x o call in
+      let next = outstanding_work_after same elect x o call in
       let y = after_call same elect x o call in
-      subst (λ a. Living term_length (deeds ++ a) closed kept (entries ++ recorded_by same elect x call) next y) (sym (silent_deeds same elect x o call silent))
-      (subst (λ es. Living term_length (deeds ++ []) closed kept (entries ++ es) next y) (sym (silent_record same elect x o call silent))
+      subst (λ a. Living term_length (trace ++ a) closed kept (entries ++ recorded_by same elect x call) next y) (sym (silent_trace same elect x o call silent))
+      (subst (λ es. Living term_length (trace ++ []) closed kept (entries ++ es) next y) (sym (silent_record same elect x o call silent))
       (nothing_done next y (silent_lives call allowed silent)))
 
   pub call_lives : (call : CallFacts D) → is_allowed x o call ≡ true → CallLives call
@@ -191,6 +191,6 @@ module _ {K L D : Type 0} (same : D → D → Bool) (decides : (d e : D) → sam
     where
       by_kind : (w : CallFacts D) (silent work : Bool) → is_silent w ≡ silent → is_work w ≡ work → is_allowed x o w ≡ true → CallLives w
       by_kind w true work silent is may = silent_call w may silent
-      by_kind w false false loud plain may = plain_lives same decides elect term_length deeds closed kept entries x o w some plain may living
+      by_kind w false false loud plain may = plain_lives same decides elect term_length trace closed kept entries x o w some plain may living
       by_kind (ConstructNotarize v) false true loud work may = notarize_lives v
       by_kind _ false true loud work may = absurd (cc)

@@ -1,5 +1,5 @@
 -- For `votes_are_lawful`.
--- A copy of a record by view, a record without its last entries, and a pruned one remember the deeds.
+-- A copy of a record by view, a record without its last entries, and a pruned one remember the trace.
 use Rattle.std.proofs.Common.{◌≡◌, refl, ap, sym, ◌∙◌, subst, ℕ, ◌<◌, ◌≤◌, inl, inr, Bool, true, false, max, List, [], ◌∷◌, ◌++◌, append_assoc, Contains, filter, arith}
 use Rattle.std.specs.Prelude.{◌==◌}
 use Rattle.std.proofs.lemmas.Bool.{cases_Bool, cases_lt, false≢true, eq-eqb}
@@ -14,10 +14,10 @@ use Rattle.simplex_record.specs.Check.{stands}
 use Rattle.simplex_record.specs.Cuts.{is_vote}
 use Rattle.simplex_record.specs.Entries.{entry_view}
 use Rattle.simplex_record.specs.Recovery.{is_finalization, with_floor}
-use Rattle.simplex_laws.specs.Deeds.{Deed, Accepts, of_floor}
+use Rattle.simplex_laws.specs.Traces.{TraceEvent, Accepts, of_floor}
 use Rattle.simplex_laws.proofs.agreement.VoteOrder.{Contains-middle}
 use Rattle.simplex_laws.proofs.lists.Filters.{filter_split, filter_middle, Contains-filter, Contains-filtered, filtered_passes}
-use Rattle.simplex_laws.proofs.records.DeedsShown.{Remembers}
+use Rattle.simplex_laws.proofs.records.TracesShown.{Remembers}
 use Rattle.simplex_laws.proofs.records.Remembering.{remembers_more, grows_certificate}
 
 -- a view whose entries don't stay is below the bound
@@ -27,7 +27,7 @@ falls_below stays bound above v falls = elim (cases_lt v bound) [
   | inr high ↦ absurd (false≢true (sym falls ∙ above v (omega arith)))
 ]
 
-module _ {D : Type 0} (deeds : List (Deed D)) (kept : ℕ) (entries : List (ArtifactFacts D)) (remembers : Remembers deeds kept entries) where
+module _ {D : Type 0} (trace : List (TraceEvent D)) (kept : ℕ) (entries : List (ArtifactFacts D)) (remembers : Remembers trace kept entries) where
   -- entries of each view in the same order
 
   module _ (copy : List (ArtifactFacts D)) (of_each_view : (v : ℕ) → filter (λ e. entry_view e == v) copy ≡ filter (λ e. entry_view e == v) entries) where
@@ -52,7 +52,7 @@ module _ {D : Type 0} (deeds : List (Deed D)) (kept : ℕ) (entries : List (Arti
         let kept_there : Contains (filter test whole.0) (Verdict verdict.0 true) = Contains-filter test whole.0 (Verdict verdict.0 true) verdict.1 (eq-eqb verdict.0.view v verdict.2) in
         (verdict.0, Contains-filtered test before (Verdict verdict.0 true) (subst (λ es. Contains es (Verdict verdict.0 true)) (sym whole.3) kept_there), verdict.2)
 
-    pub copy_remembers : Remembers deeds kept copy
+    pub copy_remembers : Remembers trace kept copy
     copy_remembers = record {
       accepted = λ c h. remembers.accepted c (in_record (Accepted c) h);
       nullify_cast = λ round m h. remembers.nullify_cast round m (in_record (NullifyVote round m) h);
@@ -65,7 +65,7 @@ module _ {D : Type 0} (deeds : List (Deed D)) (kept : ℕ) (entries : List (Arti
 
   -- without last entries that are no votes
 
-  pub left_remembers : (left tail : List (ArtifactFacts D)) → entries ≡ left ++ tail → ((e : ArtifactFacts D) → Contains tail e → is_vote e ≡ false) → Remembers deeds kept left
+  pub left_remembers : (left tail : List (ArtifactFacts D)) → entries ≡ left ++ tail → ((e : ArtifactFacts D) → Contains tail e → is_vote e ≡ false) → Remembers trace kept left
   left_remembers left tail split no_votes = record {
     accepted = λ c h. remembers.accepted c (there (Accepted c) h);
     nullify_cast = λ round m h. remembers.nullify_cast round m (there (NullifyVote round m) h);
@@ -87,7 +87,7 @@ module _ {D : Type 0} (deeds : List (Deed D)) (kept : ℕ) (entries : List (Arti
 
   -- without entries of some views, all below a bound
 
-  pub bounded_remembers : (stays : ℕ → Bool) (bound : ℕ) → ((v : ℕ) → bound ≤ v → stays v ≡ true) → Remembers deeds (max kept bound) (filter (λ e. stays (entry_view e)) entries)
+  pub bounded_remembers : (stays : ℕ → Bool) (bound : ℕ) → ((v : ℕ) → bound ≤ v → stays v ≡ true) → Remembers trace (max kept bound) (filter (λ e. stays (entry_view e)) entries)
   bounded_remembers stays bound above = record {
     accepted = λ c h. remembers.accepted c (Contains-filtered test entries (Accepted c) h);
     nullify_cast = λ round m h. remembers.nullify_cast round m (Contains-filtered test entries (NullifyVote round m) h);
@@ -121,10 +121,10 @@ module _ {D : Type 0} (deeds : List (Deed D)) (kept : ℕ) (entries : List (Arti
 
   -- with the floor's finalization
 
-  pub floor_remembers : (floor : FloorFacts D) → Remembers (deeds ++ of_floor floor) kept (with_floor entries floor)
-  floor_remembers (Genesis _) = subst (λ a. Remembers a kept entries) (sym (append-nil deeds)) remembers
+  pub floor_remembers : (floor : FloorFacts D) → Remembers (trace ++ of_floor floor) kept (with_floor entries floor)
+  floor_remembers (Genesis _) = subst (λ a. Remembers a kept entries) (sym (append-nil trace)) remembers
   floor_remembers (FinalizedFloor c) = by_record (stands c.proposal.round.view is_finalization entries) refl
     where
-      by_record : (b : Bool) → stands c.proposal.round.view is_finalization entries ≡ b → Remembers (deeds ++ Accepts (subject.Finalize c.proposal) ∷ []) kept (with_floor entries (FinalizedFloor c))
-      by_record true is = rw is (subst (λ es. Remembers (deeds ++ Accepts (subject.Finalize c.proposal) ∷ []) kept es) (append-nil entries) (remembers_more deeds entries kept (Accepts (subject.Finalize c.proposal) ∷ []) [] (grows_certificate deeds entries false (Finalized c)) remembers))
-      by_record false is = rw is (remembers_more deeds entries kept (Accepts (subject.Finalize c.proposal) ∷ []) (Accepted (Finalized c) ∷ []) (grows_certificate deeds entries true (Finalized c)) remembers)
+      by_record : (b : Bool) → stands c.proposal.round.view is_finalization entries ≡ b → Remembers (trace ++ Accepts (subject.Finalize c.proposal) ∷ []) kept (with_floor entries (FinalizedFloor c))
+      by_record true is = rw is (subst (λ es. Remembers (trace ++ Accepts (subject.Finalize c.proposal) ∷ []) kept es) (append-nil entries) (remembers_more trace entries kept (Accepts (subject.Finalize c.proposal) ∷ []) [] (grows_certificate trace entries false (Finalized c)) remembers))
+      by_record false is = rw is (remembers_more trace entries kept (Accepts (subject.Finalize c.proposal) ∷ []) (Accepted (Finalized c) ∷ []) (grows_certificate trace entries true (Finalized c)) remembers)

@@ -15,12 +15,12 @@ use Rattle.simplex_voter.specs.Windows.{min_active}
 use Rattle.simplex_voter.specs.Certification.{after_certified}
 use Rattle.simplex_record.specs.Entries.{entry_view}
 use Rattle.simplex_record.specs.Recovery.{after_entry, after_kept_entry}
-use Rattle.simplex_laws.specs.Deeds.{Deed, Accepts}
+use Rattle.simplex_laws.specs.Traces.{TraceEvent, Accepts}
 use Rattle.simplex_laws.specs.Events as event
 use Rattle.simplex_laws.specs.Events.{Event, after_event}
 use Rattle.simplex_laws.proofs.frames.CallsMake.{retaken_keeps}
 use Rattle.simplex_laws.proofs.votes.NullifyVotes.{noted_new}
-use Rattle.simplex_laws.proofs.records.EntryDeeds.{entry_deeds, MayRetake, notarize_cast_stays, nullify_cast_stays, finalize_cast_stays, passed_over}
+use Rattle.simplex_laws.proofs.records.EntryTraces.{entry_trace, MayRetake, notarize_cast_stays, nullify_cast_stays, finalize_cast_stays, passed_over}
 use Rattle.simplex_laws.proofs.frames.Rising.{event_goes}
 use Rattle.simplex_record.proofs.Rounds.{round_put, tracked_put}
 use Rattle.simplex_laws.proofs.votes.Standing.{Stays, stands_later}
@@ -40,7 +40,7 @@ module _ {K L D : Type 0} (same : D → D → Bool) (elect : Elect L) (x : State
   pub taken_rises : (e : ArtifactFacts D) → x.current ≤ (after_kept_entry same elect x now e).current
   taken_rises e = taken_keeps (λ y. x.current ≤ y.current) (λ y f p. omega (arith, p, (event_goes same elect y f).current)) e (omega arith)
 
-module _ {K L D : Type 0} (same : D → D → Bool) (decides : (d e : D) → same d e ≡ true → d ≡ e) (elect : Elect L) (term_length : ℕ) (deeds : List (Deed D)) (x : StateFacts K L D) (now : ℕ) where
+module _ {K L D : Type 0} (same : D → D → Bool) (decides : (d e : D) → same d e ≡ true → d ≡ e) (elect : Elect L) (term_length : ℕ) (trace : List (TraceEvent D)) (x : StateFacts K L D) (now : ℕ) where
   -- a verdict that is taken again is given after it is replayed
 
   abbrev again : ℕ → Bool → StateFacts K L D
@@ -49,36 +49,36 @@ module _ {K L D : Type 0} (same : D → D → Bool) (decides : (d e : D) → sam
   verdict_again_passes : (v : ℕ) → v < (after_certified elect (again v true) v true now).current
   verdict_again_passes v = certified_passes same elect (again v true) v now true (tracked_put x v (certified_round (round_of x v) true)) refl
 
-  module _ (stays : Stays term_length deeds x) where
-    verdict_again_stays : (round : Round) (success : Bool) → Stays term_length deeds (after_certified elect (again round.view success) round.view success now)
+  module _ (stays : Stays term_length trace x) where
+    verdict_again_stays : (round : Round) (success : Bool) → Stays term_length trace (after_certified elect (again round.view success) round.view success now)
     verdict_again_stays round success =
         let v = round.view in
         let replay : Event K D = event.Replay (Verdict round success) in
         let given : Event K D = event.Certified v success now in
         let y = again v success in
         let z = after_certified elect y v success now in
-        let suits = certified_suits same elect y v now deeds success (tracked_put x v (certified_round (round_of x v) success)) in
-        let before : Suits deeds z.current x replay = plain_suits deeds z.current x replay refl refl refl refl (λ w says. suits.enters w says) in
-        let later = stands_later term_length deeds x.current z.current x (event_goes same elect y given).current stays.stands in
-        event_stays same decides elect term_length deeds y given suits (inl stays.ahead)
-        (event_stands same decides elect term_length deeds z.current x replay before later) stays.final
+        let suits = certified_suits same elect y v now trace success (tracked_put x v (certified_round (round_of x v) success)) in
+        let before : Suits trace z.current x replay = plain_suits trace z.current x replay refl refl refl refl (λ w says. suits.enters w says) in
+        let later = stands_later term_length trace x.current z.current x (event_goes same elect y given).current stays.stands in
+        event_stays same decides elect term_length trace y given suits (inl stays.ahead)
+        (event_stands same decides elect term_length trace z.current x replay before later) stays.final
 
     -- a certificate is added before it is replayed
 
-    replayed_stays : (a : List (Deed D)) (c : CertificateFacts D) (y : StateFacts K L D) → Stays term_length a y → Stays term_length a (after_event same elect y (event.Replay (Accepted c)))
+    replayed_stays : (a : List (TraceEvent D)) (c : CertificateFacts D) (y : StateFacts K L D) → Stays term_length a y → Stays term_length a (after_event same elect y (event.Replay (Accepted c)))
     replayed_stays a c y keeps = stays_on same decides elect term_length a y (event.Replay (Accepted c)) (plain_suits a _ y (event.Replay (Accepted c)) refl refl refl refl (λ w says. absurd (cc))) keeps
 
-    retaken_stays : (e : ArtifactFacts D) → MayRetake deeds x.current e → Stays term_length (deeds ++ entry_deeds e) (after_entry same elect x now e)
+    retaken_stays : (e : ArtifactFacts D) → MayRetake trace x.current e → Stays term_length (trace ++ entry_trace e) (after_entry same elect x now e)
     retaken_stays (NotarizeVote p m) may =
         let e : Event K D = event.Replay (NotarizeVote p m) in
-        notarize_cast_stays term_length deeds (after_event same elect x e) (stays_on same decides elect term_length deeds x e (plain_suits deeds _ x e refl refl refl refl (λ w says. absurd (cc))) stays) p m
+        notarize_cast_stays term_length trace (after_event same elect x e) (stays_on same decides elect term_length trace x e (plain_suits trace _ x e refl refl refl refl (λ w says. absurd (cc))) stays) p m
     retaken_stays (NullifyVote round m) may =
         let v = round.view in
         let e : Event K D = event.Replay (NullifyVote round m) in
         let y : StateFacts K L D = record x { nullify_votes = insert_key nat_cmp x.nullify_votes v } in
         let r : RoundFacts K D = record (round_of y v) { decision = decision.Nullify None } in
         let z = with_round y v r in
-        let suits : Suits deeds z.current x e = record {
+        let suits : Suits trace z.current x e = record {
           notarized = λ c says. absurd (cc);
           finalized = inl refl;
           enters = λ w says. absurd (cc);
@@ -87,13 +87,13 @@ module _ {K L D : Type 0} (same : D → D → Bool) (decides : (d e : D) → sam
           finalizes = λ w says. absurd (cc);
         } in
         let decided : is_nullify (round_of z v).decision ≡ true = ap (λ (s : RoundFacts K D). is_nullify s.decision) (round_put y v r) in
-        nullify_cast_stays term_length deeds z (stays_on same decides elect term_length deeds x e suits stays) round m may.0 (inl (noted_new v x.nullify_votes)) (inl decided)
+        nullify_cast_stays term_length trace z (stays_on same decides elect term_length trace x e suits stays) round m may.0 (inl (noted_new v x.nullify_votes)) (inl decided)
     retaken_stays (FinalizeVote p m) may =
         let v = p.round.view in
         let e : Event K D = event.Replay (FinalizeVote p m) in
         let r : RoundFacts K D = record (round_of x v) { decision = decision.Finalize } in
         let z = with_round x v r in
-        let suits : Suits deeds z.current x e = record {
+        let suits : Suits trace z.current x e = record {
           notarized = λ c says. absurd (cc);
           finalized = inl refl;
           enters = λ w says. absurd (cc);
@@ -101,25 +101,25 @@ module _ {K L D : Type 0} (same : D → D → Bool) (decides : (d e : D) → sam
           nullifies = λ w says. absurd (cc);
           finalizes = λ w says. inr (λ round h at. (let here : v ≡ w = cc in may.1 round h (at ∙ sym here)));
         } in
-        finalize_cast_stays term_length deeds z (stays_on same decides elect term_length deeds x e suits stays) p m may.0 (inl (ap (λ s. is_finalize s.decision) (round_put x v r)))
-    retaken_stays (Verdict round success) may = subst (λ a. Stays term_length a (after_entry same elect x now (Verdict round success))) (sym (append-nil deeds)) (verdict_again_stays round success)
+        finalize_cast_stays term_length trace z (stays_on same decides elect term_length trace x e suits stays) p m may.0 (inl (ap (λ s. is_finalize s.decision) (round_put x v r)))
+    retaken_stays (Verdict round success) may = subst (λ a. Stays term_length a (after_entry same elect x now (Verdict round success))) (sym (append-nil trace)) (verdict_again_stays round success)
     retaken_stays (Accepted (Notarized c)) may =
         let e : Event K D = event.AddNotarization c in
-        replayed_stays (deeds ++ Accepts (subject.Notarize c.proposal) ∷ []) (Notarized c) (after_event same elect x e) (notarization_stays same decides elect term_length deeds x stays c)
+        replayed_stays (trace ++ Accepts (subject.Notarize c.proposal) ∷ []) (Notarized c) (after_event same elect x e) (notarization_stays same decides elect term_length trace x stays c)
     retaken_stays (Accepted (Nullified c)) may =
         let e : Event K D = event.AddNullification c now in
-        replayed_stays (deeds ++ Accepts (subject.Nullify c.round) ∷ []) (Nullified c) (after_event same elect x e) (nullification_stays same decides elect term_length deeds x stays c now)
+        replayed_stays (trace ++ Accepts (subject.Nullify c.round) ∷ []) (Nullified c) (after_event same elect x e) (nullification_stays same decides elect term_length trace x stays c now)
     retaken_stays (Accepted (Finalized c)) may =
         let e : Event K D = event.AddFinalization c now in
-        replayed_stays (deeds ++ Accepts (subject.Finalize c.proposal) ∷ []) (Finalized c) (after_event same elect x e) (finalization_stays same decides elect term_length deeds x stays c now)
+        replayed_stays (trace ++ Accepts (subject.Finalize c.proposal) ∷ []) (Finalized c) (after_event same elect x e) (finalization_stays same decides elect term_length trace x stays c now)
 
     -- an entry is taken again, or passed over
-    pub taken_stays : (e : ArtifactFacts D) → MayRetake deeds x.current e → Stays term_length (deeds ++ entry_deeds e) (after_kept_entry same elect x now e)
+    pub taken_stays : (e : ArtifactFacts D) → MayRetake trace x.current e → Stays term_length (trace ++ entry_trace e) (after_kept_entry same elect x now e)
     unfolding after_kept_entry
     taken_stays e may = by_view (nat_lt (entry_view e) (min_active x)) refl
       where
-        by_view : (b : Bool) → nat_lt (entry_view e) (min_active x) ≡ b → Stays term_length (deeds ++ entry_deeds e) (if nat_lt (entry_view e) (min_active x) then x else after_entry same elect x now e)
-        by_view true is = rw is (passed_over term_length deeds x stays e (omega (arith, ltb-true (entry_view e) (min_active x) is)) may)
+        by_view : (b : Bool) → nat_lt (entry_view e) (min_active x) ≡ b → Stays term_length (trace ++ entry_trace e) (if nat_lt (entry_view e) (min_active x) then x else after_entry same elect x now e)
+        by_view true is = rw is (passed_over term_length trace x stays e (omega (arith, ltb-true (entry_view e) (min_active x) is)) may)
         by_view false is = rw is (retaken_stays e may)
 
   pub taken_passes : (e : ArtifactFacts D) (round : Round) → e ≡ Verdict round true → x.finalized < x.current → round.view < (after_kept_entry same elect x now e).current

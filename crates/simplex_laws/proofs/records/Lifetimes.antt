@@ -10,12 +10,12 @@ use Rattle.simplex_voter.proofs.Gaps.{and_parts, not_true}
 use Rattle.simplex_record.specs.Cuts.{is_vote, may_drop, without_last, finalized_by, finalized_in, pruned_entries}
 use Rattle.simplex_record.specs.Entries.{entry_view}
 use Rattle.simplex_record.proofs.Cuts.{none_dropped}
-use Rattle.simplex_laws.specs.Deeds.{Deed}
+use Rattle.simplex_laws.specs.Traces.{TraceEvent}
 use Rattle.simplex_laws.specs.Lawful.{IsLawful}
 use Rattle.simplex_laws.proofs.lists.Splits.{Contains-cases, Contains-cons_rest}
 use Rattle.simplex_laws.proofs.agreement.VoteOrder.{Contains-split, Contains-middle}
 use Rattle.simplex_laws.proofs.lists.Filters.{Contains-filter}
-use Rattle.simplex_laws.proofs.records.DeedsShown.{Remembers}
+use Rattle.simplex_laws.proofs.records.TracesShown.{Remembers}
 use Rattle.simplex_laws.proofs.records.Remembering.{append_split}
 use Rattle.simplex_laws.proofs.records.CutsRemembered.{left_remembers, bounded_remembers}
 use Rattle.simplex_laws.proofs.votes.NotarizeVotesShown.{RemembersNotes}
@@ -27,11 +27,11 @@ IsHigh {D} closed kept entries =
     (kept ≡ 0)
     ⊎ ((c : ProposalFacts D) × (front back : List (ArtifactFacts D)) × (entries ≡ front ++ Accepted (Finalized c) ∷ back) × (length front < closed) × (kept ≤ c.proposal.round.view))
 
--- between lives: the deeds are lawful, and the record remembers them but for views below `kept`
-pub record Between {D : Type 0} (term_length : ℕ) (deeds : List (Deed D)) (closed kept : ℕ) (entries : List (ArtifactFacts D)) : Type 0 where
-  pub lawful : IsLawful term_length deeds
-  pub remembers : Remembers deeds kept entries
-  pub notes : RemembersNotes deeds kept entries
+-- between lives: the trace is lawful, and the record remembers it but for views below `kept`
+pub record Between {D : Type 0} (term_length : ℕ) (trace : List (TraceEvent D)) (closed kept : ℕ) (entries : List (ArtifactFacts D)) : Type 0 where
+  pub lawful : IsLawful term_length trace
+  pub remembers : Remembers trace kept entries
+  pub notes : RemembersNotes trace kept entries
   pub high : IsHigh closed kept entries
   pub within : closed ≤ length entries
 
@@ -117,29 +117,29 @@ module _ {D : Type 0} where
   high_known closed kept entries (inl none) = inl none
   high_known closed kept entries (inr (c, front, back, is, early, above)) = inr (c, subst (λ es. Contains es (Accepted (Finalized c))) (sym is) (Contains-middle front back (Accepted (Finalized c))), above)
 
-module _ {D : Type 0} (term_length : ℕ) (deeds : List (Deed D)) (closed kept : ℕ) (entries : List (ArtifactFacts D)) (between : Between term_length deeds closed kept entries) where
+module _ {D : Type 0} (term_length : ℕ) (trace : List (TraceEvent D)) (closed kept : ℕ) (entries : List (ArtifactFacts D)) (between : Between term_length trace closed kept entries) where
   -- a drop
-  pub dropped_between : (n : ℕ) → Between term_length deeds closed kept (without_last closed n entries)
+  pub dropped_between : (n : ℕ) → Between term_length trace closed kept (without_last closed n entries)
   dropped_between n =
       let left = without_last closed n entries in
       let falls = drops closed n entries between.within in
       record {
         lawful = between.lawful;
-        remembers = left_remembers deeds kept entries between.remembers left falls.0 falls.1 falls.2;
-        notes = notes_left deeds kept entries between.notes left falls.0 falls.1 falls.2;
+        remembers = left_remembers trace kept entries between.remembers left falls.0 falls.1 falls.2;
+        notes = notes_left trace kept entries between.notes left falls.0 falls.1 falls.2;
         high = high_left closed kept entries left falls.0 falls.1 falls.3 between.high;
         within = falls.3;
       }
 
   -- entries of some views are taken, all below a bound that is no higher than the highest finalized view, and the rest is closed
-  pub bounded_between : (stays : ℕ → Bool) (bound : ℕ) → ((v : ℕ) → bound ≤ v → stays v ≡ true) → bound ≤ finalized_in entries → Between term_length deeds (length (filter (λ e. stays (entry_view e)) entries)) (max kept bound) (filter (λ e. stays (entry_view e)) entries)
+  pub bounded_between : (stays : ℕ → Bool) (bound : ℕ) → ((v : ℕ) → bound ≤ v → stays v ≡ true) → bound ≤ finalized_in entries → Between term_length trace (length (filter (λ e. stays (entry_view e)) entries)) (max kept bound) (filter (λ e. stays (entry_view e)) entries)
   bounded_between stays bound above low =
       let left = filter (λ e. stays (entry_view e)) entries in
       let most : kept ≤ finalized_in entries = high_below closed kept entries between.high in
       record {
         lawful = between.lawful;
-        remembers = bounded_remembers deeds kept entries between.remembers stays bound above;
-        notes = notes_bounded deeds kept entries between.notes stays bound above;
+        remembers = bounded_remembers trace kept entries between.remembers stays bound above;
+        notes = notes_bounded trace kept entries between.notes stays bound above;
         high = elim (has_highest entries) [
           | inl none ↦ inl (omega arith)
           | inr c ↦
@@ -152,7 +152,7 @@ module _ {D : Type 0} (term_length : ℕ) (deeds : List (Deed D)) (closed kept :
       }
 
   -- a prune, which closes what it leaves
-  pub pruned_between : (retention : ℕ) → Between term_length deeds (length (pruned_entries retention entries)) (max kept (finalized_in entries - retention)) (pruned_entries retention entries)
+  pub pruned_between : (retention : ℕ) → Between term_length trace (length (pruned_entries retention entries)) (max kept (finalized_in entries - retention)) (pruned_entries retention entries)
   unfolding pruned_entries
   pruned_between retention =
       let bound = finalized_in entries - retention in

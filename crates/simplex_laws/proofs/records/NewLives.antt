@@ -14,11 +14,11 @@ use Rattle.simplex_voter.specs.Facts.{Settings, StateFacts, Elect, new_facts, ro
 use Rattle.simplex_record.specs.declared.record.error.RecoverError.{RecoverError}
 use Rattle.simplex_member.specs.Allowed.{is_allowed}
 use Rattle.simplex_member.specs.Calls.{CallFacts}
-use Rattle.simplex_member.specs.Made.{answer, after_call, openings_after, recorded_by}
+use Rattle.simplex_member.specs.CallSemantics.{answer, after_call, outstanding_work_after, recorded_by}
 use Rattle.simplex_record.specs.Check.{first_error, entry_rules, first_broken_after, stands}
 use Rattle.simplex_record.specs.Entries.{entry_round, entry_view}
 use Rattle.simplex_record.specs.Recovery.{recovered_state, with_floor, is_finalization}
-use Rattle.simplex_laws.specs.Deeds.{Deed, Accepts, of_floor, deeds_of_call}
+use Rattle.simplex_laws.specs.Traces.{TraceEvent, Accepts, of_floor, trace_of_call}
 use Rattle.simplex_laws.specs.Lawful.{IsLawful}
 use Rattle.simplex_laws.proofs.agreement.Lawful.{lawful_push}
 use Rattle.simplex_laws.proofs.lists.Splits.{Contains-cases}
@@ -30,7 +30,7 @@ use Rattle.simplex_laws.proofs.records.RecordedVotes.{Marked}
 use Rattle.simplex_laws.proofs.records.CallsRemembered.{Follows, call_follows}
 use Rattle.simplex_laws.proofs.records.CutsRemembered.{in_copy, in_record, copy_remembers, floor_remembers}
 use Rattle.simplex_laws.proofs.frames.InOrder.{InOrder, order_call, order_recovered}
-use Rattle.simplex_member.specs.Openings.{Openings, no_openings}
+use Rattle.simplex_member.specs.OutstandingWork.{OutstandingWork, no_outstanding_work}
 use Rattle.simplex_laws.proofs.votes.NotarizeVotesShown.{NotesStand, RemembersNotes, notes_acted}
 use Rattle.simplex_laws.proofs.records.NotarizeVotesRemembered.{notes_copied, notes_floored, notes_called, floor_casts_none}
 use Rattle.simplex_laws.proofs.records.RecoveredNotarizeVotes.{recovered_notes}
@@ -38,18 +38,18 @@ use Rattle.simplex_laws.proofs.votes.NotarizeVotesByCalls.{call_notes}
 use Rattle.simplex_laws.proofs.records.Lifetimes.{IsHigh, Between, high_known}
 
 -- a living member: its state keeps the rules, and its record follows them
-pub record Living {K L D : Type 0} (term_length : ℕ) (deeds : List (Deed D)) (closed kept : ℕ) (entries : List (ArtifactFacts D)) (o : Openings K D) (x : StateFacts K L D) : Type 0 where
-  pub keeps : KeepsRules term_length deeds x
-  pub follows : Follows deeds kept entries x
+pub record Living {K L D : Type 0} (term_length : ℕ) (trace : List (TraceEvent D)) (closed kept : ℕ) (entries : List (ArtifactFacts D)) (o : OutstandingWork K D) (x : StateFacts K L D) : Type 0 where
+  pub keeps : KeepsRules term_length trace x
+  pub follows : Follows trace kept entries x
   pub in_order : InOrder x
-  pub notes : RemembersNotes deeds kept entries
-  pub noted : (base : ℕ) × (low : ℕ) × NotesStand base low deeds o x
+  pub notes : RemembersNotes trace kept entries
+  pub noted : (base : ℕ) × (low : ℕ) × NotesStand base low trace o x
   pub high : IsHigh closed kept entries
   pub within : closed ≤ length entries
 
 -- where a life ends the record is left
-pub living_between : {K L D : Type 0} (term_length : ℕ) (deeds : List (Deed D)) (closed kept : ℕ) (entries : List (ArtifactFacts D)) (o : Openings K D) (x : StateFacts K L D) → Living term_length deeds closed kept entries o x → Between term_length deeds closed kept entries
-living_between term_length deeds closed kept entries o x living = record { lawful = living.keeps.lawful; remembers = living.follows.remembers; notes = living.notes; high = living.high; within = living.within }
+pub living_between : {K L D : Type 0} (term_length : ℕ) (trace : List (TraceEvent D)) (closed kept : ℕ) (entries : List (ArtifactFacts D)) (o : OutstandingWork K D) (x : StateFacts K L D) → Living term_length trace closed kept entries o x → Between term_length trace closed kept entries
+living_between term_length trace closed kept entries o x living = record { lawful = living.keeps.lawful; remembers = living.follows.remembers; notes = living.notes; high = living.high; within = living.within }
 
 abbrev pub second_broken : List (Bool × RecoverError) → Bool
 second_broken [] = false
@@ -115,53 +115,53 @@ module _ {K L D : Type 0} where
     nullified = λ v is key. (let e = marked.nullified v is key in (e.0, there (NullifyVote (round_number x v) e.0) e.1));
   }
 
-floor_lawful : {D : Type 0} (term_length : ℕ) (deeds : List (Deed D)) (floor : FloorFacts D) → IsLawful term_length deeds → IsLawful term_length (deeds ++ of_floor floor)
-floor_lawful term_length deeds (Genesis payload) lawful = subst (IsLawful term_length) (sym (append-nil deeds)) lawful
-floor_lawful term_length deeds (FinalizedFloor c) lawful = lawful_push term_length deeds (Accepts (subject.Finalize c.proposal)) lawful tt
+floor_lawful : {D : Type 0} (term_length : ℕ) (trace : List (TraceEvent D)) (floor : FloorFacts D) → IsLawful term_length trace → IsLawful term_length (trace ++ of_floor floor)
+floor_lawful term_length trace (Genesis payload) lawful = subst (IsLawful term_length) (sym (append-nil trace)) lawful
+floor_lawful term_length trace (FinalizedFloor c) lawful = lawful_push term_length trace (Accepts (subject.Finalize c.proposal)) lawful tt
 
 module _ {K L D : Type 0} (same : D → D → Bool) (decides : (d e : D) → same d e ≡ true → d ≡ e) (elect : Elect L) (settings : Settings) (me : Option ℕ) (members : List K) (elector : L) (terms : Terms) (early : Bool) where
   -- a new life from a copy of the record by view
-  pub new_life_lives : (deeds : List (Deed D)) (closed kept : ℕ) (entries copy : List (ArtifactFacts D)) (floor : FloorFacts D) (now : ℕ) → Between terms.term_length deeds closed kept entries → ((v : ℕ) → filter (λ e. entry_view e == v) copy ≡ filter (λ e. entry_view e == v) entries) → ((e : ArtifactFacts D) → Contains copy e → (entry_round e).epoch ≡ settings.epoch) → Living terms.term_length (deeds ++ of_floor floor) closed kept (with_floor entries floor) no_openings (recovered_state same elect (new_facts settings me members elector terms early) floor now copy)
-  new_life_lives deeds closed kept entries copy floor now between by_view epochs =
+  pub new_life_lives : (trace : List (TraceEvent D)) (closed kept : ℕ) (entries copy : List (ArtifactFacts D)) (floor : FloorFacts D) (now : ℕ) → Between terms.term_length trace closed kept entries → ((v : ℕ) → filter (λ e. entry_view e == v) copy ≡ filter (λ e. entry_view e == v) entries) → ((e : ArtifactFacts D) → Contains copy e → (entry_round e).epoch ≡ settings.epoch) → Living terms.term_length (trace ++ of_floor floor) closed kept (with_floor entries floor) no_outstanding_work (recovered_state same elect (new_facts settings me members elector terms early) floor now copy)
+  new_life_lives trace closed kept entries copy floor now between by_view epochs =
       let t = terms.term_length in
       let x = recovered_state same elect (new_facts settings me members elector terms early) floor now copy in
-      let remembers = copy_remembers deeds kept entries between.remembers copy by_view in
-      let into_copy = in_copy deeds kept entries between.remembers copy by_view in
-      let into_record = in_record deeds kept entries between.remembers copy by_view in
+      let remembers = copy_remembers trace kept entries between.remembers copy by_view in
+      let into_copy = in_copy trace kept entries between.remembers copy by_view in
+      let into_record = in_record trace kept entries between.remembers copy by_view in
       let final : (kept ≡ 0) ⊎ ((c : ProposalFacts D) × Contains copy (Accepted (Finalized c)) × (kept ≤ c.proposal.round.view)) = elim (high_known closed kept entries between.high) [ inl none ↦ inl none | inr c ↦ inr (c.0, into_copy (Accepted (Finalized c.0)) c.1, c.2) ] in
-      let stays = recovered_stays same decides elect settings me members elector terms early deeds kept copy floor now between.lawful remembers final in
-      let copied = notes_copied deeds kept entries between.notes copy by_view in
-      let noted = recovered_notes same elect settings me members elector terms early deeds kept copy floor now copied (λ c h. remembers.accepted (Nullified c) h) final stays.ahead in
+      let stays = recovered_stays same decides elect settings me members elector terms early trace kept copy floor now between.lawful remembers final in
+      let copied = notes_copied trace kept entries between.notes copy by_view in
+      let noted = recovered_notes same elect settings me members elector terms early trace kept copy floor now copied (λ c h. remembers.accepted (Nullified c) h) final stays.ahead in
       let more = floor_split entries floor in
       let there : (e : ArtifactFacts D) → Contains copy e → Contains (with_floor entries floor) e =
       λ e h. subst (λ es. Contains es e) (sym more.1) (Contains-append_left entries more.0 e (into_record e h)) in
       record {
         keeps = record {
-          lawful = floor_lawful t deeds floor between.lawful;
+          lawful = floor_lawful t trace floor between.lawful;
           stays = stays;
         };
         follows = record {
-          remembers = floor_remembers deeds kept entries between.remembers floor;
+          remembers = floor_remembers trace kept entries between.remembers floor;
           marked = marked_in copy (with_floor entries floor) x there (recovered_marked same elect settings me members elector terms early copy floor now epochs);
         };
         in_order = order_recovered same elect settings me members elector terms early floor now copy;
-        notes = notes_floored deeds kept entries floor between.notes;
-        noted = (0, x.finalized + 1, notes_acted 0 (x.finalized + 1) deeds (of_floor floor) no_openings x (floor_casts_none floor) noted);
+        notes = notes_floored trace kept entries floor between.notes;
+        noted = (0, x.finalized + 1, notes_acted 0 (x.finalized + 1) trace (of_floor floor) no_outstanding_work x (floor_casts_none floor) noted);
         high = subst (λ es. IsHigh closed kept es) (sym more.1) (high_more closed kept entries more.0 between.high);
         within = subst (λ es. closed ≤ length es) (sym more.1) (within_more closed entries more.0 between.within);
       }
 
-module _ {K L D : Type 0} (same : D → D → Bool) (decides : (d e : D) → same d e ≡ true → d ≡ e) (elect : Elect L) (term_length : ℕ) (deeds : List (Deed D)) (closed kept : ℕ) (entries : List (ArtifactFacts D)) (x : StateFacts K L D) where
+module _ {K L D : Type 0} (same : D → D → Bool) (decides : (d e : D) → same d e ≡ true → d ≡ e) (elect : Elect L) (term_length : ℕ) (trace : List (TraceEvent D)) (closed kept : ℕ) (entries : List (ArtifactFacts D)) (x : StateFacts K L D) where
   -- a call that is allowed and not refused, and not on the work of a view
-  pub plain_lives : (o : Openings K D) (call : CallFacts D) → 0 < term_length → is_work call ≡ false → is_allowed x o call ≡ true → Living term_length deeds closed kept entries o x → Living term_length (deeds ++ deeds_of_call call (answer same elect x o call)) closed kept (entries ++ recorded_by same elect x call) (openings_after same elect x o call) (after_call same elect x o call)
+  pub plain_lives : (o : OutstandingWork K D) (call : CallFacts D) → 0 < term_length → is_work call ≡ false → is_allowed x o call ≡ true → Living term_length trace closed kept entries o x → Living term_length (trace ++ trace_of_call call (answer same elect x o call)) closed kept (entries ++ recorded_by same elect x call) (outstanding_work_after same elect x o call) (after_call same elect x o call)
   plain_lives o call some plain allowed living = record {
-    keeps = call_keeps same decides elect term_length deeds x living.keeps o call plain;
-    follows = call_follows same elect term_length deeds kept entries x living.keeps.stays living.follows o call plain allowed;
+    keeps = call_keeps same decides elect term_length trace x living.keeps o call plain;
+    follows = call_follows same elect term_length trace kept entries x living.keeps.stays living.follows o call plain allowed;
     in_order = order_call same elect x o living.in_order call;
-    notes = notes_called same elect x o deeds kept entries call plain living.notes;
+    notes = notes_called same elect x o trace kept entries call plain living.notes;
     noted =
         (let noted = living.noted in
-        let left = call_notes same elect noted.0 noted.1 deeds o x noted.2 call plain (omega (arith, some, living.keeps.stays.stands.terms)) living.keeps.stays.ahead allowed in
+        let left = call_notes same elect noted.0 noted.1 trace o x noted.2 call plain (omega (arith, some, living.keeps.stays.stands.terms)) living.keeps.stays.ahead allowed in
         (left.0, noted.1, left.1));
     high = high_more closed kept entries (recorded_by same elect x call) living.high;
     within = within_more closed entries (recorded_by same elect x call) living.within;

@@ -1,5 +1,5 @@
 -- For `votes_are_lawful`.
--- What a record remembers of the votes to notarize is kept: by each deed, by a copy of the record, and where it is cut.
+-- What a record remembers of the votes to notarize is kept: by each event, by a copy of the record, and where it is cut.
 use Rattle.std.proofs.Common.{◌≡◌, refl, sym, subst, ℕ, ◌≤◌, inl, inr, Bool, true, false, max, if◌then◌else◌, List, [], ◌∷◌, ◌++◌, Contains, filter, Option, Some, None, arith}
 use Rattle.std.specs.Prelude.{◌==◌, option_map, option_and_then}
 use Rattle.std.proofs.lemmas.Bool.{cases_Bool, false≢true, true≢false, eq-eqb}
@@ -16,17 +16,17 @@ use Rattle.simplex_voter.specs.Votes.{nullify_answer, finalize_answer}
 use Rattle.simplex_voter.specs.Acceptance.{notarization_added, nullification_added, finalization_added}
 use Rattle.simplex_voter.specs.Certification.{is_first_verdict}
 use Rattle.simplex_member.specs.Calls.{CallFacts, AddNotarization, AddNullification, AddFinalization, ConstructNotarize, Certified, ConstructNullify, ConstructFinalize, Nullify, Finalize}
-use Rattle.simplex_member.specs.Made.{if_new, unrepeated_vote, vote_entry, answer, recorded_by}
-use Rattle.simplex_member.specs.Openings.{Openings}
+use Rattle.simplex_member.specs.CallSemantics.{if_new, unrepeated_vote, vote_entry, answer, recorded_by}
+use Rattle.simplex_member.specs.OutstandingWork.{OutstandingWork}
 use Rattle.simplex_record.specs.Check.{stands}
 use Rattle.simplex_record.specs.Cuts.{is_vote}
 use Rattle.simplex_record.specs.Entries.{entry_view}
 use Rattle.simplex_record.specs.Recovery.{is_finalization, with_floor}
-use Rattle.simplex_laws.specs.Deeds.{Deed, Accepts, Signs, of_floor, deeds_of_call}
+use Rattle.simplex_laws.specs.Traces.{TraceEvent, Accepts, Signs, of_floor, trace_of_call}
 use Rattle.simplex_laws.specs.Lawful.{HasSigned}
 use Rattle.simplex_laws.proofs.lists.Signed.{signed_none, signed_left, signed_cases, signed_last, only_signed}
 use Rattle.simplex_laws.proofs.lists.Filters.{Contains-filter, Contains-filtered}
-use Rattle.simplex_laws.proofs.records.DeedsShown.{only_one}
+use Rattle.simplex_laws.proofs.records.TracesShown.{only_one}
 use Rattle.simplex_laws.proofs.votes.NotarizeVotesShown.{RemembersNotes, CastsNone}
 use Rattle.simplex_laws.proofs.frames.CallsOnWork.{is_work}
 use Rattle.simplex_laws.proofs.records.CutsRemembered.{falls_below}
@@ -39,14 +39,14 @@ pub nothing_noted : {D : Type 0} → RemembersNotes {D = D} [] 0 []
 nothing_noted = record { cast = λ p m h. absurd (omega (arith, h.1)); noted = λ p h. absurd (signed_none (subject.Notarize p) h) }
 
 module _ {D : Type 0} where
-  -- deeds and entries that are no votes to notarize
-  pub notes_grow : (deeds more : List (Deed D)) (kept : ℕ) (entries new : List (ArtifactFacts D)) → CastsNone more → NotesNone new → RemembersNotes deeds kept entries → RemembersNotes (deeds ++ more) kept (entries ++ new)
-  notes_grow deeds more kept entries new casts notes remembers = record {
+  -- events and entries that are no votes to notarize
+  pub notes_grow : (trace more : List (TraceEvent D)) (kept : ℕ) (entries new : List (ArtifactFacts D)) → CastsNone more → NotesNone new → RemembersNotes trace kept entries → RemembersNotes (trace ++ more) kept (entries ++ new)
+  notes_grow trace more kept entries new casts notes remembers = record {
     cast = λ p m h. elim (Contains-append_cases entries new (NotarizeVote p m) h) [
-      | inl old ↦ signed_left deeds more (subject.Notarize p) (remembers.cast p m old)
+      | inl old ↦ signed_left trace more (subject.Notarize p) (remembers.cast p m old)
       | inr there ↦ absurd (notes p m there)
     ];
-    noted = λ p h. elim (signed_cases deeds more (subject.Notarize p) h) [
+    noted = λ p h. elim (signed_cases trace more (subject.Notarize p) h) [
       | inl old ↦ elim (remembers.noted p old) [
         | inl e ↦ inl (e.0, Contains-append_left entries new (NotarizeVote p e.0) e.1)
         | inr below ↦ inr below
@@ -56,16 +56,16 @@ module _ {D : Type 0} where
   }
 
   -- a vote to notarize that is recorded
-  pub notes_cast : (deeds : List (Deed D)) (kept : ℕ) (entries : List (ArtifactFacts D)) (p : Proposal D) (m : ℕ) → RemembersNotes deeds kept entries → RemembersNotes (deeds ++ Signs m (subject.Notarize p) ∷ []) kept (entries ++ NotarizeVote p m ∷ [])
-  notes_cast deeds kept entries p m remembers = record {
+  pub notes_cast : (trace : List (TraceEvent D)) (kept : ℕ) (entries : List (ArtifactFacts D)) (p : Proposal D) (m : ℕ) → RemembersNotes trace kept entries → RemembersNotes (trace ++ Signs m (subject.Notarize p) ∷ []) kept (entries ++ NotarizeVote p m ∷ [])
+  notes_cast trace kept entries p m remembers = record {
     cast = λ q n h. elim (Contains-append_cases entries (NotarizeVote p m ∷ []) (NotarizeVote q n) h) [
-      | inl old ↦ signed_left deeds (Signs m (subject.Notarize p) ∷ []) (subject.Notarize q) (remembers.cast q n old)
+      | inl old ↦ signed_left trace (Signs m (subject.Notarize p) ∷ []) (subject.Notarize q) (remembers.cast q n old)
       | inr there ↦
           (let e = only_one (NotarizeVote p m) (NotarizeVote q n) there in
           let same : p ≡ q = cc in
-          subst (λ (t : Proposal D). HasSigned (deeds ++ Signs m (subject.Notarize p) ∷ []) (subject.Notarize t)) same (signed_last deeds m (subject.Notarize p)))
+          subst (λ (t : Proposal D). HasSigned (trace ++ Signs m (subject.Notarize p) ∷ []) (subject.Notarize t)) same (signed_last trace m (subject.Notarize p)))
     ];
-    noted = λ q h. elim (signed_cases deeds (Signs m (subject.Notarize p) ∷ []) (subject.Notarize q) h) [
+    noted = λ q h. elim (signed_cases trace (Signs m (subject.Notarize p) ∷ []) (subject.Notarize q) h) [
       | inl old ↦ elim (remembers.noted q old) [
         | inl e ↦ inl (e.0, Contains-append_left entries (NotarizeVote p m ∷ []) (NotarizeVote q e.0) e.1)
         | inr below ↦ inr below
@@ -77,9 +77,9 @@ module _ {D : Type 0} where
     ];
   }
 
-module _ {D : Type 0} (deeds : List (Deed D)) (kept : ℕ) (entries : List (ArtifactFacts D)) (remembers : RemembersNotes deeds kept entries) where
+module _ {D : Type 0} (trace : List (TraceEvent D)) (kept : ℕ) (entries : List (ArtifactFacts D)) (remembers : RemembersNotes trace kept entries) where
   -- entries of each view in the same order
-  pub notes_copied : (copy : List (ArtifactFacts D)) → ((v : ℕ) → filter (λ e. entry_view e == v) copy ≡ filter (λ e. entry_view e == v) entries) → RemembersNotes deeds kept copy
+  pub notes_copied : (copy : List (ArtifactFacts D)) → ((v : ℕ) → filter (λ e. entry_view e == v) copy ≡ filter (λ e. entry_view e == v) entries) → RemembersNotes trace kept copy
   notes_copied copy of_each_view = record {
     cast = λ p m h. remembers.cast p m (in_record (NotarizeVote p m) h);
     noted = λ p h. elim (remembers.noted p h) [ inl e ↦ inl (e.0, in_copy (NotarizeVote p e.0) e.1) | inr below ↦ inr below ];
@@ -96,7 +96,7 @@ module _ {D : Type 0} (deeds : List (Deed D)) (kept : ℕ) (entries : List (Arti
           Contains-filtered test copy e (subst (λ es. Contains es e) (sym (of_each_view (entry_view e))) (Contains-filter test entries e h (eq-eqb (entry_view e) (entry_view e) refl)))
 
   -- without last entries that are no votes
-  pub notes_left : (left tail : List (ArtifactFacts D)) → entries ≡ left ++ tail → ((e : ArtifactFacts D) → Contains tail e → is_vote e ≡ false) → RemembersNotes deeds kept left
+  pub notes_left : (left tail : List (ArtifactFacts D)) → entries ≡ left ++ tail → ((e : ArtifactFacts D) → Contains tail e → is_vote e ≡ false) → RemembersNotes trace kept left
   notes_left left tail split no_votes = record {
     cast = λ p m h. remembers.cast p m (subst (λ es. Contains es (NotarizeVote p m)) (sym split) (Contains-append_left left tail (NotarizeVote p m) h));
     noted = λ p h. elim (remembers.noted p h) [ inl e ↦ inl (e.0, voted p e.0 e.1) | inr below ↦ inr below ];
@@ -109,7 +109,7 @@ module _ {D : Type 0} (deeds : List (Deed D)) (kept : ℕ) (entries : List (Arti
       ]
 
   -- without entries of some views, all below a bound
-  pub notes_bounded : (stays : ℕ → Bool) (bound : ℕ) → ((v : ℕ) → bound ≤ v → stays v ≡ true) → RemembersNotes deeds (max kept bound) (filter (λ e. stays (entry_view e)) entries)
+  pub notes_bounded : (stays : ℕ → Bool) (bound : ℕ) → ((v : ℕ) → bound ≤ v → stays v ≡ true) → RemembersNotes trace (max kept bound) (filter (λ e. stays (entry_view e)) entries)
   notes_bounded stays bound above = record {
     cast = λ p m h. remembers.cast p m (Contains-filtered test entries (NotarizeVote p m) h);
     noted = λ p h. elim (remembers.noted p h) [
@@ -152,21 +152,21 @@ module _ {D : Type 0} where
   notes_newly b e other = notes_if b (e ∷ []) [] (notes_accepted e other) notes_nothing
 
   -- with the floor's finalization
-  pub notes_floored : (deeds : List (Deed D)) (kept : ℕ) (entries : List (ArtifactFacts D)) (floor : FloorFacts D) → RemembersNotes deeds kept entries → RemembersNotes (deeds ++ of_floor floor) kept (with_floor entries floor)
-  notes_floored deeds kept entries (Genesis _) remembers = subst (λ a. RemembersNotes a kept entries) (sym (append-nil deeds)) remembers
-  notes_floored deeds kept entries (FinalizedFloor c) remembers = by_record (stands c.proposal.round.view is_finalization entries) refl
+  pub notes_floored : (trace : List (TraceEvent D)) (kept : ℕ) (entries : List (ArtifactFacts D)) (floor : FloorFacts D) → RemembersNotes trace kept entries → RemembersNotes (trace ++ of_floor floor) kept (with_floor entries floor)
+  notes_floored trace kept entries (Genesis _) remembers = subst (λ a. RemembersNotes a kept entries) (sym (append-nil trace)) remembers
+  notes_floored trace kept entries (FinalizedFloor c) remembers = by_record (stands c.proposal.round.view is_finalization entries) refl
     where
       casts : CastsNone (Accepts (subject.Finalize c.proposal) ∷ [])
       casts = casts_accepted (subject.Finalize c.proposal)
 
-      by_record : (b : Bool) → stands c.proposal.round.view is_finalization entries ≡ b → RemembersNotes (deeds ++ Accepts (subject.Finalize c.proposal) ∷ []) kept (with_floor entries (FinalizedFloor c))
-      by_record true is = rw is (subst (λ es. RemembersNotes (deeds ++ Accepts (subject.Finalize c.proposal) ∷ []) kept es) (append-nil entries) (notes_grow deeds (Accepts (subject.Finalize c.proposal) ∷ []) kept entries [] casts notes_nothing remembers))
-      by_record false is = rw is (notes_grow deeds (Accepts (subject.Finalize c.proposal) ∷ []) kept entries (Accepted (Finalized c) ∷ []) casts (notes_accepted (Accepted (Finalized c)) (λ p m e. absurd (cc))) remembers)
+      by_record : (b : Bool) → stands c.proposal.round.view is_finalization entries ≡ b → RemembersNotes (trace ++ Accepts (subject.Finalize c.proposal) ∷ []) kept (with_floor entries (FinalizedFloor c))
+      by_record true is = rw is (subst (λ es. RemembersNotes (trace ++ Accepts (subject.Finalize c.proposal) ∷ []) kept es) (append-nil entries) (notes_grow trace (Accepts (subject.Finalize c.proposal) ∷ []) kept entries [] casts notes_nothing remembers))
+      by_record false is = rw is (notes_grow trace (Accepts (subject.Finalize c.proposal) ∷ []) kept entries (Accepted (Finalized c) ∷ []) casts (notes_accepted (Accepted (Finalized c)) (λ p m e. absurd (cc))) remembers)
 
 module _ {D : Type 0} (round : Round) where
   -- a vote to nullify, where one is told
 
-  nullify_casts_none : (K : Type 0) (v : ℕ) (me : Option ℕ) (a : Option Bool) → CastsNone (deeds_of_call {K = K} {D = D} (ConstructNullify v) (Nullify (option_and_then (λ m. option_map (λ retry. (retry, NullifyVote round m)) a) me)))
+  nullify_casts_none : (K : Type 0) (v : ℕ) (me : Option ℕ) (a : Option Bool) → CastsNone (trace_of_call {K = K} {D = D} (ConstructNullify v) (Nullify (option_and_then (λ m. option_map (λ retry. (retry, NullifyVote round m)) a) me)))
   nullify_casts_none K v None a = casts_nothing
   nullify_casts_none K v (Some m) None = casts_nothing
   nullify_casts_none K v (Some m) (Some retry) = λ p h. absurd (let e = only_signed (Signs m (subject.Nullify round)) (subject.Notarize p) h in cc)
@@ -180,7 +180,7 @@ module _ {D : Type 0} (round : Round) where
 module _ {D : Type 0} where
   -- a vote to finalize
 
-  finalize_casts_none : (K : Type 0) (v : ℕ) (me : Option ℕ) (a : Option (Proposal D)) → CastsNone (deeds_of_call {K = K} {D = D} (ConstructFinalize v) (Finalize (option_and_then (λ m. option_map (λ p. FinalizeVote p m) a) me)))
+  finalize_casts_none : (K : Type 0) (v : ℕ) (me : Option ℕ) (a : Option (Proposal D)) → CastsNone (trace_of_call {K = K} {D = D} (ConstructFinalize v) (Finalize (option_and_then (λ m. option_map (λ p. FinalizeVote p m) a) me)))
   finalize_casts_none K v None a = casts_nothing
   finalize_casts_none K v (Some m) None = casts_nothing
   finalize_casts_none K v (Some m) (Some q) = λ p h. absurd (let e = only_signed (Signs m (subject.Finalize q)) (subject.Notarize p) h in cc)
@@ -190,10 +190,10 @@ module _ {D : Type 0} where
   finalize_notes_none (Some m) None = notes_nothing
   finalize_notes_none (Some m) (Some q) = notes_accepted (FinalizeVote q m) (λ p n e. absurd (cc))
 
-module _ {K L D : Type 0} (same : D → D → Bool) (elect : Elect L) (x : StateFacts K L D) (o : Openings K D) where
+module _ {K L D : Type 0} (same : D → D → Bool) (elect : Elect L) (x : StateFacts K L D) (o : OutstandingWork K D) where
   -- no call but those on the work of a view casts a vote to notarize, or records one
 
-  pub calls_cast_none : (call : CallFacts D) → is_work call ≡ false → CastsNone (deeds_of_call call (answer same elect x o call))
+  pub calls_cast_none : (call : CallFacts D) → is_work call ≡ false → CastsNone (trace_of_call call (answer same elect x o call))
   calls_cast_none (AddNotarization c) plain = casts_accepted (subject.Notarize c.proposal)
   calls_cast_none (AddNullification c now) plain = casts_accepted (subject.Nullify c.round)
   calls_cast_none (AddFinalization c now) plain = casts_accepted (subject.Finalize c.proposal)
@@ -212,5 +212,5 @@ module _ {K L D : Type 0} (same : D → D → Bool) (elect : Elect L) (x : State
   calls_record_none (ConstructNotarize v) plain = absurd (true≢false plain)
   calls_record_none _ plain = notes_nothing
 
-  pub notes_called : (deeds : List (Deed D)) (kept : ℕ) (entries : List (ArtifactFacts D)) (call : CallFacts D) → is_work call ≡ false → RemembersNotes deeds kept entries → RemembersNotes (deeds ++ deeds_of_call call (answer same elect x o call)) kept (entries ++ recorded_by same elect x call)
-  notes_called deeds kept entries call plain = notes_grow deeds (deeds_of_call call (answer same elect x o call)) kept entries (recorded_by same elect x call) (calls_cast_none call plain) (calls_record_none call plain)
+  pub notes_called : (trace : List (TraceEvent D)) (kept : ℕ) (entries : List (ArtifactFacts D)) (call : CallFacts D) → is_work call ≡ false → RemembersNotes trace kept entries → RemembersNotes (trace ++ trace_of_call call (answer same elect x o call)) kept (entries ++ recorded_by same elect x call)
+  notes_called trace kept entries call plain = notes_grow trace (trace_of_call call (answer same elect x o call)) kept entries (recorded_by same elect x call) (calls_cast_none call plain) (calls_record_none call plain)

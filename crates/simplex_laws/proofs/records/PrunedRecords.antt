@@ -8,9 +8,9 @@ use Rattle.simplex_voter.specs.Facts.{StateFacts, round_at, round_of, round_numb
 use Rattle.simplex_record.specs.Cuts.{finalized_in}
 use Rattle.simplex_record.specs.Entries.{entry_view}
 use Rattle.simplex_member.specs.Lives.{MemberFacts}
-use Rattle.simplex_member.specs.Openings.{Openings}
+use Rattle.simplex_member.specs.OutstandingWork.{OutstandingWork}
 use Rattle.simplex_member.specs.Pruning.{tracks, stays_within, pruned_member}
-use Rattle.simplex_laws.specs.Deeds.{Deed}
+use Rattle.simplex_laws.specs.Traces.{TraceEvent}
 use Rattle.simplex_laws.proofs.lists.Filters.{Contains-filter}
 use Rattle.simplex_laws.proofs.records.Lifetimes.{Between, bounded_between}
 use Rattle.simplex_laws.proofs.records.NewLives.{Living, living_between}
@@ -52,17 +52,17 @@ module _ {K L D : Type 0} (entries : List (ArtifactFacts D)) (x : StateFacts K L
         (e.0, tracked_stays (NullifyVote (round_number x v) e.0) e.1 (shown_tracked x v (λ r. is_nullify r.decision) refl is)));
   }
 
-module _ {K L D : Type 0} (term_length : ℕ) (deeds : List (Deed D)) (m : MemberFacts K L D) (kept : ℕ) where
+module _ {K L D : Type 0} (term_length : ℕ) (trace : List (TraceEvent D)) (m : MemberFacts K L D) (kept : ℕ) where
   abbrev pub bound : ℕ
   bound = finalized_in m.entries - m.retention
 
   -- between lives, and in a life
-  pub pruned_ended : Between term_length deeds m.closed kept m.entries → Between term_length deeds (pruned_member m).closed (max kept bound) (pruned_member m).entries
-  pruned_ended between = bounded_between term_length deeds m.closed kept m.entries between (stays_within m) bound (λ v above. high_stay (tracks m.life) bound v above) (omega arith)
+  pub pruned_ended : Between term_length trace m.closed kept m.entries → Between term_length trace (pruned_member m).closed (max kept bound) (pruned_member m).entries
+  pruned_ended between = bounded_between term_length trace m.closed kept m.entries between (stays_within m) bound (λ v above. high_stay (tracks m.life) bound v above) (omega arith)
 
-  pub pruned_living : (x : StateFacts K L D) → m.life ≡ Some x → Living term_length deeds m.closed kept m.entries m.openings x → Living term_length deeds (pruned_member m).closed (max kept bound) (pruned_member m).entries m.openings x
+  pub pruned_living : (x : StateFacts K L D) → m.life ≡ Some x → Living term_length trace m.closed kept m.entries m.outstanding_work x → Living term_length trace (pruned_member m).closed (max kept bound) (pruned_member m).entries m.outstanding_work x
   pruned_living x alive living =
-      let between = bounded_between term_length deeds m.closed kept m.entries (living_between term_length deeds m.closed kept m.entries m.openings x living) (stays_within m) bound (λ v above. high_stay (tracks m.life) bound v above) (omega arith) in
+      let between = bounded_between term_length trace m.closed kept m.entries (living_between term_length trace m.closed kept m.entries m.outstanding_work x living) (stays_within m) bound (λ v above. high_stay (tracks m.life) bound v above) (omega arith) in
       record {
         keeps = living.keeps;
         follows = record { remembers = between.remembers; marked = rw alive (marked_still m.entries x bound living.follows.marked) };

@@ -18,16 +18,16 @@ use Rattle.simplex_voter.specs.Replay.{bound_again, restored_binding}
 use Rattle.simplex_voter.specs.Acceptance.{after_add_notarization, after_add_nullification, after_add_finalization, after_set_floor}
 use Rattle.simplex_voter.proofs.Elsewhere.{round_of-with_round}
 use Rattle.simplex_record.specs.Entries.{entry_view}
-use Rattle.simplex_member.specs.Openings.{no_openings}
+use Rattle.simplex_member.specs.OutstandingWork.{no_outstanding_work}
 use Rattle.simplex_record.specs.Recovery.{after_replaying, after_entry, after_kept_entry, after_entries, recovered_state}
-use Rattle.simplex_laws.specs.Deeds.{Deed, Accepts}
+use Rattle.simplex_laws.specs.Traces.{TraceEvent, Accepts}
 use Rattle.simplex_laws.proofs.frames.Rising.{finalization_passes}
 use Rattle.simplex_laws.proofs.lists.Splits.{Contains-cases, Contains-cons_rest}
 use Rattle.simplex_record.proofs.Rounds.{round_put}
 use Rattle.simplex_laws.proofs.votes.UnchangedProposals.{CalmOn, LeavesWork, calm_along, event_calm, leaves}
 use Rattle.simplex_laws.specs.Events as event
 use Rattle.simplex_laws.specs.Events.{Event, after_event}
-use Rattle.simplex_laws.specs.Sums.{covers_from}
+use Rattle.simplex_laws.specs.HistoryFolds.{covers_from}
 use Rattle.simplex_record.proofs.Steps.{Still}
 use Rattle.simplex_record.proofs.Paths.{asked_of_all, to_prepared}
 use Rattle.simplex_laws.proofs.votes.Proposals.{Tidy, tidy_calm, opposite}
@@ -273,9 +273,9 @@ module _ {K L D : Type 0} (same : D → D → Bool) (elect : Elect L) (settings 
   }
 
   -- the votes to notarize that were cast above the finalized view are decided
-  pub recovered_notes : (deeds : List (Deed D)) (kept : ℕ) (copy : List (ArtifactFacts D)) (floor : FloorFacts D) (now : ℕ) → RemembersNotes deeds kept copy → ((c : NullificationFacts) → Contains copy (Accepted (Nullified c)) → Contains deeds (Accepts (subject.Nullify c.round))) → (kept ≡ 0) ⊎ ((c : ProposalFacts D) × Contains copy (Accepted (Finalized c)) × (kept ≤ c.proposal.round.view)) → (made_again floor now copy).finalized < (made_again floor now copy).current → NotesStand 0 ((made_again floor now copy).finalized + 1) deeds no_openings (made_again floor now copy)
+  pub recovered_notes : (trace : List (TraceEvent D)) (kept : ℕ) (copy : List (ArtifactFacts D)) (floor : FloorFacts D) (now : ℕ) → RemembersNotes trace kept copy → ((c : NullificationFacts) → Contains copy (Accepted (Nullified c)) → Contains trace (Accepts (subject.Nullify c.round))) → (kept ≡ 0) ⊎ ((c : ProposalFacts D) × Contains copy (Accepted (Finalized c)) × (kept ≤ c.proposal.round.view)) → (made_again floor now copy).finalized < (made_again floor now copy).current → NotesStand 0 ((made_again floor now copy).finalized + 1) trace no_outstanding_work (made_again floor now copy)
   unfolding recovered_state
-  recovered_notes deeds kept copy floor now remembers accepted high ahead = record {
+  recovered_notes trace kept copy floor now remembers accepted high ahead = record {
     above = λ v tracked. omega arith;
     active = omega arith;
     reached = omega (arith, ahead);

@@ -12,7 +12,7 @@ use Rattle.simplex_voter.specs.Facts.{Settings, StateFacts, Elect, new_facts}
 use Rattle.simplex_voter.specs.Windows.{min_active}
 use Rattle.simplex_voter.specs.Acceptance.{after_add_finalization, after_set_floor}
 use Rattle.simplex_record.specs.Recovery.{after_entry, after_kept_entry, after_entries, recovered_state}
-use Rattle.simplex_laws.specs.Deeds.{Deed, Accepts, Signs, of_floor}
+use Rattle.simplex_laws.specs.Traces.{TraceEvent, Accepts, Signs, of_floor}
 use Rattle.simplex_laws.specs.Lawful.{IsLawful}
 use Rattle.simplex_laws.proofs.lists.Signed.{signed_right, signed_cases}
 use Rattle.simplex_laws.proofs.lists.Splits.{Contains-cases}
@@ -21,7 +21,7 @@ use Rattle.simplex_laws.proofs.votes.StartStands.{start_stays, floor_unsigned}
 use Rattle.simplex_laws.proofs.frames.CallsMake.{all_keep}
 use Rattle.simplex_laws.proofs.frames.Rising.{event_goes, finalization_passes}
 use Rattle.simplex_laws.specs.Events as event
-use Rattle.simplex_laws.proofs.records.DeedsShown.{Remembers, AreRecorded, entries_deeds, entry_of, deed_of, of_accept, all_stay, stays_over}
+use Rattle.simplex_laws.proofs.records.TracesShown.{Remembers, AreRecorded, entries_trace, entry_of, trace_event_of, of_accept, all_stay, stays_over}
 
 module _ {K L D : Type 0} (same : D → D → Bool) (elect : Elect L) (x : StateFacts K L D) (now : ℕ) where
   taken_finalizes : (e : ArtifactFacts D) (c : ProposalFacts D) → e ≡ Accepted (Finalized c) → c.proposal.round.view ≤ (after_kept_entry same elect x now e).finalized
@@ -45,42 +45,42 @@ module _ {K L D : Type 0} (same : D → D → Bool) (elect : Elect L) (now : ℕ
   ]
 
 module _ {K L D : Type 0} (same : D → D → Bool) (decides : (d e : D) → same d e ≡ true → d ≡ e) (elect : Elect L) (settings : Settings) (me : Option ℕ) (members : List K) (elector : L) (terms : Terms) (early : Bool) where
-  -- a state made from a record of all deeds before shows them, and the floor's finalization besides; of the views that the
+  -- a state made from a record of the whole trace before shows it, and the floor's finalization besides; of the views that the
   -- record may lack votes of, one that is no lower is finalized in it
-  pub recovered_stays : (deeds : List (Deed D)) (kept : ℕ) (copy : List (ArtifactFacts D)) (floor : FloorFacts D) (now : ℕ) → IsLawful terms.term_length deeds → Remembers deeds kept copy → (kept ≡ 0) ⊎ ((c : ProposalFacts D) × Contains copy (Accepted (Finalized c)) × (kept ≤ c.proposal.round.view)) → Stays terms.term_length (deeds ++ of_floor floor) (recovered_state same elect (new_facts settings me members elector terms early) floor now copy)
+  pub recovered_stays : (trace : List (TraceEvent D)) (kept : ℕ) (copy : List (ArtifactFacts D)) (floor : FloorFacts D) (now : ℕ) → IsLawful terms.term_length trace → Remembers trace kept copy → (kept ≡ 0) ⊎ ((c : ProposalFacts D) × Contains copy (Accepted (Finalized c)) × (kept ≤ c.proposal.round.view)) → Stays terms.term_length (trace ++ of_floor floor) (recovered_state same elect (new_facts settings me members elector terms early) floor now copy)
   unfolding recovered_state
-  recovered_stays deeds kept copy floor now lawful remembers final =
+  recovered_stays trace kept copy floor now lawful remembers final =
       let x = after_set_floor same elect (new_facts settings me members elector terms early) floor now in
       let z = after_entries same elect x now copy in
       let t = terms.term_length in
-      let a = of_floor floor ++ entries_deeds copy in
-      let b = deeds ++ of_floor floor in
-      let none : AreRecorded deeds (of_floor floor) = (λ round h. absurd (floor_unsigned floor (subject.Nullify round) h), λ p h. absurd (floor_unsigned floor (subject.Finalize p) h)) in
-      let stays : Stays t a z = all_stay same decides elect t deeds lawful kept copy remembers now copy [] (of_floor floor) x refl none (λ round h. absurd (omega (arith, h.1))) (start_stays same decides elect settings me members elector terms early floor now) in
+      let a = of_floor floor ++ entries_trace copy in
+      let b = trace ++ of_floor floor in
+      let none : AreRecorded trace (of_floor floor) = (λ round h. absurd (floor_unsigned floor (subject.Nullify round) h), λ p h. absurd (floor_unsigned floor (subject.Finalize p) h)) in
+      let stays : Stays t a z = all_stay same decides elect t trace lawful kept copy remembers now copy [] (of_floor floor) x refl none (λ round h. absurd (omega (arith, h.1))) (start_stays same decides elect settings me members elector terms early floor now) in
       let high : kept ≤ z.finalized = elim final [ inl nothing ↦ omega arith | inr c ↦ omega (arith, all_finalizes same elect now x copy c.0 c.1, c.2) ] in
       stays_over t a b z
-      (λ s h. elim (Contains-append_cases (of_floor floor) (entries_deeds copy) (Accepts s) h) [
-        | inl from_floor ↦ Contains-append_right deeds (of_floor floor) (Accepts s) from_floor
+      (λ s h. elim (Contains-append_cases (of_floor floor) (entries_trace copy) (Accepts s) h) [
+        | inl from_floor ↦ Contains-append_right trace (of_floor floor) (Accepts s) from_floor
         | inr from_copy ↦
             (let e = entry_of copy (Accepts s) from_copy in
             let c = of_accept e.0 s e.2 in
             let entry : Contains copy (Accepted c.0) = subst (λ f. Contains copy f) c.1 e.1 in
-            Contains-append_left deeds (of_floor floor) (Accepts s) (subst (λ (q : Subject D). Contains deeds (Accepts q)) c.2 (remembers.accepted c.0 entry)))
+            Contains-append_left trace (of_floor floor) (Accepts s) (subst (λ (q : Subject D). Contains trace (Accepts q)) c.2 (remembers.accepted c.0 entry)))
       ])
-      (λ round h. elim (signed_cases deeds (of_floor floor) (subject.Nullify round) h) [
+      (λ round h. elim (signed_cases trace (of_floor floor) (subject.Nullify round) h) [
         | inr from_floor ↦ absurd (floor_unsigned floor (subject.Nullify round) from_floor)
         | inl old ↦ (
           remembers.above_genesis round old,
           elim (remembers.nullify_kept round old) [
-            | inl e ↦ inl (signed_right (of_floor floor) (entries_deeds copy) (subject.Nullify round) (e.0, deed_of copy (NullifyVote round e.0) (Signs e.0 (subject.Nullify round)) e.1 (0, omega arith, refl)))
+            | inl e ↦ inl (signed_right (of_floor floor) (entries_trace copy) (subject.Nullify round) (e.0, trace_event_of copy (NullifyVote round e.0) (Signs e.0 (subject.Nullify round)) e.1 (0, omega arith, refl)))
             | inr below ↦ inr (omega arith)
           ],
         )
       ])
-      (λ p h. elim (signed_cases deeds (of_floor floor) (subject.Finalize p) h) [
+      (λ p h. elim (signed_cases trace (of_floor floor) (subject.Finalize p) h) [
         | inr from_floor ↦ absurd (floor_unsigned floor (subject.Finalize p) from_floor)
         | inl old ↦ elim (remembers.finalize_kept p old) [
-          | inl e ↦ inl (signed_right (of_floor floor) (entries_deeds copy) (subject.Finalize p) (e.0, deed_of copy (FinalizeVote p e.0) (Signs e.0 (subject.Finalize p)) e.1 (0, omega arith, refl)))
+          | inl e ↦ inl (signed_right (of_floor floor) (entries_trace copy) (subject.Finalize p) (e.0, trace_event_of copy (FinalizeVote p e.0) (Signs e.0 (subject.Finalize p)) e.1 (0, omega arith, refl)))
           | inr below ↦ inr (omega arith)
         ]
       ])

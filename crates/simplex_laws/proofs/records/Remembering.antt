@@ -1,17 +1,17 @@
 -- For `votes_are_lawful`.
--- A record that grows with each deed remembers it.
+-- A record that grows with each event of the trace remembers it.
 use Rattle.std.proofs.Common.{◌≡◌, refl, ap, sym, ◌∙◌, subst, ℕ, ◌≤◌, ◌⊎◌, inl, inr, Bool, true, false, List, [], ◌∷◌, ◌++◌, Contains, arith}
 use Rattle.std.proofs.lemmas.List.Elements.{Contains-append_left, Contains-append_right, Contains-append_cases}
 use Rattle.simplex_types.specs.Certificates.{CertificateFacts, ArtifactFacts, NullifyVote, FinalizeVote, Verdict, Accepted}
 use Rattle.simplex_types.specs.declared.types.messages.Proposal.{Proposal}
 use Rattle.simplex_types.specs.declared.types.messages.Subject.TheVariants as subject
 use Rattle.simplex_types.specs.declared.types.numbers.Round.{Round}
-use Rattle.simplex_member.specs.Made.{if_new}
-use Rattle.simplex_laws.specs.Deeds.{Deed, Accepts, Signs}
+use Rattle.simplex_member.specs.CallSemantics.{if_new}
+use Rattle.simplex_laws.specs.Traces.{TraceEvent, Accepts, Signs}
 use Rattle.simplex_laws.specs.Lawful.{HasSigned}
 use Rattle.simplex_laws.proofs.lists.Signed.{signed_none, signed_left, signed_cases, signed_last, only_signed}
-use Rattle.simplex_laws.proofs.records.EntryDeeds.{subject_of}
-use Rattle.simplex_laws.proofs.records.DeedsShown.{Remembers, only_one}
+use Rattle.simplex_laws.proofs.records.EntryTraces.{subject_of}
+use Rattle.simplex_laws.proofs.records.TracesShown.{Remembers, only_one}
 
 -- an element of two lists joined stands in the first one or behind it
 pub append_split : {X : Type 0} (xs ys before after : List X) (x : X) → xs ++ ys ≡ before ++ x ∷ after → ((rest : List X) × (xs ≡ before ++ x ∷ rest)) ⊎ ((front : List X) × (before ≡ xs ++ front) × (ys ≡ front ++ x ∷ after))
@@ -36,45 +36,45 @@ single_split [] after y x e = cc
 single_split (b ∷ []) after y x e = absurd (cc)
 single_split (b ∷ (c ∷ before)) after y x e = absurd (cc)
 
--- what has to be known of new entries and deeds
-pub record Grows {D : Type 0} (deeds more : List (Deed D)) (entries new : List (ArtifactFacts D)) : Type 0 where
-  pub accepted : (c : CertificateFacts D) → Contains new (Accepted c) → Contains (deeds ++ more) (Accepts (subject_of c))
-  pub nullify_cast : (round : Round) (m : ℕ) → Contains new (NullifyVote round m) → HasSigned (deeds ++ more) (subject.Nullify round)
-  pub finalize_cast : (p : Proposal D) (m : ℕ) → Contains new (FinalizeVote p m) → HasSigned (deeds ++ more) (subject.Finalize p)
+-- what has to be known of new entries and events
+pub record Grows {D : Type 0} (trace more : List (TraceEvent D)) (entries new : List (ArtifactFacts D)) : Type 0 where
+  pub accepted : (c : CertificateFacts D) → Contains new (Accepted c) → Contains (trace ++ more) (Accepts (subject_of c))
+  pub nullify_cast : (round : Round) (m : ℕ) → Contains new (NullifyVote round m) → HasSigned (trace ++ more) (subject.Nullify round)
+  pub finalize_cast : (p : Proposal D) (m : ℕ) → Contains new (FinalizeVote p m) → HasSigned (trace ++ more) (subject.Finalize p)
   pub nullify_kept : (round : Round) → HasSigned more (subject.Nullify round) → (1 ≤ round.view) × ((m : ℕ) × Contains (entries ++ new) (NullifyVote round m))
   pub finalize_kept : (p : Proposal D) → HasSigned more (subject.Finalize p) → (m : ℕ) × Contains (entries ++ new) (FinalizeVote p m)
   pub judged : (before after : List (ArtifactFacts D)) (p : Proposal D) (m : ℕ) → new ≡ before ++ FinalizeVote p m ∷ after → (round : Round) × Contains entries (Verdict round true) × (round.view ≡ p.round.view)
 
-module _ {D : Type 0} (deeds : List (Deed D)) (entries : List (ArtifactFacts D)) where
-  pub remembers_more : (kept : ℕ) (more : List (Deed D)) (new : List (ArtifactFacts D)) → Grows deeds more entries new → Remembers deeds kept entries → Remembers (deeds ++ more) kept (entries ++ new)
+module _ {D : Type 0} (trace : List (TraceEvent D)) (entries : List (ArtifactFacts D)) where
+  pub remembers_more : (kept : ℕ) (more : List (TraceEvent D)) (new : List (ArtifactFacts D)) → Grows trace more entries new → Remembers trace kept entries → Remembers (trace ++ more) kept (entries ++ new)
   remembers_more kept more new grows remembers = record {
     accepted = λ c h. elim (Contains-append_cases entries new (Accepted c) h) [
-      | inl old ↦ Contains-append_left deeds more (Accepts (subject_of c)) (remembers.accepted c old)
+      | inl old ↦ Contains-append_left trace more (Accepts (subject_of c)) (remembers.accepted c old)
       | inr late ↦ grows.accepted c late
     ];
     nullify_cast = λ round m h. elim (Contains-append_cases entries new (NullifyVote round m) h) [
-      | inl old ↦ signed_left deeds more (subject.Nullify round) (remembers.nullify_cast round m old)
+      | inl old ↦ signed_left trace more (subject.Nullify round) (remembers.nullify_cast round m old)
       | inr late ↦ grows.nullify_cast round m late
     ];
     finalize_cast = λ p m h. elim (Contains-append_cases entries new (FinalizeVote p m) h) [
-      | inl old ↦ signed_left deeds more (subject.Finalize p) (remembers.finalize_cast p m old)
+      | inl old ↦ signed_left trace more (subject.Finalize p) (remembers.finalize_cast p m old)
       | inr late ↦ grows.finalize_cast p m late
     ];
-    nullify_kept = λ round h. elim (signed_cases deeds more (subject.Nullify round) h) [
+    nullify_kept = λ round h. elim (signed_cases trace more (subject.Nullify round) h) [
       | inl old ↦ elim (remembers.nullify_kept round old) [
         | inl e ↦ inl (e.0, Contains-append_left entries new (NullifyVote round e.0) e.1)
         | inr below ↦ inr below
       ]
       | inr late ↦ inl (grows.nullify_kept round late).1
     ];
-    finalize_kept = λ p h. elim (signed_cases deeds more (subject.Finalize p) h) [
+    finalize_kept = λ p h. elim (signed_cases trace more (subject.Finalize p) h) [
       | inl old ↦ elim (remembers.finalize_kept p old) [
         | inl e ↦ inl (e.0, Contains-append_left entries new (FinalizeVote p e.0) e.1)
         | inr below ↦ inr below
       ]
       | inr late ↦ inl (grows.finalize_kept p late)
     ];
-    above_genesis = λ round h. elim (signed_cases deeds more (subject.Nullify round) h) [
+    above_genesis = λ round h. elim (signed_cases trace more (subject.Nullify round) h) [
       | inl old ↦ remembers.above_genesis round old
       | inr late ↦ (grows.nullify_kept round late).0
     ];
@@ -86,8 +86,8 @@ module _ {D : Type 0} (deeds : List (Deed D)) (entries : List (ArtifactFacts D))
     ];
   }
 
-  -- no deed and no entry
-  pub grows_nothing : Grows deeds [] entries []
+  -- no event and no entry
+  pub grows_nothing : Grows trace [] entries []
   grows_nothing = record {
     accepted = λ c h. absurd (omega (arith, h.1));
     nullify_cast = λ round m h. absurd (omega (arith, h.1));
@@ -97,8 +97,8 @@ module _ {D : Type 0} (deeds : List (Deed D)) (entries : List (ArtifactFacts D))
     judged = λ before after p m split. absurd (none_split before after (FinalizeVote p m) split);
   }
 
-  -- a verdict is no deed
-  pub grows_verdict : (is_new : Bool) (round : Round) (success : Bool) → Grows deeds [] entries (if_new is_new (Verdict round success))
+  -- a verdict is no event of the trace
+  pub grows_verdict : (is_new : Bool) (round : Round) (success : Bool) → Grows trace [] entries (if_new is_new (Verdict round success))
   grows_verdict false round success = grows_nothing
   grows_verdict true round success = record {
     accepted = λ c h. absurd (let e = only_one (Verdict round success) (Accepted c) h in cc);
@@ -110,7 +110,7 @@ module _ {D : Type 0} (deeds : List (Deed D)) (entries : List (ArtifactFacts D))
   }
 
   -- a certificate is accepted, whether it is recorded or not
-  pub grows_certificate : (is_new : Bool) (c : CertificateFacts D) → Grows deeds (Accepts (subject_of c) ∷ []) entries (if_new is_new (Accepted c))
+  pub grows_certificate : (is_new : Bool) (c : CertificateFacts D) → Grows trace (Accepts (subject_of c) ∷ []) entries (if_new is_new (Accepted c))
   grows_certificate false c = record {
     accepted = λ d h. absurd (omega (arith, h.1));
     nullify_cast = λ round m h. absurd (omega (arith, h.1));
@@ -123,7 +123,7 @@ module _ {D : Type 0} (deeds : List (Deed D)) (entries : List (ArtifactFacts D))
     accepted = λ d h.
         (let e = only_one (Accepted c) (Accepted d) h in
         let same : c ≡ d = cc in
-        subst (λ (b : CertificateFacts D). Contains (deeds ++ Accepts (subject_of c) ∷ []) (Accepts (subject_of b))) same (Contains-append_right deeds (Accepts (subject_of c) ∷ []) (Accepts (subject_of c)) (0, omega arith, refl)));
+        subst (λ (b : CertificateFacts D). Contains (trace ++ Accepts (subject_of c) ∷ []) (Accepts (subject_of b))) same (Contains-append_right trace (Accepts (subject_of c) ∷ []) (Accepts (subject_of c)) (0, omega arith, refl)));
     nullify_cast = λ round m h. absurd (let e = only_one (Accepted c) (NullifyVote round m) h in cc);
     finalize_cast = λ p m h. absurd (let e = only_one (Accepted c) (FinalizeVote p m) h in cc);
     nullify_kept = λ round h. absurd (let e = only_signed (Accepts (subject_of c)) (subject.Nullify round) h in cc);
@@ -132,7 +132,7 @@ module _ {D : Type 0} (deeds : List (Deed D)) (entries : List (ArtifactFacts D))
   }
 
   -- a vote to nullify that was recorded before
-  pub grows_again : (round : Round) (m n : ℕ) → 1 ≤ round.view → Contains entries (NullifyVote round n) → Grows deeds (Signs m (subject.Nullify round) ∷ []) entries []
+  pub grows_again : (round : Round) (m n : ℕ) → 1 ≤ round.view → Contains entries (NullifyVote round n) → Grows trace (Signs m (subject.Nullify round) ∷ []) entries []
   grows_again round m n one there = record {
     accepted = λ d h. absurd (omega (arith, h.1));
     nullify_cast = λ r k h. absurd (omega (arith, h.1));
@@ -146,13 +146,13 @@ module _ {D : Type 0} (deeds : List (Deed D)) (entries : List (ArtifactFacts D))
   }
 
   -- a vote to nullify that is recorded now
-  pub grows_nullify : (round : Round) (m : ℕ) → 1 ≤ round.view → Grows deeds (Signs m (subject.Nullify round) ∷ []) entries (NullifyVote round m ∷ [])
+  pub grows_nullify : (round : Round) (m : ℕ) → 1 ≤ round.view → Grows trace (Signs m (subject.Nullify round) ∷ []) entries (NullifyVote round m ∷ [])
   grows_nullify round m one = record {
     accepted = λ c h. absurd (let e = only_one (NullifyVote round m) (Accepted c) h in cc);
     nullify_cast = λ r n h.
         (let e = only_one (NullifyVote round m) (NullifyVote r n) h in
         let same : round ≡ r = cc in
-        subst (λ (q : Round). HasSigned (deeds ++ Signs m (subject.Nullify round) ∷ []) (subject.Nullify q)) same (signed_last deeds m (subject.Nullify round)));
+        subst (λ (q : Round). HasSigned (trace ++ Signs m (subject.Nullify round) ∷ []) (subject.Nullify q)) same (signed_last trace m (subject.Nullify round)));
     finalize_cast = λ p n h. absurd (let e = only_one (NullifyVote round m) (FinalizeVote p n) h in cc);
     nullify_kept = λ r h.
         (let e = only_signed (Signs m (subject.Nullify round)) (subject.Nullify r) h in
@@ -163,14 +163,14 @@ module _ {D : Type 0} (deeds : List (Deed D)) (entries : List (ArtifactFacts D))
   }
 
   -- a vote to finalize, of a view with a true verdict
-  pub grows_finalize : (p : Proposal D) (m : ℕ) (round : Round) → Contains entries (Verdict round true) → round.view ≡ p.round.view → Grows deeds (Signs m (subject.Finalize p) ∷ []) entries (FinalizeVote p m ∷ [])
+  pub grows_finalize : (p : Proposal D) (m : ℕ) (round : Round) → Contains entries (Verdict round true) → round.view ≡ p.round.view → Grows trace (Signs m (subject.Finalize p) ∷ []) entries (FinalizeVote p m ∷ [])
   grows_finalize p m round verdict at = record {
     accepted = λ c h. absurd (let e = only_one (FinalizeVote p m) (Accepted c) h in cc);
     nullify_cast = λ r n h. absurd (let e = only_one (FinalizeVote p m) (NullifyVote r n) h in cc);
     finalize_cast = λ q n h.
         (let e = only_one (FinalizeVote p m) (FinalizeVote q n) h in
         let same : p ≡ q = cc in
-        subst (λ (t : Proposal D). HasSigned (deeds ++ Signs m (subject.Finalize p) ∷ []) (subject.Finalize t)) same (signed_last deeds m (subject.Finalize p)));
+        subst (λ (t : Proposal D). HasSigned (trace ++ Signs m (subject.Finalize p) ∷ []) (subject.Finalize t)) same (signed_last trace m (subject.Finalize p)));
     nullify_kept = λ r h. absurd (let e = only_signed (Signs m (subject.Finalize p)) (subject.Nullify r) h in cc);
     finalize_kept = λ q h.
         (let e = only_signed (Signs m (subject.Finalize p)) (subject.Finalize q) h in

@@ -13,12 +13,12 @@ use Rattle.simplex_member.specs.declared.member.journal.Stored.{Stored}
 use Rattle.simplex_member.specs.declared.member.resume.ResumeError.TheVariants.{Recover}
 use Rattle.simplex_member.specs.Allowed.{is_allowed, fault_of}
 use Rattle.simplex_member.specs.Calls.{CallFacts, Told, Restarted}
-use Rattle.simplex_member.specs.Made.{recorded_by}
+use Rattle.simplex_member.specs.CallSemantics.{recorded_by}
 use Rattle.simplex_record.specs.Check.{stands}
 use Rattle.simplex_record.specs.Cuts.{may_drop, without_last}
 use Rattle.simplex_member.specs.Journal.{stored_of, stored_facts, whole_restart, IsResumed, IsNotResumed}
 use Rattle.simplex_member.specs.Lives.{MemberFacts, without_life, left_of, AnswersAlive, IsCall}
-use Rattle.simplex_member.specs.Openings.{Openings, no_openings}
+use Rattle.simplex_member.specs.OutstandingWork.{OutstandingWork, no_outstanding_work}
 use Rattle.simplex_record.specs.Recovery.{recover_error, is_finalization, with_floor}
 use Rattle.simplex_member.specs.Restarts.{RestartFacts, cut_member, retention_grows, new_life, GoesOn, IsRestartWhere, IsRestart}
 use Rattle.simplex_member.specs.Runs.{StepFacts, Calls, Prunes, Restarts, IsStep, IsRun, IsRefused}
@@ -74,17 +74,17 @@ module _ {K L D : Type 0} (same : D → D → Bool) (elect : Elect L) (m : Membe
   unfolding IsCall
   call_within call told left is_call = by_life m.life is_call
     where
-      by_fault : (x : StateFacts K L D) (f : Option Fault) → fault_of x call ≡ f → is_allowed x m.openings call ≡ true → Within (left_of same elect x m call)
+      by_fault : (x : StateFacts K L D) (f : Option Fault) → fault_of x call ≡ f → is_allowed x m.outstanding_work call ≡ true → Within (left_of same elect x m call)
       by_fault x None no_fault allowed = rw (allowed, no_fault) (more_within (recorded_by same elect x call))
       by_fault x (Some f) refused allowed = rw (allowed, refused) within
 
-      by_allowed : (x : StateFacts K L D) (b : Bool) → is_allowed x m.openings call ≡ b → Within (left_of same elect x m call)
+      by_allowed : (x : StateFacts K L D) (b : Bool) → is_allowed x m.outstanding_work call ≡ b → Within (left_of same elect x m call)
       by_allowed x true allowed = by_fault x (fault_of x call) refl allowed
       by_allowed x false not_allowed = rw not_allowed within
 
       by_life : (o : Option (StateFacts K L D)) → AnswersAlive same elect o m call told left → Within left
       by_life None (tell, leaves) = rw leaves within
-      by_life (Some x) (inl (tell, leaves)) = rw leaves (by_allowed x (is_allowed x m.openings call) refl)
+      by_life (Some x) (inl (tell, leaves)) = rw leaves (by_allowed x (is_allowed x m.outstanding_work call) refl)
       by_life (Some x) (inr (_, tell, inl (_, leaves))) = rw leaves within
       by_life (Some x) (inr (_, tell, inr (_, _, leaves))) = rw leaves within
 
@@ -120,35 +120,35 @@ module _ {K L D : Type 0} (same : D → D → Bool) (elect : Elect L) where
 
 module _ {K L D : Type 0} (same : D → D → Bool) (elect : Elect L) (start : StartFacts K L D) where
   -- whether it lives, and what it has open, doesn't matter to a new life
-  other_life : (m next : MemberFacts K L D) (life : Option (StateFacts K L D)) (openings : Openings K D) → IsRestart same elect m (whole_restart start) (Ok tt) next → IsRestart same elect (record m { life = life; openings = openings }) (whole_restart start) (Ok tt) next
+  other_life : (m next : MemberFacts K L D) (life : Option (StateFacts K L D)) (outstanding_work : OutstandingWork K D) → IsRestart same elect m (whole_restart start) (Ok tt) next → IsRestart same elect (record m { life = life; outstanding_work = outstanding_work }) (whole_restart start) (Ok tt) next
   unfolding IsRestart
-  other_life m next life openings restarts = by_test (retention_grows m false start.setup.settings.view_retention) restarts
+  other_life m next life outstanding_work restarts = by_test (retention_grows m false start.setup.settings.view_retention) restarts
     where
       by_error : (copy : List (ArtifactFacts D)) (o : Option RecoverError)
           → MatchOption o ((◌≡◌ {A = Result (Unit {0}) RecoverError} (Ok tt) (Ok tt)) × (next ≡ new_life same elect m start copy)) (λ e. (◌≡◌ {A = Result (Unit {0}) RecoverError} (Ok tt) (Err e)) × (next ≡ without_life m))
-          → MatchOption o ((◌≡◌ {A = Result (Unit {0}) RecoverError} (Ok tt) (Ok tt)) × (next ≡ new_life same elect m start copy)) (λ e. (◌≡◌ {A = Result (Unit {0}) RecoverError} (Ok tt) (Err e)) × (next ≡ without_life (record m { life = life; openings = openings })))
+          → MatchOption o ((◌≡◌ {A = Result (Unit {0}) RecoverError} (Ok tt) (Ok tt)) × (next ≡ new_life same elect m start copy)) (λ e. (◌≡◌ {A = Result (Unit {0}) RecoverError} (Ok tt) (Err e)) × (next ≡ without_life (record m { life = life; outstanding_work = outstanding_work })))
       by_error copy None (is, leaves) = (is, leaves)
       by_error copy (Some e) (is, leaves) = absurd cc
 
-      by_test : (b : Bool) → IsRestartWhere same elect b m (whole_restart start) (Ok tt) next → IsRestartWhere same elect b (record m { life = life; openings = openings }) (whole_restart start) (Ok tt) next
+      by_test : (b : Bool) → IsRestartWhere same elect b m (whole_restart start) (Ok tt) next → IsRestartWhere same elect b (record m { life = life; outstanding_work = outstanding_work }) (whole_restart start) (Ok tt) next
       by_test true (is, leaves) = absurd cc
       by_test false (inl (is, leaves)) = absurd cc
       by_test false (inr (copy, by_view, goes)) = inr (copy, by_view, by_error copy (recover_error same (new_state start.setup) start.floor start.now copy) goes)
 
   -- nor does it to a refusal, which leaves them
-  other_refusal : (m left : MemberFacts K L D) (life : Option (StateFacts K L D)) (openings : Openings K D) (found : RecoverError) → IsRestart same elect m (whole_restart start) (Err found) left
-      → IsRestartWhere same elect (retention_grows m false start.setup.settings.view_retention) (record m { life = life; openings = openings }) (whole_restart start) (Err found) (record m { life = if retention_grows m false start.setup.settings.view_retention then life else None; openings = if retention_grows m false start.setup.settings.view_retention then openings else no_openings })
+  other_refusal : (m left : MemberFacts K L D) (life : Option (StateFacts K L D)) (outstanding_work : OutstandingWork K D) (found : RecoverError) → IsRestart same elect m (whole_restart start) (Err found) left
+      → IsRestartWhere same elect (retention_grows m false start.setup.settings.view_retention) (record m { life = life; outstanding_work = outstanding_work }) (whole_restart start) (Err found) (record m { life = if retention_grows m false start.setup.settings.view_retention then life else None; outstanding_work = if retention_grows m false start.setup.settings.view_retention then outstanding_work else no_outstanding_work })
   unfolding IsRestart
-  other_refusal m left life openings found restarts = by_test (retention_grows m false start.setup.settings.view_retention) restarts
+  other_refusal m left life outstanding_work found restarts = by_test (retention_grows m false start.setup.settings.view_retention) restarts
     where
       by_error : (copy : List (ArtifactFacts D)) (o : Option RecoverError)
           → MatchOption o ((◌≡◌ {A = Result (Unit {0}) RecoverError} (Err found) (Ok tt)) × (left ≡ new_life same elect m start copy)) (λ e. (◌≡◌ {A = Result (Unit {0}) RecoverError} (Err found) (Err e)) × (left ≡ without_life m))
-          → MatchOption o ((◌≡◌ {A = Result (Unit {0}) RecoverError} (Err found) (Ok tt)) × (record m { life = None; openings = no_openings } ≡ new_life same elect m start copy)) (λ e. (◌≡◌ {A = Result (Unit {0}) RecoverError} (Err found) (Err e)) × (◌≡◌ {A = MemberFacts K L D} (record m { life = None; openings = no_openings }) (record m { life = None; openings = no_openings })))
+          → MatchOption o ((◌≡◌ {A = Result (Unit {0}) RecoverError} (Err found) (Ok tt)) × (record m { life = None; outstanding_work = no_outstanding_work } ≡ new_life same elect m start copy)) (λ e. (◌≡◌ {A = Result (Unit {0}) RecoverError} (Err found) (Err e)) × (◌≡◌ {A = MemberFacts K L D} (record m { life = None; outstanding_work = no_outstanding_work }) (record m { life = None; outstanding_work = no_outstanding_work })))
       by_error copy None (is, leaves) = absurd cc
       by_error copy (Some e) (is, leaves) = (is, refl)
 
       by_test : (b : Bool) → IsRestartWhere same elect b m (whole_restart start) (Err found) left
-          → IsRestartWhere same elect b (record m { life = life; openings = openings }) (whole_restart start) (Err found) (record m { life = if b then life else None; openings = if b then openings else no_openings })
+          → IsRestartWhere same elect b (record m { life = life; outstanding_work = outstanding_work }) (whole_restart start) (Err found) (record m { life = if b then life else None; outstanding_work = if b then outstanding_work else no_outstanding_work })
       by_test true (is, leaves) = (is, refl)
       by_test false (inl (is, leaves)) = inl (is, refl)
       by_test false (inr (copy, by_view, goes)) = inr (copy, by_view, by_error copy (recover_error same (new_state start.setup) start.floor start.now copy) goes)
@@ -156,26 +156,26 @@ module _ {K L D : Type 0} (same : D → D → Bool) (elect : Elect L) (start : S
   -- so for the one that is stored
 
   pub resumes : (m next : MemberFacts K L D) → LosesNothing m → IsStep same elect m (Restarts (whole_restart start)) Restarted next → IsResumed same elect (stored_of m) m.entries start next
-  resumes m next whole (Ok u, restarts, tell) = record { whole = whole; restarted = other_life m next None no_openings restarts }
+  resumes m next whole (Ok u, restarts, tell) = record { whole = whole; restarted = other_life m next None no_outstanding_work restarts }
   resumes m next whole (Err e, restarts, tell) = absurd cc
 
   pub restarts : (m next : MemberFacts K L D) → IsResumed same elect (stored_of m) m.entries start next → IsStep same elect m (Restarts (whole_restart start)) Restarted next
-  restarts m next is = (Ok tt, other_life (stored_facts (stored_of m) m.entries) next m.life m.openings is.restarted, refl)
+  restarts m next is = (Ok tt, other_life (stored_facts (stored_of m) m.entries) next m.life m.outstanding_work is.restarted, refl)
 
-  stays_ended : (m : MemberFacts K L D) (b : Bool) → ◌≡◌ {A = MemberFacts K L D} (record m { life = if b then None else None; openings = if b then no_openings else no_openings }) (stored_facts (stored_of m) m.entries)
+  stays_ended : (m : MemberFacts K L D) (b : Bool) → ◌≡◌ {A = MemberFacts K L D} (record m { life = if b then None else None; outstanding_work = if b then no_outstanding_work else no_outstanding_work }) (stored_facts (stored_of m) m.entries)
   stays_ended m true = refl
   stays_ended m false = refl
 
   pub refuses_resume : (m : MemberFacts K L D) (found : RecoverError) → LosesNothing m → IsRefused same elect m (Restarts (whole_restart start)) found → IsNotResumed same elect (stored_of m) m.entries start (Recover found)
   unfolding IsRestart
   refuses_resume m found whole (left, restarts) =
-      (whole, subst (IsRestart same elect (stored_facts (stored_of m) m.entries) (whole_restart start) (Err found)) (stays_ended m (retention_grows m false start.setup.settings.view_retention)) (other_refusal m left None no_openings found restarts))
+      (whole, subst (IsRestart same elect (stored_facts (stored_of m) m.entries) (whole_restart start) (Err found)) (stays_ended m (retention_grows m false start.setup.settings.view_retention)) (other_refusal m left None no_outstanding_work found restarts))
 
   pub refuses_restart : (m : MemberFacts K L D) (found : RecoverError) → IsNotResumed same elect (stored_of m) m.entries start (Recover found) → IsRefused same elect m (Restarts (whole_restart start)) found
   unfolding IsRestart
   refuses_restart m found (whole, restarts) = (
-    record m { life = if retention_grows m false start.setup.settings.view_retention then m.life else None; openings = if retention_grows m false start.setup.settings.view_retention then m.openings else no_openings },
-    other_refusal (stored_facts (stored_of m) m.entries) (stored_facts (stored_of m) m.entries) m.life m.openings found restarts,
+    record m { life = if retention_grows m false start.setup.settings.view_retention then m.life else None; outstanding_work = if retention_grows m false start.setup.settings.view_retention then m.outstanding_work else no_outstanding_work },
+    other_refusal (stored_facts (stored_of m) m.entries) (stored_facts (stored_of m) m.entries) m.life m.outstanding_work found restarts,
   )
 
   -- of the member that a journal was stored of, a resume is its restart
@@ -183,4 +183,4 @@ module _ {K L D : Type 0} (same : D → D → Bool) (elect : Elect L) (start : S
   resumed_restart stored entries m next same_stored same_entries is =
       let of_stored = subst (λ kept. IsRestart same elect (stored_facts kept entries) (whole_restart start) (Ok tt) next) (sym same_stored) is.restarted in
       let of_entries = subst (λ es. IsRestart same elect (stored_facts (stored_of m) es) (whole_restart start) (Ok tt) next) (sym same_entries) of_stored in
-      other_life (stored_facts (stored_of m) m.entries) next m.life m.openings of_entries
+      other_life (stored_facts (stored_of m) m.entries) next m.life m.outstanding_work of_entries

@@ -19,9 +19,9 @@ use Rattle.simplex_voter.specs.Votes.{notarize_answer}
 use Rattle.simplex_voter.specs.Gaps.{IsGapless}
 use Rattle.simplex_voter.proofs.Gaps.{and_parts, not_true}
 use Rattle.simplex_voter.proofs.Rules.{notarize_parts}
-use Rattle.simplex_member.specs.Openings.{Openings}
-use Rattle.simplex_member.specs.Made.{notarize_vote}
-use Rattle.simplex_laws.specs.Deeds.{Deed, Accepts, Signs}
+use Rattle.simplex_member.specs.OutstandingWork.{OutstandingWork}
+use Rattle.simplex_member.specs.CallSemantics.{notarize_vote}
+use Rattle.simplex_laws.specs.Traces.{TraceEvent, Accepts, Signs}
 use Rattle.simplex_laws.proofs.lists.Signed.{signed_push}
 use Rattle.simplex_laws.proofs.votes.LifeCalls.{none_follows}
 use Rattle.simplex_laws.proofs.agreement.Lawful.{AllowsNotarize}
@@ -59,7 +59,7 @@ admitted_above : {K L D : Type 0} (x : StateFacts K L D) (v : ℕ) → is_admitt
 unfolding is_admitted
 admitted_above x v is = grind (arith, nat_tests)
 
-module _ {K L D : Type 0} (same : D → D → Bool) (decides : (d e : D) → same d e ≡ true → d ≡ e) (elect : Elect L) (term_length base low : ℕ) (deeds : List (Deed D)) (o : Openings K D) (x : StateFacts K L D) (some : 0 < x.terms.term_length) (terms : x.terms.term_length ≡ term_length) (notes : NotesStand base low deeds o x) (v : ℕ) (may : may_notarize same elect x v ≡ true) where
+module _ {K L D : Type 0} (same : D → D → Bool) (decides : (d e : D) → same d e ≡ true → d ≡ e) (elect : Elect L) (term_length base low : ℕ) (trace : List (TraceEvent D)) (o : OutstandingWork K D) (x : StateFacts K L D) (some : 0 < x.terms.term_length) (terms : x.terms.term_length ≡ term_length) (notes : NotesStand base low trace o x) (v : ℕ) (may : may_notarize same elect x v ≡ true) where
   rule : NotarizeRule same elect x v
   rule = notarize_parts same elect x v may
 
@@ -83,7 +83,7 @@ module _ {K L D : Type 0} (same : D → D → Bool) (decides : (d e : D) → sam
       bound_reaches same decides elect x v some (admitted_above x v rule.admitted) rule.bound p bound.1 holds binding
 
   -- the rules allow it
-  pub notarize_allowed : (p : Proposal D) → (round_of x v).slot.held ≡ Some p → AllowsNotarize term_length deeds p
+  pub notarize_allowed : (p : Proposal D) → (round_of x v).slot.held ≡ Some p → AllowsNotarize term_length trace p
   notarize_allowed p holds =
       let over = notes.above v voted_tracked in
       let at : p.round.view ≡ v = notes.placed v p holds in
@@ -102,11 +102,11 @@ module _ {K L D : Type 0} (same : D → D → Bool) (decides : (d e : D) → sam
       }
 
   -- and it is decided then
-  pub notarize_noted : (p : Proposal D) (m : ℕ) → (round_of x v).slot.held ≡ Some p → NotesStand base low (deeds ++ Signs m (subject.Notarize p) ∷ []) o (with_next_view_ready elect (with_round x v (record (round_of x v) { notarize_decided = true })) v)
+  pub notarize_noted : (p : Proposal D) (m : ℕ) → (round_of x v).slot.held ≡ Some p → NotesStand base low (trace ++ Signs m (subject.Notarize p) ∷ []) o (with_next_view_ready elect (with_round x v (record (round_of x v) { notarize_decided = true })) v)
   notarize_noted p m holds =
       let y = with_round x v (record (round_of x v) { notarize_decided = true }) in
       let z = with_next_view_ready elect y v in
-      let kept = decided_notes same decides elect base low deeds o x notes v may voted_tracked in
+      let kept = decided_notes same decides elect base low trace o x notes v may voted_tracked in
       let at : p.round.view ≡ v = notes.placed v p holds in
       let decided : (round_of z v).notarize_decided ≡ true = ((calm_along same elect y event.CertifyCandidates base (leaves refl) y _ (to_prepared v (notes.above v voted_tracked) Still)).rounds v).grown.decided (ap (λ (r : RoundFacts K D). r.notarize_decided) (round_put x v (record (round_of x v) { notarize_decided = true }))) in
       record {
@@ -119,9 +119,9 @@ module _ {K L D : Type 0} (same : D → D → Bool) (decides : (d e : D) → sam
         verifying_low = kept.verifying_low;
         context_low = kept.context_low;
         contexts_placed = kept.contexts_placed;
-        voted = λ q h above over. elim (signed_push deeds (Signs m (subject.Notarize p)) (subject.Notarize q) h) [
+        voted = λ q h above over. elim (signed_push trace (Signs m (subject.Notarize p)) (subject.Notarize q) h) [
           | inl old ↦ kept.voted q old above over
           | inr new ↦ (let one : p ≡ q = cc in subst (λ u. (round_of z u).notarize_decided ≡ true) (sym at ∙ ap (λ (k : Proposal D). k.round.view) one) decided)
         ];
-        covered = λ u h. (let c = kept.covered u h in (c.0, Contains-append_left deeds (Signs m (subject.Notarize p) ∷ []) (Accepts (subject.Nullify c.0)) c.1, c.2));
+        covered = λ u h. (let c = kept.covered u h in (c.0, Contains-append_left trace (Signs m (subject.Notarize p) ∷ []) (Accepts (subject.Nullify c.0)) c.1, c.2));
       }

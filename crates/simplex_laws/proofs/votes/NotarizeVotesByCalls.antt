@@ -18,9 +18,9 @@ use Rattle.simplex_voter.specs.Serving.{after_prune}
 use Rattle.simplex_voter.proofs.Gaps.{and_parts}
 use Rattle.simplex_member.specs.Calls.{CallFacts, AddNotarization, AddNullification, AddFinalization, Certified, ConstructNullify, ConstructFinalize, BroadcastNotarization, BroadcastNullification, BroadcastFinalization, GetBestCertificate, Prune}
 use Rattle.simplex_member.specs.Allowed.{is_allowed}
-use Rattle.simplex_member.specs.Made.{answer, after_call, openings_after}
-use Rattle.simplex_member.specs.Openings.{Openings, is_verifying, context_at, without_offer}
-use Rattle.simplex_laws.specs.Deeds.{Deed, Accepts, deeds_of_call}
+use Rattle.simplex_member.specs.CallSemantics.{answer, after_call, outstanding_work_after}
+use Rattle.simplex_member.specs.OutstandingWork.{OutstandingWork, is_verifying, context_at, without_offer}
+use Rattle.simplex_laws.specs.Traces.{TraceEvent, Accepts, trace_of_call}
 use Rattle.simplex_laws.proofs.lists.Signed.{signed_none}
 use Rattle.simplex_laws.proofs.lists.Filters.{Contains-filtered}
 use Rattle.simplex_laws.proofs.votes.NullifyVotes.{tied}
@@ -28,7 +28,7 @@ use Rattle.simplex_laws.proofs.votes.UnchangedProposals.{CalmOn, calm_along, eve
 use Rattle.simplex_record.proofs.Steps.{Still}
 use Rattle.simplex_laws.specs.Events as event
 use Rattle.simplex_laws.specs.Events.{Event}
-use Rattle.simplex_laws.specs.Sums.{covers_from}
+use Rattle.simplex_laws.specs.HistoryFolds.{covers_from}
 use Rattle.simplex_laws.proofs.votes.Proposals.{Tidy}
 use Rattle.simplex_laws.proofs.frames.CallsOnWork.{is_work}
 use Rattle.simplex_laws.proofs.votes.NotarizeVotesShown.{NotesStand, notes_acted, notes_calm}
@@ -36,8 +36,8 @@ use Rattle.simplex_laws.proofs.records.NotarizeVotesRemembered.{calls_cast_none}
 
 -- a view among those and one more
 -- what is offered says nothing of votes to notarize
-other_offers : {K L D : Type 0} (base low : ℕ) (deeds : List (Deed D)) (o : Openings K D) (v : ℕ) (y : StateFacts K L D) → NotesStand base low deeds o y → NotesStand base low deeds (without_offer o v) y
-other_offers base low deeds o v y notes = record {
+other_offers : {K L D : Type 0} (base low : ℕ) (trace : List (TraceEvent D)) (o : OutstandingWork K D) (v : ℕ) (y : StateFacts K L D) → NotesStand base low trace o y → NotesStand base low trace (without_offer o v) y
+other_offers base low trace o v y notes = record {
   above = notes.above;
   active = notes.active;
   reached = notes.reached;
@@ -51,12 +51,12 @@ other_offers base low deeds o v y notes = record {
   covered = notes.covered;
 }
 
-module _ {K L D : Type 0} (same : D → D → Bool) (elect : Elect L) (base low : ℕ) (deeds : List (Deed D)) (o : Openings K D) (x : StateFacts K L D) (notes : NotesStand base low deeds o x) where
-  -- the deeds of the call, and an event that leaves the work on each view
-  acted : (call : CallFacts D) (e : Event K D) → is_work call ≡ false → CalmOn base e x (after_call same elect x o call) → ((u : ℕ) → covers_from u e ≡ true → (round : Round) × Contains (deeds ++ deeds_of_call {K = K} call (answer same elect x o call)) (Accepts (subject.Nullify round)) × (round.view ≡ u)) → NotesStand base low (deeds ++ deeds_of_call {K = K} call (answer same elect x o call)) o (after_call same elect x o call)
+module _ {K L D : Type 0} (same : D → D → Bool) (elect : Elect L) (base low : ℕ) (trace : List (TraceEvent D)) (o : OutstandingWork K D) (x : StateFacts K L D) (notes : NotesStand base low trace o x) where
+  -- the trace of the call, and an event that leaves the work on each view
+  acted : (call : CallFacts D) (e : Event K D) → is_work call ≡ false → CalmOn base e x (after_call same elect x o call) → ((u : ℕ) → covers_from u e ≡ true → (round : Round) × Contains (trace ++ trace_of_call {K = K} call (answer same elect x o call)) (Accepts (subject.Nullify round)) × (round.view ≡ u)) → NotesStand base low (trace ++ trace_of_call {K = K} call (answer same elect x o call)) o (after_call same elect x o call)
   acted call e plain left accepted =
-      let more = deeds_of_call {K = K} call (answer same elect x o call) in
-      notes_calm base low (deeds ++ more) e o o x (after_call same elect x o call) left accepted (λ v is. is) (λ v c is. is) (notes_acted base low deeds more o x (calls_cast_none same elect x o call plain) notes)
+      let more = trace_of_call {K = K} call (answer same elect x o call) in
+      notes_calm base low (trace ++ more) e o o x (after_call same elect x o call) left accepted (λ v is. is) (λ v c is. is) (notes_acted base low trace more o x (calls_cast_none same elect x o call plain) notes)
 
   active_view : (round : Round) → takes_round x round ≡ true → (1 ≤ round.view) × (base ≤ round.view)
   active_view round takes =
@@ -65,7 +65,7 @@ module _ {K L D : Type 0} (same : D → D → Bool) (elect : Elect L) (base low 
       (grind (arith, nat_tests, parts.0), (let over : min_active x ≤ round.view = grind (arith, nat_tests, parts.1) in omega (arith, over, notes.active)))
 
   -- a prune: what is left begins with the lowest view that is kept
-  pruned_notes : NotesStand (min_active x) low deeds o (after_prune x)
+  pruned_notes : NotesStand (min_active x) low trace o (after_prune x)
   pruned_notes = record {
     above = λ v tracked. kept_above v (nat_le (min_active x) v) refl tracked;
     active = omega arith;
@@ -102,17 +102,17 @@ module _ {K L D : Type 0} (same : D → D → Bool) (elect : Elect L) (base low 
       worked_still v false is verified un = absurd (false≢true (sym (ap (λ (r : RoundFacts K D). r.slot.verified) (round_by v false is)) ∙ verified))
 
   -- a call that is allowed, and not on the work of a view
-  pub call_notes : (call : CallFacts D) → is_work call ≡ false → 0 < x.terms.term_length → x.finalized < x.current → is_allowed x o call ≡ true → (b : ℕ) × NotesStand b low (deeds ++ deeds_of_call {K = K} call (answer same elect x o call)) (openings_after same elect x o call) (after_call same elect x o call)
+  pub call_notes : (call : CallFacts D) → is_work call ≡ false → 0 < x.terms.term_length → x.finalized < x.current → is_allowed x o call ≡ true → (b : ℕ) × NotesStand b low (trace ++ trace_of_call {K = K} call (answer same elect x o call)) (outstanding_work_after same elect x o call) (after_call same elect x o call)
   call_notes (AddNotarization c) plain some ahead allowed = (base, acted (AddNotarization c) (event.AddNotarization c) refl (event_calm same elect base x (event.AddNotarization c) (leaves refl) (omega (arith, notes.active, ahead)) (active_view c.proposal.round allowed).1) (λ u is. absurd cc))
   call_notes (AddNullification c now) plain some ahead allowed =
       let view = active_view c.round allowed in
       let next = next_above x.terms.term_length c.round.view some view.0 in (
         base,
         acted (AddNullification c now) (event.AddNullification c now) refl (event_calm same elect base x (event.AddNullification c now) (leaves refl) (omega (arith, notes.active, ahead)) (view.1, omega (arith, next, view.1)))
-            (λ u is. (c.round, Contains-append_right deeds (Accepts (subject.Nullify c.round) ∷ []) (Accepts (subject.Nullify c.round)) (0, omega arith, refl), sym (eqb-true u c.round.view is))),
+            (λ u is. (c.round, Contains-append_right trace (Accepts (subject.Nullify c.round) ∷ []) (Accepts (subject.Nullify c.round)) (0, omega arith, refl), sym (eqb-true u c.round.view is))),
       )
   call_notes (AddFinalization c now) plain some ahead allowed = (base, acted (AddFinalization c now) (event.AddFinalization c now) refl (event_calm same elect base x (event.AddFinalization c now) (leaves refl) (omega (arith, notes.active, ahead)) (active_view c.proposal.round allowed).1) (λ u is. absurd cc))
-  call_notes (Certified v success now) plain some ahead allowed = (base, other_offers base low (deeds ++ []) o v _ (acted (Certified v success now) (event.Certified v success now) refl (event_calm same elect base x (event.Certified v success now) (leaves refl) (omega (arith, notes.active, ahead)) tt) (λ u is. absurd cc)))
+  call_notes (Certified v success now) plain some ahead allowed = (base, other_offers base low (trace ++ []) o v _ (acted (Certified v success now) (event.Certified v success now) refl (event_calm same elect base x (event.Certified v success now) (leaves refl) (omega (arith, notes.active, ahead)) tt) (λ u is. absurd cc)))
   call_notes (ConstructNullify v) plain some ahead allowed = (base, acted (ConstructNullify v) (event.ConstructNullify v) refl (event_calm same elect base x (event.ConstructNullify v) (leaves refl) (omega (arith, notes.active, ahead)) tt) (λ u is. absurd cc))
   call_notes (ConstructFinalize v) plain some ahead allowed = (base, acted (ConstructFinalize v) (event.ConstructFinalize v) refl (event_calm same elect base x (event.ConstructFinalize v) (leaves refl) (omega (arith, notes.active, ahead)) tt) (λ u is. absurd cc))
   call_notes (BroadcastNotarization v) plain some ahead allowed = (base, acted (BroadcastNotarization v) (event.BroadcastNotarization v) refl (event_calm same elect base x (event.BroadcastNotarization v) (leaves refl) (omega (arith, notes.active, ahead)) tt) (λ u is. absurd cc))
@@ -121,6 +121,6 @@ module _ {K L D : Type 0} (same : D → D → Bool) (elect : Elect L) (base low 
   call_notes GetBestCertificate plain some ahead allowed = (base, acted GetBestCertificate event.CertifyCandidates refl (calm_along same elect x event.CertifyCandidates base (leaves refl) x x Still) (λ u is. absurd cc))
   call_notes Prune plain some ahead allowed = (min_active x, notes_nothing)
     where
-      notes_nothing : NotesStand (min_active x) low (deeds ++ []) o (after_prune x)
-      notes_nothing = notes_acted (min_active x) low deeds [] o (after_prune x) (λ p h. absurd (signed_none (subject.Notarize p) h)) pruned_notes
+      notes_nothing : NotesStand (min_active x) low (trace ++ []) o (after_prune x)
+      notes_nothing = notes_acted (min_active x) low trace [] o (after_prune x) (λ p h. absurd (signed_none (subject.Notarize p) h)) pruned_notes
   call_notes _ plain some ahead allowed = absurd (true≢false plain)

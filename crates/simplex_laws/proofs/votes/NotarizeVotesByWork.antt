@@ -16,16 +16,16 @@ use Rattle.simplex_round.specs.declared.round.Leader.{Leader}
 use Rattle.simplex_round.specs.Slot.{SlotFacts, after_mark, holds_or_empty}
 use Rattle.simplex_round.specs.Round.{RoundFacts, new_round, is_nullify, signs_as, should_verify, should_propose, pending_proposal}
 use Rattle.simplex_voter.specs.Facts.{StateFacts, Elect, round_at, round_of, round_number, is_tracked, with_round, with_tracked}
-use Rattle.simplex_voter.specs.Windows.{min_active, is_start, is_admitted}
+use Rattle.simplex_voter.specs.Windows.{min_active, is_term_start, is_admitted}
 use Rattle.simplex_voter.specs.Refusals.{is_started, takes_round}
 use Rattle.simplex_voter.specs.Entering.{at_moment}
 use Rattle.simplex_voter.specs.Leaders.{with_next_view_ready}
-use Rattle.simplex_voter.specs.Parents.{binding_matches, preferred_parent}
+use Rattle.simplex_voter.specs.Parents.{verification_matches, find_parent}
 use Rattle.simplex_voter.specs.Rules.{may_notarize}
 use Rattle.simplex_voter.specs.declared.voter.propose.ProposalRequest.{ProposalRequest}
 use Rattle.simplex_voter.specs.declared.voter.propose.ProposalRequest.TheVariants.{Prepare, Propose}
 use Rattle.simplex_voter.specs.declared.voter.verify.Standing.{Standing}
-use Rattle.simplex_voter.specs.declared.voter.verify.Standing.TheVariants.{Passed, Invalid, Lacks, Ready}
+use Rattle.simplex_voter.specs.declared.voter.verify.Standing.TheVariants.{NothingToDo, Invalid, Lacks, Ready}
 use Rattle.simplex_voter.specs.declared.voter.verify.Verify.{Verify}
 use Rattle.simplex_voter.specs.declared.voter.verify.Verify.TheVariants as verify
 use Rattle.simplex_voter.specs.Proposing.{request_context, request_on, request_in, context_on, propose_answer, proposed_answer, supersede_answer, context_stands, with_build, proposed_round, proposal_of, views_ahead, voted_nullify, parent_certified, after_proposed, after_supersede, after_release}
@@ -34,25 +34,25 @@ use Rattle.simplex_voter.specs.Timeouts.{with_timeout}
 use Rattle.simplex_voter.specs.Certification.{after_candidates}
 use Rattle.simplex_voter.proofs.Elsewhere.{round_of-with_round}
 use Rattle.simplex_voter.proofs.Gaps.{and_parts, not_true}
-use Rattle.simplex_member.specs.Openings.{Openings, context_at, without_context, with_context, with_open_request, is_verifying, without_verification, with_verification}
+use Rattle.simplex_member.specs.OutstandingWork.{OutstandingWork, context_at, without_context, with_context, with_open_request, is_verifying, without_verification, with_verification}
 use Rattle.simplex_member.specs.Allowed.{is_allowed}
 use Rattle.simplex_member.specs.Calls.{CallFacts, SetProposal, TryPropose, Proposed, SupersedeProposalRequest, PendingHandoffAbandonment, ReleaseProposalRequest, TryVerify, Verified, VerificationFailed, CertifyCandidates, SetCertifyHandle, TriggerTimeout, NextTimeout}
-use Rattle.simplex_member.specs.Made.{after_call, openings_after}
-use Rattle.simplex_laws.specs.Deeds.{Deed}
+use Rattle.simplex_member.specs.CallSemantics.{after_call, outstanding_work_after}
+use Rattle.simplex_laws.specs.Traces.{TraceEvent}
 use Rattle.simplex_laws.specs.Requested.{is_given_out}
 use Rattle.simplex_record.proofs.Rounds.{round_put}
 use Rattle.simplex_laws.proofs.votes.UnchangedRounds.{leads_round, Grown, Calm, calm, calm_alike}
 use Rattle.simplex_laws.proofs.votes.UnchangedProposals.{CalmOn, LeavesWork, above_put, calm_along, leaves}
 use Rattle.simplex_laws.specs.Events as event
 use Rattle.simplex_laws.specs.Events.{Event}
-use Rattle.simplex_laws.specs.Sums.{covers_from}
+use Rattle.simplex_laws.specs.HistoryFolds.{covers_from}
 use Rattle.simplex_record.proofs.Steps as step
 use Rattle.simplex_record.proofs.Steps.{Path, Still, Then, Moves, Unnames}
 use Rattle.simplex_record.proofs.Paths.{either, put, to_prepared, to_triggered, build_path, proposal_path, handle_path, polled_path}
 use Rattle.simplex_laws.proofs.frames.CallsOnWork.{is_silent}
 use Rattle.simplex_laws.proofs.votes.Proposals.{Tidy, contrary, opposite, answered, given_out, proposes, reopened, tidy_calm}
 use Rattle.simplex_laws.proofs.votes.NotarizeVotesShown.{NotesStand, notes_calm}
-use Rattle.simplex_laws.proofs.votes.Openings.{among_others, now_among, got_others, still_open, now_open, some_still, still_placed, NoMoreContexts}
+use Rattle.simplex_laws.proofs.votes.OutstandingWork.{among_others, now_among, got_others, still_open, now_open, some_still, still_placed, NoMoreContexts}
 use Rattle.simplex_laws.proofs.frames.InOrder.{InOrder}
 use Rattle.simplex_laws.proofs.lists.Filters.{Contains-filtered, filtered_passes}
 use Rattle.simplex_laws.proofs.lists.Ordered.{found_in_order}
@@ -64,7 +64,7 @@ module _ {K L D : Type 0} where
   round_in_order x e ordered h = ap (λ o. unwrap_or o (new_round x.me x.members (round_number x e.0))) (found_in_order x.rounds e ordered h)
 
 -- one round changes, and all else is left as it was
-module _ {K L D : Type 0} (base low : ℕ) (deeds : List (Deed D)) (o o' : Openings K D) (x : StateFacts K L D) (v : ℕ) (r : RoundFacts K D) (notes : NotesStand base low deeds o x) where
+module _ {K L D : Type 0} (base low : ℕ) (trace : List (TraceEvent D)) (o o' : OutstandingWork K D) (x : StateFacts K L D) (v : ℕ) (r : RoundFacts K D) (notes : NotesStand base low trace o x) where
   notes_put : is_tracked x v ≡ true
       → Grown v (round_of x v) r
       → Tidy (is_verifying o' v) (is_some (context_at o' v)) r
@@ -72,7 +72,7 @@ module _ {K L D : Type 0} (base low : ℕ) (deeds : List (Deed D)) (o o' : Openi
       → ((w : ℕ) → is_verifying o' w ≡ true → (w ≡ v) ⊎ (is_verifying o w ≡ true))
       → NoMoreContexts o o'
       → ((is_verifying o' v ≡ true) → low ≤ v)
-      → NotesStand base low deeds o' (with_round x v r)
+      → NotesStand base low trace o' (with_round x v r)
   notes_put tracked grown tidy worked verifying opened verifying_low = record {
     above = above_put base x v r (notes.above v tracked) notes.above;
     active = notes.active;
@@ -160,7 +160,7 @@ module _ {K L D : Type 0} (x : StateFacts K L D) where
 
   -- what is requested on a parent is for the view
   request_view : (same : D → D → Bool) (v : ℕ) (r : RoundFacts K D) (parent : ℕ × D) (request : ProposalRequest D K) → request_on same x v r parent ≡ Some request → (request_context request).round.view ≡ v
-  request_view same v r parent request is = by_start (is_start x v && not (parent_certified same x parent)) is
+  request_view same v r parent request is = by_start (is_term_start x v && not (parent_certified same x parent)) is
     where
       led_by : (make : Context D K → ProposalRequest D K) → ((c : Context D K) → request_context (make c) ≡ c) → (o : Option (Leader K)) → option_map (λ l. make (context_on x v parent l)) o ≡ Some request → (request_context request).round.view ≡ v
       led_by make same_context None is = absurd (false≢true (ap is_some is))
@@ -182,21 +182,21 @@ module _ {K L D : Type 0} (x : StateFacts K L D) where
       on_parent None is = absurd (false≢true (ap is_some is))
       on_parent (Some parent) is = request_view same e.0 e.1 parent request is
 
-      by_test : (b : Bool) → (is_admitted x e.0 && should_propose e.1) ≡ b → (if b then option_and_then (request_on same x e.0 e.1) (preferred_parent same elect x e.0) else None) ≡ Some request → (should_propose e.1 ≡ true) × ((request_context request).round.view ≡ e.0)
-      by_test true so is = ((and_parts (is_admitted x e.0) (should_propose e.1) so).1, on_parent (preferred_parent same elect x e.0) is)
+      by_test : (b : Bool) → (is_admitted x e.0 && should_propose e.1) ≡ b → (if b then option_and_then (request_on same x e.0 e.1) (find_parent same elect x e.0) else None) ≡ Some request → (should_propose e.1 ≡ true) × ((request_context request).round.view ≡ e.0)
+      by_test true so is = ((and_parts (is_admitted x e.0) (should_propose e.1) so).1, on_parent (find_parent same elect x e.0) is)
       by_test false other is = absurd (false≢true (ap is_some is))
 
-module _ {K L D : Type 0} (same : D → D → Bool) (decides : (d e : D) → same d e ≡ true → d ≡ e) (elect : Elect L) (base low : ℕ) (deeds : List (Deed D)) (o : Openings K D) (x : StateFacts K L D) (notes : NotesStand base low deeds o x) where
+module _ {K L D : Type 0} (same : D → D → Bool) (decides : (d e : D) → same d e ≡ true → d ≡ e) (elect : Elect L) (base low : ℕ) (trace : List (TraceEvent D)) (o : OutstandingWork K D) (x : StateFacts K L D) (notes : NotesStand base low trace o x) where
   -- with nothing more open
 
-  left_notes : (e : Event K D) (y : StateFacts K L D) → ((u : ℕ) → covers_from u e ≡ false) → CalmOn base e x y → NotesStand base low deeds o y
-  left_notes e y none left = notes_calm base low deeds e o o x y left (λ u is. absurd (false≢true (sym (none u) ∙ is))) (λ v is. is) (λ v c is. is) notes
+  left_notes : (e : Event K D) (y : StateFacts K L D) → ((u : ℕ) → covers_from u e ≡ false) → CalmOn base e x y → NotesStand base low trace o y
+  left_notes e y none left = notes_calm base low trace e o o x y left (λ u is. absurd (false≢true (sym (none u) ∙ is))) (λ v is. is) (λ v c is. is) notes
 
-  closed_notes : (v : ℕ) (e : Event K D) (y : StateFacts K L D) → ((u : ℕ) → covers_from u e ≡ false) → CalmOn base e x y → NotesStand base low deeds (without_context o v) y
-  closed_notes v e y none left = notes_calm base low deeds e o (without_context o v) x y left (λ u is. absurd (false≢true (sym (none u) ∙ is))) (λ w is. is) (λ w c is. got_others o.contexts v w c is) notes
+  closed_notes : (v : ℕ) (e : Event K D) (y : StateFacts K L D) → ((u : ℕ) → covers_from u e ≡ false) → CalmOn base e x y → NotesStand base low trace (without_context o v) y
+  closed_notes v e y none left = notes_calm base low trace e o (without_context o v) x y left (λ u is. absurd (false≢true (sym (none u) ∙ is))) (λ w is. is) (λ w c is. got_others o.contexts v w c is) notes
 
-  answered_notes : (v : ℕ) (e : Event K D) (y : StateFacts K L D) → ((u : ℕ) → covers_from u e ≡ false) → CalmOn base e x y → NotesStand base low deeds (without_verification o v) y
-  answered_notes v e y none left = notes_calm base low deeds e o (without_verification o v) x y left (λ u is. absurd (false≢true (sym (none u) ∙ is))) (λ w is. (among_others v w o.verifying is).0) (λ w c is. is) notes
+  answered_notes : (v : ℕ) (e : Event K D) (y : StateFacts K L D) → ((u : ℕ) → covers_from u e ≡ false) → CalmOn base e x y → NotesStand base low trace (without_verification o v) y
+  answered_notes v e y none left = notes_calm base low trace e o (without_verification o v) x y left (λ u is. absurd (false≢true (sym (none u) ∙ is))) (λ w is. (among_others v w o.verifying is).0) (λ w c is. is) notes
 
   -- a path of an event that leaves the work on each view
   calm_by : (e : Event K D) → LeavesWork e → (y : StateFacts K L D) → Path same elect x e base x y → CalmOn base e x y
@@ -212,7 +212,7 @@ module _ {K L D : Type 0} (same : D → D → Bool) (decides : (d e : D) → sam
   kept_view v over = omega (arith, over, notes.active)
 
   -- a proposal of the view
-  proposal_notes : (v : ℕ) (p : Proposal D) → takes_proposal x v p ≡ true → NotesStand base low deeds o (after_set_proposal same elect x v p)
+  proposal_notes : (v : ℕ) (p : Proposal D) → takes_proposal x v p ≡ true → NotesStand base low trace o (after_set_proposal same elect x v p)
   proposal_notes v p takes =
       let parts = and_parts (takes_round x p.round) (p.round.view == v) takes in
       let at : p.round.view ≡ v = eqb-true p.round.view v parts.1 in
@@ -229,7 +229,7 @@ module _ {K L D : Type 0} (same : D → D → Bool) (decides : (d e : D) → sam
   build_calm v requested = calm_by (event.Release v) (leaves refl) _ (build_path same elect base x (event.Release v) v requested)
 
   -- a context is opened of a view that this member leads
-  opened_notes : (context : Context D K) → leads_round (round_of x context.round.view) ≡ true → low ≤ context.round.view → NotesStand base low deeds (with_context o context) x
+  opened_notes : (context : Context D K) → leads_round (round_of x context.round.view) ≡ true → low ≤ context.round.view → NotesStand base low trace (with_context o context) x
   opened_notes context leads over = record {
     above = notes.above;
     active = notes.active;
@@ -245,7 +245,7 @@ module _ {K L D : Type 0} (same : D → D → Bool) (decides : (d e : D) → sam
     covered = notes.covered;
   }
 
-  requested_notes : InOrder x → (request : Option (ProposalRequest D K)) → propose_answer same elect x ≡ request → NotesStand base low deeds (with_open_request o request) (option_map_or (λ r. with_build x (request_context r).round.view true) request x)
+  requested_notes : InOrder x → (request : Option (ProposalRequest D K)) → propose_answer same elect x ≡ request → NotesStand base low trace (with_open_request o request) (option_map_or (λ r. with_build x (request_context r).round.view true) request x)
   unfolding propose_answer
   requested_notes ordered None is = notes
   requested_notes ordered (Some r) is =
@@ -257,14 +257,14 @@ module _ {K L D : Type 0} (same : D → D → Bool) (decides : (d e : D) → sam
       let there : round_of x e.0 ≡ e.1 = round_in_order x e ordered (Contains-filtered _ x.rounds e among) in
       let leads : leads_round (round_of x context.round.view) ≡ true = subst (λ v. leads_round (round_of x v) ≡ true) (sym parts.1) (ap leads_round there ∙ proposer_leads e.1 parts.0) in
       let over : low ≤ context.round.view = (let ahead = ahead_now x e among in omega (arith, notes.reached, ahead, parts.1)) in
-      notes_calm base low deeds (event.Release context.round.view) (with_context o context) (with_context o context) x (with_build x context.round.view true) (build_calm context.round.view true) (λ u is'. absurd (false≢true is')) (λ v is'. is') (λ v c is'. is') (opened_notes context leads over)
+      notes_calm base low trace (event.Release context.round.view) (with_context o context) (with_context o context) x (with_build x context.round.view true) (build_calm context.round.view true) (λ u is'. absurd (false≢true is')) (λ v is'. is') (λ v c is'. is') (opened_notes context leads over)
 
   -- an own proposal
 
   own_held : (s : SlotFacts D) (p : Proposal D) → holds_or_empty (same_proposal same) s p ≡ true → (q : Proposal D) → s.held ≡ Some q → Some p ≡ Some q
   own_held s p fits q is = ap Some (sym (same_proposal-true same decides q p (ap (λ h. option_map_or (λ k. same_proposal same k p) h true) (sym is) ∙ fits)))
 
-  proposed_notes : (v : ℕ) (context : Option (Context D K)) (payload : D) (now : ℕ) → context_at o v ≡ context → NotesStand base low deeds (without_context o v) (option_map_or (λ c. after_proposed same elect x c payload now) context x)
+  proposed_notes : (v : ℕ) (context : Option (Context D K)) (payload : D) (now : ℕ) → context_at o v ≡ context → NotesStand base low trace (without_context o v) (option_map_or (λ c. after_proposed same elect x c payload now) context x)
   unfolding proposed_answer
   proposed_notes v None payload now is = closed_notes v event.CertifyCandidates x (λ u. refl) still_calm
   proposed_notes v (Some c) payload now is = by_answer (proposed_answer same elect x c payload) refl
@@ -288,7 +288,7 @@ module _ {K L D : Type 0} (same : D → D → Bool) (decides : (d e : D) → sam
           let there : round_at x v ≡ Some s = subst (λ u. round_at x u ≡ Some s) at some in
           (ap is_some there, ap (λ f. holds_or_empty (same_proposal same) (unwrap_or f (new_round x.me x.members (round_number x v))).slot built) there ∙ fits)
 
-      recorded : is_tracked x v ≡ true → holds_or_empty (same_proposal same) r.slot built ≡ true → NotesStand base low deeds (without_context o v) (with_round m v (proposed_round same r c payload now))
+      recorded : is_tracked x v ≡ true → holds_or_empty (same_proposal same) r.slot built ≡ true → NotesStand base low trace (without_context o v) (with_round m v (proposed_round same r c payload now))
       recorded tracked fits =
           let s = proposed_round same r c payload now in
           let slot : s.slot ≡ record { held = Some built; conflict = r.slot.conflict; verified = not r.slot.conflict; build_requested = true; verify_requested = true } = rw fits refl in
@@ -304,37 +304,37 @@ module _ {K L D : Type 0} (same : D → D → Bool) (decides : (d e : D) → sam
           } in
           let opened : is_some (context_at o v) ≡ true = ap is_some is in
           let old = left_notes event.CertifyCandidates m (λ u. refl) (moment_calm now) in
-          notes_put base low deeds o (without_context o v) m v s old tracked grown
+          notes_put base low trace o (without_context o v) m v s old tracked grown
           (proposes v (is_verifying o v) (is_some (context_at o v)) (is_verifying o v) (is_some (context_at (without_context o v) v)) r s grown (λ q. still_open o v v q) (notes.tidy v (notes.above v tracked)) built c.parent.1 refl (ap (λ (t : SlotFacts D). t.held) slot) (ap (λ (t : SlotFacts D). t.verify_requested) slot) opened (λ q. q))
           (λ q un. notes.context_low v opened)
           (λ w q. inr q)
           (λ w k q. got_others o.contexts v w k q)
           (λ q. notes.context_low v opened)
 
-      by_answer : (b : Bool) → proposed_answer same elect x c payload ≡ b → NotesStand base low deeds (without_context o v) (if b then with_round m c.round.view (proposed_round same (round_of x c.round.view) c payload now) else m)
+      by_answer : (b : Bool) → proposed_answer same elect x c payload ≡ b → NotesStand base low trace (without_context o v) (if b then with_round m c.round.view (proposed_round same (round_of x c.round.view) c payload now) else m)
       by_answer false refused = closed_notes v event.CertifyCandidates m (λ u. refl) (moment_calm now)
       by_answer true answer =
           let parts = and_parts (context_stands same elect x c) _ answer in
           let there = found (round_at x c.round.view) refl parts.1 in
-          subst (λ u. NotesStand base low deeds (without_context o v) (with_round m u (proposed_round same (round_of x u) c payload now))) (sym at) (recorded there.0 there.1)
+          subst (λ u. NotesStand base low trace (without_context o v) (with_round m u (proposed_round same (round_of x u) c payload now))) (sym at) (recorded there.0 there.1)
 
   -- answers to a verification
 
-  unbound_notes : (now : ℕ) (v : ℕ) → is_verifying o v ≡ true → (m : StateFacts K L D) → CalmOn base event.CertifyCandidates x m → NotesStand base low deeds (without_verification o v) (without_binding m v)
+  unbound_notes : (now : ℕ) (v : ℕ) → is_verifying o v ≡ true → (m : StateFacts K L D) → CalmOn base event.CertifyCandidates x m → NotesStand base low trace (without_verification o v) (without_binding m v)
   unbound_notes now v open_now m left = by_tracked (is_tracked m v) refl
     where
-      old : NotesStand base low deeds o m
+      old : NotesStand base low trace o m
       old = left_notes event.CertifyCandidates m (λ u. refl) left
 
       r : RoundFacts K D
       r = round_of m v
 
-      by_tracked : (b : Bool) → is_tracked m v ≡ b → NotesStand base low deeds (without_verification o v) (if b then with_round m v (record r { binding = None }) else m)
+      by_tracked : (b : Bool) → is_tracked m v ≡ b → NotesStand base low trace (without_verification o v) (if b then with_round m v (record r { binding = None }) else m)
       by_tracked false is = answered_notes v event.CertifyCandidates m (λ u. refl) left
       by_tracked true is =
           let s : RoundFacts K D = record r { binding = None } in
           let tidy = old.tidy v (old.above v is) in
-          notes_put base low deeds o (without_verification o v) m v s old is (unbound_grown v r)
+          notes_put base low trace o (without_verification o v) m v s old is (unbound_grown v r)
           (answered v (is_verifying o v) (is_some (context_at o v)) (is_verifying (without_verification o v) v) (is_some (context_at o v)) r s (unbound_grown v r) (λ q. q) tidy (λ q un. absurd (opposite r.slot.verified q (tidy.verifying_unmarked open_now un))) open_now (not_open v))
           (λ q un. old.worked v q un)
           (λ w q. inr (among_others v w o.verifying q).0)
@@ -348,8 +348,8 @@ module _ {K L D : Type 0} (same : D → D → Bool) (decides : (d e : D) → sam
               by_flag false flag = refl
               by_flag true flag = absurd ((among_others u u o.verifying flag).1 refl)
 
-  verified_notes : (v : ℕ) → is_verifying o v ≡ true → NotesStand base low deeds (without_verification o v) (after_verified same elect x v)
-  verified_notes v open_now = elim (binding_matches same elect x v) as (λ b. NotesStand base low deeds (without_verification o v) (if b then with_tracked x v (with_mark (round_of x v)) else without_binding x v)) [
+  verified_notes : (v : ℕ) → is_verifying o v ≡ true → NotesStand base low trace (without_verification o v) (after_verified same elect x v)
+  verified_notes v open_now = elim (verification_matches same elect x v) as (λ b. NotesStand base low trace (without_verification o v) (if b then with_tracked x v (with_mark (round_of x v)) else without_binding x v)) [
     | true ↦ by_tracked (is_tracked x v) refl
     | false ↦ unbound_notes 0 v open_now x still_calm
   ]
@@ -361,20 +361,20 @@ module _ {K L D : Type 0} (same : D → D → Bool) (decides : (d e : D) → sam
       not_open false flag = refl
       not_open true flag = absurd ((among_others v v o.verifying flag).1 refl)
 
-      by_tracked : (b : Bool) → is_tracked x v ≡ b → NotesStand base low deeds (without_verification o v) (if b then with_round x v (with_mark r) else x)
+      by_tracked : (b : Bool) → is_tracked x v ≡ b → NotesStand base low trace (without_verification o v) (if b then with_round x v (with_mark r) else x)
       by_tracked false is = answered_notes v event.CertifyCandidates x (λ u. refl) still_calm
       by_tracked true is =
-          notes_put base low deeds o (without_verification o v) x v (with_mark r) notes is (mark_grown v r)
+          notes_put base low trace o (without_verification o v) x v (with_mark r) notes is (mark_grown v r)
           (answered v (is_verifying o v) (is_some (context_at o v)) (is_verifying (without_verification o v) v) (is_some (context_at o v)) r (with_mark r) (mark_grown v r) (λ q. q) (notes.tidy v (notes.above v is)) (λ q un. mark_bound v r) open_now (not_open (is_verifying (without_verification o v) v) refl))
           (λ q un. notes.verifying_low v open_now)
           (λ w q. inr (among_others v w o.verifying q).0)
           (λ w k q. q)
           (λ q. notes.verifying_low v open_now)
 
-  failed_notes : (v : ℕ) (reason : TimeoutReason) (now : ℕ) → is_verifying o v ≡ true → NotesStand base low deeds (without_verification o v) (after_verification_failed same elect x v reason now)
+  failed_notes : (v : ℕ) (reason : TimeoutReason) (now : ℕ) → is_verifying o v ≡ true → NotesStand base low trace (without_verification o v) (after_verification_failed same elect x v reason now)
   failed_notes v reason now open_now =
       let m = at_moment x now in
-      elim (binding_matches same elect x v) as (λ b. NotesStand base low deeds (without_verification o v) (if b then with_timeout m v reason now else without_binding m v)) [
+      elim (verification_matches same elect x v) as (λ b. NotesStand base low trace (without_verification o v) (if b then with_timeout m v reason now else without_binding m v)) [
         | true ↦ answered_notes v (event.TriggerTimeout v reason now) (with_timeout m v reason now) (λ u. refl) (calm_by (event.TriggerTimeout v reason now) (leaves refl) _ (to_triggered v reason now (Then Still (Moves now))))
         | false ↦ unbound_notes now v open_now m (moment_calm now)
       ]
@@ -390,25 +390,25 @@ module _ {K D : Type 0} (v : ℕ) where
   -- an answer that gives a proposal out is to a view that is ready, and gives out what is pending
   given_ready : (s : Standing D) (o : Option (Leader K × Proposal D)) (p : Proposal D) → given_in (option_and_then (answer_at v s) o) ≡ Some p → (is_given_out s ≡ true) × ((found : Leader K × Proposal D) × (o ≡ Some found) × (found.1 ≡ p))
   given_ready (Ready d) (Some found) p is = (refl, (found, refl, ap (λ o. unwrap_or o p) is))
-  given_ready Passed (Some found) p is = absurd (false≢true (ap is_some is))
+  given_ready NothingToDo (Some found) p is = absurd (false≢true (ap is_some is))
   given_ready Invalid (Some found) p is = absurd (false≢true (ap is_some is))
   given_ready (Lacks w kind) (Some found) p is = absurd (false≢true (ap is_some is))
   given_ready s None p is = absurd (false≢true (ap is_some is))
 
   -- a round that is given out keeps what is held, and any other what its proposal's work rests on
   left_calm : (r : RoundFacts K D) (now : ℕ) (s : Standing D) → is_given_out s ≡ false → Calm v r (round_left r now s)
-  left_calm r now Passed none = calm v r
+  left_calm r now NothingToDo none = calm v r
   left_calm r now Invalid none = calm_alike v r _ refl refl refl refl refl
   left_calm r now (Lacks w kind) none = calm_alike v r _ refl refl refl refl refl
   left_calm r now (Ready d) none = absurd (false≢true (sym none))
 
 module _ {K L D : Type 0} (same : D → D → Bool) (elect : Elect L) (x : StateFacts K L D) where
   -- a view of which anything is to be said has a pending proposal
-  standing_pending : (e : ℕ × RoundFacts K D) → (standing same elect x e ≡ Passed) ⊎ ((found : Leader K × Proposal D) × (pending_proposal e.1 ≡ Some found))
+  standing_pending : (e : ℕ × RoundFacts K D) → (standing same elect x e ≡ NothingToDo) ⊎ ((found : Leader K × Proposal D) × (pending_proposal e.1 ≡ Some found))
   unfolding standing
   standing_pending e = by_admitted (is_admitted x e.0) (pending_proposal e.1) refl
     where
-      by_admitted : (b : Bool) (o : Option (Leader K × Proposal D)) → pending_proposal e.1 ≡ o → ((if b then option_map_or (λ found. parent_standing same elect x e.0 e.1 found.1.parent) o Passed else Passed) ≡ Passed) ⊎ ((found : Leader K × Proposal D) × (pending_proposal e.1 ≡ Some found))
+      by_admitted : (b : Bool) (o : Option (Leader K × Proposal D)) → pending_proposal e.1 ≡ o → ((if b then option_map_or (λ found. parent_standing same elect x e.0 e.1 found.1.parent) o NothingToDo else NothingToDo) ≡ NothingToDo) ⊎ ((found : Leader K × Proposal D) × (pending_proposal e.1 ≡ Some found))
       by_admitted false o is = inl refl
       by_admitted true None is = inl refl
       by_admitted true (Some found) is = inr (found, is)
@@ -417,9 +417,9 @@ module _ {K L D : Type 0} (same : D → D → Bool) (elect : Elect L) (x : State
   answered_there : (e : ℕ × RoundFacts K D) → is_answered (standing same elect x e) ≡ is_some (answer_in same elect x e)
   answered_there e = by_standing (standing same elect x e) (pending_proposal e.1) (standing_pending e)
     where
-      by_standing : (s : Standing D) (o : Option (Leader K × Proposal D)) → (s ≡ Passed) ⊎ ((found : Leader K × Proposal D) × (o ≡ Some found)) → is_answered s ≡ is_some (option_and_then (answer_at e.0 s) o)
-      by_standing Passed None pending = refl
-      by_standing Passed (Some found) pending = refl
+      by_standing : (s : Standing D) (o : Option (Leader K × Proposal D)) → (s ≡ NothingToDo) ⊎ ((found : Leader K × Proposal D) × (o ≡ Some found)) → is_answered s ≡ is_some (option_and_then (answer_at e.0 s) o)
+      by_standing NothingToDo None pending = refl
+      by_standing NothingToDo (Some found) pending = refl
       by_standing Invalid None pending = refl
       by_standing Invalid (Some found) pending = refl
       by_standing (Lacks w kind) (Some found) pending = refl
@@ -433,7 +433,7 @@ record IsGiven {K L D : Type 0} (same : D → D → Bool) (elect : Elect L) (x :
   pub scanned : was_scanned same elect x v ≡ true
   pub ready : is_given_out (standing same elect x (v, round_of x v)) ≡ true
 
-module _ {K L D : Type 0} (same : D → D → Bool) (elect : Elect L) (base low : ℕ) (deeds : List (Deed D)) (o : Openings K D) (x : StateFacts K L D) (ordered : InOrder x) (notes : NotesStand base low deeds o x) where
+module _ {K L D : Type 0} (same : D → D → Bool) (elect : Elect L) (base low : ℕ) (trace : List (TraceEvent D)) (o : OutstandingWork K D) (x : StateFacts K L D) (ordered : InOrder x) (notes : NotesStand base low trace o x) where
   -- what is now being verified was so before, or is given out
   now_given : (answer : Option (Verify D K)) → slice_get (filter_map (answer_in same elect x) (views_ahead x)) 0 ≡ answer → (w : ℕ) → is_verifying (with_verification o (option_map_or (λ found. found) answer verify.Wait)) w ≡ true → IsGiven same elect x w ⊎ (is_verifying o w ≡ true)
   now_given (Some (verify.Ready context p)) first w is = elim (now_among p.round.view w o.verifying is) [ inr before ↦ inr before | inl at ↦ inl (subst (IsGiven same elect x) (here ∙ sym at) given) ]
@@ -466,7 +466,7 @@ module _ {K L D : Type 0} (same : D → D → Bool) (elect : Elect L) (base low 
   now_given (Some verify.Wait) first w is = inr is
   now_given None first w is = inr is
 
-  abbrev opened : Openings K D
+  abbrev opened : OutstandingWork K D
   opened = with_verification o (verify_answer same elect x)
 
   now_verifying : (w : ℕ) → is_verifying opened w ≡ true → IsGiven same elect x w ⊎ (is_verifying o w ≡ true)
@@ -517,7 +517,7 @@ module _ {K L D : Type 0} (same : D → D → Bool) (elect : Elect L) (base low 
   left_there : (w : ℕ) → IsLeft w (round_of (after_try_verify same elect x) w)
   left_there w = subst (IsLeft w) (sym (round_scanned same elect x w)) (left_so w)
 
-  pub try_verify_notes : NotesStand base low deeds opened (after_try_verify same elect x)
+  pub try_verify_notes : NotesStand base low trace opened (after_try_verify same elect x)
   try_verify_notes = record {
     above = λ w tracked. notes.above w (sym (tracked_scanned same elect x w) ∙ tracked);
     active = notes.active;
@@ -533,33 +533,33 @@ module _ {K L D : Type 0} (same : D → D → Bool) (elect : Elect L) (base low 
   }
 
 -- all calls on the work of a view but a vote to notarize
-module _ {K L D : Type 0} (same : D → D → Bool) (decides : (d e : D) → same d e ≡ true → d ≡ e) (elect : Elect L) (base low : ℕ) (deeds : List (Deed D)) (o : Openings K D) (x : StateFacts K L D) (notes : NotesStand base low deeds o x) where
-  pub decided_notes : (v : ℕ) → may_notarize same elect x v ≡ true → is_tracked x v ≡ true → NotesStand base low deeds o (with_next_view_ready elect (with_round x v (record (round_of x v) { notarize_decided = true })) v)
+module _ {K L D : Type 0} (same : D → D → Bool) (decides : (d e : D) → same d e ≡ true → d ≡ e) (elect : Elect L) (base low : ℕ) (trace : List (TraceEvent D)) (o : OutstandingWork K D) (x : StateFacts K L D) (notes : NotesStand base low trace o x) where
+  pub decided_notes : (v : ℕ) → may_notarize same elect x v ≡ true → is_tracked x v ≡ true → NotesStand base low trace o (with_next_view_ready elect (with_round x v (record (round_of x v) { notarize_decided = true })) v)
   decided_notes v may tracked =
-      left_notes same decides elect base low deeds o x notes (event.ConstructNotarize v) _ (λ u. refl)
-      (calm_by same decides elect base low deeds o x notes (event.ConstructNotarize v) (leaves refl) _ (to_prepared v (notes.above v tracked) (put v _ (inr tracked) (step.NotarizeDecided refl may) Still)))
+      left_notes same decides elect base low trace o x notes (event.ConstructNotarize v) _ (λ u. refl)
+      (calm_by same decides elect base low trace o x notes (event.ConstructNotarize v) (leaves refl) _ (to_prepared v (notes.above v tracked) (put v _ (inr tracked) (step.NotarizeDecided refl may) Still)))
 
-  superseded_notes : (v : ℕ) (context : Option (Context D K)) (b : Bool) → NotesStand base low deeds (if b then without_context o v else o) (option_map_or (λ c. after_supersede same elect x c) context x)
-  superseded_notes v None true = closed_notes same decides elect base low deeds o x notes v event.CertifyCandidates x (λ u. refl) (still_calm same decides elect base low deeds o x notes)
+  superseded_notes : (v : ℕ) (context : Option (Context D K)) (b : Bool) → NotesStand base low trace (if b then without_context o v else o) (option_map_or (λ c. after_supersede same elect x c) context x)
+  superseded_notes v None true = closed_notes same decides elect base low trace o x notes v event.CertifyCandidates x (λ u. refl) (still_calm same decides elect base low trace o x notes)
   superseded_notes v None false = notes
-  superseded_notes v (Some c) b = closes b (calm_by same decides elect base low deeds o x notes (event.Supersede c) (leaves refl) _ (either (supersede_answer same elect x c) _ x (λ other. build_path same elect base x (event.Supersede c) c.round.view false) (λ stands. Still)))
+  superseded_notes v (Some c) b = closes b (calm_by same decides elect base low trace o x notes (event.Supersede c) (leaves refl) _ (either (supersede_answer same elect x c) _ x (λ other. build_path same elect base x (event.Supersede c) c.round.view false) (λ stands. Still)))
     where
-      closes : (b : Bool) → CalmOn base (event.Supersede c) x (after_supersede same elect x c) → NotesStand base low deeds (if b then without_context o v else o) (after_supersede same elect x c)
-      closes true left = closed_notes same decides elect base low deeds o x notes v (event.Supersede c) (after_supersede same elect x c) (λ u. refl) left
-      closes false left = left_notes same decides elect base low deeds o x notes (event.Supersede c) (after_supersede same elect x c) (λ u. refl) left
+      closes : (b : Bool) → CalmOn base (event.Supersede c) x (after_supersede same elect x c) → NotesStand base low trace (if b then without_context o v else o) (after_supersede same elect x c)
+      closes true left = closed_notes same decides elect base low trace o x notes v (event.Supersede c) (after_supersede same elect x c) (λ u. refl) left
+      closes false left = left_notes same decides elect base low trace o x notes (event.Supersede c) (after_supersede same elect x c) (λ u. refl) left
 
-  pub work_notes : (call : CallFacts D) → InOrder x → is_allowed x o call ≡ true → is_silent call ≡ true → NotesStand base low deeds (openings_after same elect x o call) (after_call same elect x o call)
-  work_notes (SetProposal v p) ordered allowed silent = proposal_notes same decides elect base low deeds o x notes v p allowed
-  work_notes TryPropose ordered allowed silent = requested_notes same decides elect base low deeds o x notes ordered (propose_answer same elect x) refl
-  work_notes (Proposed v payload now) ordered allowed silent = proposed_notes same decides elect base low deeds o x notes v (context_at o v) payload now refl
+  pub work_notes : (call : CallFacts D) → InOrder x → is_allowed x o call ≡ true → is_silent call ≡ true → NotesStand base low trace (outstanding_work_after same elect x o call) (after_call same elect x o call)
+  work_notes (SetProposal v p) ordered allowed silent = proposal_notes same decides elect base low trace o x notes v p allowed
+  work_notes TryPropose ordered allowed silent = requested_notes same decides elect base low trace o x notes ordered (propose_answer same elect x) refl
+  work_notes (Proposed v payload now) ordered allowed silent = proposed_notes same decides elect base low trace o x notes v (context_at o v) payload now refl
   work_notes (SupersedeProposalRequest v) ordered allowed silent = superseded_notes v (context_at o v) (option_map_or (λ c. supersede_answer same elect x c) (context_at o v) false)
   work_notes (PendingHandoffAbandonment v) ordered allowed silent = notes
-  work_notes (ReleaseProposalRequest v) ordered allowed silent = closed_notes same decides elect base low deeds o x notes v (event.Release v) (after_release x v) (λ u. refl) (build_calm same decides elect base low deeds o x notes v false)
-  work_notes TryVerify ordered allowed silent = try_verify_notes same elect base low deeds o x ordered notes
-  work_notes (Verified v) ordered allowed silent = verified_notes same decides elect base low deeds o x notes v allowed
-  work_notes (VerificationFailed v reason now) ordered allowed silent = failed_notes same decides elect base low deeds o x notes v reason now allowed
-  work_notes CertifyCandidates ordered allowed silent = notes_calm base low deeds event.CertifyCandidates o (openings_after same elect x o CertifyCandidates) x (after_candidates x) (calm_by same decides elect base low deeds o x notes event.CertifyCandidates (leaves refl) _ (Then Still Unnames)) (λ u is. absurd (false≢true is)) (λ v is. is) (λ v c is. is) notes
-  work_notes (SetCertifyHandle v token) ordered allowed silent = left_notes same decides elect base low deeds o x notes (event.SetCertifyHandle v token) _ (λ u. refl) (calm_by same decides elect base low deeds o x notes (event.SetCertifyHandle v token) (leaves refl) _ (handle_path same elect base x v token))
-  work_notes (TriggerTimeout v reason now) ordered allowed silent = left_notes same decides elect base low deeds o x notes (event.TriggerTimeout v reason now) _ (λ u. refl) (calm_by same decides elect base low deeds o x notes (event.TriggerTimeout v reason now) (leaves refl) _ (to_triggered v reason now (Then Still (Moves now))))
-  work_notes (NextTimeout now) ordered allowed silent = left_notes same decides elect base low deeds o x notes (event.NextTimeout now) _ (λ u. refl) (calm_by same decides elect base low deeds o x notes (event.NextTimeout now) (leaves refl) _ (polled_path same elect base x now))
+  work_notes (ReleaseProposalRequest v) ordered allowed silent = closed_notes same decides elect base low trace o x notes v (event.Release v) (after_release x v) (λ u. refl) (build_calm same decides elect base low trace o x notes v false)
+  work_notes TryVerify ordered allowed silent = try_verify_notes same elect base low trace o x ordered notes
+  work_notes (Verified v) ordered allowed silent = verified_notes same decides elect base low trace o x notes v allowed
+  work_notes (VerificationFailed v reason now) ordered allowed silent = failed_notes same decides elect base low trace o x notes v reason now allowed
+  work_notes CertifyCandidates ordered allowed silent = notes_calm base low trace event.CertifyCandidates o (outstanding_work_after same elect x o CertifyCandidates) x (after_candidates x) (calm_by same decides elect base low trace o x notes event.CertifyCandidates (leaves refl) _ (Then Still Unnames)) (λ u is. absurd (false≢true is)) (λ v is. is) (λ v c is. is) notes
+  work_notes (SetCertifyHandle v token) ordered allowed silent = left_notes same decides elect base low trace o x notes (event.SetCertifyHandle v token) _ (λ u. refl) (calm_by same decides elect base low trace o x notes (event.SetCertifyHandle v token) (leaves refl) _ (handle_path same elect base x v token))
+  work_notes (TriggerTimeout v reason now) ordered allowed silent = left_notes same decides elect base low trace o x notes (event.TriggerTimeout v reason now) _ (λ u. refl) (calm_by same decides elect base low trace o x notes (event.TriggerTimeout v reason now) (leaves refl) _ (to_triggered v reason now (Then Still (Moves now))))
+  work_notes (NextTimeout now) ordered allowed silent = left_notes same decides elect base low trace o x notes (event.NextTimeout now) _ (λ u. refl) (calm_by same decides elect base low trace o x notes (event.NextTimeout now) (leaves refl) _ (polled_path same elect base x now))
   work_notes _ ordered allowed silent = absurd (false≢true silent)

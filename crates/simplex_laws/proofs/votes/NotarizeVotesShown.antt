@@ -8,18 +8,18 @@ use Rattle.simplex_types.specs.declared.types.messages.Subject.TheVariants as su
 use Rattle.simplex_types.specs.declared.types.numbers.Round.{Round}
 use Rattle.simplex_voter.specs.Facts.{Settings, StateFacts, round_of}
 use Rattle.simplex_voter.specs.Windows.{min_active}
-use Rattle.simplex_member.specs.Openings.{Openings, is_verifying, context_at}
-use Rattle.simplex_laws.specs.Deeds.{Deed, Accepts}
+use Rattle.simplex_member.specs.OutstandingWork.{OutstandingWork, is_verifying, context_at}
+use Rattle.simplex_laws.specs.Traces.{TraceEvent, Accepts}
 use Rattle.simplex_laws.specs.Events.{Event}
 use Rattle.simplex_laws.specs.Lawful.{HasSigned}
-use Rattle.simplex_laws.specs.Sums.{covers_from}
+use Rattle.simplex_laws.specs.HistoryFolds.{covers_from}
 use Rattle.simplex_laws.proofs.lists.Signed.{signed_cases}
-use Rattle.simplex_laws.proofs.votes.Openings.{ArePlaced, NoMoreContexts, some_still}
+use Rattle.simplex_laws.proofs.votes.OutstandingWork.{ArePlaced, NoMoreContexts, some_still}
 use Rattle.simplex_laws.proofs.votes.UnchangedProposals.{Above, CalmOn}
 use Rattle.simplex_laws.proofs.votes.Proposals.{Tidy, contrary, tidy_calm}
 
 -- views below `base` were pruned; work on views below `low` ended with the lives before
-pub record NotesStand {K L D : Type 0} (base low : ℕ) (deeds : List (Deed D)) (o : Openings K D) (x : StateFacts K L D) : Type 0 where
+pub record NotesStand {K L D : Type 0} (base low : ℕ) (trace : List (TraceEvent D)) (o : OutstandingWork K D) (x : StateFacts K L D) : Type 0 where
   pub above : Above base x
   pub active : base ≤ min_active x
   pub reached : low ≤ x.current
@@ -32,22 +32,22 @@ pub record NotesStand {K L D : Type 0} (base low : ℕ) (deeds : List (Deed D)) 
   pub context_low : (v : ℕ) → is_some (context_at o v) ≡ true → low ≤ v
   pub contexts_placed : ArePlaced o
   -- each vote that was cast is decided
-  pub voted : (p : Proposal D) → HasSigned deeds (subject.Notarize p) → low ≤ p.round.view → base ≤ p.round.view → (round_of x p.round.view).notarize_decided ≡ true
+  pub voted : (p : Proposal D) → HasSigned trace (subject.Notarize p) → low ≤ p.round.view → base ≤ p.round.view → (round_of x p.round.view).notarize_decided ≡ true
   -- each nullified view's nullification was accepted
-  pub covered : (u : ℕ) → Contains x.nullified u → (round : Round) × Contains deeds (Accepts (subject.Nullify round)) × (round.view ≡ u)
+  pub covered : (u : ℕ) → Contains x.nullified u → (round : Round) × Contains trace (Accepts (subject.Nullify round)) × (round.view ≡ u)
 
 -- what a record holds of the votes to notarize; it may lack those of views below `kept`
-pub record RemembersNotes {D : Type 0} (deeds : List (Deed D)) (kept : ℕ) (entries : List (ArtifactFacts D)) : Type 0 where
-  pub cast : (p : Proposal D) (m : ℕ) → Contains entries (NotarizeVote p m) → HasSigned deeds (subject.Notarize p)
-  pub noted : (p : Proposal D) → HasSigned deeds (subject.Notarize p) → ((m : ℕ) × Contains entries (NotarizeVote p m)) ⊎ (p.round.view < kept)
+pub record RemembersNotes {D : Type 0} (trace : List (TraceEvent D)) (kept : ℕ) (entries : List (ArtifactFacts D)) : Type 0 where
+  pub cast : (p : Proposal D) (m : ℕ) → Contains entries (NotarizeVote p m) → HasSigned trace (subject.Notarize p)
+  pub noted : (p : Proposal D) → HasSigned trace (subject.Notarize p) → ((m : ℕ) × Contains entries (NotarizeVote p m)) ⊎ (p.round.view < kept)
 
--- no deed of them is a vote to notarize
-abbrev pub CastsNone : {D : Type 0} → List (Deed D) → Type 0
-CastsNone {D} deeds = (p : Proposal D) → HasSigned deeds (subject.Notarize p) → ⊥
+-- no event of them is a vote to notarize
+abbrev pub CastsNone : {D : Type 0} → List (TraceEvent D) → Type 0
+CastsNone {D} trace = (p : Proposal D) → HasSigned trace (subject.Notarize p) → ⊥
 
-module _ {K L D : Type 0} (base low : ℕ) (deeds : List (Deed D)) where
-  -- deeds that are no votes to notarize
-  pub notes_acted : (more : List (Deed D)) (o : Openings K D) (x : StateFacts K L D) → CastsNone more → NotesStand base low deeds o x → NotesStand base low (deeds ++ more) o x
+module _ {K L D : Type 0} (base low : ℕ) (trace : List (TraceEvent D)) where
+  -- events that are no votes to notarize
+  pub notes_acted : (more : List (TraceEvent D)) (o : OutstandingWork K D) (x : StateFacts K L D) → CastsNone more → NotesStand base low trace o x → NotesStand base low (trace ++ more) o x
   notes_acted more o x none notes = record {
     above = notes.above;
     active = notes.active;
@@ -58,12 +58,12 @@ module _ {K L D : Type 0} (base low : ℕ) (deeds : List (Deed D)) where
     verifying_low = notes.verifying_low;
     context_low = notes.context_low;
     contexts_placed = notes.contexts_placed;
-    voted = λ p h. elim (signed_cases deeds more (subject.Notarize p) h) [ inl old ↦ notes.voted p old | inr new ↦ absurd (none p new) ];
-    covered = λ u h. (let c = notes.covered u h in (c.0, Contains-append_left deeds more (Accepts (subject.Nullify c.0)) c.1, c.2));
+    voted = λ p h. elim (signed_cases trace more (subject.Notarize p) h) [ inl old ↦ notes.voted p old | inr new ↦ absurd (none p new) ];
+    covered = λ u h. (let c = notes.covered u h in (c.0, Contains-append_left trace more (Accepts (subject.Nullify c.0)) c.1, c.2));
   }
 
   -- a change that leaves the work on each view, with nothing more open
-  pub notes_calm : (e : Event K D) (o o' : Openings K D) (x y : StateFacts K L D) → CalmOn base e x y → ((u : ℕ) → covers_from u e ≡ true → (round : Round) × Contains deeds (Accepts (subject.Nullify round)) × (round.view ≡ u)) → ((v : ℕ) → is_verifying o' v ≡ true → is_verifying o v ≡ true) → NoMoreContexts o o' → NotesStand base low deeds o x → NotesStand base low deeds o' y
+  pub notes_calm : (e : Event K D) (o o' : OutstandingWork K D) (x y : StateFacts K L D) → CalmOn base e x y → ((u : ℕ) → covers_from u e ≡ true → (round : Round) × Contains trace (Accepts (subject.Nullify round)) × (round.view ≡ u)) → ((v : ℕ) → is_verifying o' v ≡ true → is_verifying o v ≡ true) → NoMoreContexts o o' → NotesStand base low trace o x → NotesStand base low trace o' y
   notes_calm e o o' x y left accepted verifying opened notes = record {
     above = left.above notes.above;
     active = omega (arith, notes.active, left.goes.finalized, ap (λ (s : Settings). s.view_retention) left.goes.settings);

@@ -10,7 +10,7 @@ use Rattle.std.proofs.lemmas.Bool.{false≢true, eqb-true, lt-ltb, cases_lt}
 use Rattle.simplex_sorted.proofs.Maps.{is_eq-nat_cmp}
 use Rattle.simplex_types.specs.Terms.{covers}
 use Rattle.simplex_voter.specs.Facts.{StateFacts}
-use Rattle.simplex_voter.specs.Rules.{is_gated}
+use Rattle.simplex_voter.specs.Rules.{has_conflicting_nullify}
 use Rattle.simplex_laws.proofs.lists.Splits.{Contains-cons_rest, Contains-cases}
 
 -- views with the same place are the same
@@ -54,8 +54,8 @@ any_passes test u (x ∷ xs) passes h = elim (Contains-cases x xs u h) [
 ]
 
 -- where the gate is open, a noted view below in the term is not above the finalized one
-pub gate_passed : {K L D : Type 0} (x : StateFacts K L D) (u v : ℕ) → is_gated x v ≡ false → Contains x.nullify_votes u → u < v → covers x.terms.term_length u v ≡ true → u ≤ x.finalized
-unfolding is_gated
+pub gate_passed : {K L D : Type 0} (x : StateFacts K L D) (u v : ℕ) → has_conflicting_nullify x v ≡ false → Contains x.nullify_votes u → u < v → covers x.terms.term_length u v ≡ true → u ≤ x.finalized
+unfolding has_conflicting_nullify
 gate_passed x u v ungated noted below covering = elim (cases_lt x.finalized u) [
   | inl above ↦
       (let test : ltb u v && covers x.terms.term_length u v && ltb x.finalized u ≡ true = rw (lt-ltb u v below, covering, lt-ltb x.finalized u above) refl in

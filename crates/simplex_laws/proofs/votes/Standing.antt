@@ -1,5 +1,5 @@
 -- For `votes_are_lawful`.
--- What a state's facts show of the deeds that led to it, and that it stays so while the deeds grow.
+-- What a state's facts show of the trace that led to it, and that it stays so while the trace grows.
 use Rattle.std.proofs.Common.{◌≡◌, refl, sym, subst, ℕ, ◌≤◌, ◌<◌, ◌⊎◌, inl, inr, true, List, [], ◌∷◌, ◌++◌, Contains, Some, arith}
 use Rattle.std.proofs.lemmas.Bool.{cases_eq}
 use Rattle.std.proofs.lemmas.List.Elements.{Contains-append_left, Contains-append_right}
@@ -11,57 +11,57 @@ use Rattle.simplex_types.specs.declared.types.numbers.Round.{Round}
 use Rattle.simplex_round.specs.Round.{RoundFacts, is_nullify, is_finalize, is_certified}
 use Rattle.simplex_voter.specs.Facts.{StateFacts, round_of, with_round}
 use Rattle.simplex_voter.proofs.Elsewhere.{round_of-with_round}
-use Rattle.simplex_laws.specs.Deeds.{Deed, Accepts}
+use Rattle.simplex_laws.specs.Traces.{TraceEvent, Accepts}
 use Rattle.simplex_laws.specs.Lawful.{HasSigned}
 use Rattle.simplex_laws.proofs.lists.Signed.{signed_push}
 use Rattle.simplex_record.proofs.Rounds.{round_put}
 
 -- a round of view v, where the current view is to be `reached`
-pub record RoundStands {K D : Type 0} (deeds : List (Deed D)) (reached finalized v : ℕ) (r : RoundFacts K D) : Type 0 where
+pub record RoundStands {K D : Type 0} (trace : List (TraceEvent D)) (reached finalized v : ℕ) (r : RoundFacts K D) : Type 0 where
   -- its notarization was accepted, and is of this view
-  pub notarized : (c : ProposalFacts D) → r.notarization ≡ Some c → (c.proposal.round.view ≡ v) × Contains deeds (Accepts (subject.Notarize c.proposal))
+  pub notarized : (c : ProposalFacts D) → r.notarization ≡ Some c → (c.proposal.round.view ≡ v) × Contains trace (Accepts (subject.Notarize c.proposal))
   -- it is of the held proposal, unless another was seen
   pub held : (c : ProposalFacts D) → r.notarization ≡ Some c → (r.slot.conflict ≡ true) ⊎ (r.slot.held ≡ Some c.proposal)
   -- a true verdict enters a later view, and only a view behind the current one is decided to be finalized
   pub entered : is_certified r.certification ≡ true → v < reached
   pub left : is_finalize r.decision ≡ true → v < reached
   -- each vote of the view that was cast is decided, or a finalization is no lower
-  pub nullify_decided : (round : Round) → HasSigned deeds (subject.Nullify round) → round.view ≡ v → (is_nullify r.decision ≡ true) ⊎ (v ≤ finalized)
-  pub finalize_decided : (p : Proposal D) → HasSigned deeds (subject.Finalize p) → p.round.view ≡ v → (is_finalize r.decision ≡ true) ⊎ (v ≤ finalized)
+  pub nullify_decided : (round : Round) → HasSigned trace (subject.Nullify round) → round.view ≡ v → (is_nullify r.decision ≡ true) ⊎ (v ≤ finalized)
+  pub finalize_decided : (p : Proposal D) → HasSigned trace (subject.Finalize p) → p.round.view ≡ v → (is_finalize r.decision ≡ true) ⊎ (v ≤ finalized)
 
-pub record Stands {K L D : Type 0} (term_length : ℕ) (deeds : List (Deed D)) (reached : ℕ) (x : StateFacts K L D) : Type 0 where
+pub record Stands {K L D : Type 0} (term_length : ℕ) (trace : List (TraceEvent D)) (reached : ℕ) (x : StateFacts K L D) : Type 0 where
   pub terms : x.terms.term_length ≡ term_length
-  pub rounds : (v : ℕ) → RoundStands deeds reached x.finalized v (round_of x v)
+  pub rounds : (v : ℕ) → RoundStands trace reached x.finalized v (round_of x v)
   -- each view that was voted to be finalized is passed
-  pub passed : (p : Proposal D) → HasSigned deeds (subject.Finalize p) → p.round.view < reached
+  pub passed : (p : Proposal D) → HasSigned trace (subject.Finalize p) → p.round.view < reached
   -- each vote to nullify is noted for the gate, or a finalization is no lower
-  pub noted : (round : Round) → HasSigned deeds (subject.Nullify round) → (1 ≤ round.view) × (Contains x.nullify_votes round.view ⊎ (round.view ≤ x.finalized))
+  pub noted : (round : Round) → HasSigned trace (subject.Nullify round) → (1 ≤ round.view) × (Contains x.nullify_votes round.view ⊎ (round.view ≤ x.finalized))
 
 -- a view is genesis, or its finalization was accepted
-abbrev pub HasFinal : {D : Type 0} → List (Deed D) → ℕ → Type 0
-HasFinal {D} deeds v = (v ≡ 0) ⊎ ((final : Proposal D) × Contains deeds (Accepts (subject.Finalize final)) × (final.round.view ≡ v))
+abbrev pub HasFinal : {D : Type 0} → List (TraceEvent D) → ℕ → Type 0
+HasFinal {D} trace v = (v ≡ 0) ⊎ ((final : Proposal D) × Contains trace (Accepts (subject.Finalize final)) × (final.round.view ≡ v))
 
 -- what a state's facts keep in a life, with each call
-pub record Stays {K L D : Type 0} (term_length : ℕ) (deeds : List (Deed D)) (x : StateFacts K L D) : Type 0 where
-  pub stands : Stands term_length deeds x.current x
+pub record Stays {K L D : Type 0} (term_length : ℕ) (trace : List (TraceEvent D)) (x : StateFacts K L D) : Type 0 where
+  pub stands : Stands term_length trace x.current x
   pub ahead : x.finalized < x.current
-  pub final : HasFinal deeds x.finalized
+  pub final : HasFinal trace x.finalized
 
-pub not_vote : {D : Type 0} (deeds : List (Deed D)) (certificate vote : Subject D) → HasSigned (deeds ++ Accepts certificate ∷ []) vote → HasSigned deeds vote
-not_vote deeds certificate vote h = elim (signed_push deeds (Accepts certificate) vote h) [ inl old ↦ old | inr new ↦ absurd (cc) ]
+pub not_vote : {D : Type 0} (trace : List (TraceEvent D)) (certificate vote : Subject D) → HasSigned (trace ++ Accepts certificate ∷ []) vote → HasSigned trace vote
+not_vote trace certificate vote h = elim (signed_push trace (Accepts certificate) vote h) [ inl old ↦ old | inr new ↦ absurd (cc) ]
 
-pub still : {D : Type 0} (deeds : List (Deed D)) (new deed : Deed D) → Contains deeds deed → Contains (deeds ++ new ∷ []) deed
-still deeds new deed h = Contains-append_left deeds (new ∷ []) deed h
+pub still : {D : Type 0} (trace : List (TraceEvent D)) (new trace_event : TraceEvent D) → Contains trace trace_event → Contains (trace ++ new ∷ []) trace_event
+still trace new trace_event h = Contains-append_left trace (new ∷ []) trace_event h
 
-pub latest : {D : Type 0} (deeds : List (Deed D)) (new : Deed D) → Contains (deeds ++ new ∷ []) new
-latest deeds new = Contains-append_right deeds (new ∷ []) new (0, omega arith, refl)
+pub latest : {D : Type 0} (trace : List (TraceEvent D)) (new : TraceEvent D) → Contains (trace ++ new ∷ []) new
+latest trace new = Contains-append_right trace (new ∷ []) new (0, omega arith, refl)
 
-pub final_still : {D : Type 0} (deeds : List (Deed D)) (new : Deed D) (v : ℕ) → HasFinal deeds v → HasFinal (deeds ++ new ∷ []) v
-final_still deeds new v (inl genesis) = inl genesis
-final_still deeds new v (inr (p, h, at)) = inr (p, still deeds new (Accepts (subject.Finalize p)) h, at)
+pub final_still : {D : Type 0} (trace : List (TraceEvent D)) (new : TraceEvent D) (v : ℕ) → HasFinal trace v → HasFinal (trace ++ new ∷ []) v
+final_still trace new v (inl genesis) = inl genesis
+final_still trace new v (inr (p, h, at)) = inr (p, still trace new (Accepts (subject.Finalize p)) h, at)
 
-module _ {K D : Type 0} (deeds : List (Deed D)) where
-  pub round_later : (reached further finalized higher v : ℕ) (r : RoundFacts K D) → reached ≤ further → finalized ≤ higher → RoundStands deeds reached finalized v r → RoundStands deeds further higher v r
+module _ {K D : Type 0} (trace : List (TraceEvent D)) where
+  pub round_later : (reached further finalized higher v : ℕ) (r : RoundFacts K D) → reached ≤ further → finalized ≤ higher → RoundStands trace reached finalized v r → RoundStands trace further higher v r
   round_later reached further finalized higher v r later raised stands = record {
     notarized = stands.notarized;
     held = stands.held;
@@ -71,45 +71,45 @@ module _ {K D : Type 0} (deeds : List (Deed D)) where
     finalize_decided = λ p h at. elim (stands.finalize_decided p h at) [ inl is ↦ inl is | inr below ↦ inr (omega arith) ];
   }
 
-  pub round_accepted : (certificate : Subject D) (reached finalized v : ℕ) (r : RoundFacts K D) → RoundStands deeds reached finalized v r → RoundStands (deeds ++ Accepts certificate ∷ []) reached finalized v r
+  pub round_accepted : (certificate : Subject D) (reached finalized v : ℕ) (r : RoundFacts K D) → RoundStands trace reached finalized v r → RoundStands (trace ++ Accepts certificate ∷ []) reached finalized v r
   round_accepted certificate reached finalized v r stands = record {
-    notarized = λ c is. ((stands.notarized c is).0, still deeds (Accepts certificate) (Accepts (subject.Notarize c.proposal)) (stands.notarized c is).1);
+    notarized = λ c is. ((stands.notarized c is).0, still trace (Accepts certificate) (Accepts (subject.Notarize c.proposal)) (stands.notarized c is).1);
     held = stands.held;
     entered = stands.entered;
     left = stands.left;
-    nullify_decided = λ round h. stands.nullify_decided round (not_vote deeds certificate (subject.Nullify round) h);
-    finalize_decided = λ p h. stands.finalize_decided p (not_vote deeds certificate (subject.Finalize p) h);
+    nullify_decided = λ round h. stands.nullify_decided round (not_vote trace certificate (subject.Nullify round) h);
+    finalize_decided = λ p h. stands.finalize_decided p (not_vote trace certificate (subject.Finalize p) h);
   }
 
-module _ {K L D : Type 0} (term_length : ℕ) (deeds : List (Deed D)) where
-  pub stands_later : (reached further : ℕ) (x : StateFacts K L D) → reached ≤ further → Stands term_length deeds reached x → Stands term_length deeds further x
+module _ {K L D : Type 0} (term_length : ℕ) (trace : List (TraceEvent D)) where
+  pub stands_later : (reached further : ℕ) (x : StateFacts K L D) → reached ≤ further → Stands term_length trace reached x → Stands term_length trace further x
   stands_later reached further x later stands = record {
     terms = stands.terms;
-    rounds = λ v. round_later deeds reached further x.finalized x.finalized v (round_of x v) later (omega arith) (stands.rounds v);
+    rounds = λ v. round_later trace reached further x.finalized x.finalized v (round_of x v) later (omega arith) (stands.rounds v);
     passed = λ p h. omega (arith, stands.passed p h);
     noted = stands.noted;
   }
 
-  pub stands_put : (reached : ℕ) (x : StateFacts K L D) (v : ℕ) (r : RoundFacts K D) → RoundStands deeds reached x.finalized v r → Stands term_length deeds reached x → Stands term_length deeds reached (with_round x v r)
+  pub stands_put : (reached : ℕ) (x : StateFacts K L D) (v : ℕ) (r : RoundFacts K D) → RoundStands trace reached x.finalized v r → Stands term_length trace reached x → Stands term_length trace reached (with_round x v r)
   stands_put reached x v r here stands = record { terms = stands.terms; rounds = rounds; passed = stands.passed; noted = stands.noted }
     where
-      rounds : (w : ℕ) → RoundStands deeds reached x.finalized w (round_of (with_round x v r) w)
+      rounds : (w : ℕ) → RoundStands trace reached x.finalized w (round_of (with_round x v r) w)
       rounds w = elim (cases_eq w v) [
-        | inl at ↦ subst (λ u. RoundStands deeds reached x.finalized u (round_of (with_round x v r) u)) (sym at) (subst (λ s. RoundStands deeds reached x.finalized v s) (sym (round_put x v r)) here)
-        | inr apart ↦ subst (λ s. RoundStands deeds reached x.finalized w s) (sym (round_of-with_round x w v apart r)) (stands.rounds w)
+        | inl at ↦ subst (λ u. RoundStands trace reached x.finalized u (round_of (with_round x v r) u)) (sym at) (subst (λ s. RoundStands trace reached x.finalized v s) (sym (round_put x v r)) here)
+        | inr apart ↦ subst (λ s. RoundStands trace reached x.finalized w s) (sym (round_of-with_round x w v apart r)) (stands.rounds w)
       ]
 
-  pub stands_accepted : (certificate : Subject D) (reached : ℕ) (x : StateFacts K L D) → Stands term_length deeds reached x → Stands term_length (deeds ++ Accepts certificate ∷ []) reached x
+  pub stands_accepted : (certificate : Subject D) (reached : ℕ) (x : StateFacts K L D) → Stands term_length trace reached x → Stands term_length (trace ++ Accepts certificate ∷ []) reached x
   stands_accepted certificate reached x stands = record {
     terms = stands.terms;
-    rounds = λ v. round_accepted deeds certificate reached x.finalized v (round_of x v) (stands.rounds v);
-    passed = λ p h. stands.passed p (not_vote deeds certificate (subject.Finalize p) h);
-    noted = λ round h. stands.noted round (not_vote deeds certificate (subject.Nullify round) h);
+    rounds = λ v. round_accepted trace certificate reached x.finalized v (round_of x v) (stands.rounds v);
+    passed = λ p h. stands.passed p (not_vote trace certificate (subject.Finalize p) h);
+    noted = λ round h. stands.noted round (not_vote trace certificate (subject.Nullify round) h);
   }
 
-  pub stays_accepted : (certificate : Subject D) (x : StateFacts K L D) → Stays term_length deeds x → Stays term_length (deeds ++ Accepts certificate ∷ []) x
+  pub stays_accepted : (certificate : Subject D) (x : StateFacts K L D) → Stays term_length trace x → Stays term_length (trace ++ Accepts certificate ∷ []) x
   stays_accepted certificate x keeps = record {
     stands = stands_accepted certificate x.current x keeps.stands;
     ahead = keeps.ahead;
-    final = final_still deeds (Accepts certificate) x.finalized keeps.final;
+    final = final_still trace (Accepts certificate) x.finalized keeps.final;
   }

@@ -14,8 +14,8 @@ use Rattle.simplex_voter.specs.Windows.{min_active}
 use Rattle.simplex_voter.specs.Proposing.{proposal_of}
 use Rattle.simplex_laws.specs.Events as event
 use Rattle.simplex_laws.specs.Events.{Event, IsEvent, after_event}
-use Rattle.simplex_laws.specs.Sums.{is_prune, finalized_by_event}
-use Rattle.simplex_laws.specs.Deeds.{Deed, Accepts}
+use Rattle.simplex_laws.specs.HistoryFolds.{is_prune, finalized_by_event}
+use Rattle.simplex_laws.specs.Traces.{TraceEvent, Accepts}
 use Rattle.simplex_laws.specs.Lawful.{HasSigned}
 use Rattle.simplex_laws.proofs.frames.EachRound.{step_round, pruned_round}
 use Rattle.simplex_record.proofs.Rounds.{armed_nullify, armed_finalize, latched_nullify, latched_finalize, aborted_certified, awaited_nullify}
@@ -31,17 +31,17 @@ use Rattle.simplex_record.proofs.Steps.{RoundStep, Step, Puts, Notes, Raises, Sc
 
 -- what has to be known of an event: what it brings was accepted, a view that it judges to be true or decides to finalize is
 -- passed, and a vote that it decides is allowed, or stands against no vote of the other kind
-pub record Suits {K L D : Type 0} (deeds : List (Deed D)) (reached : ℕ) (x : StateFacts K L D) (e : Event K D) : Type 0 where
-  pub notarized : (c : ProposalFacts D) → notarization_by e ≡ Some c → Contains deeds (Accepts (subject.Notarize c.proposal))
-  pub finalized : HasFinal deeds (finalized_by_event e)
+pub record Suits {K L D : Type 0} (trace : List (TraceEvent D)) (reached : ℕ) (x : StateFacts K L D) (e : Event K D) : Type 0 where
+  pub notarized : (c : ProposalFacts D) → notarization_by e ≡ Some c → Contains trace (Accepts (subject.Notarize c.proposal))
+  pub finalized : HasFinal trace (finalized_by_event e)
   pub enters : (v : ℕ) → verdict_by e ≡ Some (v, true) → v < reached
   pub leaves : (v : ℕ) → finalize_by e ≡ Some v → v < reached
-  pub nullifies : (v : ℕ) → nullify_by e ≡ Some v → IsEvent x e ⊎ ((p : Proposal D) → HasSigned deeds (subject.Finalize p) → v ≢ p.round.view)
-  pub finalizes : (v : ℕ) → finalize_by e ≡ Some v → IsEvent x e ⊎ ((round : Round) → HasSigned deeds (subject.Nullify round) → round.view ≢ v)
+  pub nullifies : (v : ℕ) → nullify_by e ≡ Some v → IsEvent x e ⊎ ((p : Proposal D) → HasSigned trace (subject.Finalize p) → v ≢ p.round.view)
+  pub finalizes : (v : ℕ) → finalize_by e ≡ Some v → IsEvent x e ⊎ ((round : Round) → HasSigned trace (subject.Nullify round) → round.view ≢ v)
 
-module _ {K L D : Type 0} (deeds : List (Deed D)) (reached : ℕ) (x : StateFacts K L D) (e : Event K D) where
+module _ {K L D : Type 0} (trace : List (TraceEvent D)) (reached : ℕ) (x : StateFacts K L D) (e : Event K D) where
   -- an event that brings no notarization and no finalization and decides no vote
-  pub plain_suits : notarization_by e ≡ None → finalized_by_event e ≡ 0 → nullify_by e ≡ None → finalize_by e ≡ None → ((v : ℕ) → verdict_by e ≡ Some (v, true) → v < reached) → Suits deeds reached x e
+  pub plain_suits : notarization_by e ≡ None → finalized_by_event e ≡ 0 → nullify_by e ≡ None → finalize_by e ≡ None → ((v : ℕ) → verdict_by e ≡ Some (v, true) → v < reached) → Suits trace reached x e
   plain_suits notarization final nullify finalize enters = record {
     notarized = λ c says. absurd (cc);
     finalized = inl final;
@@ -51,7 +51,7 @@ module _ {K L D : Type 0} (deeds : List (Deed D)) (reached : ℕ) (x : StateFact
     finalizes = λ v says. absurd (cc);
   }
 
-  pub silent_suits : IsSilent e → Suits deeds reached x e
+  pub silent_suits : IsSilent e → Suits trace reached x e
   silent_suits silent = plain_suits silent.notarization silent.final silent.nullify silent.finalize (λ v says. absurd (let none = silent.verdict in cc))
 
 prune_finalizes_none : {K D : Type 0} (e : Event K D) → is_prune e ≡ true → finalized_by_event e ≡ 0
@@ -63,10 +63,10 @@ passed_by : (a : Bool) (P : Type 0) → a ≡ false → (a ≡ true) ⊎ P → (
 passed_by a P isnt (inl is) b = absurd (false≢true (sym isnt ∙ is))
 passed_by a P isnt (inr p) b = inr p
 
-module _ {K L D : Type 0} (same : D → D → Bool) (decides : (d e : D) → same d e ≡ true → d ≡ e) (elect : Elect L) (term_length : ℕ) (deeds : List (Deed D)) (reached : ℕ) (x : StateFacts K L D) (e : Event K D) (suits : Suits deeds reached x e) where
-  change_stands : (finalized : ℕ) (y : StateFacts K L D) (v : ℕ) (r s : RoundFacts K D) → RoundStep same elect x e y v r s → RoundStands deeds reached finalized v r → RoundStands deeds reached finalized v s
+module _ {K L D : Type 0} (same : D → D → Bool) (decides : (d e : D) → same d e ≡ true → d ≡ e) (elect : Elect L) (term_length : ℕ) (trace : List (TraceEvent D)) (reached : ℕ) (x : StateFacts K L D) (e : Event K D) (suits : Suits trace reached x e) where
+  change_stands : (finalized : ℕ) (y : StateFacts K L D) (v : ℕ) (r s : RoundFacts K D) → RoundStep same elect x e y v r s → RoundStands trace reached finalized v r → RoundStands trace reached finalized v s
   change_stands finalized y v r s (step.Notarized c says at none) p = record {
-    notarized = λ d is. (let alike : c ≡ d = cc in subst (λ (f : ProposalFacts D). (f.proposal.round.view ≡ v) × Contains deeds (Accepts (subject.Notarize f.proposal))) alike (at, suits.notarized c says));
+    notarized = λ d is. (let alike : c ≡ d = cc in subst (λ (f : ProposalFacts D). (f.proposal.round.view ≡ v) × Contains trace (Accepts (subject.Notarize f.proposal))) alike (at, suits.notarized c says));
     held = λ d is. (let alike : c ≡ d = cc in subst (λ (f : ProposalFacts D). Holds (after_certificate (same_proposal same) r.slot c.proposal) f.proposal) alike (holds_new same decides r.slot c.proposal));
     entered = p.entered;
     left = p.left;
@@ -88,12 +88,12 @@ module _ {K L D : Type 0} (same : D → D → Bool) (decides : (d e : D) → sam
   change_stands finalized y v r s (step.VotedAgain q binding says at is) p = record { notarized = p.notarized; held = λ d is. holds_own same decides r.slot q d.proposal (p.held d is); entered = p.entered; left = p.left; nullify_decided = p.nullify_decided; finalize_decided = p.finalize_decided }
   change_stands finalized y v r s _ p = record { notarized = p.notarized; held = p.held; entered = p.entered; left = p.left; nullify_decided = p.nullify_decided; finalize_decided = p.finalize_decided }
 
-  step_stands : (y z : StateFacts K L D) → Step same elect x e 0 y z → Stands term_length deeds reached y → Stands term_length deeds reached z
-  step_stands y z (Puts v r may change) p = stands_put term_length deeds reached y v r (change_stands y.finalized y v (round_of y v) r change (p.rounds v)) p
+  step_stands : (y z : StateFacts K L D) → Step same elect x e 0 y z → Stands term_length trace reached y → Stands term_length trace reached z
+  step_stands y z (Puts v r may change) p = stands_put term_length trace reached y v r (change_stands y.finalized y v (round_of y v) r change (p.rounds v)) p
   step_stands y z (Raises v says above) p = record {
     terms = p.terms;
     rounds = λ w. elim (step_round same elect x e 0 y _ (Raises v says above) w) [
-      | inl change ↦ change_stands v y w (round_of y w) _ change (round_later deeds reached reached y.finalized v w (round_of y w) (omega arith) (omega arith) (p.rounds w))
+      | inl change ↦ change_stands v y w (round_of y w) _ change (round_later trace reached reached y.finalized v w (round_of y w) (omega arith) (omega arith) (p.rounds w))
       | inr prunes ↦ absurd (let none = prune_finalizes_none e prunes.0 in omega (arith, none, says, above))
     ];
     passed = p.passed;
@@ -117,8 +117,8 @@ module _ {K L D : Type 0} (same : D → D → Bool) (decides : (d e : D) → sam
   step_stands y z (Prunes is) p = record {
     terms = p.terms;
     rounds = λ w. elim (pruned_round y w) [
-      | inl kept ↦ subst (RoundStands deeds reached y.finalized w) (sym kept) (p.rounds w)
-      | inr gone ↦ subst (λ o. RoundStands deeds reached y.finalized w (unwrap_or o (new_round y.me y.members (round_number y w)))) (sym gone.untracked) (fresh_stands deeds reached y.finalized w y.me y.members (round_number y w) (let below = gone.below in omega (arith, below)))
+      | inl kept ↦ subst (RoundStands trace reached y.finalized w) (sym kept) (p.rounds w)
+      | inr gone ↦ subst (λ o. RoundStands trace reached y.finalized w (unwrap_or o (new_round y.me y.members (round_number y w)))) (sym gone.untracked) (fresh_stands trace reached y.finalized w y.me y.members (round_number y w) (let below = gone.below in omega (arith, below)))
     ];
     passed = p.passed;
     noted = λ round h. (
@@ -134,25 +134,25 @@ module _ {K L D : Type 0} (same : D → D → Bool) (decides : (d e : D) → sam
   }
   step_stands y z _ p = record { terms = p.terms; rounds = p.rounds; passed = p.passed; noted = p.noted }
 
-  pub event_stands : Stands term_length deeds reached x → Stands term_length deeds reached (after_event same elect x e)
-  event_stands p = along same elect x e 0 (Stands term_length deeds reached) step_stands x (after_event same elect x e) (event_path same elect 0 x e (omega arith) (asked_of_all x e)) p
+  pub event_stands : Stands term_length trace reached x → Stands term_length trace reached (after_event same elect x e)
+  event_stands p = along same elect x e 0 (Stands term_length trace reached) step_stands x (after_event same elect x e) (event_path same elect 0 x e (omega arith) (asked_of_all x e)) p
 
-  step_final : (y z : StateFacts K L D) → Step same elect x e 0 y z → HasFinal deeds y.finalized → HasFinal deeds z.finalized
-  step_final y z (Raises v says above) p = subst (λ n. HasFinal deeds n) says suits.finalized
+  step_final : (y z : StateFacts K L D) → Step same elect x e 0 y z → HasFinal trace y.finalized → HasFinal trace z.finalized
+  step_final y z (Raises v says above) p = subst (λ n. HasFinal trace n) says suits.finalized
   step_final y z _ p = p
 
-  pub event_final : HasFinal deeds x.finalized → HasFinal deeds (after_event same elect x e).finalized
-  event_final p = along same elect x e 0 (λ y. HasFinal deeds y.finalized) step_final x (after_event same elect x e) (event_path same elect 0 x e (omega arith) (asked_of_all x e)) p
+  pub event_final : HasFinal trace x.finalized → HasFinal trace (after_event same elect x e).finalized
+  event_final p = along same elect x e 0 (λ y. HasFinal trace y.finalized) step_final x (after_event same elect x e) (event_path same elect 0 x e (omega arith) (asked_of_all x e)) p
 
-module _ {K L D : Type 0} (same : D → D → Bool) (decides : (d e : D) → same d e ≡ true → d ≡ e) (elect : Elect L) (term_length : ℕ) (deeds : List (Deed D)) (x : StateFacts K L D) (e : Event K D) (suits : Suits deeds (after_event same elect x e).current x e) where
+module _ {K L D : Type 0} (same : D → D → Bool) (decides : (d e : D) → same d e ≡ true → d ≡ e) (elect : Elect L) (term_length : ℕ) (trace : List (TraceEvent D)) (x : StateFacts K L D) (e : Event K D) (suits : Suits trace (after_event same elect x e).current x e) where
   -- an event, also the floor of a new state
-  pub event_stays : IsAhead x ⊎ ((x.finalized ≡ 0) × (is_floor e ≡ true)) → Stands term_length deeds (after_event same elect x e).current x → HasFinal deeds x.finalized → Stays term_length deeds (after_event same elect x e)
+  pub event_stays : IsAhead x ⊎ ((x.finalized ≡ 0) × (is_floor e ≡ true)) → Stands term_length trace (after_event same elect x e).current x → HasFinal trace x.finalized → Stays term_length trace (after_event same elect x e)
   event_stays ahead stands final = record {
-    stands = event_stands same decides elect term_length deeds (after_event same elect x e).current x e suits stands;
+    stands = event_stands same decides elect term_length trace (after_event same elect x e).current x e suits stands;
     ahead = event_ahead same elect x e ahead;
-    final = event_final same decides elect term_length deeds (after_event same elect x e).current x e suits final;
+    final = event_final same decides elect term_length trace (after_event same elect x e).current x e suits final;
   }
 
   -- an event of a life
-  pub stays_on : Stays term_length deeds x → Stays term_length deeds (after_event same elect x e)
-  stays_on stays = event_stays (inl stays.ahead) (stands_later term_length deeds x.current (after_event same elect x e).current x (event_goes same elect x e).current stays.stands) stays.final
+  pub stays_on : Stays term_length trace x → Stays term_length trace (after_event same elect x e)
+  stays_on stays = event_stays (inl stays.ahead) (stands_later term_length trace x.current (after_event same elect x e).current x (event_goes same elect x e).current stays.stands) stays.final

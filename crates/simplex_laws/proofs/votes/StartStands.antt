@@ -1,5 +1,5 @@
 -- For `votes_are_lawful`.
--- A state at its floor stands with no deed but the floor's.
+-- A state at its floor stands with no event but the floor's.
 use Rattle.std.proofs.Common.{◌≡◌, refl, ℕ, inl, inr, Bool, true, List, Option, arith}
 use Rattle.std.proofs.lemmas.Bool.{false≢true}
 use Rattle.simplex_types.specs.Config.{FloorFacts, Genesis, Finalized}
@@ -9,11 +9,11 @@ use Rattle.simplex_types.specs.declared.types.window.Terms.{Terms}
 use Rattle.simplex_round.specs.Round.{new_round}
 use Rattle.simplex_voter.specs.Facts.{Settings, StateFacts, Elect, new_facts}
 use Rattle.simplex_voter.specs.Acceptance.{after_set_floor}
-use Rattle.simplex_laws.specs.Deeds.{Accepts, of_floor}
+use Rattle.simplex_laws.specs.Traces.{Accepts, of_floor}
 use Rattle.simplex_laws.specs.Events as event
 use Rattle.simplex_laws.specs.Events.{Event}
 use Rattle.simplex_laws.specs.Lawful.{HasSigned}
-use Rattle.simplex_laws.specs.Sums.{finalized_by_event}
+use Rattle.simplex_laws.specs.HistoryFolds.{finalized_by_event}
 use Rattle.simplex_laws.proofs.lists.Signed.{signed_none, only_signed}
 use Rattle.simplex_laws.proofs.votes.Standing.{RoundStands, Stands, HasFinal, Stays}
 use Rattle.simplex_laws.proofs.votes.StandingSteps.{Suits, event_stays}

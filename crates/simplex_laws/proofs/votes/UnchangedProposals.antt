@@ -16,7 +16,7 @@ use Rattle.simplex_round.specs.Round.{RoundFacts}
 use Rattle.simplex_voter.specs.Facts.{StateFacts, Elect, round_of, is_tracked, with_round}
 use Rattle.simplex_sorted.proofs.Maps.{is_eq-nat_cmp}
 use Rattle.simplex_laws.specs.Events.{Event, Proposed, TryVerify, SetProposal, Verified, VerificationFailed, Prune, Replay, after_event}
-use Rattle.simplex_laws.specs.Sums.{covers_from, is_prune}
+use Rattle.simplex_laws.specs.HistoryFolds.{covers_from, is_prune}
 use Rattle.simplex_laws.proofs.lists.Splits.{Contains-cases, Contains-cons_rest}
 use Rattle.simplex_record.proofs.Steps as step
 use Rattle.simplex_record.proofs.Steps.{RoundStep, Step, Path, Covers, Prunes, along, note_by, proposal_by, is_answer}

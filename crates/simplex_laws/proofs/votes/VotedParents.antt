@@ -10,10 +10,10 @@ use Rattle.simplex_types.specs.Proposal.{same_proposal}
 use Rattle.simplex_types.specs.declared.types.messages.Proposal.{Proposal}
 use Rattle.simplex_round.specs.Round.{RoundFacts, new_round}
 use Rattle.simplex_voter.specs.Facts.{StateFacts, Elect, round_at, round_of, round_number}
-use Rattle.simplex_voter.specs.Gaps.{IsGapless, IsFirstGap, is_gapless, first_gap}
-use Rattle.simplex_voter.specs.Windows.{is_start}
-use Rattle.simplex_voter.specs.Payloads.{explicit_payload, optimistic_payload, is_handoff_parent}
-use Rattle.simplex_voter.specs.Parents.{at_view, spans, payload_for, parent_payload, explicit_below, highest_explicit, preferred_at_start, preferred_parent, handoff, is_payload, is_parent, leads, holds_binding, binding_matches}
+use Rattle.simplex_voter.specs.Gaps.{IsGapless, IsFirstGap, is_gapless, first_unnullified_view}
+use Rattle.simplex_voter.specs.Windows.{is_term_start}
+use Rattle.simplex_voter.specs.Payloads.{explicit_ancestry_payload, optimistic_ancestry_payload, is_handoff_parent}
+use Rattle.simplex_voter.specs.Parents.{at_view, has_valid_parent_span, ancestry_payload_for_child, parent_payload_for, explicit_below, highest_explicit, preferred_at_start, find_parent, handoff, is_payload, is_parent, leads, holds_binding, verification_matches}
 use Rattle.simplex_voter.proofs.Gaps.{and_parts, first_gap-is}
 use Rattle.simplex_laws.proofs.lists.Splits.{Contains-cons_rest}
 
@@ -42,9 +42,9 @@ module _ {K L D : Type 0} (x : StateFacts K L D) (v : ℕ) (some : 0 < x.terms.t
   Reaches p = (p < v) × IsGapless x p v
 
   gapless_so : (p : ℕ) → is_gapless x p v ≡ true → IsGapless x p v
-  gapless_so p is = by_gap (first_gap x p v) refl (first_gap-is x p v some) is
+  gapless_so p is = by_gap (first_unnullified_view x p v) refl (first_gap-is x p v some) is
     where
-      by_gap : (o : Option ℕ) → first_gap x p v ≡ o → MatchOption o (IsGapless x p v) (IsFirstGap x p v) → is_none o ≡ true → IsGapless x p v
+      by_gap : (o : Option ℕ) → first_unnullified_view x p v ≡ o → MatchOption o (IsGapless x p v) (IsFirstGap x p v) → is_none o ≡ true → IsGapless x p v
       by_gap None none found is = found
       by_gap (Some w) there found is = absurd (false≢true is)
 
@@ -56,8 +56,8 @@ module _ {K L D : Type 0} (x : StateFacts K L D) (v : ℕ) (some : 0 < x.terms.t
   below_entry : (e : ℕ × RoundFacts K D) (f : ℕ × D) → explicit_below x v e ≡ Some f → f.0 < v
   below_entry e f is = by_test (nat_lt e.0 v) refl is
     where
-      by_test : (b : Bool) → nat_lt e.0 v ≡ b → (if b then at_view e.0 (explicit_payload x e.0) else None) ≡ Some f → f.0 < v
-      by_test true lower is = (let at = view_with e.0 (explicit_payload x e.0) f is in grind (arith, nat_tests, at, lower))
+      by_test : (b : Bool) → nat_lt e.0 v ≡ b → (if b then at_view e.0 (explicit_ancestry_payload x e.0) else None) ≡ Some f → f.0 < v
+      by_test true lower is = (let at = view_with e.0 (explicit_ancestry_payload x e.0) f is in grind (arith, nat_tests, at, lower))
       by_test false lower is = absurd (false≢true (ap is_some is))
 
   last_below : (es : List (ℕ × RoundFacts K D)) (o : Option (ℕ × D)) → ((f : ℕ × D) → o ≡ Some f → f.0 < v) → (f : ℕ × D) → last_or o (filter_map (explicit_below x v) es) ≡ Some f → f.0 < v
@@ -71,14 +71,14 @@ module _ {K L D : Type 0} (x : StateFacts K L D) (v : ℕ) (some : 0 < x.terms.t
   genesis_below positive f is = let at = view_with 0 x.genesis f is in omega (arith, at)
 
 module _ {K L D : Type 0} (same : D → D → Bool) (decides : (d e : D) → same d e ≡ true → d ≡ e) (elect : Elect L) (x : StateFacts K L D) (v : ℕ) (some : 0 < x.terms.term_length) where
-  by_allowed : (p : ℕ) (d : D) → is_payload same (parent_payload same elect x v p) d ≡ true → Reaches x v some p
-  unfolding parent_payload spans
-  by_allowed p d is = by_test (spans x v p && is_gapless x p v) refl is
+  by_allowed : (p : ℕ) (d : D) → is_payload same (parent_payload_for same elect x v p) d ≡ true → Reaches x v some p
+  unfolding parent_payload_for has_valid_parent_span
+  by_allowed p d is = by_test (has_valid_parent_span x v p && is_gapless x p v) refl is
     where
-      by_test : (b : Bool) → (spans x v p && is_gapless x p v) ≡ b → is_payload same (if b then payload_for same elect x v p else None) d ≡ true → Reaches x v some p
+      by_test : (b : Bool) → (has_valid_parent_span x v p && is_gapless x p v) ≡ b → is_payload same (if b then ancestry_payload_for_child same elect x v p else None) d ≡ true → Reaches x v some p
       by_test true met found =
-          let a = and_parts (spans x v p) (is_gapless x p v) met in
-          let b = and_parts (nat_lt p v && nat_le x.finalized p) (p + 1 == v || is_start x v) a.0 in
+          let a = and_parts (has_valid_parent_span x v p) (is_gapless x p v) met in
+          let b = and_parts (nat_lt p v && nat_le x.finalized p) (p + 1 == v || is_term_start x v) a.0 in
           let c = and_parts (nat_lt p v) (nat_le x.finalized p) b.0 in
           (grind (arith, nat_tests, c.0), gapless_so x v some p a.1)
       by_test false met found = absurd (false≢true found)
@@ -89,13 +89,13 @@ module _ {K L D : Type 0} (same : D → D → Bool) (decides : (d e : D) → sam
   handed : 0 < v → (found : ℕ × D) → handoff same elect x (v - 1) ≡ Some found → Reaches x v some found.0
   handed positive found is = by_test (is_handoff_parent elect x (v - 1)) is
     where
-      by_test : (b : Bool) → (if b then at_view (v - 1) (optimistic_payload same elect x (v - 1)) else None) ≡ Some found → Reaches x v some found.0
-      by_test true is = at_before positive (optimistic_payload same elect x (v - 1)) found is
+      by_test : (b : Bool) → (if b then at_view (v - 1) (optimistic_ancestry_payload same elect x (v - 1)) else None) ≡ Some found → Reaches x v some found.0
+      by_test true is = at_before positive (optimistic_ancestry_payload same elect x (v - 1)) found is
       by_test false is = absurd (false≢true (ap is_some is))
 
-  by_preferred : 0 < v → (found : ℕ × D) → preferred_parent same elect x v ≡ Some found → Reaches x v some found.0
-  unfolding preferred_parent
-  by_preferred positive found is = by_start (is_start x v) is
+  by_preferred : 0 < v → (found : ℕ × D) → find_parent same elect x v ≡ Some found → Reaches x v some found.0
+  unfolding find_parent
+  by_preferred positive found is = by_start (is_term_start x v) is
     where
       over : (o : Option (ℕ × D)) → highest_explicit x v ≡ o → option_and_then (λ top. if is_gapless x top.0 v then Some top else handoff same elect x (v - 1)) o ≡ Some found → Reaches x v some found.0
       over None none e = absurd (false≢true (ap is_some e))
@@ -105,29 +105,29 @@ module _ {K L D : Type 0} (same : D → D → Bool) (decides : (d e : D) → sam
           by_gap true closed e' = (let one : top ≡ found = ap (λ o. unwrap_or o found) e' in subst (λ (k : ℕ × D). Reaches x v some k.0) one (last_below x v some x.rounds (at_view 0 x.genesis) (genesis_below x v some positive) top there, gapless_so x v some top.0 closed))
           by_gap false gap e' = handed positive found e'
 
-      by_start : (b : Bool) → (if b then preferred_at_start same elect x v else at_view (v - 1) (payload_for same elect x v (v - 1))) ≡ Some found → Reaches x v some found.0
+      by_start : (b : Bool) → (if b then preferred_at_start same elect x v else at_view (v - 1) (ancestry_payload_for_child same elect x v (v - 1))) ≡ Some found → Reaches x v some found.0
       by_start true e = over (highest_explicit x v) refl e
-      by_start false e = at_before positive (payload_for same elect x v (v - 1)) found e
+      by_start false e = at_before positive (ancestry_payload_for_child same elect x v (v - 1)) found e
 
-  by_parent : 0 < v → (o : Option (ℕ × D)) → preferred_parent same elect x v ≡ o → (p : ℕ) (d : D) → is_parent same o p d ≡ true → Reaches x v some p
+  by_parent : 0 < v → (o : Option (ℕ × D)) → find_parent same elect x v ≡ o → (p : ℕ) (d : D) → is_parent same o p d ≡ true → Reaches x v some p
   by_parent positive None none p d is = absurd (false≢true is)
   by_parent positive (Some found) there p d is =
       let first = (and_parts (found.0 == p) (same found.1 d) is).0 in
       subst (λ q. Reaches x v some q) (eqb-true found.0 p first) (by_preferred positive found there)
 
   -- a bound proposal that matches
-  pub bound_reaches : 0 < v → binding_matches same elect x v ≡ true → (p : Proposal D) (d : D) → (round_of x v).slot.held ≡ Some p → (round_of x v).binding ≡ Some (p, d) → Reaches x v some p.parent
-  unfolding binding_matches
+  pub bound_reaches : 0 < v → verification_matches same elect x v ≡ true → (p : Proposal D) (d : D) → (round_of x v).slot.held ≡ Some p → (round_of x v).binding ≡ Some (p, d) → Reaches x v some p.parent
+  unfolding verification_matches
   bound_reaches positive matches p d holds bound = by_round (round_at x v) refl matches holds bound
     where
-      stands : (r : RoundFacts K D) (q : Option (Proposal D)) → q ≡ Some p → option_map_or (λ h. same_proposal same h p && (is_payload same (parent_payload same elect x v h.parent) d || (leads x r && is_parent same (preferred_parent same elect x v) h.parent d))) q false ≡ true → Reaches x v some p.parent
+      stands : (r : RoundFacts K D) (q : Option (Proposal D)) → q ≡ Some p → option_map_or (λ h. same_proposal same h p && (is_payload same (parent_payload_for same elect x v h.parent) d || (leads x r && is_parent same (find_parent same elect x v) h.parent d))) q false ≡ true → Reaches x v some p.parent
       stands r None none is = absurd (false≢true is)
       stands r (Some h) here is =
           let one : h ≡ p = ap (λ o. unwrap_or o p) here in
-          let parts = and_parts (same_proposal same h p) (is_payload same (parent_payload same elect x v h.parent) d || (leads x r && is_parent same (preferred_parent same elect x v) h.parent d)) is in
+          let parts = and_parts (same_proposal same h p) (is_payload same (parent_payload_for same elect x v h.parent) d || (leads x r && is_parent same (find_parent same elect x v) h.parent d)) is in
           subst (λ (k : Proposal D). Reaches x v some k.parent) one (elim (either _ _ parts.1) [
             | inl allowed ↦ by_allowed h.parent d allowed
-            | inr preferred ↦ by_parent positive (preferred_parent same elect x v) refl h.parent d (and_parts (leads x r) _ preferred).1
+            | inr preferred ↦ by_parent positive (find_parent same elect x v) refl h.parent d (and_parts (leads x r) _ preferred).1
           ])
 
       by_binding : (r : RoundFacts K D) (b : Option (Proposal D × D)) → b ≡ Some (p, d) → r.slot.held ≡ Some p → option_map_or (holds_binding same elect x v r) b true ≡ true → Reaches x v some p.parent

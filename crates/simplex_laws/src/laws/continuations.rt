@@ -7,8 +7,8 @@ ghost use Rattle.simplex_laws.specs.Continuations.{HasAccepted, HasSignedAs, Goe
 ghost use Rattle.simplex_laws.specs.DividedNetwork.{divided, united, after_conflict};
 ghost use Rattle.simplex_laws.specs.HandoffNetwork.{handed_over, takes_over, taken_over, gone_on, after_handoff};
 ghost use Rattle.simplex_laws.specs.LackingNetwork.{lacks_nullification, member_without_notarization, lacking, supplied, over_two};
-ghost use Rattle.simplex_laws.specs.Places.{faults, Backed, IsNetworkOf};
-ghost use Rattle.simplex_laws.specs.Turns.{round, one, in_turn};
+ghost use Rattle.simplex_laws.specs.Replicas.{faults, Backed, IsNetworkOf};
+ghost use Rattle.simplex_laws.specs.ScenarioSteps.{round, one, in_turn};
 
 /// A network of four in terms of one view, whose faulty leader proposes two payloads in view 1: one member votes for each,
 /// the third for none, and all three restart. They give the view up and finalize view 2. It does nothing: its contract is the

@@ -8,7 +8,7 @@ use simplex_types::types::{Digest, Elector, Scheme};
 /// Accountability, over payloads `D`: for any number of faulty members, two certificates that contradict are answered for.
 /// It does nothing: its contract is the law.
 ///
-/// Of each member it is known what it did, its deeds, or nothing, as of a faulty one. Two certificates contradict
+/// Of each member it is known what it did, its trace, or nothing, as of a faulty one. Two certificates contradict
 /// (`Contradicts`) where they are of two proposals of a view, where a finalization's view is covered by a nullification, or
 /// where a notarized proposal above a finalized view names a parent below that view. Each may be there: n - f members are
 /// unknown or gave its vote.
@@ -35,12 +35,12 @@ pub fn accountability<D: Digest>()
 
 /// Of members that run this code, for any number of faulty ones. It does nothing: its contract is the law.
 ///
-/// As in `agreement`, each place that isn't faulty does what `Ran` says, and each certificate that it accepted is backed
+/// As in `agreement`, each replica that isn't faulty does what `IsExecution` says, and each certificate that it accepted is backed
 /// (`IsBackedNetwork`).
 ///
-/// - `faulty`: where two backed certificates contradict, at least n - 2f places are faulty, with f = (n - 1) / 3. So with fewer
+/// - `faulty`: where two backed certificates contradict, at least n - 2f replicas are faulty, with f = (n - 1) / 3. So with fewer
 ///   no two contradict.
-/// - `traced`: and two are found, each of votes that n - f places may have given, at which n - 2f places are faulty or broke a
+/// - `traced`: and two are found, each of votes that n - f replicas may have given, at which n - 2f replicas are faulty or broke a
 ///   rule by both votes; what misled a member on the way was backed.
 pub fn contradictions_need_faults<S: Scheme<D>, L: Elector<S>, D: Digest>()
     ensures faulty { ContradictionsNeedFaults S.PublicKey D.eq L.elect }

@@ -3,16 +3,16 @@
 ghost use Rattle.std.specs.Prelude.{◌≡◌, ℕ, nat_eq, false, true, List, [], ◌∷◌, length, Contains, Some};
 ghost use Rattle.simplex_types.specs.Terms.{covers};
 ghost use Rattle.simplex_types.specs.declared.types.messages.Subject.TheVariants.{Notarize, Nullify, Finalize};
-ghost use Rattle.simplex_laws.specs.Places.{faults, AtLeastFrom, IsNetworkOf, Backed};
+ghost use Rattle.simplex_laws.specs.Replicas.{faults, AtLeastFrom, IsNetworkOf, Backed};
 ghost use Rattle.simplex_laws.specs.Accountability.{Contradicts, distance, IsEvidence, HasAcceptedNearer, IsBackedNetwork};
 ghost use Rattle.simplex_laws.specs.Accountability.{AcceptCertified, MayBeCertified, IsGuilty, IsSuspect};
 ghost use Rattle.simplex_laws.specs.Scripts.{leader, impatient, patient, four, restarting, skipping, five};
 ghost use Rattle.simplex_laws.specs.Scripts.{overrun, two_faced, known_of_overrun};
 ghost use Rattle.simplex_laws.specs.ChangingLives.{refusing, changing, with_refusing, with_changing};
 ghost use Rattle.simplex_laws.specs.AheadNetwork.{early, joining, voted_ahead, three};
-ghost use Rattle.simplex_laws.specs.Turns.{round, proposal, one, two, in_turn};
-ghost use Rattle.simplex_laws.specs.Deeds.{Accepts, Signs};
-ghost use Rattle.simplex_laws.specs.Stories.{deeds_of, Ran};
+ghost use Rattle.simplex_laws.specs.ScenarioSteps.{round, proposal, one, two, in_turn};
+ghost use Rattle.simplex_laws.specs.Traces.{Accepts, Signs};
+ghost use Rattle.simplex_laws.specs.Executions.{trace_of, IsExecution};
 
 /// A network of four in terms of five views, with a faulty leader. One member votes to nullify
 /// view 1, two others finalize it, one of which restarts then, and the first finalizes view 2 once it accepted the finalization
@@ -26,7 +26,7 @@ pub fn terms_are_agreed_on()
     ensures network { IsNetworkOf nat_eq leader 5 four }
     ensures few { (length four ≡ 4) × (faults four ≡ 1) }
     ensures covered { covers 5 1 2 ≡ true }
-    ensures does { deeds_of impatient ≡
+    ensures does { trace_of impatient ≡
         Signs 0 (Nullify (round 1)) ∷ Accepts (Notarize one) ∷ Accepts (Notarize two)
         ∷ Accepts (Finalize one) ∷ Signs 0 (Finalize two) ∷ [] }
     ensures finalizes { Backed four (Finalize one) × Backed four (Finalize two) }
@@ -38,8 +38,8 @@ pub fn terms_are_agreed_on()
 /// - `ran`: it is what member 1 of a network does.
 /// - `does`: what it accepts and signs; the notarization that was dropped is accepted again.
 pub fn restarts_are_runs()
-    ensures ran { Ran nat_eq leader 5 1 restarting }
-    ensures does { deeds_of restarting ≡
+    ensures ran { IsExecution nat_eq leader 5 1 restarting }
+    ensures does { trace_of restarting ≡
         Accepts (Notarize one) ∷ Signs 1 (Finalize one) ∷ Accepts (Notarize two) ∷ Accepts (Notarize two)
         ∷ Signs 1 (Finalize two) ∷ Accepts (Finalize (proposal 3 2)) ∷ Accepts (Finalize (proposal 4 3))
         ∷ Signs 1 (Nullify (round 5)) ∷ [] }
@@ -54,7 +54,7 @@ pub fn restarts_are_runs()
 pub fn skipped_views_are_agreed_on()
     ensures network { IsNetworkOf nat_eq leader 1 five }
     ensures few { (length five ≡ 5) × (faults five ≡ 2) }
-    ensures does { (me : ℕ) → deeds_of (skipping me) ≡
+    ensures does { (me : ℕ) → trace_of (skipping me) ≡
         Signs me (Notarize one) ∷ Accepts (Notarize one) ∷ Signs me (Nullify (round 2))
         ∷ Accepts (Nullify (round 2)) ∷ Signs me (Notarize (proposal 3 1))
         ∷ Accepts (Notarize (proposal 3 1)) ∷ Signs me (Finalize (proposal 3 1)) ∷ [] }
@@ -71,7 +71,7 @@ pub fn skipped_views_are_agreed_on()
 /// - `misled`: the first member signed both votes and kept the rules. It had accepted the finalization of view 1 between them,
 ///   which contradicts the nullification at distance 0.
 /// - `evidence`: at that distance the two votes are evidence.
-/// - `known`: so what is known of the four, with the deeds of one of the faulty members, is as `accountability` asks.
+/// - `known`: so what is known of the four, with the trace of one of the faulty members, is as `accountability` asks.
 /// - `suspects`, `guilty`: at the nearer pair two are suspects, of which the known one is guilty.
 pub fn contradictions_are_answered_for()
     ensures network { IsBackedNetwork nat_eq leader 5 overrun }
@@ -80,7 +80,7 @@ pub fn contradictions_are_answered_for()
         × (distance (Nullify (round 1)) (Finalize two) ≡ 1)
         × Backed overrun (Nullify (round 1))
         × Backed overrun (Finalize two) }
-    ensures misled { (nearer : HasAcceptedNearer 5 (Nullify (round 1)) (Finalize two) (deeds_of impatient))
+    ensures misled { (nearer : HasAcceptedNearer 5 (Nullify (round 1)) (Finalize two) (trace_of impatient))
         × (nearer.third ≡ Finalize one) }
     ensures evidence { Contradicts 5 (Nullify (round 1)) (Finalize one)
         × (distance (Nullify (round 1)) (Finalize one) ≡ 0)
@@ -98,11 +98,11 @@ pub fn contradictions_are_answered_for()
 ///
 /// - `ran`, `network`: it is what member 1 of a network does, and with two more and a faulty leader it keeps the premises of
 ///   `agreement`.
-/// - `does`: what it refuses is no deed of its: it accepts neither these certificates nor these floors.
+/// - `does`: what it refuses is no event of its trace: it accepts neither these certificates nor these floors.
 pub fn refusals_accept_nothing()
-    ensures ran { Ran nat_eq leader 5 1 refusing }
+    ensures ran { IsExecution nat_eq leader 5 1 refusing }
     ensures network { IsNetworkOf nat_eq leader 5 with_refusing }
-    ensures does { deeds_of refusing ≡
+    ensures does { trace_of refusing ≡
         Accepts (Notarize one) ∷ Signs 1 (Finalize one) ∷ Accepts (Finalize one)
         ∷ Accepts (Notarize two) ∷ Signs 1 (Finalize two) ∷ [] }
 {}
@@ -116,9 +116,9 @@ pub fn refusals_accept_nothing()
 ///   `agreement`.
 /// - `does`: what it accepts and signs.
 pub fn lives_may_differ()
-    ensures ran { Ran nat_eq leader 5 1 changing }
+    ensures ran { IsExecution nat_eq leader 5 1 changing }
     ensures network { IsNetworkOf nat_eq leader 5 with_changing }
-    ensures does { deeds_of changing ≡
+    ensures does { trace_of changing ≡
         Accepts (Notarize one) ∷ Accepts (Finalize one) ∷ Signs 1 (Nullify (round 2)) ∷ Accepts (Notarize two)
         ∷ Accepts (Nullify (round 2)) ∷ Signs 1 (Nullify (round 6)) ∷ [] }
 {}
@@ -133,11 +133,11 @@ pub fn lives_may_differ()
 pub fn views_ahead_are_agreed_on()
     ensures network { IsNetworkOf nat_eq in_turn 2 voted_ahead }
     ensures few { (length voted_ahead ≡ 4) × (faults voted_ahead ≡ 1) }
-    ensures does { (deeds_of early ≡
+    ensures does { (trace_of early ≡
         Signs 0 (Notarize one) ∷ Signs 0 (Notarize two) ∷ Accepts (Notarize one) ∷ Signs 0 (Finalize one)
         ∷ Signs 0 (Notarize three) ∷ Accepts (Notarize two) ∷ Signs 0 (Finalize two)
         ∷ Accepts (Notarize three) ∷ Signs 0 (Finalize three) ∷ Accepts (Finalize three) ∷ [])
-        × (deeds_of joining ≡
+        × (trace_of joining ≡
         Accepts (Finalize two) ∷ Signs 2 (Notarize three) ∷ Accepts (Notarize three) ∷ Signs 2 (Finalize three)
         ∷ Accepts (Finalize three) ∷ []) }
     ensures finalizes { Backed voted_ahead (Finalize three) }

@@ -4,25 +4,25 @@ ghost use Rattle.simplex_laws.specs.Agreement.{OneProposal, FinalizedUncovered, 
 ghost use Rattle.simplex_laws.specs.Exactly.{SignsExactly};
 ghost use Rattle.simplex_laws.specs.Lawful.{IsLawful};
 ghost use Rattle.simplex_laws.specs.LifeLaws.{OfEachState, NotarizesGapless};
-ghost use Rattle.simplex_laws.specs.Places.{OfEachNetwork};
-ghost use Rattle.simplex_laws.specs.Stories.{OfEachMember, RunsAreLawful, deeds_of};
+ghost use Rattle.simplex_laws.specs.Replicas.{OfEachNetwork};
+ghost use Rattle.simplex_laws.specs.Executions.{OfEachMember, RunsAreLawful, trace_of};
 
 use simplex_types::types::{Digest, Elector, Scheme};
 
 /// Agreement of a network of members, and the laws of votes that it rests on: for every list of calls and restarts of every
 /// honest member, over payloads `D` and terms of any length but 0. It does nothing: its contract is the law.
 ///
-/// What a member does is its story: a start, then calls and restarts in whatever order, each with its reply, as `run` gives
-/// them. Its deeds are the certificates that it accepted and the votes that it signed, over all its lives. `Ran`: in each life
+/// What a member does is its execution: a start, then calls and restarts in whatever order, each with its reply, as `run` gives
+/// them. Its trace is the certificates that it accepted and the votes that it signed, over all its lives. `IsExecution`: in each life
 /// it signs as one member of the network, `i`, or not at all, and terms have one length.
 ///
 /// - `exact`: a vote is signed exactly where its rule allows. It is told on request alone, only where its rule holds of what
 ///   the state that the steps before left knows, with the member's key, on the view's round or the proposal that is held; and
 ///   where the rule holds and there is a key it is told, unless the call is refused.
-/// - `lawful`: the deeds keep the voting rules, `IsLawful`, over all lives.
+/// - `lawful`: the trace keeps the voting rules, `IsLawful`, over all lives.
 ///
 /// The premises of the other claims, `IsNetworkOf`: of n members at most f = (n - 1) / 3 are faulty, or else fewer than
-/// n - 2f; a faulty member may send anything. Each other one does what `Ran` says, as the member of its place. And each
+/// n - 2f; a faulty member may send anything. Each other one does what `IsExecution` says, as the member of its index. And each
 /// certificate that such a member accepted is backed: n - f members are faulty or signed the vote that it certifies. Nothing
 /// is asked of time, of the order in which messages come, or of leaders.
 ///
@@ -36,7 +36,7 @@ use simplex_types::types::{Digest, Elector, Scheme};
 ///   above a finalized view and one at or below it holds the finalized proposal.
 pub fn agreement<S: Scheme<D>, L: Elector<S>, D: Digest>()
     ensures exact { OfEachMember S.PublicKey D.eq L.elect (λ term_length s. SignsExactly D.eq L.elect s) }
-    ensures lawful { OfEachMember S.PublicKey D.eq L.elect (λ term_length s. IsLawful term_length (deeds_of s)) }
+    ensures lawful { OfEachMember S.PublicKey D.eq L.elect (λ term_length s. IsLawful term_length (trace_of s)) }
     ensures one_proposal { OfEachNetwork S.PublicKey D.eq L.elect (λ term_length. OneProposal) }
     ensures finalized_uncovered { OfEachNetwork S.PublicKey D.eq L.elect
         (λ term_length network. FinalizedUncovered network term_length) }

@@ -5,12 +5,12 @@ ghost use Rattle.simplex_types.specs.declared.types.messages.Subject.TheVariants
 ghost use Rattle.simplex_laws.specs.Accountability.{Contradicts, distance, IsEvidence, HasAcceptedNearer, IsBackedNetwork};
 ghost use Rattle.simplex_laws.specs.Accountability.{AcceptCertified, MayBeCertified, IsGuilty, IsSuspect};
 ghost use Rattle.simplex_laws.specs.DividedNetwork.{rival};
-ghost use Rattle.simplex_laws.specs.Places.{faults, AtLeastFrom, Backed};
+ghost use Rattle.simplex_laws.specs.Replicas.{faults, AtLeastFrom, Backed};
 ghost use Rattle.simplex_laws.specs.Rivals.{two_proposals, known_of_two_proposals, double};
 ghost use Rattle.simplex_laws.specs.Rivals.{past_two, misled, skipped_over, known_of_skipped, turncoat};
 ghost use Rattle.simplex_laws.specs.Scripts.{leader};
-ghost use Rattle.simplex_laws.specs.Stories.{deeds_of};
-ghost use Rattle.simplex_laws.specs.Turns.{round, one, two};
+ghost use Rattle.simplex_laws.specs.Executions.{trace_of};
+ghost use Rattle.simplex_laws.specs.ScenarioSteps.{round, one, two};
 
 /// A network of four in terms of five views, of which two are faulty, with two proposals of view 1. Each of the other two votes for
 /// the one that it hears of, and both are notarized. It does nothing: its contract is the law.
@@ -18,7 +18,7 @@ ghost use Rattle.simplex_laws.specs.Turns.{round, one, two};
 /// - `network`, `many`: both accept what is backed; two are faulty.
 /// - `contradict`: both notarizations are backed, and contradict at distance 0.
 /// - `evidence`: so two votes for both are evidence.
-/// - `known`: what is known of the four, with the deeds of one of the faulty members, is as `accountability` asks.
+/// - `known`: what is known of the four, with the trace of one of the faulty members, is as `accountability` asks.
 /// - `suspects`, `guilty`: two are suspects, of which the known one is guilty.
 pub fn rivals_are_answered_for()
     ensures network { IsBackedNetwork nat_eq leader 5 two_proposals }
@@ -43,7 +43,7 @@ pub fn rivals_are_answered_for()
 /// - `misled`: the first member signed both votes and kept the rules. It had accepted the nullification of view 2 between them,
 ///   which contradicts the finalization at distance 0.
 /// - `evidence`: at that distance the two votes are evidence.
-/// - `known`: what is known of the four, with the deeds of one of the faulty members, is as `accountability` asks.
+/// - `known`: what is known of the four, with the trace of one of the faulty members, is as `accountability` asks.
 /// - `suspects`, `guilty`: at the nearer pair two are suspects, of which the known one is guilty.
 pub fn skipped_finalizations_are_answered_for()
     ensures network { IsBackedNetwork nat_eq leader 1 skipped_over }
@@ -52,7 +52,7 @@ pub fn skipped_finalizations_are_answered_for()
         × (distance (Notarize past_two) (Finalize two) ≡ 3)
         × Backed skipped_over (Notarize past_two)
         × Backed skipped_over (Finalize two) }
-    ensures misled { (nearer : HasAcceptedNearer 1 (Notarize past_two) (Finalize two) (deeds_of misled))
+    ensures misled { (nearer : HasAcceptedNearer 1 (Notarize past_two) (Finalize two) (trace_of misled))
         × (nearer.third ≡ Nullify (round 2)) }
     ensures evidence { Contradicts 1 (Nullify (round 2)) (Finalize two)
         × (distance (Nullify (round 2)) (Finalize two) ≡ 0)

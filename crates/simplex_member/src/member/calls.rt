@@ -2,7 +2,7 @@
 
 ghost use Rattle.std.specs.Prelude.{◌≡◌};
 ghost use Rattle.simplex_member.specs.Calls.{told};
-ghost use Rattle.simplex_member.specs.Typed.{told_refused};
+ghost use Rattle.simplex_member.specs.MethodContracts.{told_refused};
 
 mod certificates;
 mod certifications;

@@ -4,7 +4,7 @@ ghost use Rattle.std.specs.Prelude.{◌≡◌, ◌++◌, [], None, IfOk, IfErr, 
 ghost use Rattle.std.specs.Option.{option_copied};
 
 use super::calls::{Call, Reply};
-use super::openings::Openings;
+use super::outstanding_work::OutstandingWork;
 use super::restart::keep_finalization;
 use simplex_record::record::{RecoverError, Start, begin, retention_of};
 use simplex_types::types::{Artifact, CertificateScheme, Digest, Elector, Scheme, ViewDelta};
@@ -31,7 +31,7 @@ pub struct Member<S: CertificateScheme, L: Elector<S>, D> {
     pub(super) alloc: Global,
     pub(super) state: Box<State<S, L, D>>,
     /// What its state handed out and was not told the end of.
-    pub(super) openings: Openings<D, S::PublicKey>,
+    pub(super) outstanding_work: OutstandingWork<D, S::PublicKey>,
     pub(super) artifacts: Vec<Artifact<S, D>>,
     /// No drop takes one of the first so many artifacts.
     pub(super) closed: usize,
@@ -55,7 +55,7 @@ impl<S: CertificateScheme, L: Elector<S>, D> Model for Member<S, L, D> {
     ghost view = { λ m. record {
       facts = record {
         life = living m.failed m.state.value;
-        openings = open_while m.failed m.openings.open_now;
+        outstanding_work = open_while m.failed m.outstanding_work.open_now;
         entries = entries_of S.certificate_bytes m.artifacts.items;
         closed = m.closed;
         is_pruned = m.is_pruned;
@@ -76,7 +76,7 @@ impl<S: CertificateScheme, L: Elector<S>, D: Digest> Member<S, L, D> {
     ghost use Rattle.simplex_member.specs.Calls.{told, asked};
     ghost use Rattle.simplex_member.specs.Lives.{IsCall, HasGrown};
     ghost use Rattle.simplex_member.specs.Signed.{IsSignedReply, signed_reply};
-    ghost use Rattle.simplex_member.specs.Typed.{is_reply_to, IfAnswered, IfRefused, IsAnswered, Keeps};
+    ghost use Rattle.simplex_member.specs.MethodContracts.{is_reply_to, IfAnswered, IfRefused, IsAnswered, Keeps};
     ghost use Rattle.simplex_record.specs.Recovery.{recover_error};
     ghost use Rattle.simplex_record.specs.Start.{set_up, IsErrorDue};
     ghost use Rattle.simplex_member.specs.Start.{started_member};
@@ -105,7 +105,7 @@ impl<S: CertificateScheme, L: Elector<S>, D: Digest> Member<S, L, D> {
         Ok(Member {
             alloc,
             state,
-            openings: Openings::new(alloc),
+            outstanding_work: OutstandingWork::new(alloc),
             artifacts,
             closed: 0,
             is_pruned: false,

@@ -10,12 +10,12 @@ ghost use Rattle.simplex_voter.specs.Acceptance.{takes_proposal_certificate, tak
 ghost use Rattle.simplex_voter.specs.Certification.{takes_verdict, is_first_verdict, certified_refusal, certified_answer, after_certified, candidates_answer, after_candidates};
 ghost use Rattle.simplex_voter.specs.Facts.{round_number};
 ghost use Rattle.simplex_voter.specs.Refusals.{is_started, plain_refusal};
-ghost use Rattle.simplex_member.specs.Made.{if_new};
+ghost use Rattle.simplex_member.specs.CallSemantics.{if_new};
 ghost use Rattle.simplex_member.specs.Parts.{Ends, EndsBy, KeepsOpen};
-ghost use Rattle.simplex_member.specs.Openings.{without_offer, with_offers};
+ghost use Rattle.simplex_member.specs.OutstandingWork.{without_offer, with_offers};
 
 use super::call_error::CallError;
-use super::openings::Openings;
+use super::outstanding_work::OutstandingWork;
 use simplex_types::types::{
     Artifact, CertificateScheme, Digest, Elector, Fault, Finalization, Notarization, Nullification,
     Proposal, Round, View,
@@ -159,7 +159,7 @@ pub(super) fn add_finalization<S: CertificateScheme, L: Elector<S>, D: Digest>(
 /// Gives a verdict, and records it where it is the first of a tracked view.
 pub(super) fn certified<S: CertificateScheme, L: Elector<S>, D: Digest>(
     state: &mut State<S, L, D>,
-    openings: &mut Openings<D, S::PublicKey>,
+    outstanding_work: &mut OutstandingWork<D, S::PublicKey>,
     artifacts: &mut Vec<Artifact<S, D>>,
     view: View,
     success: bool,
@@ -172,9 +172,9 @@ pub(super) fn certified<S: CertificateScheme, L: Elector<S>, D: Digest>(
     ensures after { OnOk result (state.new ≡ after_certified L.elect state.old view success now) }
     ensures recorded { OnOk result (entries_of S.certificate_bytes artifacts.new.items ≡ entries_of S.certificate_bytes artifacts.old.items
         ++ if_new (is_first_verdict state.old view) (Verdict (round_number state.old view) success)) }
-    ensures closed { OnOk result (openings.new.open_now ≡ without_offer openings.old.open_now view) }
+    ensures closed { OnOk result (outstanding_work.new.open_now ≡ without_offer outstanding_work.old.open_now view) }
     ensures refused { IfErr result (EndsBy (certified_refusal state.old view success now) state.old state.new) }
-    ensures kept_open { IfErr result (KeepsOpen openings.old.open_now openings.new.open_now) }
+    ensures kept_open { IfErr result (KeepsOpen outstanding_work.old.open_now outstanding_work.new.open_now) }
     ensures same_record { OnErr result (entries_of S.certificate_bytes artifacts.new.items ≡ entries_of S.certificate_bytes artifacts.old.items) }
     ensures same_votes { votes_of artifacts.new.items ≡ votes_of artifacts.old.items }
 {
@@ -187,7 +187,7 @@ pub(super) fn certified<S: CertificateScheme, L: Elector<S>, D: Digest>(
     match state.certified(view, success, now) {
         Ok(answer) => {
             keep_new(artifacts, is_first, Artifact::Certification(round, success));
-            openings.close_offer(view);
+            outstanding_work.close_offer(view);
             Ok(answer)
         }
         Err(fault) => Err(CallError::of(fault)),
@@ -197,18 +197,18 @@ pub(super) fn certified<S: CertificateScheme, L: Elector<S>, D: Digest>(
 /// Offers the proposals that are to be certified next. The state is lost where there is no memory for them.
 pub(super) fn certify_candidates<S: CertificateScheme, L: Elector<S>, D: Digest>(
     state: &mut State<S, L, D>,
-    openings: &mut Openings<D, S::PublicKey>,
+    outstanding_work: &mut OutstandingWork<D, S::PublicKey>,
 ) -> Result<(Vec<Proposal<D>>, Vec<CertificateFetch>), CallError>
     requires going_on { state.old.failed ≡ false }
     requires begun { is_started state.old ≡ true }
     ensures answer { IfOk result (λ answer. (answer.0.items, answer.1.items) ≡ candidates_answer D.eq L.elect state.old) }
     ensures after { OnOk result (state.new ≡ after_candidates state.old) }
-    ensures opened { OnOk result (openings.new.open_now ≡ with_offers openings.old.open_now (candidates_answer D.eq L.elect state.old).0) }
+    ensures opened { OnOk result (outstanding_work.new.open_now ≡ with_offers outstanding_work.old.open_now (candidates_answer D.eq L.elect state.old).0) }
     ensures refused { IfErr result (Ends false true (plain_refusal state.old) state.old state.new) }
-    ensures kept_open { IfErr result (KeepsOpen openings.old.open_now openings.new.open_now) }
+    ensures kept_open { IfErr result (KeepsOpen outstanding_work.old.open_now outstanding_work.new.open_now) }
 {
     match state.certify_candidates() {
-        Ok(answer) => match openings.open_offers(&answer.0) {
+        Ok(answer) => match outstanding_work.open_offers(&answer.0) {
             Ok(()) => Ok(answer),
             Err(_) => Err(CallError::Lost),
         },

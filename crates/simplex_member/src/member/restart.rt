@@ -15,7 +15,7 @@ ghost use Rattle.simplex_record.specs.Start.{start_facts};
 ghost use Rattle.simplex_record.specs.declared.record.error.RecoverError.TheVariants.{OutOfMemory};
 
 use super::life::Member;
-use super::openings::Openings;
+use super::outstanding_work::OutstandingWork;
 use super::parts::keep;
 use simplex_record::record::{RecoverError, Start, drop_last, prune_record, remake, retention_of};
 use simplex_types::types::{
@@ -94,7 +94,7 @@ impl<S: CertificateScheme, L: Elector<S>, D: Digest> Member<S, L, D> {
         let retention = retention_of(&start.settings);
         let state = renew(self.alloc, start, &mut self.artifacts)?;
         self.state = state;
-        self.openings = Openings::new(self.alloc);
+        self.outstanding_work = OutstandingWork::new(self.alloc);
         self.retention = retention;
         self.least_retention = lesser(self.least_retention, retention);
         self.failed = false;

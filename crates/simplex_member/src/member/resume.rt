@@ -5,7 +5,7 @@ ghost use Rattle.simplex_member.specs.declared.member.resume.ResumeError.TheVari
 
 use super::journal::Stored;
 use super::life::Member;
-use super::openings::Openings;
+use super::outstanding_work::OutstandingWork;
 use super::restart::{lesser, renew};
 use simplex_record::record::{RecoverError, Start, retention_of};
 use simplex_types::types::{Artifact, CertificateScheme, Digest, Elector, ViewDelta};
@@ -133,7 +133,7 @@ impl<S: CertificateScheme, L: Elector<S>, D: Digest> Member<S, L, D> {
             Ok(state) => Ok(Member {
                 alloc,
                 state,
-                openings: Openings::new(alloc),
+                outstanding_work: OutstandingWork::new(alloc),
                 artifacts,
                 closed: stored.closed,
                 is_pruned: stored.is_pruned,

@@ -3,22 +3,22 @@ use Rattle.std.proofs.Common.{◌≡◌, refl, ℕ, ◌<◌, true, false, nat_lt
 use Rattle.std.proofs.lemmas.Bool.{eqb-true}
 use Rattle.simplex_types.specs.Certificates.{NotarizeVote}
 use Rattle.simplex_voter.specs.Facts.{StateFacts, is_tracked}
-use Rattle.simplex_voter.specs.Gaps.{first_gap}
-use Rattle.simplex_voter.specs.Parents.{spans, payload_for, parent_payload, binding_matches}
-use Rattle.simplex_voter.specs.Payloads.{explicit_payload}
+use Rattle.simplex_voter.specs.Gaps.{first_unnullified_view}
+use Rattle.simplex_voter.specs.Parents.{has_valid_parent_span, ancestry_payload_for_child, parent_payload_for, verification_matches}
+use Rattle.simplex_voter.specs.Payloads.{explicit_ancestry_payload}
 use Rattle.simplex_voter.specs.Rules.{may_notarize}
 use Rattle.simplex_voter.specs.Verifying.{standing}
-use Rattle.simplex_voter.specs.Windows.{is_admitted, in_window}
+use Rattle.simplex_voter.specs.Windows.{is_admitted, in_issuance_window}
 use Rattle.simplex_record.specs.Check.{first_recover_error}
 use Rattle.simplex_record.specs.Cuts.{may_drop, pruned_entries}
 use Rattle.simplex_record.specs.Entries.{entry_view}
 use Rattle.simplex_record.specs.Recovery.{recovered_state, after_kept_entry}
 use Rattle.simplex_laws.specs.DividedNetwork.{rival, deceived, warned, divided}
-use Rattle.simplex_laws.specs.Stories.{Story}
-use Rattle.simplex_laws.specs.Turns.{one, in_turn}
+use Rattle.simplex_laws.specs.Executions.{Execution}
+use Rattle.simplex_laws.specs.ScenarioSteps.{one, in_turn}
 use Rattle.simplex_laws.proofs.networks.ComputedRuns.{begun, end_from, rises}
 use Rattle.simplex_laws.proofs.networks.DividedNetwork.{divided_network}
-use Rattle.simplex_laws.proofs.networks.Turns.{told_in}
+use Rattle.simplex_laws.proofs.networks.ScenarioSteps.{told_in}
 use Rattle.simplex_progress.specs.Living.{IsSetUpAs, LivesWith}
 use Rattle.simplex_progress.specs.Worked.{MayReach, Reaches}
 use Rattle.simplex_progress.proofs.instances.Worked.{state_of, lives_by, each_lives_so, agree}
@@ -27,85 +27,85 @@ use Rattle.simplex_progress.proofs.networks.Going.{no_network_is_stuck}
 abbrev Alive : ℕ → StateFacts ℕ ℕ ℕ → Type 0
 Alive i x = IsSetUpAs 1 4 1 i x × (is_tracked x 6 ≡ false) × (x.current < 6)
 
-abbrev pub first : Story ℕ ℕ ℕ
+abbrev pub first : Execution ℕ ℕ ℕ
 first = deceived 0 one rival
 
 pub first_told : told_in first ≡ (first).replies
-unfolding first_recover_error recovered_state after_kept_entry may_drop pruned_entries standing spans payload_for first_gap explicit_payload in_window is_admitted binding_matches parent_payload may_notarize
+unfolding first_recover_error recovered_state after_kept_entry may_drop pruned_entries standing has_valid_parent_span ancestry_payload_for_child first_unnullified_view explicit_ancestry_payload in_issuance_window is_admitted verification_matches parent_payload_for may_notarize
 first_told = refl
 
 pub first_alive : is_some (end_from nat_eq in_turn (begun nat_eq in_turn (first).start) (first).steps).life ≡ true
-unfolding first_recover_error recovered_state after_kept_entry may_drop pruned_entries standing spans payload_for first_gap explicit_payload in_window is_admitted binding_matches parent_payload may_notarize
+unfolding first_recover_error recovered_state after_kept_entry may_drop pruned_entries standing has_valid_parent_span ancestry_payload_for_child first_unnullified_view explicit_ancestry_payload in_issuance_window is_admitted verification_matches parent_payload_for may_notarize
 first_alive = refl
 
 pub first_set : IsSetUpAs 1 4 1 0 (state_of first)
-unfolding first_recover_error recovered_state after_kept_entry may_drop pruned_entries standing spans payload_for first_gap explicit_payload in_window is_admitted binding_matches parent_payload may_notarize
+unfolding first_recover_error recovered_state after_kept_entry may_drop pruned_entries standing has_valid_parent_span ancestry_payload_for_child first_unnullified_view explicit_ancestry_payload in_issuance_window is_admitted verification_matches parent_payload_for may_notarize
 first_set = record { signs = refl; of_epoch = refl; elects_by = refl; members = refl; on_time = refl }
 
 first_unknown : is_tracked (state_of first) 6 ≡ false
-unfolding first_recover_error recovered_state after_kept_entry may_drop pruned_entries standing spans payload_for first_gap explicit_payload in_window is_admitted binding_matches parent_payload may_notarize
+unfolding first_recover_error recovered_state after_kept_entry may_drop pruned_entries standing has_valid_parent_span ancestry_payload_for_child first_unnullified_view explicit_ancestry_payload in_issuance_window is_admitted verification_matches parent_payload_for may_notarize
 first_unknown = refl
 
 first_below : nat_lt (state_of first).current 6 ≡ true
-unfolding first_recover_error recovered_state after_kept_entry may_drop pruned_entries standing spans payload_for first_gap explicit_payload in_window is_admitted binding_matches parent_payload may_notarize
+unfolding first_recover_error recovered_state after_kept_entry may_drop pruned_entries standing has_valid_parent_span ancestry_payload_for_child first_unnullified_view explicit_ancestry_payload in_issuance_window is_admitted verification_matches parent_payload_for may_notarize
 first_below = refl
 
 first_lives : (x : StateFacts ℕ ℕ ℕ) × LivesWith nat_eq in_turn first x × Alive 0 x
-unfolding first_recover_error recovered_state after_kept_entry may_drop pruned_entries standing spans payload_for first_gap explicit_payload in_window is_admitted binding_matches parent_payload may_notarize
+unfolding first_recover_error recovered_state after_kept_entry may_drop pruned_entries standing has_valid_parent_span ancestry_payload_for_child first_unnullified_view explicit_ancestry_payload in_issuance_window is_admitted verification_matches parent_payload_for may_notarize
 first_lives = lives_by 1 6 0 first (rises entry_view 0 (NotarizeVote one 0 ∷ []) refl, tt) first_told first_alive first_set first_unknown first_below
 
-abbrev pub second : Story ℕ ℕ ℕ
+abbrev pub second : Execution ℕ ℕ ℕ
 second = deceived 1 rival one
 
 pub second_told : told_in second ≡ (second).replies
-unfolding first_recover_error recovered_state after_kept_entry may_drop pruned_entries standing spans payload_for first_gap explicit_payload in_window is_admitted binding_matches parent_payload may_notarize
+unfolding first_recover_error recovered_state after_kept_entry may_drop pruned_entries standing has_valid_parent_span ancestry_payload_for_child first_unnullified_view explicit_ancestry_payload in_issuance_window is_admitted verification_matches parent_payload_for may_notarize
 second_told = refl
 
 pub second_alive : is_some (end_from nat_eq in_turn (begun nat_eq in_turn (second).start) (second).steps).life ≡ true
-unfolding first_recover_error recovered_state after_kept_entry may_drop pruned_entries standing spans payload_for first_gap explicit_payload in_window is_admitted binding_matches parent_payload may_notarize
+unfolding first_recover_error recovered_state after_kept_entry may_drop pruned_entries standing has_valid_parent_span ancestry_payload_for_child first_unnullified_view explicit_ancestry_payload in_issuance_window is_admitted verification_matches parent_payload_for may_notarize
 second_alive = refl
 
 pub second_set : IsSetUpAs 1 4 1 1 (state_of second)
-unfolding first_recover_error recovered_state after_kept_entry may_drop pruned_entries standing spans payload_for first_gap explicit_payload in_window is_admitted binding_matches parent_payload may_notarize
+unfolding first_recover_error recovered_state after_kept_entry may_drop pruned_entries standing has_valid_parent_span ancestry_payload_for_child first_unnullified_view explicit_ancestry_payload in_issuance_window is_admitted verification_matches parent_payload_for may_notarize
 second_set = record { signs = refl; of_epoch = refl; elects_by = refl; members = refl; on_time = refl }
 
 second_unknown : is_tracked (state_of second) 6 ≡ false
-unfolding first_recover_error recovered_state after_kept_entry may_drop pruned_entries standing spans payload_for first_gap explicit_payload in_window is_admitted binding_matches parent_payload may_notarize
+unfolding first_recover_error recovered_state after_kept_entry may_drop pruned_entries standing has_valid_parent_span ancestry_payload_for_child first_unnullified_view explicit_ancestry_payload in_issuance_window is_admitted verification_matches parent_payload_for may_notarize
 second_unknown = refl
 
 second_below : nat_lt (state_of second).current 6 ≡ true
-unfolding first_recover_error recovered_state after_kept_entry may_drop pruned_entries standing spans payload_for first_gap explicit_payload in_window is_admitted binding_matches parent_payload may_notarize
+unfolding first_recover_error recovered_state after_kept_entry may_drop pruned_entries standing has_valid_parent_span ancestry_payload_for_child first_unnullified_view explicit_ancestry_payload in_issuance_window is_admitted verification_matches parent_payload_for may_notarize
 second_below = refl
 
 second_lives : (x : StateFacts ℕ ℕ ℕ) × LivesWith nat_eq in_turn second x × Alive 1 x
-unfolding first_recover_error recovered_state after_kept_entry may_drop pruned_entries standing spans payload_for first_gap explicit_payload in_window is_admitted binding_matches parent_payload may_notarize
+unfolding first_recover_error recovered_state after_kept_entry may_drop pruned_entries standing has_valid_parent_span ancestry_payload_for_child first_unnullified_view explicit_ancestry_payload in_issuance_window is_admitted verification_matches parent_payload_for may_notarize
 second_lives = lives_by 1 6 1 second (rises entry_view 0 (NotarizeVote rival 1 ∷ []) refl, tt) second_told second_alive second_set second_unknown second_below
 
-abbrev pub third : Story ℕ ℕ ℕ
+abbrev pub third : Execution ℕ ℕ ℕ
 third = warned 2
 
 pub third_told : told_in third ≡ (third).replies
-unfolding first_recover_error recovered_state after_kept_entry may_drop pruned_entries standing spans payload_for first_gap explicit_payload in_window is_admitted binding_matches parent_payload may_notarize
+unfolding first_recover_error recovered_state after_kept_entry may_drop pruned_entries standing has_valid_parent_span ancestry_payload_for_child first_unnullified_view explicit_ancestry_payload in_issuance_window is_admitted verification_matches parent_payload_for may_notarize
 third_told = refl
 
 pub third_alive : is_some (end_from nat_eq in_turn (begun nat_eq in_turn (third).start) (third).steps).life ≡ true
-unfolding first_recover_error recovered_state after_kept_entry may_drop pruned_entries standing spans payload_for first_gap explicit_payload in_window is_admitted binding_matches parent_payload may_notarize
+unfolding first_recover_error recovered_state after_kept_entry may_drop pruned_entries standing has_valid_parent_span ancestry_payload_for_child first_unnullified_view explicit_ancestry_payload in_issuance_window is_admitted verification_matches parent_payload_for may_notarize
 third_alive = refl
 
 pub third_set : IsSetUpAs 1 4 1 2 (state_of third)
-unfolding first_recover_error recovered_state after_kept_entry may_drop pruned_entries standing spans payload_for first_gap explicit_payload in_window is_admitted binding_matches parent_payload may_notarize
+unfolding first_recover_error recovered_state after_kept_entry may_drop pruned_entries standing has_valid_parent_span ancestry_payload_for_child first_unnullified_view explicit_ancestry_payload in_issuance_window is_admitted verification_matches parent_payload_for may_notarize
 third_set = record { signs = refl; of_epoch = refl; elects_by = refl; members = refl; on_time = refl }
 
 third_unknown : is_tracked (state_of third) 6 ≡ false
-unfolding first_recover_error recovered_state after_kept_entry may_drop pruned_entries standing spans payload_for first_gap explicit_payload in_window is_admitted binding_matches parent_payload may_notarize
+unfolding first_recover_error recovered_state after_kept_entry may_drop pruned_entries standing has_valid_parent_span ancestry_payload_for_child first_unnullified_view explicit_ancestry_payload in_issuance_window is_admitted verification_matches parent_payload_for may_notarize
 third_unknown = refl
 
 third_below : nat_lt (state_of third).current 6 ≡ true
-unfolding first_recover_error recovered_state after_kept_entry may_drop pruned_entries standing spans payload_for first_gap explicit_payload in_window is_admitted binding_matches parent_payload may_notarize
+unfolding first_recover_error recovered_state after_kept_entry may_drop pruned_entries standing has_valid_parent_span ancestry_payload_for_child first_unnullified_view explicit_ancestry_payload in_issuance_window is_admitted verification_matches parent_payload_for may_notarize
 third_below = refl
 
 third_lives : (x : StateFacts ℕ ℕ ℕ) × LivesWith nat_eq in_turn third x × Alive 2 x
-unfolding first_recover_error recovered_state after_kept_entry may_drop pruned_entries standing spans payload_for first_gap explicit_payload in_window is_admitted binding_matches parent_payload may_notarize
+unfolding first_recover_error recovered_state after_kept_entry may_drop pruned_entries standing has_valid_parent_span ancestry_payload_for_child first_unnullified_view explicit_ancestry_payload in_issuance_window is_admitted verification_matches parent_payload_for may_notarize
 third_lives = lives_by 1 6 2 third (rises entry_view 0 [] refl, tt) third_told third_alive third_set third_unknown third_below
 
 pub divided_may_go_on : MayReach 1 divided 6
@@ -113,7 +113,7 @@ divided_may_go_on = record {
   few_faulty = omega arith;
   alive = each_lives_so Alive divided (first_lives, (second_lives, (third_lives, tt)));
   consistent = agree 1 divided divided_network (refl, (refl, (refl, tt)));
-  is_start = refl;
+  is_term_start = refl;
   small = refl;
   elected = λ bytes. refl;
   honest_leader = (first, refl);

@@ -5,15 +5,15 @@ use Rattle.simplex_member.specs.Lives.{MemberFacts}
 use Rattle.simplex_types.specs.Config.{Genesis}
 use Rattle.simplex_voter.specs.Acceptance.{after_set_floor}
 use Rattle.simplex_voter.specs.Facts.{StateFacts}
-use Rattle.simplex_voter.specs.Gaps.{first_gap}
-use Rattle.simplex_voter.specs.Payloads.{explicit_payload}
+use Rattle.simplex_voter.specs.Gaps.{first_unnullified_view}
+use Rattle.simplex_voter.specs.Payloads.{explicit_ancestry_payload}
 use Rattle.simplex_record.specs.Check.{first_recover_error}
 use Rattle.simplex_record.specs.Start.{new_state}
-use Rattle.simplex_laws.specs.Places.{Honest, IsNetworkOf}
-use Rattle.simplex_laws.specs.Stories.{Story, deeds_of, Ran}
-use Rattle.simplex_laws.specs.Deeds.{Accepts}
-use Rattle.simplex_laws.specs.Turns.{in_turn, begin_at}
-use Rattle.simplex_laws.proofs.networks.Turns.{begins, ran_as_told}
+use Rattle.simplex_laws.specs.Replicas.{Honest, IsNetworkOf}
+use Rattle.simplex_laws.specs.Executions.{Execution, trace_of, IsExecution}
+use Rattle.simplex_laws.specs.Traces.{Accepts}
+use Rattle.simplex_laws.specs.ScenarioSteps.{in_turn, begin_at}
+use Rattle.simplex_laws.proofs.networks.ScenarioSteps.{begins, ran_as_told}
 use Rattle.simplex_progress.specs.Standing.{BuildsOn}
 use Rattle.simplex_progress.specs.Living.{LivesWith, EachLives}
 use Rattle.simplex_progress.specs.Started.{idle, with_first_leader, StandsFirst, Finalizes}
@@ -22,7 +22,7 @@ use Rattle.simplex_progress.proofs.networks.FreshStarts.{fresh_starts_are_finali
 abbrev pub state : ℕ → StateFacts ℕ ℕ ℕ
 state me = after_set_floor nat_eq in_turn (new_state (begin_at 1 me).setup) (Genesis 0) 0
 
-pub idle_ran : (me : ℕ) → Ran nat_eq in_turn 1 me (idle me)
+pub idle_ran : (me : ℕ) → IsExecution nat_eq in_turn 1 me (idle me)
 unfolding first_recover_error
 idle_ran me = ran_as_told 1 me (idle me) (begins 1 me (omega arith)) tt refl tt refl
 
@@ -30,7 +30,7 @@ pub lives : (me : ℕ) → LivesWith nat_eq in_turn (idle me) (state me)
 lives me = (_, refl, refl)
 
 knows : (me : ℕ) → StandsFirst me (state me)
-unfolding explicit_payload first_gap
+unfolding explicit_ancestry_payload first_unnullified_view
 knows me = (
   record { signs = refl; of_epoch = refl; elects_by = refl; members = refl; on_time = refl },
   record { current = refl; start = refl; round = _; tracked = refl; leads = refl; no_proposal = refl; pending = refl; no_vote = refl; no_notarization = refl; no_finalization = refl; no_verdict = refl; unbound = refl },
@@ -38,7 +38,7 @@ knows me = (
 )
 
 builds_on : (me : ℕ) → BuildsOn 0 1 (state me)
-unfolding explicit_payload
+unfolding explicit_ancestry_payload
 builds_on me = (0, refl)
 
 pub each_lives : EachLives nat_eq in_turn with_first_leader StandsFirst
@@ -49,7 +49,7 @@ each_lives (suc (suc (suc zero))) s at = let same : idle 3 ≡ s = cc in (state 
 each_lives (suc (suc (suc (suc i)))) s at = absurd (cc)
 
 -- so is the rest but that it is a network, and it goes on
-each_ran : (i : ℕ) (s : Story ℕ ℕ ℕ) → slice_get with_first_leader i ≡ Some (Honest s) → (i < 4) × (s ≡ idle i)
+each_ran : (i : ℕ) (s : Execution ℕ ℕ ℕ) → slice_get with_first_leader i ≡ Some (Honest s) → (i < 4) × (s ≡ idle i)
 each_ran zero s at = absurd (cc)
 each_ran (suc zero) s at = (omega arith, cc)
 each_ran (suc (suc zero)) s at = (omega arith, cc)
@@ -59,11 +59,11 @@ each_ran (suc (suc (suc (suc i)))) s at = absurd (cc)
 pub is_network : IsNetworkOf nat_eq in_turn 1 with_first_leader
 is_network = record {
   few_faulty = inl (omega arith, omega arith);
-  honest = λ i s at. subst (λ t. Ran nat_eq in_turn 1 i t) (sym (each_ran i s at).1) (idle_ran i);
-  backed = λ i s c at h. absurd (let none = subst (λ t. Contains (deeds_of t) (Accepts c)) (each_ran i s at).1 h in omega (arith, none.1));
+  honest = λ i s at. subst (λ t. IsExecution nat_eq in_turn 1 i t) (sym (each_ran i s at).1) (idle_ran i);
+  backed = λ i s c at h. absurd (let none = subst (λ t. Contains (trace_of t) (Accepts c)) (each_ran i s at).1 h in omega (arith, none.1));
 }
 
-same_builds : (s : Story ℕ ℕ ℕ) → slice_get with_first_leader 3 ≡ Some (Honest s) → (x : StateFacts ℕ ℕ ℕ) → LivesWith nat_eq in_turn s x → BuildsOn 0 1 x
+same_builds : (s : Execution ℕ ℕ ℕ) → slice_get with_first_leader 3 ≡ Some (Honest s) → (x : StateFacts ℕ ℕ ℕ) → LivesWith nat_eq in_turn s x → BuildsOn 0 1 x
 same_builds s at x alive =
     let there = subst (λ t. LivesWith nat_eq in_turn t x) (each_ran 3 s at).1 alive in
     let same : state 3 ≡ x = ap (λ o. unwrap_or o x) (ap (λ (m : MemberFacts ℕ ℕ ℕ). m.life) there.1 ∙ there.2) in

@@ -3,18 +3,18 @@ use Rattle.std.proofs.Common.{◌≡◌, refl, ℕ, zero, suc, ◌+◌, ◌≤�
 use Rattle.std.proofs.lemmas.Bool.{eqb-true}
 use Rattle.simplex_types.specs.Certificates.{NotarizeVote}
 use Rattle.simplex_voter.specs.Facts.{StateFacts, is_tracked}
-use Rattle.simplex_voter.specs.Gaps.{first_gap}
-use Rattle.simplex_voter.specs.Parents.{spans, payload_for, parent_payload, binding_matches}
-use Rattle.simplex_voter.specs.Payloads.{explicit_payload}
+use Rattle.simplex_voter.specs.Gaps.{first_unnullified_view}
+use Rattle.simplex_voter.specs.Parents.{has_valid_parent_span, ancestry_payload_for_child, parent_payload_for, verification_matches}
+use Rattle.simplex_voter.specs.Payloads.{explicit_ancestry_payload}
 use Rattle.simplex_voter.specs.Rules.{may_notarize}
 use Rattle.simplex_voter.specs.Verifying.{standing}
-use Rattle.simplex_voter.specs.Windows.{is_admitted, in_window}
+use Rattle.simplex_voter.specs.Windows.{is_admitted, in_issuance_window}
 use Rattle.simplex_record.specs.Check.{first_recover_error}
 use Rattle.simplex_record.specs.Cuts.{may_drop, pruned_entries}
 use Rattle.simplex_record.specs.Entries.{entry_view}
 use Rattle.simplex_record.specs.Recovery.{recovered_state, after_kept_entry}
 use Rattle.simplex_laws.specs.DividedNetwork.{rival, divided}
-use Rattle.simplex_laws.specs.Turns.{one, in_turn}
+use Rattle.simplex_laws.specs.ScenarioSteps.{one, in_turn}
 use Rattle.simplex_laws.proofs.networks.ComputedRuns.{rises}
 use Rattle.simplex_laws.proofs.networks.DividedNetwork.{divided_network}
 use Rattle.simplex_progress.specs.Living.{IsSetUpAs, LivesWith}
@@ -35,57 +35,57 @@ two_unknown x third fourth (suc zero) up = fourth
 two_unknown x third fourth (suc (suc count)) up = absurd (omega (arith, up))
 
 first_low : nat_lt (state_of first).current 2 ≡ true
-unfolding first_recover_error recovered_state after_kept_entry may_drop pruned_entries standing spans payload_for first_gap explicit_payload in_window is_admitted binding_matches parent_payload may_notarize
+unfolding first_recover_error recovered_state after_kept_entry may_drop pruned_entries standing has_valid_parent_span ancestry_payload_for_child first_unnullified_view explicit_ancestry_payload in_issuance_window is_admitted verification_matches parent_payload_for may_notarize
 first_low = refl
 
 first_not_three : is_tracked (state_of first) 3 ≡ false
-unfolding first_recover_error recovered_state after_kept_entry may_drop pruned_entries standing spans payload_for first_gap explicit_payload in_window is_admitted binding_matches parent_payload may_notarize
+unfolding first_recover_error recovered_state after_kept_entry may_drop pruned_entries standing has_valid_parent_span ancestry_payload_for_child first_unnullified_view explicit_ancestry_payload in_issuance_window is_admitted verification_matches parent_payload_for may_notarize
 first_not_three = refl
 
 first_not_four : is_tracked (state_of first) 4 ≡ false
-unfolding first_recover_error recovered_state after_kept_entry may_drop pruned_entries standing spans payload_for first_gap explicit_payload in_window is_admitted binding_matches parent_payload may_notarize
+unfolding first_recover_error recovered_state after_kept_entry may_drop pruned_entries standing has_valid_parent_span ancestry_payload_for_child first_unnullified_view explicit_ancestry_payload in_issuance_window is_admitted verification_matches parent_payload_for may_notarize
 first_not_four = refl
 
 first_there : LivesWith nat_eq in_turn first (state_of first)
-unfolding first_recover_error recovered_state after_kept_entry may_drop pruned_entries standing spans payload_for first_gap explicit_payload in_window is_admitted binding_matches parent_payload may_notarize
+unfolding first_recover_error recovered_state after_kept_entry may_drop pruned_entries standing has_valid_parent_span ancestry_payload_for_child first_unnullified_view explicit_ancestry_payload in_issuance_window is_admitted verification_matches parent_payload_for may_notarize
 first_there = lives_there first (rises entry_view 0 (NotarizeVote one 0 ∷ []) refl, tt) first_told first_alive
 
 first_ahead : (x : StateFacts ℕ ℕ ℕ) × LivesWith nat_eq in_turn first x × Ahead 0 x
 first_ahead = (state_of first, first_there, (first_set, (let low = ltb-true (state_of first).current 2 first_low in omega (arith, low)), two_unknown (state_of first) first_not_three first_not_four))
 
 second_low : nat_lt (state_of second).current 2 ≡ true
-unfolding first_recover_error recovered_state after_kept_entry may_drop pruned_entries standing spans payload_for first_gap explicit_payload in_window is_admitted binding_matches parent_payload may_notarize
+unfolding first_recover_error recovered_state after_kept_entry may_drop pruned_entries standing has_valid_parent_span ancestry_payload_for_child first_unnullified_view explicit_ancestry_payload in_issuance_window is_admitted verification_matches parent_payload_for may_notarize
 second_low = refl
 
 second_not_three : is_tracked (state_of second) 3 ≡ false
-unfolding first_recover_error recovered_state after_kept_entry may_drop pruned_entries standing spans payload_for first_gap explicit_payload in_window is_admitted binding_matches parent_payload may_notarize
+unfolding first_recover_error recovered_state after_kept_entry may_drop pruned_entries standing has_valid_parent_span ancestry_payload_for_child first_unnullified_view explicit_ancestry_payload in_issuance_window is_admitted verification_matches parent_payload_for may_notarize
 second_not_three = refl
 
 second_not_four : is_tracked (state_of second) 4 ≡ false
-unfolding first_recover_error recovered_state after_kept_entry may_drop pruned_entries standing spans payload_for first_gap explicit_payload in_window is_admitted binding_matches parent_payload may_notarize
+unfolding first_recover_error recovered_state after_kept_entry may_drop pruned_entries standing has_valid_parent_span ancestry_payload_for_child first_unnullified_view explicit_ancestry_payload in_issuance_window is_admitted verification_matches parent_payload_for may_notarize
 second_not_four = refl
 
 second_there : LivesWith nat_eq in_turn second (state_of second)
-unfolding first_recover_error recovered_state after_kept_entry may_drop pruned_entries standing spans payload_for first_gap explicit_payload in_window is_admitted binding_matches parent_payload may_notarize
+unfolding first_recover_error recovered_state after_kept_entry may_drop pruned_entries standing has_valid_parent_span ancestry_payload_for_child first_unnullified_view explicit_ancestry_payload in_issuance_window is_admitted verification_matches parent_payload_for may_notarize
 second_there = lives_there second (rises entry_view 0 (NotarizeVote rival 1 ∷ []) refl, tt) second_told second_alive
 
 second_ahead : (x : StateFacts ℕ ℕ ℕ) × LivesWith nat_eq in_turn second x × Ahead 1 x
 second_ahead = (state_of second, second_there, (second_set, (let low = ltb-true (state_of second).current 2 second_low in omega (arith, low)), two_unknown (state_of second) second_not_three second_not_four))
 
 third_low : nat_lt (state_of third).current 2 ≡ true
-unfolding first_recover_error recovered_state after_kept_entry may_drop pruned_entries standing spans payload_for first_gap explicit_payload in_window is_admitted binding_matches parent_payload may_notarize
+unfolding first_recover_error recovered_state after_kept_entry may_drop pruned_entries standing has_valid_parent_span ancestry_payload_for_child first_unnullified_view explicit_ancestry_payload in_issuance_window is_admitted verification_matches parent_payload_for may_notarize
 third_low = refl
 
 third_not_three : is_tracked (state_of third) 3 ≡ false
-unfolding first_recover_error recovered_state after_kept_entry may_drop pruned_entries standing spans payload_for first_gap explicit_payload in_window is_admitted binding_matches parent_payload may_notarize
+unfolding first_recover_error recovered_state after_kept_entry may_drop pruned_entries standing has_valid_parent_span ancestry_payload_for_child first_unnullified_view explicit_ancestry_payload in_issuance_window is_admitted verification_matches parent_payload_for may_notarize
 third_not_three = refl
 
 third_not_four : is_tracked (state_of third) 4 ≡ false
-unfolding first_recover_error recovered_state after_kept_entry may_drop pruned_entries standing spans payload_for first_gap explicit_payload in_window is_admitted binding_matches parent_payload may_notarize
+unfolding first_recover_error recovered_state after_kept_entry may_drop pruned_entries standing has_valid_parent_span ancestry_payload_for_child first_unnullified_view explicit_ancestry_payload in_issuance_window is_admitted verification_matches parent_payload_for may_notarize
 third_not_four = refl
 
 third_there : LivesWith nat_eq in_turn third (state_of third)
-unfolding first_recover_error recovered_state after_kept_entry may_drop pruned_entries standing spans payload_for first_gap explicit_payload in_window is_admitted binding_matches parent_payload may_notarize
+unfolding first_recover_error recovered_state after_kept_entry may_drop pruned_entries standing has_valid_parent_span ancestry_payload_for_child first_unnullified_view explicit_ancestry_payload in_issuance_window is_admitted verification_matches parent_payload_for may_notarize
 third_there = lives_there third (rises entry_view 0 ([]) refl, tt) third_told third_alive
 
 third_ahead : (x : StateFacts ℕ ℕ ℕ) × LivesWith nat_eq in_turn third x × Ahead 2 x

@@ -5,11 +5,11 @@ use Rattle.simplex_voter.specs.Acceptance.{after_set_floor}
 use Rattle.simplex_voter.specs.Facts.{StateFacts, is_tracked}
 use Rattle.simplex_record.specs.Check.{first_recover_error}
 use Rattle.simplex_record.specs.Start.{new_state}
-use Rattle.simplex_laws.specs.Deeds.{Accepts}
-use Rattle.simplex_laws.specs.Places.{Honest, IsNetworkOf}
-use Rattle.simplex_laws.specs.Stories.{Story, deeds_of, Ran, BeginsAs}
-use Rattle.simplex_laws.specs.Turns.{in_turn}
-use Rattle.simplex_laws.proofs.networks.Turns.{ran_as_told}
+use Rattle.simplex_laws.specs.Traces.{Accepts}
+use Rattle.simplex_laws.specs.Replicas.{Honest, IsNetworkOf}
+use Rattle.simplex_laws.specs.Executions.{Execution, trace_of, IsExecution, BeginsAs}
+use Rattle.simplex_laws.specs.ScenarioSteps.{in_turn}
+use Rattle.simplex_laws.proofs.networks.ScenarioSteps.{ran_as_told}
 use Rattle.simplex_progress.specs.Living.{IsSetUpAs, LivesWith, EachLives}
 use Rattle.simplex_progress.specs.Overrun.{idle_of_five, with_two_faulty, MayGoOnOtherwise, IsStuck}
 use Rattle.simplex_progress.proofs.instances.Worked.{agree}
@@ -18,7 +18,7 @@ use Rattle.simplex_progress.proofs.networks.Continued.{too_many_are_faulty}
 begins : (me : ℕ) → BeginsAs 1 me (idle_of_five me).start.setup
 begins me = record { terms = record { terms = refl; some = omega arith }; signs_as = inl refl }
 
-idle_ran : (me : ℕ) → Ran nat_eq in_turn 1 me (idle_of_five me)
+idle_ran : (me : ℕ) → IsExecution nat_eq in_turn 1 me (idle_of_five me)
 unfolding first_recover_error
 idle_ran me = ran_as_told 1 me (idle_of_five me) (begins me) tt refl tt refl
 
@@ -33,7 +33,7 @@ knows : (me : ℕ) → IsSetUpAs 1 5 1 me (state me) × (is_tracked (state me) 4
 unfolding state
 knows me = (record { signs = refl; of_epoch = refl; elects_by = refl; members = refl; on_time = refl }, refl, omega arith)
 
-each_idle : (i : ℕ) (s : Story ℕ ℕ ℕ) → slice_get with_two_faulty i ≡ Some (Honest s) → s ≡ idle_of_five i
+each_idle : (i : ℕ) (s : Execution ℕ ℕ ℕ) → slice_get with_two_faulty i ≡ Some (Honest s) → s ≡ idle_of_five i
 each_idle zero s at = absurd (cc)
 each_idle (suc zero) s at = absurd (cc)
 each_idle (suc (suc zero)) s at = cc
@@ -44,8 +44,8 @@ each_idle (suc (suc (suc (suc (suc i))))) s at = absurd (cc)
 pub is_network : IsNetworkOf nat_eq in_turn 1 with_two_faulty
 is_network = record {
   few_faulty = inr (omega arith);
-  honest = λ i s at. subst (λ t. Ran nat_eq in_turn 1 i t) (sym (each_idle i s at)) (idle_ran i);
-  backed = λ i s c at h. absurd (let none = subst (λ t. Contains (deeds_of t) (Accepts c)) (each_idle i s at) h in omega (arith, none.1));
+  honest = λ i s at. subst (λ t. IsExecution nat_eq in_turn 1 i t) (sym (each_idle i s at)) (idle_ran i);
+  backed = λ i s c at h. absurd (let none = subst (λ t. Contains (trace_of t) (Accepts c)) (each_idle i s at) h in omega (arith, none.1));
 }
 
 each_lives : EachLives nat_eq in_turn with_two_faulty (λ i x. IsSetUpAs 1 5 1 i x × (is_tracked x 4 ≡ false) × (x.current < 4))

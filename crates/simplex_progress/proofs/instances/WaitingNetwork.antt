@@ -5,12 +5,12 @@ use Rattle.std.specs.Prelude.{option_and_then}
 use Rattle.simplex_sorted.proofs.Maps.{is_eq-nat_cmp}
 use Rattle.simplex_round.specs.Round.{RoundFacts}
 use Rattle.simplex_voter.specs.Facts.{round_of}
-use Rattle.simplex_voter.specs.Gaps.{first_gap}
-use Rattle.simplex_voter.specs.Payloads.{explicit_payload, certified_payload}
-use Rattle.simplex_laws.specs.Deeds.{Accepts}
-use Rattle.simplex_laws.specs.Places.{Honest, IsNetworkOf}
-use Rattle.simplex_laws.specs.Stories.{Story, deeds_of, Ran}
-use Rattle.simplex_laws.specs.Turns.{in_turn}
+use Rattle.simplex_voter.specs.Gaps.{first_unnullified_view}
+use Rattle.simplex_voter.specs.Payloads.{explicit_ancestry_payload, certified_payload}
+use Rattle.simplex_laws.specs.Traces.{Accepts}
+use Rattle.simplex_laws.specs.Replicas.{Honest, IsNetworkOf}
+use Rattle.simplex_laws.specs.Executions.{Execution, trace_of, IsExecution}
+use Rattle.simplex_laws.specs.ScenarioSteps.{in_turn}
 use Rattle.simplex_progress.specs.Living.{LivesWith, EachLives}
 use Rattle.simplex_progress.specs.Started.{idle, with_second_leader, StandsBeforeSecond, Finalizes}
 use Rattle.simplex_progress.proofs.instances.FreshNetwork.{state, idle_ran, lives}
@@ -21,10 +21,10 @@ use Rattle.simplex_progress.proofs.states.Waiting.{explicit_by}
 abbrev first : ℕ → RoundFacts ℕ ℕ
 first me = round_of (state me) 1
 
-explicit_first : (me v : ℕ) → v ≡ 1 → 0 < v → explicit_payload (state me) v ≡ None
+explicit_first : (me v : ℕ) → v ≡ 1 → 0 < v → explicit_ancestry_payload (state me) v ≡ None
 explicit_first me v at some = rw at (explicit_by (state me) 1 (omega arith))
 
-tests : (me v : ℕ) → 0 < v → explicit_payload (state me) v ≡ None
+tests : (me v : ℕ) → 0 < v → explicit_ancestry_payload (state me) v ≡ None
 tests me v some = elim (cases_eq v 1) [
   | inl at ↦ explicit_first me v at some
   | inr apart ↦
@@ -33,7 +33,7 @@ tests me v some = elim (cases_eq v 1) [
 ]
 
 knows : (me : ℕ) → StandsBeforeSecond me (state me)
-unfolding explicit_payload first_gap
+unfolding explicit_ancestry_payload first_unnullified_view
 knows me = (
   record { signs = refl; of_epoch = refl; elects_by = refl; members = refl; on_time = refl },
   record {
@@ -44,7 +44,7 @@ knows me = (
   },
 )
 
-each_ran : (i : ℕ) (s : Story ℕ ℕ ℕ) → slice_get with_second_leader i ≡ Some (Honest s) → (i < 4) × (s ≡ idle i)
+each_ran : (i : ℕ) (s : Execution ℕ ℕ ℕ) → slice_get with_second_leader i ≡ Some (Honest s) → (i < 4) × (s ≡ idle i)
 each_ran zero s at = (omega arith, cc)
 each_ran (suc zero) s at = (omega arith, cc)
 each_ran (suc (suc zero)) s at = (omega arith, cc)
@@ -57,8 +57,8 @@ each_lives i s at = (state i, subst (λ t. LivesWith nat_eq in_turn t (state i))
 pub is_network : IsNetworkOf nat_eq in_turn 1 with_second_leader
 is_network = record {
   few_faulty = inl (omega arith, omega arith);
-  honest = λ i s at. subst (λ t. Ran nat_eq in_turn 1 i t) (sym (each_ran i s at).1) (idle_ran i);
-  backed = λ i s c at h. absurd (let none = subst (λ t. Contains (deeds_of t) (Accepts c)) (each_ran i s at).1 h in omega (arith, none.1));
+  honest = λ i s at. subst (λ t. IsExecution nat_eq in_turn 1 i t) (sym (each_ran i s at).1) (idle_ran i);
+  backed = λ i s c at h. absurd (let none = subst (λ t. Contains (trace_of t) (Accepts c)) (each_ran i s at).1 h in omega (arith, none.1));
 }
 
 pub gives_up_to_finalize : Finalizes with_second_leader 2

@@ -9,19 +9,19 @@ use Rattle.simplex_voter.specs.Facts.{StateFacts, round_of, is_tracked}
 use Rattle.simplex_record.specs.Start.{new_state}
 use Rattle.simplex_member.specs.Runs.{IsRun}
 use Rattle.simplex_laws.specs.Continuations.{EachHonest}
-use Rattle.simplex_laws.specs.Places.{Place, Faulty, Honest, IsNetworkOf}
-use Rattle.simplex_laws.specs.Stories.{Story}
-use Rattle.simplex_laws.specs.Turns.{in_turn}
+use Rattle.simplex_laws.specs.Replicas.{Replica, Faulty, Honest, IsNetworkOf}
+use Rattle.simplex_laws.specs.Executions.{Execution}
+use Rattle.simplex_laws.specs.ScenarioSteps.{in_turn}
 use Rattle.simplex_laws.proofs.lists.Splits.{Contains-cases}
 use Rattle.simplex_laws.proofs.networks.ComputedRuns.{begun, end_from, fits_run}
-use Rattle.simplex_laws.proofs.networks.Turns.{told_in, FitsIn}
+use Rattle.simplex_laws.proofs.networks.ScenarioSteps.{told_in, FitsIn}
 use Rattle.simplex_progress.specs.Living.{IsSetUpAs, LivesWith, EachLives}
 use Rattle.simplex_progress.specs.Reaching.{HasCertified, judged_of}
 use Rattle.simplex_progress.proofs.runs.Explicit.{verdict_led}
 use Rattle.simplex_progress.proofs.runs.LedLives.{state_led}
 
--- what a member knows at the end of a story whose replies are computed
-abbrev pub state_of : Story ℕ ℕ ℕ → StateFacts ℕ ℕ ℕ
+-- what a member knows at the end of an execution whose replies are computed
+abbrev pub state_of : Execution ℕ ℕ ℕ → StateFacts ℕ ℕ ℕ
 state_of s = unwrap_or (end_from nat_eq in_turn (begun nat_eq in_turn s.start) s.steps).life (new_state s.start.setup)
 
 some_is : {A : Type 0} (o : Option A) (a : A) → is_some o ≡ true → o ≡ Some (unwrap_or o a)
@@ -29,7 +29,7 @@ some_is None a is = absurd (false≢true is)
 some_is (Some b) a is = refl
 
 -- where it lives
-pub lives_there : (s : Story ℕ ℕ ℕ) → FitsIn s → told_in s ≡ s.replies → is_some (end_from nat_eq in_turn (begun nat_eq in_turn s.start) s.steps).life ≡ true → LivesWith nat_eq in_turn s (state_of s)
+pub lives_there : (s : Execution ℕ ℕ ℕ) → FitsIn s → told_in s ≡ s.replies → is_some (end_from nat_eq in_turn (begun nat_eq in_turn s.start) s.steps).life ≡ true → LivesWith nat_eq in_turn s (state_of s)
 lives_there s fits told alive =
     let m = begun nat_eq in_turn s.start in (
       end_from nat_eq in_turn m s.steps,
@@ -38,17 +38,17 @@ lives_there s fits told alive =
     )
 
 -- and was set up so, and its view lies below the start, which it doesn't know
-pub lives_by : (term_length start i : ℕ) (s : Story ℕ ℕ ℕ) → FitsIn s → told_in s ≡ s.replies → is_some (end_from nat_eq in_turn (begun nat_eq in_turn s.start) s.steps).life ≡ true → IsSetUpAs 1 4 term_length i (state_of s) → is_tracked (state_of s) start ≡ false → nat_lt (state_of s).current start ≡ true
+pub lives_by : (term_length start i : ℕ) (s : Execution ℕ ℕ ℕ) → FitsIn s → told_in s ≡ s.replies → is_some (end_from nat_eq in_turn (begun nat_eq in_turn s.start) s.steps).life ≡ true → IsSetUpAs 1 4 term_length i (state_of s) → is_tracked (state_of s) start ≡ false → nat_lt (state_of s).current start ≡ true
     → (x : StateFacts ℕ ℕ ℕ) × LivesWith nat_eq in_turn s x × (IsSetUpAs 1 4 term_length i x × (is_tracked x start ≡ false) × (x.current < start))
 lives_by term_length start i s fits told alive set unknown below = (state_of s, lives_there s fits told alive, (set, unknown, ltb-true (state_of s).current start below))
 
 -- each honest member lives so, one after another
-abbrev pub AllLive : (ℕ → StateFacts ℕ ℕ ℕ → Type 0) → List (Place ℕ ℕ ℕ) → Type 0
+abbrev pub AllLive : (ℕ → StateFacts ℕ ℕ ℕ → Type 0) → List (Replica ℕ ℕ ℕ) → Type 0
 AllLive P [] = Unit {0}
 AllLive P (Faulty ∷ network) = AllLive (λ i. P (suc i)) network
 AllLive P (Honest s ∷ network) = ((x : StateFacts ℕ ℕ ℕ) × LivesWith nat_eq in_turn s x × P 0 x) × AllLive (λ i. P (suc i)) network
 
-pub each_lives_so : (P : ℕ → StateFacts ℕ ℕ ℕ → Type 0) (network : List (Place ℕ ℕ ℕ)) → AllLive P network → EachLives nat_eq in_turn network P
+pub each_lives_so : (P : ℕ → StateFacts ℕ ℕ ℕ → Type 0) (network : List (Replica ℕ ℕ ℕ)) → AllLive P network → EachLives nat_eq in_turn network P
 each_lives_so P [] all i s at = absurd (cc)
 each_lives_so P (Faulty ∷ network) all zero s at = absurd (cc)
 each_lives_so P (Faulty ∷ network) all (suc i) s at = each_lives_so (λ i. P (suc i)) network all i s at
@@ -61,7 +61,7 @@ each_lives_so P (Honest t ∷ network) all (suc i) s at = each_lives_so (λ i. P
 abbrev pub refuses : List (Bool × Proposal ℕ) → Bool
 refuses verdicts = list_any (λ e. not e.0) verdicts
 
-abbrev pub AllFine : List (Place ℕ ℕ ℕ) → Type 0
+abbrev pub AllFine : List (Replica ℕ ℕ ℕ) → Type 0
 AllFine [] = Unit {0}
 AllFine (Faulty ∷ network) = AllFine network
 AllFine (Honest s ∷ network) = (refuses (judged_of s) ≡ false) × AllFine network
@@ -75,7 +75,7 @@ none_refused ((success, q) ∷ verdicts) fine p h = by_verdict success fine (Con
     by_verdict true rest (inr later) behind = behind rest later
     by_verdict false fine h behind = false≢true (sym fine)
 
-each_fine : (network : List (Place ℕ ℕ ℕ)) → AllFine network → EachHonest network (λ i s. refuses (judged_of s) ≡ false)
+each_fine : (network : List (Replica ℕ ℕ ℕ)) → AllFine network → EachHonest network (λ i s. refuses (judged_of s) ≡ false)
 each_fine [] all i s at = absurd (cc)
 each_fine (Faulty ∷ network) all zero s at = absurd (cc)
 each_fine (Faulty ∷ network) all (suc i) s at = each_fine network all i s at
@@ -83,7 +83,7 @@ each_fine (Honest t ∷ network) all zero s at = let one : t ≡ s = cc in subst
 each_fine (Honest t ∷ network) all (suc i) s at = each_fine network all.1 i s at
 
 -- so none stands
-pub agree : (term_length : ℕ) (network : List (Place ℕ ℕ ℕ)) → IsNetworkOf nat_eq in_turn term_length network → AllFine network → EachHonest network (λ i s. EachHonest network (λ j t. (x : StateFacts ℕ ℕ ℕ) (v : ℕ) → HasCertified 1 (judged_of s) v → LivesWith nat_eq in_turn t x → x.finalized < v → is_judged false (round_of x v).certification ≡ false))
+pub agree : (term_length : ℕ) (network : List (Replica ℕ ℕ ℕ)) → IsNetworkOf nat_eq in_turn term_length network → AllFine network → EachHonest network (λ i s. EachHonest network (λ j t. (x : StateFacts ℕ ℕ ℕ) (v : ℕ) → HasCertified 1 (judged_of s) v → LivesWith nat_eq in_turn t x → x.finalized < v → is_judged false (round_of x v).certification ≡ false))
 agree term_length network good all i s at j t from x v certified lives above = elim (cases_Bool (is_judged false (round_of x v).certification)) [
   | inr fine ↦ fine
   | inl bad ↦ absurd (

@@ -3,15 +3,15 @@ use Rattle.std.proofs.Common.{◌≡◌, ap, sym, subst, ◌⊎◌, inl, inr, �
 use Rattle.simplex_types.specs.declared.types.messages.Proposal.{Proposal}
 use Rattle.simplex_types.specs.declared.types.messages.Subject.TheVariants.{Finalize}
 use Rattle.simplex_voter.specs.Facts.{Elect}
-use Rattle.simplex_laws.specs.Continuations.{PlacesGoOn, SomeHonest, HasBuilt, HonestlyBacked}
-use Rattle.simplex_laws.specs.Places.{Place, Honest, quorum}
-use Rattle.simplex_laws.specs.Stories.{Story}
+use Rattle.simplex_laws.specs.Continuations.{ReplicasGoOn, SomeHonest, HasBuilt, HonestlyBacked}
+use Rattle.simplex_laws.specs.Replicas.{Replica, Honest, quorum}
+use Rattle.simplex_laws.specs.Executions.{Execution}
 use Rattle.simplex_progress.specs.Continued.{IsVotedFor, IsGiven, MembersGoOn, FinalizationsAreNew, NothingIsForged, TooManyAreFaulty, ExchangesGoOn, ExchangesBringWhatWas, OneExchangeIsTooFew}
 use Rattle.simplex_progress.specs.Soon.{IsExchange, Exchanges}
-use Rattle.simplex_progress.proofs.networks.Places.{same_length, same_faults, still_there, honest_fit, places_same, places_joined, alone_backed, deeds_stay}
+use Rattle.simplex_progress.proofs.networks.Replicas.{same_length, same_faults, still_there, honest_fit, replicas_same, replicas_joined, alone_backed, trace_stays}
 
 -- who built a proposal gave its payload, and voted for it
-none_built : {K L D : Type 0} (network : List (Place K L D)) (p : Proposal D) → (IsVotedFor p network → ⊥) ⊎ (IsGiven p network → ⊥) → SomeHonest network (HasBuilt p) → ⊥
+none_built : {K L D : Type 0} (network : List (Replica K L D)) (p : Proposal D) → (IsVotedFor p network → ⊥) ⊎ (IsGiven p network → ⊥) → SomeHonest network (HasBuilt p) → ⊥
 none_built network p (inl unvoted) (i, s, at, built) = unvoted (i, s, at, built.1)
 none_built network p (inr ungiven) (i, s, at, built) = ungiven (i, s, at, built.0)
 
@@ -25,8 +25,8 @@ module _ {L D : Type 0} (K : Type 0) (same : D → D → Bool) (elect : Elect L)
         (let there = still_there network later i s on.goes_on at in (
           there.0,
           there.1,
-          ap (λ (t : Story K L D). t.start) there.2.1,
-          deeds_stay same elect s there.0 there.2 (good.honest i s at).run,
+          ap (λ (t : Execution K L D). t.start) there.2.1,
+          trace_stays same elect s there.0 there.2 (good.honest i s at).run,
         )),
   )
 
@@ -36,7 +36,7 @@ module _ {L D : Type 0} (K : Type 0) (same : D → D → Bool) (elect : Elect L)
     λ i t at. ((on.finalized i t at).0, (on.finalized i t at).1, alone i t at),
   )
     where
-      alone : (i : ℕ) (t : Story K L D) → slice_get later i ≡ Some (Honest t) → HonestlyBacked later (Finalize final)
+      alone : (i : ℕ) (t : Execution K L D) → slice_get later i ≡ Some (Honest t) → HonestlyBacked later (Finalize final)
       alone i t at = elim (on.certificates i t at (Finalize final) (on.finalized i t at).1) [
         | inl (j, s, there, old) ↦ absurd (let below = on.new final (good.backed j s (Finalize final) there old) in omega (arith, below))
         | inr backs ↦ backs
@@ -58,10 +58,10 @@ module _ {L D : Type 0} (K : Type 0) (same : D → D → Bool) (elect : Elect L)
       omega (arith, fit, size, faulty, many)
 
   pub exchanges_go_on : ExchangesGoOn K same elect
-  exchanges_go_on zero network later taken = subst (λ n. PlacesGoOn network n) (sym taken) (places_same network)
-  exchanges_go_on (suc count) network later (between, one, rest) = places_joined network between later one.goes_on (exchanges_go_on count between later rest)
+  exchanges_go_on zero network later taken = subst (λ n. ReplicasGoOn network n) (sym taken) (replicas_same network)
+  exchanges_go_on (suc count) network later (between, one, rest) = replicas_joined network between later one.goes_on (exchanges_go_on count between later rest)
 
-  one_exchange : (network later : List (Place K L D)) → Exchanges 1 network later → IsExchange network later
+  one_exchange : (network later : List (Replica K L D)) → Exchanges 1 network later → IsExchange network later
   one_exchange network later (between, one, last) = subst (λ n. IsExchange network n) (sym last) one
 
   pub exchanges_bring_what_was : ExchangesBringWhatWas K same elect

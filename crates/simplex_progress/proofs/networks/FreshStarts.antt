@@ -3,9 +3,9 @@ use Rattle.std.proofs.Common.{◌≡◌, subst, ℕ, ◌<◌, Bool, true, List, 
 use Rattle.simplex_types.specs.declared.types.messages.Proposal.{Proposal}
 use Rattle.simplex_types.specs.declared.types.messages.Subject.TheVariants.{Finalize}
 use Rattle.simplex_voter.specs.Facts.{Elect}
-use Rattle.simplex_laws.specs.Deeds.{Deed}
-use Rattle.simplex_laws.specs.Places.{Honest, Backed}
-use Rattle.simplex_laws.specs.Stories.{Story}
+use Rattle.simplex_laws.specs.Traces.{TraceEvent}
+use Rattle.simplex_laws.specs.Replicas.{Honest, Backed}
+use Rattle.simplex_laws.specs.Executions.{Execution}
 use Rattle.simplex_laws.proofs.agreement.Quorums.{shared_member}
 use Rattle.simplex_progress.specs.FreshStarts.{FreshStartsAreFinalized}
 use Rattle.simplex_progress.specs.Standing.{BuildsOn, proposal_in}
@@ -13,8 +13,8 @@ use Rattle.simplex_progress.proofs.networks.Passed.{enough}
 use Rattle.simplex_progress.proofs.networks.Together.{GoesBy, goes_on_to_finalize}
 use Rattle.simplex_progress.proofs.runs.Ends.{end_shown}
 use Rattle.simplex_progress.proofs.runs.Members.{member_finalizes}
-use Rattle.simplex_progress.proofs.runs.Starts.{place_of}
-use Rattle.simplex_progress.proofs.states.Sequences.{deeds_done}
+use Rattle.simplex_progress.proofs.runs.Starts.{replica_of}
+use Rattle.simplex_progress.proofs.states.Sequences.{trace_done}
 
 pub fresh_starts_are_finalized : {L D : Type 0} (K : Type 0) (same : D → D → Bool) (decides : (d e : D) → same d e ≡ true → d ≡ e) (reflexive : (d : D) → same d d ≡ true) (elect : Elect L) → FreshStartsAreFinalized K same elect
 fresh_starts_are_finalized {L} {D} K same decides reflexive elect term_length epoch leader parent start elector network q good few small leads each builds =
@@ -23,15 +23,15 @@ fresh_starts_are_finalized {L} {D} K same decides reflexive elect term_length ep
     p : Proposal D
     p = proposal_in epoch start parent q
 
-    done : ℕ → List (Deed D)
-    done = λ k. deeds_done (place_of epoch start parent q k) q
+    done : ℕ → List (TraceEvent D)
+    done = λ k. trace_done (replica_of epoch start parent q k) q
 
-    goes : (i : ℕ) (s : Story K L D) → slice_get network i ≡ Some (Honest s) → (t : Story K L D) × GoesBy same elect term_length leader (proposal_in epoch start parent q) (λ k. deeds_done (place_of epoch start parent q k) q) i s t
+    goes : (i : ℕ) (s : Execution K L D) → slice_get network i ≡ Some (Honest s) → (t : Execution K L D) × GoesBy same elect term_length leader (proposal_in epoch start parent q) (λ k. trace_done (replica_of epoch start parent q k) q) i s t
     goes i s at =
         let lives = each i s at in
         let built : i ≡ leader → BuildsOn parent start lives.0 = λ e. builds s (subst (λ n. slice_get network n ≡ Some (Honest s)) e at) lives.0 lives.1 in
         let on = member_finalizes same decides reflexive elect term_length epoch (length network) leader start parent i elector q s (good.honest i s at) small lives.0 lives.1 lives.2.0 lives.2.1 lives.2.2 built in
-        (on.0, record { goes_on = on.1.goes_on; ran = on.1.ran; deeds = on.1.deeds; heard = on.1.heard; builds = on.1.builds })
+        (on.0, record { goes_on = on.1.goes_on; ran = on.1.ran; trace = on.1.trace; heard = on.1.heard; builds = on.1.builds })
 
     -- each view that votes may finalize before lies below
     all_below : (o : Proposal D) → Backed network (Finalize o) → o.round.view < start

@@ -7,8 +7,8 @@ use Rattle.simplex_types.specs.Terms.{term_index, term_start, next_term_start}
 use Rattle.simplex_sorted.proofs.Gaps.{next_above, next_start}
 use Rattle.simplex_voter.specs.Facts.{Elect}
 use Rattle.simplex_voter.specs.Refusals.{is_too_large}
-use Rattle.simplex_laws.specs.Places.{Place, Faulty, Honest, faults, max_faults}
-use Rattle.simplex_laws.specs.Stories.{Story}
+use Rattle.simplex_laws.specs.Replicas.{Replica, Faulty, Honest, faults, max_faults}
+use Rattle.simplex_laws.specs.Executions.{Execution}
 use Rattle.simplex_progress.specs.Going.{MayGoOn}
 use Rattle.simplex_progress.specs.Soon.{Exchanges, IsFinalizedInTurn}
 use Rattle.simplex_progress.specs.Together.{terms_on}
@@ -19,11 +19,11 @@ use Rattle.simplex_progress.proofs.runs.Ends.{end_shown}
 use Rattle.simplex_progress.proofs.states.Passing.{on_from}
 
 module _ {K L D : Type 0} where
-  abbrev AreFaulty : List (Place K L D) → ℕ → ℕ → Type 0
+  abbrev AreFaulty : List (Replica K L D) → ℕ → ℕ → Type 0
   AreFaulty network low high = (i : ℕ) → low ≤ i → i < high → slice_get network i ≡ Some Faulty
 
   -- so many in a row
-  a_row : (network : List (Place K L D)) (from len : ℕ) → from + len ≤ length network → AreFaulty network from (from + len) → len ≤ faults network
+  a_row : (network : List (Replica K L D)) (from len : ℕ) → from + len ≤ length network → AreFaulty network from (from + len) → len ≤ faults network
   a_row network from zero fits all = omega arith
   a_row [] from (suc len) fits all = absurd (omega (arith, fits))
   a_row (Honest s ∷ network) zero (suc len) fits all = absurd (let first = all 0 (omega arith) (omega arith) in cc)
@@ -35,7 +35,7 @@ module _ {K L D : Type 0} where
       omega (arith, rest, one_more p network)
 
   -- some first ones, and all from a later one on
-  both_ends : (network : List (Place K L D)) (low from : ℕ) → low ≤ from → from ≤ length network → AreFaulty network 0 low → AreFaulty network from (length network) → low + (length network - from) ≤ faults network
+  both_ends : (network : List (Replica K L D)) (low from : ℕ) → low ≤ from → from ≤ length network → AreFaulty network 0 low → AreFaulty network from (length network) → low + (length network - from) ≤ faults network
   both_ends network zero from up fits first last = (let row = a_row network from (length network - from) (omega (arith, fits)) (λ i up down. last i up (omega (arith, down, fits))) in omega (arith, row))
   both_ends [] (suc low) from up fits first last = absurd (omega (arith, up, fits))
   both_ends (p ∷ network) (suc low) zero up fits first last = absurd (omega (arith, up))
@@ -44,9 +44,9 @@ module _ {K L D : Type 0} where
       let rest = both_ends network low from (omega (arith, up)) (omega (arith, fits)) (λ i up down. first (suc i) (omega arith) (omega (arith, down))) (λ i up down. last (suc i) (omega (arith, up)) (omega (arith, down))) in
       omega (arith, rest, one_more Faulty network)
 
-  module _ (network : List (Place K L D)) (some : 0 < length network) (b : ℕ) where
+  module _ (network : List (Replica K L D)) (some : 0 < length network) (b : ℕ) where
     abbrev HonestTurn : ℕ → Type 0
-    HonestTurn count = (k : ℕ) × (k < count) × (s : Story K L D) × (slice_get network ((b + k) % length network) ≡ Some (Honest s))
+    HonestTurn count = (k : ℕ) × (k < count) × (s : Execution K L D) × (slice_get network ((b + k) % length network) ≡ Some (Honest s))
 
     abbrev FaultyTurns : ℕ → Type 0
     FaultyTurns count = (k : ℕ) → k < count → slice_get network ((b + k) % length network) ≡ Some Faulty
@@ -56,12 +56,12 @@ module _ {K L D : Type 0} where
     found zero = inr (λ k less. absurd (omega (arith, less)))
     found (suc count) = elim (found count) [
       | inl (k, less, s, at) ↦ inl (k, omega (arith, less), s, at)
-      | inr none ↦ (let here = there network ((b + count) % length network) (mod-lt (b + count) some) in by_place none here.0 here.1)
+      | inr none ↦ (let here = there network ((b + count) % length network) (mod-lt (b + count) some) in by_replica none here.0 here.1)
     ]
       where
-        by_place : FaultyTurns count → (p : Place K L D) → slice_get network ((b + count) % length network) ≡ Some p → HonestTurn (suc count) ⊎ FaultyTurns (suc count)
-        by_place none (Honest s) at = inl (count, omega arith, s, at)
-        by_place none Faulty at = inr (λ k less. elim (cases_eq k count) [
+        by_replica : FaultyTurns count → (p : Replica K L D) → slice_get network ((b + count) % length network) ≡ Some p → HonestTurn (suc count) ⊎ FaultyTurns (suc count)
+        by_replica none (Honest s) at = inl (count, omega arith, s, at)
+        by_replica none Faulty at = inr (λ k less. elim (cases_eq k count) [
           | inl last ↦ subst (λ n. slice_get network ((b + n) % length network) ≡ Some Faulty) (sym last) at
           | inr apart ↦ none k (omega (arith, less, apart))
         ])
@@ -120,7 +120,7 @@ finalized_in_turn K same decides reflexive elect term_length epoch view turn ski
       few_faulty = few;
       alive = λ j t is. (let a = each j t is in (a.0, a.1, (a.2.0, a.2.2 k (omega (arith, found.1)), omega (arith, a.2.1, next, from_next))));
       consistent = agree;
-      is_start = start_on term_length length_some (skipped + k) view one;
+      is_term_start = start_on term_length length_some (skipped + k) view one;
       small = small_below start (terms_on term_length (suc (skipped + max_faults (length network))) view) (no_lower term_length length_some (suc (skipped + k)) (suc (skipped + max_faults (length network))) view (omega (arith, found.1)) one) small;
       elected = λ bytes. leads start bytes ∙ ap (λ n. n % length network) (omega (arith, index));
       honest_leader = (found.2, found.3);

@@ -5,18 +5,18 @@ use Rattle.simplex_types.specs.declared.types.messages.Subject.{Subject}
 use Rattle.simplex_types.specs.declared.types.messages.Subject.TheVariants.{Finalize}
 use Rattle.simplex_voter.specs.Facts.{Elect}
 use Rattle.simplex_member.specs.Runs.{IsRunFrom}
-use Rattle.simplex_laws.specs.Continuations.{PlacesGoOn, EachHonest, SomeHonest, HasAccepted, HasHeard, IsHonestlySigned, HonestlyBacked, GoesOnToFinalize}
-use Rattle.simplex_laws.specs.Deeds.{Deed}
-use Rattle.simplex_laws.specs.Places.{Place, Faulty, Honest, quorum, AtLeastFrom, MayHaveSigned, IsNetworkOf}
-use Rattle.simplex_laws.specs.Stories.{Story, deeds_of}
-use Rattle.simplex_progress.proofs.networks.Places.{places_joined, same_length, deeds_stay}
+use Rattle.simplex_laws.specs.Continuations.{ReplicasGoOn, EachHonest, SomeHonest, HasAccepted, HasHeard, IsHonestlySigned, HonestlyBacked, GoesOnToFinalize}
+use Rattle.simplex_laws.specs.Traces.{TraceEvent}
+use Rattle.simplex_laws.specs.Replicas.{Replica, Faulty, Honest, quorum, AtLeastFrom, MayHaveSigned, IsNetworkOf}
+use Rattle.simplex_laws.specs.Executions.{Execution, trace_of}
+use Rattle.simplex_progress.proofs.networks.Replicas.{replicas_joined, same_length, trace_stays}
 
 module _ {K L D : Type 0} (same : D → D → Bool) (elect : Elect L) where
-  abbrev AllRun : List (Place K L D) → Type 0
-  AllRun network = (i : ℕ) (s : Story K L D) → slice_get network i ≡ Some (Honest s) → IsRunFrom same elect s.start s.steps s.replies
+  abbrev AllRun : List (Replica K L D) → Type 0
+  AllRun network = (i : ℕ) (s : Execution K L D) → slice_get network i ≡ Some (Honest s) → IsRunFrom same elect s.start s.steps s.replies
 
   -- what is signed stays signed, by as many
-  at_least_still : (P : ℕ → Place K L D → Type 0) → ((k : ℕ) (s t : Story K L D) → ((d : Deed D) → Contains (deeds_of s) d → Contains (deeds_of t) d) → P k (Honest s) → P k (Honest t)) → (k count : ℕ) (a b : List (Place K L D)) → AllRun a → PlacesGoOn a b → AtLeastFrom k count P a → AtLeastFrom k count P b
+  at_least_still : (P : ℕ → Replica K L D → Type 0) → ((k : ℕ) (s t : Execution K L D) → ((d : TraceEvent D) → Contains (trace_of s) d → Contains (trace_of t) d) → P k (Honest s) → P k (Honest t)) → (k count : ℕ) (a b : List (Replica K L D)) → AllRun a → ReplicasGoOn a b → AtLeastFrom k count P a → AtLeastFrom k count P b
   at_least_still P stays k zero a b run f h = tt
   at_least_still P stays k (suc count) [] b run f h = absurd h
   at_least_still P stays k (suc count) (Faulty ∷ a) [] run f h = absurd f
@@ -25,19 +25,19 @@ module _ {K L D : Type 0} (same : D → D → Bool) (elect : Elect L) where
   at_least_still P stays k (suc count) (Faulty ∷ a) (Honest t ∷ b) run f h = absurd f
   at_least_still P stays k (suc count) (Honest s ∷ a) [] run f h = absurd f
   at_least_still P stays k (suc count) (Honest s ∷ a) (Faulty ∷ b) run f h = absurd f
-  at_least_still P stays k (suc count) (Honest s ∷ a) (Honest t ∷ b) run f (inl h) = inl (stays k s t (deeds_stay same elect s t f.0 (run 0 s refl)) h.0, at_least_still P stays (suc k) count a b (λ i u at. run (suc i) u at) f.1 h.1)
+  at_least_still P stays k (suc count) (Honest s ∷ a) (Honest t ∷ b) run f (inl h) = inl (stays k s t (trace_stays same elect s t f.0 (run 0 s refl)) h.0, at_least_still P stays (suc k) count a b (λ i u at. run (suc i) u at) f.1 h.1)
   at_least_still P stays k (suc count) (Honest s ∷ a) (Honest t ∷ b) run f (inr h) = inr (at_least_still P stays (suc k) (suc count) a b (λ i u at. run (suc i) u at) f.1 h)
 
-  module _ (term_length : ℕ) (network mid later : List (Place K L D)) (final : Proposal D) where
+  module _ (term_length : ℕ) (network mid later : List (Replica K L D)) (final : Proposal D) where
     pub joined : IsNetworkOf same elect term_length network
         → IsNetworkOf same elect term_length mid
-        → PlacesGoOn network mid
+        → ReplicasGoOn network mid
         → EachHonest mid (λ i s. (c : Subject D) → HasAccepted c i s → SomeHonest network (HasAccepted c) ⊎ HonestlyBacked mid c)
         → EachHonest mid (λ i s. (v : ℕ) (p : Proposal D) → HasHeard v p s → SomeHonest network (λ j t. HasHeard v p t))
         → GoesOnToFinalize same elect term_length mid later final
         → GoesOnToFinalize same elect term_length network later final
     joined good between goes certificates proposals on = record {
-      goes_on = places_joined network mid later goes on.goes_on;
+      goes_on = replicas_joined network mid later goes on.goes_on;
       runs = on.runs;
       certificates = λ i t at c h.
           elim (on.certificates i t at c h) [

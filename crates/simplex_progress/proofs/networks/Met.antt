@@ -17,11 +17,11 @@ use Rattle.simplex_voter.specs.Facts.{StateFacts, Elect, round_of, is_tracked}
 use Rattle.simplex_member.specs.Calls.{SetProposal}
 use Rattle.simplex_member.specs.Lives.{MemberFacts}
 use Rattle.simplex_member.specs.Runs.{Calls}
-use Rattle.simplex_laws.specs.Continuations.{StoryGoesOn, EachHonest, SomeHonest, HasAccepted, HasHeard}
-use Rattle.simplex_laws.specs.Deeds.{Deed, Accepts, deeds_of_steps}
-use Rattle.simplex_laws.specs.Places.{Place, Honest, faults, FewFaulty, quorum, AtLeastFrom, MayHaveSigned, IsNetworkOf}
+use Rattle.simplex_laws.specs.Continuations.{ExecutionGoesOn, EachHonest, SomeHonest, HasAccepted, HasHeard}
+use Rattle.simplex_laws.specs.Traces.{TraceEvent, Accepts, trace_of_steps}
+use Rattle.simplex_laws.specs.Replicas.{Replica, Honest, faults, FewFaulty, quorum, AtLeastFrom, MayHaveSigned, IsNetworkOf}
 use Rattle.simplex_laws.specs.Shows.{verdict_of}
-use Rattle.simplex_laws.specs.Stories.{Story, deeds_of, Ran}
+use Rattle.simplex_laws.specs.Executions.{Execution, trace_of, IsExecution}
 use Rattle.simplex_laws.proofs.agreement.Claims.{finalized_uncovered, parent_before}
 use Rattle.simplex_progress.specs.Going.{MayGoOn, NetworksMeet}
 use Rattle.simplex_progress.specs.Living.{IsSetUpAs, LivesWith, EachLives}
@@ -30,7 +30,7 @@ use Rattle.simplex_progress.specs.Reaching.{IsIn, HasFinalized, HasCertified, Is
 use Rattle.simplex_progress.specs.Standing.{StandsBefore}
 use Rattle.simplex_progress.proofs.networks.Chosen.{HighestCurrent, highest_current}
 use Rattle.simplex_progress.proofs.networks.Covers.{Skips, Covered, covered}
-use Rattle.simplex_progress.proofs.networks.Followed.{Follows, all_follow, places_follow, same_many, was_there, backed_still}
+use Rattle.simplex_progress.proofs.networks.Followed.{Follows, all_follow, replicas_follow, same_many, was_there, backed_still}
 use Rattle.simplex_progress.proofs.networks.Tops.{Highest, either_highest, over_honest, finalized_highest, certified_highest}
 use Rattle.simplex_progress.proofs.runs.Coming.{Comes, Came, Fits, hand_all, stays_there, takes_final, takes_certified}
 use Rattle.simplex_progress.proofs.runs.Ends.{Shown, end_shown}
@@ -38,16 +38,16 @@ use Rattle.simplex_progress.proofs.runs.Explicit.{came_stands, explicit_passed}
 use Rattle.simplex_progress.proofs.runs.Led.{Led}
 use Rattle.simplex_progress.proofs.runs.LedLives.{state_led, judged_are_notarized}
 use Rattle.simplex_progress.proofs.runs.Nearing.{Nears}
-use Rattle.simplex_progress.proofs.runs.Onward.{judged_joined, and_calls, calls_go_on, calls_run, calls_ran, calls_deeds}
+use Rattle.simplex_progress.proofs.runs.Onward.{judged_joined, and_calls, calls_go_on, calls_run, calls_ran, calls_trace}
 
 -- a term start above a view is no lower than the next one
 pub next_before : (length view start : ℕ) → 1 ≤ view → view < start → start ≡ term_start length start → next_term_start length view ≤ start
-next_before length view start some below is_start = elim (cases_lt start (next_term_start length view)) [
+next_before length view start some below is_term_start = elim (cases_lt start (next_term_start length view)) [
   | inr behind ↦ behind
   | inl within ↦ absurd (
       let same = same_start length view start some (omega (arith, below)) within in
       let low = start_below length view some in
-      omega (arith, below, is_start, same, low))
+      omega (arith, below, is_term_start, same, low))
 ]
 
 not_false : (c : Certification) → is_judged false c ≡ false → verdict_of c ≡ Some false → ⊥
@@ -58,8 +58,8 @@ not_false (certification.Outstanding t) good is = false≢true (ap is_some is)
 not_false certification.Aborted good is = false≢true (ap is_some is)
 
 -- where they meet: by what was accepted before alone, and no lower than the highest stood
-pub record HaveMet {K L D : Type 0} (same : D → D → Bool) (elect : Elect L) (term_length : ℕ) (network : List (Place K L D)) (epoch : ℕ) (elector : L) (start : ℕ) : Type 0 where
-  pub later : List (Place K L D)
+pub record HaveMet {K L D : Type 0} (same : D → D → Bool) (elect : Elect L) (term_length : ℕ) (network : List (Replica K L D)) (epoch : ℕ) (elector : L) (start : ℕ) : Type 0 where
+  pub later : List (Replica K L D)
   pub parent : ℕ
   pub view : ℕ
   pub above : 1 ≤ view
@@ -68,21 +68,21 @@ pub record HaveMet {K L D : Type 0} (same : D → D → Bool) (elect : Elect L) 
   pub by_old : EachHonest later (λ i s. (c : Subject D) → HasAccepted c i s → SomeHonest network (HasAccepted c))
   pub no_higher : EachLives same elect network (λ i x. x.current ≤ view)
 
-module _ {K L D : Type 0} (same : D → D → Bool) (decides : (d e : D) → same d e ≡ true → d ≡ e) (elect : Elect L) (term_length epoch leader start : ℕ) (elector : L) (network : List (Place K L D)) (good : IsNetworkOf same elect term_length network) (may : MayGoOn same elect term_length network epoch elector leader start) where
+module _ {K L D : Type 0} (same : D → D → Bool) (decides : (d e : D) → same d e ≡ true → d ≡ e) (elect : Elect L) (term_length epoch leader start : ℕ) (elector : L) (network : List (Replica K L D)) (good : IsNetworkOf same elect term_length network) (may : MayGoOn same elect term_length network epoch elector leader start) where
   pub some : 0 < term_length
   some = (good.honest leader may.honest_leader.0 may.honest_leader.1).lives.first.terms.some
 
   -- the parent: the highest view that an honest member finalized or certified
 
   abbrev Finals : ℕ → Type 0
-  Finals v = SomeHonest network (λ i s. HasFinalized epoch (deeds_of s) v × (v + 1 < start))
+  Finals v = SomeHonest network (λ i s. HasFinalized epoch (trace_of s) v × (v + 1 < start))
 
   abbrev Certs : ℕ → Type 0
   Certs v = SomeHonest network (λ i s. HasCertified epoch (judged_of s) v × (v + 1 < start))
 
   pub parents : Highest (λ v. Finals v ⊎ Certs v)
   parents = either_highest Finals Certs
-      (over_honest network (λ i s v. HasFinalized epoch (deeds_of s) v × (v + 1 < start)) (λ i s at. finalized_highest epoch start (deeds_of s)))
+      (over_honest network (λ i s v. HasFinalized epoch (trace_of s) v × (v + 1 < start)) (λ i s at. finalized_highest epoch start (trace_of s)))
       (over_honest network (λ i s v. HasCertified epoch (judged_of s) v × (v + 1 < start)) (λ i s at. certified_highest epoch start (judged_of s)))
 
   abbrev parent : ℕ
@@ -122,7 +122,7 @@ module _ {K L D : Type 0} (same : D → D → Bool) (decides : (d e : D) → sam
 
   -- nullifications that cover all between
 
-  finals_below : (v : ℕ) → v < view → SomeHonest network (λ i s. HasFinalized epoch (deeds_of s) v) → v < parent + 1
+  finals_below : (v : ℕ) → v < view → SomeHonest network (λ i s. HasFinalized epoch (trace_of s) v) → v < parent + 1
   finals_below v less (i, s, at, h) = (let m = parents.most v (inl (i, s, at, (h, omega (arith, less, view_far)))) in omega (arith, m))
 
   certs_below : (v : ℕ) → v < view → SomeHonest network (λ i s. HasCertified epoch (judged_of s) v) → v < parent + 1
@@ -141,7 +141,7 @@ module _ {K L D : Type 0} (same : D → D → Bool) (decides : (d e : D) → sam
   no_road is = record { rounds = []; each = λ r h. absurd (omega (arith, h.1)); covering = λ v up down. absurd (omega (arith, up, down, is)); skips_to = inl is }
 
   -- by what led to the highest current view
-  by_led : parent + 1 < currents.top → (i : ℕ) (s : Story K L D) → slice_get network i ≡ Some (Honest s) → IsLedTo term_length epoch (deeds_of s) (judged_of s) currents.top → Road
+  by_led : parent + 1 < currents.top → (i : ℕ) (s : Execution K L D) → slice_get network i ≡ Some (Honest s) → IsLedTo term_length epoch (trace_of s) (judged_of s) currents.top → Road
   by_led up i s at (First is) = absurd (omega (arith, up, is))
   by_led up i s at (PastFinalized below h is) = absurd (let low = finals_below below (omega (arith, up, is)) (i, s, at, h) in omega (arith, low, up, is))
   by_led up i s at (PastCertified below h is) = absurd (let low = certs_below below (omega (arith, up, is)) (i, s, at, h) in omega (arith, low, up, is))
@@ -158,7 +158,7 @@ module _ {K L D : Type 0} (same : D → D → Bool) (decides : (d e : D) → sam
       | inl none ↦ absurd (omega (arith, up, none))
       | inr (i, s, at, (x, lives, p, is)) ↦
           (let led = (state_led same decides elect term_length i s (good.honest i s at) x lives).reached in
-          by_led up i s at (subst (IsLedTo term_length epoch (deeds_of s) (judged_of s)) is (subst (λ n. IsLedTo term_length n (deeds_of s) (judged_of s) x.current) p.0.of_epoch led)))
+          by_led up i s at (subst (IsLedTo term_length epoch (trace_of s) (judged_of s)) is (subst (λ n. IsLedTo term_length n (trace_of s) (judged_of s) x.current) p.0.of_epoch led)))
     ]
   ]
 
@@ -173,11 +173,11 @@ module _ {K L D : Type 0} (same : D → D → Bool) (decides : (d e : D) → sam
   abbrev given : Round → Type 0
   given r = Contains road.rounds r ⊎ ⊥
 
-  module _ (i : ℕ) (s : Story K L D) (at : slice_get network i ≡ Some (Honest s)) (x : StateFacts K L D) (lives : LivesWith same elect s x) (alive : Lives i x) (below : x.current ≤ currents.top) where
-    ran : Ran same elect term_length i s
+  module _ (i : ℕ) (s : Execution K L D) (at : slice_get network i ≡ Some (Honest s)) (x : StateFacts K L D) (lives : LivesWith same elect s x) (alive : Lives i x) (below : x.current ≤ currents.top) where
+    ran : IsExecution same elect term_length i s
     ran = good.honest i s at
 
-    led : Led term_length (deeds_of s) (judged_of s) x
+    led : Led term_length (trace_of s) (judged_of s) x
     led = state_led same decides elect term_length i s ran x lives
 
     shown : Shown term_length s lives.0 x
@@ -251,34 +251,34 @@ module _ {K L D : Type 0} (same : D → D → Bool) (decides : (d e : D) → sam
         | inl genesis ↦ absurd (omega (arith, apart, final_low, genesis))
         | inr (inl (j, t, from, ((q, h, (view_is, of_epoch)), low))) ↦
             (let before = parent_before same decides elect term_length network good q (inr (good.backed j t (subject.Finalize q) from h)) in
-            takes_final same decides elect Q R term_length epoch (length network) i elector parent view start view_far may.small q view_is of_epoch before (omega (arith, apart, final_low)) (omega arith) (next_before term_length parent start (omega (arith, apart, final_low)) (omega (arith, parent_far)) may.is_start) x.finalized verdict given m y there close final_low (j, t, from, h))
+            takes_final same decides elect Q R term_length epoch (length network) i elector parent view start view_far may.small q view_is of_epoch before (omega (arith, apart, final_low)) (omega arith) (next_before term_length parent start (omega (arith, apart, final_low)) (omega (arith, parent_far)) may.is_term_start) x.finalized verdict given m y there close final_low (j, t, from, h))
         | inr (inr (j, t, from, ((q, h, (view_is, of_epoch)), low))) ↦
             (let noted = judged_are_notarized same decides elect term_length j t (good.honest j t from) true q h in
             let before = parent_before same decides elect term_length network good q (inl (good.backed j t (subject.Notarize q) from noted)) in
             let fine = may.consistent j t from i s at x parent (q, h, (view_is, of_epoch)) lives (omega (arith, apart, final_low)) in
-            takes_certified same decides elect Q R term_length epoch (length network) i elector parent view start view_far may.small q view_is of_epoch before (omega (arith, apart, final_low)) (omega arith) (next_before term_length parent start (omega (arith, apart, final_low)) (omega (arith, parent_far)) may.is_start) x.finalized verdict given m y there close final_low (not_false (round_of x parent).certification fine) (j, t, from, noted) (λ p is. omega (arith, is)))
+            takes_certified same decides elect Q R term_length epoch (length network) i elector parent view start view_far may.small q view_is of_epoch before (omega (arith, apart, final_low)) (omega arith) (next_before term_length parent start (omega (arith, apart, final_low)) (omega (arith, parent_far)) may.is_term_start) x.finalized verdict given m y there close final_low (not_false (round_of x parent).certification fine) (j, t, from, noted) (λ p is. omega (arith, is)))
       ]
     ]
 
     comes : Comes same elect Q R Arrived lives.0
     comes = hand_all same decides elect Q R term_length epoch (length network) i elector parent view start view_far may.small Arrived x.finalized verdict road.rounds (λ r. ⊥) fits lives.0 x lives.2 near finishes
 
-    abbrev t : Story K L D
+    abbrev t : Execution K L D
     t = and_calls same elect s comes.calls comes.replies
 
     t_lives : LivesWith same elect t comes.state
     t_lives = (comes.end, calls_run same elect term_length i s lives.0 comes.end comes.calls comes.replies lives.1 comes.run, comes.lives)
 
-    t_ran : Ran same elect term_length i t
+    t_ran : IsExecution same elect term_length i t
     t_ran = calls_ran same elect term_length i s lives.0 comes.end comes.calls comes.replies lives.1 comes.run ran
 
-    t_deeds : deeds_of t ≡ deeds_of s ++ deeds_of_steps {L = L} (map Calls comes.calls) comes.replies
-    t_deeds = calls_deeds same elect term_length i s lives.0 comes.end comes.calls comes.replies lives.1 comes.run
+    t_trace : trace_of t ≡ trace_of s ++ trace_of_steps {L = L} (map Calls comes.calls) comes.replies
+    t_trace = calls_trace same elect term_length i s lives.0 comes.end comes.calls comes.replies lives.1 comes.run
 
     accepts_only : (c : Subject D) → HasAccepted c i t → Q c
-    accepts_only c h = elim (Contains-append_cases (deeds_of s) (deeds_of_steps {L = L} (map Calls comes.calls) comes.replies) (Accepts c) (subst (λ ds. Contains ds (Accepts c)) t_deeds h)) [ inl old ↦ (i, s, at, old) | inr new ↦ comes.accepts c new ]
+    accepts_only c h = elim (Contains-append_cases (trace_of s) (trace_of_steps {L = L} (map Calls comes.calls) comes.replies) (Accepts c) (subst (λ ds. Contains ds (Accepts c)) t_trace h)) [ inl old ↦ (i, s, at, old) | inr new ↦ comes.accepts c new ]
 
-    t_finals : (v : ℕ) → v < view → HasFinalized epoch (deeds_of t) v → v ≤ parent
+    t_finals : (v : ℕ) → v < view → HasFinalized epoch (trace_of t) v → v ≤ parent
     t_finals v less (p, h, is_in) = (let q = accepts_only (subject.Finalize p) h in parents.most v (inl (q.0, q.1, q.2, ((p, q.3, is_in), omega (arith, less, view_far)))))
 
     t_certs : (v : ℕ) → v < view → HasCertified epoch (judged_of t) v → v ≤ parent
@@ -291,20 +291,20 @@ module _ {K L D : Type 0} (same : D → D → Bool) (decides : (d e : D) → sam
     t_shown = end_shown same decides elect term_length i t t_ran comes.state t_lives
 
     t_stands : StandsBefore parent view start comes.state
-    t_stands = came_stands term_length epoch (length network) i elector parent view start some given (deeds_of t) (judged_of t) comes.state comes.holds (state_led same decides elect term_length i t t_ran comes.state t_lives) (explicit_passed t_shown.living.keeps.stays t_shown.times_out) t_finals t_certs
+    t_stands = came_stands term_length epoch (length network) i elector parent view start some given (trace_of t) (judged_of t) comes.state comes.holds (state_led same decides elect term_length i t t_ran comes.state t_lives) (explicit_passed t_shown.living.keeps.stays t_shown.times_out) t_finals t_certs
         (λ v up down. (let r = road.covering v up down in (r.0, inl r.1, r.2)))
         (elim road.skips_to [ inl just ↦ inl just | inr (r, h, is) ↦ inr (r, inl h, is) ])
 
   -- the member goes on to stand there
-  pub record Joins (i : ℕ) (s t : Story K L D) : Type 0 where
-    goes_on : StoryGoesOn s t
-    ran : Ran same elect term_length i t
+  pub record Joins (i : ℕ) (s t : Execution K L D) : Type 0 where
+    goes_on : ExecutionGoesOn s t
+    ran : IsExecution same elect term_length i t
     accepts : (c : Subject D) → HasAccepted c i t → SomeHonest network (HasAccepted c)
     hears : (v : ℕ) (p : Proposal D) → HasHeard v p t → HasHeard v p s
-    deeds_stay : (d : Deed D) → Contains (deeds_of s) d → Contains (deeds_of t) d
+    trace_stays : (d : TraceEvent D) → Contains (trace_of s) d → Contains (trace_of t) d
     stands : (x : StateFacts K L D) × LivesWith same elect t x × (IsSetUpAs epoch (length network) elector i x × StandsBefore parent view start x)
 
-  joins : (i : ℕ) (s : Story K L D) → slice_get network i ≡ Some (Honest s) → (u : Story K L D) × Joins i s u
+  joins : (i : ℕ) (s : Execution K L D) → slice_get network i ≡ Some (Honest s) → (u : Execution K L D) × Joins i s u
   joins i s at =
       let here = currents.each i s at in
       let x = here.0 in
@@ -318,23 +318,23 @@ module _ {K L D : Type 0} (same : D → D → Bool) (decides : (d e : D) → sam
           ran = t_ran i s at x lives alive below;
           accepts = accepts_only i s at x lives alive below;
           hears = λ v p h. elim (Contains-append_cases s.steps (map Calls on.calls) (Calls (SetProposal v p)) h) [ inl old ↦ old | inr new ↦ absurd (on.hears v p new) ];
-          deeds_stay = λ d h. subst (λ ds. Contains ds d) (sym (t_deeds i s at x lives alive below)) (Contains-append_left (deeds_of s) (deeds_of_steps {L = L} (map Calls on.calls) on.replies) d h);
+          trace_stays = λ d h. subst (λ ds. Contains ds d) (sym (t_trace i s at x lives alive below)) (Contains-append_left (trace_of s) (trace_of_steps {L = L} (map Calls on.calls) on.replies) d h);
           stands = (on.state, t_lives i s at x lives alive below, (on.holds.set, t_stands i s at x lives alive below));
         },
       )
 
   -- the network
 
-  pub following : (later : List (Place K L D)) × Follows Joins 0 network later
+  pub following : (later : List (Replica K L D)) × Follows Joins 0 network later
   following = all_follow Joins 0 network (λ i j s at is. (let here : i ≡ j = omega (arith, is) in joins j s (subst (λ n. slice_get network n ≡ Some (Honest s)) here at)))
 
-  abbrev later : List (Place K L D)
+  abbrev later : List (Replica K L D)
   later = following.0
 
   many : (length later ≡ length network) × (faults later ≡ faults network)
   many = same_many Joins 0 network later following.1
 
-  before : (i : ℕ) (u : Story K L D) → slice_get later i ≡ Some (Honest u) → (s : Story K L D) × (slice_get network i ≡ Some (Honest s)) × Joins i s u
+  before : (i : ℕ) (u : Execution K L D) → slice_get later i ≡ Some (Honest u) → (s : Execution K L D) × (slice_get network i ≡ Some (Honest s)) × Joins i s u
   before i u at = was_there Joins 0 network later following.1 i i u at (omega arith)
 
   still_few : FewFaulty network → FewFaulty later
@@ -347,12 +347,12 @@ module _ {K L D : Type 0} (same : D → D → Bool) (decides : (d e : D) → sam
     honest = λ i u at. (before i u at).2.ran;
     backed = λ i u c at h.
         (let q = (before i u at).2.accepts c h in
-        subst (λ n. AtLeastFrom 0 (quorum n) (MayHaveSigned c) later) (sym many.0) (backed_still Joins (λ k s v d on. on.deeds_stay d) c 0 (quorum (length network)) network later following.1 (good.backed q.0 q.1 c q.2 q.3)));
+        subst (λ n. AtLeastFrom 0 (quorum n) (MayHaveSigned c) later) (sym many.0) (backed_still Joins (λ k s v d on. on.trace_stays d) c 0 (quorum (length network)) network later following.1 (good.backed q.0 q.1 c q.2 q.3)));
   }
 
   pub meets : Meets same elect term_length epoch elector network later parent view start
   meets = record {
-    goes_on = places_follow Joins (λ i s u on. on.goes_on) 0 network later following.1;
+    goes_on = replicas_follow Joins (λ i s u on. on.goes_on) 0 network later following.1;
     runs = runs_on;
     certificates = λ i u at c h. inl ((before i u at).2.accepts c h);
     proposals = λ i u at v p h. (let was = before i u at in (i, was.0, was.1, was.2.hears v p h));

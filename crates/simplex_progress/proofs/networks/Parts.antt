@@ -11,16 +11,16 @@ use Rattle.simplex_member.specs.Calls.{CallFacts, SetProposal, Proposed}
 use Rattle.simplex_member.specs.Lives.{MemberFacts}
 use Rattle.simplex_member.specs.Runs.{StepFacts, Calls, IsRun}
 use Rattle.simplex_member.specs.Start.{started_member}
-use Rattle.simplex_laws.specs.Continuations.{StoryGoesOn, SomeHonest, HasBuilt, IsHonestlySigned, HonestlyBacked}
-use Rattle.simplex_laws.specs.Deeds.{Deed, Accepts, Signs}
-use Rattle.simplex_laws.specs.Places.{Place, Honest, faults, max_faults, quorum}
-use Rattle.simplex_laws.specs.Stories.{Story, deeds_of, Ran}
+use Rattle.simplex_laws.specs.Continuations.{ExecutionGoesOn, SomeHonest, HasBuilt, IsHonestlySigned, HonestlyBacked}
+use Rattle.simplex_laws.specs.Traces.{TraceEvent, Accepts, Signs}
+use Rattle.simplex_laws.specs.Replicas.{Replica, Honest, faults, max_faults, quorum}
+use Rattle.simplex_laws.specs.Executions.{Execution, trace_of, IsExecution}
 use Rattle.simplex_laws.proofs.lists.Splits.{Contains-cases, Contains-cons_rest}
 use Rattle.simplex_progress.specs.Soon.{IsExchange, Exchanges}
-use Rattle.simplex_progress.proofs.networks.Followed.{quorum_fits, honest_enough, Follows, follows_so, one_further, places_follow, same_many, was_there, is_there}
-use Rattle.simplex_progress.proofs.networks.Places.{map_joined, story_joined}
-use Rattle.simplex_progress.proofs.runs.Onward.{and_calls, calls_go_on, calls_run, calls_ran, calls_deeds}
-use Rattle.simplex_progress.proofs.states.Sequences.{Trace, parted, calls_in, all_deeds, calls_joined, deeds_together}
+use Rattle.simplex_progress.proofs.networks.Followed.{quorum_fits, honest_enough, Follows, follows_so, one_further, replicas_follow, same_many, was_there, is_there}
+use Rattle.simplex_progress.proofs.networks.Replicas.{map_joined, execution_joined}
+use Rattle.simplex_progress.proofs.runs.Onward.{and_calls, calls_go_on, calls_run, calls_ran, calls_trace}
+use Rattle.simplex_progress.proofs.states.Sequences.{Sequence, parted, calls_in, whole_trace, calls_joined, traces_together}
 
 -- calls, as steps
 
@@ -40,11 +40,11 @@ still_called K L {D} (c ∷ cs) call h = elim (Contains-cases c cs call h) [
 
 -- what each member does in one exchange
 abbrev pub Part : Type 0 → Type 0
-Part D = ℕ → List (CallFacts D × List (Deed D))
+Part D = ℕ → List (CallFacts D × List (TraceEvent D))
 
 module _ {D : Type 0} where
   -- all parts of a plan, for one member
-  abbrev pub at_member : List (Part D) → ℕ → List (CallFacts D × List (Deed D))
+  abbrev pub at_member : List (Part D) → ℕ → List (CallFacts D × List (TraceEvent D))
   at_member [] i = []
   at_member (part ∷ rest) i = part i ++ at_member rest i
 
@@ -54,69 +54,69 @@ module _ {D : Type 0} where
 
 module _ {D : Type 0} (leader : ℕ) (p : Proposal D) where
   -- what is accepted in a part was signed by each before it, and a proposal that is handed in was built before
-  pub record Fits (done : ℕ → List (Deed D)) (calls : ℕ → List (CallFacts D)) (part : Part D) : Type 0 where
-    pub signed : (i : ℕ) (c : Subject D) → Contains (all_deeds (part i)) (Accepts c) → (j : ℕ) → Contains (done j) (Signs j c)
+  pub record Fits (done : ℕ → List (TraceEvent D)) (calls : ℕ → List (CallFacts D)) (part : Part D) : Type 0 where
+    pub signed : (i : ℕ) (c : Subject D) → Contains (whole_trace (part i)) (Accepts c) → (j : ℕ) → Contains (done j) (Signs j c)
     pub built : (i v : ℕ) (o : Proposal D) → Contains (calls_in (part i)) (SetProposal v o) → (o ≡ p) × Contains (calls leader) (Proposed p.round.view p.payload 0) × Contains (done leader) (Signs leader (Notarize p))
 
-  abbrev pub IsPlan : (ℕ → List (Deed D)) → (ℕ → List (CallFacts D)) → List (Part D) → Type 0
+  abbrev pub IsPlan : (ℕ → List (TraceEvent D)) → (ℕ → List (CallFacts D)) → List (Part D) → Type 0
   IsPlan done calls [] = Unit {0}
-  IsPlan done calls (part ∷ rest) = Fits done calls part × IsPlan (λ i. done i ++ all_deeds (part i)) (λ i. calls i ++ calls_in (part i)) rest
+  IsPlan done calls (part ∷ rest) = Fits done calls part × IsPlan (λ i. done i ++ whole_trace (part i)) (λ i. calls i ++ calls_in (part i)) rest
 
 module _ {K L D : Type 0} (same : D → D → Bool) (elect : Elect L) (term_length : ℕ) where
-  -- a member went on by these calls, with these deeds, and may go on by this trace
-  pub record Along (done : ℕ → List (Deed D)) (calls : ℕ → List (CallFacts D)) (rest : ℕ → List (CallFacts D × List (Deed D))) (i : ℕ) (s t : Story K L D) : Type 0 where
-    pub goes_on : StoryGoesOn s t
-    pub ran : Ran same elect term_length i t
+  -- a member went on by these calls, with this trace, and may go on by this sequence
+  pub record Along (done : ℕ → List (TraceEvent D)) (calls : ℕ → List (CallFacts D)) (rest : ℕ → List (CallFacts D × List (TraceEvent D))) (i : ℕ) (s t : Execution K L D) : Type 0 where
+    pub goes_on : ExecutionGoesOn s t
+    pub ran : IsExecution same elect term_length i t
     pub steps : t.steps ≡ s.steps ++ map Calls (calls i)
-    pub deeds : deeds_of t ≡ deeds_of s ++ done i
+    pub trace : trace_of t ≡ trace_of s ++ done i
     pub member : MemberFacts K L D
     pub run : IsRun same elect (started_member same elect (new_state t.start.setup) t.start.floor t.start.now) t.steps t.replies member
-    pub ready : Trace same elect member (rest i)
+    pub ready : Sequence same elect member (rest i)
 
   -- it does one part more
-  pub record Adds (part : Part D) (i : ℕ) (t u : Story K L D) : Type 0 where
-    pub goes_on : StoryGoesOn t u
+  pub record Adds (part : Part D) (i : ℕ) (t u : Execution K L D) : Type 0 where
+    pub goes_on : ExecutionGoesOn t u
     pub steps : u.steps ≡ t.steps ++ map Calls (calls_in (part i))
-    pub deeds : deeds_of u ≡ deeds_of t ++ all_deeds (part i)
+    pub trace : trace_of u ≡ trace_of t ++ whole_trace (part i)
 
-  pub adds_part : (part : Part D) (rest : ℕ → List (CallFacts D × List (Deed D))) (done : ℕ → List (Deed D)) (calls : ℕ → List (CallFacts D)) (i : ℕ) (s t : Story K L D) → Along done calls (λ k. part k ++ rest k) i s t
-      → (u : Story K L D) × Along (λ k. done k ++ all_deeds (part k)) (λ k. calls k ++ calls_in (part k)) rest i s u × Adds part i t u
+  pub adds_part : (part : Part D) (rest : ℕ → List (CallFacts D × List (TraceEvent D))) (done : ℕ → List (TraceEvent D)) (calls : ℕ → List (CallFacts D)) (i : ℕ) (s t : Execution K L D) → Along done calls (λ k. part k ++ rest k) i s t
+      → (u : Execution K L D) × Along (λ k. done k ++ whole_trace (part k)) (λ k. calls k ++ calls_in (part k)) rest i s u × Adds part i t u
   adds_part part rest done calls i s t along =
       let p = parted same elect (part i) (rest i) along.member along.ready in
       let u = and_calls same elect t (calls_in (part i)) p.replies in
       let on = calls_go_on same elect term_length i t along.member p.end (calls_in (part i)) p.replies along.run p.run in
-      let more : deeds_of u ≡ deeds_of t ++ all_deeds (part i) = calls_deeds same elect term_length i t along.member p.end (calls_in (part i)) p.replies along.run p.run ∙ ap (λ ds. deeds_of t ++ ds) p.does in (
+      let more : trace_of u ≡ trace_of t ++ whole_trace (part i) = calls_trace same elect term_length i t along.member p.end (calls_in (part i)) p.replies along.run p.run ∙ ap (λ ds. trace_of t ++ ds) p.does in (
         u,
         record {
-          goes_on = story_joined s t u along.goes_on on;
+          goes_on = execution_joined s t u along.goes_on on;
           ran = calls_ran same elect term_length i t along.member p.end (calls_in (part i)) p.replies along.run p.run along.ran;
           steps = ap (λ ss. ss ++ map Calls (calls_in (part i))) along.steps ∙ (append_assoc s.steps (map Calls (calls i)) (map Calls (calls_in (part i))) ∙ ap (λ ss. s.steps ++ ss) (sym (map_joined Calls (calls i) (calls_in (part i)))));
-          deeds = more ∙ (ap (λ ds. ds ++ all_deeds (part i)) along.deeds ∙ append_assoc (deeds_of s) (done i) (all_deeds (part i)));
+          trace = more ∙ (ap (λ ds. ds ++ whole_trace (part i)) along.trace ∙ append_assoc (trace_of s) (done i) (whole_trace (part i)));
           member = p.end;
           run = calls_run same elect term_length i t along.member p.end (calls_in (part i)) p.replies along.run p.run;
           ready = p.rest;
         },
-        record { goes_on = on; steps = refl; deeds = more },
+        record { goes_on = on; steps = refl; trace = more },
       )
 
-  along_same : (done more : ℕ → List (Deed D)) (calls others : ℕ → List (CallFacts D)) (rest : ℕ → List (CallFacts D × List (Deed D))) → ((i : ℕ) → done i ≡ more i) → ((i : ℕ) → calls i ≡ others i) → (i : ℕ) (s t : Story K L D) → Along done calls rest i s t → Along more others rest i s t
+  along_same : (done more : ℕ → List (TraceEvent D)) (calls others : ℕ → List (CallFacts D)) (rest : ℕ → List (CallFacts D × List (TraceEvent D))) → ((i : ℕ) → done i ≡ more i) → ((i : ℕ) → calls i ≡ others i) → (i : ℕ) (s t : Execution K L D) → Along done calls rest i s t → Along more others rest i s t
   along_same done more calls others rest d c i s t along = record {
     goes_on = along.goes_on;
     ran = along.ran;
     steps = along.steps ∙ ap (λ cs. s.steps ++ map Calls cs) (c i);
-    deeds = along.deeds ∙ ap (λ ds. deeds_of s ++ ds) (d i);
+    trace = along.trace ∙ ap (λ ds. trace_of s ++ ds) (d i);
     member = along.member;
     run = along.run;
     ready = along.ready;
   }
 
-  module _ (leader : ℕ) (p : Proposal D) (base : List (Place K L D)) (few : faults base ≤ max_faults (length base)) (leads : (s : Story K L D) × (slice_get base leader ≡ Some (Honest s))) where
-    one_exchange : (done : ℕ → List (Deed D)) (calls : ℕ → List (CallFacts D)) (rest : ℕ → List (CallFacts D × List (Deed D))) (part : Part D) (now then_on : List (Place K L D)) → Follows (Along done calls rest) 0 base now → Follows (Adds part) 0 now then_on → Fits leader p done calls part → IsExchange now then_on
+  module _ (leader : ℕ) (p : Proposal D) (base : List (Replica K L D)) (few : faults base ≤ max_faults (length base)) (leads : (s : Execution K L D) × (slice_get base leader ≡ Some (Honest s))) where
+    one_exchange : (done : ℕ → List (TraceEvent D)) (calls : ℕ → List (CallFacts D)) (rest : ℕ → List (CallFacts D × List (TraceEvent D))) (part : Part D) (now then_on : List (Replica K L D)) → Follows (Along done calls rest) 0 base now → Follows (Adds part) 0 now then_on → Fits leader p done calls part → IsExchange now then_on
     one_exchange done calls rest part now then_on f g fits = record {
-      goes_on = places_follow (Adds part) (λ i t u a. a.goes_on) 0 now then_on g;
+      goes_on = replicas_follow (Adds part) (λ i t u a. a.goes_on) 0 now then_on g;
       certificates = λ i u at c h.
           (let was = was_there (Adds part) 0 now then_on g i i u at (omega arith) in
-          elim (Contains-append_cases (deeds_of was.0) (all_deeds (part i)) (Accepts c) (subst (λ ds. Contains ds (Accepts c)) was.2.deeds h)) [
+          elim (Contains-append_cases (trace_of was.0) (whole_trace (part i)) (Accepts c) (subst (λ ds. Contains ds (Accepts c)) was.2.trace h)) [
             | inl old ↦ inl (i, was.0, was.1, old)
             | inr new ↦ inr (all_signed c (fits.signed i c new))
           ]);
@@ -134,10 +134,10 @@ module _ {K L D : Type 0} (same : D → D → Bool) (elect : Elect L) (term_leng
         all_signed : (c : Subject D) → ((j : ℕ) → Contains (done j) (Signs j c)) → HonestlyBacked now c
         all_signed c signed = honest_enough (IsHonestlySigned c) 0 (quorum (length now)) now each (quorum_fits (length now) (faults now) (omega (arith, few, many.0, many.1)))
           where
-            each : (i j : ℕ) (t : Story K L D) → slice_get now i ≡ Some (Honest t) → j ≡ 0 + i → IsHonestlySigned c j (Honest t)
+            each : (i j : ℕ) (t : Execution K L D) → slice_get now i ≡ Some (Honest t) → j ≡ 0 + i → IsHonestlySigned c j (Honest t)
             each i j t at is =
                 let was = was_there (Along done calls rest) 0 base now f i j t at is in
-                subst (λ ds. Contains ds (Signs j c)) (sym was.2.deeds) (Contains-append_right (deeds_of was.0) (done j) (Signs j c) (signed j))
+                subst (λ ds. Contains ds (Signs j c)) (sym was.2.trace) (Contains-append_right (trace_of was.0) (done j) (Signs j c) (signed j))
 
         built : {o : Proposal D} → (o ≡ p) × Contains (calls leader) (Proposed p.round.view p.payload 0) × Contains (done leader) (Signs leader (Notarize p)) → SomeHonest now (HasBuilt o)
         built {o} (is, proposed, signed) =
@@ -148,21 +148,21 @@ module _ {K L D : Type 0} (same : D → D → Bool) (elect : Elect L) (term_leng
               there.1,
               (
                 (0, subst (λ ss. Contains ss (Calls (Proposed p.round.view p.payload 0))) (sym there.2.steps) (Contains-append_right leads.0.steps (map Calls (calls leader)) (Calls (Proposed p.round.view p.payload 0)) (still_called K L (calls leader) (Proposed p.round.view p.payload 0) proposed))),
-                subst (λ ds. Contains ds (Signs leader (Notarize p))) (sym there.2.deeds) (Contains-append_right (deeds_of leads.0) (done leader) (Signs leader (Notarize p)) signed),
+                subst (λ ds. Contains ds (Signs leader (Notarize p))) (sym there.2.trace) (Contains-append_right (trace_of leads.0) (done leader) (Signs leader (Notarize p)) signed),
               ),
             )
 
     -- all parts, one exchange for each
-    pub plan_done : (plan : List (Part D)) (done : ℕ → List (Deed D)) (calls : ℕ → List (CallFacts D)) → IsPlan leader p done calls plan → (now : List (Place K L D)) → Follows (Along done calls (at_member plan)) 0 base now
-        → (later : List (Place K L D)) × Exchanges (parts_of plan) now later × Follows (Along (λ i. done i ++ all_deeds (at_member plan i)) (λ i. calls i ++ calls_in (at_member plan i)) (λ i. [])) 0 base later
+    pub plan_done : (plan : List (Part D)) (done : ℕ → List (TraceEvent D)) (calls : ℕ → List (CallFacts D)) → IsPlan leader p done calls plan → (now : List (Replica K L D)) → Follows (Along done calls (at_member plan)) 0 base now
+        → (later : List (Replica K L D)) × Exchanges (parts_of plan) now later × Follows (Along (λ i. done i ++ whole_trace (at_member plan i)) (λ i. calls i ++ calls_in (at_member plan i)) (λ i. [])) 0 base later
     plan_done [] done calls plan now f =
         (now, refl, follows_so (Along done calls (λ i. [])) (Along (λ i. done i ++ []) (λ i. calls i ++ []) (λ i. [])) (along_same done (λ i. done i ++ []) calls (λ i. calls i ++ []) (λ i. []) (λ i. sym (append-nil (done i))) (λ i. sym (append-nil (calls i)))) 0 base now f)
     plan_done (part ∷ rest) done calls plan now f =
-        let on = one_further (Along done calls (at_member (part ∷ rest))) (Along (λ k. done k ++ all_deeds (part k)) (λ k. calls k ++ calls_in (part k)) (at_member rest)) (Adds part) (λ i s t a. adds_part part (at_member rest) done calls i s t a) 0 base now f in
-        let last = plan_done rest (λ i. done i ++ all_deeds (part i)) (λ i. calls i ++ calls_in (part i)) plan.1 on.0 on.1 in (
+        let on = one_further (Along done calls (at_member (part ∷ rest))) (Along (λ k. done k ++ whole_trace (part k)) (λ k. calls k ++ calls_in (part k)) (at_member rest)) (Adds part) (λ i s t a. adds_part part (at_member rest) done calls i s t a) 0 base now f in
+        let last = plan_done rest (λ i. done i ++ whole_trace (part i)) (λ i. calls i ++ calls_in (part i)) plan.1 on.0 on.1 in (
           last.0,
           (on.0, one_exchange done calls (at_member (part ∷ rest)) part now on.0 f on.2 plan.0, last.1),
           follows_so _ _ (along_same _ _ _ _ (λ i. [])
-              (λ i. append_assoc (done i) (all_deeds (part i)) (all_deeds (at_member rest i)) ∙ ap (λ ds. done i ++ ds) (sym (deeds_together (part i) (at_member rest i))))
+              (λ i. append_assoc (done i) (whole_trace (part i)) (whole_trace (at_member rest i)) ∙ ap (λ ds. done i ++ ds) (sym (traces_together (part i) (at_member rest i))))
               (λ i. append_assoc (calls i) (calls_in (part i)) (calls_in (at_member rest i)) ∙ ap (λ cs. calls i ++ cs) (sym (calls_joined (part i) (at_member rest i))))) 0 base last.0 last.2,
         )

@@ -10,28 +10,28 @@ use Rattle.simplex_types.specs.declared.types.messages.Subject.TheVariants.{Nota
 use Rattle.simplex_round.specs.declared.round.Leader.{Leader}
 use Rattle.simplex_round.specs.Round.{RoundFacts, leader_at, signs_as}
 use Rattle.simplex_voter.specs.Facts.{StateFacts, Elect, round_at}
-use Rattle.simplex_voter.specs.Gaps.{IsGapless, IsFirstGap, is_gapless, first_gap}
+use Rattle.simplex_voter.specs.Gaps.{IsGapless, IsFirstGap, is_gapless, first_unnullified_view}
 use Rattle.simplex_voter.specs.Refusals.{is_too_large}
 use Rattle.simplex_voter.proofs.Gaps.{first_gap-is}
 use Rattle.std.specs.Prelude.{MatchOption, is_none}
 use Rattle.simplex_member.specs.Calls.{CallFacts, SetProposal, Proposed, ConstructNullify, AddNullification}
 use Rattle.simplex_member.specs.Runs.{StepFacts, Calls}
-use Rattle.simplex_laws.specs.Deeds.{Deed, Accepts, Signs}
-use Rattle.simplex_laws.specs.Places.{Place as Member, Honest, Backed, IsNetworkOf}
-use Rattle.simplex_laws.specs.Stories.{Story, Ran}
+use Rattle.simplex_laws.specs.Traces.{TraceEvent, Accepts, Signs}
+use Rattle.simplex_laws.specs.Replicas.{Replica as Member, Honest, Backed, IsNetworkOf}
+use Rattle.simplex_laws.specs.Executions.{Execution, IsExecution}
 use Rattle.simplex_laws.proofs.agreement.Quorums.{shared_member}
 use Rattle.simplex_laws.proofs.lists.Splits.{Contains-cases, Contains-cons_rest}
 use Rattle.simplex_progress.specs.Living.{IsSetUpAs, LivesWith, EachLives}
 use Rattle.simplex_progress.specs.Standing.{proposal_in, StandsBefore}
 use Rattle.simplex_progress.specs.Together.{terms_on, TogetherTheyGoOn}
-use Rattle.simplex_progress.proofs.states.Standing.{Place}
+use Rattle.simplex_progress.proofs.states.Standing.{Replica}
 use Rattle.simplex_progress.proofs.states.Highest.{highest_at}
 use Rattle.simplex_progress.proofs.runs.Members.{AllHave, one_has, HearsOnly, follower_hears, leader_hears}
-use Rattle.simplex_progress.proofs.runs.Onward.{story_on}
-use Rattle.simplex_progress.proofs.states.Passing.{null_cert, skip_calls, skip_deeds, on_from, Elects, IsReady, passes, skip_trace, skip_calls_are, skip_deeds_are}
+use Rattle.simplex_progress.proofs.runs.Onward.{execution_on}
+use Rattle.simplex_progress.proofs.states.Passing.{null_cert, skip_calls, skip_trace, on_from, Elects, IsReady, passes, skip_sequence, skip_calls_are, skip_trace_is}
 use Rattle.simplex_progress.proofs.runs.Ends.{Shown, end_shown, none_decided}
-use Rattle.simplex_progress.proofs.states.Sequences.{Does, Trace, calls_in, all_deeds, does_of, deeds_done, follower_trace, leader_trace, follower_done, leader_done}
-use Rattle.simplex_progress.proofs.runs.Starts.{place_of}
+use Rattle.simplex_progress.proofs.states.Sequences.{Does, Sequence, calls_in, whole_trace, does_of, trace_done, follower_sequence, leader_sequence, follower_done, leader_done}
+use Rattle.simplex_progress.proofs.runs.Starts.{replica_of}
 use Rattle.simplex_progress.proofs.networks.Together.{AreEnough, GoesBy, goes_on_to_finalize}
 use Rattle.simplex_progress.proofs.states.Waiting.{Waits}
 
@@ -57,28 +57,28 @@ module _ {D : Type 0} (epoch length : ℕ) where
   abbrev gives : ℕ → Subject D
   gives view = Nullify (record { epoch = epoch; view = view })
 
-  skip_does : (me count view : ℕ) (rest : List (Deed D)) (d : Deed D) → Contains rest d → Contains (skip_deeds epoch length me count view rest) d
+  skip_does : (me count view : ℕ) (rest : List (TraceEvent D)) (d : TraceEvent D) → Contains rest d → Contains (skip_trace epoch length me count view rest) d
   skip_does me zero view rest d h = h
-  skip_does me (suc count) view rest d h = two_before (Signs me (gives view)) (Accepts (gives view)) (skip_deeds epoch length me count (next_term_start length view) rest) d (skip_does me count (next_term_start length view) rest d h)
+  skip_does me (suc count) view rest d h = two_before (Signs me (gives view)) (Accepts (gives view)) (skip_trace epoch length me count (next_term_start length view) rest) d (skip_does me count (next_term_start length view) rest d h)
 
   -- each signs what one accepts
-  skip_alone : (i j count view : ℕ) (mine theirs : List (Deed D)) (c : Subject D) → (Contains mine (Accepts c) → Contains theirs (Signs j c)) → Contains (skip_deeds epoch length i count view mine) (Accepts c) → Contains (skip_deeds epoch length j count view theirs) (Signs j c)
+  skip_alone : (i j count view : ℕ) (mine theirs : List (TraceEvent D)) (c : Subject D) → (Contains mine (Accepts c) → Contains theirs (Signs j c)) → Contains (skip_trace epoch length i count view mine) (Accepts c) → Contains (skip_trace epoch length j count view theirs) (Signs j c)
   skip_alone i j zero view mine theirs c alone h = alone h
   skip_alone i j (suc count) view mine theirs c alone h =
       let next = next_term_start length view in
-      elim (Contains-cases (Signs i (gives view)) (Accepts (gives view) ∷ skip_deeds epoch length i count next mine) (Accepts c) h) [
+      elim (Contains-cases (Signs i (gives view)) (Accepts (gives view) ∷ skip_trace epoch length i count next mine) (Accepts c) h) [
         | inl a ↦ absurd (cc)
-        | inr rest ↦ elim (Contains-cases (Accepts (gives view)) (skip_deeds epoch length i count next mine) (Accepts c) rest) [
+        | inr rest ↦ elim (Contains-cases (Accepts (gives view)) (skip_trace epoch length i count next mine) (Accepts c) rest) [
           | inl b ↦ (0, omega arith, ap (Signs j) (same_subject (gives view) c b))
-          | inr later ↦ two_before (Signs j (gives view)) (Accepts (gives view)) (skip_deeds epoch length j count next theirs) (Signs j c) (skip_alone i j count next mine theirs c alone later)
+          | inr later ↦ two_before (Signs j (gives view)) (Accepts (gives view)) (skip_trace epoch length j count next theirs) (Signs j c) (skip_alone i j count next mine theirs c alone later)
         ]
       ]
 
 module _ {D : Type 0} (p : Proposal D) where
-  abbrev last : ℕ → List (Deed D)
-  last i = deeds_done (place_of p.round.epoch p.round.view p.parent p.payload i) p.payload
+  abbrev last : ℕ → List (TraceEvent D)
+  last i = trace_done (replica_of p.round.epoch p.round.view p.parent p.payload i) p.payload
 
-  abbrev SignedBy : ℕ → Deed D → Type 0
+  abbrev SignedBy : ℕ → TraceEvent D → Type 0
   SignedBy j d = (c : Subject D) → d ≡ Accepts c → Contains (last j) (Signs j c)
 
   last_alone : (i j : ℕ) (c : Subject D) → Contains (last i) (Accepts c) → Contains (last j) (Signs j c)
@@ -96,7 +96,7 @@ module _ {D : Type 0} (p : Proposal D) where
     ),
   ) h c refl
 
-  pub enough : (length count view : ℕ) → AreEnough p (λ i. skip_deeds p.round.epoch length i count view (last i))
+  pub enough : (length count view : ℕ) → AreEnough p (λ i. skip_trace p.round.epoch length i count view (last i))
   enough length count view = record {
     alone = λ i c h j. skip_alone p.round.epoch length i j count view (last i) (last j) c (last_alone i j c) h;
     notarize = λ i. skip_does p.round.epoch length i count view (last i) (Signs i (Notarize p)) (0, omega arith, refl);
@@ -116,7 +116,7 @@ within (y ∷ xs) (suc i) x is = let rest = within xs i x is in omega (arith, re
 
 module _ {K L D : Type 0} (x : StateFacts K L D) (p v : ℕ) (some : 0 < x.terms.term_length) where
   gapless_each : is_gapless x p v ≡ true → IsGapless x p v
-  gapless_each is = by_gap (first_gap x p v) (first_gap-is x p v some) is
+  gapless_each is = by_gap (first_unnullified_view x p v) (first_gap-is x p v some) is
     where
       by_gap : (o : Option ℕ) → MatchOption o (IsGapless x p v) (IsFirstGap x p v) → is_none o ≡ true → IsGapless x p v
       by_gap None none is = none
@@ -125,18 +125,18 @@ module _ {K L D : Type 0} (x : StateFacts K L D) (p v : ℕ) (some : 0 < x.terms
 -- of one member
 
 module _ {K L D : Type 0} (same : D → D → Bool) (decides : (d e : D) → same d e ≡ true → d ≡ e) (reflexive : (d : D) → same d d ≡ true) (elect : Elect L)
-    (term_length epoch count leader parent view start terms i : ℕ) (elector : L) (q : D) (s : Story K L D) (ran : Ran same elect term_length i s)
-    (far : start ≡ terms_on term_length (suc terms) view) (is_start : start ≡ term_start term_length start) (small : is_too_large start ≡ false)
+    (term_length epoch count leader parent view start terms i : ℕ) (elector : L) (q : D) (s : Execution K L D) (ran : IsExecution same elect term_length i s)
+    (far : start ≡ terms_on term_length (suc terms) view) (is_term_start : start ≡ term_start term_length start) (small : is_too_large start ≡ false)
     (elected : (bytes : List ℕ) → elect elector (record { epoch = epoch; view = start }) (Some bytes) ≡ leader) (one_of_them : leader < count)
     (x : StateFacts K L D) (lives : LivesWith same elect s x) (set : IsSetUpAs epoch count elector i x) (before : StandsBefore parent view start x) where
   abbrev p : Proposal D
   p = proposal_in epoch start parent q
 
-  abbrev l : Place D
-  l = place_of epoch start parent before.stands.payload i
+  abbrev l : Replica D
+  l = replica_of epoch start parent before.stands.payload i
 
-  abbrev done : List (Deed D)
-  done = skip_deeds epoch term_length i (suc terms) view (deeds_done l q)
+  abbrev done : List (TraceEvent D)
+  done = skip_trace epoch term_length i (suc terms) view (trace_done l q)
 
   some : 0 < term_length
   some = ran.lives.first.terms.some
@@ -153,7 +153,7 @@ module _ {K L D : Type 0} (same : D → D → Bool) (decides : (d e : D) → sam
     epoch = set.of_epoch;
     terms = shown.living.keeps.stays.stands.terms;
     current = before.current;
-    start = is_start;
+    start = is_term_start;
     low = before.stands.below;
     high = (let on = on_from term_length some (suc terms) view (omega (arith, before.stands.below)) in omega (arith, on, far));
     above = before.stands.not_passed;
@@ -174,22 +174,22 @@ module _ {K L D : Type 0} (same : D → D → Bool) (decides : (d e : D) → sam
       let key = there x.members leader (omega (arith, one_of_them, set.members)) in
       (λ j. option_map (λ (o : Leader K). o.idx) (leader_at x.members ((ap (λ (e : L). elect e (record { epoch = epoch; view = start }) (Some [])) set.elects_by ∙ elected []) j))) ∙ ap (λ o. option_map (λ (f : Leader K). f.idx) (option_map (λ k. record { idx = leader; key = k }) o)) key.1
 
-  goes_by : (last : List (CallFacts D × List (Deed D))) → all_deeds last ≡ deeds_done l q → AllHave (HearsOnly {K = K} {L = L} p) (map Calls (calls_in last))
-      → Trace same elect lives.0 (skip_trace epoch term_length i (suc terms) view last)
+  goes_by : (last : List (CallFacts D × List (TraceEvent D))) → whole_trace last ≡ trace_done l q → AllHave (HearsOnly {K = K} {L = L} p) (map Calls (calls_in last))
+      → Sequence same elect lives.0 (skip_sequence epoch term_length i (suc terms) view last)
       → (i ≡ leader → Contains {X = StepFacts K L D} (map Calls (calls_in last)) (Calls (Proposed start q 0)))
-      → (t : Story K L D) × GoesBy same elect term_length leader p (λ k. skip_deeds epoch term_length k (suc terms) view (deeds_done (place_of epoch start parent q k) q)) i s t
+      → (t : Execution K L D) × GoesBy same elect term_length leader p (λ k. skip_trace epoch term_length k (suc terms) view (trace_done (replica_of epoch start parent q k) q)) i s t
   goes_by last ends hears traced built =
       let calls = calls_in last in
       let all = skip_calls epoch term_length (suc terms) view calls in
-      let does = does_of same elect (skip_trace epoch term_length i (suc terms) view last) lives.0 traced in
-      let done_so : all_deeds (skip_trace epoch term_length i (suc terms) view last) ≡ done = skip_deeds_are epoch term_length i (suc terms) view last ∙ ap (skip_deeds epoch term_length i (suc terms) view) ends in
-      let passed : Does same elect lives.0 (map Calls all) done = subst (λ cs. Does same elect lives.0 (map Calls cs) done) (skip_calls_are epoch term_length i (suc terms) view last) (subst (Does same elect lives.0 (map Calls (calls_in (skip_trace epoch term_length i (suc terms) view last)))) done_so does) in
-      let on = story_on same elect term_length i s lives.0 all done ran lives.1 passed in (
-        on.story,
+      let does = does_of same elect (skip_sequence epoch term_length i (suc terms) view last) lives.0 traced in
+      let done_so : whole_trace (skip_sequence epoch term_length i (suc terms) view last) ≡ done = skip_trace_is epoch term_length i (suc terms) view last ∙ ap (skip_trace epoch term_length i (suc terms) view) ends in
+      let passed : Does same elect lives.0 (map Calls all) done = subst (λ cs. Does same elect lives.0 (map Calls cs) done) (skip_calls_are epoch term_length i (suc terms) view last) (subst (Does same elect lives.0 (map Calls (calls_in (skip_sequence epoch term_length i (suc terms) view last)))) done_so does) in
+      let on = execution_on same elect term_length i s lives.0 all done ran lives.1 passed in (
+        on.execution,
         record {
           goes_on = on.goes_on;
           ran = on.ran;
-          deeds = on.deeds;
+          trace = on.trace;
           heard = λ v o h. elim (Contains-append_cases s.steps (map Calls all) (Calls (SetProposal v o)) (subst (λ ss. Contains ss (Calls (SetProposal v o))) on.steps h)) [
             | inl old ↦ inl old
             | inr new ↦ inr (one_has (HearsOnly {K = K} {L = L} p) (map Calls all) (Calls (SetProposal v o)) (skip_hears K L epoch term_length p (suc terms) view calls hears) new v o refl)
@@ -202,18 +202,18 @@ module _ {K L D : Type 0} (same : D → D → Bool) (decides : (d e : D) → sam
   signs y r = λ j. signs_as (r.me j) (r.index j)
 
   -- what it calls: it builds the proposal, or verifies it
-  pub leader_traced : i ≡ leader → Trace same elect lives.0 (skip_trace epoch term_length i (suc terms) view (leader_trace l q [] []))
-  leader_traced leads = passes same elect term_length some l leader (leader_trace l q [] []) terms view lives.0 x lives.2 waits (sym far) elects
+  pub leader_traced : i ≡ leader → Sequence same elect lives.0 (skip_sequence epoch term_length i (suc terms) view (leader_sequence l q [] []))
+  leader_traced leads = passes same elect term_length some l leader (leader_sequence l q [] []) terms view lives.0 x lives.2 waits (sym far) elects
       (λ n y alive r. leader_done same elect reflexive l q [] [] r.round r.pending r.none r.lead r.leads n y alive r.stands (signs y r ∙ eq-eqb i leader leads) (highest_at y l.parent l.view l.payload r.stands.below r.stands.explicit r.highest r.stands.ordered))
 
-  pub follower_traced : (i ≡ leader → ⊥) → Trace same elect lives.0 (skip_trace epoch term_length i (suc terms) view (follower_trace l q [] []))
-  follower_traced other = passes same elect term_length some l leader (follower_trace l q [] []) terms view lives.0 x lives.2 waits (sym far) elects
+  pub follower_traced : (i ≡ leader → ⊥) → Sequence same elect lives.0 (skip_sequence epoch term_length i (suc terms) view (follower_sequence l q [] []))
+  follower_traced other = passes same elect term_length some l leader (follower_sequence l q [] []) terms view lives.0 x lives.2 waits (sym far) elects
       (λ n y alive r. follower_done same elect reflexive l q [] [] r.round r.pending r.none r.lead r.leads n y alive r.stands (signs y r ∙ ne_eqb i leader other))
 
-  pub member_goes : (t : Story K L D) × GoesBy same elect term_length leader p (λ k. skip_deeds epoch term_length k (suc terms) view (deeds_done (place_of epoch start parent q k) q)) i s t
+  pub member_goes : (t : Execution K L D) × GoesBy same elect term_length leader p (λ k. skip_trace epoch term_length k (suc terms) view (trace_done (replica_of epoch start parent q k) q)) i s t
   member_goes = elim (cases_eq i leader) [
-    | inl leads ↦ goes_by (leader_trace l q [] []) refl (leader_hears p) (leader_traced leads) (λ is. (1, omega arith, refl))
-    | inr other ↦ goes_by (follower_trace l q [] []) refl (follower_hears p) (follower_traced other) (λ is. absurd (other is))
+    | inl leads ↦ goes_by (leader_sequence l q [] []) refl (leader_hears p) (leader_traced leads) (λ is. (1, omega arith, refl))
+    | inr other ↦ goes_by (follower_sequence l q [] []) refl (follower_hears p) (follower_traced other) (λ is. absurd (other is))
   ]
 
 -- of the network
@@ -232,16 +232,16 @@ none_above same decides elect term_length epoch parent view start terms elector 
     omega (arith, shown.living.keeps.stays.stands.passed o one.3, alive.2.1.current, far, on)
 
 pub together_they_go_on : {L D : Type 0} (K : Type 0) (same : D → D → Bool) (decides : (d e : D) → same d e ≡ true → d ≡ e) (reflexive : (d : D) → same d d ≡ true) (elect : Elect L) → TogetherTheyGoOn K same elect
-together_they_go_on {L} {D} K same decides reflexive elect term_length epoch leader parent view start terms elector network q good few far is_start small elected leads each =
+together_they_go_on {L} {D} K same decides reflexive elect term_length epoch leader parent view start terms elector network q good few far is_term_start small elected leads each =
     (_, goes_on_to_finalize same elect term_length leader p done (enough p term_length (suc terms) view) network good few leads goes (none_above same decides elect term_length epoch parent view start terms elector network good far each))
   where
     p : Proposal D
     p = proposal_in epoch start parent q
 
-    done : ℕ → List (Deed D)
-    done = λ k. skip_deeds epoch term_length k (suc terms) view (deeds_done (place_of epoch start parent q k) q)
+    done : ℕ → List (TraceEvent D)
+    done = λ k. skip_trace epoch term_length k (suc terms) view (trace_done (replica_of epoch start parent q k) q)
 
-    goes : (i : ℕ) (s : Story K L D) → slice_get network i ≡ Some (Honest s) → (t : Story K L D) × GoesBy same elect term_length leader (proposal_in epoch start parent q) (λ k. skip_deeds epoch term_length k (suc terms) view (deeds_done (place_of epoch start parent q k) q)) i s t
+    goes : (i : ℕ) (s : Execution K L D) → slice_get network i ≡ Some (Honest s) → (t : Execution K L D) × GoesBy same elect term_length leader (proposal_in epoch start parent q) (λ k. skip_trace epoch term_length k (suc terms) view (trace_done (replica_of epoch start parent q k) q)) i s t
     goes i s at =
         let alive = each i s at in
-        member_goes same decides reflexive elect term_length epoch (length network) leader parent view start terms i elector q s (good.honest i s at) far is_start small elected (within network leader (Honest leads.0) leads.1) alive.0 alive.1 alive.2.0 alive.2.1
+        member_goes same decides reflexive elect term_length epoch (length network) leader parent view start terms i elector q s (good.honest i s at) far is_term_start small elected (within network leader (Honest leads.0) leads.1) alive.0 alive.1 alive.2.0 alive.2.1

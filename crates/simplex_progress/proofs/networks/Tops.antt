@@ -7,9 +7,9 @@ use Rattle.simplex_types.specs.declared.types.messages.Subject.TheVariants as su
 use Rattle.simplex_types.specs.declared.types.numbers.Round.{Round}
 use Rattle.simplex_voter.proofs.Gaps.{and_both, and_parts}
 use Rattle.simplex_laws.specs.Continuations.{SomeHonest}
-use Rattle.simplex_laws.specs.Deeds.{Deed, Accepts, Signs}
-use Rattle.simplex_laws.specs.Places.{Place, Faulty, Honest}
-use Rattle.simplex_laws.specs.Stories.{Story}
+use Rattle.simplex_laws.specs.Traces.{TraceEvent, Accepts, Signs}
+use Rattle.simplex_laws.specs.Replicas.{Replica, Faulty, Honest}
+use Rattle.simplex_laws.specs.Executions.{Execution}
 use Rattle.simplex_laws.proofs.lists.Splits.{Contains-cases, Contains-cons_rest}
 use Rattle.simplex_progress.specs.Reaching.{HasFinalized, HasCertified}
 
@@ -89,21 +89,21 @@ unfolding is_near
 near_both epoch bound round in_epoch low = and_both _ _ (eq-eqb round.epoch epoch in_epoch) (lt-ltb (round.view + 1) bound low)
 
 module _ {D : Type 0} (epoch bound : ℕ) where
-  is_final : Deed D → Bool
+  is_final : TraceEvent D → Bool
   is_final (Accepts (subject.Finalize p)) = is_near epoch bound p.round
   is_final _ = false
 
-  final_view : Deed D → ℕ
+  final_view : TraceEvent D → ℕ
   final_view (Accepts (subject.Finalize p)) = p.round.view
   final_view _ = 0
 
-  pub finalized_highest : (deeds : List (Deed D)) → Highest (λ v. HasFinalized epoch deeds v × (v + 1 < bound))
+  pub finalized_highest : (trace : List (TraceEvent D)) → Highest (λ v. HasFinalized epoch trace v × (v + 1 < bound))
   unfolding is_final final_view
-  finalized_highest deeds =
-      same_highest (IsAmong final_view is_final deeds) (λ v. HasFinalized epoch deeds v × (v + 1 < bound)) (λ v h. there v h.0 h.1 h.2 h.3)
-      (λ v h. (Accepts (subject.Finalize h.0.0), h.0.1, near_both epoch bound h.0.0.round h.0.2.1 (omega (arith, h.1, h.0.2.0)), h.0.2.0)) (in_list final_view is_final deeds)
+  finalized_highest trace =
+      same_highest (IsAmong final_view is_final trace) (λ v. HasFinalized epoch trace v × (v + 1 < bound)) (λ v h. there v h.0 h.1 h.2 h.3)
+      (λ v h. (Accepts (subject.Finalize h.0.0), h.0.1, near_both epoch bound h.0.0.round h.0.2.1 (omega (arith, h.1, h.0.2.0)), h.0.2.0)) (in_list final_view is_final trace)
     where
-      there : (v : ℕ) (d : Deed D) → Contains deeds d → is_final d ≡ true → final_view d ≡ v → HasFinalized epoch deeds v × (v + 1 < bound)
+      there : (v : ℕ) (d : TraceEvent D) → Contains trace d → is_final d ≡ true → final_view d ≡ v → HasFinalized epoch trace v × (v + 1 < bound)
       there v (Accepts (subject.Finalize p)) h is at = (let parts = near_parts epoch bound p.round is in ((p, h, (at, parts.0)), omega (arith, parts.1, at)))
       there v (Accepts (subject.Notarize p)) h is at = absurd (false≢true is)
       there v (Accepts (subject.Nullify r)) h is at = absurd (false≢true is)
@@ -125,11 +125,11 @@ module _ {D : Type 0} (epoch bound : ℕ) where
 
 module _ {K L D : Type 0} where
   -- over a network, where the highest of each honest member is known
-  pub over_honest : (network : List (Place K L D)) (P : ℕ → Story K L D → ℕ → Type 0) → ((i : ℕ) (s : Story K L D) → slice_get network i ≡ Some (Honest s) → Highest (P i s)) → Highest (λ v. SomeHonest network (λ i s. P i s v))
+  pub over_honest : (network : List (Replica K L D)) (P : ℕ → Execution K L D → ℕ → Type 0) → ((i : ℕ) (s : Execution K L D) → slice_get network i ≡ Some (Honest s) → Highest (P i s)) → Highest (λ v. SomeHonest network (λ i s. P i s v))
   over_honest [] P each = record { top = 0; has = inl refl; most = λ v h. absurd (let at = h.2 in cc) }
   over_honest (Faulty ∷ network) P each = same_highest (λ v. SomeHonest network (λ i s. P (suc i) s v)) (λ v. SomeHonest (Faulty ∷ network) (λ i s. P i s v)) (λ v h. (suc h.0, h.1, h.2, h.3)) (λ v h. back v h.0 h.1 h.2 h.3) (over_honest network (λ i. P (suc i)) (λ i s at. each (suc i) s at))
     where
-      back : (v i : ℕ) (s : Story K L D) → slice_get (Faulty ∷ network) i ≡ Some (Honest s) → P i s v → SomeHonest network (λ i s. P (suc i) s v)
+      back : (v i : ℕ) (s : Execution K L D) → slice_get (Faulty ∷ network) i ≡ Some (Honest s) → P i s v → SomeHonest network (λ i s. P (suc i) s v)
       back v zero s at p = absurd (cc)
       back v (suc i) s at p = (i, s, at, p)
   over_honest (Honest t ∷ network) P each =
@@ -140,6 +140,6 @@ module _ {K L D : Type 0} where
       there v (inl p) = (0, t, refl, p)
       there v (inr (i, s, at, p)) = (suc i, s, at, p)
 
-      back : (v i : ℕ) (s : Story K L D) → slice_get (Honest t ∷ network) i ≡ Some (Honest s) → P i s v → P 0 t v ⊎ SomeHonest network (λ i s. P (suc i) s v)
+      back : (v i : ℕ) (s : Execution K L D) → slice_get (Honest t ∷ network) i ≡ Some (Honest s) → P i s v → P 0 t v ⊎ SomeHonest network (λ i s. P (suc i) s v)
       back v zero s at p = let one : t ≡ s = cc in inl (subst (λ u. P 0 u v) (sym one) p)
       back v (suc i) s at p = inr (i, s, at, p)

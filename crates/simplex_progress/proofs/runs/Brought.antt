@@ -15,29 +15,29 @@ use Rattle.simplex_voter.specs.Refusals.{takes_round, is_started}
 use Rattle.simplex_voter.specs.Windows.{min_active}
 use Rattle.simplex_voter.proofs.Gaps.{and_parts}
 use Rattle.simplex_record.proofs.Steps.{notarization_by, nullification_by, finalization_by}
-use Rattle.simplex_laws.specs.Deeds.{Deed, Accepts}
+use Rattle.simplex_laws.specs.Traces.{TraceEvent, Accepts}
 use Rattle.simplex_laws.specs.Events as event
 use Rattle.simplex_laws.specs.Events.{Event, IsEvent, after_event}
 use Rattle.simplex_laws.specs.OwnWork.{first_certificate_by, hears, owns}
 use Rattle.simplex_laws.specs.Shows.{verdict_of}
-use Rattle.simplex_laws.specs.Sums.{or_new, notarizes, finalizes, verdict_of_event, entered_by, finalized_by_event, sets_genesis, is_prune}
+use Rattle.simplex_laws.specs.HistoryFolds.{or_new, notarizes, finalizes, verdict_of_event, entered_by, finalized_by_event, sets_genesis, is_prune}
 use Rattle.simplex_laws.proofs.frames.EachRound.{pruned_view, prune_alone}
 use Rattle.simplex_laws.proofs.histories.Following.{Follows, left_from}
 use Rattle.simplex_laws.proofs.histories.FollowingReplays.{event_follows}
 use Rattle.simplex_progress.specs.Reaching.{IsIn, IsLedTo, First, PastFinalized, PastCertified, PastNullified, HasJudged}
 
-module _ {K L D : Type 0} (epoch : ℕ) (deeds : List (Deed D)) (verdicts : List (Bool × Proposal D)) (x : StateFacts K L D) where
+module _ {K L D : Type 0} (epoch : ℕ) (trace : List (TraceEvent D)) (verdicts : List (Bool × Proposal D)) (x : StateFacts K L D) where
   -- what an event brings was accepted or certified
   pub record Brings (e : Event K D) : Type 0 where
-    pub notarized : (c : ProposalFacts D) → notarization_by e ≡ Some c → Contains deeds (Accepts (subject.Notarize c.proposal))
-    pub nullified : (c : NullificationFacts) → nullification_by e ≡ Some c → Contains deeds (Accepts (subject.Nullify c.round))
-    pub finalized : (c : ProposalFacts D) → finalization_by e ≡ Some c → Contains deeds (Accepts (subject.Finalize c.proposal))
+    pub notarized : (c : ProposalFacts D) → notarization_by e ≡ Some c → Contains trace (Accepts (subject.Notarize c.proposal))
+    pub nullified : (c : NullificationFacts) → nullification_by e ≡ Some c → Contains trace (Accepts (subject.Nullify c.round))
+    pub finalized : (c : ProposalFacts D) → finalization_by e ≡ Some c → Contains trace (Accepts (subject.Finalize c.proposal))
     pub judged : (v : ℕ) (success : Bool) → verdict_of_event (is_tracked x) v e ≡ Some success → HasJudged success epoch verdicts v
 
   -- what the rounds hold was, and each with a certificate holds a proposal
   pub record RoundsLed : Type 0 where
-    pub notarized : (v : ℕ) (c : ProposalFacts D) → (round_of x v).notarization ≡ Some c → IsIn epoch v c.proposal.round × Contains deeds (Accepts (subject.Notarize c.proposal))
-    pub finalized : (v : ℕ) (c : ProposalFacts D) → (round_of x v).finalization ≡ Some c → IsIn epoch v c.proposal.round × Contains deeds (Accepts (subject.Finalize c.proposal))
+    pub notarized : (v : ℕ) (c : ProposalFacts D) → (round_of x v).notarization ≡ Some c → IsIn epoch v c.proposal.round × Contains trace (Accepts (subject.Notarize c.proposal))
+    pub finalized : (v : ℕ) (c : ProposalFacts D) → (round_of x v).finalization ≡ Some c → IsIn epoch v c.proposal.round × Contains trace (Accepts (subject.Finalize c.proposal))
     pub judged : (v : ℕ) (success : Bool) → verdict_of (round_of x v).certification ≡ Some success → HasJudged success epoch verdicts v
     pub held : (v : ℕ) → (is_some (round_of x v).notarization || is_some (round_of x v).finalization) ≡ true → is_some (round_of x v).slot.held ≡ true
 
@@ -131,7 +131,7 @@ module _ {K L D : Type 0} (x : StateFacts K L D) where
   first_held v (event.SetFloor (Finalized c) now) no_notarization no_finalization is = settles v c no_finalization (v == c.proposal.round.view) refl is
   first_held v _ no_notarization no_finalization is = absurd (false≢true is)
 
-module _ {K L D : Type 0} (same : D → D → Bool) (decides : (d e : D) → same d e ≡ true → d ≡ e) (elect : Elect L) (deeds : List (Deed D)) (verdicts : List (Bool × Proposal D)) (x : StateFacts K L D) (e : Event K D) (allowed : IsEvent x e) (brings : Brings x.settings.epoch deeds verdicts x e) where
+module _ {K L D : Type 0} (same : D → D → Bool) (decides : (d e : D) → same d e ≡ true → d ≡ e) (elect : Elect L) (trace : List (TraceEvent D)) (verdicts : List (Bool × Proposal D)) (x : StateFacts K L D) (e : Event K D) (allowed : IsEvent x e) (brings : Brings x.settings.epoch trace verdicts x e) where
   abbrev y : StateFacts K L D
   y = after_event same elect x e
 
@@ -152,8 +152,8 @@ module _ {K L D : Type 0} (same : D → D → Bool) (decides : (d e : D) → sam
   fresh_there : (v : ℕ) → v < left_from x e → round_of y v ≡ new_round y.me y.members (round_number y v)
   fresh_there v below = ap (λ o. unwrap_or o (new_round y.me y.members (round_number y v))) (gone v below)
 
-  module _ (led : RoundsLed x.settings.epoch deeds verdicts x) where
-    notarized_after : (v : ℕ) (c : ProposalFacts D) → (round_of y v).notarization ≡ Some c → IsIn x.settings.epoch v c.proposal.round × Contains deeds (Accepts (subject.Notarize c.proposal))
+  module _ (led : RoundsLed x.settings.epoch trace verdicts x) where
+    notarized_after : (v : ℕ) (c : ProposalFacts D) → (round_of y v).notarization ≡ Some c → IsIn x.settings.epoch v c.proposal.round × Contains trace (Accepts (subject.Notarize c.proposal))
     notarized_after v c is = elim (cases_lt v (left_from x e)) [
       | inl below ↦ absurd (false≢true (ap is_some (sym (ap (λ (r : RoundFacts K D). r.notarization) (fresh_there v below)) ∙ is)))
       | inr kept ↦ elim (new_or_old (round_of x v).notarization (notarizes v e) c (sym (ap (λ k. k.notarization) (follows.rounds v kept)) ∙ is)) [
@@ -162,7 +162,7 @@ module _ {K L D : Type 0} (same : D → D → Bool) (decides : (d e : D) → sam
       ]
     ]
 
-    finalized_after : (v : ℕ) (c : ProposalFacts D) → (round_of y v).finalization ≡ Some c → IsIn x.settings.epoch v c.proposal.round × Contains deeds (Accepts (subject.Finalize c.proposal))
+    finalized_after : (v : ℕ) (c : ProposalFacts D) → (round_of y v).finalization ≡ Some c → IsIn x.settings.epoch v c.proposal.round × Contains trace (Accepts (subject.Finalize c.proposal))
     finalized_after v c is = elim (cases_lt v (left_from x e)) [
       | inl below ↦ absurd (false≢true (ap is_some (sym (ap (λ (r : RoundFacts K D). r.finalization) (fresh_there v below)) ∙ is)))
       | inr kept ↦ elim (new_or_old (round_of x v).finalization (finalizes v e) c (sym (ap (λ k. k.finalization) (follows.rounds v kept)) ∙ is)) [
@@ -204,7 +204,7 @@ module _ {K L D : Type 0} (same : D → D → Bool) (decides : (d e : D) → sam
       | inr kept ↦ held_kept v kept is
     ]
 
-    pub rounds_led : RoundsLed x.settings.epoch deeds verdicts y
+    pub rounds_led : RoundsLed x.settings.epoch trace verdicts y
     rounds_led = record { notarized = notarized_after; finalized = finalized_after; judged = judged_after; held = held_after }
 
   -- the last finalized view's round holds its finalization
@@ -246,14 +246,14 @@ module _ {K L D : Type 0} (same : D → D → Bool) (decides : (d e : D) → sam
 
   -- what an event enters was led to
   module _ (term_length : ℕ) where
-    entered_led : 0 < entered_by term_length (is_tracked x) e → IsLedTo term_length x.settings.epoch deeds verdicts (entered_by term_length (is_tracked x) e)
+    entered_led : 0 < entered_by term_length (is_tracked x) e → IsLedTo term_length x.settings.epoch trace verdicts (entered_by term_length (is_tracked x) e)
     entered_led some = by_event e allowed brings some
       where
-        by_tracked : (v now : ℕ) → ((w : ℕ) (success : Bool) → verdict_of_event {K = K} {D = D} (is_tracked x) w (event.Certified v true now) ≡ Some success → HasJudged success x.settings.epoch verdicts w) → (b : Bool) → is_tracked x v ≡ b → 0 < (if b then v + 1 else 0) → IsLedTo term_length x.settings.epoch deeds verdicts (if b then v + 1 else 0)
+        by_tracked : (v now : ℕ) → ((w : ℕ) (success : Bool) → verdict_of_event {K = K} {D = D} (is_tracked x) w (event.Certified v true now) ≡ Some success → HasJudged success x.settings.epoch verdicts w) → (b : Bool) → is_tracked x v ≡ b → 0 < (if b then v + 1 else 0) → IsLedTo term_length x.settings.epoch trace verdicts (if b then v + 1 else 0)
         by_tracked v now judged true tracked some = PastCertified v (judged v true (rw (eq-eqb v v refl, tracked) refl)) refl
         by_tracked v now judged false tracked some = absurd (omega (arith, some))
 
-        by_event : (f : Event K D) → IsEvent x f → Brings x.settings.epoch deeds verdicts x f → 0 < entered_by term_length (is_tracked x) f → IsLedTo term_length x.settings.epoch deeds verdicts (entered_by term_length (is_tracked x) f)
+        by_event : (f : Event K D) → IsEvent x f → Brings x.settings.epoch trace verdicts x f → 0 < entered_by term_length (is_tracked x) f → IsLedTo term_length x.settings.epoch trace verdicts (entered_by term_length (is_tracked x) f)
         by_event (event.SetFloor (Genesis payload) now) takes gets some = First refl
         by_event (event.SetFloor (Finalized c) now) takes gets some = PastFinalized c.proposal.round.view (c.proposal, gets.finalized c refl, (refl, floor_in_epoch x c takes)) refl
         by_event (event.AddFinalization c now) takes gets some = PastFinalized c.proposal.round.view (c.proposal, gets.finalized c refl, (refl, in_epoch x c.proposal.round takes)) refl
@@ -262,12 +262,12 @@ module _ {K L D : Type 0} (same : D → D → Bool) (decides : (d e : D) → sam
         by_event (event.Certified v false now) takes gets some = absurd (omega (arith, some))
         by_event _ takes gets some = absurd (omega (arith, some))
 
-    pub reached_after : x.terms.term_length ≡ term_length → (x.current < y.current) ⊎ IsLedTo term_length x.settings.epoch deeds verdicts x.current → IsLedTo term_length x.settings.epoch deeds verdicts y.current
+    pub reached_after : x.terms.term_length ≡ term_length → (x.current < y.current) ⊎ IsLedTo term_length x.settings.epoch trace verdicts x.current → IsLedTo term_length x.settings.epoch trace verdicts y.current
     reached_after terms before = elim (cases_lt x.current (entered_by term_length (is_tracked x) e)) [
-      | inl above ↦ subst (IsLedTo term_length x.settings.epoch deeds verdicts) (sym (now_is ∙ higher above)) (entered_led (omega (arith, above)))
+      | inl above ↦ subst (IsLedTo term_length x.settings.epoch trace verdicts) (sym (now_is ∙ higher above)) (entered_led (omega (arith, above)))
       | inr stays ↦ elim before [
         | inl raised ↦ absurd (omega (arith, raised, now_is, lower stays))
-        | inr led ↦ subst (IsLedTo term_length x.settings.epoch deeds verdicts) (sym (now_is ∙ lower stays)) led
+        | inr led ↦ subst (IsLedTo term_length x.settings.epoch trace verdicts) (sym (now_is ∙ lower stays)) led
       ]
     ]
       where

@@ -20,19 +20,19 @@ use Rattle.simplex_voter.proofs.Gaps.{and_both, or_right}
 use Rattle.simplex_member.specs.Allowed.{is_allowed, fault_of}
 use Rattle.simplex_member.specs.Calls.{CallFacts, Told, Judged, SetProposal, AddNotarization, AddNullification, AddFinalization, Certified}
 use Rattle.simplex_member.specs.Lives.{MemberFacts, with_call}
-use Rattle.simplex_member.specs.Made.{answer, after_call}
+use Rattle.simplex_member.specs.CallSemantics.{answer, after_call}
 use Rattle.simplex_member.specs.Runs.{StepFacts, Calls, IsRun}
-use Rattle.simplex_laws.specs.Deeds.{Accepts, deeds_of_call, deeds_of_steps}
+use Rattle.simplex_laws.specs.Traces.{Accepts, trace_of_call, trace_of_steps}
 use Rattle.simplex_laws.specs.Events as event
 use Rattle.simplex_laws.specs.Events.{Event, after_event}
 use Rattle.simplex_laws.specs.Leading.{tracks_by}
 use Rattle.simplex_laws.specs.Shows.{verdict_of}
-use Rattle.simplex_laws.specs.Sums.{or_new, has_view}
+use Rattle.simplex_laws.specs.HistoryFolds.{or_new, has_view}
 use Rattle.simplex_laws.proofs.histories.EventsWorked.{event_works}
 use Rattle.simplex_laws.proofs.histories.Following.{Follows}
 use Rattle.simplex_laws.proofs.histories.FollowingReplays.{event_follows}
 use Rattle.simplex_laws.proofs.lists.Splits.{Contains-cases, Contains-cons_rest}
-use Rattle.simplex_laws.proofs.records.DeedsShown.{only_one}
+use Rattle.simplex_laws.proofs.records.TracesShown.{only_one}
 use Rattle.simplex_progress.specs.Living.{IsSetUpAs}
 use Rattle.simplex_progress.specs.Reaching.{judged_by, judged_in}
 use Rattle.simplex_progress.proofs.runs.Brought.{some_brought}
@@ -48,7 +48,7 @@ module _ {K L D : Type 0} (same : D → D → Bool) (elect : Elect L) (Q : Subje
     pub replies : List (Told K D)
     pub end : MemberFacts K L D
     pub run : IsRun same elect m (map Calls calls) replies end
-    pub accepts : (c : Subject D) → Contains (deeds_of_steps {L = L} (map Calls calls) replies) (Accepts c) → Q c
+    pub accepts : (c : Subject D) → Contains (trace_of_steps {L = L} (map Calls calls) replies) (Accepts c) → Q c
     pub certifies : (p : Proposal D) → Contains (judged_in replies) (true, p) → R p
     pub hears : (v : ℕ) (p : Proposal D) → Contains {X = StepFacts K L D} (map Calls calls) (Calls (SetProposal v p)) → ⊥
     pub state : StateFacts K L D
@@ -69,9 +69,9 @@ module _ {K L D : Type 0} (same : D → D → Bool) (elect : Elect L) (Q : Subje
     holds = holds;
   }
 
-  pub comes_on : (P : StateFacts K L D → Type 0) (m : MemberFacts K L D) (x : StateFacts K L D) (call : CallFacts D) → m.life ≡ Some x → is_allowed x m.openings call ≡ true → fault_of x call ≡ None
-      → ((c : Subject D) → Contains (deeds_of_call call (answer same elect x m.openings call)) (Accepts c) → Q c)
-      → ((p : Proposal D) → Contains (judged_by (answer same elect x m.openings call)) (true, p) → R p)
+  pub comes_on : (P : StateFacts K L D → Type 0) (m : MemberFacts K L D) (x : StateFacts K L D) (call : CallFacts D) → m.life ≡ Some x → is_allowed x m.outstanding_work call ≡ true → fault_of x call ≡ None
+      → ((c : Subject D) → Contains (trace_of_call call (answer same elect x m.outstanding_work call)) (Accepts c) → Q c)
+      → ((p : Proposal D) → Contains (judged_by (answer same elect x m.outstanding_work call)) (true, p) → R p)
       → ((v : ℕ) (p : Proposal D) → call ≡ SetProposal v p → ⊥)
       → Comes P (with_call same elect x m call) → Comes P m
   comes_on P m x call alive allowed none accepted certified heard rest = record {
@@ -79,7 +79,7 @@ module _ {K L D : Type 0} (same : D → D → Bool) (elect : Elect L) (Q : Subje
     replies = told ∷ rest.replies;
     end = rest.end;
     run = (with_call same elect x m call, answered same elect m x call alive allowed none, rest.run);
-    accepts = λ c h. elim (Contains-append_cases (deeds_of_call call told) (deeds_of_steps {L = L} (map Calls rest.calls) rest.replies) (Accepts c) h) [ inl now ↦ accepted c now | inr later ↦ rest.accepts c later ];
+    accepts = λ c h. elim (Contains-append_cases (trace_of_call call told) (trace_of_steps {L = L} (map Calls rest.calls) rest.replies) (Accepts c) h) [ inl now ↦ accepted c now | inr later ↦ rest.accepts c later ];
     certifies = λ p h. elim (Contains-append_cases (judged_by told) (judged_in rest.replies) (true, p) h) [ inl now ↦ certified p now | inr later ↦ rest.certifies p later ];
     hears = λ v p h. elim (Contains-cases {X = StepFacts K L D} (Calls call) (map Calls rest.calls) (Calls (SetProposal v p)) h) [ inl here ↦ heard v p (cc) | inr later ↦ rest.hears v p later ];
     state = rest.state;
@@ -88,7 +88,7 @@ module _ {K L D : Type 0} (same : D → D → Bool) (elect : Elect L) (Q : Subje
   }
     where
       told : Told K D
-      told = answer same elect x m.openings call
+      told = answer same elect x m.outstanding_work call
 
 -- a nullification that may be handed in, and skips to the view or below
 pub record Fits {D : Type 0} (Q : Subject D → Type 0) (term_length epoch view start finalized : ℕ) (round : Round) : Type 0 where
@@ -125,7 +125,7 @@ module _ {K L D : Type 0} (same : D → D → Bool) (decides : (d e : D) → sam
   hand_all P finalized verdict [] given fits m x alive nears rest = rest m x alive (given_less term_length epoch count me elector parent view start finalized verdict given x nears (λ r. Contains [] r ⊎ given r) (λ r h. elim h [ inl none ↦ absurd (omega (arith, none.1)) | inr old ↦ old ]))
   hand_all P finalized verdict (round ∷ rounds) given fits m x alive nears rest =
       comes_on same elect Q R P m x (AddNullification c 0) alive takes no_fault (λ d h. subst Q (accepted_is d h) here.accepted) (λ p h. absurd (omega (arith, h.1))) (λ v p e. cc)
-      (hand_all P finalized verdict rounds (λ r. (r ≡ round) ⊎ given r) (λ r h. fits r (Contains-cons_rest round rounds r h)) (with_call same elect x m (AddNullification c 0)) (after_call same elect x m.openings (AddNullification c 0)) refl then_near
+      (hand_all P finalized verdict rounds (λ r. (r ≡ round) ⊎ given r) (λ r h. fits r (Contains-cons_rest round rounds r h)) (with_call same elect x m (AddNullification c 0)) (after_call same elect x m.outstanding_work (AddNullification c 0)) refl then_near
       (λ n y lives near. rest n y lives (given_less term_length epoch count me elector parent view start finalized verdict (λ r. Contains rounds r ⊎ ((r ≡ round) ⊎ given r)) y near (λ r. Contains (round ∷ rounds) r ⊎ given r) regroup)))
     where
       c : NullificationFacts
@@ -134,7 +134,7 @@ module _ {K L D : Type 0} (same : D → D → Bool) (decides : (d e : D) → sam
       here : Fits Q term_length epoch view start finalized round
       here = fits round (0, omega arith, refl)
 
-      takes : is_allowed x m.openings (AddNullification c 0) ≡ true
+      takes : is_allowed x m.outstanding_work (AddNullification c 0) ≡ true
       takes = takes_it term_length epoch count me elector parent view start finalized verdict given x nears round here.in_epoch here.some here.above
 
       no_fault : fault_of x (AddNullification c 0) ≡ None
@@ -177,7 +177,7 @@ module _ {K L D : Type 0} (same : D → D → Bool) (decides : (d e : D) → sam
     pub takes_final : finalized ≤ parent → Q (subject.Finalize q) → Comes same elect Q R (Arrived given) m
     takes_final low accepted =
         comes_on same elect Q R (Arrived given) m x (AddFinalization c 0) alive takes no_fault (λ d h. subst Q (accepted_is d h) accepted) (λ p h. absurd (omega (arith, h.1))) (λ v p e. cc)
-        (comes_here same elect Q R (Arrived given) (with_call same elect x m (AddFinalization c 0)) (after_call same elect x m.openings (AddFinalization c 0)) refl (record {
+        (comes_here same elect Q R (Arrived given) (with_call same elect x m (AddFinalization c 0)) (after_call same elect x m.outstanding_work (AddFinalization c 0)) refl (record {
           set = after.set;
           terms = after.terms;
           low = omega (arith, after.passed);
@@ -191,7 +191,7 @@ module _ {K L D : Type 0} (same : D → D → Bool) (decides : (d e : D) → sam
         e : Event K D
         e = event.AddFinalization c 0
 
-        takes : is_allowed x m.openings (AddFinalization c 0) ≡ true
+        takes : is_allowed x m.outstanding_work (AddFinalization c 0) ≡ true
         takes = takes_it term_length epoch count me elector parent view start finalized verdict given x near q.round in_epoch (omega (arith, view_is, some)) (omega (arith, view_is, low))
 
         no_fault : fault_of x (AddFinalization c 0) ≡ None
@@ -225,7 +225,7 @@ module _ {K L D : Type 0} (same : D → D → Bool) (decides : (d e : D) → sam
         y : StateFacts K L D
         y = after_event same elect x e
 
-        takes : is_allowed x m.openings (AddNotarization c) ≡ true
+        takes : is_allowed x m.outstanding_work (AddNotarization c) ≡ true
         takes = takes_it term_length epoch count me elector parent view start finalized verdict given x near q.round in_epoch (omega (arith, view_is, some)) (omega (arith, view_is, low))
 
         no_fault : fault_of x (AddNotarization c) ≡ None

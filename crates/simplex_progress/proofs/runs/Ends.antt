@@ -7,8 +7,8 @@ use Rattle.simplex_record.specs.Start.{new_state}
 use Rattle.simplex_member.specs.Lives.{MemberFacts}
 use Rattle.simplex_member.specs.Runs.{StepFacts, Calls, Prunes, Restarts}
 use Rattle.simplex_member.specs.Start.{started_member}
-use Rattle.simplex_laws.specs.Deeds.{of_floor}
-use Rattle.simplex_laws.specs.Stories.{Story, deeds_of, BeginsAs, Ran}
+use Rattle.simplex_laws.specs.Traces.{of_floor}
+use Rattle.simplex_laws.specs.Executions.{Execution, trace_of, BeginsAs, IsExecution}
 use Rattle.simplex_laws.specs.TermLengths.{KeepTerms}
 use Rattle.simplex_laws.proofs.frames.RunsKeep.{HoldsIn, run_induction}
 use Rattle.simplex_laws.proofs.lists.Splits.{Contains-cons_rest}
@@ -26,13 +26,13 @@ terms_kept term_length i (Prunes ∷ steps) later = terms_kept term_length i ste
 terms_kept term_length i (Restarts q ∷ steps) later = ((later q (0, omega arith, refl)).terms, terms_kept term_length i steps (λ r h. later r (Contains-cons_rest (Restarts q) steps (Restarts r) h)))
 
 -- what the run shows of a state that lives at its end
-pub record Shown {K L D : Type 0} (term_length : ℕ) (s : Story K L D) (m : MemberFacts K L D) (x : StateFacts K L D) : Type 0 where
+pub record Shown {K L D : Type 0} (term_length : ℕ) (s : Execution K L D) (m : MemberFacts K L D) (x : StateFacts K L D) : Type 0 where
   pub owns : Owns x
   pub times_out : TimesOut x
   pub kept : ℕ
-  pub living : Living term_length (deeds_of s) m.closed kept m.entries m.openings x
+  pub living : Living term_length (trace_of s) m.closed kept m.entries m.outstanding_work x
 
-module _ {K L D : Type 0} (same : D → D → Bool) (decides : (d e : D) → same d e ≡ true → d ≡ e) (elect : Elect L) (term_length i : ℕ) (s : Story K L D) (ran : Ran same elect term_length i s) where
+module _ {K L D : Type 0} (same : D → D → Bool) (decides : (d e : D) → same d e ≡ true → d ≡ e) (elect : Elect L) (term_length i : ℕ) (s : Execution K L D) (ran : IsExecution same elect term_length i s) where
   pub end_shown : (x : StateFacts K L D) (lives : LivesWith same elect s x) → Shown term_length s lives.0 x
   end_shown x (m, run, alive) =
       let begins = ran.lives.first.terms in
@@ -44,7 +44,7 @@ module _ {K L D : Type 0} (same : D → D → Bool) (decides : (d e : D) → sam
         owns = subst (HoldsIn Owns) alive owned;
         times_out = subst (HoldsIn TimesOut) alive timed;
         kept = held.0;
-        living = subst (λ life. LivesOn term_length (deeds_of s) m.closed held.0 m.entries m.openings life) alive held.1;
+        living = subst (λ life. LivesOn term_length (trace_of s) m.closed held.0 m.entries m.outstanding_work life) alive held.1;
       }
 
   -- no view from the current one on is decided to be finalized

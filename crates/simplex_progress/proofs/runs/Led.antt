@@ -11,7 +11,7 @@ use Rattle.simplex_types.specs.declared.types.window.Terms.{Terms}
 use Rattle.simplex_voter.specs.Acceptance.{takes_floor, after_set_floor}
 use Rattle.simplex_voter.specs.Facts.{Settings, StateFacts, Elect, new_facts, round_of}
 use Rattle.simplex_voter.proofs.Gaps.{and_parts}
-use Rattle.simplex_laws.specs.Deeds.{Deed, Accepts, of_floor}
+use Rattle.simplex_laws.specs.Traces.{TraceEvent, Accepts, of_floor}
 use Rattle.simplex_laws.specs.Events as event
 use Rattle.simplex_laws.specs.Events.{Event, IsEvent, after_event}
 use Rattle.simplex_laws.proofs.frames.Rising.{event_goes}
@@ -22,80 +22,80 @@ use Rattle.simplex_progress.proofs.runs.Brought.{Brings, RoundsLed, brings_nothi
 
 -- what was done and certified stays so
 
-module _ {D : Type 0} (deeds more : List (Deed D)) (verdicts others : List (Bool × Proposal D)) where
+module _ {D : Type 0} (trace more : List (TraceEvent D)) (verdicts others : List (Bool × Proposal D)) where
   pub judged_more : (success : Bool) (epoch v : ℕ) → HasJudged success epoch verdicts v → HasJudged success epoch (verdicts ++ others) v
   judged_more success epoch v (p, there, is_in) = (p, Contains-append_left verdicts others (success, p) there, is_in)
 
-  pub led_more : (term_length epoch v : ℕ) → IsLedTo term_length epoch deeds verdicts v → IsLedTo term_length epoch (deeds ++ more) (verdicts ++ others) v
+  pub led_more : (term_length epoch v : ℕ) → IsLedTo term_length epoch trace verdicts v → IsLedTo term_length epoch (trace ++ more) (verdicts ++ others) v
   led_more term_length epoch v (First is) = First is
-  led_more term_length epoch v (PastFinalized below (p, h, at) is) = PastFinalized below (p, Contains-append_left deeds more _ h, at) is
+  led_more term_length epoch v (PastFinalized below (p, h, at) is) = PastFinalized below (p, Contains-append_left trace more _ h, at) is
   led_more term_length epoch v (PastCertified below h is) = PastCertified below (judged_more true epoch below h) is
-  led_more term_length epoch v (PastNullified below (r, h, at) is) = PastNullified below (r, Contains-append_left deeds more _ h, at) is
+  led_more term_length epoch v (PastNullified below (r, h, at) is) = PastNullified below (r, Contains-append_left trace more _ h, at) is
 
-  rounds_more : {K L : Type 0} (epoch : ℕ) (x : StateFacts K L D) → RoundsLed epoch deeds verdicts x → RoundsLed epoch (deeds ++ more) (verdicts ++ others) x
+  rounds_more : {K L : Type 0} (epoch : ℕ) (x : StateFacts K L D) → RoundsLed epoch trace verdicts x → RoundsLed epoch (trace ++ more) (verdicts ++ others) x
   rounds_more epoch x led = record {
-    notarized = λ v c is. (let h = led.notarized v c is in (h.0, Contains-append_left deeds more _ h.1));
-    finalized = λ v c is. (let h = led.finalized v c is in (h.0, Contains-append_left deeds more _ h.1));
+    notarized = λ v c is. (let h = led.notarized v c is in (h.0, Contains-append_left trace more _ h.1));
+    finalized = λ v c is. (let h = led.finalized v c is in (h.0, Contains-append_left trace more _ h.1));
     judged = λ v success is. judged_more success epoch v (led.judged v success is);
     held = led.held;
   }
 
 -- what a state knows is led to
-pub record Led {K L D : Type 0} (term_length : ℕ) (deeds : List (Deed D)) (verdicts : List (Bool × Proposal D)) (x : StateFacts K L D) : Type 0 where
+pub record Led {K L D : Type 0} (term_length : ℕ) (trace : List (TraceEvent D)) (verdicts : List (Bool × Proposal D)) (x : StateFacts K L D) : Type 0 where
   pub terms : x.terms.term_length ≡ term_length
-  pub rounds : RoundsLed x.settings.epoch deeds verdicts x
-  pub reached : IsLedTo term_length x.settings.epoch deeds verdicts x.current
+  pub rounds : RoundsLed x.settings.epoch trace verdicts x
+  pub reached : IsLedTo term_length x.settings.epoch trace verdicts x.current
   -- genesis is known, or a view is finalized, and its round holds the finalization
   pub based : (is_some x.genesis ≡ true) ⊎ (0 < x.finalized)
   pub final : (x.finalized ≡ 0) ⊎ (is_some (round_of x x.finalized).finalization ≡ true)
 
-module _ {K L D : Type 0} (deeds more : List (Deed D)) (verdicts others : List (Bool × Proposal D)) where
-  pub state_more : (term_length : ℕ) (x : StateFacts K L D) → Led term_length deeds verdicts x → Led term_length (deeds ++ more) (verdicts ++ others) x
+module _ {K L D : Type 0} (trace more : List (TraceEvent D)) (verdicts others : List (Bool × Proposal D)) where
+  pub state_more : (term_length : ℕ) (x : StateFacts K L D) → Led term_length trace verdicts x → Led term_length (trace ++ more) (verdicts ++ others) x
   state_more term_length x led = record {
     terms = led.terms;
-    rounds = rounds_more deeds more verdicts others x.settings.epoch x led.rounds;
-    reached = led_more deeds more verdicts others term_length x.settings.epoch x.current led.reached;
+    rounds = rounds_more trace more verdicts others x.settings.epoch x led.rounds;
+    reached = led_more trace more verdicts others term_length x.settings.epoch x.current led.reached;
     based = led.based;
     final = led.final;
   }
 
 -- an event
 
-module _ {K L D : Type 0} (same : D → D → Bool) (decides : (d e : D) → same d e ≡ true → d ≡ e) (elect : Elect L) (term_length : ℕ) (deeds : List (Deed D)) (verdicts : List (Bool × Proposal D)) (x : StateFacts K L D) (e : Event K D) (allowed : IsEvent x e) (brings : Brings x.settings.epoch deeds verdicts x e) where
+module _ {K L D : Type 0} (same : D → D → Bool) (decides : (d e : D) → same d e ≡ true → d ≡ e) (elect : Elect L) (term_length : ℕ) (trace : List (TraceEvent D)) (verdicts : List (Bool × Proposal D)) (x : StateFacts K L D) (e : Event K D) (allowed : IsEvent x e) (brings : Brings x.settings.epoch trace verdicts x e) where
   abbrev after : StateFacts K L D
   after = after_event same elect x e
 
   based_still : (is_some x.genesis ≡ true) ⊎ (0 < x.finalized) → (is_some after.genesis ≡ true) ⊎ (0 < after.finalized)
-  based_still (inl genesis) = inl (genesis_still same decides elect deeds verdicts x e allowed brings genesis)
+  based_still (inl genesis) = inl (genesis_still same decides elect trace verdicts x e allowed brings genesis)
   based_still (inr some) = inr (let goes = (event_goes same elect x e).finalized in omega (arith, goes, some))
 
-  pub event_led : Led term_length deeds verdicts x → Led term_length deeds verdicts after
+  pub event_led : Led term_length trace verdicts x → Led term_length trace verdicts after
   event_led led =
       let goes = event_goes same elect x e in
       record {
         terms = ap (λ t. t.term_length) goes.terms ∙ led.terms;
-        rounds = subst (λ s. RoundsLed s.epoch deeds verdicts after) (sym goes.settings) (rounds_led same decides elect deeds verdicts x e allowed brings led.rounds);
-        reached = subst (λ s. IsLedTo term_length s.epoch deeds verdicts after.current) (sym goes.settings) (reached_after same decides elect deeds verdicts x e allowed brings term_length led.terms (inr led.reached));
+        rounds = subst (λ s. RoundsLed s.epoch trace verdicts after) (sym goes.settings) (rounds_led same decides elect trace verdicts x e allowed brings led.rounds);
+        reached = subst (λ s. IsLedTo term_length s.epoch trace verdicts after.current) (sym goes.settings) (reached_after same decides elect trace verdicts x e allowed brings term_length led.terms (inr led.reached));
         based = based_still led.based;
-        final = final_after same decides elect deeds verdicts x e allowed brings led.final;
+        final = final_after same decides elect trace verdicts x e allowed brings led.final;
       }
 
 -- a new state that sets a floor
 
-module _ {K L D : Type 0} (same : D → D → Bool) (decides : (d e : D) → same d e ≡ true → d ≡ e) (elect : Elect L) (deeds : List (Deed D)) (verdicts : List (Bool × Proposal D)) (settings : Settings) (me : Option ℕ) (members : List K) (elector : L) (terms : Terms) (early : Bool) where
+module _ {K L D : Type 0} (same : D → D → Bool) (decides : (d e : D) → same d e ≡ true → d ≡ e) (elect : Elect L) (trace : List (TraceEvent D)) (verdicts : List (Bool × Proposal D)) (settings : Settings) (me : Option ℕ) (members : List K) (elector : L) (terms : Terms) (early : Bool) where
   abbrev new : StateFacts K L D
   new = new_facts settings me members elector terms early
 
-  floor_brings : (floor : FloorFacts D) (now : ℕ) → Brings settings.epoch (deeds ++ of_floor floor) verdicts new (event.SetFloor floor now)
-  floor_brings (Genesis payload) now = brings_nothing settings.epoch (deeds ++ []) verdicts new (event.SetFloor (Genesis payload) now) refl refl refl (λ v. refl)
+  floor_brings : (floor : FloorFacts D) (now : ℕ) → Brings settings.epoch (trace ++ of_floor floor) verdicts new (event.SetFloor floor now)
+  floor_brings (Genesis payload) now = brings_nothing settings.epoch (trace ++ []) verdicts new (event.SetFloor (Genesis payload) now) refl refl refl (λ v. refl)
   floor_brings (Finalized c) now = record {
     notarized = λ d is. absurd (cc);
     nullified = λ d is. absurd (cc);
-    finalized = λ d is. (let one : c ≡ d = cc in subst (λ (f : ProposalFacts D). Contains (deeds ++ Accepts (subject.Finalize c.proposal) ∷ []) (Accepts (subject.Finalize f.proposal))) one (Contains-append_right deeds (Accepts (subject.Finalize c.proposal) ∷ []) (Accepts (subject.Finalize c.proposal)) (0, omega arith, refl)));
+    finalized = λ d is. (let one : c ≡ d = cc in subst (λ (f : ProposalFacts D). Contains (trace ++ Accepts (subject.Finalize c.proposal) ∷ []) (Accepts (subject.Finalize f.proposal))) one (Contains-append_right trace (Accepts (subject.Finalize c.proposal) ∷ []) (Accepts (subject.Finalize c.proposal)) (0, omega arith, refl)));
     judged = λ v success is. absurd (cc);
   }
 
-  nothing_led : (all : List (Deed D)) → RoundsLed settings.epoch all verdicts new
+  nothing_led : (all : List (TraceEvent D)) → RoundsLed settings.epoch all verdicts new
   nothing_led all = record {
     notarized = λ v c is. absurd (false≢true (ap is_some is));
     finalized = λ v c is. absurd (false≢true (ap is_some is));
@@ -109,10 +109,10 @@ module _ {K L D : Type 0} (same : D → D → Bool) (decides : (d e : D) → sam
       let some : 1 ≤ c.proposal.round.view = leb-true 1 c.proposal.round.view (and_parts ((new.current == 0) && (c.proposal.round.epoch == settings.epoch)) _ takes).1 in
       omega (arith, (event_follows same decides elect new (event.SetFloor (Finalized c) now) takes).finalized, some))
 
-  pub floor_led : (floor : FloorFacts D) (now : ℕ) → takes_floor new floor ≡ true → Led terms.term_length (deeds ++ of_floor floor) verdicts (after_set_floor same elect new floor now)
+  pub floor_led : (floor : FloorFacts D) (now : ℕ) → takes_floor new floor ≡ true → Led terms.term_length (trace ++ of_floor floor) verdicts (after_set_floor same elect new floor now)
   floor_led floor now takes =
       let e : Event K D = event.SetFloor floor now in
-      let all = deeds ++ of_floor floor in
+      let all = trace ++ of_floor floor in
       let y : StateFacts K L D = after_set_floor same elect new floor now in
       let brings = floor_brings floor now in
       let goes = event_goes same elect new e in

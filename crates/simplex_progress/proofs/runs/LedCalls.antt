@@ -21,15 +21,15 @@ use Rattle.simplex_voter.proofs.Rules.{nullify_parts}
 use Rattle.simplex_member.specs.Allowed.{is_allowed}
 use Rattle.simplex_member.specs.Calls as calls
 use Rattle.simplex_member.specs.Calls.{CallFacts, Told, Notarize, Nullify, Finalize, Judged}
-use Rattle.simplex_member.specs.Made.{answer, after_call, recorded_by, if_new, vote_entry, unrepeated_vote, nullify_vote}
-use Rattle.simplex_member.specs.Openings.{Openings, context_at}
-use Rattle.simplex_laws.specs.Deeds.{Deed, Accepts, Signs, signed_in, deeds_of_call}
+use Rattle.simplex_member.specs.CallSemantics.{answer, after_call, recorded_by, if_new, vote_entry, unrepeated_vote, nullify_vote}
+use Rattle.simplex_member.specs.OutstandingWork.{OutstandingWork, context_at}
+use Rattle.simplex_laws.specs.Traces.{TraceEvent, Accepts, Signs, signed_in, trace_of_call}
 use Rattle.simplex_laws.specs.Events as event
 use Rattle.simplex_laws.specs.Events.{Event, after_event, in_context, events_of}
 use Rattle.simplex_laws.specs.Lawful.{HasSigned}
 use Rattle.simplex_laws.proofs.frames.CallsMake.{call_by_event}
 use Rattle.simplex_laws.proofs.lists.Signed.{signed_none, only_signed}
-use Rattle.simplex_laws.proofs.records.DeedsShown.{only_one}
+use Rattle.simplex_laws.proofs.records.TracesShown.{only_one}
 use Rattle.simplex_laws.proofs.votes.LifeCalls.{nullify_silent, nullify_told, no_key, no_rule}
 use Rattle.simplex_progress.specs.Reaching.{IsLedTo, judged_by, HasJudged}
 use Rattle.simplex_progress.proofs.runs.Brought.{Brings, brings_nothing}
@@ -69,9 +69,9 @@ module _ {D : Type 0} (round : Round) where
   no_nullify_finalized K (Some m) None h = signed_none (subject.Nullify round) h
   no_nullify_finalized K (Some m) (Some p) h = let e = only_signed (Signs m (subject.Finalize p)) (subject.Nullify round) h in cc
 
-module _ {K L D : Type 0} (same : D → D → Bool) (decides : (d e : D) → same d e ≡ true → d ≡ e) (elect : Elect L) (term_length : ℕ) (deeds : List (Deed D)) (verdicts : List (Bool × Proposal D)) (x : StateFacts K L D) (led : Led term_length deeds verdicts x) (o : Openings K D) where
-  abbrev more : CallFacts D → List (Deed D)
-  more call = deeds ++ deeds_of_call call (answer same elect x o call)
+module _ {K L D : Type 0} (same : D → D → Bool) (decides : (d e : D) → same d e ≡ true → d ≡ e) (elect : Elect L) (term_length : ℕ) (trace : List (TraceEvent D)) (verdicts : List (Bool × Proposal D)) (x : StateFacts K L D) (led : Led term_length trace verdicts x) (o : OutstandingWork K D) where
+  abbrev more : CallFacts D → List (TraceEvent D)
+  more call = trace ++ trace_of_call call (answer same elect x o call)
 
   abbrev others : CallFacts D → List (Bool × Proposal D)
   others call = verdicts ++ judged_by (answer same elect x o call)
@@ -112,21 +112,21 @@ module _ {K L D : Type 0} (same : D → D → Bool) (decides : (d e : D) → sam
 
   call_brings : (call : CallFacts D) → is_allowed x o call ≡ true → AllBring call (events_of o call)
   call_brings (calls.AddNotarization c) allowed = record {
-    notarized = λ d is. (let one : c ≡ d = cc in subst (λ (f : ProposalFacts D). Contains (more (calls.AddNotarization c)) (Accepts (subject.Notarize f.proposal))) one (Contains-append_right deeds _ _ (0, omega arith, refl)));
+    notarized = λ d is. (let one : c ≡ d = cc in subst (λ (f : ProposalFacts D). Contains (more (calls.AddNotarization c)) (Accepts (subject.Notarize f.proposal))) one (Contains-append_right trace _ _ (0, omega arith, refl)));
     nullified = λ d is. absurd (cc);
     finalized = λ d is. absurd (cc);
     judged = λ v success is. absurd (false≢true (ap is_some is));
   }
   call_brings (calls.AddNullification c now) allowed = record {
     notarized = λ d is. absurd (cc);
-    nullified = λ d is. (let one : c ≡ d = cc in subst (λ f. Contains (more (calls.AddNullification c now)) (Accepts (subject.Nullify f.round))) one (Contains-append_right deeds _ _ (0, omega arith, refl)));
+    nullified = λ d is. (let one : c ≡ d = cc in subst (λ f. Contains (more (calls.AddNullification c now)) (Accepts (subject.Nullify f.round))) one (Contains-append_right trace _ _ (0, omega arith, refl)));
     finalized = λ d is. absurd (cc);
     judged = λ v success is. absurd (false≢true (ap is_some is));
   }
   call_brings (calls.AddFinalization c now) allowed = record {
     notarized = λ d is. absurd (cc);
     nullified = λ d is. absurd (cc);
-    finalized = λ d is. (let one : c ≡ d = cc in subst (λ (f : ProposalFacts D). Contains (more (calls.AddFinalization c now)) (Accepts (subject.Finalize f.proposal))) one (Contains-append_right deeds _ _ (0, omega arith, refl)));
+    finalized = λ d is. (let one : c ≡ d = cc in subst (λ (f : ProposalFacts D). Contains (more (calls.AddFinalization c now)) (Accepts (subject.Finalize f.proposal))) one (Contains-append_right trace _ _ (0, omega arith, refl)));
     judged = λ v success is. absurd (false≢true (ap is_some is));
   }
   call_brings (calls.Certified v success now) allowed = record {
@@ -150,7 +150,7 @@ module _ {K L D : Type 0} (same : D → D → Bool) (decides : (d e : D) → sam
 
   pub call_led : (call : CallFacts D) → is_allowed x o call ≡ true → Led term_length (more call) (others call) (after_call same elect x o call)
   call_led call allowed =
-      let here = state_more deeds _ verdicts _ term_length x led in
+      let here = state_more trace _ verdicts _ term_length x led in
       call_by_event same elect x o (λ es y. AllBring call es → Led term_length (more call) (others call) y) (λ none. here) (λ e is_event not_floor brings. event_led same decides elect term_length (more call) (others call) x e is_event brings here) call allowed (call_brings call allowed)
 
   -- what the record grows by
@@ -182,28 +182,28 @@ module _ {K L D : Type 0} (same : D → D → Bool) (decides : (d e : D) → sam
 
   -- the vote that it answers
 
-  nullified_current : (v : ℕ) (round : Round) → HasSigned (signed_in {K = K} (Nullify (nullify_vote x v))) (subject.Nullify round) → IsLedTo term_length round.epoch deeds verdicts round.view
+  nullified_current : (v : ℕ) (round : Round) → HasSigned (signed_in {K = K} (Nullify (nullify_vote x v))) (subject.Nullify round) → IsLedTo term_length round.epoch trace verdicts round.view
   nullified_current v round h = by_rule (may_nullify x v) refl
     where
-      silent : nullify_vote x v ≡ None → IsLedTo term_length round.epoch deeds verdicts round.view
+      silent : nullify_vote x v ≡ None → IsLedTo term_length round.epoch trace verdicts round.view
       silent none = absurd (signed_none (subject.Nullify round) (subst (λ (a : Option (Bool × ArtifactFacts D)). HasSigned (signed_in {K = K} (Nullify a)) (subject.Nullify round)) none h))
 
-      by_key : (m : Option ℕ) → x.me ≡ m → may_nullify x v ≡ true → IsLedTo term_length round.epoch deeds verdicts round.view
+      by_key : (m : Option ℕ) → x.me ≡ m → may_nullify x v ≡ true → IsLedTo term_length round.epoch trace verdicts round.view
       by_key None me may = silent (nullify_silent elect x v (no_key (may_nullify x v) x.me me))
       by_key (Some m) me may =
           let signs = subst (λ (a : Option (Bool × ArtifactFacts D)). HasSigned (signed_in {K = K} (Nullify a)) (subject.Nullify round)) (nullify_told elect x v m me may) h in
           let e = only_signed (Signs m (subject.Nullify (round_number x v))) (subject.Nullify round) signs in
           let same_round : round_number x v ≡ round = cc in
-          subst (λ (r : Round). IsLedTo term_length r.epoch deeds verdicts r.view) same_round (subst (IsLedTo term_length x.settings.epoch deeds verdicts) (sym (nullify_parts x v may).current) led.reached)
+          subst (λ (r : Round). IsLedTo term_length r.epoch trace verdicts r.view) same_round (subst (IsLedTo term_length x.settings.epoch trace verdicts) (sym (nullify_parts x v may).current) led.reached)
 
-      by_rule : (b : Bool) → may_nullify x v ≡ b → IsLedTo term_length round.epoch deeds verdicts round.view
+      by_rule : (b : Bool) → may_nullify x v ≡ b → IsLedTo term_length round.epoch trace verdicts round.view
       by_rule true may = by_key x.me refl may
       by_rule false barred = silent (nullify_silent elect x v (no_rule (may_nullify x v) x.me barred))
 
   accepts_none : (c : Subject D) (round : Round) → HasSigned (Accepts c ∷ []) (subject.Nullify round) → ⊥
   accepts_none c round h = let e = only_signed (Accepts c) (subject.Nullify round) h in cc
 
-  pub answered_vote : (call : CallFacts D) (round : Round) → HasSigned (deeds_of_call call (answer same elect x o call)) (subject.Nullify round) → IsLedTo term_length round.epoch deeds verdicts round.view
+  pub answered_vote : (call : CallFacts D) (round : Round) → HasSigned (trace_of_call call (answer same elect x o call)) (subject.Nullify round) → IsLedTo term_length round.epoch trace verdicts round.view
   answered_vote (calls.ConstructNullify v) round h = nullified_current v round h
   answered_vote (calls.ConstructNotarize v) round h = absurd (no_nullify_noted round K x.me (notarize_answer same elect x v) h)
   answered_vote (calls.ConstructFinalize v) round h = absurd (no_nullify_finalized round K x.me (finalize_answer elect x v) h)
@@ -213,19 +213,19 @@ module _ {K L D : Type 0} (same : D → D → Bool) (decides : (d e : D) → sam
   answered_vote _ round h = absurd (signed_none (subject.Nullify round) h)
 
   -- what it judges was notarized
-  told_notarized : (v : ℕ) (given success : Bool) (p : Proposal D) → Contains (judged_by {K = K} (Judged given (certified_answer x v))) (success, p) → Contains deeds (Accepts (subject.Notarize p))
+  told_notarized : (v : ℕ) (given success : Bool) (p : Proposal D) → Contains (judged_by {K = K} (Judged given (certified_answer x v))) (success, p) → Contains trace (Accepts (subject.Notarize p))
   told_notarized v given success p h = by_round (round_at x v) refl h
     where
-      by_notarization : (r : RoundFacts K D) (n : Option (ProposalFacts D)) → round_at x v ≡ Some r → r.notarization ≡ n → Contains (judged_by {K = K} (Judged given n)) (success, p) → Contains deeds (Accepts (subject.Notarize p))
+      by_notarization : (r : RoundFacts K D) (n : Option (ProposalFacts D)) → round_at x v ≡ Some r → r.notarization ≡ n → Contains (judged_by {K = K} (Judged given n)) (success, p) → Contains trace (Accepts (subject.Notarize p))
       by_notarization r None at is h = absurd (omega (arith, h.1))
       by_notarization r (Some c) at is h =
           let there : (round_of x v).notarization ≡ Some c = ap (λ f. (unwrap_or f (new_round x.me x.members (round_number x v))).notarization) at ∙ is in
-          subst (λ q. Contains deeds (Accepts (subject.Notarize q))) (ap (λ (e : Bool × Proposal D). e.1) (only_one _ _ h)) (led.rounds.notarized v c there).1
+          subst (λ q. Contains trace (Accepts (subject.Notarize q))) (ap (λ (e : Bool × Proposal D). e.1) (only_one _ _ h)) (led.rounds.notarized v c there).1
 
-      by_round : (f : Option (RoundFacts K D)) → round_at x v ≡ f → Contains (judged_by {K = K} (Judged given (option_and_then (λ (q : RoundFacts K D). q.notarization) f))) (success, p) → Contains deeds (Accepts (subject.Notarize p))
+      by_round : (f : Option (RoundFacts K D)) → round_at x v ≡ f → Contains (judged_by {K = K} (Judged given (option_and_then (λ (q : RoundFacts K D). q.notarization) f))) (success, p) → Contains trace (Accepts (subject.Notarize p))
       by_round None at h = absurd (omega (arith, h.1))
       by_round (Some r) at h = by_notarization r r.notarization at refl h
 
-  pub judged_notarized : (call : CallFacts D) (success : Bool) (p : Proposal D) → Contains (judged_by (answer same elect x o call)) (success, p) → Contains deeds (Accepts (subject.Notarize p))
+  pub judged_notarized : (call : CallFacts D) (success : Bool) (p : Proposal D) → Contains (judged_by (answer same elect x o call)) (success, p) → Contains trace (Accepts (subject.Notarize p))
   judged_notarized (calls.Certified v given now) success p h = told_notarized v given success p h
   judged_notarized _ success p h = absurd (omega (arith, h.1))

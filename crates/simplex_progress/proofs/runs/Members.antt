@@ -1,4 +1,4 @@
--- How the story of each member of a network goes on from an untouched term start.
+-- How the execution of each member of a network goes on from an untouched term start.
 use Rattle.std.proofs.Common.{◌≡◌, refl, ap, sym, ◌∙◌, subst, ◌⊎◌, inl, inr, ℕ, Bool, true, false, List, [], ◌∷◌, ◌++◌, map, Contains, Some, unwrap_or, arith}
 use Rattle.std.specs.Prelude.{◌==◌}
 use Rattle.std.proofs.lemmas.Bool.{eq-eqb, ne_eqb, cases_eq}
@@ -11,17 +11,17 @@ use Rattle.simplex_voter.specs.Parents.{highest_explicit}
 use Rattle.simplex_voter.specs.Refusals.{is_too_large}
 use Rattle.simplex_member.specs.Calls.{CallFacts, SetProposal, TryPropose, Proposed, TryVerify, Verified, ConstructNotarize, AddNotarization, Certified, ConstructFinalize, AddFinalization}
 use Rattle.simplex_member.specs.Runs.{StepFacts, Calls}
-use Rattle.simplex_laws.specs.Continuations.{StoryGoesOn, HasHeard}
-use Rattle.simplex_laws.specs.Stories.{Story, deeds_of, Ran}
+use Rattle.simplex_laws.specs.Continuations.{ExecutionGoesOn, HasHeard}
+use Rattle.simplex_laws.specs.Executions.{Execution, trace_of, IsExecution}
 use Rattle.simplex_laws.proofs.lists.Splits.{Contains-cases}
 use Rattle.simplex_progress.specs.Standing.{IsFreshStart, CanStandOn, BuildsOn, proposal_in}
 use Rattle.simplex_progress.specs.Living.{IsSetUpAs, LivesWith}
-use Rattle.simplex_progress.proofs.states.Standing.{Place, Stands}
+use Rattle.simplex_progress.proofs.states.Standing.{Replica, Stands}
 use Rattle.simplex_progress.proofs.states.Calls.{with_work, nothing_done}
-use Rattle.simplex_progress.proofs.runs.Onward.{story_on}
+use Rattle.simplex_progress.proofs.runs.Onward.{execution_on}
 use Rattle.simplex_progress.proofs.runs.Ends.{Shown, end_shown}
-use Rattle.simplex_progress.proofs.states.Sequences.{does_of, deeds_done, follower_trace, leader_trace, follower_done, leader_done}
-use Rattle.simplex_progress.proofs.runs.Starts.{place_of, stands_there, signs_there, leader_there, highest_is}
+use Rattle.simplex_progress.proofs.states.Sequences.{does_of, trace_done, follower_sequence, leader_sequence, follower_done, leader_done}
+use Rattle.simplex_progress.proofs.runs.Starts.{replica_of, stands_there, signs_there, leader_there, highest_is}
 
 module _ {D : Type 0} (p : Proposal D) where
   abbrev pub last_calls : List (CallFacts D)
@@ -61,24 +61,24 @@ module _ {K L D : Type 0} (p : Proposal D) where
 
 module _ {K L D : Type 0} (same : D → D → Bool) (elect : Elect L) where
   -- the member goes on to finalize the proposal, which it is handed or builds
-  pub record Finalizes (term_length leader : ℕ) (p : Proposal D) (i : ℕ) (s t : Story K L D) : Type 0 where
-    pub goes_on : StoryGoesOn s t
-    pub ran : Ran same elect term_length i t
-    pub deeds : deeds_of t ≡ deeds_of s ++ deeds_done (place_of p.round.epoch p.round.view p.parent p.payload i) p.payload
+  pub record Finalizes (term_length leader : ℕ) (p : Proposal D) (i : ℕ) (s t : Execution K L D) : Type 0 where
+    pub goes_on : ExecutionGoesOn s t
+    pub ran : IsExecution same elect term_length i t
+    pub trace : trace_of t ≡ trace_of s ++ trace_done (replica_of p.round.epoch p.round.view p.parent p.payload i) p.payload
     pub heard : (v : ℕ) (o : Proposal D) → HasHeard v o t → HasHeard v o s ⊎ (o ≡ p)
     pub builds : i ≡ leader → Contains t.steps (Calls (Proposed p.round.view p.payload 0))
 
 module _ {K L D : Type 0} (same : D → D → Bool) (decides : (d e : D) → same d e ≡ true → d ≡ e) (reflexive : (d : D) → same d d ≡ true) (elect : Elect L)
-    (term_length epoch count leader start parent i : ℕ) (elector : L) (q : D) (s : Story K L D) (ran : Ran same elect term_length i s) (small : is_too_large start ≡ false)
+    (term_length epoch count leader start parent i : ℕ) (elector : L) (q : D) (s : Execution K L D) (ran : IsExecution same elect term_length i s) (small : is_too_large start ≡ false)
     (x : StateFacts K L D) (lives : LivesWith same elect s x) (set : IsSetUpAs epoch count elector i x) (fresh : IsFreshStart leader start x) (can : CanStandOn parent start x) (builds : i ≡ leader → BuildsOn parent start x) where
   abbrev p : Proposal D
   p = proposal_in epoch start parent q
 
-  pub member_finalizes : (t : Story K L D) × Finalizes same elect term_length leader p i s t
+  pub member_finalizes : (t : Execution K L D) × Finalizes same elect term_length leader p i s t
   member_finalizes = elim (cases_eq i leader) [ inl same ↦ as_leader same | inr other ↦ as_follower other ]
     where
-      l : Place D
-      l = place_of epoch start parent can.payload i
+      l : Replica D
+      l = replica_of epoch start parent can.payload i
 
       shown : Shown term_length s lives.0 x
       shown = end_shown same decides elect term_length i s ran x lives
@@ -92,24 +92,24 @@ module _ {K L D : Type 0} (same : D → D → Bool) (decides : (d e : D) → sam
       signs : signs_as fresh.round.me lead.0.idx ≡ (i == leader)
       signs = (λ j. signs_as (signs_there term_length epoch count leader start parent i elector s lives.0 x shown set fresh can j) (lead.2 j))
 
-      hears : (calls : List (CallFacts D)) → AllHave (HearsOnly {K = K} {L = L} p) (map Calls calls) → (t : Story K L D) → t.steps ≡ s.steps ++ map Calls calls → (v : ℕ) (o : Proposal D) → HasHeard v o t → HasHeard v o s ⊎ (o ≡ p)
+      hears : (calls : List (CallFacts D)) → AllHave (HearsOnly {K = K} {L = L} p) (map Calls calls) → (t : Execution K L D) → t.steps ≡ s.steps ++ map Calls calls → (v : ℕ) (o : Proposal D) → HasHeard v o t → HasHeard v o s ⊎ (o ≡ p)
       hears calls all t steps v o h = elim (Contains-append_cases s.steps (map Calls calls) (Calls (SetProposal v o)) (subst (λ ss. Contains ss (Calls (SetProposal v o))) steps h)) [
         | inl old ↦ inl old
         | inr new ↦ inr (one_has (HearsOnly {K = K} {L = L} p) (map Calls calls) (Calls (SetProposal v o)) all new v o refl)
       ]
 
-      as_follower : (i ≡ leader → ⊥) → (t : Story K L D) × Finalizes same elect term_length leader p i s t
+      as_follower : (i ≡ leader → ⊥) → (t : Execution K L D) × Finalizes same elect term_length leader p i s t
       as_follower other =
-          let does = does_of same elect (follower_trace l q [] []) lives.0 (follower_done same elect reflexive l q [] [] fresh.round fresh.pending fresh.no_finalization lead.0 lead.1 lives.0 x lives.2 stands (signs ∙ ne_eqb i leader other)) in
-          let on = story_on same elect term_length i s lives.0 (follower_calls p) (deeds_done l q) ran lives.1 does in
-          (on.story, record { goes_on = on.goes_on; ran = on.ran; deeds = on.deeds; heard = hears (follower_calls p) (follower_hears p) on.story on.steps; builds = λ is. absurd (other is) })
+          let does = does_of same elect (follower_sequence l q [] []) lives.0 (follower_done same elect reflexive l q [] [] fresh.round fresh.pending fresh.no_finalization lead.0 lead.1 lives.0 x lives.2 stands (signs ∙ ne_eqb i leader other)) in
+          let on = execution_on same elect term_length i s lives.0 (follower_calls p) (trace_done l q) ran lives.1 does in
+          (on.execution, record { goes_on = on.goes_on; ran = on.ran; trace = on.trace; heard = hears (follower_calls p) (follower_hears p) on.execution on.steps; builds = λ is. absurd (other is) })
 
-      as_leader : i ≡ leader → (t : Story K L D) × Finalizes same elect term_length leader p i s t
+      as_leader : i ≡ leader → (t : Execution K L D) × Finalizes same elect term_length leader p i s t
       as_leader leads =
           let above = builds leads in
           let same_payload : above.0 ≡ can.payload = ap (λ o. unwrap_or o (above.0)) (sym (highest_is x start (parent, above.0) above.1) ∙ can.explicit) in
           let highest : highest_explicit x start ≡ Some (parent, can.payload) = above.1 ∙ ap (λ d. Some (parent, d)) same_payload in
-          let does = does_of same elect (leader_trace l q [] []) lives.0 (leader_done same elect reflexive l q [] [] fresh.round fresh.pending fresh.no_finalization lead.0 lead.1 lives.0 x lives.2 stands (signs ∙ eq-eqb i leader leads) highest) in
-          let on = story_on same elect term_length i s lives.0 (leader_calls p) (deeds_done l q) ran lives.1 does in
-          let built : Contains on.story.steps (Calls (Proposed start q 0)) = subst (λ ss. Contains ss (Calls (Proposed start q 0))) (sym on.steps) (Contains-append_right s.steps (map Calls (leader_calls p)) (Calls (Proposed start q 0)) (1, omega arith, refl)) in
-          (on.story, record { goes_on = on.goes_on; ran = on.ran; deeds = on.deeds; heard = hears (leader_calls p) (leader_hears p) on.story on.steps; builds = λ is. built })
+          let does = does_of same elect (leader_sequence l q [] []) lives.0 (leader_done same elect reflexive l q [] [] fresh.round fresh.pending fresh.no_finalization lead.0 lead.1 lives.0 x lives.2 stands (signs ∙ eq-eqb i leader leads) highest) in
+          let on = execution_on same elect term_length i s lives.0 (leader_calls p) (trace_done l q) ran lives.1 does in
+          let built : Contains on.execution.steps (Calls (Proposed start q 0)) = subst (λ ss. Contains ss (Calls (Proposed start q 0))) (sym on.steps) (Contains-append_right s.steps (map Calls (leader_calls p)) (Calls (Proposed start q 0)) (1, omega arith, refl)) in
+          (on.execution, record { goes_on = on.goes_on; ran = on.ran; trace = on.trace; heard = hears (leader_calls p) (leader_hears p) on.execution on.steps; builds = λ is. built })

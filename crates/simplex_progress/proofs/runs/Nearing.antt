@@ -17,7 +17,7 @@ use Rattle.simplex_laws.specs.Events as event
 use Rattle.simplex_laws.specs.Events.{Event, IsEvent, after_event}
 use Rattle.simplex_laws.specs.Leading.{tracks, tracks_by, opens}
 use Rattle.simplex_laws.specs.Shows.{verdict_of}
-use Rattle.simplex_laws.specs.Sums.{or_new, notarizes, verdict_of_event, entered_by, finalized_by_event, covers_from, is_prune, has_view}
+use Rattle.simplex_laws.specs.HistoryFolds.{or_new, notarizes, verdict_of_event, entered_by, finalized_by_event, covers_from, is_prune, has_view}
 use Rattle.simplex_laws.specs.Timing.{enters}
 use Rattle.simplex_laws.proofs.frames.Rising.{event_goes}
 use Rattle.simplex_laws.proofs.frames.Sound.{event_ahead}

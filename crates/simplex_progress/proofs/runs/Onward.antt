@@ -1,4 +1,4 @@
--- A story that goes on by calls.
+-- An execution that goes on by calls.
 use Rattle.std.proofs.Common.{◌≡◌, refl, ap, sym, ◌∙◌, subst, inl, inr, ℕ, Bool, List, [], ◌∷◌, ◌++◌, append_assoc, map, Contains, arith}
 use Rattle.std.proofs.lemmas.List.Elements.{Contains-append_cases}
 use Rattle.simplex_voter.specs.Facts.{Elect}
@@ -7,9 +7,9 @@ use Rattle.simplex_member.specs.Calls.{CallFacts, Told}
 use Rattle.simplex_member.specs.Lives.{MemberFacts}
 use Rattle.simplex_member.specs.Runs.{StepFacts, Calls, Restarts, IsRun, IsRunFrom}
 use Rattle.simplex_member.specs.Start.{started_member}
-use Rattle.simplex_laws.specs.Continuations.{StoryGoesOn}
-use Rattle.simplex_laws.specs.Deeds.{Deed, of_floor, deeds_at, deeds_of_steps}
-use Rattle.simplex_laws.specs.Stories.{Story, deeds_of, Ran}
+use Rattle.simplex_laws.specs.Continuations.{ExecutionGoesOn}
+use Rattle.simplex_laws.specs.Traces.{TraceEvent, of_floor, trace_at, trace_of_steps}
+use Rattle.simplex_laws.specs.Executions.{Execution, trace_of, IsExecution}
 use Rattle.simplex_laws.proofs.lists.Splits.{Contains-cases}
 use Rattle.simplex_progress.specs.Reaching.{judged_by, judged_in}
 use Rattle.simplex_progress.proofs.states.Sequences.{Does}
@@ -32,12 +32,12 @@ module _ {K L D : Type 0} (same : D → D → Bool) (elect : Elect L) where
   run_joined (s ∷ steps) more [] rest m n end run goes = absurd run
   run_joined (s ∷ steps) more (t ∷ told) rest m n end (next, is_step, run) goes = (next, is_step, run_joined steps more told rest next n end run goes)
 
-  pub deeds_joined : (steps more : List (StepFacts K L D)) (told rest : List (Told K D)) (m n : MemberFacts K L D) → IsRun same elect m steps told n → deeds_of_steps (steps ++ more) (told ++ rest) ≡ deeds_of_steps steps told ++ deeds_of_steps more rest
-  deeds_joined [] more [] rest m n run = refl
-  deeds_joined [] more (t ∷ told) rest m n run = absurd run
-  deeds_joined (s ∷ steps) more [] rest m n run = absurd run
-  deeds_joined (s ∷ steps) more (t ∷ told) rest m n (next, is_step, run) =
-      ap (λ ds. deeds_at s t ++ ds) (deeds_joined steps more told rest next n run) ∙ sym (append_assoc (deeds_at s t) (deeds_of_steps steps told) (deeds_of_steps more rest))
+  pub traces_joined : (steps more : List (StepFacts K L D)) (told rest : List (Told K D)) (m n : MemberFacts K L D) → IsRun same elect m steps told n → trace_of_steps (steps ++ more) (told ++ rest) ≡ trace_of_steps steps told ++ trace_of_steps more rest
+  traces_joined [] more [] rest m n run = refl
+  traces_joined [] more (t ∷ told) rest m n run = absurd run
+  traces_joined (s ∷ steps) more [] rest m n run = absurd run
+  traces_joined (s ∷ steps) more (t ∷ told) rest m n (next, is_step, run) =
+      ap (λ ds. trace_at s t ++ ds) (traces_joined steps more told rest next n run) ∙ sym (append_assoc (trace_at s t) (trace_of_steps steps told) (trace_of_steps more rest))
 
   -- each step beside its reply
   pub paired : (steps : List (StepFacts K L D)) (told : List (Told K D)) (m n : MemberFacts K L D) → IsRun same elect m steps told n → (more : List (StepFacts K L D × Told K D)) × (map (λ e. e.0) more ≡ steps) × (map (λ e. e.1) more ≡ told)
@@ -48,12 +48,12 @@ module _ {K L D : Type 0} (same : D → D → Bool) (elect : Elect L) where
       let rest = paired steps told next n run in
       ((s, t) ∷ rest.0, ap (λ ss. s ∷ ss) rest.1, ap (λ ts. t ∷ ts) rest.2)
 
-  -- the story with these calls, each beside its reply
-  abbrev pub and_calls : Story K L D → List (CallFacts D) → List (Told K D) → Story K L D
+  -- the execution with these calls, each beside its reply
+  abbrev pub and_calls : Execution K L D → List (CallFacts D) → List (Told K D) → Execution K L D
   and_calls s calls replies = record s { steps = s.steps ++ map Calls calls; replies = s.replies ++ replies }
 
-  module _ (term_length i : ℕ) (s : Story K L D) (m end : MemberFacts K L D) (calls : List (CallFacts D)) (replies : List (Told K D)) (run : IsRun same elect (started_member same elect (new_state s.start.setup) s.start.floor s.start.now) s.steps s.replies m) (goes : IsRun same elect m (map Calls calls) replies end) where
-    pub calls_go_on : StoryGoesOn s (and_calls s calls replies)
+  module _ (term_length i : ℕ) (s : Execution K L D) (m end : MemberFacts K L D) (calls : List (CallFacts D)) (replies : List (Told K D)) (run : IsRun same elect (started_member same elect (new_state s.start.setup) s.start.floor s.start.now) s.steps s.replies m) (goes : IsRun same elect m (map Calls calls) replies end) where
+    pub calls_go_on : ExecutionGoesOn s (and_calls s calls replies)
     calls_go_on =
         let pairs = paired (map Calls calls) replies m end goes in
         (pairs.0, λ j. record s { steps = s.steps ++ sym pairs.1 j; replies = s.replies ++ sym pairs.2 j })
@@ -61,7 +61,7 @@ module _ {K L D : Type 0} (same : D → D → Bool) (elect : Elect L) where
     pub calls_run : IsRun same elect (started_member same elect (new_state s.start.setup) s.start.floor s.start.now) (s.steps ++ map Calls calls) (s.replies ++ replies) end
     calls_run = run_joined s.steps (map Calls calls) s.replies replies (started_member same elect (new_state s.start.setup) s.start.floor s.start.now) m end run goes
 
-    pub calls_ran : Ran same elect term_length i s → Ran same elect term_length i (and_calls s calls replies)
+    pub calls_ran : IsExecution same elect term_length i s → IsExecution same elect term_length i (and_calls s calls replies)
     unfolding IsRunFrom
     calls_ran ran = record {
       lives = record {
@@ -71,24 +71,24 @@ module _ {K L D : Type 0} (same : D → D → Bool) (elect : Elect L) where
       run = (ran.run.0, end, calls_run);
     }
 
-    pub calls_deeds : deeds_of (and_calls s calls replies) ≡ deeds_of s ++ deeds_of_steps {L = L} (map Calls calls) replies
-    calls_deeds =
-        ap (λ ds. of_floor s.start.floor ++ ds) (deeds_joined s.steps (map Calls calls) s.replies replies (started_member same elect (new_state s.start.setup) s.start.floor s.start.now) m run)
-        ∙ sym (append_assoc (of_floor s.start.floor) (deeds_of_steps s.steps s.replies) (deeds_of_steps {L = L} (map Calls calls) replies))
+    pub calls_trace : trace_of (and_calls s calls replies) ≡ trace_of s ++ trace_of_steps {L = L} (map Calls calls) replies
+    calls_trace =
+        ap (λ ds. of_floor s.start.floor ++ ds) (traces_joined s.steps (map Calls calls) s.replies replies (started_member same elect (new_state s.start.setup) s.start.floor s.start.now) m run)
+        ∙ sym (append_assoc (of_floor s.start.floor) (trace_of_steps s.steps s.replies) (trace_of_steps {L = L} (map Calls calls) replies))
 
-  -- the story with these calls
-  pub record Onward (term_length i : ℕ) (s : Story K L D) (calls : List (CallFacts D)) (done : List (Deed D)) : Type 0 where
-    pub story : Story K L D
-    pub goes_on : StoryGoesOn s story
-    pub ran : Ran same elect term_length i story
-    pub steps : story.steps ≡ s.steps ++ map Calls calls
-    pub deeds : deeds_of story ≡ deeds_of s ++ done
+  -- the execution with these calls
+  pub record Onward (term_length i : ℕ) (s : Execution K L D) (calls : List (CallFacts D)) (done : List (TraceEvent D)) : Type 0 where
+    pub execution : Execution K L D
+    pub goes_on : ExecutionGoesOn s execution
+    pub ran : IsExecution same elect term_length i execution
+    pub steps : execution.steps ≡ s.steps ++ map Calls calls
+    pub trace : trace_of execution ≡ trace_of s ++ done
 
-  pub story_on : (term_length i : ℕ) (s : Story K L D) (m : MemberFacts K L D) (calls : List (CallFacts D)) (done : List (Deed D)) → Ran same elect term_length i s → IsRun same elect (started_member same elect (new_state s.start.setup) s.start.floor s.start.now) s.steps s.replies m → Does same elect m (map Calls calls) done → Onward term_length i s calls done
-  story_on term_length i s m calls done ran run does = record {
-    story = and_calls s calls does.replies;
+  pub execution_on : (term_length i : ℕ) (s : Execution K L D) (m : MemberFacts K L D) (calls : List (CallFacts D)) (done : List (TraceEvent D)) → IsExecution same elect term_length i s → IsRun same elect (started_member same elect (new_state s.start.setup) s.start.floor s.start.now) s.steps s.replies m → Does same elect m (map Calls calls) done → Onward term_length i s calls done
+  execution_on term_length i s m calls done ran run does = record {
+    execution = and_calls s calls does.replies;
     goes_on = calls_go_on term_length i s m does.end calls does.replies run does.run;
     ran = calls_ran term_length i s m does.end calls does.replies run does.run ran;
     steps = refl;
-    deeds = calls_deeds term_length i s m does.end calls does.replies run does.run ∙ ap (λ ds. deeds_of s ++ ds) does.does;
+    trace = calls_trace term_length i s m does.end calls does.replies run does.run ∙ ap (λ ds. trace_of s ++ ds) does.does;
   }

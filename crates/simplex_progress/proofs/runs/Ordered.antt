@@ -1,4 +1,4 @@
--- A vote to nullify comes after what led to its view: the story up to the vote's step is a run itself.
+-- A vote to nullify comes after what led to its view: the execution up to the vote's step is a run itself.
 use Rattle.std.proofs.Common.{◌≡◌, refl, ap, sym, ◌∙◌, subst, ◌⊎◌, inl, inr, ℕ, Bool, true, List, [], ◌∷◌, ◌++◌, append_assoc, length, length-append, map, Contains, Some, arith}
 use Rattle.std.proofs.lemmas.List.{append-nil}
 use Rattle.std.proofs.lemmas.List.Elements.{Contains-append_cases, Contains-append_left}
@@ -13,13 +13,13 @@ use Rattle.simplex_member.specs.Calls.{CallFacts, Told, Added, AddedNullificatio
 use Rattle.simplex_member.specs.Lives.{MemberFacts}
 use Rattle.simplex_member.specs.Runs.{StepFacts, Calls, Prunes, Restarts, IsRun, IsRunFrom}
 use Rattle.simplex_member.specs.Start.{started_member}
-use Rattle.simplex_laws.specs.Continuations.{StoryGoesOn}
-use Rattle.simplex_laws.specs.Deeds.{Deed, Accepts, Signs, handed_in, of_floor, of_vote, deeds_at, deeds_of_steps}
+use Rattle.simplex_laws.specs.Continuations.{ExecutionGoesOn}
+use Rattle.simplex_laws.specs.Traces.{TraceEvent, Accepts, Signs, handed_in, of_floor, of_vote, trace_at, trace_of_steps}
 use Rattle.simplex_laws.specs.Lawful.{SignsAfter}
-use Rattle.simplex_laws.specs.Stories.{Story, deeds_of, Ran}
+use Rattle.simplex_laws.specs.Executions.{Execution, trace_of, IsExecution}
 use Rattle.simplex_laws.proofs.agreement.VoteOrder.{Contains-middle}
 use Rattle.simplex_laws.proofs.lives.WithinRuns.{run_from_before}
-use Rattle.simplex_laws.proofs.records.DeedsShown.{only_one}
+use Rattle.simplex_laws.proofs.records.TracesShown.{only_one}
 use Rattle.simplex_progress.specs.Reaching.{IsLedTo, First, PastFinalized, PastCertified, PastNullified, judged_by, judged_in, judged_of}
 use Rattle.simplex_progress.proofs.runs.LedLives.{floor_signs_none, nullified_led}
 use Rattle.simplex_progress.proofs.runs.Onward.{judged_joined, paired}
@@ -47,37 +47,37 @@ no_split d (b ∷ before) after is = cc
 
 -- a list of the vote alone is split there
 module _ {D : Type 0} (signer : ℕ) (round : Round) where
-  abbrev vote : Deed D
+  abbrev vote : TraceEvent D
   vote = Signs signer (subject.Nullify round)
 
-  abbrev IsAlone : List (Deed D) → List (Deed D) → Type 0
-  IsAlone deeds before = (before ≡ []) × (deeds ≡ vote ∷ [])
+  abbrev IsAlone : List (TraceEvent D) → List (TraceEvent D) → Type 0
+  IsAlone trace before = (before ≡ []) × (trace ≡ vote ∷ [])
 
-  one_split : (deed : Deed D) (before after : List (Deed D)) → deed ∷ [] ≡ before ++ vote ∷ after → IsAlone (deed ∷ []) before
-  one_split deed before after is = (let one = single_split deed vote before after is in (one.0, ap (λ (z : Deed D). z ∷ []) one.1))
+  one_split : (trace_event : TraceEvent D) (before after : List (TraceEvent D)) → trace_event ∷ [] ≡ before ++ vote ∷ after → IsAlone (trace_event ∷ []) before
+  one_split trace_event before after is = (let one = single_split trace_event vote before after is in (one.0, ap (λ (z : TraceEvent D). z ∷ []) one.1))
 
-  entry_split : (entry : ArtifactFacts D) (before after : List (Deed D)) → of_vote entry ≡ before ++ vote ∷ after → IsAlone (of_vote entry) before
+  entry_split : (entry : ArtifactFacts D) (before after : List (TraceEvent D)) → of_vote entry ≡ before ++ vote ∷ after → IsAlone (of_vote entry) before
   entry_split (NotarizeVote p i) before after is = one_split _ before after is
   entry_split (NullifyVote r i) before after is = one_split _ before after is
   entry_split (FinalizeVote p i) before after is = one_split _ before after is
   entry_split _ before after is = absurd (no_split vote before after is)
 
   -- none is handed in
-  no_certificate : (call : CallFacts D) (before after : List (Deed D)) → handed_in call ++ [] ≡ before ++ vote ∷ after → ⊥
+  no_certificate : (call : CallFacts D) (before after : List (TraceEvent D)) → handed_in call ++ [] ≡ before ++ vote ∷ after → ⊥
   no_certificate (AddNotarization c) before after is = let one = single_split _ vote before after is in let apart = one.1 in cc
   no_certificate (AddNullification c now) before after is = let one = single_split _ vote before after is in let apart = one.1 in cc
   no_certificate (AddFinalization c now) before after is = let one = single_split _ vote before after is in let apart = one.1 in cc
   no_certificate _ before after is = no_split vote before after is
 
-  no_floor : (floor : _) (before after : List (Deed D)) → of_floor floor ≡ before ++ vote ∷ after → ⊥
+  no_floor : (floor : _) (before after : List (TraceEvent D)) → of_floor floor ≡ before ++ vote ∷ after → ⊥
   no_floor floor before after is = floor_signs_none floor round (signer, subst (λ ds. Contains ds vote) (sym is) (Contains-middle before after vote))
 
   -- the vote is all that its step does, and no verdict is told then
-  record IsAll {K L : Type 0} (step : StepFacts K L D) (told : Told K D) (before : List (Deed D)) : Type 0 where
-    alone : IsAlone (deeds_at step told) before
+  record IsAll {K L : Type 0} (step : StepFacts K L D) (told : Told K D) (before : List (TraceEvent D)) : Type 0 where
+    alone : IsAlone (trace_at step told) before
     no_verdict : judged_by told ≡ []
 
-  call_all : {K L : Type 0} (call : CallFacts D) (told : Told K D) (before after : List (Deed D)) → deeds_at {L = L} (Calls call) told ≡ before ++ vote ∷ after → IsAll {L = L} (Calls call) told before
+  call_all : {K L : Type 0} (call : CallFacts D) (told : Told K D) (before after : List (TraceEvent D)) → trace_at {L = L} (Calls call) told ≡ before ++ vote ∷ after → IsAll {L = L} (Calls call) told before
   call_all call (Added b o) before after is = absurd (no_certificate call before after is)
   call_all call (AddedNullification b) before after is = absurd (no_certificate call before after is)
   call_all call (Nullify (Some (retry, entry))) before after is = record { alone = entry_split entry before after is; no_verdict = refl }
@@ -85,20 +85,20 @@ module _ {D : Type 0} (signer : ℕ) (round : Round) where
   call_all call (Notarize (Some entry)) before after is = record { alone = entry_split entry before after is; no_verdict = refl }
   call_all call _ before after is = absurd (no_split vote before after is)
 
-  restart_all : {K L : Type 0} (r : _) (told : Told K D) (before after : List (Deed D)) → deeds_at {L = L} (Restarts r) told ≡ before ++ vote ∷ after → IsAll {L = L} (Restarts r) told before
+  restart_all : {K L : Type 0} (r : _) (told : Told K D) (before after : List (TraceEvent D)) → trace_at {L = L} (Restarts r) told ≡ before ++ vote ∷ after → IsAll {L = L} (Restarts r) told before
   restart_all r (Nullify (Some (retry, entry))) before after is = record { alone = entry_split entry before after is; no_verdict = refl }
   restart_all r (Finalize (Some entry)) before after is = record { alone = entry_split entry before after is; no_verdict = refl }
   restart_all r (Notarize (Some entry)) before after is = record { alone = entry_split entry before after is; no_verdict = refl }
   restart_all r Restarted before after is = absurd (no_floor r.start.floor before after (sym (append-nil (of_floor r.start.floor)) ∙ is))
   restart_all r _ before after is = absurd (no_split vote before after is)
 
-  prune_all : {K L : Type 0} (told : Told K D) (before after : List (Deed D)) → deeds_at {L = L} Prunes told ≡ before ++ vote ∷ after → IsAll {L = L} Prunes told before
+  prune_all : {K L : Type 0} (told : Told K D) (before after : List (TraceEvent D)) → trace_at {L = L} Prunes told ≡ before ++ vote ∷ after → IsAll {L = L} Prunes told before
   prune_all (Nullify (Some (retry, entry))) before after is = record { alone = entry_split entry before after is; no_verdict = refl }
   prune_all (Finalize (Some entry)) before after is = record { alone = entry_split entry before after is; no_verdict = refl }
   prune_all (Notarize (Some entry)) before after is = record { alone = entry_split entry before after is; no_verdict = refl }
   prune_all _ before after is = absurd (no_split vote before after is)
 
-  step_all : {K L : Type 0} (step : StepFacts K L D) (told : Told K D) (before after : List (Deed D)) → deeds_at step told ≡ before ++ vote ∷ after → IsAll step told before
+  step_all : {K L : Type 0} (step : StepFacts K L D) (told : Told K D) (before after : List (TraceEvent D)) → trace_at step told ≡ before ++ vote ∷ after → IsAll step told before
   step_all (Calls call) told before after is = call_all call told before after is
   step_all Prunes told before after is = prune_all told before after is
   step_all (Restarts r) told before after is = restart_all r told before after is
@@ -106,7 +106,7 @@ module _ {D : Type 0} (signer : ℕ) (round : Round) where
 -- the vote's step, in a run
 
 module _ {K L D : Type 0} (same : D → D → Bool) (elect : Elect L) (signer : ℕ) (round : Round) where
-  record VoteAt (steps : List (StepFacts K L D)) (replies : List (Told K D)) (before : List (Deed D)) : Type 0 where
+  record VoteAt (steps : List (StepFacts K L D)) (replies : List (Told K D)) (before : List (TraceEvent D)) : Type 0 where
     first : List (StepFacts K L D)
     told : List (Told K D)
     as_many : length first ≡ length told
@@ -115,16 +115,16 @@ module _ {K L D : Type 0} (same : D → D → Bool) (elect : Elect L) (signer : 
     more : List (StepFacts K L D × Told K D)
     steps_are : steps ≡ first ++ step ∷ map (λ e. e.0) more
     replies_are : replies ≡ told ++ reply ∷ map (λ e. e.1) more
-    done : deeds_of_steps first told ≡ before
-    alone : deeds_at step reply ≡ vote signer round ∷ []
+    done : trace_of_steps first told ≡ before
+    alone : trace_at step reply ≡ vote signer round ∷ []
     no_verdict : judged_by reply ≡ []
 
-  vote_at : (steps : List (StepFacts K L D)) (replies : List (Told K D)) (m end : MemberFacts K L D) → IsRun same elect m steps replies end → (before after : List (Deed D)) → deeds_of_steps steps replies ≡ before ++ vote signer round ∷ after → VoteAt steps replies before
+  vote_at : (steps : List (StepFacts K L D)) (replies : List (Told K D)) (m end : MemberFacts K L D) → IsRun same elect m steps replies end → (before after : List (TraceEvent D)) → trace_of_steps steps replies ≡ before ++ vote signer round ∷ after → VoteAt steps replies before
   vote_at [] [] m end run before after is = absurd (no_split (vote signer round) before after is)
   vote_at [] (reply ∷ replies) m end run before after is = absurd run
   vote_at (step ∷ steps) [] m end run before after is = absurd run
   vote_at (step ∷ steps) (reply ∷ replies) m end (next, is_step, run) before after is =
-      elim (append_split (deeds_at step reply) (deeds_of_steps steps replies) before after (vote signer round) is) [
+      elim (append_split (trace_at step reply) (trace_of_steps steps replies) before after (vote signer round) is) [
         | inl (rest, here) ↦ (
             let all = step_all signer round step reply before rest here in
             let pairs = paired same elect steps replies next end run in
@@ -152,23 +152,23 @@ module _ {K L D : Type 0} (same : D → D → Bool) (elect : Elect L) (signer : 
               more = v.more;
               steps_are = ap (λ (ss : List (StepFacts K L D)). step ∷ ss) v.steps_are;
               replies_are = ap (λ (rs : List (Told K D)). reply ∷ rs) v.replies_are;
-              done = ap (λ (ds : List (Deed D)). deeds_at step reply ++ ds) v.done ∙ sym before_is;
+              done = ap (λ (ds : List (TraceEvent D)). trace_at step reply ++ ds) v.done ∙ sym before_is;
               alone = v.alone;
               no_verdict = v.no_verdict;
             })
       ]
 
--- the story up to the vote's step
+-- the execution up to the vote's step
 
-deeds_pushed : {K L D : Type 0} (steps : List (StepFacts K L D)) (replies : List (Told K D)) (step : StepFacts K L D) (reply : Told K D) → length steps ≡ length replies → deeds_of_steps (steps ++ step ∷ []) (replies ++ reply ∷ []) ≡ deeds_of_steps steps replies ++ deeds_at step reply
-deeds_pushed [] [] step reply as_many = append-nil (deeds_at step reply)
-deeds_pushed [] (r ∷ replies) step reply as_many = absurd (omega (arith, as_many))
-deeds_pushed (s ∷ steps) [] step reply as_many = absurd (omega (arith, as_many))
-deeds_pushed (s ∷ steps) (r ∷ replies) step reply as_many =
-    ap (λ ds. deeds_at s r ++ ds) (deeds_pushed steps replies step reply (omega (arith, as_many))) ∙ sym (append_assoc (deeds_at s r) (deeds_of_steps steps replies) (deeds_at step reply))
+trace_pushed : {K L D : Type 0} (steps : List (StepFacts K L D)) (replies : List (Told K D)) (step : StepFacts K L D) (reply : Told K D) → length steps ≡ length replies → trace_of_steps (steps ++ step ∷ []) (replies ++ reply ∷ []) ≡ trace_of_steps steps replies ++ trace_at step reply
+trace_pushed [] [] step reply as_many = append-nil (trace_at step reply)
+trace_pushed [] (r ∷ replies) step reply as_many = absurd (omega (arith, as_many))
+trace_pushed (s ∷ steps) [] step reply as_many = absurd (omega (arith, as_many))
+trace_pushed (s ∷ steps) (r ∷ replies) step reply as_many =
+    ap (λ ds. trace_at s r ++ ds) (trace_pushed steps replies step reply (omega (arith, as_many))) ∙ sym (append_assoc (trace_at s r) (trace_of_steps steps replies) (trace_at step reply))
 
 -- the vote itself leads to no view
-module _ {D : Type 0} (term_length epoch signer : ℕ) (round : Round) (before : List (Deed D)) (verdicts : List (Bool × Proposal D)) (view : ℕ) where
+module _ {D : Type 0} (term_length epoch signer : ℕ) (round : Round) (before : List (TraceEvent D)) (verdicts : List (Bool × Proposal D)) (view : ℕ) where
   accepted_before : (c : Subject D) → Contains (before ++ vote signer round ∷ []) (Accepts c) → Contains before (Accepts c)
   accepted_before c h = elim (Contains-append_cases before (vote signer round ∷ []) (Accepts c) h) [ inl old ↦ old | inr new ↦ absurd (let e = only_one _ _ new in cc) ]
 
@@ -178,25 +178,25 @@ module _ {D : Type 0} (term_length epoch signer : ℕ) (round : Round) (before :
   led_before (PastCertified below h is) = PastCertified below h is
   led_before (PastNullified below (r, h, is_in) is) = PastNullified below (r, accepted_before (subject.Nullify r) h, is_in) is
 
-module _ {K L D : Type 0} (same : D → D → Bool) (decides : (d e : D) → same d e ≡ true → d ≡ e) (elect : Elect L) (term_length i : ℕ) (s : Story K L D) (ran : Ran same elect term_length i s) (signer : ℕ) (round : Round) (before later : List (Deed D))
+module _ {K L D : Type 0} (same : D → D → Bool) (decides : (d e : D) → same d e ≡ true → d ≡ e) (elect : Elect L) (term_length i : ℕ) (s : Execution K L D) (ran : IsExecution same elect term_length i s) (signer : ℕ) (round : Round) (before later : List (TraceEvent D))
     (before_is : before ≡ of_floor s.start.floor ++ later) (v : VoteAt same elect signer round s.steps s.replies later) where
-  abbrev earlier : Story K L D
+  abbrev earlier : Execution K L D
   earlier = record s { steps = v.first; replies = v.told }
 
   -- with the vote's step
-  abbrev until : Story K L D
+  abbrev until : Execution K L D
   until = record s { steps = v.first ++ v.step ∷ []; replies = v.told ++ v.reply ∷ [] }
 
-  goes_on : StoryGoesOn earlier s
+  goes_on : ExecutionGoesOn earlier s
   goes_on = ((v.step, v.reply) ∷ v.more, λ j. record s { steps = v.steps_are j; replies = v.replies_are j })
 
-  deeds_are : deeds_of earlier ≡ before
-  deeds_are = ap (λ ds. of_floor s.start.floor ++ ds) v.done ∙ sym before_is
+  trace_is : trace_of earlier ≡ before
+  trace_is = ap (λ ds. of_floor s.start.floor ++ ds) v.done ∙ sym before_is
 
-  until_deeds : deeds_of until ≡ before ++ vote signer round ∷ []
-  until_deeds =
-      ap (λ ds. of_floor s.start.floor ++ ds) (deeds_pushed v.first v.told v.step v.reply v.as_many ∙ ap (λ ds. deeds_of_steps v.first v.told ++ ds) v.alone)
-      ∙ (sym (append_assoc (of_floor s.start.floor) (deeds_of_steps v.first v.told) (vote signer round ∷ [])) ∙ ap (λ ds. ds ++ vote signer round ∷ []) deeds_are)
+  until_trace : trace_of until ≡ before ++ vote signer round ∷ []
+  until_trace =
+      ap (λ ds. of_floor s.start.floor ++ ds) (trace_pushed v.first v.told v.step v.reply v.as_many ∙ ap (λ ds. trace_of_steps v.first v.told ++ ds) v.alone)
+      ∙ (sym (append_assoc (of_floor s.start.floor) (trace_of_steps v.first v.told) (vote signer round ∷ [])) ∙ ap (λ ds. ds ++ vote signer round ∷ []) trace_is)
 
   until_judged : judged_of until ≡ judged_of earlier
   until_judged = judged_joined v.told (v.reply ∷ []) ∙ (ap (λ ps. judged_in v.told ++ (ps ++ [])) v.no_verdict ∙ append-nil (judged_in v.told))
@@ -207,7 +207,7 @@ module _ {K L D : Type 0} (same : D → D → Bool) (decides : (d e : D) → sam
   replies_whole : s.replies ≡ (v.told ++ v.reply ∷ []) ++ map (λ e. e.1) v.more
   replies_whole = v.replies_are ∙ sym (append_assoc v.told (v.reply ∷ []) (map (λ e. e.1) v.more))
 
-  until_ran : Ran same elect term_length i until
+  until_ran : IsExecution same elect term_length i until
   until_ran = record {
     lives = record {
       first = ran.lives.first;
@@ -218,22 +218,22 @@ module _ {K L D : Type 0} (same : D → D → Bool) (decides : (d e : D) → sam
         (subst (λ ss. IsRunFrom same elect s.start ss ((v.told ++ v.reply ∷ []) ++ map (λ e. e.1) v.more)) steps_whole (subst (λ rs. IsRunFrom same elect s.start s.steps rs) replies_whole ran.run));
   }
 
-  of_step : (t : Story K L D) × StoryGoesOn t s × (deeds_of t ≡ before) × IsLedTo term_length round.epoch before (judged_of t) round.view
+  of_step : (t : Execution K L D) × ExecutionGoesOn t s × (trace_of t ≡ before) × IsLedTo term_length round.epoch before (judged_of t) round.view
   of_step = (
     earlier,
     goes_on,
-    deeds_are,
+    trace_is,
     led_before term_length round.epoch signer round before (judged_of earlier) round.view
-        (subst (λ ds. IsLedTo term_length round.epoch ds (judged_of earlier) round.view) until_deeds
-        (subst (λ ps. IsLedTo term_length round.epoch (deeds_of until) ps round.view) until_judged
-        (nullified_led same decides elect term_length i until until_ran round (signer, subst (λ ds. Contains ds (vote signer round)) (sym until_deeds) (Contains-middle before [] (vote signer round)))))),
+        (subst (λ ds. IsLedTo term_length round.epoch ds (judged_of earlier) round.view) until_trace
+        (subst (λ ps. IsLedTo term_length round.epoch (trace_of until) ps round.view) until_judged
+        (nullified_led same decides elect term_length i until until_ran round (signer, subst (λ ds. Contains ds (vote signer round)) (sym until_trace) (Contains-middle before [] (vote signer round)))))),
   )
 
-pub vote_ordered : {K L D : Type 0} (same : D → D → Bool) (decides : (d e : D) → same d e ≡ true → d ≡ e) (elect : Elect L) (term_length i : ℕ) (s : Story K L D) → Ran same elect term_length i s → (before : List (Deed D)) (round : Round) → SignsAfter (deeds_of s) before (subject.Nullify round)
-    → (earlier : Story K L D) × StoryGoesOn earlier s × (deeds_of earlier ≡ before) × IsLedTo term_length round.epoch before (judged_of earlier) round.view
+pub vote_ordered : {K L D : Type 0} (same : D → D → Bool) (decides : (d e : D) → same d e ≡ true → d ≡ e) (elect : Elect L) (term_length i : ℕ) (s : Execution K L D) → IsExecution same elect term_length i s → (before : List (TraceEvent D)) (round : Round) → SignsAfter (trace_of s) before (subject.Nullify round)
+    → (earlier : Execution K L D) × ExecutionGoesOn earlier s × (trace_of earlier ≡ before) × IsLedTo term_length round.epoch before (judged_of earlier) round.view
 unfolding IsRunFrom
 vote_ordered same decides elect term_length i s ran before round (signer, after, is) =
-    elim (append_split (of_floor s.start.floor) (deeds_of_steps s.steps s.replies) before after (vote signer round) is) [
+    elim (append_split (of_floor s.start.floor) (trace_of_steps s.steps s.replies) before after (vote signer round) is) [
       | inl (rest, here) ↦ absurd (no_floor signer round s.start.floor before rest here)
       | inr (later, before_is, there) ↦ of_step same decides elect term_length i s ran signer round before later before_is
           (vote_at same elect signer round s.steps s.replies (started_member same elect (new_state s.start.setup) s.start.floor s.start.now) ran.run.1 ran.run.2 later after there)

@@ -9,14 +9,14 @@ use Rattle.simplex_round.specs.declared.round.Leader.{Leader}
 use Rattle.simplex_round.specs.Round.{RoundFacts, new_round}
 use Rattle.simplex_voter.specs.Facts.{StateFacts, round_of, round_number}
 use Rattle.simplex_voter.specs.Parents.{at_view, explicit_below, highest_explicit}
-use Rattle.simplex_voter.specs.Payloads.{explicit_payload}
+use Rattle.simplex_voter.specs.Payloads.{explicit_ancestry_payload}
 use Rattle.simplex_voter.specs.Refusals.{is_too_large}
-use Rattle.simplex_voter.specs.Rules.{is_gated}
+use Rattle.simplex_voter.specs.Rules.{has_conflicting_nullify}
 use Rattle.simplex_member.specs.Lives.{MemberFacts}
-use Rattle.simplex_laws.specs.Stories.{Story}
+use Rattle.simplex_laws.specs.Executions.{Execution}
 use Rattle.simplex_progress.specs.Standing.{IsFreshStart, CanStandOn}
 use Rattle.simplex_progress.specs.Living.{IsSetUpAs}
-use Rattle.simplex_progress.proofs.states.Standing.{Place, Stands}
+use Rattle.simplex_progress.proofs.states.Standing.{Replica, Stands}
 use Rattle.simplex_progress.proofs.states.Calls.{with_work, nothing_done}
 use Rattle.simplex_progress.proofs.runs.Ends.{Shown}
 
@@ -40,8 +40,8 @@ module _ (length finalized v : ℕ) (start : v ≡ term_start length v) where
   let_pass [] = refl
   let_pass (u ∷ us) = rw (lets_pass u) (let_pass us)
 
-pub no_gate : {K L D : Type 0} (x : StateFacts K L D) (v : ℕ) → v ≡ term_start x.terms.term_length v → is_gated x v ≡ false
-unfolding is_gated
+pub no_gate : {K L D : Type 0} (x : StateFacts K L D) (v : ℕ) → v ≡ term_start x.terms.term_length v → has_conflicting_nullify x v ≡ false
+unfolding has_conflicting_nullify
 no_gate x v start = let_pass x.terms.term_length x.finalized v start x.nullify_votes
 
 -- what is built on is explicit
@@ -57,16 +57,16 @@ module _ {A B : Type 0} (P : A → Type 0) where
 
 module _ {K L D : Type 0} (x : StateFacts K L D) where
   abbrev IsExplicit : ℕ × D → Type 0
-  IsExplicit a = explicit_payload x a.0 ≡ Some a.1
+  IsExplicit a = explicit_ancestry_payload x a.0 ≡ Some a.1
 
-  at_explicit : (v : ℕ) (o : Option D) (a : ℕ × D) → explicit_payload x v ≡ o → at_view v o ≡ Some a → IsExplicit a
+  at_explicit : (v : ℕ) (o : Option D) (a : ℕ × D) → explicit_ancestry_payload x v ≡ o → at_view v o ≡ Some a → IsExplicit a
   at_explicit v None a is at = absurd (cc)
   at_explicit v (Some d) a is at =
       let same : (v, d) ≡ a = ap (λ o. unwrap_or o a) at in
       subst IsExplicit same is
 
-  genesis_explicit : explicit_payload x 0 ≡ x.genesis
-  unfolding explicit_payload
+  genesis_explicit : explicit_ancestry_payload x 0 ≡ x.genesis
+  unfolding explicit_ancestry_payload
   genesis_explicit = refl
 
   pub highest_is : (v : ℕ) (a : ℕ × D) → highest_explicit x v ≡ Some a → IsExplicit a
@@ -75,17 +75,17 @@ module _ {K L D : Type 0} (x : StateFacts K L D) where
       each : (e : ℕ × RoundFacts K D) (b : ℕ × D) → explicit_below x v e ≡ Some b → IsExplicit b
       each e b at = by_test (nat_lt e.0 v) at
         where
-          by_test : (low : Bool) → (if low then at_view e.0 (explicit_payload x e.0) else None) ≡ Some b → IsExplicit b
-          by_test true here = at_explicit e.0 (explicit_payload x e.0) b refl here
+          by_test : (low : Bool) → (if low then at_view e.0 (explicit_ancestry_payload x e.0) else None) ≡ Some b → IsExplicit b
+          by_test true here = at_explicit e.0 (explicit_ancestry_payload x e.0) b refl here
           by_test false here = absurd (cc)
 
--- the place of a member
-abbrev pub place_of : {D : Type 0} → ℕ → ℕ → ℕ → D → ℕ → Place D
-place_of epoch start parent payload i = record { me = i; epoch = epoch; view = start; parent = parent; payload = payload }
+-- the replica of a member
+abbrev pub replica_of : {D : Type 0} → ℕ → ℕ → ℕ → D → ℕ → Replica D
+replica_of epoch start parent payload i = record { me = i; epoch = epoch; view = start; parent = parent; payload = payload }
 
-module _ {K L D : Type 0} (term_length epoch count leader start parent i : ℕ) (elector : L) (s : Story K L D) (m : MemberFacts K L D) (x : StateFacts K L D) (shown : Shown term_length s m x)
+module _ {K L D : Type 0} (term_length epoch count leader start parent i : ℕ) (elector : L) (s : Execution K L D) (m : MemberFacts K L D) (x : StateFacts K L D) (shown : Shown term_length s m x)
     (set : IsSetUpAs epoch count elector i x) (fresh : IsFreshStart leader start x) (can : CanStandOn parent start x) where
-  pub stands_there : is_too_large start ≡ false → Stands (place_of epoch start parent can.payload i) (with_work fresh.round nothing_done) start x
+  pub stands_there : is_too_large start ≡ false → Stands (replica_of epoch start parent can.payload i) (with_work fresh.round nothing_done) start x
   stands_there small = record {
     here = fresh.tracked ∙ (λ j. Some (record (fresh.round) { slot = fresh.no_proposal j; notarize_decided = fresh.no_vote j; notarization = fresh.no_notarization j; certification = fresh.no_verdict j; binding = fresh.unbound j }));
     ordered = shown.living.in_order;

@@ -16,16 +16,16 @@ use Rattle.simplex_voter.specs.Certification.{with_verdict}
 use Rattle.simplex_voter.specs.Entering.{at_moment}
 use Rattle.simplex_voter.specs.Leaders.{with_elected_leader, with_next_view_ready}
 use Rattle.simplex_voter.specs.Refusals.{first_fault, names_too_large, is_started, enters_late, has_late_deadline}
-use Rattle.simplex_voter.specs.Payloads.{explicit_payload}
-use Rattle.simplex_voter.specs.Rules.{may_notarize, may_finalize, required_parent, is_parent_ready}
+use Rattle.simplex_voter.specs.Payloads.{explicit_ancestry_payload}
+use Rattle.simplex_voter.specs.Rules.{may_notarize, may_finalize, required_certification_parent, explicit_parent_ready}
 use Rattle.simplex_voter.specs.Verifying.{with_proposal}
 use Rattle.simplex_voter.proofs.Gaps.{and_both}
 use Rattle.simplex_voter.proofs.Rules.{notarize_whole, finalize_whole}
 use Rattle.simplex_member.specs.Allowed.{is_allowed, fault_of}
 use Rattle.simplex_member.specs.Calls.{CallFacts, Added, Notarize, Finalize, SetProposal, Verified, ConstructNotarize, AddNotarization, Certified, ConstructFinalize, AddFinalization}
-use Rattle.simplex_member.specs.Made.{answer, after_call}
-use Rattle.simplex_member.specs.Openings.{Openings, is_verifying}
-use Rattle.simplex_progress.proofs.states.Standing.{Place, Stands, put_here, at_another, next_ready, waits, woken, next_entered, leader_above, window_led}
+use Rattle.simplex_member.specs.CallSemantics.{answer, after_call}
+use Rattle.simplex_member.specs.OutstandingWork.{OutstandingWork, is_verifying}
+use Rattle.simplex_progress.proofs.states.Standing.{Replica, Stands, put_here, at_another, next_ready, waits, woken, next_entered, leader_above, window_led}
 use Rattle.simplex_progress.proofs.states.Words.{built_on, same_self, round_is, tracked_is, starts, no_window, admitted, takes, names_small, binding_holds}
 
 -- what was done so far in the view: nothing else of its round matters
@@ -86,25 +86,25 @@ and_false false = refl
 pub no_fault_due : (failed too_large late : Bool) → failed ≡ false → too_large ≡ false → late ≡ false → first_fault failed too_large late ≡ None
 no_fault_due failed too_large late alive small early = rw (alive, small, early) refl
 
-module _ {K L D : Type 0} (elect : Elect L) (l : Place D) (r : RoundFacts K D) (c : ℕ) (x : StateFacts K L D) (s : Stands l r c x) where
+module _ {K L D : Type 0} (elect : Elect L) (l : Replica D) (r : RoundFacts K D) (c : ℕ) (x : StateFacts K L D) (s : Stands l r c x) where
   -- what the proposal requires, if anything, is its parent
-  parent_ready : (q : D) → is_parent_ready elect x l.view (built_on l q) ≡ true
-  unfolding required_parent
+  parent_ready : (q : D) → explicit_parent_ready elect x l.view (built_on l q) ≡ true
+  unfolding required_certification_parent
   parent_ready q = rw (starts l r c x s) (by_test _)
     where
-      by_test : (b : Bool) → option_map_or (λ u. is_some (explicit_payload x u)) (if b then Some l.parent else None) true ≡ true
+      by_test : (b : Bool) → option_map_or (λ u. is_some (explicit_ancestry_payload x u)) (if b then Some l.parent else None) true ≡ true
       by_test true = rw s.explicit refl
       by_test false = refl
 
 module _ {K L D : Type 0} (same : D → D → Bool) (elect : Elect L) where
   -- the call is made, and leaves the view's round like this
-  pub record Makes (l : Place D) (q : RoundFacts K D) (c : ℕ) (x : StateFacts K L D) (o : Openings K D) (call : CallFacts D) : Type 0 where
+  pub record Makes (l : Replica D) (q : RoundFacts K D) (c : ℕ) (x : StateFacts K L D) (o : OutstandingWork K D) (call : CallFacts D) : Type 0 where
     pub allowed : is_allowed x o call ≡ true
     pub no_fault : fault_of x call ≡ None
     pub leaves : Stands l q c (after_call same elect x o call)
 
-module _ {K L D : Type 0} (same : D → D → Bool) (elect : Elect L) (reflexive : (d : D) → same d d ≡ true) (l : Place D) (q : D) (r : RoundFacts K D) (pending : is_pending r.decision ≡ true)
-    (x : StateFacts K L D) (o : Openings K D) where
+module _ {K L D : Type 0} (same : D → D → Bool) (elect : Elect L) (reflexive : (d : D) → same d d ≡ true) (l : Replica D) (q : D) (r : RoundFacts K D) (pending : is_pending r.decision ≡ true)
+    (x : StateFacts K L D) (o : OutstandingWork K D) where
   abbrev p : Proposal D
   p = built_on l q
 

@@ -10,18 +10,18 @@ use Rattle.simplex_sorted.proofs.RisingEntries.{AllAbove, Rises, rises}
 use Rattle.simplex_round.specs.Round.{RoundFacts}
 use Rattle.simplex_voter.specs.Facts.{StateFacts}
 use Rattle.simplex_voter.specs.Parents.{at_view, explicit_below, highest_explicit}
-use Rattle.simplex_voter.specs.Payloads.{certified_payload, explicit_payload}
+use Rattle.simplex_voter.specs.Payloads.{certified_payload, explicit_ancestry_payload}
 use Rattle.simplex_laws.proofs.histories.Leaving.{from_T}
 use Rattle.simplex_progress.proofs.states.Waiting.{explicit_by}
 
-module _ {K L D : Type 0} (x : StateFacts K L D) (p v : ℕ) (d : D) (low : p < v) (here : explicit_payload x p ≡ Some d) (none : (w : ℕ) → p < w → explicit_payload x w ≡ None) where
+module _ {K L D : Type 0} (x : StateFacts K L D) (p v : ℕ) (d : D) (low : p < v) (here : explicit_ancestry_payload x p ≡ Some d) (none : (w : ℕ) → p < w → explicit_ancestry_payload x w ≡ None) where
   abbrev gives : ℕ × RoundFacts K D → Option (ℕ × D)
   gives = explicit_below x v
 
   nothing_above : (e : ℕ × RoundFacts K D) → p < e.0 → gives e ≡ None
   nothing_above e up = by_test (nat_lt e.0 v)
     where
-      by_test : (b : Bool) → cond b (at_view e.0 (explicit_payload x e.0)) None ≡ None
+      by_test : (b : Bool) → cond b (at_view e.0 (explicit_ancestry_payload x e.0)) None ≡ None
       by_test true = rw (none e.0 up) refl
       by_test false = refl
 
@@ -60,7 +60,7 @@ module _ {K L D : Type 0} (x : StateFacts K L D) (p v : ℕ) (d : D) (low : p < 
   ]
 
   pub highest_at : T (is_sorted nat_cmp x.rounds) → highest_explicit x v ≡ Some (p, d)
-  unfolding explicit_payload
+  unfolding explicit_ancestry_payload
   highest_at ordered = elim (cases_eq p 0) [
     | inl genesis ↦ last_first (at_view 0 x.genesis) (by_genesis genesis) genesis x.rounds
     | inr higher ↦ last_found (at_view 0 x.genesis) x.rounds (rises x.rounds (from_T (is_sorted nat_cmp x.rounds) ordered)) (tracked (omega (arith, higher)))
@@ -68,7 +68,7 @@ module _ {K L D : Type 0} (x : StateFacts K L D) (p v : ℕ) (d : D) (low : p < 
     where
       by_genesis : p ≡ 0 → at_view 0 x.genesis ≡ Some (p, d)
       by_genesis is =
-          let payload : x.genesis ≡ Some d = subst (λ n. explicit_payload x n ≡ Some d) is here in
+          let payload : x.genesis ≡ Some d = subst (λ n. explicit_ancestry_payload x n ≡ Some d) is here in
           rw (payload, is) refl
 
       tracked : 0 < p → is_some (find nat_cmp p x.rounds) ≡ true

@@ -21,9 +21,9 @@ use Rattle.simplex_voter.proofs.Found.{found_each, rises-filtered, find-filtered
 use Rattle.simplex_voter.proofs.Gaps.{and_both}
 use Rattle.simplex_voter.proofs.Walked.{find-changed, sorted-changed}
 use Rattle.simplex_member.specs.Calls.{TryVerify}
-use Rattle.simplex_member.specs.Openings.{Openings}
+use Rattle.simplex_member.specs.OutstandingWork.{OutstandingWork}
 use Rattle.simplex_laws.proofs.histories.Leaving.{from_T}
-use Rattle.simplex_progress.proofs.states.Standing.{Place, Stands, remade}
+use Rattle.simplex_progress.proofs.states.Standing.{Replica, Stands, remade}
 use Rattle.simplex_progress.proofs.states.Words.{built_on, spans_it, no_gap, admitted, payload_is}
 use Rattle.simplex_progress.proofs.states.Calls.{with_work, heard, being_verified, not_nullified, no_fault_due, Makes}
 
@@ -31,7 +31,7 @@ below_span : (low high v : ℕ) → v < low → (nat_le low v && nat_le v high) 
 below_span low high v less = grind (arith, nat_tests)
 
 -- from the current view on: the first of them is the view itself
-module _ {K L D : Type 0} (l : Place D) (r : RoundFacts K D) (x : StateFacts K L D) (s : Stands l r l.view x) where
+module _ {K L D : Type 0} (l : Replica D) (r : RoundFacts K D) (x : StateFacts K L D) (s : Stands l r l.view x) where
   abbrev reach : ℕ → Bool
   reach v = nat_le x.current v && nat_le v (next_term_start x.terms.term_length x.current)
 
@@ -52,7 +52,7 @@ module _ {K L D : Type 0} (l : Place D) (r : RoundFacts K D) (x : StateFacts K L
   pub ahead_below : (v : ℕ) → v < l.view → find nat_cmp v (views_ahead x) ≡ None
   ahead_below v less = find-filtered reach v x.rounds ∙ rw (unreached v less) refl
 
-module _ {K L D : Type 0} (same : D → D → Bool) (elect : Elect L) (reflexive : (d : D) → same d d ≡ true) (l : Place D) (q : D) (r : RoundFacts K D) (pending : is_pending r.decision ≡ true)
+module _ {K L D : Type 0} (same : D → D → Bool) (elect : Elect L) (reflexive : (d : D) → same d d ≡ true) (l : Replica D) (q : D) (r : RoundFacts K D) (pending : is_pending r.decision ≡ true)
     (lead : Leader K) (leads : r.leader ≡ Some lead) (other : signs_as r.me lead.idx ≡ false)
     (x : StateFacts K L D) (s : Stands l (with_work r (heard (built_on l q))) l.view x) where
   abbrev p : Proposal D
@@ -98,7 +98,7 @@ module _ {K L D : Type 0} (same : D → D → Bool) (elect : Elect L) (reflexive
   scanned_below : (v : ℕ) → v < l.view → was_scanned same elect x v ≡ false
   scanned_below v less = scanned_is v ∙ ap (λ o. is_some o && not (list_any (answered_below v) (views_ahead x))) (ahead_below l here x s v less)
 
-  pub tries_verify : (o : Openings K D) → Makes same elect l (with_work r (being_verified p l.payload)) l.view x o TryVerify
+  pub tries_verify : (o : OutstandingWork K D) → Makes same elect l (with_work r (being_verified p l.payload)) l.view x o TryVerify
   tries_verify o = record {
     allowed = refl;
     no_fault = no_fault_due x.failed false false s.alive refl refl;

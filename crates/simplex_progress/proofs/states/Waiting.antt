@@ -15,17 +15,17 @@ use Rattle.simplex_types.proofs.Covers.{same_start, covers_from}
 use Rattle.simplex_round.specs.Round.{RoundFacts, new_round, is_finalize}
 use Rattle.simplex_voter.specs.Acceptance.{nullified_also}
 use Rattle.simplex_voter.specs.Facts.{StateFacts, round_at, round_of, round_number, with_round}
-use Rattle.simplex_voter.specs.Gaps.{IsGapless, IsFirstGap, first_gap}
-use Rattle.simplex_voter.specs.Payloads.{certified_payload, explicit_payload}
+use Rattle.simplex_voter.specs.Gaps.{IsGapless, IsFirstGap, first_unnullified_view}
+use Rattle.simplex_voter.specs.Payloads.{certified_payload, explicit_ancestry_payload}
 use Rattle.simplex_voter.specs.Refusals.{is_too_large, has_late_deadline}
 use Rattle.simplex_voter.proofs.Elsewhere.{round_of-with_round}
 use Rattle.simplex_voter.proofs.Gaps.{or_right, first_gap-is, covering_stays}
 use Rattle.simplex_record.proofs.Rounds.{round_put}
-use Rattle.simplex_progress.proofs.states.Standing.{Place, Stands, round_kept, round_here}
+use Rattle.simplex_progress.proofs.states.Standing.{Replica, Stands, round_kept, round_here}
 use Rattle.simplex_progress.proofs.runs.Starts.{no_gate}
 
 -- the member stands at a view up to the start, where this is known of the start's round; all between the parent and `covered_to` is nullified
-pub record Waits {K L D : Type 0} (length : ℕ) (l : Place D) (h : Option (RoundFacts K D)) (stands_at covered_to : ℕ) (x : StateFacts K L D) : Type 0 where
+pub record Waits {K L D : Type 0} (length : ℕ) (l : Replica D) (h : Option (RoundFacts K D)) (stands_at covered_to : ℕ) (x : StateFacts K L D) : Type 0 where
   pub here : round_at x l.view ≡ h
   pub ordered : T (is_sorted nat_cmp x.rounds)
   pub alive : x.failed ≡ false
@@ -37,26 +37,26 @@ pub record Waits {K L D : Type 0} (length : ℕ) (l : Place D) (h : Option (Roun
   pub low : l.parent < stands_at
   pub high : stands_at ≤ l.view
   pub above : x.finalized ≤ l.parent
-  pub explicit : explicit_payload x l.parent ≡ Some l.payload
+  pub explicit : explicit_ancestry_payload x l.parent ≡ Some l.payload
   pub gapless : IsGapless x l.parent covered_to
   -- nothing is to be finalized from the current view on, and nothing above the parent is certified
   pub undecided : (v : ℕ) → stands_at ≤ v → is_finalize (round_of x v).decision ≡ false
-  pub highest : (v : ℕ) → l.parent < v → explicit_payload x v ≡ None
+  pub highest : (v : ℕ) → l.parent < v → explicit_ancestry_payload x v ≡ None
   pub on_time : has_late_deadline x 0 ≡ false
   pub small : is_too_large l.view ≡ false
 
 module _ {K L D : Type 0} where
   -- a payload is explicit by the round of its view alone
-  explicit_same : (x y : StateFacts K L D) (p : ℕ) → y.genesis ≡ x.genesis → round_at y p ≡ round_at x p → explicit_payload y p ≡ explicit_payload x p
-  unfolding explicit_payload
+  explicit_same : (x y : StateFacts K L D) (p : ℕ) → y.genesis ≡ x.genesis → round_at y p ≡ round_at x p → explicit_ancestry_payload y p ≡ explicit_ancestry_payload x p
+  unfolding explicit_ancestry_payload
   explicit_same x y p genesis rounds = rw (genesis, rounds) refl
 
   -- what is explicit, by the round
-  pub explicit_by : (x : StateFacts K L D) (v : ℕ) → 0 < v → explicit_payload x v ≡ option_and_then certified_payload (round_at x v)
-  unfolding explicit_payload
+  pub explicit_by : (x : StateFacts K L D) (v : ℕ) → 0 < v → explicit_ancestry_payload x v ≡ option_and_then certified_payload (round_at x v)
+  unfolding explicit_ancestry_payload
   explicit_by x v some = rw (ne_eqb v 0 (λ is. absurd (omega (arith, is, some)))) refl
 
-  pub unexplicit_round : (x : StateFacts K L D) (v : ℕ) → 0 < v → explicit_payload x v ≡ None → certified_payload (round_of x v) ≡ None
+  pub unexplicit_round : (x : StateFacts K L D) (v : ℕ) → 0 < v → explicit_ancestry_payload x v ≡ None → certified_payload (round_of x v) ≡ None
   unexplicit_round x v some none = by_round (round_at x v) (sym (explicit_by x v some) ∙ none)
     where
       by_round : (o : Option (RoundFacts K D)) → option_and_then certified_payload o ≡ None → certified_payload (unwrap_or o (new_round x.me x.members (round_number x v))) ≡ None
@@ -73,7 +73,7 @@ any_of_new test (v ∷ us) u is = by_order (nat_cmp u v) refl (any_of_new test u
     by_order Equal at behind = let same : u ≡ v = eqb-true u v (sym (is_eq-nat_cmp u v) ∙ ap is_eq at) in rw (ap test (sym same) ∙ is) refl
     by_order Greater at behind = or_right (test v) _ behind
 
-module _ {K L D : Type 0} (length : ℕ) (l : Place D) where
+module _ {K L D : Type 0} (length : ℕ) (l : Replica D) where
   -- a round above the parent, with nothing decided or certified
   pub put_waits : (h : Option (RoundFacts K D)) (c g v : ℕ) (r : RoundFacts K D) (x : StateFacts K L D) → Waits length l h c g x → l.parent < v → (c ≤ v → is_finalize r.decision ≡ false) → certified_payload r ≡ None → Waits length l (round_at (with_round x v r) l.view) c g (with_round x v r)
   put_waits h c g v r x w up open_still no_payload = record {
@@ -102,12 +102,12 @@ module _ {K L D : Type 0} (length : ℕ) (l : Place D) where
     small = w.small;
   }
     where
-      parent_same : explicit_payload x l.parent ≡ Some l.payload → explicit_payload (with_round x v r) l.parent ≡ Some l.payload
+      parent_same : explicit_ancestry_payload x l.parent ≡ Some l.payload → explicit_ancestry_payload (with_round x v r) l.parent ≡ Some l.payload
       parent_same is = explicit_same x (with_round x v r) l.parent refl (round_kept x v l.parent r (λ at. absurd (omega (arith, at, up)))) ∙ is
 
   -- another moment, other views that were voted to be nullified, and a later current view
   pub reached : (h : Option (RoundFacts K D)) (c d g moment : ℕ) (votes : List ℕ) (x : StateFacts K L D) → Waits length l h c g x → c ≤ d → d ≤ l.view → Waits length l h d g (record x { current = d; moment = moment; nullify_votes = votes })
-  unfolding explicit_payload
+  unfolding explicit_ancestry_payload
   reached h c d g moment votes x w later high = record {
     here = w.here;
     ordered = w.ordered;
@@ -130,7 +130,7 @@ module _ {K L D : Type 0} (length : ℕ) (l : Place D) where
 
   -- a nullification covers the rest of its term
   pub covered_on : (h : Option (RoundFacts K D)) (c g : ℕ) (x : StateFacts K L D) → 1 ≤ g → Waits length l h c g x → Waits length l h c (next_term_start length g) (nullified_also x g)
-  unfolding explicit_payload
+  unfolding explicit_ancestry_payload
   covered_on h c g x some w = record {
     here = w.here;
     ordered = w.ordered;
@@ -169,7 +169,7 @@ module _ {K L D : Type 0} (length : ℕ) (l : Place D) where
         below = w.low;
         above = w.above;
         explicit = w.explicit;
-        gapless = by_gap (first_gap x l.parent l.view) (first_gap-is x l.parent l.view (subst (λ n. 0 < n) (sym w.terms) some));
+        gapless = by_gap (first_unnullified_view x l.parent l.view) (first_gap-is x l.parent l.view (subst (λ n. 0 < n) (sym w.terms) some));
         ungated = no_gate x l.view start;
         on_time = w.on_time;
         small = w.small;

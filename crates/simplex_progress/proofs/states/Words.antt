@@ -8,15 +8,15 @@ use Rattle.simplex_types.specs.Proposal.{same_proposal}
 use Rattle.simplex_types.specs.declared.types.messages.Proposal.{Proposal}
 use Rattle.simplex_round.specs.Round.{RoundFacts, new_round}
 use Rattle.simplex_voter.specs.Facts.{StateFacts, Elect, round_of, round_number, is_tracked}
-use Rattle.simplex_voter.specs.Windows.{is_start, is_admitted, is_open, in_window, admits_certificate, min_active}
-use Rattle.simplex_voter.specs.Gaps.{first_gap}
-use Rattle.simplex_voter.specs.Parents.{spans, payload_for, parent_payload, binding_matches}
+use Rattle.simplex_voter.specs.Windows.{is_term_start, is_admitted, is_open, in_issuance_window, admits_certificate, min_active}
+use Rattle.simplex_voter.specs.Gaps.{first_unnullified_view}
+use Rattle.simplex_voter.specs.Parents.{has_valid_parent_span, ancestry_payload_for_child, parent_payload_for, verification_matches}
 use Rattle.simplex_voter.specs.Refusals.{is_too_large, names_too_large, takes_round, is_started}
 use Rattle.simplex_voter.proofs.Gaps.{and_both}
-use Rattle.simplex_progress.proofs.states.Standing.{Place, Stands}
+use Rattle.simplex_progress.proofs.states.Standing.{Replica, Stands}
 
 -- the proposal of the view on the parent
-abbrev pub built_on : {D : Type 0} → Place D → D → Proposal D
+abbrev pub built_on : {D : Type 0} → Replica D → D → Proposal D
 built_on l payload = record { round = record { epoch = l.epoch; view = l.view }; parent = l.parent; payload = payload }
 
 no_floor : (a b c : Bool) (n : ℕ) → b ≡ true → (if a || b || c then None else Some n) ≡ None
@@ -40,26 +40,26 @@ or_first a b is = rw is refl
 small_below : (p v : ℕ) → p < v → is_too_large v ≡ false → is_too_large p ≡ false
 small_below p v low small = grind (arith, nat_tests)
 
-module _ {K L D : Type 0} (l : Place D) (r : RoundFacts K D) (c : ℕ) (x : StateFacts K L D) (s : Stands l r c x) where
+module _ {K L D : Type 0} (l : Replica D) (r : RoundFacts K D) (c : ℕ) (x : StateFacts K L D) (s : Stands l r c x) where
   pub round_is : round_of x l.view ≡ r
   round_is = ap (λ found. unwrap_or found (new_round x.me x.members (round_number x l.view))) s.here
 
   pub tracked_is : is_tracked x l.view ≡ true
   tracked_is = ap is_some s.here
 
-  pub starts : is_start x l.view ≡ true
+  pub starts : is_term_start x l.view ≡ true
   starts = eq-eqb l.view (term_start x.terms.term_length l.view) s.start
 
-  pub no_window : in_window x l.view ≡ false
-  unfolding in_window
+  pub no_window : in_issuance_window x l.view ≡ false
+  unfolding in_issuance_window
   no_window = ap (is_open x l.view) (no_floor (l.view == 0) (l.view == term_start x.terms.term_length l.view) (x.terms.optimistic_views == 0) _ starts)
 
-  pub no_gap : first_gap x l.parent l.view ≡ None
-  no_gap = absent (first_gap x l.parent l.view) s.gapless
+  pub no_gap : first_unnullified_view x l.parent l.view ≡ None
+  no_gap = absent (first_unnullified_view x l.parent l.view) s.gapless
 
-  pub spans_it : spans x l.view l.parent ≡ true
-  unfolding spans
-  spans_it = and_both _ _ (and_both _ _ (lt-ltb l.parent l.view s.below) (le-leb x.finalized l.parent s.above)) (or_so (l.parent + 1 == l.view) (is_start x l.view) starts)
+  pub spans_it : has_valid_parent_span x l.view l.parent ≡ true
+  unfolding has_valid_parent_span
+  spans_it = and_both _ _ (and_both _ _ (lt-ltb l.parent l.view s.below) (le-leb x.finalized l.parent s.above)) (or_so (l.parent + 1 == l.view) (is_term_start x l.view) starts)
 
   pub admitted : l.view ≤ c → is_admitted x l.view ≡ true
   unfolding is_admitted
@@ -74,19 +74,19 @@ module _ {K L D : Type 0} (l : Place D) (r : RoundFacts K D) (c : ℕ) (x : Stat
   pub names_small : (q : D) → names_too_large (built_on l q) ≡ false
   names_small q = rw (s.small, small_below l.parent l.view s.below s.small) refl
 
-pub same_self : {D : Type 0} (same : D → D → Bool) (reflexive : (d : D) → same d d ≡ true) (l : Place D) (q : D) → same_proposal same (built_on l q) (built_on l q) ≡ true
+pub same_self : {D : Type 0} (same : D → D → Bool) (reflexive : (d : D) → same d d ≡ true) (l : Replica D) (q : D) → same_proposal same (built_on l q) (built_on l q) ≡ true
 same_self same reflexive l q = rw (eq-eqb l.epoch l.epoch refl, eq-eqb l.view l.view refl, eq-eqb l.parent l.parent refl, reflexive q) refl
 
-module _ {K L D : Type 0} (same : D → D → Bool) (elect : Elect L) (reflexive : (d : D) → same d d ≡ true) (l : Place D) where
+module _ {K L D : Type 0} (same : D → D → Bool) (elect : Elect L) (reflexive : (d : D) → same d d ≡ true) (l : Replica D) where
   module _ (r : RoundFacts K D) (c : ℕ) (x : StateFacts K L D) (s : Stands l r c x) where
-    pub payload_is : payload_for same elect x l.view l.parent ≡ Some l.payload
-    unfolding payload_for
+    pub payload_is : ancestry_payload_for_child same elect x l.view l.parent ≡ Some l.payload
+    unfolding ancestry_payload_for_child
     payload_is = rw (no_window l r c x s) s.explicit
 
-    pub allowed_parent : parent_payload same elect x l.view l.parent ≡ Some l.payload
-    unfolding parent_payload
+    pub allowed_parent : parent_payload_for same elect x l.view l.parent ≡ Some l.payload
+    unfolding parent_payload_for
     allowed_parent = rw (spans_it l r c x s, no_gap l r c x s) payload_is
 
-    pub binding_holds : (q : D) → r.slot.held ≡ Some (built_on l q) → r.binding ≡ Some (built_on l q, l.payload) → binding_matches same elect x l.view ≡ true
-    unfolding binding_matches
+    pub binding_holds : (q : D) → r.slot.held ≡ Some (built_on l q) → r.binding ≡ Some (built_on l q, l.payload) → verification_matches same elect x l.view ≡ true
+    unfolding verification_matches
     binding_holds q held bound = rw (s.here, bound, held, same_self same reflexive l q, allowed_parent, reflexive l.payload) refl

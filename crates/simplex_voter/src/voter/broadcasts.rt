@@ -14,7 +14,7 @@ use simplex_types::types::{
 
 impl<S: CertificateScheme, L: Elector<S>, D: Digest> State<S, L, D> {
     ghost use Rattle.simplex_voter.specs.Refusals.{plain_refusal, is_started, HasFailed};
-    ghost use Rattle.simplex_voter.specs.Serving.{best_certificate, entry_certificate, entry_nullification, highest_nullified, broadcast_notarization_answer, after_broadcast_notarization, broadcast_nullification_answer, after_broadcast_nullification, broadcast_finalization_answer, after_broadcast_finalization};
+    ghost use Rattle.simplex_voter.specs.Serving.{best_certificate, entry_certificate, entry_nullification, highest_nullification_in_term, broadcast_notarization_answer, after_broadcast_notarization, broadcast_nullification_answer, after_broadcast_nullification, broadcast_finalization_answer, after_broadcast_finalization};
 
     /// A copy of the certificate that helps others into the current view: of the view before the finalization, else at a
     /// term's start the last term's highest nullification where it is held there, else the notarization. None in view 1.
@@ -63,15 +63,15 @@ impl<S: CertificateScheme, L: Elector<S>, D: Digest> State<S, L, D> {
     fn entry_nullification(&self, view: View) -> Option<&Nullification<S>>
         ensures { option_map (nullification_facts S.certificate_bytes) (option_copied result) ≡ entry_nullification self.now view }
     {
-        if !self.is_start(self.current) {
+        if !self.is_term_start(self.current) {
             return None;
         }
-        self.nullification(self.highest_nullified(view)?)
+        self.nullification(self.highest_nullification_in_term(view)?)
     }
 
     /// The highest nullified view that covers a view.
-    fn highest_nullified(&self, view: View) -> Option<View>
-        ensures { result ≡ highest_nullified self.now view }
+    fn highest_nullification_in_term(&self, view: View) -> Option<View>
+        ensures { result ≡ highest_nullification_in_term self.now view }
     {
         match self.nullified.covering(view) {
             Some(entry) => Some(entry.0),

@@ -73,9 +73,9 @@ fn has_no_verdict<S: CertificateScheme, D: Digest>(round: &Round<S, D>) -> bool
 impl<S: CertificateScheme, L: Elector<S>, D: Digest> State<S, L, D> {
     ghost use Rattle.simplex_voter.specs.Setup.{HasSameSetup};
     ghost use Rattle.simplex_voter.specs.Facts.{round_of};
-    ghost use Rattle.simplex_voter.specs.Payloads.{explicit_payload};
-    ghost use Rattle.simplex_voter.specs.Parents.{spans};
-    ghost use Rattle.simplex_voter.specs.Certification.{named_also, has_certified_parent, offered_of, fetch_for, fetched_of, candidates_answer, after_candidates, takes_certify_handle, after_set_certify_handle};
+    ghost use Rattle.simplex_voter.specs.Payloads.{explicit_ancestry_payload};
+    ghost use Rattle.simplex_voter.specs.Parents.{has_valid_parent_span};
+    ghost use Rattle.simplex_voter.specs.Certification.{named_also, certification_parent_ready, offered_of, certification_fetch, fetched_of, candidates_answer, after_candidates, takes_certify_handle, after_set_certify_handle};
     ghost use Rattle.simplex_voter.specs.Refusals.{HasFailed, plain_refusal, is_started};
     ghost use Rattle.simplex_voter.specs.Serving.{certify_token_of, is_certify_aborted};
 
@@ -96,7 +96,7 @@ impl<S: CertificateScheme, L: Elector<S>, D: Digest> State<S, L, D> {
         ensures { result ≡ offered_of D.eq L.elect self.now view }
     {
         let proposal = self.round_at(view)?.pending_certification()?;
-        if proposal.parent < view && self.has_certified_parent(view, &proposal) {
+        if proposal.parent < view && self.certification_parent_ready(view, &proposal) {
             Some(proposal)
         } else {
             None
@@ -104,12 +104,12 @@ impl<S: CertificateScheme, L: Elector<S>, D: Digest> State<S, L, D> {
     }
 
     /// Whether what the proposal requires is certified, and its parent may still be built on.
-    fn has_certified_parent(&self, view: View, proposal: &Proposal<D>) -> bool
-        ensures { result ≡ has_certified_parent L.elect self.now view proposal.now }
+    fn certification_parent_ready(&self, view: View, proposal: &Proposal<D>) -> bool
+        ensures { result ≡ certification_parent_ready L.elect self.now view proposal.now }
     {
-        match self.required_parent(view, proposal) {
+        match self.required_certification_parent(view, proposal) {
             Some(parent) => {
-                self.spans(view, proposal.parent) && self.explicit_payload(parent).is_some()
+                self.has_valid_parent_span(view, proposal.parent) && self.explicit_ancestry_payload(parent).is_some()
             }
             None => true,
         }
@@ -120,16 +120,16 @@ impl<S: CertificateScheme, L: Elector<S>, D: Digest> State<S, L, D> {
         ensures { result ≡ fetched_of L.elect self.now view }
     {
         let proposal = self.held_proposal(view)?;
-        self.fetch_for(view, proposal)
+        self.certification_fetch(view, proposal)
     }
 
     /// The notarization that a proposal has to fetch: what it requires is neither certified nor notarized, and its parent
     /// may still be built on.
-    fn fetch_for(&self, view: View, proposal: &Proposal<D>) -> Option<CertificateFetch>
-        ensures { result ≡ fetch_for L.elect self.now view proposal.now }
+    fn certification_fetch(&self, view: View, proposal: &Proposal<D>) -> Option<CertificateFetch>
+        ensures { result ≡ certification_fetch L.elect self.now view proposal.now }
     {
-        let parent = self.required_parent(view, proposal)?;
-        if self.spans(view, proposal.parent) && self.is_unknown(parent) {
+        let parent = self.required_certification_parent(view, proposal)?;
+        if self.has_valid_parent_span(view, proposal.parent) && self.is_unknown(parent) {
             Some(CertificateFetch {
                 proposal: proposal.round.view,
                 view: parent,
@@ -141,9 +141,9 @@ impl<S: CertificateScheme, L: Elector<S>, D: Digest> State<S, L, D> {
 
     /// Whether the view is neither certified nor notarized.
     fn is_unknown(&self, view: View) -> bool
-        ensures { result ≡ (is_none (explicit_payload self.now view) && is_none (round_of self.now view).notarization) }
+        ensures { result ≡ (is_none (explicit_ancestry_payload self.now view) && is_none (round_of self.now view).notarization) }
     {
-        self.explicit_payload(view).is_none() && self.notarization(view).is_none()
+        self.explicit_ancestry_payload(view).is_none() && self.notarization(view).is_none()
     }
 
     /// What is offered for certification of the views that wait for it, and which notarizations they have to fetch, each

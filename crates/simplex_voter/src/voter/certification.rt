@@ -97,8 +97,8 @@ impl<S: CertificateScheme, L: Elector<S>, D: Digest> State<S, L, D> {
             self.trigger(view, TimeoutReason::FailedCertification, now);
             return Ok(());
         }
-        self.enter(next, now, deadlines)?;
-        self.wake(view)
+        self.enter_view(next, now, deadlines)?;
+        self.wake_certification_child(view)
     }
 
     /// The deadlines of the view after a notarized one, which a true verdict may enter; none where one is too late.
@@ -138,7 +138,7 @@ impl<S: CertificateScheme, L: Elector<S>, D: Digest> State<S, L, D> {
     }
 
     /// Once a view is certified or finalized, the view above it that waited for it is a candidate again.
-    pub(super) fn wake(&mut self, view: View) -> Result<(), Fault>
+    pub(super) fn wake_certification_child(&mut self, view: View) -> Result<(), Fault>
         requires { view + 1 < 2 ^ 64 }
         ensures woken { OnOk result (self.new ≡ with_waiting_candidate L.elect self.old view) }
         ensures refused { IfErr result (λ fault. fault ≡ OutOfMemory) }
@@ -163,7 +163,7 @@ impl<S: CertificateScheme, L: Elector<S>, D: Digest> State<S, L, D> {
             return false;
         }
         match round.proposal() {
-            Some(proposal) => self.required_parent(next, proposal) == Some(view),
+            Some(proposal) => self.required_certification_parent(next, proposal) == Some(view),
             None => false,
         }
     }

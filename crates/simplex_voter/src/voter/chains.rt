@@ -62,15 +62,15 @@ fn bound_payload<S: CertificateScheme, D: Digest>(round: &Round<S, D>) -> Option
 }
 
 impl<S: CertificateScheme, L: Elector<S>, D: Digest> State<S, L, D> {
-    ghost use Rattle.simplex_voter.specs.Payloads.{has_failed, serves, follows, optimistic_payload};
+    ghost use Rattle.simplex_voter.specs.Payloads.{has_failed_optimistic_ancestry, is_voted_ancestor, can_chain_on, optimistic_ancestry_payload};
     ghost use Rattle.simplex_voter.specs.Rounds.{largest_tracked};
     ghost use Rattle.simplex_voter.specs.Chains.{unrefused_payload, served_proposal, basis_of, basis_at};
 
     /// What the view offers before it is certified: the payload of its certificate, where no rejection stands in its term
     /// up to it; else that of a verified proposal that this member voted for, on a parent that offers what the vote was
     /// bound to.
-    pub(super) fn optimistic_payload(&self, view: View) -> Option<D>
-        ensures payload { result ≡ optimistic_payload D.eq L.elect self.now view }
+    pub(super) fn optimistic_ancestry_payload(&self, view: View) -> Option<D>
+        ensures payload { result ≡ optimistic_ancestry_payload D.eq L.elect self.now view }
         ensures in_range { OnSome result (view ≤ largest_tracked) }
     {
         let top = self.basis_at(view)?;
@@ -113,15 +113,15 @@ impl<S: CertificateScheme, L: Elector<S>, D: Digest> State<S, L, D> {
     fn unrefused_payload(&self, view: View, round: &Round<S, D>) -> Option<D>
         ensures { result ≡ unrefused_payload self.now view round.now }
     {
-        if self.has_failed(view) {
+        if self.has_failed_optimistic_ancestry(view) {
             return None;
         }
         round.certificate_ancestry_payload().copied()
     }
 
     /// Whether the view, or one below it in its term, was certified false, and no finalization overrides that.
-    fn has_failed(&self, view: View) -> bool
-        ensures { result ≡ has_failed self.now view }
+    fn has_failed_optimistic_ancestry(&self, view: View) -> bool
+        ensures { result ≡ has_failed_optimistic_ancestry self.now view }
     {
         let start = view.term_start(self.elector.terms().term_length);
         self.rounds.has_refused_between(self.finalized, start, view)
@@ -132,31 +132,31 @@ impl<S: CertificateScheme, L: Elector<S>, D: Digest> State<S, L, D> {
         requires { next ≡ view + 1 }
         ensures { result ≡ served_proposal L.elect self.now view round.now }
     {
-        if !self.serves(view, next, round) {
+        if !self.is_voted_ancestor(view, next, round) {
             return None;
         }
         let proposal = *round.proposal()?;
-        if !self.follows(view, proposal.parent) {
+        if !self.can_chain_on(view, proposal.parent) {
             return None;
         }
         Some(proposal)
     }
 
     /// Whether this member voted for what the view holds, where that may serve before any certificate; with the next view.
-    #[tactic(auto, unfolding(crate::specs::Payloads::serves))]
-    fn serves(&self, view: View, next: View, round: &Round<S, D>) -> bool
+    #[tactic(auto, unfolding(crate::specs::Payloads::is_voted_ancestor))]
+    fn is_voted_ancestor(&self, view: View, next: View, round: &Round<S, D>) -> bool
         requires { next ≡ view + 1 }
-        ensures { result ≡ serves L.elect self.now view round.now }
+        ensures { result ≡ is_voted_ancestor L.elect self.now view round.now }
     {
-        (self.in_window(next) || self.is_handoff_parent(view, next))
+        (self.in_issuance_window(next) || self.is_handoff_parent(view, next))
             && round.is_verified()
             && round.broadcast_notarize()
     }
 
     /// Whether a view that was voted for may stand on this parent.
-    #[tactic(auto, unfolding(crate::specs::Payloads::follows))]
-    fn follows(&self, view: View, parent: View) -> bool
-        ensures { result ≡ follows self.now view parent }
+    #[tactic(auto, unfolding(crate::specs::Payloads::can_chain_on))]
+    fn can_chain_on(&self, view: View, parent: View) -> bool
+        ensures { result ≡ can_chain_on self.now view parent }
     {
         parent >= self.finalized && parent < view && self.is_gapless(parent, view)
     }

@@ -16,7 +16,7 @@ impl<S: CertificateScheme, L: Elector<S>, D: Digest> State<S, L, D> {
     ghost use Rattle.simplex_voter.specs.Certification.{with_finalized_view};
 
     /// Enters a view that is above the current one.
-    pub(super) fn enter(&mut self, view: View, now: u64, deadlines: &Deadlines) -> Result<(), Fault>
+    pub(super) fn enter_view(&mut self, view: View, now: u64, deadlines: &Deadlines) -> Result<(), Fault>
         requires in_range { view ≤ largest_current }
         requires deadlines { nat_lt self.old.current view ≡ true → deadlines.now ≡ deadlines_at self.old now }
         ensures entered { OnOk result (self.new ≡ with_view_entered self.old view now) }
@@ -26,7 +26,7 @@ impl<S: CertificateScheme, L: Elector<S>, D: Digest> State<S, L, D> {
         if view <= self.current {
             return Ok(());
         }
-        self.rounds.enter(view, now, deadlines)?;
+        self.rounds.enter_view(view, now, deadlines)?;
         self.current = view;
         Ok(())
     }
@@ -46,7 +46,7 @@ impl<S: CertificateScheme, L: Elector<S>, D: Digest> State<S, L, D> {
         ensures refused { IfErr result (λ fault. fault ≡ OutOfMemory) }
         ensures setup { HasSameSetup self.old self.new }
     {
-        self.enter(view, now, deadlines)?;
+        self.enter_view(view, now, deadlines)?;
         self.elect(view, Some(certificate))
     }
 

@@ -106,8 +106,8 @@ impl<S: CertificateScheme, L: Elector<S>, D: Digest> State<S, L, D> {
         if !added.0 {
             return Ok(added);
         }
-        self.wake(view)?;
-        self.slide(view)?;
+        self.wake_certification_child(view)?;
+        self.slide_optimistic_frontier(view)?;
         Ok(added)
     }
 

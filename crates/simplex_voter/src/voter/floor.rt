@@ -55,7 +55,7 @@ impl<S: CertificateScheme, L: Elector<S>, D: Digest> State<S, L, D> {
         self.note_moment(now);
         self.keep_genesis(payload);
         let first = View::new(1);
-        self.enter(first, now, deadlines)?;
+        self.enter_view(first, now, deadlines)?;
         let leader = self.early_leader(first);
         self.set_leader(first, leader)
     }

@@ -16,15 +16,15 @@ pub(super) fn before(view: View) -> View
 }
 
 impl<S: CertificateScheme, L: Elector<S>, D: Digest> State<S, L, D> {
-    ghost use Rattle.simplex_voter.specs.Windows.{is_open, in_window};
+    ghost use Rattle.simplex_voter.specs.Windows.{is_open, in_issuance_window};
     ghost use Rattle.simplex_voter.specs.Setup.{HasSameSetup};
     ghost use Rattle.simplex_voter.specs.Rounds.{largest_tracked};
     ghost use Rattle.simplex_voter.specs.Leaders.{with_leader_of, opened_views, with_window_leaders, with_next_view_ready};
 
     /// Whether the view may build on a parent that is not certified yet.
-    #[tactic(auto, unfolding(crate::specs::Windows::in_window))]
-    pub(super) fn in_window(&self, view: View) -> bool
-        ensures { result ≡ in_window self.now view }
+    #[tactic(auto, unfolding(crate::specs::Windows::in_issuance_window))]
+    pub(super) fn in_issuance_window(&self, view: View) -> bool
+        ensures { result ≡ in_issuance_window self.now view }
     {
         match self.elector.terms().lookahead().issuance_floor(view) {
             Some(floor) => self.is_open(view, floor),
@@ -44,17 +44,17 @@ impl<S: CertificateScheme, L: Elector<S>, D: Digest> State<S, L, D> {
     }
 
     /// The leader of one view, where it is known, goes on to another that has none.
-    pub(super) fn inherit(&mut self, from: View, to: View) -> Result<(), Fault>
+    pub(super) fn inherit_leader(&mut self, from: View, to: View) -> Result<(), Fault>
         requires { to ≤ largest_tracked }
         ensures inherited { OnOk result (self.new ≡ with_leader_of self.old from to) }
         ensures refused { IfErr result (λ fault. fault ≡ OutOfMemory) }
         ensures setup { HasSameSetup self.old self.new }
     {
-        self.rounds.inherit(from, to)
+        self.rounds.inherit_leader(from, to)
     }
 
     /// Each view whose window a certificate of this view opens takes the leader of the view before it, in turn.
-    pub(super) fn slide(&mut self, view: View) -> Result<(), Fault>
+    pub(super) fn slide_optimistic_frontier(&mut self, view: View) -> Result<(), Fault>
         requires { IsVotable view }
         ensures slid { OnOk result (self.new ≡ with_window_leaders self.old view) }
         ensures refused { IfErr result (λ fault. fault ≡ OutOfMemory) }
@@ -64,7 +64,7 @@ impl<S: CertificateScheme, L: Elector<S>, D: Digest> State<S, L, D> {
         let mut from = view;
         while from < last {
             let next = from.next();
-            self.inherit(from, next)?;
+            self.inherit_leader(from, next)?;
             from = next;
         }
         Ok(())
@@ -90,15 +90,15 @@ impl<S: CertificateScheme, L: Elector<S>, D: Digest> State<S, L, D> {
 
     /// The next view takes the leader of this one in its window; at a term's start, after a vote here, this member leads
     /// it where it is elected early.
-    pub(super) fn prepare(&mut self, view: View) -> Result<(), Fault>
+    pub(super) fn prepare_optimistic_successor(&mut self, view: View) -> Result<(), Fault>
         requires { view < largest_tracked }
         ensures prepared { OnOk result (self.new ≡ with_next_view_ready L.elect self.old view) }
         ensures refused { IfErr result (λ fault. fault ≡ OutOfMemory) }
         ensures setup { HasSameSetup self.old self.new }
     {
         let next = view.next();
-        if self.in_window(next) {
-            return self.inherit(view, next);
+        if self.in_issuance_window(next) {
+            return self.inherit_leader(view, next);
         }
         if !self.has_voted_to_notarize(view) {
             return Ok(());

@@ -63,7 +63,7 @@ impl<S: CertificateScheme, L: Elector<S>, D: Digest> State<S, L, D> {
             return Ok(added);
         }
         self.name_for_certification(view)?;
-        self.slide(view)?;
+        self.slide_optimistic_frontier(view)?;
         Ok(added)
     }
 

@@ -62,7 +62,7 @@ impl<S: CertificateScheme, L: Elector<S>, D: Digest> State<S, L, D> {
         ensures setup { HasSameSetup self.old self.new }
     {
         let held = self.rounds.decide_notarize(view);
-        self.prepare(view)?;
+        self.prepare_optimistic_successor(view)?;
         let Some(proposal) = held else {
             return Ok(None);
         };
@@ -89,7 +89,7 @@ impl<S: CertificateScheme, L: Elector<S>, D: Digest> State<S, L, D> {
             return false;
         }
         let _length = self.elector.terms().term_length.get();
-        self.can_notarize(view) && self.has_ancestry(view) && self.binding_matches(view)
+        self.can_notarize(view) && self.has_ancestry(view) && self.verification_matches(view)
     }
 
     /// Whether the view's own facts let this member vote to notarize it.
@@ -107,9 +107,9 @@ impl<S: CertificateScheme, L: Elector<S>, D: Digest> State<S, L, D> {
     fn has_ancestry(&self, view: View) -> bool
         ensures { result ≡ has_ancestry D.eq L.elect self.now view }
     {
-        if !self.in_window(view) {
+        if !self.in_issuance_window(view) {
             return true;
         }
-        self.optimistic_payload(before(view)).is_some()
+        self.optimistic_ancestry_payload(before(view)).is_some()
     }
 }

@@ -39,9 +39,9 @@ fn is_parent<D: Digest>(found: Option<(View, D)>, parent: View, payload: D) -> b
 }
 
 impl<S: CertificateScheme, L: Elector<S>, D: Digest> State<S, L, D> {
-    ghost use Rattle.simplex_voter.specs.Gaps.{is_covered, first_gap, is_gapless};
-    ghost use Rattle.simplex_voter.specs.Payloads.{is_handoff_parent, explicit_payload};
-    ghost use Rattle.simplex_voter.specs.Parents.{payload_for, spans, leads, parent_payload, explicit_at, highest_explicit, handoff, preferred_at_start, preferred_parent, may_stand, holds_binding, binding_matches};
+    ghost use Rattle.simplex_voter.specs.Gaps.{is_covered, first_unnullified_view, is_gapless};
+    ghost use Rattle.simplex_voter.specs.Payloads.{is_handoff_parent, explicit_ancestry_payload};
+    ghost use Rattle.simplex_voter.specs.Parents.{ancestry_payload_for_child, has_valid_parent_span, leads, parent_payload_for, explicit_at, highest_explicit, handoff, preferred_at_start, find_parent, captured_parent_valid, holds_binding, verification_matches};
 
     /// Whether a nullification stands in the view's term, at the view or below.
     pub(super) fn is_covered(&self, view: View) -> bool
@@ -51,8 +51,8 @@ impl<S: CertificateScheme, L: Elector<S>, D: Digest> State<S, L, D> {
     }
 
     /// The lowest view strictly between two others that no nullification covers.
-    pub(super) fn first_gap(&self, parent: View, view: View) -> Option<View>
-        ensures { result ≡ first_gap self.now parent view }
+    pub(super) fn first_unnullified_view(&self, parent: View, view: View) -> Option<View>
+        ensures { result ≡ first_unnullified_view self.now parent view }
     {
         let _length = self.elector.terms().term_length.get();
         self.nullified.first_uncovered(parent, view)
@@ -62,7 +62,7 @@ impl<S: CertificateScheme, L: Elector<S>, D: Digest> State<S, L, D> {
     pub(super) fn is_gapless(&self, parent: View, view: View) -> bool
         ensures { result ≡ is_gapless self.now parent view }
     {
-        self.first_gap(parent, view).is_none()
+        self.first_unnullified_view(parent, view).is_none()
     }
 
     /// Whether the term that the view ends may be handed over to this member; with the next view.
@@ -75,45 +75,45 @@ impl<S: CertificateScheme, L: Elector<S>, D: Digest> State<S, L, D> {
     }
 
     /// The kind of payload that the view may build on: inside its window what the parent offers, else what is certified.
-    #[tactic(auto, unfolding(crate::specs::Parents::payload_for))]
-    pub(super) fn payload_for(&self, view: View, parent: View) -> Option<D>
-        ensures { result ≡ payload_for D.eq L.elect self.now view parent }
+    #[tactic(auto, unfolding(crate::specs::Parents::ancestry_payload_for_child))]
+    pub(super) fn ancestry_payload_for_child(&self, view: View, parent: View) -> Option<D>
+        ensures { result ≡ ancestry_payload_for_child D.eq L.elect self.now view parent }
     {
-        if self.in_window(view) {
-            self.optimistic_payload(parent)
+        if self.in_issuance_window(view) {
+            self.optimistic_ancestry_payload(parent)
         } else {
-            self.explicit_payload(parent).copied()
+            self.explicit_ancestry_payload(parent).copied()
         }
     }
 
     /// Whether the parent is below the view, not under the last finalized one, and inside a term just below. Where not,
     /// that can't change for the better.
-    #[tactic(auto, unfolding(crate::specs::Parents::spans))]
-    pub(super) fn spans(&self, view: View, parent: View) -> bool
-        ensures { result ≡ spans self.now view parent }
+    #[tactic(auto, unfolding(crate::specs::Parents::has_valid_parent_span))]
+    pub(super) fn has_valid_parent_span(&self, view: View, parent: View) -> bool
+        ensures { result ≡ has_valid_parent_span self.now view parent }
     {
-        parent < view && parent >= self.finalized && (parent == before(view) || self.is_start(view))
+        parent < view && parent >= self.finalized && (parent == before(view) || self.is_term_start(view))
     }
 
     /// The payload with which the parent is allowed.
-    #[tactic(auto, unfolding(crate::specs::Parents::parent_payload))]
-    pub(super) fn parent_payload(&self, view: View, parent: View) -> Option<D>
-        ensures { result ≡ parent_payload D.eq L.elect self.now view parent }
+    #[tactic(auto, unfolding(crate::specs::Parents::parent_payload_for))]
+    pub(super) fn parent_payload_for(&self, view: View, parent: View) -> Option<D>
+        ensures { result ≡ parent_payload_for D.eq L.elect self.now view parent }
     {
-        if !self.spans(view, parent) {
+        if !self.has_valid_parent_span(view, parent) {
             return None;
         }
         if !self.is_gapless(parent, view) {
             return None;
         }
-        self.payload_for(view, parent)
+        self.ancestry_payload_for_child(view, parent)
     }
 
     /// The view before a term's start, with what it offers, where its term may be handed over to this member.
     fn handoff(&self, view: View) -> Option<(View, D)>
         ensures { result ≡ handoff D.eq L.elect self.now view }
     {
-        let payload = self.optimistic_payload(view)?;
+        let payload = self.optimistic_ancestry_payload(view)?;
         if !self.is_handoff_parent(view, view.next()) {
             return None;
         }
@@ -132,24 +132,24 @@ impl<S: CertificateScheme, L: Elector<S>, D: Digest> State<S, L, D> {
     }
 
     /// The parent, with its payload, on which this member builds.
-    #[tactic(auto, unfolding(crate::specs::Parents::preferred_parent))]
-    pub(super) fn preferred_parent(&self, view: View) -> Option<(View, D)>
-        ensures { result ≡ preferred_parent D.eq L.elect self.now view }
+    #[tactic(auto, unfolding(crate::specs::Parents::find_parent))]
+    pub(super) fn find_parent(&self, view: View) -> Option<(View, D)>
+        ensures { result ≡ find_parent D.eq L.elect self.now view }
     {
-        if self.is_start(view) {
+        if self.is_term_start(view) {
             return self.preferred_at_start(view);
         }
         let parent = before(view);
-        at_view(parent, self.payload_for(view, parent))
+        at_view(parent, self.ancestry_payload_for_child(view, parent))
     }
 
     /// Whether the parent is allowed, or preferred, with this payload.
-    #[tactic(auto, unfolding(crate::specs::Parents::may_stand))]
-    pub(super) fn may_stand(&self, view: View, parent: View, payload: D) -> bool
-        ensures { result ≡ may_stand D.eq L.elect self.now view parent payload }
+    #[tactic(auto, unfolding(crate::specs::Parents::captured_parent_valid))]
+    pub(super) fn captured_parent_valid(&self, view: View, parent: View, payload: D) -> bool
+        ensures { result ≡ captured_parent_valid D.eq L.elect self.now view parent payload }
     {
-        is_parent(self.preferred_parent(view), parent, payload)
-            || is_payload(self.parent_payload(view, parent), payload)
+        is_parent(self.find_parent(view), parent, payload)
+            || is_payload(self.parent_payload_for(view, parent), payload)
     }
 
     /// The highest tracked view below with an explicit payload, else genesis.
@@ -177,9 +177,9 @@ impl<S: CertificateScheme, L: Elector<S>, D: Digest> State<S, L, D> {
 
     /// The view with its explicit payload, where it has one.
     fn explicit_at(&self, view: View) -> Option<(View, D)>
-        ensures { result ≡ at_view view (explicit_payload self.now view) }
+        ensures { result ≡ at_view view (explicit_ancestry_payload self.now view) }
     {
-        Some((view, *self.explicit_payload(view)?))
+        Some((view, *self.explicit_ancestry_payload(view)?))
     }
 
     /// Whether this member leads the round's view.
@@ -204,14 +204,14 @@ impl<S: CertificateScheme, L: Elector<S>, D: Digest> State<S, L, D> {
             return false;
         }
         let parent = proposal.parent;
-        is_payload(self.parent_payload(view, parent), bound.1)
-            || (self.leads(round) && is_parent(self.preferred_parent(view), parent, bound.1))
+        is_payload(self.parent_payload_for(view, parent), bound.1)
+            || (self.leads(round) && is_parent(self.find_parent(view), parent, bound.1))
     }
 
     /// Whether nothing is bound at the view, or what is still holds.
-    #[tactic(auto, unfolding(crate::specs::Parents::binding_matches))]
-    pub(super) fn binding_matches(&self, view: View) -> bool
-        ensures { result ≡ binding_matches D.eq L.elect self.now view }
+    #[tactic(auto, unfolding(crate::specs::Parents::verification_matches))]
+    pub(super) fn verification_matches(&self, view: View) -> bool
+        ensures { result ≡ verification_matches D.eq L.elect self.now view }
     {
         let Some(round) = self.round_at(view) else {
             return true;

@@ -67,7 +67,7 @@ impl<S: CertificateScheme, L: Elector<S>, D: Digest> State<S, L, D> {
         ensures refused { IfErr result (λ fault. fault ≡ OutOfMemory) }
         ensures setup { HasSameSetup self.old self.new }
     {
-        self.prepare(view)?;
+        self.prepare_optimistic_successor(view)?;
         self.take_proposal(view, proposal)
     }
 
@@ -108,11 +108,11 @@ impl<S: CertificateScheme, L: Elector<S>, D: Digest> State<S, L, D> {
         if !stands {
             return Ok(false);
         }
-        Ok(self.record_proposal(context, payload, now))
+        Ok(self.record_proposed(context, payload, now))
     }
 
     /// Records what was built in a tracked view, where nullify was not decided and no other proposal is held.
-    fn record_proposal(&mut self, context: &Context<D, S::PublicKey>, payload: D, now: u64) -> bool
+    fn record_proposed(&mut self, context: &Context<D, S::PublicKey>, payload: D, now: u64) -> bool
         ensures recorded { result ≡ option_map_or
             (λ r. not (is_nullify r.decision) && holds_or_empty (same_proposal D.eq) r.slot (proposal_of context.now payload))
             (round_at self.old context.now.round.view) false }
@@ -121,14 +121,14 @@ impl<S: CertificateScheme, L: Elector<S>, D: Digest> State<S, L, D> {
             (proposed_round D.eq (round_of self.old context.now.round.view) context.now payload now)
             else self.old) }
     {
-        self.rounds.record_proposal(context, payload, now)
+        self.rounds.record_proposed(context, payload, now)
     }
 
     /// Whether the parent that a context captured may still be built on.
     fn context_stands(&self, context: &Context<D, S::PublicKey>) -> bool
         ensures { result ≡ context_stands D.eq L.elect self.now context.now }
     {
-        self.may_stand(context.round.view, context.parent.0, context.parent.1)
+        self.captured_parent_valid(context.round.view, context.parent.0, context.parent.1)
     }
 
     /// Whether another parent can be built on and the captured one no longer: then the request to build is cleared, so
@@ -159,7 +159,7 @@ impl<S: CertificateScheme, L: Elector<S>, D: Digest> State<S, L, D> {
     fn is_superseded(&self, context: &Context<D, S::PublicKey>) -> bool
         ensures { result ≡ supersede_answer D.eq L.elect self.now context.now }
     {
-        self.preferred_parent(context.round.view).is_some() && !self.context_stands(context)
+        self.find_parent(context.round.view).is_some() && !self.context_stands(context)
     }
 
     /// Why a handoff that is being built is to be given up, unless it may go on: its parent is certified with the captured

@@ -115,7 +115,7 @@ impl<S: CertificateScheme, L: Elector<S>, D: Digest> State<S, L, D> {
     pub fn parent_certified(&self, parent: (View, D)) -> bool
         ensures { result ≡ parent_certified D.eq self.now parent }
     {
-        match self.explicit_payload(parent.0) {
+        match self.explicit_ancestry_payload(parent.0) {
             Some(payload) => *payload == parent.1,
             None => false,
         }
@@ -211,7 +211,7 @@ impl<S: CertificateScheme, L: Elector<S>, D: Digest> State<S, L, D> {
         if !round.should_propose() {
             return None;
         }
-        let parent = self.preferred_parent(view)?;
+        let parent = self.find_parent(view)?;
         self.request_on(view, round, parent)
     }
 
@@ -225,7 +225,7 @@ impl<S: CertificateScheme, L: Elector<S>, D: Digest> State<S, L, D> {
         ensures { result ≡ request_on D.eq self.now view round.now parent }
     {
         let context = self.context_on(view, parent, round.leader()?);
-        if !self.is_start(view) || self.parent_certified(parent) {
+        if !self.is_term_start(view) || self.parent_certified(parent) {
             return Some(ProposalRequest::Propose(context));
         }
         if self.voted_nullify(self.current) {

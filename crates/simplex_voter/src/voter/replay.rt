@@ -154,7 +154,7 @@ impl<S: CertificateScheme, L: Elector<S>, D: Digest> State<S, L, D> {
         self.restore_round(artifact)?;
         self.restore_sets(artifact)?;
         match artifact {
-            Artifact::Notarize(vote) => self.prepare(vote.view()),
+            Artifact::Notarize(vote) => self.prepare_optimistic_successor(vote.view()),
             _ => Ok(()),
         }
     }

@@ -207,7 +207,7 @@ impl<S: CertificateScheme, D: Digest> Rounds<S, D> {
     }
 
     /// The leader of one view, where it is known, goes on to another that has none.
-    pub(super) fn inherit(&mut self, from: View, to: View) -> Result<(), Fault>
+    pub(super) fn inherit_leader(&mut self, from: View, to: View) -> Result<(), Fault>
         requires { to ≤ largest_tracked }
         ensures inherited { OnOk result (self.new ≡ rounds_with_leader_of self.old from to) }
         ensures refused { IfErr result (λ fault. fault ≡ OutOfMemory) }
@@ -256,7 +256,7 @@ impl<S: CertificateScheme, D: Digest> Rounds<S, D> {
     }
 
     /// Notes the entry of a view, the first one, and arms its deadlines.
-    pub(super) fn enter(&mut self, view: View, now: u64, deadlines: &Deadlines) -> Result<(), Fault>
+    pub(super) fn enter_view(&mut self, view: View, now: u64, deadlines: &Deadlines) -> Result<(), Fault>
         requires { view ≤ largest_tracked }
         ensures entered { OnOk result (self.new ≡ with_change self.old view (λ r. with_entry r now deadlines.now)) }
         ensures refused { IfErr result (λ fault. fault ≡ OutOfMemory) }

@@ -10,9 +10,9 @@ use simplex_types::types::{CertificateScheme, Digest, Elector, Proposal, View};
 impl<S: CertificateScheme, L: Elector<S>, D: Digest> State<S, L, D> {
     ghost use Rattle.simplex_voter.specs.Facts.{round_of};
     ghost use Rattle.simplex_round.specs.Round.{can_finalize};
-    ghost use Rattle.simplex_voter.specs.Windows.{is_start, is_admitted};
-    ghost use Rattle.simplex_voter.specs.Payloads.{explicit_payload, is_elected_early};
-    ghost use Rattle.simplex_voter.specs.Rules.{is_gated, was_handed_over, required_parent, is_parent_ready, has_required_parent, may_finalize};
+    ghost use Rattle.simplex_voter.specs.Windows.{is_term_start, is_admitted};
+    ghost use Rattle.simplex_voter.specs.Payloads.{explicit_ancestry_payload, is_elected_early};
+    ghost use Rattle.simplex_voter.specs.Rules.{has_conflicting_nullify, was_handed_over, required_certification_parent, explicit_parent_ready, has_required_parent, may_finalize};
 
     /// Whether a vote of this member for the view may go out.
     #[tactic(auto, unfolding(crate::specs::Windows::is_admitted))]
@@ -24,17 +24,17 @@ impl<S: CertificateScheme, L: Elector<S>, D: Digest> State<S, L, D> {
     }
 
     /// Whether the view starts a term.
-    pub(super) fn is_start(&self, view: View) -> bool
-        ensures { result ≡ is_start self.now view }
+    pub(super) fn is_term_start(&self, view: View) -> bool
+        ensures { result ≡ is_term_start self.now view }
     {
         view.is_term_start(self.elector.terms().term_length)
     }
 
     /// Whether this member voted to nullify a view below in the term, above the last finalized view: its vote to finalize
     /// could help to finalize a view that the other vote helps to skip.
-    #[tactic(auto, unfolding(crate::specs::Rules::is_gated))]
-    pub(super) fn is_gated(&self, view: View) -> bool
-        ensures { result ≡ is_gated self.now view }
+    #[tactic(auto, unfolding(crate::specs::Rules::has_conflicting_nullify))]
+    pub(super) fn has_conflicting_nullify(&self, view: View) -> bool
+        ensures { result ≡ has_conflicting_nullify self.now view }
     {
         match self.nullify_votes.covering_below(view) {
             Some(highest) => highest.0 > self.finalized,
@@ -43,9 +43,9 @@ impl<S: CertificateScheme, L: Elector<S>, D: Digest> State<S, L, D> {
     }
 
     /// Genesis' payload, or that of a finalized or certified view.
-    #[tactic(auto, unfolding(crate::specs::Payloads::explicit_payload))]
-    pub(super) fn explicit_payload(&self, view: View) -> Option<&D>
-        ensures { option_copied result ≡ explicit_payload self.now view }
+    #[tactic(auto, unfolding(crate::specs::Payloads::explicit_ancestry_payload))]
+    pub(super) fn explicit_ancestry_payload(&self, view: View) -> Option<&D>
+        ensures { option_copied result ≡ explicit_ancestry_payload self.now view }
     {
         if view.is_zero() {
             return self.genesis.as_ref();
@@ -57,7 +57,7 @@ impl<S: CertificateScheme, L: Elector<S>, D: Digest> State<S, L, D> {
     pub(super) fn is_elected_early(&self, view: View) -> bool
         ensures { result ≡ is_elected_early L.elect self.now view }
     {
-        self.is_start(view) && self.elector.elects_early() && self.is_me(self.early_leader(view))
+        self.is_term_start(view) && self.elector.elects_early() && self.is_me(self.early_leader(view))
     }
 
     /// Whether this member was elected early for the term that the view starts, and voted for a proposal there.
@@ -79,11 +79,11 @@ impl<S: CertificateScheme, L: Elector<S>, D: Digest> State<S, L, D> {
 
     /// The view that has to be certified before a proposal of this view: the proposal was voted for on a parent that may still
     /// be refused, and to finalize it finalizes the parent too.
-    #[tactic(auto, unfolding(crate::specs::Rules::required_parent))]
-    pub(super) fn required_parent(&self, view: View, proposal: &Proposal<D>) -> Option<View>
-        ensures { result ≡ required_parent L.elect self.now view proposal.now }
+    #[tactic(auto, unfolding(crate::specs::Rules::required_certification_parent))]
+    pub(super) fn required_certification_parent(&self, view: View, proposal: &Proposal<D>) -> Option<View>
+        ensures { result ≡ required_certification_parent L.elect self.now view proposal.now }
     {
-        if !self.is_start(view) {
+        if !self.is_term_start(view) {
             return Some(before(view));
         }
         if view.is_zero() || proposal.parent != before(view) {
@@ -97,11 +97,11 @@ impl<S: CertificateScheme, L: Elector<S>, D: Digest> State<S, L, D> {
     }
 
     /// Whether what has to be certified before the proposal is.
-    fn is_parent_ready(&self, view: View, proposal: &Proposal<D>) -> bool
-        ensures { result ≡ is_parent_ready L.elect self.now view proposal.now }
+    fn explicit_parent_ready(&self, view: View, proposal: &Proposal<D>) -> bool
+        ensures { result ≡ explicit_parent_ready L.elect self.now view proposal.now }
     {
-        match self.required_parent(view, proposal) {
-            Some(parent) => self.explicit_payload(parent).is_some(),
+        match self.required_certification_parent(view, proposal) {
+            Some(parent) => self.explicit_ancestry_payload(parent).is_some(),
             None => true,
         }
     }
@@ -118,7 +118,7 @@ impl<S: CertificateScheme, L: Elector<S>, D: Digest> State<S, L, D> {
         ensures { result ≡ has_required_parent L.elect self.now view }
     {
         match self.held_proposal(view) {
-            Some(proposal) => self.is_parent_ready(view, proposal),
+            Some(proposal) => self.explicit_parent_ready(view, proposal),
             None => false,
         }
     }
@@ -140,7 +140,7 @@ impl<S: CertificateScheme, L: Elector<S>, D: Digest> State<S, L, D> {
     {
         view > self.finalized
             && self.is_admitted(view)
-            && !self.is_gated(view)
+            && !self.has_conflicting_nullify(view)
             && self.has_required_parent(view)
             && self.can_finalize(view)
     }

@@ -2,7 +2,7 @@
 //! were given out.
 
 ghost use Rattle.std.specs.Prelude.{◌≡◌, ◌||◌, ◌≤◌, ◌+◌, ◌<◌, ◌^◌, IfSome, IfOk, OnOk, Err, None, true, is_some, option_map, slice_get, if◌then◌else◌, ◌-◌, ◌&&◌, min, nat_lt};
-ghost use Rattle.simplex_voter.specs.Verifying.{unless_asked, with_request, verifying_round};
+ghost use Rattle.simplex_voter.specs.Verifying.{fetch_once, with_request, verifying_round};
 ghost use Rattle.std.specs.Result.{IsOk};
 ghost use Rattle.simplex_round.specs.Round.{pending_proposal};
 
@@ -48,7 +48,7 @@ impl<D: Copy, P: Copy> Clone for Verify<D, P> {
 /// How the proposal of a view stands.
 pub enum Standing<D> {
     /// Nothing is to be done now.
-    Passed,
+    NothingToDo,
     /// Its parent is invalid for good.
     Invalid,
     /// A certificate of this view and kind is to be asked for first.
@@ -72,15 +72,15 @@ impl<D: Copy> Clone for Standing<D> {
 }
 
 /// A certificate of a view is to be asked for, unless its view was the last one asked for.
-fn unless_asked<S: CertificateScheme, D: Digest>(
+fn fetch_once<S: CertificateScheme, D: Digest>(
     round: &Round<S, D>,
     view: View,
     kind: Kind,
 ) -> Standing<D>
-    ensures { result ≡ unless_asked round.now view kind }
+    ensures { result ≡ fetch_once round.now view kind }
 {
     if round.is_last_request(view) {
-        Standing::Passed
+        Standing::NothingToDo
     } else {
         Standing::Lacks(view, kind)
     }
@@ -113,11 +113,11 @@ impl<S: CertificateScheme, L: Elector<S>, D: Digest> State<S, L, D> {
         ensures { result ≡ standing D.eq L.elect self.now (view, round.now) }
     {
         if !self.is_admitted(view) {
-            return Standing::Passed;
+            return Standing::NothingToDo;
         }
         match round.pending_verification() {
             Some((_, proposal)) => self.parent_standing(view, round, proposal.parent),
-            None => Standing::Passed,
+            None => Standing::NothingToDo,
         }
     }
 
@@ -125,11 +125,11 @@ impl<S: CertificateScheme, L: Elector<S>, D: Digest> State<S, L, D> {
     fn parent_standing(&self, view: View, round: &Round<S, D>, parent: View) -> Standing<D>
         ensures { result ≡ parent_standing D.eq L.elect self.now view round.now parent }
     {
-        if !self.spans(view, parent) {
+        if !self.has_valid_parent_span(view, parent) {
             return Standing::Invalid;
         }
-        match self.first_gap(parent, view) {
-            Some(gap) => unless_asked(round, gap, Kind::Nullification),
+        match self.first_unnullified_view(parent, view) {
+            Some(gap) => fetch_once(round, gap, Kind::Nullification),
             None => self.payload_standing(view, round, parent),
         }
     }
@@ -138,13 +138,13 @@ impl<S: CertificateScheme, L: Elector<S>, D: Digest> State<S, L, D> {
     fn payload_standing(&self, view: View, round: &Round<S, D>, parent: View) -> Standing<D>
         ensures { result ≡ payload_standing D.eq L.elect self.now view round.now parent }
     {
-        if let Some(payload) = self.payload_for(view, parent) {
+        if let Some(payload) = self.ancestry_payload_for_child(view, parent) {
             return Standing::Ready(payload);
         }
-        if self.in_window(view) {
-            return Standing::Passed;
+        if self.in_issuance_window(view) {
+            return Standing::NothingToDo;
         }
-        unless_asked(round, parent, Kind::Notarization)
+        fetch_once(round, parent, Kind::Notarization)
     }
 
     /// What comes next in verifying the proposals of other leaders.
@@ -218,7 +218,7 @@ impl<S: CertificateScheme, L: Elector<S>, D: Digest> State<S, L, D> {
         let round = self.round_at(view)?;
         let (leader, proposal) = round.pending_verification()?;
         match self.standing(view, round) {
-            Standing::Passed => None,
+            Standing::NothingToDo => None,
             Standing::Invalid => {
                 self.latch(view, TimeoutReason::InvalidProposal, self.last_moment);
                 None
@@ -273,8 +273,8 @@ impl<S: CertificateScheme, L: Elector<S>, D: Digest> State<S, L, D> {
         if self.is_failed() {
             return Err(Fault::Failed);
         }
-        if !self.binding_matches(view) {
-            self.unbind(view);
+        if !self.verification_matches(view) {
+            self.clear_verifying(view);
             return Ok(false);
         }
         Ok(self.rounds.mark(view))
@@ -299,19 +299,19 @@ impl<S: CertificateScheme, L: Elector<S>, D: Digest> State<S, L, D> {
         if self.is_failed() {
             return Err(Fault::Failed);
         }
-        let holds = self.binding_matches(view);
+        let holds = self.verification_matches(view);
         self.note_moment(now);
         if holds {
             self.trigger(view, reason, now);
         } else {
-            self.unbind(view);
+            self.clear_verifying(view);
         }
         Ok(())
     }
 
-    fn unbind(&mut self, view: View)
+    fn clear_verifying(&mut self, view: View)
         ensures { self.new ≡ without_binding self.old view }
     {
-        self.rounds.unbind(view);
+        self.rounds.clear_verifying(view);
     }
 }

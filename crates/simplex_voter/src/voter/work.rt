@@ -78,7 +78,7 @@ impl<S: CertificateScheme, D: Digest> Rounds<S, D> {
     }
 
     /// Takes the binding of a view away.
-    pub(super) fn unbind(&mut self, view: View)
+    pub(super) fn clear_verifying(&mut self, view: View)
         ensures unbound { self.new ≡ with_change_in_place self.old view with_nothing_bound }
         ensures origin { HasSameOrigin self.old self.new }
     {
@@ -90,7 +90,7 @@ impl<S: CertificateScheme, D: Digest> Rounds<S, D> {
 
     /// Records what was built in a tracked view, bound to its parent's payload, where nullify was not decided and no other
     /// proposal is held.
-    pub(super) fn record_proposal(
+    pub(super) fn record_proposed(
         &mut self,
         context: &Context<D, S::PublicKey>,
         payload: D,

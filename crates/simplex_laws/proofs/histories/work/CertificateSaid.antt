@@ -10,7 +10,7 @@ use Rattle.simplex_laws.specs.Events.{Event}
 use Rattle.simplex_laws.specs.Leading.{leader_by_event, tracks}
 use Rattle.simplex_laws.specs.OwnWork.{decides_nullify, decides_finalize}
 use Rattle.simplex_laws.specs.Requested.{names, certifies, verifies, asks_to_build, asks_to_verify, asks_for, binds}
-use Rattle.simplex_laws.specs.Sums.{or_new, has_view}
+use Rattle.simplex_laws.specs.HistoryFolds.{or_new, has_view}
 use Rattle.simplex_laws.specs.Timing.{enters, proposes, latches, retries}
 use Rattle.simplex_laws.proofs.histories.work.Certificates.{with_settled, with_certification}
 use Rattle.simplex_laws.proofs.histories.work.SetUp.{Steady}

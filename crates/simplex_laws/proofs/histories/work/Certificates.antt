@@ -18,7 +18,7 @@ use Rattle.simplex_voter.specs.Certification.{without_token, with_finalized_view
 use Rattle.simplex_voter.proofs.Walked.{find-changed}
 use Rattle.simplex_laws.specs.OwnWork.{contradicts}
 use Rattle.simplex_laws.specs.Requested.{ends}
-use Rattle.simplex_laws.specs.Sums.{has_view}
+use Rattle.simplex_laws.specs.HistoryFolds.{has_view}
 use Rattle.simplex_laws.proofs.histories.Worked.{Worked, work_in, work_of, work_put, work_elsewhere}
 
 -- with a certificate of the view, which overrules what was held or not

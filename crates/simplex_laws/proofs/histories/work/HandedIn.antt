@@ -19,7 +19,7 @@ use Rattle.simplex_laws.specs.Events.{SetFloor, AddNotarization, AddNullificatio
 use Rattle.simplex_laws.specs.Leading.{elected_leader}
 use Rattle.simplex_laws.specs.OwnWork.{contradicts}
 use Rattle.simplex_laws.specs.Requested.{names, ends, wakes}
-use Rattle.simplex_laws.specs.Sums.{has_view}
+use Rattle.simplex_laws.specs.HistoryFolds.{has_view}
 use Rattle.simplex_laws.proofs.histories.FollowingHanded.{and_false}
 use Rattle.simplex_laws.proofs.histories.Leaving.{known_of, Alike, Leaves, Quiet, leaves_joined, then_quiet, moment_leaves, entered_leaves, raised_leaves, elected_quiet}
 use Rattle.simplex_record.proofs.Seen.{option_or_none}

@@ -11,7 +11,7 @@ use Rattle.simplex_voter.specs.Facts.{Settings, StateFacts, Elect, round_at, rou
 use Rattle.simplex_voter.specs.Entering.{with_view_entered, entered_round}
 use Rattle.simplex_voter.specs.Leaders.{has_leader, with_leader_at, with_leader_of, with_elected_leader}
 use Rattle.simplex_laws.specs.Leading.{same_member, elected_leader}
-use Rattle.simplex_laws.specs.Sums.{or_new}
+use Rattle.simplex_laws.specs.HistoryFolds.{or_new}
 use Rattle.simplex_laws.proofs.histories.Worked.{Worked, work_in, work_of, timed, work_put, work_elsewhere, untimed}
 
 -- nothing but the rounds changes

@@ -14,7 +14,7 @@ use Rattle.simplex_round.specs.Round.{RoundFacts, leader_at, new_round}
 use Rattle.simplex_voter.specs.Facts.{StateFacts, Elect, round_of, round_number, with_round}
 use Rattle.simplex_voter.specs.Leaders.{has_leader, with_leader_at, with_leader_of, with_elected_leader, with_next_view_ready}
 use Rattle.simplex_voter.specs.Payloads.{is_elected_early}
-use Rattle.simplex_voter.specs.Windows.{is_notarized, is_open, in_window}
+use Rattle.simplex_voter.specs.Windows.{is_notarized, is_open, in_issuance_window}
 use Rattle.simplex_laws.specs.Leading.{same_member, elected_leader, leads_after, tracks_after}
 use Rattle.std.proofs.Math.Bool.{and-true}
 use Rattle.simplex_laws.proofs.histories.FollowingHanded.{and_false}
@@ -70,8 +70,8 @@ module _ {K L D : Type 0} where
       fails true false = refl
       fails false b = refl
 
-  pub window_put : (x : StateFacts K L D) (w : ℕ) (r : RoundFacts K D) → is_notarized r ≡ is_notarized (round_of x w) → (v : ℕ) → in_window (with_round x w r) v ≡ in_window x v
-  unfolding in_window
+  pub window_put : (x : StateFacts K L D) (w : ℕ) (r : RoundFacts K D) → is_notarized r ≡ is_notarized (round_of x w) → (v : ℕ) → in_issuance_window (with_round x w r) v ≡ in_issuance_window x v
+  unfolding in_issuance_window
   window_put x w r alike v = open_put x w r alike v (issuance_floor x.terms.term_length x.terms.optimistic_views v)
 
 -- of each view nothing but its leader changes
@@ -103,18 +103,18 @@ module _ {K L D : Type 0} where
 module _ {K L D : Type 0} (elect : Elect L) (x : StateFacts K L D) (w : ℕ) where
   pub prepared_only : OnlyRounds x (with_next_view_ready elect x w)
   prepared_only =
-      only_where x (in_window x (w + 1)) (with_leader_of x w (w + 1)) _ (inherited_only x w (w + 1))
+      only_where x (in_issuance_window x (w + 1)) (with_leader_of x w (w + 1)) _ (inherited_only x w (w + 1))
       (only_where x ((round_of x w).notarize_decided && is_elected_early elect x (w + 1)) (with_elected_leader elect x (w + 1) None) x (elected_only elect x (w + 1) None) refl)
 
   pub prepared_leaders : OnlyLeaders x (with_next_view_ready elect x w)
   prepared_leaders =
-      leaders_where x (in_window x (w + 1)) (with_leader_of x w (w + 1)) _ (inherited_leaders x w (w + 1))
+      leaders_where x (in_issuance_window x (w + 1)) (with_leader_of x w (w + 1)) _ (inherited_leaders x w (w + 1))
       (leaders_where x ((round_of x w).notarize_decided && is_elected_early elect x (w + 1)) (with_elected_leader elect x (w + 1) None) x (led_leaders x (w + 1) (elect x.elector (round_number x (w + 1)) None)) (λ v. refl))
 
   -- the view above takes the leader, or the elector's choice
 
   pub prepared_work : (v : ℕ) → work_of (with_next_view_ready elect x w) v ≡ with_leader (tracks_after elect x (round_of x w).notarize_decided w v) (leads_after elect x (round_of x w).notarize_decided w v) (work_of x v)
-  prepared_work v = by_window (in_window x (w + 1))
+  prepared_work v = by_window (in_issuance_window x (w + 1))
     where
       own : Bool
       own = (round_of x w).notarize_decided && is_elected_early elect x (w + 1)

@@ -9,7 +9,7 @@ use Rattle.simplex_voter.specs.Facts.{StateFacts, Elect, round_of, is_tracked, w
 use Rattle.simplex_voter.specs.Entering.{at_moment}
 use Rattle.simplex_laws.specs.Events.{Event}
 use Rattle.simplex_laws.specs.Requested.{names, is_at}
-use Rattle.simplex_laws.specs.Sums.{entered_by, has_view}
+use Rattle.simplex_laws.specs.HistoryFolds.{entered_by, has_view}
 use Rattle.simplex_laws.specs.Timing.{enters}
 use Rattle.simplex_laws.proofs.histories.Following.{left_from}
 use Rattle.simplex_laws.proofs.histories.Worked.{work_in, work_of, adds_work, WorkFollows, IsIdle, work_put, work_elsewhere}

@@ -19,7 +19,7 @@ use Rattle.simplex_voter.specs.Replay.{bound_again, restored_binding}
 use Rattle.simplex_record.specs.Recovery.{after_replaying}
 use Rattle.simplex_laws.specs.Events.{Replay}
 use Rattle.simplex_laws.specs.Leading.{leads_after, tracks_after}
-use Rattle.simplex_laws.specs.Sums.{has_view}
+use Rattle.simplex_laws.specs.HistoryFolds.{has_view}
 use Rattle.simplex_laws.proofs.histories.Worked.{work_in, work_of, WorkFollows, work_put, work_elsewhere}
 use Rattle.simplex_laws.proofs.histories.work.Leaders.{OnlyRounds, with_leader}
 use Rattle.simplex_laws.proofs.histories.work.NextView.{prepared_only, readied_work}

@@ -18,7 +18,7 @@ use Rattle.simplex_voter.specs.Entering.{at_moment}
 use Rattle.simplex_voter.specs.Certification.{after_candidates, after_set_certify_handle}
 use Rattle.simplex_voter.specs.declared.voter.propose.ProposalRequest.{ProposalRequest}
 use Rattle.simplex_voter.specs.Proposing.{request_context, build_requested, proposal_of, proposed_round, with_build, propose_answer, proposed_answer, supersede_answer, after_try_propose, after_proposed, after_supersede, after_release}
-use Rattle.simplex_voter.specs.Parents.{binding_matches}
+use Rattle.simplex_voter.specs.Parents.{verification_matches}
 use Rattle.simplex_voter.specs.Serving.{after_broadcast_notarization, after_broadcast_nullification, after_broadcast_finalization, after_prune}
 use Rattle.simplex_voter.specs.Verifying.{without_binding, with_mark, after_verified}
 use Rattle.simplex_voter.proofs.Gaps.{and_parts}
@@ -134,7 +134,7 @@ module _ {K L D : Type 0} (same : D → D → Bool) (elect : Elect L) (x : State
   -- verifications
 
   pub verified_works : (v : ℕ) → WorkFollows same elect (Verified v) x (after_verified same elect x v)
-  verified_works v = by_binding (binding_matches same elect x v) refl
+  verified_works v = by_binding (verification_matches same elect x v) refl
     where
       e : Event K D
       e = Verified v
@@ -145,14 +145,14 @@ module _ {K L D : Type 0} (same : D → D → Bool) (elect : Elect L) (x : State
       idle : (w : ℕ) → is_at x w v ≡ false → IsIdle same elect x e w
       idle w apart k = rw (unentered x e w refl, untimed x.settings k.decision, apart) refl
 
-      marked : binding_matches same elect x v ≡ true → is_tracked x v ≡ true → (b : Bool) → is_nullify r.decision ≡ b → work_in true (if b then r else record r { slot = after_mark r.slot }) ≡ adds_work same elect x e v (work_in true r)
+      marked : verification_matches same elect x v ≡ true → is_tracked x v ≡ true → (b : Bool) → is_nullify r.decision ≡ b → work_in true (if b then r else record r { slot = after_mark r.slot }) ≡ adds_work same elect x e v (work_in true r)
       marked holds tracked true is = rw (unentered x e v refl, untimed x.settings r.decision, eq-eqb v v refl, tracked, holds, is) refl
       marked holds tracked false is = rw (unentered x e v refl, untimed x.settings r.decision, eq-eqb v v refl, tracked, holds, is) refl
 
-      unbound : binding_matches same elect x v ≡ false → is_tracked x v ≡ true → work_in true (record r { binding = None }) ≡ adds_work same elect x e v (work_in true r)
+      unbound : verification_matches same elect x v ≡ false → is_tracked x v ≡ true → work_in true (record r { binding = None }) ≡ adds_work same elect x e v (work_in true r)
       unbound fails tracked = rw (unentered x e v refl, untimed x.settings r.decision, eq-eqb v v refl, tracked, fails) refl
 
-      by_binding : (b : Bool) → binding_matches same elect x v ≡ b → WorkFollows same elect e x (if b then with_tracked x v (with_mark r) else without_binding x v)
+      by_binding : (b : Bool) → verification_matches same elect x v ≡ b → WorkFollows same elect e x (if b then with_tracked x v (with_mark r) else without_binding x v)
       by_binding true holds = tracked_follows same elect x e (λ w. refl) x.moment v (with_mark r) (λ tracked. marked holds tracked (is_nullify r.decision) refl) idle
       by_binding false fails = tracked_follows same elect x e (λ w. refl) x.moment v (record r { binding = None }) (unbound fails) idle
 

@@ -6,7 +6,7 @@ use Rattle.simplex_types.specs.declared.types.messages.Proposal.{Proposal}
 use Rattle.simplex_types.specs.declared.reasons.TimeoutReason.TheVariants.{InvalidProposal}
 use Rattle.simplex_round.specs.Round.{RoundFacts}
 use Rattle.simplex_voter.specs.declared.voter.verify.Standing.{Standing}
-use Rattle.simplex_voter.specs.declared.voter.verify.Standing.TheVariants.{Passed, Invalid, Lacks, Ready}
+use Rattle.simplex_voter.specs.declared.voter.verify.Standing.TheVariants.{NothingToDo, Invalid, Lacks, Ready}
 use Rattle.simplex_voter.specs.Facts.{Settings, StateFacts, Elect, round_of, is_tracked}
 use Rattle.simplex_voter.specs.Verifying.{round_left, standing, was_scanned, after_try_verify}
 use Rattle.simplex_laws.specs.Events.{Event, TryVerify}
@@ -26,10 +26,10 @@ stood settings moment held s k = record k {
 }
 
 module _ {K D : Type 0} (settings : Settings) (moment : ℕ) (tracked : Bool) (r : RoundFacts K D) where
-  round_stood : (b : Bool) (s : Standing D) → work_in tracked (if b then round_left r moment s else r) ≡ stood settings moment r.slot.held (if b then s else Passed) (work_in tracked r)
+  round_stood : (b : Bool) (s : Standing D) → work_in tracked (if b then round_left r moment s else r) ≡ stood settings moment r.slot.held (if b then s else NothingToDo) (work_in tracked r)
   round_stood true Invalid = rw (sym (latched_timed settings r.decision (moment, InvalidProposal))) refl
   round_stood false s = rw (untimed settings r.decision) refl
-  round_stood true Passed = rw (untimed settings r.decision) refl
+  round_stood true NothingToDo = rw (untimed settings r.decision) refl
   round_stood true (Lacks w kind) = rw (untimed settings r.decision) refl
   round_stood true (Ready d) = rw (untimed settings r.decision) refl
 

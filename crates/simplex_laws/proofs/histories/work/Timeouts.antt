@@ -9,7 +9,7 @@ use Rattle.simplex_round.specs.declared.round.Decision.TheVariants.{Pending, Nul
 use Rattle.simplex_round.specs.Round.{RoundFacts, with_first_timeout, with_latch, has_no_retry, awaits_retry}
 use Rattle.simplex_voter.specs.Facts.{Settings, StateFacts, Elect, round_of, is_tracked, with_round}
 use Rattle.simplex_voter.specs.Entering.{at_moment}
-use Rattle.simplex_voter.specs.Parents.{binding_matches}
+use Rattle.simplex_voter.specs.Parents.{verification_matches}
 use Rattle.simplex_voter.specs.Timeouts.{with_timeout, round_with_retry, after_trigger_timeout, after_next_timeout}
 use Rattle.simplex_voter.specs.Verifying.{without_binding, after_verification_failed}
 use Rattle.simplex_voter.proofs.Gaps.{and_parts}
@@ -69,7 +69,7 @@ module _ {K L D : Type 0} (same : D → D → Bool) (elect : Elect L) (x : State
 
   -- a failed verification times the view out, or takes a binding away
   pub failed_works : (v : ℕ) (reason : TimeoutReason) (now : ℕ) → WorkFollows same elect (VerificationFailed v reason now) x (after_verification_failed same elect x v reason now)
-  failed_works v reason now = by_binding (binding_matches same elect x v) refl
+  failed_works v reason now = by_binding (verification_matches same elect x v) refl
     where
       a : StateFacts K L D
       a = at_moment x now
@@ -80,7 +80,7 @@ module _ {K L D : Type 0} (same : D → D → Bool) (elect : Elect L) (x : State
       s : RoundFacts K D
       s = record (round_of x v) { binding = None }
 
-      by_binding : (b : Bool) → binding_matches same elect x v ≡ b → WorkFollows same elect e x (if b then with_timeout a v reason now else without_binding a v)
+      by_binding : (b : Bool) → verification_matches same elect x v ≡ b → WorkFollows same elect e x (if b then with_timeout a v reason now else without_binding a v)
       by_binding true holds = shared_follows same elect x e (λ w. refl) (with_timeout a v reason now) (shared_triggered a v reason now) (λ w _. work_triggered a v reason now x.settings w ∙ rw (unentered x e w refl, holds, and-false (is_at x w v), and-true (eqb w v)) refl)
       by_binding false fails = tracked_follows same elect x e (λ w. refl) now v s unbound idle
         where

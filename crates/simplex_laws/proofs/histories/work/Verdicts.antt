@@ -12,7 +12,7 @@ use Rattle.simplex_voter.specs.Timeouts.{with_timeout}
 use Rattle.simplex_voter.specs.Certification.{with_verdict, with_waiting_candidate, verdict_taken, after_certified}
 use Rattle.simplex_laws.specs.Events.{Event, Certified}
 use Rattle.simplex_laws.specs.Requested.{is_at, wakes, names}
-use Rattle.simplex_laws.specs.Sums.{has_view}
+use Rattle.simplex_laws.specs.HistoryFolds.{has_view}
 use Rattle.simplex_laws.specs.Timing.{triggers}
 use Rattle.simplex_record.proofs.Growing.{round_of-put}
 use Rattle.simplex_laws.proofs.histories.Leaving.{known_of, Alike, entered_leaves}

@@ -21,7 +21,7 @@ use Rattle.simplex_voter.proofs.Rules.{nullify_parts}
 use Rattle.simplex_laws.specs.Events.{ConstructNotarize, ConstructNullify, ConstructFinalize, SetProposal}
 use Rattle.simplex_laws.specs.Leading.{leads_after, tracks_after}
 use Rattle.simplex_laws.specs.OwnWork.{contradicts}
-use Rattle.simplex_laws.specs.Sums.{or_new, has_view}
+use Rattle.simplex_laws.specs.HistoryFolds.{or_new, has_view}
 use Rattle.simplex_laws.proofs.histories.FollowingHanded.{and_false}
 use Rattle.simplex_laws.proofs.histories.Worked.{Worked, work_in, work_of, adds_work, WorkFollows, work_put, work_elsewhere}
 use Rattle.simplex_laws.proofs.histories.work.Leaders.{OnlyRounds, with_leader}

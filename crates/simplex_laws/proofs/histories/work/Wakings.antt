@@ -9,9 +9,9 @@ use Rattle.simplex_round.specs.Round.{RoundFacts, new_round, signs_as}
 use Rattle.simplex_voter.specs.Certification.{named_also, waits_for, with_waiting_candidate}
 use Rattle.simplex_voter.specs.Facts.{StateFacts, Elect, round_at, round_of, round_number}
 use Rattle.simplex_voter.specs.Payloads.{is_elected_early}
-use Rattle.simplex_voter.specs.Rules.{required_parent}
+use Rattle.simplex_voter.specs.Rules.{required_certification_parent}
 use Rattle.simplex_laws.specs.Requested.{wakes}
-use Rattle.simplex_laws.specs.Sums.{has_view}
+use Rattle.simplex_laws.specs.HistoryFolds.{has_view}
 use Rattle.simplex_laws.proofs.histories.Following.{among_noted}
 use Rattle.simplex_laws.proofs.histories.Leaving.{Alike}
 
@@ -43,13 +43,13 @@ module _ {K L D : Type 0} where
 module _ {K L D : Type 0} (elect : Elect L) where
   -- whether a view waits hangs on how the state is set up, and on what is known of that view
   pub waits_alike : (x y : StateFacts K L D) (p : ℕ) → SetUpAlike x y → Alike (round_of x (p + 1)) (round_of y (p + 1)) → waits_for elect y p (round_of y (p + 1)) ≡ waits_for elect x p (round_of x (p + 1))
-  unfolding required_parent
+  unfolding required_certification_parent
   waits_alike x y p s alike = λ i. is_some (alike i).notarization && option_map_or (λ h. option_map_or (λ q. eqb q p) (parent i h) false) (alike i).held false
     where
       early : is_elected_early elect y (p + 1) ≡ is_elected_early elect x (p + 1)
       early = λ i. eqb (p + 1) (term_start (s.terms i).term_length (p + 1)) && s.elects_early i && signs_as (s.me i) (elect (s.elector i) (record { epoch = (s.settings i).epoch; view = p + 1 }) None)
 
-      parent : required_parent elect y (p + 1) ≡ required_parent elect x (p + 1)
+      parent : required_certification_parent elect y (p + 1) ≡ required_certification_parent elect x (p + 1)
       parent = λ i h. if eqb (p + 1) (term_start (s.terms i).term_length (p + 1)) then (if eqb (h.parent + 1) (p + 1) && (early i && (alike i).notarize_decided) then Some h.parent else None) else Some (p + 1 - 1)
 
   -- a view that isn't tracked waits for none

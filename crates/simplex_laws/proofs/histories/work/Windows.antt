@@ -9,7 +9,7 @@ use Rattle.simplex_round.specs.declared.round.Leader.{Leader}
 use Rattle.simplex_voter.specs.Facts.{StateFacts, round_of}
 use Rattle.simplex_voter.specs.Leaders.{with_leader_of, opened_views, with_window_leaders}
 use Rattle.simplex_laws.specs.Leading.{same_member, nearest_leader, window_leader}
-use Rattle.simplex_laws.specs.Sums.{or_new, has_view}
+use Rattle.simplex_laws.specs.HistoryFolds.{or_new, has_view}
 use Rattle.simplex_laws.proofs.histories.Worked.{Worked, work_of}
 use Rattle.simplex_laws.proofs.histories.work.Leaders.{OnlyRounds, only_joined, with_leader, inherited_only, inherited_work}
 

@@ -9,7 +9,7 @@ use Rattle.simplex_laws.specs.Events.{Event}
 use Rattle.simplex_laws.specs.Leading.{leader_by_event, tracks}
 use Rattle.simplex_laws.specs.OwnWork.{decides_nullify, decides_finalize}
 use Rattle.simplex_laws.specs.Requested.{certifies, verifies, asks_to_build, asks_to_verify, asks_for, binds}
-use Rattle.simplex_laws.specs.Sums.{or_new, entered_by, moment_by}
+use Rattle.simplex_laws.specs.HistoryFolds.{or_new, entered_by, moment_by}
 use Rattle.simplex_laws.specs.Timing.{enters, proposes, latches, retries}
 use Rattle.simplex_laws.proofs.histories.Worked.{Worked, work_in, work_of, adds_work, work_put, work_elsewhere, untimed}
 

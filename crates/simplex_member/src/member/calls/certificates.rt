@@ -4,8 +4,8 @@ ghost use Rattle.std.specs.Prelude.{◌++◌, ◌≡◌, IfOk, IfErr};
 ghost use Rattle.simplex_types.specs.Certificates.{notarization_facts, nullification_facts, finalization_facts, Accepted, Notarized, Nullified, Finalized};
 ghost use Rattle.simplex_member.specs.Calls.{AddNotarization, AddNullification, AddFinalization, Added, AddedNullification};
 ghost use Rattle.simplex_member.specs.Lives.{IsCall};
-ghost use Rattle.simplex_member.specs.Made.{if_new};
-ghost use Rattle.simplex_member.specs.Typed.{told_of, Keeps, IsAnswered};
+ghost use Rattle.simplex_member.specs.CallSemantics.{if_new};
+ghost use Rattle.simplex_member.specs.MethodContracts.{told_of, Keeps, IsAnswered};
 
 use crate::member::call_error::{ended, is_lost};
 use crate::member::life::Member;

@@ -4,7 +4,7 @@ ghost use Rattle.std.specs.Prelude.{◌≡◌, option_map, IfOk, IfErr};
 ghost use Rattle.simplex_types.specs.Certificates.{notarization_facts};
 ghost use Rattle.simplex_member.specs.Calls.{CertifyCandidates, SetCertifyHandle, Certified, Judged, Candidates, Done};
 ghost use Rattle.simplex_member.specs.Lives.{IsCall};
-ghost use Rattle.simplex_member.specs.Typed.{told_of, Keeps, IsAnswered};
+ghost use Rattle.simplex_member.specs.MethodContracts.{told_of, Keeps, IsAnswered};
 
 use crate::member::call_error::{ended, is_lost};
 use crate::member::life::Member;
@@ -32,7 +32,7 @@ impl<S: Scheme<D>, L: Elector<S>, D: Digest> Member<S, L, D> {
         if self.failed {
             return Err(Refusal::Fault(Fault::Failed));
         }
-        let made = parts::certify_candidates(&mut self.state, &mut self.openings);
+        let made = parts::certify_candidates(&mut self.state, &mut self.outstanding_work);
         self.failed = is_lost(&made);
         ended(made)
     }
@@ -50,7 +50,7 @@ impl<S: Scheme<D>, L: Elector<S>, D: Digest> Member<S, L, D> {
         if self.failed {
             return Err(Refusal::Fault(Fault::Failed));
         }
-        if !self.openings.is_offered(view) {
+        if !self.outstanding_work.is_offered(view) {
             return Err(Refusal::NotAllowed);
         }
         if !self.state.takes_certify_handle(view) {
@@ -87,7 +87,7 @@ impl<S: Scheme<D>, L: Elector<S>, D: Digest> Member<S, L, D> {
         }
         let made = parts::certified(
             &mut self.state,
-            &mut self.openings,
+            &mut self.outstanding_work,
             &mut self.artifacts,
             view,
             success,

@@ -3,7 +3,7 @@
 ghost use Rattle.std.specs.Prelude.{◌≡◌, IfOk, IfErr};
 ghost use Rattle.simplex_member.specs.Calls.{TryPropose, Proposed, SupersedeProposalRequest, PendingHandoffAbandonment, ReleaseProposalRequest, Requested, Answered, Abandoned, Released};
 ghost use Rattle.simplex_member.specs.Lives.{IsCall};
-ghost use Rattle.simplex_member.specs.Typed.{told_of, Keeps, IsAnswered};
+ghost use Rattle.simplex_member.specs.MethodContracts.{told_of, Keeps, IsAnswered};
 
 use crate::member::life::Member;
 use crate::member::refusal::Refusal;
@@ -26,9 +26,9 @@ impl<S: Scheme<D>, L: Elector<S>, D: Digest> Member<S, L, D> {
         if self.failed {
             return Err(Refusal::Fault(Fault::Failed));
         }
-        self.openings.make_room()?;
+        self.outstanding_work.make_room()?;
         let request = self.state.try_propose()?;
-        self.openings.open_request(&request);
+        self.outstanding_work.open_request(&request);
         Ok(request)
     }
 
@@ -47,11 +47,11 @@ impl<S: Scheme<D>, L: Elector<S>, D: Digest> Member<S, L, D> {
         if self.failed {
             return Err(Refusal::Fault(Fault::Failed));
         }
-        let Some(context) = self.openings.context(view) else {
+        let Some(context) = self.outstanding_work.context(view) else {
             return Err(Refusal::NotAllowed);
         };
         let is_held = self.state.proposed(context, payload, now)?;
-        self.openings.close_context(view);
+        self.outstanding_work.close_context(view);
         Ok(is_held)
     }
 
@@ -71,12 +71,12 @@ impl<S: Scheme<D>, L: Elector<S>, D: Digest> Member<S, L, D> {
         if self.failed {
             return Err(Refusal::Fault(Fault::Failed));
         }
-        let Some(context) = self.openings.context(view) else {
+        let Some(context) = self.outstanding_work.context(view) else {
             return Err(Refusal::NotAllowed);
         };
         let is_superseded = self.state.supersede_proposal_request(context)?;
         if is_superseded {
-            self.openings.close_context(view);
+            self.outstanding_work.close_context(view);
         }
         Ok(is_superseded)
     }
@@ -97,7 +97,7 @@ impl<S: Scheme<D>, L: Elector<S>, D: Digest> Member<S, L, D> {
         if self.failed {
             return Err(Refusal::Fault(Fault::Failed));
         }
-        let Some(context) = self.openings.context(view) else {
+        let Some(context) = self.outstanding_work.context(view) else {
             return Err(Refusal::NotAllowed);
         };
         Ok(self.state.pending_handoff_abandonment(context)?)
@@ -116,8 +116,8 @@ impl<S: Scheme<D>, L: Elector<S>, D: Digest> Member<S, L, D> {
             return Err(Refusal::Fault(Fault::Failed));
         }
         self.state.release_proposal_request(view)?;
-        let was_open = self.openings.has_context(view);
-        self.openings.close_context(view);
+        let was_open = self.outstanding_work.has_context(view);
+        self.outstanding_work.close_context(view);
         Ok(was_open)
     }
 }

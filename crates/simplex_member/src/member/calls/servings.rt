@@ -5,7 +5,7 @@ ghost use Rattle.simplex_types.specs.Certificates.{certificate_facts};
 ghost use Rattle.simplex_member.specs.Calls.{BroadcastNotarization, BroadcastNullification, BroadcastFinalization, GetBestCertificate, Prune, Handed, Dropped};
 ghost use Rattle.simplex_voter.specs.Serving.{broadcast_notarization_answer, broadcast_nullification_answer, broadcast_finalization_answer};
 ghost use Rattle.simplex_member.specs.Lives.{IsCall};
-ghost use Rattle.simplex_member.specs.Typed.{told_of, Keeps, IsAnswered, HasNoneLeft};
+ghost use Rattle.simplex_member.specs.MethodContracts.{told_of, Keeps, IsAnswered, HasNoneLeft};
 
 use crate::member::call_error::{ended, is_lost, part_of};
 use crate::member::handing::{

@@ -3,7 +3,7 @@
 ghost use Rattle.std.specs.Prelude.{◌≡◌, IfOk, IfErr};
 ghost use Rattle.simplex_member.specs.Calls.{SetProposal, TryVerify, Verified, VerificationFailed, Standing, Answered, Done};
 ghost use Rattle.simplex_member.specs.Lives.{IsCall};
-ghost use Rattle.simplex_member.specs.Typed.{told_of, Keeps, IsAnswered};
+ghost use Rattle.simplex_member.specs.MethodContracts.{told_of, Keeps, IsAnswered};
 
 use crate::member::call_error::{ended, is_lost, part_of};
 use crate::member::life::Member;
@@ -50,9 +50,9 @@ impl<S: Scheme<D>, L: Elector<S>, D: Digest> Member<S, L, D> {
         if self.failed {
             return Err(Refusal::Fault(Fault::Failed));
         }
-        self.openings.make_room()?;
+        self.outstanding_work.make_room()?;
         let verify = self.state.try_verify()?;
-        self.openings.open_verification(&verify);
+        self.outstanding_work.open_verification(&verify);
         Ok(verify)
     }
 
@@ -70,11 +70,11 @@ impl<S: Scheme<D>, L: Elector<S>, D: Digest> Member<S, L, D> {
         if self.failed {
             return Err(Refusal::Fault(Fault::Failed));
         }
-        if !self.openings.is_verifying(view) {
+        if !self.outstanding_work.is_verifying(view) {
             return Err(Refusal::NotAllowed);
         }
         let is_marked = self.state.verified(view)?;
-        self.openings.close_verification(view);
+        self.outstanding_work.close_verification(view);
         Ok(is_marked)
     }
 
@@ -97,11 +97,11 @@ impl<S: Scheme<D>, L: Elector<S>, D: Digest> Member<S, L, D> {
         if self.failed {
             return Err(Refusal::Fault(Fault::Failed));
         }
-        if !self.openings.is_verifying(view) {
+        if !self.outstanding_work.is_verifying(view) {
             return Err(Refusal::NotAllowed);
         }
         self.state.verification_failed(view, reason, now)?;
-        self.openings.close_verification(view);
+        self.outstanding_work.close_verification(view);
         Ok(())
     }
 }

@@ -1,24 +1,24 @@
 -- from what `run` ensures
 use Rattle.std.proofs.Common.{subst}
-use Rattle.simplex_laws.specs.Living.{story_of}
+use Rattle.simplex_laws.specs.Living.{execution_of}
 use Rattle.simplex_laws.specs.Lawful.{IsLawful}
 use Rattle.simplex_laws.proofs.agreement.Exactly.{run_exact}
-use Rattle.simplex_laws.proofs.stories.Living.{if_ok_on}
-use Rattle.simplex_laws.proofs.records.RunsLawful.{story_lawful}
-use Rattle.simplex_laws.proofs.stories.Shown.{story_shown, lives_as}
+use Rattle.simplex_laws.proofs.executions.Living.{if_ok_on}
+use Rattle.simplex_laws.proofs.records.RunsLawful.{execution_lawful}
+use Rattle.simplex_laws.proofs.executions.Shown.{execution_shown, lives_as}
 use Rattle.simplex_lawful.proofs.lawful.living.run_lawfully.Goals as goal
 
 pub returns-clause-exact : goal.returns-clause-exact
-returns-clause-exact g c = if_ok_on c.run.result (λ replies run. run_exact g.D.PartialEq.eq g.L.Elector.elect (story_of g.S.CertificateScheme.me g.S.CertificateScheme.participants g.L.Elector.terms g.L.Elector.elects_early g.S.CertificateScheme.certificate_bytes c.args.start c.args.steps.items replies.items) run) c.run.ensures.whole
+returns-clause-exact g c = if_ok_on c.run.result (λ replies run. run_exact g.D.PartialEq.eq g.L.Elector.elect (execution_of g.S.CertificateScheme.me g.S.CertificateScheme.participants g.L.Elector.terms g.L.Elector.elects_early g.S.CertificateScheme.certificate_bytes c.args.start c.args.steps.items replies.items) run) c.run.ensures.whole
 
 pub returns-clause-ran : goal.returns-clause-ran
 returns-clause-ran g c = if_ok_on c.run.result (λ replies run term_length i holds. record { lives = lives_as g.S.CertificateScheme.me g.S.CertificateScheme.participants g.L.Elector.terms g.L.Elector.elects_early g.S.CertificateScheme.certificate_bytes term_length i c.args.start c.args.steps.items holds; run = run }) c.run.ensures.whole
 
 pub returns-clause-shows : goal.returns-clause-shows
-returns-clause-shows g c = if_ok_on c.run.result (λ replies run. story_shown g.S.CertificateScheme.me g.S.CertificateScheme.participants g.L.Elector.terms g.L.Elector.elects_early g.S.CertificateScheme.certificate_bytes c.args.start c.args.steps.items replies.items) c.run.ensures.whole
+returns-clause-shows g c = if_ok_on c.run.result (λ replies run. execution_shown g.S.CertificateScheme.me g.S.CertificateScheme.participants g.L.Elector.terms g.L.Elector.elects_early g.S.CertificateScheme.certificate_bytes c.args.start c.args.steps.items replies.items) c.run.ensures.whole
 
 pub returns-clause-lawful : goal.returns-clause-lawful
-returns-clause-lawful g c = if_ok_on c.run.result (λ replies run term_length i holds. subst (IsLawful term_length) (story_shown g.S.CertificateScheme.me g.S.CertificateScheme.participants g.L.Elector.terms g.L.Elector.elects_early g.S.CertificateScheme.certificate_bytes c.args.start c.args.steps.items replies.items) (story_lawful g.D.PartialEq.eq g.met.D.Digest.equal_is_same g.L.Elector.elect term_length i (story_of g.S.CertificateScheme.me g.S.CertificateScheme.participants g.L.Elector.terms g.L.Elector.elects_early g.S.CertificateScheme.certificate_bytes c.args.start c.args.steps.items replies.items) (record { lives = lives_as g.S.CertificateScheme.me g.S.CertificateScheme.participants g.L.Elector.terms g.L.Elector.elects_early g.S.CertificateScheme.certificate_bytes term_length i c.args.start c.args.steps.items holds; run = run }))) c.run.ensures.whole
+returns-clause-lawful g c = if_ok_on c.run.result (λ replies run term_length i holds. subst (IsLawful term_length) (execution_shown g.S.CertificateScheme.me g.S.CertificateScheme.participants g.L.Elector.terms g.L.Elector.elects_early g.S.CertificateScheme.certificate_bytes c.args.start c.args.steps.items replies.items) (execution_lawful g.D.PartialEq.eq g.met.D.Digest.equal_is_same g.L.Elector.elect term_length i (execution_of g.S.CertificateScheme.me g.S.CertificateScheme.participants g.L.Elector.terms g.L.Elector.elects_early g.S.CertificateScheme.certificate_bytes c.args.start c.args.steps.items replies.items) (record { lives = lives_as g.S.CertificateScheme.me g.S.CertificateScheme.participants g.L.Elector.terms g.L.Elector.elects_early g.S.CertificateScheme.certificate_bytes term_length i c.args.start c.args.steps.items holds; run = run }))) c.run.ensures.whole
 
 pub returns-clause-ended : goal.returns-clause-ended
 returns-clause-ended g c = c.run.ensures.ended

@@ -1,14 +1,14 @@
--- of each member by its story; of a network since two quorums share an honest member
+-- of each member by its execution; of a network since two quorums share an honest member
 use Rattle.simplex_laws.proofs.agreement.Claims.{one_proposal, finalized_uncovered, parent_before, parent_not_below, finalized_notarized, chain_holds_finalized}
 use Rattle.simplex_laws.proofs.agreement.Exactly.{run_exact}
-use Rattle.simplex_laws.proofs.records.RunsLawful.{story_lawful}
+use Rattle.simplex_laws.proofs.records.RunsLawful.{execution_lawful}
 use Rattle.simplex_laws.proofs.laws.network.agreement.Goals as goal
 
 pub returns-clause-exact : goal.returns-clause-exact
 returns-clause-exact g c term_length i s ran = run_exact g.D.PartialEq.eq g.L.Elector.elect s ran.run
 
 pub returns-clause-lawful : goal.returns-clause-lawful
-returns-clause-lawful g c term_length = story_lawful g.D.PartialEq.eq g.met.D.Digest.equal_is_same g.L.Elector.elect term_length
+returns-clause-lawful g c term_length = execution_lawful g.D.PartialEq.eq g.met.D.Digest.equal_is_same g.L.Elector.elect term_length
 
 pub returns-clause-one_proposal : goal.returns-clause-one_proposal
 returns-clause-one_proposal g c term_length network good = one_proposal g.D.PartialEq.eq g.met.D.Digest.equal_is_same g.L.Elector.elect term_length network good

@@ -2,7 +2,7 @@ use Rattle.std.proofs.Common.{refl, inl, inr, arith}
 use Rattle.simplex_types.specs.declared.types.messages.Subject.TheVariants.{Notarize}
 use Rattle.simplex_laws.specs.DividedNetwork.{rival}
 use Rattle.simplex_laws.specs.Rivals.{known_of_two_proposals}
-use Rattle.simplex_laws.specs.Turns.{one}
+use Rattle.simplex_laws.specs.ScenarioSteps.{one}
 use Rattle.simplex_laws.proofs.networks.Rivals.{two_proposals_network, are_two, one_backed, rival_backed, known_two_accept, certified_so}
 use Rattle.simplex_laws.proofs.laws.rivals.rivals_are_answered_for.Goals as goal
 

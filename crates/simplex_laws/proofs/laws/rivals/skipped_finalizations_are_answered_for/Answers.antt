@@ -1,7 +1,7 @@
 use Rattle.std.proofs.Common.{refl, inl, inr, arith}
 use Rattle.simplex_types.specs.declared.types.messages.Subject.TheVariants.{Notarize, Finalize}
 use Rattle.simplex_laws.specs.Rivals.{past_two, known_of_skipped}
-use Rattle.simplex_laws.specs.Turns.{two}
+use Rattle.simplex_laws.specs.ScenarioSteps.{two}
 use Rattle.simplex_laws.proofs.networks.Rivals.{skipped_over_network, past_two_backed, two_finalized, known_skipped_accept, certified_so, misled_by_nullification}
 use Rattle.simplex_laws.proofs.laws.rivals.skipped_finalizations_are_answered_for.Goals as goal
 

@@ -4,8 +4,8 @@ use Rattle.simplex_member.specs.Calls.{told, asked}
 use Rattle.simplex_member.specs.Runs.{Calls}
 use Rattle.simplex_laws.specs.Shown.{votes_in, taken_by}
 use Rattle.simplex_laws.proofs.agreement.Exactly.{step_exact}
-use Rattle.simplex_laws.proofs.stories.Living.{call_done}
-use Rattle.simplex_laws.proofs.stories.Shown.{made_shown}
+use Rattle.simplex_laws.proofs.executions.Living.{call_done}
+use Rattle.simplex_laws.proofs.executions.Shown.{made_shown}
 use Rattle.simplex_lawful.proofs.lawful.living.LawfulMember.call.Goals as goal
 
 pub returns-clause-answered : goal.returns-clause-answered

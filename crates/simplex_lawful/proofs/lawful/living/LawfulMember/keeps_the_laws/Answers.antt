@@ -1,4 +1,4 @@
-use Rattle.simplex_laws.proofs.stories.Living.{done_lawful, done_ran}
+use Rattle.simplex_laws.proofs.executions.Living.{done_lawful, done_ran}
 use Rattle.simplex_lawful.proofs.lawful.living.LawfulMember.keeps_the_laws.Goals as goal
 
 pub returns-clause-lawful : goal.returns-clause-lawful

@@ -1,5 +1,5 @@
 -- what a member has done stays where its record is pruned
-use Rattle.simplex_laws.proofs.stories.Living.{prune_done}
+use Rattle.simplex_laws.proofs.executions.Living.{prune_done}
 use Rattle.simplex_lawful.proofs.lawful.living.LawfulMember.prune_record.Goals as goal
 
 pub returns-clause-pruned : goal.returns-clause-pruned

@@ -1,8 +1,8 @@
 -- from what `Member::restart` ensures
 use Rattle.simplex_member.specs.Restarts.{restart_facts}
 use Rattle.simplex_laws.specs.Shown.{begun_by}
-use Rattle.simplex_laws.proofs.stories.Living.{restart_done}
-use Rattle.simplex_laws.proofs.stories.Shown.{begins_as, restart_shown}
+use Rattle.simplex_laws.proofs.executions.Living.{restart_done}
+use Rattle.simplex_laws.proofs.executions.Shown.{begins_as, restart_shown}
 use Rattle.simplex_lawful.proofs.lawful.living.LawfulMember.restart.Goals as goal
 
 pub returns-clause-restarted : goal.returns-clause-restarted

@@ -5,9 +5,9 @@ use Rattle.simplex_member.specs.Journal.{whole_restart}
 use Rattle.simplex_record.specs.Start.{start_facts}
 use Rattle.simplex_member.specs.declared.member.restart.Restart.{Restart}
 use Rattle.simplex_laws.specs.Shown.{floor_in}
-use Rattle.simplex_laws.proofs.stories.Living.{restart_done}
+use Rattle.simplex_laws.proofs.executions.Living.{restart_done}
 use Rattle.simplex_laws.proofs.records.Resumes.{resumed_restart}
-use Rattle.simplex_laws.proofs.stories.Shown.{begins_as, restart_shown}
+use Rattle.simplex_laws.proofs.executions.Shown.{begins_as, restart_shown}
 use Rattle.simplex_lawful.proofs.lawful.living.LawfulMember.resume.Goals as goal
 
 pub returns-in-Ok-clause-goes_on : goal.returns-in-Ok-clause-goes_on

@@ -1,8 +1,8 @@
 -- from what `Member::start` ensures
 use Rattle.simplex_record.specs.Start.{start_facts}
 use Rattle.simplex_laws.specs.Shown.{floor_in}
-use Rattle.simplex_laws.proofs.stories.Living.{start_done}
-use Rattle.simplex_laws.proofs.stories.Shown.{begins_as, start_shown}
+use Rattle.simplex_laws.proofs.executions.Living.{start_done}
+use Rattle.simplex_laws.proofs.executions.Shown.{begins_as, start_shown}
 use Rattle.simplex_lawful.proofs.lawful.living.LawfulMember.start.Goals as goal
 
 pub returns-clause-begins : goal.returns-clause-begins

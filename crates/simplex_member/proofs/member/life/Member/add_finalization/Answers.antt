@@ -1,7 +1,7 @@
 use Rattle.std.proofs.Common.{ap, false, refl, sym, ◌∙◌}
 use Rattle.std.proofs.lemmas.Result.{IfOk-weaker}
 use Rattle.simplex_types.specs.Certificates.{finalization_facts, Accepted, Finalized}
-use Rattle.simplex_member.specs.Made.{if_new}
+use Rattle.simplex_member.specs.CallSemantics.{if_new}
 use Rattle.simplex_record.specs.Entries.{entries_of}
 use Rattle.simplex_member.specs.Calls.{AddFinalization, Added}
 use Rattle.simplex_member.specs.Lives.{MemberFacts, living, open_while}
@@ -14,7 +14,7 @@ invariant_of-self g c =
     let i = c.self.inside in
     let x = c.deref_mut.result.now in
     let p = c.add_finalization-made in
-    λ alive. part_goes_on g.D.PartialEq.eq g.L.Elector.elect x i.openings.open_now (AddFinalization (finalization_facts g.S.CertificateScheme.certificate_bytes c.args.finalization) c.args.now) p.result p.new.state p.ensures.after p.ensures.refused kept.0 kept.1 (sym c.is_lost-self-inside.ensures ∙ alive)
+    λ alive. part_goes_on g.D.PartialEq.eq g.L.Elector.elect x i.outstanding_work.open_now (AddFinalization (finalization_facts g.S.CertificateScheme.certificate_bytes c.args.finalization) c.args.now) p.result p.new.state p.ensures.after p.ensures.refused kept.0 kept.1 (sym c.is_lost-self-inside.ensures ∙ alive)
 
 pub returns-clause-made : goal.returns-clause-made
 returns-clause-made g c =
@@ -22,9 +22,9 @@ returns-clause-made g c =
     let i = c.self.inside in
     let x = c.deref_mut.result.now in
     let p = c.add_finalization-made in
-    let m : MemberFacts _ _ _ = record { life = living false x; openings = open_while false i.openings.open_now; entries = entries_of g.S.CertificateScheme.certificate_bytes i.artifacts.items; closed = i.closed; is_pruned = i.is_pruned; retention = i.retention; least_retention = i.least_retention } in
+    let m : MemberFacts _ _ _ = record { life = living false x; outstanding_work = open_while false i.outstanding_work.open_now; entries = entries_of g.S.CertificateScheme.certificate_bytes i.artifacts.items; closed = i.closed; is_pruned = i.is_pruned; retention = i.retention; least_retention = i.least_retention } in
     rw (← c.self.view_is, c.if-self.false, c.is_lost-self-inside.ensures, c.ended.ensures, ← c.deref_mut.ensures.value)
-    (part_made g.D.PartialEq.eq g.L.Elector.elect m (AddFinalization (finalization_facts g.S.CertificateScheme.certificate_bytes c.args.finalization) c.args.now) (λ added. Added added.0 added.1) x refl (rw (c.deref.ensures ∙ sym c.deref_mut.ensures.value) at (sym c.takes_round.ensures ∙ c.if-not-takes_round.false)) p.result p.new.state i.openings.open_now (entries_of g.S.CertificateScheme.certificate_bytes p.new.artifacts.items)
+    (part_made g.D.PartialEq.eq g.L.Elector.elect m (AddFinalization (finalization_facts g.S.CertificateScheme.certificate_bytes c.args.finalization) c.args.now) (λ added. Added added.0 added.1) x refl (rw (c.deref.ensures ∙ sym c.deref_mut.ensures.value) at (sym c.takes_round.ensures ∙ c.if-not-takes_round.false)) p.result p.new.state i.outstanding_work.open_now (entries_of g.S.CertificateScheme.certificate_bytes p.new.artifacts.items)
     (record {
       due = p.ensures.due;
       answer = IfOk-weaker p.result _ _ (λ added is. ap (λ a. Added a.0 a.1) is) p.ensures.answer;
@@ -32,7 +32,7 @@ returns-clause-made g c =
       opened = so_ok p.result refl;
       recorded = p.ensures.recorded;
       refused = p.ensures.refused;
-      kept_open = kept_shut i.openings.open_now p.result;
+      kept_open = kept_shut i.outstanding_work.open_now p.result;
       same_record = p.ensures.same_record;
     }))
 

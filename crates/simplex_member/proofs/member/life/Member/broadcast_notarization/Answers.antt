@@ -15,7 +15,7 @@ invariant_of-self g c =
     let i = c.self.inside in
     let x = c.deref_mut.result.now in
     let p = c.broadcast_notarization-made in
-    λ alive. part_goes_on g.D.PartialEq.eq g.L.Elector.elect x i.openings.open_now (BroadcastNotarization c.args.view) p.result p.new.state p.ensures.after p.ensures.refused kept.0 kept.1 (sym c.is_lost-self-inside.ensures ∙ alive)
+    λ alive. part_goes_on g.D.PartialEq.eq g.L.Elector.elect x i.outstanding_work.open_now (BroadcastNotarization c.args.view) p.result p.new.state p.ensures.after p.ensures.refused kept.0 kept.1 (sym c.is_lost-self-inside.ensures ∙ alive)
 
 pub returns-clause-made : goal.returns-clause-made
 returns-clause-made g c =
@@ -23,9 +23,9 @@ returns-clause-made g c =
     let i = c.self.inside in
     let x = c.deref_mut.result.now in
     let p = c.broadcast_notarization-made in
-    let m : MemberFacts _ _ _ = record { life = living false x; openings = open_while false i.openings.open_now; entries = entries_of g.S.CertificateScheme.certificate_bytes i.artifacts.items; closed = i.closed; is_pruned = i.is_pruned; retention = i.retention; least_retention = i.least_retention } in
+    let m : MemberFacts _ _ _ = record { life = living false x; outstanding_work = open_while false i.outstanding_work.open_now; entries = entries_of g.S.CertificateScheme.certificate_bytes i.artifacts.items; closed = i.closed; is_pruned = i.is_pruned; retention = i.retention; least_retention = i.least_retention } in
     rw (← c.self.view_is, c.if-self.false, c.is_lost-self-inside.ensures, c.ended.ensures, ← c.deref_mut.ensures.value)
-    (part_made g.D.PartialEq.eq g.L.Elector.elect m (BroadcastNotarization c.args.view) (λ certificate. Handed (option_map (certificate_facts g.S.CertificateScheme.certificate_bytes) certificate)) x refl refl p.result p.new.state i.openings.open_now (entries_of g.S.CertificateScheme.certificate_bytes i.artifacts.items)
+    (part_made g.D.PartialEq.eq g.L.Elector.elect m (BroadcastNotarization c.args.view) (λ certificate. Handed (option_map (certificate_facts g.S.CertificateScheme.certificate_bytes) certificate)) x refl refl p.result p.new.state i.outstanding_work.open_now (entries_of g.S.CertificateScheme.certificate_bytes i.artifacts.items)
     (record {
       due = so_ok p.result (rw kept.0 refl);
       answer = IfOk-weaker p.result _ _ (λ certificate is. ap Handed is) p.ensures.answer;
@@ -33,7 +33,7 @@ returns-clause-made g c =
       opened = so_ok p.result refl;
       recorded = so_ok p.result (sym (append-nil m.entries));
       refused = p.ensures.refused;
-      kept_open = kept_shut i.openings.open_now p.result;
+      kept_open = kept_shut i.outstanding_work.open_now p.result;
       same_record = same_on_err p.result refl;
     }))
 

@@ -1,5 +1,5 @@
 use Rattle.simplex_member.specs.Calls.{told, asked}
-use Rattle.simplex_member.proofs.Typed.{typed}
+use Rattle.simplex_member.proofs.MethodContracts.{typed}
 use Rattle.simplex_member.proofs.member.life.Member.call.Goals as goal
 
 pub returns-clause-of_its_kind : goal.returns-clause-of_its_kind

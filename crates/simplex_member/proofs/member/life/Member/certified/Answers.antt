@@ -13,7 +13,7 @@ invariant_of-self g c =
     let i = c.self.inside in
     let x = c.deref_mut.result.now in
     let p = c.certified-made in
-    λ alive. part_goes_on g.D.PartialEq.eq g.L.Elector.elect x i.openings.open_now (Certified c.args.view c.args.success c.args.now) p.result p.new.state p.ensures.after p.ensures.refused kept.0 kept.1 (sym c.is_lost-self-inside.ensures ∙ alive)
+    λ alive. part_goes_on g.D.PartialEq.eq g.L.Elector.elect x i.outstanding_work.open_now (Certified c.args.view c.args.success c.args.now) p.result p.new.state p.ensures.after p.ensures.refused kept.0 kept.1 (sym c.is_lost-self-inside.ensures ∙ alive)
 
 pub returns-clause-made : goal.returns-clause-made
 returns-clause-made g c =
@@ -21,9 +21,9 @@ returns-clause-made g c =
     let i = c.self.inside in
     let x = c.deref_mut.result.now in
     let p = c.certified-made in
-    let m : MemberFacts _ _ _ = record { life = living false x; openings = open_while false i.openings.open_now; entries = entries_of g.S.CertificateScheme.certificate_bytes i.artifacts.items; closed = i.closed; is_pruned = i.is_pruned; retention = i.retention; least_retention = i.least_retention } in
+    let m : MemberFacts _ _ _ = record { life = living false x; outstanding_work = open_while false i.outstanding_work.open_now; entries = entries_of g.S.CertificateScheme.certificate_bytes i.artifacts.items; closed = i.closed; is_pruned = i.is_pruned; retention = i.retention; least_retention = i.least_retention } in
     rw (← c.self.view_is, c.if-self.false, c.is_lost-self-inside.ensures, c.ended.ensures, ← c.deref_mut.ensures.value)
-    (part_made g.D.PartialEq.eq g.L.Elector.elect m (Certified c.args.view c.args.success c.args.now) (λ notarization. Judged c.args.success (option_map (notarization_facts g.S.CertificateScheme.certificate_bytes) notarization)) x refl (rw (c.deref.ensures ∙ sym c.deref_mut.ensures.value) at (sym c.takes_verdict.ensures ∙ c.if-not-takes_verdict.false)) p.result p.new.state p.new.openings.open_now (entries_of g.S.CertificateScheme.certificate_bytes p.new.artifacts.items)
+    (part_made g.D.PartialEq.eq g.L.Elector.elect m (Certified c.args.view c.args.success c.args.now) (λ notarization. Judged c.args.success (option_map (notarization_facts g.S.CertificateScheme.certificate_bytes) notarization)) x refl (rw (c.deref.ensures ∙ sym c.deref_mut.ensures.value) at (sym c.takes_verdict.ensures ∙ c.if-not-takes_verdict.false)) p.result p.new.state p.new.outstanding_work.open_now (entries_of g.S.CertificateScheme.certificate_bytes p.new.artifacts.items)
     (record {
       due = p.ensures.due;
       answer = IfOk-weaker p.result _ _ (λ notarization is. ap (Judged c.args.success) is) p.ensures.answer;

@@ -12,7 +12,7 @@ invariant_of-self g c =
     let kept = rw (sym c.deref_mut.ensures.value) at (c.self.invariant c.if-self.false) in
     let x = c.deref_mut.result.now in
     elim c.match-next_timeout.branch [
-      | in-Ok w ↦ λ _. call_goes_on g.D.PartialEq.eq g.L.Elector.elect x c.self.inside.openings.open_now (NextTimeout c.args.now) c.next_timeout.new.self w.in-Ok.ensures.after kept.0 kept.1
+      | in-Ok w ↦ λ _. call_goes_on g.D.PartialEq.eq g.L.Elector.elect x c.self.inside.outstanding_work.open_now (NextTimeout c.args.now) c.next_timeout.new.self w.in-Ok.ensures.after kept.0 kept.1
       | in-Err w ↦ λ _. rw (refused_only _ w.in-Err.fault _ x c.next_timeout.new.self refl w.in-Err.ensures.refused w.in-Err.ensures.taken).1 kept
     ]
 
@@ -21,12 +21,12 @@ returns-clause-made g c =
     let kept = rw (sym c.deref_mut.ensures.value) at (c.self.invariant c.if-self.false) in
     let i = c.self.inside in
     let x = c.deref_mut.result.now in
-    let m : MemberFacts _ _ _ = record { life = living false x; openings = open_while false i.openings.open_now; entries = entries_of g.S.CertificateScheme.certificate_bytes i.artifacts.items; closed = i.closed; is_pruned = i.is_pruned; retention = i.retention; least_retention = i.least_retention } in
+    let m : MemberFacts _ _ _ = record { life = living false x; outstanding_work = open_while false i.outstanding_work.open_now; entries = entries_of g.S.CertificateScheme.certificate_bytes i.artifacts.items; closed = i.closed; is_pruned = i.is_pruned; retention = i.retention; least_retention = i.least_retention } in
     let allowed = rw (c.deref.ensures ∙ sym c.deref_mut.ensures.value) at (sym c.has_timeout.ensures ∙ c.if-not-has_timeout.false) in
     rw (← c.self.view_is, c.if-self.false, ← c.deref_mut.ensures.value)
     (elim c.match-next_timeout.branch [
       | in-Ok w ↦ rw w.result-is (call_of_answer g.D.PartialEq.eq g.L.Elector.elect m (NextTimeout c.args.now) _ _
-          (answered_unrecorded g.D.PartialEq.eq g.L.Elector.elect m (NextTimeout c.args.now) x refl _ c.next_timeout.new.self i.openings.open_now allowed (answered_only _ w.in-Ok.timeout _ x c.next_timeout.new.self refl w.in-Ok.ensures.refused) (ap TimesOut (sym w.in-Ok.ensures.answer)) w.in-Ok.ensures.after refl refl))
+          (answered_unrecorded g.D.PartialEq.eq g.L.Elector.elect m (NextTimeout c.args.now) x refl _ c.next_timeout.new.self i.outstanding_work.open_now allowed (answered_only _ w.in-Ok.timeout _ x c.next_timeout.new.self refl w.in-Ok.ensures.refused) (ap TimesOut (sym w.in-Ok.ensures.answer)) w.in-Ok.ensures.after refl refl))
       | in-Err w ↦ let due = refused_only _ w.in-Err.fault _ x c.next_timeout.new.self refl w.in-Err.ensures.refused w.in-Err.ensures.taken in
           rw (w.result-is, due.1) (refused_call g.D.PartialEq.eq g.L.Elector.elect m (NextTimeout c.args.now) x refl w.in-Err.fault allowed (inl due.0))
     ])

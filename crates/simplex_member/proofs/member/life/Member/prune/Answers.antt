@@ -11,19 +11,19 @@ invariant_of-self g c =
     let kept = rw (sym c.deref_mut.ensures.value) at (c.self.invariant c.if-self.false) in
     let i = c.self.inside in
     let x = c.deref_mut.result.now in
-    let m : MemberFacts _ _ _ = record { life = living false x; openings = open_while false i.openings.open_now; entries = entries_of g.S.CertificateScheme.certificate_bytes i.artifacts.items; closed = i.closed; is_pruned = i.is_pruned; retention = i.retention; least_retention = i.least_retention } in
+    let m : MemberFacts _ _ _ = record { life = living false x; outstanding_work = open_while false i.outstanding_work.open_now; entries = entries_of g.S.CertificateScheme.certificate_bytes i.artifacts.items; closed = i.closed; is_pruned = i.is_pruned; retention = i.retention; least_retention = i.least_retention } in
     let p = part_of_state g.D.PartialEq.eq g.L.Elector.elect m Prune (λ views. Dropped views.items) x c.prune.result c.prune.new.self x.failed false false refl c.prune.ensures.refused (IfOk-weaker c.prune.result _ _ (λ views is. ap Dropped is) c.prune.ensures.views) c.prune.ensures.after c.prune.ensures.out_of_memory refl refl refl in
-    λ alive. part_goes_on g.D.PartialEq.eq g.L.Elector.elect x i.openings.open_now Prune c.part_of-made.result c.prune.new.self (rw c.part_of-made.ensures p.after) (rw c.part_of-made.ensures p.refused) kept.0 kept.1 (sym c.is_lost-self-inside.ensures ∙ alive)
+    λ alive. part_goes_on g.D.PartialEq.eq g.L.Elector.elect x i.outstanding_work.open_now Prune c.part_of-made.result c.prune.new.self (rw c.part_of-made.ensures p.after) (rw c.part_of-made.ensures p.refused) kept.0 kept.1 (sym c.is_lost-self-inside.ensures ∙ alive)
 
 pub returns-clause-made : goal.returns-clause-made
 returns-clause-made g c =
     let kept = rw (sym c.deref_mut.ensures.value) at (c.self.invariant c.if-self.false) in
     let i = c.self.inside in
     let x = c.deref_mut.result.now in
-    let m : MemberFacts _ _ _ = record { life = living false x; openings = open_while false i.openings.open_now; entries = entries_of g.S.CertificateScheme.certificate_bytes i.artifacts.items; closed = i.closed; is_pruned = i.is_pruned; retention = i.retention; least_retention = i.least_retention } in
+    let m : MemberFacts _ _ _ = record { life = living false x; outstanding_work = open_while false i.outstanding_work.open_now; entries = entries_of g.S.CertificateScheme.certificate_bytes i.artifacts.items; closed = i.closed; is_pruned = i.is_pruned; retention = i.retention; least_retention = i.least_retention } in
     let p = part_of_state g.D.PartialEq.eq g.L.Elector.elect m Prune (λ views. Dropped views.items) x c.prune.result c.prune.new.self x.failed false false refl c.prune.ensures.refused (IfOk-weaker c.prune.result _ _ (λ views is. ap Dropped is) c.prune.ensures.views) c.prune.ensures.after c.prune.ensures.out_of_memory refl refl refl in
     rw (← c.self.view_is, c.if-self.false, c.is_lost-self-inside.ensures, c.ended.ensures, c.part_of-made.ensures, ← c.deref_mut.ensures.value)
-    (part_made g.D.PartialEq.eq g.L.Elector.elect m Prune (λ views. Dropped views.items) x refl refl _ c.prune.new.self m.openings m.entries p)
+    (part_made g.D.PartialEq.eq g.L.Elector.elect m Prune (λ views. Dropped views.items) x refl refl _ c.prune.new.self m.outstanding_work m.entries p)
 
 pub returns-clause-answered : goal.returns-clause-answered
 returns-clause-answered g c = told_answered g.D.PartialEq.eq g.L.Elector.elect c.args.self.now.facts Prune (λ views. Dropped views.items) (λ t A is. is) c.ended.result _ (returns-clause-made g c)

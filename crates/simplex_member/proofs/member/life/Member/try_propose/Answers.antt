@@ -16,7 +16,7 @@ returns-clause-answered g c =
     let i = c.self.inside in
     let x = c.deref_mut.result.now in
     let o = c.make_room.new.self.open_now in
-    let m : MemberFacts _ _ _ = record { life = living false x; openings = open_while false o; entries = entries_of g.S.CertificateScheme.certificate_bytes i.artifacts.items; closed = i.closed; is_pruned = i.is_pruned; retention = i.retention; least_retention = i.least_retention } in
+    let m : MemberFacts _ _ _ = record { life = living false x; outstanding_work = open_while false o; entries = entries_of g.S.CertificateScheme.certificate_bytes i.artifacts.items; closed = i.closed; is_pruned = i.is_pruned; retention = i.retention; least_retention = i.least_retention } in
     rw (← c.self.view_is, c.if-self.false, sym c.make_room.ensures.same, ← c.deref_mut.ensures.value)
     (answered_unrecorded g.D.PartialEq.eq g.L.Elector.elect m TryPropose x refl (_) c.try_propose.new.self c.open_request.new.self.open_now refl (rw kept.0 refl) (ap Requested c.in_ok-request.ensures.answer) c.in_ok-request.ensures.after (rw (sym c.in_ok-request.ensures.answer) c.open_request.ensures) refl)
 

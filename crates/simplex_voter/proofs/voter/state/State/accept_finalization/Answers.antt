@@ -34,10 +34,10 @@ pub returns-then-not-added-clause-setup : goal.returns-then-not-added-clause-set
 returns-then-not-added-clause-setup g c = same_setup_joins _ _ _ c.pass.ensures.setup c.keep_finalization.ensures.setup
 
 pub returns-in_err-wake-clause-setup : goal.returns-in_err-wake-clause-setup
-returns-in_err-wake-clause-setup g c = same_setup_joins _ _ _ (same_setup_joins _ _ _ c.pass.ensures.setup c.keep_finalization.ensures.setup) c.wake.ensures.setup
+returns-in_err-wake-clause-setup g c = same_setup_joins _ _ _ (same_setup_joins _ _ _ c.pass.ensures.setup c.keep_finalization.ensures.setup) c.wake_certification_child.ensures.setup
 
 pub returns-in_err-slide-clause-setup : goal.returns-in_err-slide-clause-setup
-returns-in_err-slide-clause-setup g c = same_setup_joins _ _ _ (same_setup_joins _ _ _ (same_setup_joins _ _ _ c.pass.ensures.setup c.keep_finalization.ensures.setup) c.wake.ensures.setup) c.slide.ensures.setup
+returns-in_err-slide-clause-setup g c = same_setup_joins _ _ _ (same_setup_joins _ _ _ (same_setup_joins _ _ _ c.pass.ensures.setup c.keep_finalization.ensures.setup) c.wake_certification_child.ensures.setup) c.slide_optimistic_frontier.ensures.setup
 
 pub returns-clause-setup : goal.returns-clause-setup
-returns-clause-setup g c = same_setup_joins _ _ _ (same_setup_joins _ _ _ (same_setup_joins _ _ _ c.pass.ensures.setup c.keep_finalization.ensures.setup) c.wake.ensures.setup) c.slide.ensures.setup
+returns-clause-setup g c = same_setup_joins _ _ _ (same_setup_joins _ _ _ (same_setup_joins _ _ _ c.pass.ensures.setup c.keep_finalization.ensures.setup) c.wake_certification_child.ensures.setup) c.slide_optimistic_frontier.ensures.setup

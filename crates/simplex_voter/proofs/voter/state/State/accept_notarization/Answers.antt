@@ -36,7 +36,7 @@ pub returns-in_err-name_for_certification-clause-setup : goal.returns-in_err-nam
 returns-in_err-name_for_certification-clause-setup g c = same_setup_joins _ _ _ (same_setup_joins _ _ _ c.elect.ensures.setup c.keep_notarization.ensures.setup) c.name_for_certification.ensures.setup
 
 pub returns-in_err-slide-clause-setup : goal.returns-in_err-slide-clause-setup
-returns-in_err-slide-clause-setup g c = same_setup_joins _ _ _ (same_setup_joins _ _ _ (same_setup_joins _ _ _ c.elect.ensures.setup c.keep_notarization.ensures.setup) c.name_for_certification.ensures.setup) c.slide.ensures.setup
+returns-in_err-slide-clause-setup g c = same_setup_joins _ _ _ (same_setup_joins _ _ _ (same_setup_joins _ _ _ c.elect.ensures.setup c.keep_notarization.ensures.setup) c.name_for_certification.ensures.setup) c.slide_optimistic_frontier.ensures.setup
 
 pub returns-clause-setup : goal.returns-clause-setup
-returns-clause-setup g c = same_setup_joins _ _ _ (same_setup_joins _ _ _ (same_setup_joins _ _ _ c.elect.ensures.setup c.keep_notarization.ensures.setup) c.name_for_certification.ensures.setup) c.slide.ensures.setup
+returns-clause-setup g c = same_setup_joins _ _ _ (same_setup_joins _ _ _ (same_setup_joins _ _ _ c.elect.ensures.setup c.keep_notarization.ensures.setup) c.name_for_certification.ensures.setup) c.slide_optimistic_frontier.ensures.setup

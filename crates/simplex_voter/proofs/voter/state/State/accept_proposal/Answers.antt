@@ -13,4 +13,4 @@ returns-clause-answer g c =
     c.take_proposal.ensures.answer
 
 pub returns-clause-setup : goal.returns-clause-setup
-returns-clause-setup g c = same_setup_joins _ _ _ c.prepare.ensures.setup c.take_proposal.ensures.setup
+returns-clause-setup g c = same_setup_joins _ _ _ c.prepare_optimistic_successor.ensures.setup c.take_proposal.ensures.setup

@@ -22,12 +22,12 @@ returns-then-not-success-clause-setup g c =
     (setup_judged g.L.Elector.elect c.args.self.now c.note_moment.new.self c.judge.new.self c.args.view c.args.now c.args.success c.note_moment.ensures c.in_ok-judge.ensures.judged)
 
 pub returns-in_err-enter-clause-setup : goal.returns-in_err-enter-clause-setup
-returns-in_err-enter-clause-setup g c = same_setup_joins _ _ _ (setup_judged g.L.Elector.elect c.args.self.now c.note_moment.new.self c.judge.new.self c.args.view c.args.now c.args.success c.note_moment.ensures c.in_ok-judge.ensures.judged) c.enter.ensures.setup
+returns-in_err-enter-clause-setup g c = same_setup_joins _ _ _ (setup_judged g.L.Elector.elect c.args.self.now c.note_moment.new.self c.judge.new.self c.args.view c.args.now c.args.success c.note_moment.ensures c.in_ok-judge.ensures.judged) c.enter_view.ensures.setup
 
 pub returns-clause-taken : goal.returns-clause-taken
 returns-clause-taken g c =
-    verdict_kept g.L.Elector.elect c.args.self.now c.note_moment.new.self c.judge.new.self c.args.view c.args.now c.args.success c.note_moment.ensures c.in_ok-judge.ensures.judged c.wake.result c.if-not-success.false c.enter.new.self c.wake.new.self c.after_notarized-next.result c.after_notarized-next.ensures.next c.in_ok-enter.ensures.entered c.wake.ensures.woken
+    verdict_kept g.L.Elector.elect c.args.self.now c.note_moment.new.self c.judge.new.self c.args.view c.args.now c.args.success c.note_moment.ensures c.in_ok-judge.ensures.judged c.wake_certification_child.result c.if-not-success.false c.enter_view.new.self c.wake_certification_child.new.self c.after_notarized-next.result c.after_notarized-next.ensures.next c.in_ok-enter.ensures.entered c.wake_certification_child.ensures.woken
 
 pub returns-clause-setup : goal.returns-clause-setup
 returns-clause-setup g c =
-    same_setup_joins _ _ _ (same_setup_joins _ _ _ (setup_judged g.L.Elector.elect c.args.self.now c.note_moment.new.self c.judge.new.self c.args.view c.args.now c.args.success c.note_moment.ensures c.in_ok-judge.ensures.judged) c.enter.ensures.setup) c.wake.ensures.setup
+    same_setup_joins _ _ _ (same_setup_joins _ _ _ (setup_judged g.L.Elector.elect c.args.self.now c.note_moment.new.self c.judge.new.self c.args.view c.args.now c.args.success c.note_moment.ensures c.in_ok-judge.ensures.judged) c.enter_view.ensures.setup) c.wake_certification_child.ensures.setup

@@ -1,6 +1,0 @@
-use Rattle.std.proofs.Common.{refl}
-use Rattle.simplex_member.proofs.Opening.{keys-others}
-use Rattle.simplex_member.proofs.member.openings.Openings.close_offer.Goals as goal
-
-pub returns-clause-closed : goal.returns-clause-closed
-returns-clause-closed g c = rw (← c.self.view_is, c.remove.ensures, keys-others c.self.inside.offered c.args.view) refl

@@ -1,6 +1,0 @@
-use Rattle.std.proofs.Common.{refl}
-use Rattle.simplex_member.proofs.Opening.{views-others}
-use Rattle.simplex_member.proofs.member.openings.Openings.close_verification.Goals as goal
-
-pub returns-clause-closed : goal.returns-clause-closed
-returns-clause-closed g c = rw (← c.self.view_is, c.remove.ensures.entries, views-others c.self.inside.verifying.entries c.args.view) refl

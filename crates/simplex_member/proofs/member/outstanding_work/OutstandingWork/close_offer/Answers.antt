@@ -1,0 +1,6 @@
+use Rattle.std.proofs.Common.{refl}
+use Rattle.simplex_member.proofs.Opening.{keys-others}
+use Rattle.simplex_member.proofs.member.outstanding_work.OutstandingWork.close_offer.Goals as goal
+
+pub returns-clause-closed : goal.returns-clause-closed
+returns-clause-closed g c = rw (← c.self.view_is, c.remove.ensures, keys-others c.self.inside.offered c.args.view) refl
