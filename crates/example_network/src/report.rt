@@ -1,6 +1,6 @@
 //! What a person reads: a line for each view, and a summary.
 
-use crate::faults::{TraceEvent, FAULTY, trace_event_in};
+use crate::faults::{FAULTY, TraceEvent, trace_event_in};
 use crate::news::News;
 use simplex_types::types::View;
 use std::alloc::{AllocError, Global};

@@ -68,7 +68,8 @@ module _ {K L D : Type 0} (same : D → D → Bool) (elect : Elect L) where
     -- a certificate that an honest member accepts was accepted by an honest one before, or honest ones alone make it
     pub certificates : EachHonest later (λ i s. (c : Subject D) → HasAccepted c i s → SomeHonest network (HasAccepted c) ⊎ HonestlyBacked later c)
     -- a proposal that is handed to it was handed to an honest one before, or an honest one built it
-    pub proposals : EachHonest later (λ i s. (v : ℕ) (p : Proposal D) → HasHeard v p s → SomeHonest network (λ j t. HasHeard v p t) ⊎ SomeHonest later (HasBuilt p))
+    pub proposals : EachHonest later (λ i s. (v : ℕ) (p : Proposal D) → HasHeard v p s
+        → SomeHonest network (λ j t. HasHeard v p t) ⊎ SomeHonest later (HasBuilt p))
     -- each signs the vote to finalize the proposal, and accepts its finalization
     pub finalized : EachHonest later (λ i s. HasSignedAs (Finalize final) i s × HasAccepted (Finalize final) i s)
     -- the view lies above each that could be finalized before

@@ -26,7 +26,8 @@ module _ {K L D : Type 0} (same : D → D → Bool) (elect : Elect L) where
   IsLife m calls replies end = IsRun same elect m (map Calls calls) replies end
 
   -- a run from a start leads to a member, and these calls go on from there within its life
-  pub record IsLifeOfRun (start : StartFacts K L D) (steps : List (StepFacts K L D)) (told : List (Told K D)) (m : MemberFacts K L D) (calls : List (CallFacts D)) (replies : List (Told K D)) (end : MemberFacts K L D) : Type 0 where
+  pub record IsLifeOfRun (start : StartFacts K L D) (steps : List (StepFacts K L D)) (told : List (Told K D))
+      (m : MemberFacts K L D) (calls : List (CallFacts D)) (replies : List (Told K D)) (end : MemberFacts K L D) : Type 0 where
     pub accepted : recover_error same (new_state start.setup) start.floor start.now [] ≡ None
     pub reached : IsRun same elect (started_member same elect (new_state start.setup) start.floor start.now) steps told m
     pub life : IsLife m calls replies end
@@ -145,7 +146,8 @@ module _ (K : Type 0) {L D : Type 0} (same : D → D → Bool) (elect : Elect L)
   -- of each stretch of a life that a run leads to, whose lives share a length of terms
   abbrev pub OfEachStretch : (MemberFacts K L D → List (CallFacts D) → List (Told K D) → MemberFacts K L D → Type 0) → Type 0
   OfEachStretch Holds =
-      (term_length : ℕ) (start : StartFacts K L D) (before : List (StepFacts K L D)) (told : List (Told K D)) (m end : MemberFacts K L D) (calls : List (CallFacts D)) (replies : List (Told K D))
+      (term_length : ℕ) (start : StartFacts K L D) (before : List (StepFacts K L D)) (told : List (Told K D))
+      (m end : MemberFacts K L D) (calls : List (CallFacts D)) (replies : List (Told K D))
       → HasTerms term_length start.setup
       → KeepTerms term_length before
       → IsLifeOfRun same elect start before told m calls replies end

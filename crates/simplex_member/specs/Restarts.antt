@@ -23,7 +23,8 @@ pub record RestartFacts (K L D : Type 0) : Type 0 where
   pub start : StartFacts K L D
 
 -- a restart, as plain data
-abbrev pub restart_facts : {S L D K G C : Type 0} → (S → Option ℕ) → (S → List K) → (L → Terms) → (L → Bool) → (C → List ℕ) → Restart S L D K G C → RestartFacts K L D
+abbrev pub restart_facts : {S L D K G C : Type 0} → (S → Option ℕ) → (S → List K) → (L → Terms) → (L → Bool) → (C → List ℕ) → Restart S L D K G C
+    → RestartFacts K L D
 restart_facts me members terms elects_early bytes_of restart = record {
   drop = restart.drop;
   prune = restart.prune;

@@ -27,7 +27,8 @@ step_facts me members terms elects_early bytes_of step.PruneRecord = Prunes
 step_facts me members terms elects_early bytes_of (step.Restart restart) = Restarts (restart_facts me members terms elects_early bytes_of restart)
 
 -- each of these
-abbrev pub steps_of : {S L D K G C : Type 0} → (S → Option ℕ) → (S → List K) → (L → Terms) → (L → Bool) → (C → List ℕ) → List (Step S L D K G C) → List (StepFacts K L D)
+abbrev pub steps_of : {S L D K G C : Type 0} → (S → Option ℕ) → (S → List K) → (L → Terms) → (L → Bool) → (C → List ℕ) → List (Step S L D K G C)
+    → List (StepFacts K L D)
 steps_of me members terms elects_early bytes_of steps = map (step_facts me members terms elects_early bytes_of) steps
 
 -- the elector of each restart elects among the participants of its scheme

@@ -46,9 +46,11 @@ FindsFeed bytes r = MatchOption r (HasNoFeed bytes) (λ place. (place < length b
 
 -- bytes that a line of some bytes goes on with: it ends with its feed, or as far as shows that it is too long; or it goes on
 abbrev pub EndsLine : Bool → ℕ → List ℕ → Type 0
-EndsLine true before more = ((front : List ℕ) × (more ≡ front ++ 10 ∷ []) × HasNoFeed front × (before + length front < 201)) ⊎ (HasNoFeed more × (before + length more ≡ 201))
+EndsLine true before more = ((front : List ℕ) × (more ≡ front ++ 10 ∷ []) × HasNoFeed front × (before + length front < 201))
+    ⊎ (HasNoFeed more × (before + length more ≡ 201))
 EndsLine false before more = HasNoFeed more × (before + length more < 201)
 
 -- what a line grows by, and what is left behind it; a line that is too long stays as it is
 abbrev pub MovesPart : Bool → List ℕ → List ℕ → Option (List ℕ) → Option (List ℕ) → Type 0
-MovesPart ended line grown left rest = length line ≤ 201 → (more : List ℕ) × (grown ≡ line ++ more) × Consumes left rest more × EndsLine ended (length line) more
+MovesPart ended line grown left rest = length line ≤ 201
+    → (more : List ℕ) × (grown ≡ line ++ more) × Consumes left rest more × EndsLine ended (length line) more

@@ -18,7 +18,8 @@ pub record ResolverFacts : Type 0 where
   pub scanned : ℕ  -- scans have passed the anchors below this view
   pub finalization : Option (ℕ × List ℕ)  -- the highest one's view and encoding
   pub nullifications : TermMap (List ℕ)  -- their encodings, in the terms that end above the last finalized view
-  pub notarizations : FinMap nat_cmp (Option (List ℕ))  -- views above the last finalized one that are notarized or judged, each with its encoding where the last verdict was true
+  -- views above the last finalized one that are notarized or judged, each with its encoding where the last verdict was true
+  pub notarizations : FinMap nat_cmp (Option (List ℕ))
   pub uncertifiable : FinMap nat_cmp (Unit {0})  -- views above the last finalized one that a verdict has failed
   pub replaying : Bool
   pub is_failed : Bool

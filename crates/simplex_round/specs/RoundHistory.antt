@@ -136,14 +136,24 @@ after_artifact (artifact.Finalization _) calls = calls
 -- S, K, G and C are a scheme and its keys, signatures and certificates
 pub record ShowsEachCall (S D K G C : Type 0) (same : Proposal D → Proposal D → Bool) : Type 0 where
   pub start : (me : Option ℕ) (members : List K) (round : Round) → ShowsCalls [] (new_round {D = D} me members round)
-  pub notarization : (calls : List (RoundCall D)) (r : RoundFacts K D) (c : ProposalFacts D) → ShowsCalls calls r → ShowsCalls (Notarized c ∷ calls) (with_notarization same r c)
-  pub nullification : (calls : List (RoundCall D)) (r : RoundFacts K D) (c : NullificationFacts) → ShowsCalls calls r → ShowsCalls (Nullified c ∷ calls) (with_nullification r c)
-  pub finalization : (calls : List (RoundCall D)) (r : RoundFacts K D) (c : ProposalFacts D) → ShowsCalls calls r → ShowsCalls (Finalized c ∷ calls) (with_finalization same r c)
+  pub notarization : (calls : List (RoundCall D)) (r : RoundFacts K D) (c : ProposalFacts D) → ShowsCalls calls r
+      → ShowsCalls (Notarized c ∷ calls) (with_notarization same r c)
+  pub nullification : (calls : List (RoundCall D)) (r : RoundFacts K D) (c : NullificationFacts) → ShowsCalls calls r
+      → ShowsCalls (Nullified c ∷ calls) (with_nullification r c)
+  pub finalization : (calls : List (RoundCall D)) (r : RoundFacts K D) (c : ProposalFacts D) → ShowsCalls calls r
+      → ShowsCalls (Finalized c ∷ calls) (with_finalization same r c)
   pub nullify : (calls : List (RoundCall D)) (r : RoundFacts K D) → ShowsCalls calls r → ShowsCalls (NullifyVote ∷ calls) (after_nullify r)
-  pub finalize : (calls : List (RoundCall D)) (r : RoundFacts K D) → can_finalize r ≡ true → ShowsCalls calls r → ShowsCalls (FinalizeVote ∷ calls) (record r { decision = Finalize })
-  pub replay : (calls : List (RoundCall D)) (r : RoundFacts K D) (a : Artifact S D K G C) → TakesArtifact r a → ShowsCalls calls r → ShowsCalls (after_artifact a calls) (after_replay same r a)
-  pub entry : (calls : List (RoundCall D)) (r : RoundFacts K D) (now : ℕ) → ShowsCalls calls r → ShowsCalls (Entered now ∷ calls) (record r { entered_at = Some (unwrap_or r.entered_at now) })
-  pub proposed : (calls : List (RoundCall D)) (r : RoundFacts K D) (now : ℕ) (slot : SlotFacts D) → ShowsCalls calls r → ShowsCalls (Proposed now ∷ calls) (record r { slot = slot; proposed_at = Some now })
-  pub deadlines : (calls : List (RoundCall D)) (r : RoundFacts K D) (leader certification : ℕ) (stall : Option ℕ) → ShowsCalls calls r → ShowsCalls (Armed leader certification stall ∷ calls) (with_deadlines r leader certification stall)
-  pub timeout : (calls : List (RoundCall D)) (r : RoundFacts K D) (now : ℕ) (reason : TimeoutReason) → ShowsCalls calls r → ShowsCalls (TimedOut now reason ∷ calls) (with_latch r now reason)
-  pub poll : (calls : List (RoundCall D)) (r : RoundFacts K D) (now interval : ℕ) → ShowsCalls calls r → ShowsCalls (Polled now interval ∷ calls) (with_retry r now interval)
+  pub finalize : (calls : List (RoundCall D)) (r : RoundFacts K D) → can_finalize r ≡ true → ShowsCalls calls r
+      → ShowsCalls (FinalizeVote ∷ calls) (record r { decision = Finalize })
+  pub replay : (calls : List (RoundCall D)) (r : RoundFacts K D) (a : Artifact S D K G C) → TakesArtifact r a → ShowsCalls calls r
+      → ShowsCalls (after_artifact a calls) (after_replay same r a)
+  pub entry : (calls : List (RoundCall D)) (r : RoundFacts K D) (now : ℕ) → ShowsCalls calls r
+      → ShowsCalls (Entered now ∷ calls) (record r { entered_at = Some (unwrap_or r.entered_at now) })
+  pub proposed : (calls : List (RoundCall D)) (r : RoundFacts K D) (now : ℕ) (slot : SlotFacts D) → ShowsCalls calls r
+      → ShowsCalls (Proposed now ∷ calls) (record r { slot = slot; proposed_at = Some now })
+  pub deadlines : (calls : List (RoundCall D)) (r : RoundFacts K D) (leader certification : ℕ) (stall : Option ℕ) → ShowsCalls calls r
+      → ShowsCalls (Armed leader certification stall ∷ calls) (with_deadlines r leader certification stall)
+  pub timeout : (calls : List (RoundCall D)) (r : RoundFacts K D) (now : ℕ) (reason : TimeoutReason) → ShowsCalls calls r
+      → ShowsCalls (TimedOut now reason ∷ calls) (with_latch r now reason)
+  pub poll : (calls : List (RoundCall D)) (r : RoundFacts K D) (now interval : ℕ) → ShowsCalls calls r
+      → ShowsCalls (Polled now interval ∷ calls) (with_retry r now interval)

@@ -11,4 +11,5 @@ pub record CoveringLaws : Type 0 where
   -- nothing covers genesis
   pub genesis : (length u : ℕ) → 1 ≤ u → covers length u 0 ≡ false
   -- what covers a view covers the views after it in its term
-  pub onward : (length u view later : ℕ) → 0 < length → 1 ≤ u → covers length u view ≡ true → view ≤ later → later ≤ term_end length view → covers length u later ≡ true
+  pub onward : (length u view later : ℕ) → 0 < length → 1 ≤ u → covers length u view ≡ true → view ≤ later → later ≤ term_end length view
+      → covers length u later ≡ true

@@ -46,6 +46,7 @@ impl<S: CertificateScheme, L: Elector<S>, D: Digest> State<S, L, D> {
             let copy = finalization.clone(self.alloc)?;
             return Ok(Some(Certificate::Finalization(copy)));
         }
+        // it proves that the views between were given up, which is what peers need to take the same way into the new term
         if let Some(nullification) = self.entry_nullification(view) {
             let copy = nullification.clone(self.alloc)?;
             return Ok(Some(Certificate::Nullification(copy)));

@@ -109,7 +109,8 @@ impl<S: CertificateScheme, L: Elector<S>, D: Digest> State<S, L, D> {
     {
         match self.required_certification_parent(view, proposal) {
             Some(parent) => {
-                self.has_valid_parent_span(view, proposal.parent) && self.explicit_ancestry_payload(parent).is_some()
+                self.has_valid_parent_span(view, proposal.parent)
+                    && self.explicit_ancestry_payload(parent).is_some()
             }
             None => true,
         }
@@ -125,6 +126,10 @@ impl<S: CertificateScheme, L: Elector<S>, D: Digest> State<S, L, D> {
 
     /// The notarization that a proposal has to fetch: what it requires is neither certified nor notarized, and its parent
     /// may still be built on.
+    ///
+    /// One that is notarized is on its way to be certified. One that isn't comes by no event of its own: peers broadcast a
+    /// certificate once, and the votes behind it stopped circulating when the view above was notarized. Any member that
+    /// certified it holds it, while the leader that kept it back may never answer.
     fn certification_fetch(&self, view: View, proposal: &Proposal<D>) -> Option<CertificateFetch>
         ensures { result ≡ certification_fetch L.elect self.now view proposal.now }
     {

@@ -138,6 +138,7 @@ impl<S: CertificateScheme, L: Elector<S>, D: Digest> State<S, L, D> {
     }
 
     /// Once a view is certified or finalized, the view above it that waited for it is a candidate again.
+    /// Nothing else wakes one that waits: a candidate is named once.
     pub(super) fn wake_certification_child(&mut self, view: View) -> Result<(), Fault>
         requires { view + 1 < 2 ^ 64 }
         ensures woken { OnOk result (self.new ≡ with_waiting_candidate L.elect self.old view) }

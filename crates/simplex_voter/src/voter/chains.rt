@@ -69,6 +69,8 @@ impl<S: CertificateScheme, L: Elector<S>, D: Digest> State<S, L, D> {
     /// What the view offers before it is certified: the payload of its certificate, where no rejection stands in its term
     /// up to it; else that of a verified proposal that this member voted for, on a parent that offers what the vote was
     /// bound to.
+    ///
+    /// So a chain without certificates rests on votes of this member alone, down to a certificate.
     pub(super) fn optimistic_ancestry_payload(&self, view: View) -> Option<D>
         ensures payload { result ≡ optimistic_ancestry_payload D.eq L.elect self.now view }
         ensures in_range { OnSome result (view ≤ largest_tracked) }
@@ -102,6 +104,7 @@ impl<S: CertificateScheme, L: Elector<S>, D: Digest> State<S, L, D> {
         requires { next ≡ view + 1 }
         ensures { result ≡ basis_of L.elect self.now view round.now }
     {
+        // from the certificate itself, whatever proposal the view holds: that payload is the one that it supports
         if round.is_directly_notarized() {
             return self.unrefused_payload(view, round).map(Basis::Certain);
         }
@@ -120,6 +123,7 @@ impl<S: CertificateScheme, L: Elector<S>, D: Digest> State<S, L, D> {
     }
 
     /// Whether the view, or one below it in its term, was certified false, and no finalization overrides that.
+    /// Each view inside a term stands on the one before, so a refused one refuses all above it.
     fn has_failed_optimistic_ancestry(&self, view: View) -> bool
         ensures { result ≡ has_failed_optimistic_ancestry self.now view }
     {

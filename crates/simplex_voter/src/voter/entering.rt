@@ -16,7 +16,12 @@ impl<S: CertificateScheme, L: Elector<S>, D: Digest> State<S, L, D> {
     ghost use Rattle.simplex_voter.specs.Certification.{with_finalized_view};
 
     /// Enters a view that is above the current one.
-    pub(super) fn enter_view(&mut self, view: View, now: u64, deadlines: &Deadlines) -> Result<(), Fault>
+    pub(super) fn enter_view(
+        &mut self,
+        view: View,
+        now: u64,
+        deadlines: &Deadlines,
+    ) -> Result<(), Fault>
         requires in_range { view ≤ largest_current }
         requires deadlines { nat_lt self.old.current view ≡ true → deadlines.now ≡ deadlines_at self.old now }
         ensures entered { OnOk result (self.new ≡ with_view_entered self.old view now) }

@@ -28,6 +28,7 @@ impl<S: CertificateScheme, L: Elector<S>, D: Digest> State<S, L, D> {
             return;
         }
         self.finalized = view;
+        // a finalization is definite: no verdict below it matters any more
         self.candidates.drop_below(view.next());
         self.rounds.end_certifications(view);
     }

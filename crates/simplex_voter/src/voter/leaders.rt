@@ -90,6 +90,9 @@ impl<S: CertificateScheme, L: Elector<S>, D: Digest> State<S, L, D> {
 
     /// The next view takes the leader of this one in its window; at a term's start, after a vote here, this member leads
     /// it where it is elected early.
+    ///
+    /// Before the view is notarized a handoff can rest on this member's own vote alone, so it waits for that. Other members learn
+    /// the next leader from the certificate.
     pub(super) fn prepare_optimistic_successor(&mut self, view: View) -> Result<(), Fault>
         requires { view < largest_tracked }
         ensures prepared { OnOk result (self.new ≡ with_next_view_ready L.elect self.old view) }

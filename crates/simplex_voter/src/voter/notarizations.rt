@@ -62,6 +62,7 @@ impl<S: CertificateScheme, L: Elector<S>, D: Digest> State<S, L, D> {
         if !added.0 {
             return Ok(added);
         }
+        // the next view is not entered here: the certification comes first
         self.name_for_certification(view)?;
         self.slide_optimistic_frontier(view)?;
         Ok(added)

@@ -79,6 +79,9 @@ impl<S: CertificateScheme, L: Elector<S>, D: Digest> State<S, L, D> {
 
     /// Whether this member may vote to notarize the view: once, so that no other proposal is certified there too, and only
     /// what was verified, on the payload of the parent that it was verified on.
+    ///
+    /// The view's own facts come first, since its ancestry is looked up along the chain, at each event. The binding is tested
+    /// again at the vote, so that none stands on a parent that was replaced since the proposal was given out.
     #[tactic(auto, unfolding(crate::specs::Rules::may_notarize))]
     fn may_notarize(&self, view: View) -> bool
         requires { 1 ≤ self.now.current }
@@ -104,6 +107,9 @@ impl<S: CertificateScheme, L: Elector<S>, D: Digest> State<S, L, D> {
 
     /// Whether the view before offers a payload, where the view may build on one that is not certified yet: once a vote below
     /// is refused, nothing above it may be voted for.
+    ///
+    /// It is the rule by which this member builds. A stricter one could lose a vote that is cast once; a looser one could vote
+    /// for what stands on a view that its own application refused.
     fn has_ancestry(&self, view: View) -> bool
         ensures { result ≡ has_ancestry D.eq L.elect self.now view }
     {

@@ -20,6 +20,8 @@ impl<S: CertificateScheme, L: Elector<S>, D: Digest> State<S, L, D> {
 
     /// Takes a nullification: the rest of its term is passed over, and the next term's start is entered where that is
     /// ahead, and led by the elector's choice after this certificate. Answers whether it is the first of its view.
+    /// A certification that is under way goes on, since the next leader may build on a notarized view that this member has not
+    /// judged yet: members that stopped there could disagree on valid parents for good.
     ///
     /// It is of this epoch, and of a view that is kept. `ViewTooLarge` where its view is above 2^63 - 1, `TimeOverflow`
     /// where a deadline of the view that would be entered passes 2^64 - 1 milliseconds.
@@ -85,6 +87,7 @@ impl<S: CertificateScheme, L: Elector<S>, D: Digest> State<S, L, D> {
     {
         let view = nullification.view();
         self.note_moment(now);
+        // needs no look at what is finalized: a view above the current one alone is entered
         self.enter_led(next, now, deadlines, &nullification.certificate)?;
         self.keep_nullification(nullification)?;
         self.nullify_view(view)

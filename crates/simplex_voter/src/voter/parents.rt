@@ -66,6 +66,7 @@ impl<S: CertificateScheme, L: Elector<S>, D: Digest> State<S, L, D> {
     }
 
     /// Whether the term that the view ends may be handed over to this member; with the next view.
+    /// A nullification in that term says that others have left it, and the next leader would build on what they skip.
     #[tactic(auto, unfolding(crate::specs::Payloads::is_handoff_parent))]
     pub(super) fn is_handoff_parent(&self, view: View, next: View) -> bool
         requires { next ≡ view + 1 }
@@ -92,7 +93,9 @@ impl<S: CertificateScheme, L: Elector<S>, D: Digest> State<S, L, D> {
     pub(super) fn has_valid_parent_span(&self, view: View, parent: View) -> bool
         ensures { result ≡ has_valid_parent_span self.now view parent }
     {
-        parent < view && parent >= self.finalized && (parent == before(view) || self.is_term_start(view))
+        parent < view
+            && parent >= self.finalized
+            && (parent == before(view) || self.is_term_start(view))
     }
 
     /// The payload with which the parent is allowed.
@@ -121,6 +124,7 @@ impl<S: CertificateScheme, L: Elector<S>, D: Digest> State<S, L, D> {
     }
 
     /// At a term's start the highest explicit view below; where a gap lies above that, the view before.
+    /// Any lower explicit view has the same gap above it.
     fn preferred_at_start(&self, view: View) -> Option<(View, D)>
         ensures { result ≡ preferred_at_start D.eq L.elect self.now view }
     {
@@ -194,6 +198,7 @@ impl<S: CertificateScheme, L: Elector<S>, D: Digest> State<S, L, D> {
 
     /// Whether the bound proposal is held, and its parent is allowed with the bound payload, or preferred where this
     /// member leads.
+    /// Its own handoff stands on a parent that is not allowed before it is certified, but preferred.
     fn holds_binding(&self, view: View, round: &Round<S, D>, bound: &(Proposal<D>, D)) -> bool
         ensures { result ≡ holds_binding D.eq L.elect self.now view round.now bound.now }
     {

@@ -103,6 +103,7 @@ impl<S: CertificateScheme, L: Elector<S>, D: Digest> State<S, L, D> {
         if self.is_failed() {
             return Err(Fault::Failed);
         }
+        // what is known of the parent may have changed while the block was built
         let stands = self.context_stands(context);
         self.note_moment(now);
         if !stands {
@@ -112,6 +113,7 @@ impl<S: CertificateScheme, L: Elector<S>, D: Digest> State<S, L, D> {
     }
 
     /// Records what was built in a tracked view, where nullify was not decided and no other proposal is held.
+    /// It is bound to its parent's payload, as a replay binds it, so that a certificate of another payload takes it out of use.
     fn record_proposed(&mut self, context: &Context<D, S::PublicKey>, payload: D, now: u64) -> bool
         ensures recorded { result ≡ option_map_or
             (λ r. not (is_nullify r.decision) && holds_or_empty (same_proposal D.eq) r.slot (proposal_of context.now payload))
@@ -156,6 +158,7 @@ impl<S: CertificateScheme, L: Elector<S>, D: Digest> State<S, L, D> {
     }
 
     /// Whether another parent can be built on and the captured one no longer.
+    /// While there is no other parent the request stays: nothing could be asked for in its place.
     fn is_superseded(&self, context: &Context<D, S::PublicKey>) -> bool
         ensures { result ≡ supersede_answer D.eq L.elect self.now context.now }
     {
@@ -178,9 +181,12 @@ impl<S: CertificateScheme, L: Elector<S>, D: Digest> State<S, L, D> {
         if self.is_failed() {
             return Err(Fault::Failed);
         }
+        // a handoff no more, but a request like any other
         if self.parent_certified(context.parent) {
             return Ok(None);
         }
+        // the application may verify other blocks only once it has built this one, which could keep the very view that this
+        // member gives up, or a parent to fall back on, from being certified
         if self.voted_nullify(self.current) {
             return Ok(Some(HandoffAbandonedReason::ParentNullify));
         }

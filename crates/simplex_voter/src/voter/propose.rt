@@ -211,6 +211,7 @@ impl<S: CertificateScheme, L: Elector<S>, D: Digest> State<S, L, D> {
         if !round.should_propose() {
             return None;
         }
+        // tested before the request is claimed: a request is made once, and without a parent the view stays open for a later try
         let parent = self.find_parent(view)?;
         self.request_on(view, round, parent)
     }
@@ -228,6 +229,8 @@ impl<S: CertificateScheme, L: Elector<S>, D: Digest> State<S, L, D> {
         if !self.is_term_start(view) || self.parent_certified(parent) {
             return Some(ProposalRequest::Propose(context));
         }
+        // not even claimed while this member gives up the view in which it waits: what is ready at once could be taken before
+        // the driver asks whether to go on. Where the parent is certified after all, this is an ordinary request
         if self.voted_nullify(self.current) {
             return None;
         }

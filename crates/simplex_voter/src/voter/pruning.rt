@@ -25,6 +25,7 @@ impl<S: CertificateScheme, L: Elector<S>, D: Digest> State<S, L, D> {
         if self.is_failed() {
             return Err(Fault::Failed);
         }
+        // what still binds a vote stands above: votes to nullify above the last finalized view, and nullifications of its term
         let floor = self.min_active();
         match self.views_below(floor) {
             Ok(views) => {

@@ -196,6 +196,9 @@ impl<S: CertificateScheme, L: Elector<S>, D: Digest> State<S, L, D> {
     }
 
     /// The proposal with its parent's held payload, where no certificate decides that.
+    ///
+    /// Parents are replayed before their children. A parent with a certificate holds the certified payload alone, which need not
+    /// be the one that the vote was cast on, so nothing is bound there.
     fn restored_binding(&self, proposal: &Proposal<D>) -> Option<(Proposal<D>, D)>
         ensures { result ≡ restored_binding self.now proposal.now }
     {

@@ -256,7 +256,12 @@ impl<S: CertificateScheme, D: Digest> Rounds<S, D> {
     }
 
     /// Notes the entry of a view, the first one, and arms its deadlines.
-    pub(super) fn enter_view(&mut self, view: View, now: u64, deadlines: &Deadlines) -> Result<(), Fault>
+    pub(super) fn enter_view(
+        &mut self,
+        view: View,
+        now: u64,
+        deadlines: &Deadlines,
+    ) -> Result<(), Fault>
         requires { view ≤ largest_tracked }
         ensures entered { OnOk result (self.new ≡ with_change self.old view (λ r. with_entry r now deadlines.now)) }
         ensures refused { IfErr result (λ fault. fault ≡ OutOfMemory) }

@@ -15,6 +15,7 @@ impl<S: CertificateScheme, L: Elector<S>, D: Digest> State<S, L, D> {
     ghost use Rattle.simplex_voter.specs.Rules.{has_conflicting_nullify, was_handed_over, required_certification_parent, explicit_parent_ready, has_required_parent, may_finalize};
 
     /// Whether a vote of this member for the view may go out.
+    /// Certificates make rounds arbitrarily far ahead. A vote there would promise what this member can't check yet.
     #[tactic(auto, unfolding(crate::specs::Windows::is_admitted))]
     pub(super) fn is_admitted(&self, view: View) -> bool
         ensures { result ≡ is_admitted self.now view }
@@ -32,6 +33,7 @@ impl<S: CertificateScheme, L: Elector<S>, D: Digest> State<S, L, D> {
 
     /// Whether this member voted to nullify a view below in the term, above the last finalized view: its vote to finalize
     /// could help to finalize a view that the other vote helps to skip.
+    /// A finalization at or above that view ends this: it proves that the nullification can never form.
     #[tactic(auto, unfolding(crate::specs::Rules::has_conflicting_nullify))]
     pub(super) fn has_conflicting_nullify(&self, view: View) -> bool
         ensures { result ≡ has_conflicting_nullify self.now view }
@@ -54,10 +56,13 @@ impl<S: CertificateScheme, L: Elector<S>, D: Digest> State<S, L, D> {
     }
 
     /// Whether this member is elected, before any certificate, for the term that the view starts.
+    /// Others learn who leads from the certificate that unlocks the term.
     pub(super) fn is_elected_early(&self, view: View) -> bool
         ensures { result ≡ is_elected_early L.elect self.now view }
     {
-        self.is_term_start(view) && self.elector.elects_early() && self.is_me(self.early_leader(view))
+        self.is_term_start(view)
+            && self.elector.elects_early()
+            && self.is_me(self.early_leader(view))
     }
 
     /// Whether this member was elected early for the term that the view starts, and voted for a proposal there.
@@ -79,8 +84,17 @@ impl<S: CertificateScheme, L: Elector<S>, D: Digest> State<S, L, D> {
 
     /// The view that has to be certified before a proposal of this view: the proposal was voted for on a parent that may still
     /// be refused, and to finalize it finalizes the parent too.
+    ///
+    /// Of a term's first proposal that is so alone where this member leads the term. The vote marks the view and not one
+    /// proposal: any other member may have voted for one proposal of an equivocating leader, then see another one notarized,
+    /// and would wait for a parent that it may lack for good. And whoever else votes at a term's start has verified the proposal
+    /// on a certified parent, so its notarization holds the vote of an honest member that certified it.
     #[tactic(auto, unfolding(crate::specs::Rules::required_certification_parent))]
-    pub(super) fn required_certification_parent(&self, view: View, proposal: &Proposal<D>) -> Option<View>
+    pub(super) fn required_certification_parent(
+        &self,
+        view: View,
+        proposal: &Proposal<D>,
+    ) -> Option<View>
         ensures { result ≡ required_certification_parent L.elect self.now view proposal.now }
     {
         if !self.is_term_start(view) {
@@ -134,6 +148,9 @@ impl<S: CertificateScheme, L: Elector<S>, D: Digest> State<S, L, D> {
     }
 
     /// Whether this member may vote to finalize the view. Without the notarization another proposal may still win it.
+    ///
+    /// A finalized view needs no vote. That the parent is ready was tested before the certification, and is tested again, since
+    /// a replayed record restores a certified view without it.
     #[tactic(auto, unfolding(crate::specs::Rules::may_finalize))]
     pub(super) fn may_finalize(&self, view: View) -> bool
         ensures { result ≡ may_finalize L.elect self.now view }

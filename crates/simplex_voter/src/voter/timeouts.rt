@@ -88,10 +88,12 @@ fn can_time_out<S: CertificateScheme, D: Digest>(round: &Round<S, D>, allow_latc
 fn or_stalled(stall: Option<u64>, now: u64, timeout: (u64, TimeoutReason)) -> (u64, TimeoutReason)
     ensures { result ≡ or_stalled stall now timeout }
 {
+    // repeats go by their own interval, also where the stall deadline of an older view has passed
     if timeout.1 == TimeoutReason::Retry {
         return timeout;
     }
     match stall {
+        // where both are due the round's own reason tells more
         Some(deadline) if deadline <= timeout.0 && now < timeout.0 => {
             (deadline, TimeoutReason::StallTimeout)
         }
@@ -136,9 +138,12 @@ impl<S: CertificateScheme, L: Elector<S>, D: Digest> State<S, L, D> {
         ensures answer { result ≡ trigger_answer self.old view reason }
         ensures triggered { self.new ≡ with_timeout self.old view reason now }
     {
+        // the current view alone is polled, so nobody would read it. One ahead is kept: its proposal is held and was given out
+        // already, so once it is current no other timeout would come before that of the certification
         if view < self.current {
             return false;
         }
+        // that a leader is silent is a guess, and a proposal of his proves it wrong; other reasons stand
         if self.is_contradicted(view, reason) {
             return false;
         }
@@ -176,6 +181,7 @@ impl<S: CertificateScheme, L: Elector<S>, D: Digest> State<S, L, D> {
     }
 
     /// The stall deadline of the least entered view of the current term above the last finalized one.
+    /// A view that was jumped over was never entered and has none.
     pub(super) fn stall_deadline(&self) -> Option<u64>
         ensures { result ≡ stall_deadline self.now }
     {

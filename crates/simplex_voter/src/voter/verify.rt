@@ -122,6 +122,7 @@ impl<S: CertificateScheme, L: Elector<S>, D: Digest> State<S, L, D> {
     }
 
     /// How a proposal stands by its parent: the first gap is to be closed first.
+    /// Its place below is tested before the request is claimed: what is wrong there is so for good, and what is lacking comes.
     fn parent_standing(&self, view: View, round: &Round<S, D>, parent: View) -> Standing<D>
         ensures { result ≡ parent_standing D.eq L.elect self.now view round.now parent }
     {
@@ -141,6 +142,7 @@ impl<S: CertificateScheme, L: Elector<S>, D: Digest> State<S, L, D> {
         if let Some(payload) = self.ancestry_payload_for_child(view, parent) {
             return Standing::Ready(payload);
         }
+        // the parent's certificate is still forming from live votes. A member that falls behind leaves the window, and asks
         if self.in_issuance_window(view) {
             return Standing::NothingToDo;
         }
@@ -273,6 +275,8 @@ impl<S: CertificateScheme, L: Elector<S>, D: Digest> State<S, L, D> {
         if self.is_failed() {
             return Err(Fault::Failed);
         }
+        // the answer is about a proposal, or on a parent, that was replaced since, and says nothing about what is held now. The
+        // replaced one can't be verified on another parent: it commits to its own
         if !self.verification_matches(view) {
             self.clear_verifying(view);
             return Ok(false);
@@ -299,6 +303,7 @@ impl<S: CertificateScheme, L: Elector<S>, D: Digest> State<S, L, D> {
         if self.is_failed() {
             return Err(Fault::Failed);
         }
+        // a refusal of what was replaced must not give up the view: the certificate that replaced it goes its own way
         let holds = self.verification_matches(view);
         self.note_moment(now);
         if holds {
