@@ -14,7 +14,7 @@ pub const FAULTY: u8 = 3;
 
 /// What the faulty member does in a view that it leads.
 #[derive(Clone, Copy)]
-pub enum TraceEvent {
+pub enum Behavior {
     /// It sends its proposal to nobody.
     StaysSilent,
     /// It sends another proposal to one member.
@@ -26,12 +26,12 @@ pub enum TraceEvent {
 }
 
 /// What the faulty member does in the view.
-pub(crate) fn trace_event_in(view: View) -> TraceEvent {
+pub(crate) fn behavior_in(view: View) -> Behavior {
     match view.get() / 4 % 4 {
-        1 => TraceEvent::StaysSilent,
-        2 => TraceEvent::DeceivesOne,
-        3 => TraceEvent::DeceivesTwo,
-        _ => TraceEvent::Obeys,
+        1 => Behavior::StaysSilent,
+        2 => Behavior::DeceivesOne,
+        3 => Behavior::DeceivesTwo,
+        _ => Behavior::Obeys,
     }
 }
 
@@ -53,11 +53,11 @@ pub(crate) fn sent(
 
 /// The proposal that the faulty leader sends to a member, if it sends one.
 fn shown(to: u8, block: &Block) -> Option<Block> {
-    let is_deceived = match trace_event_in(block.round.view) {
-        TraceEvent::StaysSilent => return None,
-        TraceEvent::DeceivesOne => to == 2,
-        TraceEvent::DeceivesTwo => to == 1 || to == 2,
-        TraceEvent::Obeys => false,
+    let is_deceived = match behavior_in(block.round.view) {
+        Behavior::StaysSilent => return None,
+        Behavior::DeceivesOne => to == 2,
+        Behavior::DeceivesTwo => to == 1 || to == 2,
+        Behavior::Obeys => false,
     };
     if is_deceived {
         return Some(another(block));

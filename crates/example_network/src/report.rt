@@ -1,6 +1,6 @@
 //! What a person reads: a line for each view, and a summary.
 
-use crate::faults::{FAULTY, TraceEvent, trace_event_in};
+use crate::faults::{Behavior, FAULTY, behavior_in};
 use crate::news::News;
 use simplex_types::types::View;
 use std::alloc::{AllocError, Global};
@@ -95,14 +95,14 @@ impl Line {
                 let (number, leader, parent) = (view.get(), leader(view), parent.get());
                 println!(rt;
                     "{now:>7} ms  view {number:>4}  leader {leader}  finalized  block {block} on view {parent}{}",
-                    trace_event(view)
+                    remark(view)
                 )
             }
             News::Nullified(view) => {
                 let (number, leader) = (view.get(), leader(view));
                 println!(rt;
                     "{now:>7} ms  view {number:>4}  leader {leader}  nullified{}",
-                    trace_event(view)
+                    remark(view)
                 )
             }
             News::TwoProposals(view) => {
@@ -129,14 +129,14 @@ fn leader(view: View) -> u64 {
 }
 
 /// What the faulty member does where it leads.
-fn trace_event(view: View) -> &'static str {
+fn remark(view: View) -> &'static str {
     if leader(view) != u64::from(FAULTY) {
         return "";
     }
-    match trace_event_in(view) {
-        TraceEvent::StaysSilent => "  (its leader proposed nothing)",
-        TraceEvent::DeceivesOne => "  (its leader deceived one member)",
-        TraceEvent::DeceivesTwo => "  (its leader deceived two members)",
-        TraceEvent::Obeys => "",
+    match behavior_in(view) {
+        Behavior::StaysSilent => "  (its leader proposed nothing)",
+        Behavior::DeceivesOne => "  (its leader deceived one member)",
+        Behavior::DeceivesTwo => "  (its leader deceived two members)",
+        Behavior::Obeys => "",
     }
 }

@@ -38,7 +38,7 @@ abbrev pub peers_of : ℕ → Option ℕ → Peers
 peers_of members None = record { others = members; me = members }
 peers_of members (Some me) = if nat_lt me members then record { others = members - 1; me = me } else record { others = members; me = members }
 
--- the replica of a member among the others; the first, where none is named
+-- the place of a member among the others; the first, where none is named
 abbrev pub place_of : Peers → Option ℕ → ℕ
 place_of peers None = 0
 place_of peers (Some member) = if nat_lt member peers.me then member else member - 1
