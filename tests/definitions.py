@@ -3,9 +3,11 @@
 
     tests/definitions.py            writes it
     tests/definitions.py --check    fails where the page isn't what the comments say
+    tests/definitions.py --all      prints the same of every public definition, and writes nothing
 
-A row has the definitions that stand under one comment, with no blank line between, and the comment. A row of definitions
-without one goes with the row above, or their names say what they are.
+The page keeps what the headline and the public calls of a member and of a resolver make a reader believe: the definitions that
+their clauses name, and those that these name in turn. A row has the definitions that stand under one comment, with no blank
+line between, and the comment. A row of definitions without one goes with the row above, or their names say what they are.
 """
 
 import argparse
@@ -14,17 +16,31 @@ import os
 import re
 import sys
 
+from believed import STATEMENTS, Specs
+
 HERE = os.path.dirname(os.path.abspath(__file__))
 TOP = os.path.join(HERE, "..")
 PAGE = os.path.join(TOP, "docs", "inside", "DEFINITIONS.md")
 
 HEAD = """# Definitions
 
-What contracts cite: each public definition of `specs/`, by crate and file, with the comment that stands above it. What a reader has to believe is these and the public clauses; `docs/GUARANTEES.md` says which of them the theorem takes. `tests/definitions.py` writes this page, and the gate fails where it is stale.
+What the theorem and the public calls of a member and of a resolver make a reader believe, beside their clauses: each definition of `specs/` that these name, and those that it names in turn, by crate and file, with the comment that stands above it. `docs/GUARANTEES.md` says which of them the theorem takes. `tests/definitions.py` writes this page, and the gate fails where it is stale; `tests/definitions.py --all` prints all definitions there are.
 
 The rows of a file are in its order. A row without a sentence goes with the one above, or its names say what they are.
 
 """
+
+# The files of the calls whose clauses the page is about.
+CALLS = [
+    ("simplex_member", "src/member/**/*.rt"),
+    ("simplex_lawful", "src/lawful/**/*.rt"),
+    ("simplex_laws", "src/laws/network.rt"),
+    ("simplex_laws", "src/laws/contradictions.rt"),
+    ("simplex_resolver", "src/replay/lawful.rt"),
+]
+BROUGHT_IN = re.compile(r"ghost use Rattle\.(\w+)\.specs\.([\w.]+?)\.\{(.*)\};")
+PUBLIC_CALL = re.compile(r"^ *pub fn (?:.*\n)*?(?= *\{\n|.*\{\}\n)", re.M)
+WORD = re.compile(r"[A-Za-z_][\w']*")
 
 DEFINITION = re.compile(r" *(?:abbrev |unfoldable )?pub (?:record |data )?(?!use\b|mod\b)([^\s:]+) ")
 FIELD = re.compile(r" *pub ([^\s:]+) :")
@@ -84,6 +100,12 @@ def joined(rows):
     return made
 
 
+def rows_kept(rows, names):
+    """The rows with these names alone."""
+    cut = [(says, [name for name in defined if name in names]) for says, defined in rows]
+    return [row for row in cut if row[1]]
+
+
 def names_of(defined):
     return ", ".join(f"`{it}`" for it in defined)
 
@@ -98,7 +120,36 @@ def title_of(text):
     return told[1].strip() if told else ""
 
 
-def page():
+def named_by_calls():
+    """The definitions that the clauses of public calls name."""
+    named = set()
+    for crate, pattern in CALLS:
+        for path in glob.glob(os.path.join(TOP, "crates", crate, pattern), recursive=True):
+            with open(path, encoding="utf-8") as it:
+                text = it.read()
+            brought = {}
+            for from_crate, module, words in BROUGHT_IN.findall(text):
+                for word in words.split(","):
+                    name, _, local = word.strip().partition(" as ")
+                    brought[local or name] = (from_crate, module, name)
+            for call in PUBLIC_CALL.findall(text):
+                named.update(brought[word] for word in WORD.findall(call) if word in brought)
+    return named
+
+
+def believed():
+    """The definitions that the headline and the public calls make a reader believe, by crate and file."""
+    specs = Specs()
+    roots = [specs.found(key) for key in named_by_calls()]
+    roots += [specs.found(key) for _, statement, _ in STATEMENTS for key in statement]
+    kept = {}
+    for crate, module, name in specs.reached([root for root in roots if root], []):
+        kept.setdefault((crate, module), set()).add(name)
+    return kept
+
+
+def page(kept=None):
+    """The page of the definitions that are kept, or of all where none are named."""
     out = [HEAD]
     with open(os.path.join(TOP, "crates.txt"), encoding="utf-8") as it:
         crates = [line.split(":")[0].split()[0] for line in it if line.strip() and not line.startswith("#")]
@@ -115,7 +166,11 @@ def page():
                 text = it.read()
             body = text.split("\n", 1)[1] if title_of(text) else text
             with_names.append((name, title_of(text), definitions_in(body)))
-        out.append(f"\n## `{crate}`\n")
+        if kept is not None:
+            with_names = [(name, title, rows_kept(rows, kept.get((crate, name), set()))) for name, title, rows in with_names]
+            with_names = [it for it in with_names if it[2]]
+        if with_names:
+            out.append(f"\n## `{crate}`\n")
         for name, title, rows in with_names:
             out.append(f"\n**`{name}.antt`** {title}\n\n| Definition | Says |\n|---|---|\n")
             for says, defined in joined(rows):
@@ -126,8 +181,13 @@ def page():
 def main():
     asked = argparse.ArgumentParser(description=__doc__, formatter_class=argparse.RawDescriptionHelpFormatter)
     asked.add_argument("--check", action="store_true", help="write nothing, and fail where the page is stale")
-    made = page()
-    if not asked.parse_args().check:
+    asked.add_argument("--all", action="store_true", help="print the definitions of all crates, and write nothing")
+    given = asked.parse_args()
+    if given.all:
+        print(page(), end="")
+        return 0
+    made = page(believed())
+    if not given.check:
         with open(PAGE, "w", encoding="utf-8") as it:
             it.write(made)
         return 0
