@@ -3,3 +3,4 @@ pub mod Laws
 pub mod Appended
 pub mod ArtifactLaw
 pub mod FrameLaw
+pub mod PlainLaw

@@ -2,6 +2,8 @@
 use Rattle.std.specs.Prelude.{◌≡◌, ◌<◌, ◌≤◌, ◌+◌, ◌^◌, ℕ, zero, suc, List, [], ◌∷◌, ◌++◌, length, take, drop, Result, IfOk, IsOkUnless}
 use Rattle.simplex_types.specs.declared.types.numbers.Round.{Round}
 use Rattle.simplex_types.specs.declared.types.messages.Proposal.{Proposal}
+use Rattle.simplex_types.specs.declared.types.messages.Subject.{Subject}
+use Rattle.simplex_types.specs.declared.types.messages.Subject.TheVariants as subject
 use Rattle.simplex_types.specs.declared.types.messages.Certificate.{Certificate}
 use Rattle.simplex_types.specs.Certificates.{certificate_facts}
 use Rattle.simplex_types.specs.Encoding.{round_bytes, proposal_bytes, encoding, IsEncodableRound, IsEncodable}
@@ -12,6 +14,12 @@ use Rattle.simplex_codec.specs.Reading.{NoneHas}
 -- its numbers fit in the bytes that an encoding has for them
 abbrev pub IsEncodableProposal : {D : Type 0} → Proposal D → Type 0
 IsEncodableProposal p = IsEncodableRound p.round × (p.parent < 2 ^ 64)
+
+-- the numbers of a subject fit
+abbrev pub IsEncodableSubject : {D : Type 0} → Subject D → Type 0
+IsEncodableSubject (subject.Notarize p) = IsEncodableProposal p
+IsEncodableSubject (subject.Nullify r) = IsEncodableRound r
+IsEncodableSubject (subject.Finalize p) = IsEncodableProposal p
 
 -- a proposal, and behind it bytes that are not readable
 pub record IsUnreadableBehindProposal {D : Type 0} (payload_bytes : D → List ℕ) (is_unreadable : List ℕ → Type 0) (bytes : List ℕ) : Type 0 where

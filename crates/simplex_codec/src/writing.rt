@@ -2,17 +2,19 @@
 
 ghost use Rattle.std.specs.Prelude.{◌≡◌, ◌++◌, ◌∷◌, [], OnOk, Some};
 ghost use Rattle.std.specs.Int.{w32, w64, to_be_bytes};
-ghost use Rattle.simplex_types.specs.Encoding.{round_bytes, proposal_bytes};
+ghost use Rattle.simplex_types.specs.Encoding.{round_bytes, proposal_bytes, subject_bytes, IsEncodableRound};
+ghost use Rattle.simplex_codec.specs.Refusals.{IsEncodableProposal, IsEncodableSubject};
 ghost use Rattle.simplex_codec.specs.Artifacts.{signed_proposal, signed_round, verdict_bytes};
 
 use crate::hooks::SchemeCodec;
-use crate::kinds::VERDICT;
+use crate::kinds::{FINALIZATION, NOTARIZATION, NULLIFICATION, VERDICT};
 use bytes::{BufMut, BytesMut};
-use simplex_types::types::{Digest, Participant, Proposal, Round};
+use simplex_types::types::{Digest, Participant, Proposal, Round, Subject};
 use std::alloc::AllocError;
 
 fn put_round(out: &mut BytesMut, round: Round) -> Result<(), AllocError>
-    ensures { OnOk result (out.new.items ≡ out.old.items ++ round_bytes round) }
+    ensures written { OnOk result (out.new.items ≡ out.old.items ++ round_bytes round) }
+    ensures fits { OnOk result (IsEncodableRound round) }
 {
     out.put_u64(round.epoch.get())?;
     out.put_u64(round.view.get())?;
@@ -20,12 +22,37 @@ fn put_round(out: &mut BytesMut, round: Round) -> Result<(), AllocError>
 }
 
 fn put_proposal<D: Digest>(out: &mut BytesMut, proposal: &Proposal<D>) -> Result<(), AllocError>
-    ensures { OnOk result (out.new.items ≡ out.old.items ++ proposal_bytes D.bytes proposal.now) }
+    ensures written { OnOk result (out.new.items ≡ out.old.items ++ proposal_bytes D.bytes proposal.now) }
+    ensures fits { OnOk result (IsEncodableProposal proposal.now) }
 {
     put_round(out, proposal.round)?;
     out.put_u64(proposal.parent.get())?;
     out.put_slice(proposal.payload.as_bytes())?;
     Ok(())
+}
+
+/// What a vote on the subject signs. Its numbers fit, as those of each subject do.
+pub(crate) fn put_subject<D: Digest>(
+    out: &mut BytesMut,
+    subject: &Subject<D>,
+) -> Result<(), AllocError>
+    ensures written { OnOk result (out.new.items ≡ out.old.items ++ subject_bytes D.bytes subject.now) }
+    ensures fits { OnOk result (IsEncodableSubject subject.now) }
+{
+    match subject {
+        Subject::Notarize(proposal) => {
+            out.put_u8(NOTARIZATION)?;
+            put_proposal(out, proposal)
+        }
+        Subject::Nullify(round) => {
+            out.put_u8(NULLIFICATION)?;
+            put_round(out, *round)
+        }
+        Subject::Finalize(proposal) => {
+            out.put_u8(FINALIZATION)?;
+            put_proposal(out, proposal)
+        }
+    }
 }
 
 /// A kind, a proposal and a certificate.

@@ -3,17 +3,17 @@
 ghost use Rattle.std.specs.Prelude.{◌≡◌, true};
 
 use crate::assembly::Assembly;
-use simplex_types::types::plain::{PlainCertificate, PlainScheme, PlainSignature};
-use simplex_types::types::{Digest, Participant, Subject};
+use simplex_types::types::plain::{PlainCertificate, PlainDigest, PlainScheme, PlainSignature};
+use simplex_types::types::{Participant, Subject};
 use std::alloc::{AllocError, Global};
 
-impl<D: Digest> Assembly<D> for PlainScheme {
+impl Assembly<PlainDigest> for PlainScheme {
     ghost IsMadeOf = { λ _ _ _ certificate. certificate.good ≡ true };
 
     fn assemble(
         &self,
         _alloc: Global,
-        _subject: &Subject<D>,
+        _subject: &Subject<PlainDigest>,
         _signatures: &[(Participant, PlainSignature)],
     ) -> Result<PlainCertificate, AllocError> {
         Ok(PlainCertificate { good: true })

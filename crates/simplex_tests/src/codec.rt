@@ -77,21 +77,21 @@ fn certificates() -> [Certificate<PlainScheme, PlainDigest>; 3] {
 }
 
 /// A signature on the subject.
-fn signature(alloc: Global, subject: &Subject<PlainDigest>) -> Result<PlainSignature, AllocError> {
-    PlainSignature::new(alloc, PlainKey(2), subject)
+fn signature(subject: Subject<PlainDigest>) -> PlainSignature {
+    PlainSignature {
+        key: PlainKey(2),
+        subject,
+    }
 }
 
 /// An artifact of each kind.
-pub(crate) fn artifacts(alloc: Global) -> Result<[PlainArtifact; 8], AllocError> {
+pub(crate) fn artifacts() -> [PlainArtifact; 8] {
     let signer = Participant::new(2);
-    let notarize = signature(alloc, &Subject::Notarize(proposal(3, 2)))?;
-    let nullify = signature(alloc, &Subject::Nullify(round(3)))?;
-    let finalize = signature(alloc, &Subject::Finalize(proposal(3, 2)))?;
-    Ok([
+    [
         Artifact::Notarize(Notarize {
             proposal: proposal(3, 2),
             signer,
-            signature: notarize,
+            signature: signature(Subject::Notarize(proposal(3, 2))),
         }),
         Artifact::Notarization(notarization()),
         Artifact::Certification(round(3), true),
@@ -99,16 +99,16 @@ pub(crate) fn artifacts(alloc: Global) -> Result<[PlainArtifact; 8], AllocError>
         Artifact::Nullify(Nullify {
             round: round(3),
             signer,
-            signature: nullify,
+            signature: signature(Subject::Nullify(round(3))),
         }),
         Artifact::Nullification(nullification()),
         Artifact::Finalize(Finalize {
             proposal: proposal(3, 2),
             signer,
-            signature: finalize,
+            signature: signature(Subject::Finalize(proposal(3, 2))),
         }),
         Artifact::Finalization(finalization()),
-    ])
+    ]
 }
 
 /// Why the bytes are no certificate, if they are none.
@@ -225,7 +225,7 @@ fn artifact_is_read_back(alloc: Global, artifact: &PlainArtifact) -> Result<bool
 
 #[test]
 fn artifacts_are_read_back(rt: HostRuntime) -> Result<(), Fail> {
-    for artifact in &artifacts(rt.alloc())? {
+    for artifact in &artifacts() {
         assert!(rt; artifact_is_read_back(rt.alloc(), artifact)?);
     }
     Ok(())
@@ -235,18 +235,22 @@ fn artifacts_are_read_back(rt: HostRuntime) -> Result<(), Fail> {
 static VERDICT: [u8; 18] = [6, 0, 0, 0, 0, 0, 0, 0, 1, 0, 0, 0, 0, 0, 0, 0, 3, 1];
 
 /// The vote below, as it is written.
-static VOTE: [u8; 27] = [
-    4, 1, 2, 3, 4, 0, 0, 0, 0, 0, 0, 0, 1, 0, 0, 0, 0, 0, 0, 0, 3, 0, 0, 0, 5, 9, 8,
+static VOTE: [u8; 42] = [
+    4, 1, 2, 3, 4, 0, 0, 0, 0, 0, 0, 0, 1, 0, 0, 0, 0, 0, 0, 0, 3, 0, 0, 0, 5, 1, 0, 0, 0, 0, 0, 0,
+    0, 9, 0, 0, 0, 0, 0, 0, 0, 8,
 ];
 
-/// A vote to nullify view 3, of a member whose index has four bytes.
+/// A vote to nullify view 3, of a member whose index has four bytes, with a signature on another round.
 fn vote() -> PlainArtifact {
     Artifact::Nullify(Nullify {
         round: round(3),
         signer: Participant::new(0x0102_0304),
         signature: PlainSignature {
             key: PlainKey(5),
-            text: Bytes::from_static(&[9, 8]),
+            subject: Subject::Nullify(Round {
+                epoch: Epoch::new(9),
+                view: View::new(8),
+            }),
         },
     })
 }
@@ -265,7 +269,7 @@ fn a_vote_is_written_as_the_vector_says(rt: HostRuntime) -> Result<(), Fail> {
 }
 
 /// Bytes that are no artifact, each with the refusal.
-static REFUSED: [(&[u8], DecodeError); 9] = [
+static REFUSED: [(&[u8], DecodeError); 10] = [
     (&[7; 40], DecodeError::UnknownKind(7)),
     (&[], DecodeError::TooShort),
     // a verdict of 6
@@ -279,6 +283,8 @@ static REFUSED: [(&[u8], DecodeError); 9] = [
     // three bytes of a key, behind a signer and what was voted on
     (&[3; 40], DecodeError::UnreadableSignature),
     (&[4; 24], DecodeError::UnreadableSignature),
+    // a key, and behind it no kind of a vote
+    (&[4; 42], DecodeError::UnreadableSignature),
     (&[5; 36], DecodeError::TooShort),
     (&[4; 20], DecodeError::TooShort),
 ];

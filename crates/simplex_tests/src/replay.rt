@@ -13,7 +13,7 @@ use simplex_types::types::{
     Artifact, Certificate, Epoch, Finalization, Notarization, Nullification, Nullify, Participant,
     Proposal, Round, Subject, TermLength, View,
 };
-use std::alloc::{AllocError, Global};
+use std::alloc::Global;
 use std::collections::BTreeSet;
 use std::num::NonZeroU32;
 use std::test::Fail;
@@ -95,13 +95,15 @@ fn verdict(view: u64, success: bool) -> PlainArtifact {
     Artifact::Certification(round(view), success)
 }
 
-fn vote_to_nullify(alloc: Global, view: u64) -> Result<PlainArtifact, AllocError> {
-    let subject: Subject<PlainDigest> = Subject::Nullify(round(view));
-    Ok(Artifact::Nullify(Nullify {
+fn vote_to_nullify(view: u64) -> PlainArtifact {
+    Artifact::Nullify(Nullify {
         round: round(view),
         signer: Participant::new(0),
-        signature: PlainSignature::new(alloc, PlainKey(0), &subject)?,
-    }))
+        signature: PlainSignature {
+            key: PlainKey(0),
+            subject: Subject::Nullify(round(view)),
+        },
+    })
 }
 
 fn gap_fetch(view: u64, cause: u64) -> Effect {
@@ -121,18 +123,17 @@ fn failure_fetch(view: u64) -> Effect {
 }
 
 /// View 1 is finalized, the term of 3 is nullified, 5 has failed, nothing is known of 7, and 9 is notarized.
-fn gaps(alloc: Global) -> Result<[PlainArtifact; 8], AllocError> {
-    let vote = vote_to_nullify(alloc, 3)?;
-    Ok([
+fn gaps() -> [PlainArtifact; 8] {
+    [
         notarization(1),
         verdict(1, true),
         finalization(1),
-        vote,
+        vote_to_nullify(3),
         nullification(3),
         notarization(5),
         verdict(5, false),
         notarization(9),
-    ])
+    ]
 }
 
 /// A resolver and what its replay asks for.
@@ -145,7 +146,7 @@ fn replayed(alloc: Global, entries: &[PlainArtifact]) -> Result<Replayed, Fail> 
 }
 
 fn with_gaps(alloc: Global) -> Result<Replayed, Fail> {
-    replayed(alloc, &gaps(alloc)?)
+    replayed(alloc, &gaps())
 }
 
 /// Whether the effects leave the fetches of views 2, 5 and 7 open, and no other.
@@ -216,7 +217,7 @@ fn settles_7(resolver: &mut LawfulResolver) -> Result<bool, Fail> {
 
 #[test]
 fn a_kept_resolver_starts_with_its_fetches(rt: HostRuntime) -> Result<(), Fail> {
-    let mut resolver = kept(rt.alloc(), &gaps(rt.alloc())?)?;
+    let mut resolver = kept(rt.alloc(), &gaps())?;
     resolver.keeps_the_laws();
     assert!(rt; resolver.fetches().len() == 3 && settles_7(&mut resolver)?);
     Ok(())

@@ -14,7 +14,6 @@ use Rattle.simplex_types.specs.declared.types.messages.Subject.{Subject}
 use Rattle.simplex_types.specs.declared.types.plain.PlainScheme.{PlainScheme}
 use Rattle.simplex_types.specs.declared.types.plain.PlainSignature.{PlainSignature}
 use Rattle.simplex_types.specs.declared.types.plain.PlainElector.{PlainElector}
-use Rattle.simplex_types.specs.Encoding.{subject_bytes}
 use Rattle.simplex_types.specs.Terms.{term_index}
 
 -- the bytes of a digest
@@ -29,9 +28,9 @@ signer_of s = s.signer
 abbrev pub keys_of : PlainScheme → List PlainKey
 keys_of s = s.keys.items
 
--- the signature is made with this key, on the bytes of just this subject
-abbrev pub IsPlainSignature : {D : Type 0} → (D → List ℕ) → PlainKey → Subject D → PlainSignature → Type 0
-IsPlainSignature payload_bytes key subject signature = (signature.key ≡ key) × (signature.text ≡ subject_bytes payload_bytes subject)
+-- the signature is made with this key, on just this subject
+abbrev pub IsPlainSignature : PlainKey → Subject PlainDigest → PlainSignature → Type 0
+IsPlainSignature key subject signature = (signature.key ≡ key) × (signature.subject ≡ subject)
 
 -- the keys of the members below a number, in order
 abbrev pub keys_below : ℕ → List PlainKey

@@ -147,7 +147,7 @@ fn read_two(
 #[test]
 fn inputs_are_refused_or_encode_to_themselves(rt: HostRuntime) -> Result<(), Fail> {
     let alloc = rt.alloc();
-    let whole = artifacts(alloc)?;
+    let whole = artifacts();
     let mut random = Random { state: SEED };
     let mut tally = Tally {
         artifacts: 0,

@@ -290,42 +290,45 @@ fn meets_replay(round: &mut PlainRound, step: &Step) -> bool {
 }
 
 /// Member 0's signature on a subject.
-fn signature(alloc: Global, subject: Subject<PlainDigest>) -> Result<PlainSignature, Fault> {
-    Ok(PlainSignature::new(alloc, PlainKey(0), &subject)?)
+fn signature(subject: Subject<PlainDigest>) -> PlainSignature {
+    PlainSignature {
+        key: PlainKey(0),
+        subject,
+    }
 }
 
 /// Whether the round takes a replayed vote, which is of member 0.
-fn replay_vote(alloc: Global, round: &mut PlainRound, step: &Step) -> Result<bool, Fault> {
+fn replay_vote(round: &mut PlainRound, step: &Step) -> bool {
     let signer = Participant::new(0);
     if !round.is_signer(signer) {
-        return Ok(false);
+        return false;
     }
     match (step, round.decision()) {
         (Step::ReplayNotarize(payload), _) => {
             round.replay(&Artifact::Notarize(Notarize {
                 proposal: proposal(*payload),
                 signer,
-                signature: signature(alloc, Subject::Notarize(proposal(*payload)))?,
+                signature: signature(Subject::Notarize(proposal(*payload))),
             }));
-            Ok(true)
+            true
         }
         (Step::ReplayNullify, Decision::Pending { .. } | Decision::Nullify { .. }) => {
             round.replay(&Artifact::Nullify(Nullify {
                 round: first_round(),
                 signer,
-                signature: signature(alloc, Subject::Nullify(first_round()))?,
+                signature: signature(Subject::Nullify(first_round())),
             }));
-            Ok(true)
+            true
         }
         (Step::ReplayFinalize(payload), Decision::Pending { .. } | Decision::Finalize) => {
             round.replay(&Artifact::Finalize(Finalize {
                 proposal: proposal(*payload),
                 signer,
-                signature: signature(alloc, Subject::Finalize(proposal(*payload)))?,
+                signature: signature(Subject::Finalize(proposal(*payload))),
             }));
-            Ok(true)
+            true
         }
-        _ => Ok(false),
+        _ => false,
     }
 }
 
@@ -333,7 +336,7 @@ fn replay_vote(alloc: Global, round: &mut PlainRound, step: &Step) -> Result<boo
 fn meets(alloc: Global, round: &mut PlainRound, step: &Step) -> Result<bool, Fault> {
     let met = match *step {
         Step::ReplayNotarize(_) | Step::ReplayNullify | Step::ReplayFinalize(_) => {
-            replay_vote(alloc, round, step)?
+            replay_vote(round, step)
         }
         Step::AddNotarization(payload, added, equivocator) => {
             round.add_notarization(notarization(payload)) == (added, key_of(equivocator))

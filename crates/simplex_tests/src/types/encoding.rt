@@ -82,7 +82,7 @@ fn is_copied_with_its_view(
 
 #[test]
 fn artifacts_are_copied_with_their_view(rt: HostRuntime) -> Result<(), Fail> {
-    for (artifact, view) in artifacts(rt.alloc())?.iter().zip(&VIEWS) {
+    for (artifact, view) in artifacts().iter().zip(&VIEWS) {
         assert!(rt; is_copied_with_its_view(rt.alloc(), artifact, *view)?);
     }
     Ok(())

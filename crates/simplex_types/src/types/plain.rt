@@ -8,7 +8,6 @@ use crate::types::messages::Subject;
 use crate::types::numbers::{Participant, Round};
 use crate::types::scheme::{CertificateScheme, Digest, Elector, PublicKey, Scheme};
 use crate::types::window::Terms;
-use bytes::Bytes;
 use std::alloc::{AllocError, Global};
 
 /// A digest of eight bytes.
@@ -66,27 +65,11 @@ pub struct PlainKey(pub u32);
 
 impl PublicKey for PlainKey {}
 
-/// A signature: whose key it was made with, and the bytes that were signed.
-#[derive(Drop)]
+/// A signature: whose key it was made with, and what was signed.
+#[derive(Clone, Copy)]
 pub struct PlainSignature {
     pub key: PlainKey,
-    pub text: Bytes,
-}
-
-impl PlainSignature {
-    ghost use Rattle.simplex_types.specs.Plain.{IsPlainSignature};
-
-    /// A member's signature on a subject.
-    pub fn new<D: Digest>(
-        alloc: Global,
-        key: PlainKey,
-        subject: &Subject<D>,
-    ) -> Result<PlainSignature, AllocError>
-        ensures { IfOk result (IsPlainSignature D.bytes key subject.now) }
-    {
-        let text = subject.encode(alloc)?;
-        Ok(PlainSignature { key, text })
-    }
+    pub subject: Subject<PlainDigest>,
 }
 
 /// A certificate that is good or not.
@@ -153,10 +136,7 @@ impl CertificateScheme for PlainScheme {
         _alloc: Global,
         signature: &PlainSignature,
     ) -> Result<PlainSignature, AllocError> {
-        Ok(PlainSignature {
-            key: signature.key,
-            text: signature.text.clone()?,
-        })
+        Ok(*signature)
     }
 
     fn copy_certificate(
@@ -183,26 +163,29 @@ impl CertificateScheme for PlainScheme {
     ghost me_is_member = { λ s. s.signer_is_member };
 }
 
-impl<D: Digest> Scheme<D> for PlainScheme {
+impl Scheme<PlainDigest> for PlainScheme {
     ghost use Rattle.simplex_types.specs.Plain.{IsPlainSignature};
 
-    ghost IsSignature = { IsPlainSignature D.bytes };
+    ghost IsSignature = { IsPlainSignature };
 
     ghost accepts = { λ _ _ c. c.good };
 
     fn sign(
         &self,
-        alloc: Global,
-        subject: &Subject<D>,
+        _alloc: Global,
+        subject: &Subject<PlainDigest>,
     ) -> Result<Option<PlainSignature>, AllocError> {
         let Some(signer) = self.signer else {
             return Ok(None);
         };
         let key = self.keys[signer.get() as usize];
-        Ok(Some(PlainSignature::new(alloc, key, subject)?))
+        Ok(Some(PlainSignature {
+            key,
+            subject: *subject,
+        }))
     }
 
-    fn verify(&self, _subject: &Subject<D>, certificate: &PlainCertificate) -> bool {
+    fn verify(&self, _subject: &Subject<PlainDigest>, certificate: &PlainCertificate) -> bool {
         certificate.good
     }
 }

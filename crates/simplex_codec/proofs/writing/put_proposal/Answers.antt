@@ -4,11 +4,11 @@ use Rattle.simplex_types.specs.Encoding.{round_bytes}
 use Rattle.simplex_codec.proofs.Appended.{appended}
 use Rattle.simplex_codec.proofs.writing.put_proposal.Goals as goal
 
-pub returns : goal.returns
-returns g c =
+pub returns-clause-written : goal.returns-clause-written
+returns-clause-written g c =
     let proposal = c.args.proposal.now in
     let fronts = appended c.args.out.now.items c.put_round.new.out.items c.put_u64.new.self.items (round_bytes proposal.round) (to_be_bytes w64 proposal.parent)
-    c.in_ok-put_round.ensures
+    c.in_ok-put_round.ensures.written
     (c.in_ok-put_u64.ensures.ok ∙ ap (λ n. c.put_round.new.out.items ++ to_be_bytes w64 n) c.get.ensures) in
     appended c.args.out.now.items c.put_u64.new.self.items c.put_slice.new.self.items (round_bytes proposal.round ++ to_be_bytes w64 proposal.parent) (g.D.Digest.bytes proposal.payload)
     fronts

@@ -13,4 +13,4 @@ returns-clause-bytes g c =
     c.in_ok-put_u8.ensures.ok
     (appended c.put_u8.new.self.items c.put_u32.new.self.items c.write_signature.new.out.items signer (front ++ own)
     (c.in_ok-put_u32.ensures.ok ∙ ap (λ n. c.put_u8.new.self.items ++ to_be_bytes w32 n) c.get.ensures)
-    (appended c.put_u32.new.self.items c.put_round.new.out.items c.write_signature.new.out.items front own c.in_ok-put_round.ensures c.in_ok-write_signature.ensures.written))
+    (appended c.put_u32.new.self.items c.put_round.new.out.items c.write_signature.new.out.items front own c.in_ok-put_round.ensures.written c.in_ok-write_signature.ensures.written))

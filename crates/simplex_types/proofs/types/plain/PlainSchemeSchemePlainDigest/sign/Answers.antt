@@ -1,14 +1,14 @@
 use Rattle.std.proofs.Common.{◌∙◌, ap, refl, get_or, arith}
 use Rattle.std.proofs.lemmas.Option.{slice_get_read}
-use Rattle.simplex_types.proofs.types.plain.PlainSchemeScheme.sign.Goals as goal
+use Rattle.simplex_types.proofs.types.plain.PlainSchemeSchemePlainDigest.sign.Goals as goal
 
 pub index-key-requires : goal.index-key-requires
-index-key-requires g c =
+index-key-requires c =
     let self = c.args.self.now in
     omega (arith, self.signer_is_member c.in-Some.signer c.in-Some.is, c.get.ensures, self.keys.ok)
 
 pub returns-clause-signed : goal.returns-clause-signed
-returns-clause-signed g c =
+returns-clause-signed c =
     let self = c.args.self.now in
     let keys = self.keys.items in
     let signer = c.in-Some.signer in
@@ -19,5 +19,5 @@ returns-clause-signed g c =
       is_me = c.in-Some.is;
       key = key;
       is_key = slice_get_read keys _ signer key refl (self.signer_is_member signer c.in-Some.is) at_signer;
-      good = c.in_ok-new.ensures;
+      good = (refl, refl);
     }
