@@ -16,6 +16,7 @@ pub mod driver;
 pub mod early;
 pub mod faults;
 pub mod fetches;
+pub mod inbox;
 pub mod journal;
 pub mod ledger;
 pub mod message;

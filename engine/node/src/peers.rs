@@ -2,9 +2,11 @@
 //!
 //! What one member sends another goes over the connection that the sender began. Who accepts one sends 32 random bytes first; who began it
 //! signs them, so that nobody else's greeting can be played again. Queues are bounded, and what does not fit is dropped: all of it can be
-//! asked for again. So a slow peer holds up no other.
+//! asked for again. So a slow peer holds up no other, nor does one that floods: each has a queue of its own at the thread that owns the
+//! member ([`crate::inbox`]).
 
 use crate::crypto::{Keys, Signature};
+use crate::inbox::Inbox;
 use crate::message::{LONGEST, Message};
 use crate::metrics::Counters;
 use crate::settings::{Outcome, Settings};
@@ -34,16 +36,6 @@ const FRESH: Duration = Duration::from_secs(1);
 const GREETING: Duration = Duration::from_secs(2);
 /// How many connections each member may have open here.
 const CONNECTIONS_A_MEMBER: usize = 4;
-
-/// What comes to the thread that owns the member.
-pub enum Event {
-    /// A message, verified as far as it can be without the member, and from whom.
-    Message(Participant, Message),
-    /// The time of a build has passed.
-    Paced(simplex_view_state::Context),
-    /// The process is to end.
-    Stop,
-}
 
 /// What the reading threads know of the member.
 #[derive(Default)]
@@ -92,7 +84,7 @@ struct Reader {
     keys: Arc<Keys>,
     horizon: Arc<Horizon>,
     counters: Arc<Counters>,
-    events: SyncSender<Event>,
+    inbox: Arc<Inbox>,
     epoch: Epoch,
     term_length: u64,
 }
@@ -115,7 +107,7 @@ impl Peers {
         keys: &Arc<Keys>,
         horizon: &Arc<Horizon>,
         counters: &Arc<Counters>,
-        events: &SyncSender<Event>,
+        inbox: &Arc<Inbox>,
     ) -> Outcome<Peers> {
         let address = settings.members[settings.index as usize].address;
         let listener = TcpListener::bind(address).map_err(|error| format!("{address}: {error}"))?;
@@ -123,7 +115,7 @@ impl Peers {
             keys: keys.clone(),
             horizon: horizon.clone(),
             counters: counters.clone(),
-            events: events.clone(),
+            inbox: inbox.clone(),
             epoch: Epoch::new(settings.protocol.epoch),
             term_length: u64::from(settings.protocol.term_length.get()),
         });
@@ -297,7 +289,7 @@ fn read_from(mut stream: TcpStream, reader: &Reader) -> io::Result<()> {
     stream.get_ref().set_read_timeout(None)?;
     loop {
         let message = read_message(&mut stream)?;
-        if reader.is_of_use(&message) && reader.events.send(Event::Message(from, message)).is_err() {
+        if reader.is_of_use(&message) && !reader.inbox.put(from, message) {
             return Ok(());
         }
     }

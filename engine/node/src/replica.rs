@@ -12,10 +12,11 @@ use crate::driver::{Driver, Input, Order, Output};
 use crate::early::Early;
 use crate::faults::Fault;
 use crate::fetches::{Fetches, Wanted};
+use crate::inbox::{Event, Inbox};
 use crate::journal::Journal;
 use crate::message::Message;
 use crate::metrics::{Counters, resident_kb};
-use crate::peers::{Event, Horizon, Peers};
+use crate::peers::{Horizon, Peers};
 use crate::settings::{Outcome, Settings};
 use crate::trace::Trace;
 use crate::vote::{Vote, kind_of, split_subject};
@@ -24,7 +25,6 @@ use std::collections::{BTreeMap, BTreeSet};
 use std::fs::File;
 use std::sync::Arc;
 use std::sync::atomic::Ordering::Relaxed;
-use std::sync::mpsc::{Receiver, RecvTimeoutError, SyncSender};
 use std::thread;
 use std::time::{Duration, Instant};
 use tracing::{info, warn};
@@ -52,10 +52,8 @@ pub struct Parts<A> {
     pub counters: Arc<Counters>,
     /// The other members.
     pub peers: Peers,
-    /// Where events are sent to this thread.
-    pub sender: SyncSender<Event>,
-    /// Where they come.
-    pub events: Receiver<Event>,
+    /// What waits for this thread.
+    pub inbox: Arc<Inbox>,
     /// The member.
     pub driver: Driver,
     /// Its journal.
@@ -124,20 +122,15 @@ impl<A: Application> Replica<A> {
                 Duration::ZERO
             };
             let idle = Instant::now();
-            let first = self.parts.events.recv_timeout(wait);
+            let mut next = self.parts.inbox.take(wait);
             self.parts.counters.idle_us.fetch_add(idle.elapsed().as_micros() as u64, Relaxed);
-            let mut next = match first {
-                Ok(event) => Some(event),
-                Err(RecvTimeoutError::Timeout) => None,
-                Err(RecvTimeoutError::Disconnected) => return Ok(()),
-            };
             for _ in 0..MOST_EVENTS {
                 match next {
                     Some(Event::Stop) => return self.stop(),
                     Some(event) => self.take(event)?,
                     None => break,
                 }
-                next = self.parts.events.try_recv().ok();
+                next = self.parts.inbox.take(Duration::ZERO);
             }
             self.watch_leader()?;
             is_settled = self.settle()?;
@@ -147,6 +140,7 @@ impl<A: Application> Replica<A> {
     }
 
     fn stop(mut self) -> Outcome {
+        self.parts.inbox.close();
         self.cast_votes()?;
         self.parts.blocks.sync()?;
         self.parts.journal.sync()?;
@@ -487,10 +481,10 @@ impl<A: Application> Replica<A> {
         if pace == 0 {
             return self.build_now(&context);
         }
-        let sender = self.parts.sender.clone();
+        let inbox = self.parts.inbox.clone();
         thread::Builder::new().name("pace".into()).spawn(move || {
             thread::sleep(Duration::from_millis(pace));
-            let _ = sender.send(Event::Paced(context));
+            inbox.tell(Event::Paced(context));
         })?;
         Ok(())
     }

@@ -4,11 +4,12 @@ use crate::blocks::Blocks;
 use crate::clock::Clock;
 use crate::crypto::Keys;
 use crate::driver::Driver;
+use crate::inbox::Inbox;
 use crate::journal::{self, Journal};
 use crate::ledger::Ledger;
 use crate::message::bytes_of;
 use crate::metrics::{self, Counters};
-use crate::peers::{Event, Horizon, Peers};
+use crate::peers::{Horizon, Peers};
 use crate::replica::{Parts, Replica};
 use crate::settings::{Outcome, Settings, genesis};
 use crate::vote::split_subject;
@@ -18,11 +19,7 @@ use simplex_view_state::{
 use std::fs::{self, File, TryLockError};
 use std::path::Path;
 use std::sync::Arc;
-use std::sync::mpsc::{SyncSender, sync_channel};
 use tracing::info;
-
-/// How many events wait at most. Whoever reads from a peer waits then, so that the peer does.
-const EVENTS: usize = 8192;
 
 /// A life begins with what lies far below its last finalized view taken away.
 const PRUNED: Cut = Cut {
@@ -31,7 +28,7 @@ const PRUNED: Cut = Cut {
 };
 
 /// A node that is ready to run, and where it is told of events.
-pub fn open(settings: Settings) -> Outcome<(Replica<Ledger>, SyncSender<Event>)> {
+pub fn open(settings: Settings) -> Outcome<(Replica<Ledger>, Arc<Inbox>)> {
     fs::create_dir_all(&settings.data)?;
     let lock = lock(&settings.data)?;
     let keys = Arc::new(Keys::read(&settings)?);
@@ -58,8 +55,8 @@ pub fn open(settings: Settings) -> Outcome<(Replica<Ledger>, SyncSender<Event>)>
     let horizon = Arc::new(Horizon::default());
     let views = driver.views();
     horizon.moved(views.current, views.min_active);
-    let (sender, events) = sync_channel(EVENTS);
-    let peers = Peers::start(&settings, &keys, &horizon, &counters, &sender)?;
+    let inbox = Arc::new(Inbox::new(settings.members.len()));
+    let peers = Peers::start(&settings, &keys, &horizon, &counters, &inbox)?;
     let application = Ledger::open(&settings.data, first_block(&settings, &floor), u64::from(settings.index) << 32)?;
     let (cut, entries) = kept.map_or((0, 0), |it| (it.cut, it.stored.entries.get()));
     info!(
@@ -76,15 +73,14 @@ pub fn open(settings: Settings) -> Outcome<(Replica<Ledger>, SyncSender<Event>)>
         horizon,
         counters,
         peers,
-        sender: sender.clone(),
-        events,
+        inbox: inbox.clone(),
         driver,
         journal,
         application,
         clock,
         lock,
     })?;
-    Ok((replica, sender))
+    Ok((replica, inbox))
 }
 
 /// Takes a folder for this process alone: two that vote with one key could contradict each other.

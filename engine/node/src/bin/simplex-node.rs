@@ -3,7 +3,7 @@
 use clap::{Parser, Subcommand};
 use signal_hook::consts::{SIGINT, SIGTERM};
 use signal_hook::iterator::Signals;
-use simplex_node::peers::Event;
+use simplex_node::inbox::Event;
 use simplex_node::settings::{Outcome, Settings};
 use simplex_node::{crypto, start};
 use std::fs;
@@ -70,11 +70,11 @@ fn write_floor(config: &std::path::Path, out: &std::path::Path) -> Outcome {
 }
 
 fn run(config: &std::path::Path) -> Outcome {
-    let (replica, events) = start::open(Settings::read(config)?)?;
+    let (replica, inbox) = start::open(Settings::read(config)?)?;
     let mut signals = Signals::new([SIGINT, SIGTERM])?;
     thread::Builder::new().name("signals".into()).spawn(move || {
         for _ in signals.forever() {
-            let _ = events.send(Event::Stop);
+            inbox.tell(Event::Stop);
         }
     })?;
     replica.run()
