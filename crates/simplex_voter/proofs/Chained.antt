@@ -10,7 +10,7 @@ use Rattle.simplex_voter.specs.Facts.{StateFacts, Elect, round_at}
 use Rattle.simplex_voter.specs.Windows.{is_notarized}
 use Rattle.simplex_voter.specs.Payloads.{is_voted_ancestor, can_chain_on, is_bound_to, voted_payload, served_payload, optimistic_ancestry_payload}
 use Rattle.simplex_voter.specs.Chains.{payload_of, unrefused_payload, basis_of, basis_at}
-use Rattle.simplex_voter.proofs.Payloads.{can_chain_on-below, optimistic_payload-is}
+use Rattle.simplex_voter.proofs.Payloads.{can_chain_on-below, optimistic_ancestry_payload-is}
 
 -- a vote that was bound to this payload of its parent, if to one, stands on another
 abbrev pub holds : {D : Type 0} → (D → D → Bool) → Option D → D → Bool
@@ -66,7 +66,7 @@ module _ {K L D : Type 0} (same : D → D → Bool) (elect : Elect L) (x : State
   rests (Vote p bound) = option_and_then (λ d. cond (holds same bound d) (Some p.payload) None) (offers p.parent)
 
   offers-rests : (v : ℕ) → offers v ≡ option_and_then rests (basis_at elect x v)
-  offers-rests v = optimistic_payload-is same elect x v ∙ by_zero (v == 0)
+  offers-rests v = optimistic_ancestry_payload-is same elect x v ∙ by_zero (v == 0)
     where
       certain : (o : Option D) → o ≡ option_and_then rests (option_map (λ d. Certain d) o)
       certain None = refl

@@ -8,7 +8,7 @@ use Rattle.simplex_sorted.specs.ByTerm as by
 use Rattle.simplex_sorted.proofs.Gaps.{any_last}
 use Rattle.simplex_voter.specs.Facts.{StateFacts}
 use Rattle.simplex_voter.specs.Gaps.{is_covered, IsGapless, IsFirstGap, first_unnullified_view}
-use Rattle.simplex_voter.proofs.Gaps.{first_gap-is}
+use Rattle.simplex_voter.proofs.Gaps.{first_unnullified_view-is}
 
 mapped_some : {A B : Type 0} (f : A → B) (o : Option A) → is_some (option_map f o) ≡ is_some o
 mapped_some f None = refl
@@ -36,4 +36,4 @@ module _ {K L D : Type 0} (x : StateFacts K L D) (m : by.TermMap (Unit {0})) (sh
 
   -- the gap that the search finds is the first one
   pub first_found : (p v : ℕ) (found : Option ℕ) → 0 < x.terms.term_length → MatchOption found (by.Gapless m p v) (by.IsFirstGap m p v) → found ≡ first_unnullified_view x p v
-  first_found p v found some is = same_gap p v found (first_unnullified_view x p v) is (first_gap-is x p v some)
+  first_found p v found some is = same_gap p v found (first_unnullified_view x p v) is (first_unnullified_view-is x p v some)

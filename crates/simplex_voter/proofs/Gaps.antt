@@ -184,9 +184,9 @@ module _ {K L D : Type 0} (x : StateFacts K L D) where
         ];
       }
 
-  pub first_gap-is : (p v : ℕ) → 0 < length → MatchOption (first_unnullified_view x p v) (IsGapless x p v) (IsFirstGap x p v)
+  pub first_unnullified_view-is : (p v : ℕ) → 0 < length → MatchOption (first_unnullified_view x p v) (IsGapless x p v) (IsFirstGap x p v)
   unfolding first_unnullified_view
-  first_gap-is p v some = found_gap p v some _ refl
+  first_unnullified_view-is p v some = found_gap p v some _ refl
 
   pub gapless_joins : (p v w : ℕ) → IsGapless x p v → is_covered x v ≡ true → IsGapless x v w → IsGapless x p w
   gapless_joins p v w before here after u low high = elim (cases_lt u v) [

@@ -113,9 +113,9 @@ module _ {K L D : Type 0} (same : D → D → Bool) (elect : Elect L) (x : State
   one_less (suc m) some = (m, refl)
 
   -- the rule, as it is read
-  pub optimistic_payload-is : (v : ℕ) → optimistic_ancestry_payload same elect x v ≡ payload_by same elect x (optimistic_ancestry_payload same elect x) v
+  pub optimistic_ancestry_payload-is : (v : ℕ) → optimistic_ancestry_payload same elect x v ≡ payload_by same elect x (optimistic_ancestry_payload same elect x) v
   unfolding optimistic_ancestry_payload
-  optimistic_payload-is v = by_same (payload_within same elect x (length x.rounds)) (optimistic_ancestry_payload same elect x) v (λ p low tracked.
+  optimistic_ancestry_payload-is v = by_same (payload_within same elect x (length x.rounds)) (optimistic_ancestry_payload same elect x) v (λ p low tracked.
       let fewer = rank-below x.rounds p v low tracked in
       let all = rank-le x.rounds v in
       let less = one_less (length x.rounds) (omega arith) in

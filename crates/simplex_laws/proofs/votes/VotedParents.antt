@@ -14,7 +14,7 @@ use Rattle.simplex_voter.specs.Gaps.{IsGapless, IsFirstGap, is_gapless, first_un
 use Rattle.simplex_voter.specs.Windows.{is_term_start}
 use Rattle.simplex_voter.specs.Payloads.{explicit_ancestry_payload, optimistic_ancestry_payload, is_handoff_parent}
 use Rattle.simplex_voter.specs.Parents.{at_view, has_valid_parent_span, ancestry_payload_for_child, parent_payload_for, explicit_below, highest_explicit, preferred_at_start, find_parent, handoff, is_payload, is_parent, leads, holds_binding, verification_matches}
-use Rattle.simplex_voter.proofs.Gaps.{and_parts, first_gap-is}
+use Rattle.simplex_voter.proofs.Gaps.{and_parts, first_unnullified_view-is}
 use Rattle.simplex_laws.proofs.lists.Splits.{Contains-cons_rest}
 
 -- one of a list that passes
@@ -42,7 +42,7 @@ module _ {K L D : Type 0} (x : StateFacts K L D) (v : ℕ) (some : 0 < x.terms.t
   Reaches p = (p < v) × IsGapless x p v
 
   gapless_so : (p : ℕ) → is_gapless x p v ≡ true → IsGapless x p v
-  gapless_so p is = by_gap (first_unnullified_view x p v) refl (first_gap-is x p v some) is
+  gapless_so p is = by_gap (first_unnullified_view x p v) refl (first_unnullified_view-is x p v some) is
     where
       by_gap : (o : Option ℕ) → first_unnullified_view x p v ≡ o → MatchOption o (IsGapless x p v) (IsFirstGap x p v) → is_none o ≡ true → IsGapless x p v
       by_gap None none found is = found

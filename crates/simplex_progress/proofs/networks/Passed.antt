@@ -12,7 +12,7 @@ use Rattle.simplex_round.specs.Round.{RoundFacts, leader_at, signs_as}
 use Rattle.simplex_voter.specs.Facts.{StateFacts, Elect, round_at}
 use Rattle.simplex_voter.specs.Gaps.{IsGapless, IsFirstGap, is_gapless, first_unnullified_view}
 use Rattle.simplex_voter.specs.Refusals.{is_too_large}
-use Rattle.simplex_voter.proofs.Gaps.{first_gap-is}
+use Rattle.simplex_voter.proofs.Gaps.{first_unnullified_view-is}
 use Rattle.std.specs.Prelude.{MatchOption, is_none}
 use Rattle.simplex_member.specs.Calls.{CallFacts, SetProposal, Proposed, ConstructNullify, AddNullification}
 use Rattle.simplex_member.specs.Runs.{StepFacts, Calls}
@@ -116,7 +116,7 @@ within (y ∷ xs) (suc i) x is = let rest = within xs i x is in omega (arith, re
 
 module _ {K L D : Type 0} (x : StateFacts K L D) (p v : ℕ) (some : 0 < x.terms.term_length) where
   gapless_each : is_gapless x p v ≡ true → IsGapless x p v
-  gapless_each is = by_gap (first_unnullified_view x p v) (first_gap-is x p v some) is
+  gapless_each is = by_gap (first_unnullified_view x p v) (first_unnullified_view-is x p v some) is
     where
       by_gap : (o : Option ℕ) → MatchOption o (IsGapless x p v) (IsFirstGap x p v) → is_none o ≡ true → IsGapless x p v
       by_gap None none is = none

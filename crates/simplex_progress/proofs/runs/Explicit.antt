@@ -13,7 +13,7 @@ use Rattle.simplex_round.specs.Round.{RoundFacts, new_round, is_certified, is_ju
 use Rattle.simplex_voter.specs.Facts.{StateFacts, round_at, round_of, round_number}
 use Rattle.simplex_voter.specs.Gaps.{IsGapless, IsFirstGap, is_gapless, first_unnullified_view}
 use Rattle.simplex_voter.specs.Payloads.{certified_payload, explicit_ancestry_payload}
-use Rattle.simplex_voter.proofs.Gaps.{first_gap-is, or_right}
+use Rattle.simplex_voter.proofs.Gaps.{first_unnullified_view-is, or_right}
 use Rattle.simplex_laws.specs.Traces.{TraceEvent}
 use Rattle.simplex_laws.specs.Shows.{verdict_of}
 use Rattle.simplex_laws.proofs.lives.TimingOut.{TimesOut}
@@ -129,7 +129,7 @@ any_known test (w ∷ us) u known is = by_view (λ h. any_known test us u h is) 
     by_view behind false apart known = or_right (test w) _ (behind known)
 
 gapless_test : {K L D : Type 0} (x : StateFacts K L D) (p v : ℕ) → 0 < x.terms.term_length → IsGapless x p v → is_gapless x p v ≡ true
-gapless_test x p v some gapless = by_gap (first_unnullified_view x p v) (first_gap-is x p v some)
+gapless_test x p v some gapless = by_gap (first_unnullified_view x p v) (first_unnullified_view-is x p v some)
   where
     by_gap : (o : Option ℕ) → MatchOption o (IsGapless x p v) (IsFirstGap x p v) → is_none o ≡ true
     by_gap None none = refl

@@ -19,7 +19,7 @@ use Rattle.simplex_voter.specs.Gaps.{IsGapless, IsFirstGap, first_unnullified_vi
 use Rattle.simplex_voter.specs.Payloads.{certified_payload, explicit_ancestry_payload}
 use Rattle.simplex_voter.specs.Refusals.{is_too_large, has_late_deadline}
 use Rattle.simplex_voter.proofs.Elsewhere.{round_of-with_round}
-use Rattle.simplex_voter.proofs.Gaps.{or_right, first_gap-is, covering_stays}
+use Rattle.simplex_voter.proofs.Gaps.{or_right, first_unnullified_view-is, covering_stays}
 use Rattle.simplex_record.proofs.Rounds.{round_put}
 use Rattle.simplex_progress.proofs.states.Standing.{Replica, Stands, round_kept, round_here}
 use Rattle.simplex_progress.proofs.runs.Starts.{no_gate}
@@ -169,7 +169,7 @@ module _ {K L D : Type 0} (length : ℕ) (l : Replica D) where
         below = w.low;
         above = w.above;
         explicit = w.explicit;
-        gapless = by_gap (first_unnullified_view x l.parent l.view) (first_gap-is x l.parent l.view (subst (λ n. 0 < n) (sym w.terms) some));
+        gapless = by_gap (first_unnullified_view x l.parent l.view) (first_unnullified_view-is x l.parent l.view (subst (λ n. 0 < n) (sym w.terms) some));
         ungated = no_gate x l.view start;
         on_time = w.on_time;
         small = w.small;

@@ -9,7 +9,7 @@ use Rattle.simplex_voter.proofs.voter.state.State.accept_proposal.Goals as goal
 pub returns-clause-answer : goal.returns-clause-answer
 returns-clause-answer g c =
     if_ok c.take_proposal.result
-    (λ first is. is ∙ ap (λ y. is_new_proposal (round_of y c.args.view)) c.in_ok-prepare.ensures.prepared ∙ ap is_new_proposal (round_of-prepared g.L.Elector.elect c.args.self.now c.args.view))
+    (λ first is. is ∙ ap (λ y. is_new_proposal (round_of y c.args.view)) c.in_ok-prepare_optimistic_successor.ensures.prepared ∙ ap is_new_proposal (round_of-prepared g.L.Elector.elect c.args.self.now c.args.view))
     c.take_proposal.ensures.answer
 
 pub returns-clause-setup : goal.returns-clause-setup

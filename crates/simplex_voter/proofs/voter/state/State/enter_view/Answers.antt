@@ -18,5 +18,5 @@ pub returns-clause-entered : goal.returns-clause-entered
 returns-clause-entered g c =
     let above = not_le _ _ c.if-le.ensures in
     rw (← c.self.view_is)
-    (entered_by _ _ c.self.view_is c.args.view c.args.now c.args.deadlines.now _ _ c.in_ok-enter.ensures.entered
+    (entered_by _ _ c.self.view_is c.args.view c.args.now c.args.deadlines.now _ _ c.in_ok-enter_view.ensures.entered
     (c.requires.deadlines (rw (← c.self.view_is) above) ∙ ap (λ x. deadlines_at x c.args.now) (sym c.self.view_is)) above (λ e. refl))

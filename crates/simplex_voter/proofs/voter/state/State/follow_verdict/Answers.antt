@@ -3,15 +3,15 @@ use Rattle.simplex_voter.proofs.Judging.{next_enterable, next_countable, setup_j
 use Rattle.simplex_voter.proofs.Sliding.{same_setup_joins}
 use Rattle.simplex_voter.proofs.voter.state.State.follow_verdict.Goals as goal
 
-pub enter-requires-clause-in_range : goal.enter-requires-clause-in_range
-enter-requires-clause-in_range g c = next_enterable c.args.view c.after_notarized-next.result c.after_notarized-next.ensures.next c.after_notarized-next.ensures.in_range
+pub enter_view-requires-clause-in_range : goal.enter_view-requires-clause-in_range
+enter_view-requires-clause-in_range g c = next_enterable c.args.view c.after_notarized-next.result c.after_notarized-next.ensures.next c.after_notarized-next.ensures.in_range
 
-pub enter-requires-clause-deadlines : goal.enter-requires-clause-deadlines
-enter-requires-clause-deadlines g c =
+pub enter_view-requires-clause-deadlines : goal.enter_view-requires-clause-deadlines
+enter_view-requires-clause-deadlines g c =
     deadlines_judged g.L.Elector.elect c.args.self.now c.note_moment.new.self c.judge.new.self c.args.view c.args.now c.args.success c.note_moment.ensures c.in_ok-judge.ensures.judged c.after_notarized-next.result c.args.deadlines.now c.after_notarized-next.ensures.next c.if-not-success.false c.requires.deadlines
 
-pub wake-requires : goal.wake-requires
-wake-requires g c = next_countable c.args.view c.after_notarized-next.ensures.in_range
+pub wake_certification_child-requires : goal.wake_certification_child-requires
+wake_certification_child-requires g c = next_countable c.args.view c.after_notarized-next.ensures.in_range
 
 pub returns-then-not-success-clause-taken : goal.returns-then-not-success-clause-taken
 returns-then-not-success-clause-taken g c = verdict_refused g.L.Elector.elect c.args.self.now c.note_moment.new.self c.judge.new.self c.args.view c.args.now c.args.success c.note_moment.ensures c.in_ok-judge.ensures.judged c.if-not-success.true c.trigger.new.self c.trigger.ensures.triggered
@@ -21,12 +21,12 @@ returns-then-not-success-clause-setup g c =
     setup_triggered c.args.self.now c.judge.new.self c.trigger.new.self c.args.view c.args.now FailedCertification c.trigger.ensures.triggered
     (setup_judged g.L.Elector.elect c.args.self.now c.note_moment.new.self c.judge.new.self c.args.view c.args.now c.args.success c.note_moment.ensures c.in_ok-judge.ensures.judged)
 
-pub returns-in_err-enter-clause-setup : goal.returns-in_err-enter-clause-setup
-returns-in_err-enter-clause-setup g c = same_setup_joins _ _ _ (setup_judged g.L.Elector.elect c.args.self.now c.note_moment.new.self c.judge.new.self c.args.view c.args.now c.args.success c.note_moment.ensures c.in_ok-judge.ensures.judged) c.enter_view.ensures.setup
+pub returns-in_err-enter_view-clause-setup : goal.returns-in_err-enter_view-clause-setup
+returns-in_err-enter_view-clause-setup g c = same_setup_joins _ _ _ (setup_judged g.L.Elector.elect c.args.self.now c.note_moment.new.self c.judge.new.self c.args.view c.args.now c.args.success c.note_moment.ensures c.in_ok-judge.ensures.judged) c.enter_view.ensures.setup
 
 pub returns-clause-taken : goal.returns-clause-taken
 returns-clause-taken g c =
-    verdict_kept g.L.Elector.elect c.args.self.now c.note_moment.new.self c.judge.new.self c.args.view c.args.now c.args.success c.note_moment.ensures c.in_ok-judge.ensures.judged c.wake_certification_child.result c.if-not-success.false c.enter_view.new.self c.wake_certification_child.new.self c.after_notarized-next.result c.after_notarized-next.ensures.next c.in_ok-enter.ensures.entered c.wake_certification_child.ensures.woken
+    verdict_kept g.L.Elector.elect c.args.self.now c.note_moment.new.self c.judge.new.self c.args.view c.args.now c.args.success c.note_moment.ensures c.in_ok-judge.ensures.judged c.wake_certification_child.result c.if-not-success.false c.enter_view.new.self c.wake_certification_child.new.self c.after_notarized-next.result c.after_notarized-next.ensures.next c.in_ok-enter_view.ensures.entered c.wake_certification_child.ensures.woken
 
 pub returns-clause-setup : goal.returns-clause-setup
 returns-clause-setup g c =

@@ -7,6 +7,6 @@ loop-last-preserved g c =
     let below = is_below _ _ c.loop-last-test.ensures in
     record {
       reached = omega (arith, below, c.next-next.ensures);
-      left = slid_next _ _ _ _ _ below c.next-next.ensures c.in_ok-inherit.ensures.inherited ∙ c.loop-last.invariant.left;
-      setup = same_setup_joins _ _ _ c.loop-last.invariant.setup c.in_ok-inherit.ensures.setup;
+      left = slid_next _ _ _ _ _ below c.next-next.ensures c.in_ok-inherit_leader.ensures.inherited ∙ c.loop-last.invariant.left;
+      setup = same_setup_joins _ _ _ c.loop-last.invariant.setup c.in_ok-inherit_leader.ensures.setup;
     }
