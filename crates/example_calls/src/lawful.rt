@@ -26,7 +26,8 @@ pub fn blocks_agree<S: Scheme<D>, L: Elector<S>, D: Digest>(
     mine: &Proposal<D>,
     theirs: &Proposal<D>,
 ) -> bool
-    ensures { OfEachNetwork S.PublicKey D.eq L.elect (λ term_length network.
+    ensures answer { result ≡ D.eq mine.now.payload theirs.now.payload }
+    ensures agreed { OfEachNetwork S.PublicKey D.eq L.elect (λ term_length network.
         Backed network (Finalize mine.now) → Backed network (Finalize theirs.now)
         → mine.now.round.view ≡ theirs.now.round.view → result ≡ true) }
 {

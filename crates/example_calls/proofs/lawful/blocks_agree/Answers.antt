@@ -1,8 +1,8 @@
 use Rattle.std.proofs.Common.{ap, ◌∙◌, inr}
 use Rattle.example_calls.proofs.lawful.blocks_agree.Goals as goal
 
-pub returns : goal.returns
-returns g c term_length network is backed_mine backed_theirs same =
+pub returns-clause-agreed : goal.returns-clause-agreed
+returns-clause-agreed g c term_length network is backed_mine backed_theirs same =
     let mine = c.args.mine.now in
     let theirs = c.args.theirs.now in
     let one = c.agreement.ensures.one_proposal term_length network is mine theirs (inr backed_mine) (inr backed_theirs) same in
