@@ -40,8 +40,8 @@ from preload import compiled, limited
 
 FAULTS_SHOWN = 10
 LEAST = {
-    "requests refused to a state": 1200, "requests refused to a member": 2900, "requests refused to a run": 1100,
-    "requests refused to a resolver's state": 1200, "requests refused to a kept resolver": 1200, "members restarted": 550,
+    "requests refused to a state": 1060, "requests refused to a member": 2900, "requests refused to a run": 1070,
+    "requests refused to a resolver's state": 1200, "requests refused to a kept resolver": 1200, "members restarted": 400,
     "calls asked again": 130, "restarts begun again": 330, "resumes begun again": 700, "recoveries begun again": 600,
     "resolvers begun again": 470, "best asked again": 130, "sets of a beginning of the effects": 1200,
     "requests that a replay did without": 80,

@@ -40,7 +40,7 @@ REPLY = re.compile(r"[a-zA-Z][A-Za-z-]*( [A-Za-z0-9_:;-]+)*|-|[0-9a-f]+")
 FAULTS_SHOWN = 10
 REFUSED, SHORTENED = b"x", b"s"
 LEAST_REFUSED = {
-    "transcripts": 115, "requests for memory": 3400, "reads": 1300, "writes": 4200, "writes that take nothing": 580,
+    "transcripts": 115, "requests for memory": 3200, "reads": 1300, "writes": 4200, "writes that take nothing": 580,
     "short reads and writes": 320, "interrupted reads": 110, "interrupted writes": 90,
 }
 LEAST_ASKED = {"inputs": 3400, "misused commands": 20, "closed, full and other files": 10}
