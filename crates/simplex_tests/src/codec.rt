@@ -118,7 +118,10 @@ fn certificate_refusal(alloc: Global, bytes: &[u8]) -> Option<DecodeError> {
 
 /// Why the bytes are no artifact, if they are none.
 fn artifact_refusal(alloc: Global, bytes: &[u8]) -> Option<DecodeError> {
-    decode_artifact::<PlainScheme, PlainDigest>(alloc, bytes).err()
+    match decode_artifact::<PlainScheme, PlainDigest>(alloc, bytes) {
+        Ok(_) => None,
+        Err(refusal) => Some(refusal),
+    }
 }
 
 /// Whether the certificate of the bytes is read, and encodes to them again.
@@ -216,11 +219,10 @@ fn is_written(alloc: Global, artifact: &PlainArtifact, bytes: &[u8]) -> Result<b
 /// Whether the artifact is read back from its bytes.
 fn artifact_is_read_back(alloc: Global, artifact: &PlainArtifact) -> Result<bool, Fail> {
     let bytes = encode_artifact(alloc, artifact)?;
-    is_written(
-        alloc,
-        &decode_artifact(alloc, bytes.as_slice())?,
-        bytes.as_slice(),
-    )
+    match decode_artifact::<PlainScheme, PlainDigest>(alloc, bytes.as_slice()) {
+        Ok(read) => is_written(alloc, &read, bytes.as_slice()),
+        Err(refusal) => Err(refusal.into()),
+    }
 }
 
 #[test]

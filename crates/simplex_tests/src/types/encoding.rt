@@ -76,8 +76,10 @@ fn is_copied_with_its_view(
     artifact: &PlainArtifact,
     view: u64,
 ) -> Result<bool, Fail> {
-    let copy = artifact.clone(alloc)?;
-    Ok(artifact.view() == View::new(view) && copy.view() == View::new(view))
+    match artifact.clone(alloc) {
+        Ok(copy) => Ok(artifact.view() == View::new(view) && copy.view() == View::new(view)),
+        Err(fault) => Err(fault.into()),
+    }
 }
 
 #[test]
