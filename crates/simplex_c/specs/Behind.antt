@@ -1,8 +1,9 @@
 -- What lies behind a handle.
-use Rattle.std.specs.Prelude.{◌≡◌}
+use Rattle.std.specs.Prelude.{◌≡◌, Option, Some, None}
+use Rattle.std.specs.Coded.{Coded, coded_option}
 use base.Fml.{Fml, ftrue, fex, fsep}
 use base.Fraction.{full_share}
-use denote.RawPtr.{Ptr, block_ptr, null_ptr, Testable, lies_at}
+use denote.RawPtr.{Ptr, block_ptr, null_ptr, Testable, in_block, lies_at}
 use Rattle.std.specs.Global.{Global}
 use Rattle.std_alloc.specs.Box.Ownership.{box_owns}
 use Rattle.std_heap.specs.contracts.impls.GlobalAllocator.TheImpl as global
@@ -31,6 +32,19 @@ owned_at alloc null_ptr now = ftrue
 owned_at alloc (block_ptr b o) now =
     fsep (is_so (Testable (block_ptr b o))) (box_owns (global.ghosts.dealloc_token alloc) held.the_row (block_ptr b o) now)
 
+-- the allocator of the program: it has no bytes, and there is one
+abbrev pub heap : Global
+heap = record { memory = record { seal = tt } }
+
+-- what a start has written: nothing yet, and there may be anything; or a handle that is not null
+abbrev pub handed_at : Ptr → Option Held → Fml
+handed_at at None = ftrue
+handed_at at (Some now) = in_block at (owned_at heap at now)
+
+-- how a place of a handle stores what is behind it
+abbrev pub coded_held : Coded (Option Held)
+coded_held = coded_option held.the_row.coded
+
 -- the same of a resolver
 abbrev pub resolver_at : Ptr → HeldResolver → Fml
 resolver_at null_ptr now = ftrue
@@ -44,6 +58,13 @@ abbrev pub resolver_owned_at : Global → Ptr → HeldResolver → Fml
 resolver_owned_at alloc null_ptr now = ftrue
 resolver_owned_at alloc (block_ptr b o) now =
     fsep (is_so (Testable (block_ptr b o))) (box_owns (global.ghosts.dealloc_token alloc) resolver.the_row (block_ptr b o) now)
+
+abbrev pub resolver_handed_at : Ptr → Option HeldResolver → Fml
+resolver_handed_at at None = ftrue
+resolver_handed_at at (Some now) = in_block at (resolver_owned_at heap at now)
+
+abbrev pub coded_resolver : Coded (Option HeldResolver)
+coded_resolver = coded_option resolver.the_row.coded
 
 -- nothing was changed, and this was read
 abbrev pub IsRead : {A : Type 0} → A → A → Type 0 → Type 0

@@ -1,33 +1,50 @@
 -- What C is answered of a start, a resume or a restart.
-use Rattle.std.specs.Prelude.{◌≡◌, ◌⊎◌, ◌≤◌, ℕ, List, Result}
+use Rattle.std.specs.Prelude.{◌≡◌, ◌⊎◌, ℕ, List, Option, Some, Result}
+use Rattle.std.specs.Option.{IsSomeAnd}
+use Rattle.simplex_c.specs.declared.handles.MemberHandle.{MemberHandle}
+use Rattle.simplex_c.specs.declared.handles.ResolverHandle.{ResolverHandle}
 use Rattle.simplex_flat.specs.declared.flat.FlatSettings.{FlatSettings}
 use Rattle.simplex_flat.specs.declared.held.Held.{Held}
 use Rattle.simplex_flat.specs.declared.held.NotStarted.{NotStarted}
 use Rattle.simplex_flat.specs.declared.opening.NotResumed.{NotResumed}
+use Rattle.simplex_flat.specs.declared.resolving.HeldResolver.{HeldResolver}
 use Rattle.simplex_flat.specs.declared.resolving.NotReplayed.{NotReplayed}
 use Rattle.simplex_flat.specs.declared.shown.FlatRestart.{FlatRestart}
 use Rattle.simplex_flat.specs.declared.shown.FlatStored.{FlatStored}
-use Rattle.simplex_flat.specs.Opening.{IsNotResumedBy, IsRestartedBy}
-use Rattle.simplex_flat.specs.Resolving.{IsNotBegunFrom, not_replayed_number}
-use Rattle.simplex_flat.specs.Starting.{IsNotStarted}
+use Rattle.simplex_flat.specs.Opening.{IsNotResumedBy, IsRestartedBy, IsResumedBy}
+use Rattle.simplex_flat.specs.Resolving.{IsBegunFrom, IsNotBegunFrom, not_replayed_number}
+use Rattle.simplex_flat.specs.Starting.{IsNotStarted, IsStarted}
 use Rattle.simplex_flat.specs.Statuses.{not_resumed_number, not_started_number, restart_number}
 
--- a handle was written, or there was no memory for it; or the start is refused
-abbrev pub IsStartStatus : FlatSettings → List ℕ → List ℕ → ℕ → ℕ → Type 0
-IsStartStatus f leaders bytes now status =
-    (status ≤ 1) ⊎ ((e : NotStarted) × IsNotStarted f leaders bytes now e × (status ≡ not_started_number e))
+-- the handle of this member was written, or there was no memory for it, and nothing was
+abbrev pub IsWritten : Held → ℕ → MemberHandle → MemberHandle → Type 0
+IsWritten held status old new = ((status ≡ 0) × (new.held ≡ Some held)) ⊎ ((status ≡ 1) × (new ≡ old))
 
--- a handle was written, or there was no memory for it; or the resume is refused
-abbrev pub IsResumeStatus : FlatSettings → List ℕ → List ℕ → ℕ → FlatStored → List ℕ → ℕ → Type 0
-IsResumeStatus f leaders bytes now beside journal status =
-    (status ≤ 1) ⊎ ((e : NotResumed) × IsNotResumedBy f leaders bytes now beside journal e × (status ≡ not_resumed_number e))
+abbrev pub IsResolverWritten : HeldResolver → ℕ → ResolverHandle → ResolverHandle → Type 0
+IsResolverWritten held status old new = ((status ≡ 0) × (new.held ≡ Some held)) ⊎ ((status ≡ 1) × (new ≡ old))
+
+-- the handle of the member that is started was written; or there was no memory for it, or the start is refused, and nothing was
+abbrev pub IsStartStatus : FlatSettings → List ℕ → List ℕ → ℕ → ℕ → MemberHandle → MemberHandle → Type 0
+IsStartStatus f leaders bytes now status old new =
+    ((status ≡ 0) × IsSomeAnd new.held (IsStarted f leaders bytes now))
+    ⊎ ((status ≡ 1) × (new ≡ old))
+    ⊎ ((e : NotStarted) × IsNotStarted f leaders bytes now e × (status ≡ not_started_number e) × (new ≡ old))
+
+-- the handle of the member that goes on was written; or there was no memory for it, or the resume is refused, and nothing was
+abbrev pub IsResumeStatus : FlatSettings → List ℕ → List ℕ → ℕ → FlatStored → List ℕ → ℕ → MemberHandle → MemberHandle → Type 0
+IsResumeStatus f leaders bytes now beside journal status old new =
+    ((status ≡ 0) × IsSomeAnd new.held (IsResumedBy f leaders bytes now beside journal))
+    ⊎ ((status ≡ 1) × (new ≡ old))
+    ⊎ ((e : NotResumed) × IsNotResumedBy f leaders bytes now beside journal e × (status ≡ not_resumed_number e) × (new ≡ old))
 
 -- the member is restarted, or that is refused
 abbrev pub IsRestartStatus : Held → FlatRestart → List ℕ → List ℕ → ℕ → Held → Type 0
 IsRestartStatus old f leaders bytes status new =
     (result : Result (Unit {0}) NotStarted) × IsRestartedBy old f leaders bytes result new × (status ≡ restart_number result)
 
--- a handle was written, or there was no memory for it; or no resolver starts
-abbrev pub IsReplayStatus : ℕ → List ℕ → ℕ → Type 0
-IsReplayStatus term_length journal status =
-    (status ≤ 1) ⊎ ((e : NotReplayed) × IsNotBegunFrom term_length journal e × (status ≡ not_replayed_number e))
+-- the handle of the resolver was written; or there was no memory for it, or none starts, and nothing was
+abbrev pub IsReplayStatus : ℕ → List ℕ → ℕ → ResolverHandle → ResolverHandle → Type 0
+IsReplayStatus term_length journal status old new =
+    ((status ≡ 0) × IsSomeAnd new.held (IsBegunFrom term_length journal))
+    ⊎ ((status ≡ 1) × (new ≡ old))
+    ⊎ ((e : NotReplayed) × IsNotBegunFrom term_length journal e × (status ≡ not_replayed_number e) × (new ≡ old))

@@ -1,7 +1,8 @@
 //! The functions that C calls. `held_at` says what a handle is: null, or a pointer to a member that `simplex_member_start` or
-//! `simplex_member_resume` made, and that no other call has. At null each answers the status 15, and does nothing.
+//! `simplex_member_resume` made, and that no other call has. At null each answers the status 15, and does nothing. `handed_at` says
+//! what these two write.
 
-ghost use Rattle.std.specs.Prelude.{◌≡◌, ◌≤◌};
+ghost use Rattle.std.specs.Prelude.{◌≡◌};
 ghost use Rattle.std.specs.Borrow.{sem};
 ghost use Rattle.simplex_flat.specs.declared.held.Held.{Held};
 ghost use Rattle.simplex_flat.specs.Journals.{IsScan};
@@ -11,6 +12,7 @@ ghost use Rattle.simplex_flat.specs.Showing.{IsChunkOf, IsEntries, IsFound, IsIt
 ghost use Rattle.simplex_c.specs.Behind.{IsRead, held_at, left_at, owned_at};
 ghost use Rattle.simplex_c.specs.Opened.{IsRestartStatus, IsResumeStatus, IsStartStatus};
 
+use crate::handles::MemberHandle;
 use crate::loose::Loose;
 use simplex_flat::absent;
 use simplex_flat::flat::{FlatCall, FlatProposal, FlatReply, FlatSettings};
@@ -32,7 +34,7 @@ pub extern "C" fn simplex_version() -> u32
     2
 }
 
-/// Begins a member that never voted, and writes its handle. 0, or why there is none.
+/// Begins a member that never voted, and writes its handle. 0, or why there is none; then nothing is written.
 #[unsafe(no_mangle)]
 pub extern "C" fn simplex_member_start(
     alloc: Global,
@@ -40,17 +42,17 @@ pub extern "C" fn simplex_member_start(
     leaders: &[u32],
     certificate: &[u8],
     now: u64,
-    out: &mut *mut u8,
+    out: &mut MemberHandle,
 ) -> u32
-    ensures { IsStartStatus settings.now leaders.now certificate.now now result }
+    ensures { IsStartStatus settings.now leaders.now certificate.now now result out.old out.new }
 {
     match Held::start(alloc, settings, leaders, certificate, now) {
-        Ok(held) => hand_out(alloc, held, out),
+        Ok(held) => out.write(alloc, held),
         Err(error) => number_of_not_started(error),
     }
 }
 
-/// Makes a member that goes on from its journal, and writes its handle. 0, or why there is none.
+/// Makes a member that goes on from its journal, and writes its handle. 0, or why there is none; then nothing is written.
 #[unsafe(no_mangle)]
 pub extern "C" fn simplex_member_resume(
     alloc: Global,
@@ -60,26 +62,13 @@ pub extern "C" fn simplex_member_resume(
     now: u64,
     stored: &FlatStored,
     journal: &[u8],
-    out: &mut *mut u8,
+    out: &mut MemberHandle,
 ) -> u32
-    ensures { IsResumeStatus settings.now leaders.now certificate.now now stored.now journal.now result }
+    ensures { IsResumeStatus settings.now leaders.now certificate.now now stored.now journal.now result out.old out.new }
 {
     match Held::resume(alloc, settings, leaders, certificate, now, stored, journal) {
-        Ok(held) => hand_out(alloc, held, out),
+        Ok(held) => out.write(alloc, held),
         Err(error) => number_of_not_resumed(error),
-    }
-}
-
-/// Writes the handle of a member: 0, or 1 where there is no memory for it.
-fn hand_out(alloc: Global, held: Held, out: &mut *mut u8) -> u32
-    ensures { result ≤ 1 }
-{
-    match Box::new(alloc, held) {
-        Ok(held) => {
-            *out = Box::into_raw(held) as *mut u8;
-            0
-        }
-        Err(_) => 1,
     }
 }
 

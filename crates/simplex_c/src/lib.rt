@@ -2,5 +2,6 @@
 #![tactic(auto)]
 
 pub mod exports;
+pub mod handles;
 mod loose;
 pub mod resolvers;

@@ -1,7 +1,7 @@
 //! The functions of a resolver that C calls. `resolver_at` says what a handle is: null, or a pointer to a resolver that
 //! `simplex_resolver_start` made, and that no other call has. At null each answers the status 15, and does nothing.
 
-ghost use Rattle.std.specs.Prelude.{◌≡◌, ◌≤◌};
+ghost use Rattle.std.specs.Prelude.{◌≡◌};
 ghost use Rattle.std.specs.Borrow.{sem};
 ghost use Rattle.simplex_flat.specs.declared.resolving.HeldResolver.{HeldResolver};
 ghost use Rattle.simplex_flat.specs.Resolving.{AreOutstanding, IsEffectAt, IsHeard, IsServedFor, IsSettledAt};
@@ -9,6 +9,7 @@ ghost use Rattle.simplex_flat.specs.Showing.{IsChunk};
 ghost use Rattle.simplex_c.specs.Behind.{IsRead, resolver_at, resolver_left_at, resolver_owned_at};
 ghost use Rattle.simplex_c.specs.Opened.{IsReplayStatus};
 
+use crate::handles::ResolverHandle;
 use crate::loose::Loose;
 use simplex_flat::absent;
 use simplex_flat::resolved::{
@@ -18,32 +19,19 @@ use simplex_flat::resolving::{HeldResolver, number_of_not_replayed};
 use simplex_flat::shown::FlatChunk;
 use std::alloc::Global;
 
-/// Starts a resolver from the bytes of a journal, and writes its handle. 0, or why there is none.
+/// Starts a resolver from the bytes of a journal, and writes its handle. 0, or why there is none; then nothing is written.
 #[unsafe(no_mangle)]
 pub extern "C" fn simplex_resolver_start(
     alloc: Global,
     term_length: u32,
     journal: &[u8],
-    out: &mut *mut u8,
+    out: &mut ResolverHandle,
 ) -> u32
-    ensures { IsReplayStatus term_length journal.now result }
+    ensures { IsReplayStatus term_length journal.now result out.old out.new }
 {
     match HeldResolver::start(alloc, term_length, journal) {
-        Ok(held) => hand_out(alloc, held, out),
+        Ok(held) => out.write(alloc, held),
         Err(error) => number_of_not_replayed(error),
-    }
-}
-
-/// Writes the handle of a resolver: 0, or 1 where there is no memory for it.
-fn hand_out(alloc: Global, held: HeldResolver, out: &mut *mut u8) -> u32
-    ensures { result ≤ 1 }
-{
-    match Box::new(alloc, held) {
-        Ok(held) => {
-            *out = Box::into_raw(held) as *mut u8;
-            0
-        }
-        Err(_) => 1,
     }
 }
 

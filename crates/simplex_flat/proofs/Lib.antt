@@ -1,3 +1,4 @@
 pub mod Framing
 pub mod Items
 pub mod Tested
+pub mod Told

@@ -63,6 +63,10 @@ IsAskedBy f bytes call = (k : CallKind) × (kind_number k ≡ f.kind) × StandsF
 abbrev pub IsNoCall : FlatCall → Type 0
 IsNoCall f = (25 ≤ f.kind) ⊎ (10 ≤ f.reason) ⊎ (2 ≤ f.success)
 
--- the numbers are those of a call that hands in a certificate
+-- each of them is one, also where the kind does not read it
+abbrev pub HasNumbers : FlatCall → Type 0
+HasNumbers f = (f.kind < 25) × (f.reason < 10) × (f.success < 2)
+
+-- and they are those of a call that hands in a certificate
 abbrev pub HasCertificate : FlatCall → Type 0
-HasCertificate f = (f.kind < 3) × (f.reason < 10) × (f.success < 2)
+HasCertificate f = (f.kind < 3) × HasNumbers f

@@ -29,9 +29,17 @@ entry_bytes a = artifact_bytes digest_bytes certificate_bytes order_bytes a
 abbrev pub framed : List HostArtifact → List ℕ
 framed entries = flat_map (λ a. frame (entry_bytes a)) entries
 
--- where an entry is too long, one of them is
-abbrev pub HasTooLong : List HostArtifact → NotWritten → Type 0
-HasTooLong entries error = error ≡ not_written.TooLong → (a : HostArtifact) × Contains entries a × (2 ^ 32 ≤ length (entry_bytes a))
+-- a frame holds the entry: it has fewer than 2^32 bytes
+abbrev pub FitsFrame : HostArtifact → Type 0
+FitsFrame a = length (entry_bytes a) < 2 ^ 32
+
+-- no frame holds one of them
+abbrev pub HasTooLong : List HostArtifact → Type 0
+HasTooLong entries = (a : HostArtifact) × Contains entries a × (2 ^ 32 ≤ length (entry_bytes a))
+
+-- why entries are not written; want of memory says nothing of them
+abbrev pub IsNotWritten : List HostArtifact → NotWritten → Type 0
+IsNotWritten entries error = error ≡ not_written.TooLong → HasTooLong entries
 
 -- whole entries, and behind them bytes that begin with no frame
 pub record IsDamagedAt (journal : List ℕ) (at : ℕ) : Type 0 where

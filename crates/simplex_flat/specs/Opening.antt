@@ -3,7 +3,6 @@ use Rattle.std.specs.Prelude.{◌≡◌, ◌⊎◌, ◌<◌, ◌≤◌, ℕ, Lis
 use Rattle.simplex_codec.specs.declared.digest.BytesDigest.{BytesDigest}
 use Rattle.simplex_host.specs.declared.elector.HostElector.{HostElector}
 use Rattle.simplex_host.specs.declared.scheme.HostKey.{HostKey}
-use Rattle.simplex_host.specs.declared.scheme.Order.{Order}
 use Rattle.simplex_host.specs.Electing.{terms_of, is_early}
 use Rattle.simplex_host.specs.Host.{certificate_bytes, signer_of, keys_of}
 use Rattle.simplex_record.specs.Entries.{entries_of}
@@ -13,7 +12,6 @@ use Rattle.simplex_record.specs.declared.record.error.RecoverError.{RecoverError
 use Rattle.simplex_member.specs.declared.member.journal.Stored.{Stored}
 use Rattle.simplex_member.specs.declared.member.resume.ResumeError.TheVariants as resume
 use Rattle.simplex_member.specs.Journal.{IsResumed, IsNotResumed}
-use Rattle.simplex_member.specs.Lives.{SignedMember}
 use Rattle.simplex_member.specs.Restarts.{RestartFacts, IsRestart, votes_left}
 use Rattle.simplex_flat.specs.declared.flat.FlatSettings.{FlatSettings}
 use Rattle.simplex_flat.specs.declared.held.Held.{Held}
@@ -28,6 +26,7 @@ use Rattle.simplex_flat.specs.Journals.{HostArtifact, IsNotRead, framed}
 use Rattle.simplex_flat.specs.Numbers.{flag_number}
 use Rattle.simplex_flat.specs.Serving.{same_payload, host_leader}
 use Rattle.simplex_flat.specs.Settings.{HostStart, IsNoStart, IsStart}
+use Rattle.simplex_flat.specs.Starting.{IsFresh}
 
 -- what is stored beside a journal is of these numbers
 pub record IsStored (f : FlatStored) (s : Stored) : Type 0 where
@@ -41,23 +40,25 @@ abbrev pub host_start : HostStart → StartFacts HostKey HostElector (BytesDiges
 host_start start = start_facts signer_of keys_of terms_of is_early certificate_bytes start
 
 -- a start, a record and what is stored beside it, by flat settings and the bytes of a journal
-pub record IsGoingOn (f : FlatSettings) (leaders bytes : List ℕ) (now : ℕ) (beside : FlatStored) (journal : List ℕ) (start : HostStart) (stored : Stored)
-    (entries : List HostArtifact) : Type 0 where
+pub record IsGoingOn
+    (f : FlatSettings) (leaders bytes : List ℕ) (now : ℕ) (beside : FlatStored) (journal : List ℕ)
+    (start : HostStart) (stored : Stored) (entries : List HostArtifact) : Type 0 where
   pub started : IsStart f leaders bytes now start
   pub stored_so : IsStored beside stored
   pub read : journal ≡ framed entries
 
 -- a member goes on from them; the journal has all entries that were counted
-pub record IsResumedBy (f : FlatSettings) (leaders bytes : List ℕ) (now : ℕ) (beside : FlatStored) (journal : List ℕ)
-    (m : SignedMember HostKey HostElector (BytesDigest 32) Order) : Type 0 where
+pub record IsResumedBy
+    (f : FlatSettings) (leaders bytes : List ℕ) (now : ℕ) (beside : FlatStored) (journal : List ℕ) (held : Held) : Type 0 where
   pub start : HostStart
   pub stored : Stored
   pub entries : List HostArtifact
   pub from : IsGoingOn f leaders bytes now beside journal start stored entries
   pub whole : beside.entries ≤ length entries
-  pub resumed : IsResumed same_payload host_leader stored (entries_of certificate_bytes entries) (host_start start) m.facts
+  pub resumed : IsResumed same_payload host_leader stored (entries_of certificate_bytes entries) (host_start start) held.member.facts
   -- its votes are those of the journal, with their orders
-  pub votes : m.votes ≡ votes_of entries
+  pub votes : held.member.votes ≡ votes_of entries
+  pub fresh : IsFresh held
 
 -- entries are lost: the journal has fewer than were counted, or than were closed
 pub record IsLost (beside : FlatStored) (journal : List ℕ) : Type 0 where
@@ -66,7 +67,8 @@ pub record IsLost (beside : FlatStored) (journal : List ℕ) : Type 0 where
   pub fewer : (length entries < beside.entries) ⊎ (length entries < beside.closed)
 
 -- the record is refused, or memory is wanting
-pub record IsNotRecovered (f : FlatSettings) (leaders bytes : List ℕ) (now : ℕ) (beside : FlatStored) (journal : List ℕ) (error : RecoverError) : Type 0 where
+pub record IsNotRecovered
+    (f : FlatSettings) (leaders bytes : List ℕ) (now : ℕ) (beside : FlatStored) (journal : List ℕ) (error : RecoverError) : Type 0 where
   pub start : HostStart
   pub stored : Stored
   pub entries : List HostArtifact
@@ -89,16 +91,20 @@ pub record IsRestartOf (f : FlatRestart) (leaders bytes : List ℕ) (r : Restart
   pub drop : r.drop ≡ f.drop
   pub prune : flag_number r.prune ≡ f.prune
 
--- the member is restarted with this result, which keeps the orders of the votes that stay
-pub record IsRestartTo (old : Held) (f : FlatRestart) (leaders bytes : List ℕ) (result : Result (Unit {0}) RecoverError) (new : Held) : Type 0 where
+-- the member is restarted with this result, which keeps the orders of the votes that stay, and all that is read of the handle
+pub record IsRestartTo
+    (old : Held) (f : FlatRestart) (leaders bytes : List ℕ) (result : Result (Unit {0}) RecoverError) (new : Held) : Type 0 where
   pub asked : RestartFacts HostKey HostElector (BytesDigest 32)
   pub is_asked : IsRestartOf f leaders bytes asked
   pub restarted : IsRestart same_payload host_leader old.member.facts asked result new.member.facts
   pub votes : new.member.votes ≡ votes_left old.member.facts asked old.member.votes
+  pub last : new.last ≡ old.last
+  pub shown : new.shown ≡ old.shown
 
 -- why a restart is refused: by its settings, with all as it was; or by what is due of it
 abbrev pub IsNoRestart : Held → FlatRestart → List ℕ → List ℕ → NotStarted → Held → Type 0
-IsNoRestart old f leaders bytes (not_started.Settings settings.NoFlag) new = (new ≡ old) × (IsNoStart f.settings leaders bytes settings.NoFlag ⊎ (2 ≤ f.prune))
+IsNoRestart old f leaders bytes (not_started.Settings settings.NoFlag) new =
+    (new ≡ old) × (IsNoStart f.settings leaders bytes settings.NoFlag ⊎ (2 ≤ f.prune))
 IsNoRestart old f leaders bytes (not_started.Settings e) new = (new ≡ old) × IsNoStart f.settings leaders bytes e
 IsNoRestart old f leaders bytes (not_started.Recover e) new = IsRestartTo old f leaders bytes (Err e) new
 

@@ -10,6 +10,6 @@ pub record IsPruned (old : Held) (r : FlatEntries) (new : Held) : Type 0 where
   pub facts : new.member.facts ≡ pruned_member old.member.facts
   pub votes : new.member.votes ≡ votes_within old.member.facts old.member.votes
   pub last : new.last ≡ old.last
-  pub entries : HasEntries new 0 r new
+  pub entries : HasEntries new.member 0 r new.shown.items
   pub bytes : r.bytes ≡ length new.shown.items
   pub stored : IsStoredBeside new.member.facts r.stored

@@ -1,5 +1,5 @@
 -- How a resolver behind a handle starts, what it is told, and what it answers.
-use Rattle.std.specs.Prelude.{◌≡◌, ◌⊎◌, ◌<◌, ◌≤◌, ℕ, zero, suc, Bool, true, List, [], Option, Some, None, length, slice_get}
+use Rattle.std.specs.Prelude.{◌≡◌, ◌⊎◌, ◌<◌, ◌≤◌, ◌^◌, ◌==◌, max, if◌then◌else◌, ℕ, zero, suc, Bool, true, false, List, [], Option, Some, None, length, slice_get}
 use Rattle.std.specs.FinMap as map
 use Rattle.std.specs.Int.{w64, to_be_bytes}
 use Rattle.std.specs.List.{flat_map}
@@ -16,6 +16,7 @@ use Rattle.simplex_resolver.specs.declared.replay.error.ReplayError.{ReplayError
 use Rattle.simplex_resolver.specs.declared.replay.error.ReplayError.TheVariants as replay
 use Rattle.simplex_resolver.specs.declared.resolver.effect.Effect.{Effect}
 use Rattle.simplex_resolver.specs.declared.resolver.effect.Effect.TheVariants as effect
+use Rattle.simplex_resolver.specs.Facts.{ResolverFacts}
 use Rattle.simplex_resolver.specs.Held.{is_settled, served_encoding}
 use Rattle.simplex_resolver.specs.RecordCalls.{newest_first, replay_calls}
 use Rattle.simplex_resolver.specs.RecordRules.{record_error}
@@ -37,11 +38,14 @@ use Rattle.simplex_flat.specs.Calls.{IsProposal, round_of}
 use Rattle.simplex_flat.specs.Journals.{HostArtifact, IsNotRead, framed}
 use Rattle.simplex_flat.specs.Numbers.{fault_number, flag_number}
 
--- a resolver that was told the entries whose frames these bytes are, and then that its replay has ended
-pub record IsBegunFrom (term_length : ℕ) (journal : List ℕ) (r : LawfulResolverFacts) : Type 0 where
+-- a resolver that was told the entries whose frames these bytes are, and then that its replay has ended; nothing is to be read yet
+pub record IsBegunFrom (term_length : ℕ) (journal : List ℕ) (held : HeldResolver) : Type 0 where
   pub entries : List HostArtifact
   pub read : journal ≡ framed entries
-  pub told : HasBeenTold term_length (replay_calls (digest_bytes {n = 32}) certificate_bytes entries) r
+  pub accepted : record_error (newest_first certificate_bytes entries) ≡ None
+  pub told : HasBeenTold term_length (replay_calls (digest_bytes {n = 32}) certificate_bytes entries) held.resolver
+  pub last : held.last.items ≡ []
+  pub served : held.served.items ≡ []
 
 -- the record is refused, or memory is wanting
 pub record IsNotReplayed (journal : List ℕ) (error : ReplayError) : Type 0 where
@@ -88,20 +92,57 @@ IsTold f bytes call =
     ((c : CertificateFacts (BytesDigest 32)) × IsHandedIn f.kind f bytes c × (call ≡ update (digest_bytes {n = 32}) c))
     ⊎ ((f.kind ≡ 4) × IsJudged f bytes call)
 
--- it is told, and these are its effects; or a fault leaves what it leaves
-abbrev pub IsHeardAs : HeldResolver → Call → FlatEffects → HeldResolver → Type 0
-IsHeardAs old call r new =
-    ((r.status ≡ 0) × (r.count ≡ length new.last.items) × (r.fetches ≡ length new.resolver.open_fetches)
-    × IsMade call old.resolver new.last.items new.resolver × IsToldMore old.resolver call new.resolver)
-    ⊎ ((fault : Fault) × (v : ℕ) × (r.status ≡ fault_number fault) × IsLeftBy old.resolver v call fault new.resolver × (new.last.items ≡ []))
+-- the highest view that is named: of a nullification its own, else the greater of its own and its parent's
+abbrev pub highest_told : FlatTold → ℕ
+highest_told f = if f.kind == 2 then f.proposal.round.view else max f.proposal.round.view f.proposal.parent
 
--- why nothing was told: a view of genesis, a number that is none, no memory for the certificate
-abbrev pub IsNotTold : FlatTold → FlatEffects → Type 0
-IsNotTold f r = ((r.status ≡ 5) × (f.proposal.round.view ≡ 0)) ⊎ ((r.status ≡ 6) × ((f.kind ≡ 0) ⊎ (5 ≤ f.kind) ⊎ (2 ≤ f.success))) ⊎ (r.status ≡ 7)
+-- it is told, and these are its effects
+pub record HasEffects (old : HeldResolver) (highest : ℕ) (call : Call) (r : FlatEffects) (new : HeldResolver) : Type 0 where
+  pub status : r.status ≡ 0
+  pub living : old.resolver.state.is_failed ≡ false
+  pub views : highest < 2 ^ 63
+  pub made : IsMade call old.resolver new.last.items new.resolver
+  pub told : IsToldMore old.resolver call new.resolver
+  pub count : r.count ≡ length new.last.items
+  pub fetches : r.fetches ≡ length new.resolver.open_fetches
+
+-- no effects are told
+abbrev pub HasNoEffects : ℕ → FlatEffects → Type 0
+HasNoEffects status r = (r.status ≡ status) × (r.count ≡ 0) × (r.fetches ≡ 0)
+
+-- a fault leaves what it leaves, and no effects to be read
+abbrev pub HasFault : HeldResolver → ℕ → Call → FlatEffects → HeldResolver → Type 0
+HasFault old highest call r new =
+    (fault : Fault) × HasNoEffects (fault_number fault) r × IsLeftBy old.resolver highest call fault new.resolver × (new.last.items ≡ [])
+
+-- a call that names no view above the highest is told, or ends in a fault; what was served last stays
+abbrev pub IsHeardAs : HeldResolver → ℕ → Call → FlatEffects → HeldResolver → Type 0
+IsHeardAs old highest call r new =
+    (HasEffects old highest call r new ⊎ HasFault old highest call r new) × (new.served ≡ old.served)
+
+-- one of the numbers is none of a verdict, or of a kind
+abbrev pub IsNoTold : FlatTold → Type 0
+IsNoTold f = (2 ≤ f.success) ⊎ ((1 ≤ f.proposal.round.view) × ((f.kind ≡ 0) ⊎ (5 ≤ f.kind)))
+
+-- each of them is one, and the view is not that of genesis
+abbrev pub HasTold : FlatTold → Type 0
+HasTold f = (0 < f.kind) × (f.kind < 5) × (f.success < 2) × (1 ≤ f.proposal.round.view)
+
+-- why nothing was told: the view is that of genesis, a number is none, or there was no memory for the certificate
+abbrev pub IsUntold : FlatTold → FlatEffects → Type 0
+IsUntold f r =
+    (HasNoEffects 5 r × (f.success < 2) × (f.proposal.round.view ≡ 0))
+    ⊎ (HasNoEffects 6 r × IsNoTold f)
+    ⊎ (HasNoEffects 7 r × HasTold f)
+
+-- nothing was told, and all is as it was
+abbrev pub IsNotTold : HeldResolver → FlatTold → FlatEffects → HeldResolver → Type 0
+IsNotTold old f r new = (new ≡ old) × IsUntold f r
 
 -- what flat numbers tell a resolver
 abbrev pub IsHeard : HeldResolver → FlatTold → List ℕ → FlatEffects → HeldResolver → Type 0
-IsHeard old f bytes r new = (IsNotTold f r × (new ≡ old)) ⊎ ((call : Call) × IsTold f bytes call × IsHeardAs old call r new)
+IsHeard old f bytes r new =
+    IsNotTold old f r new ⊎ (HasTold f × ((call : Call) × IsTold f bytes call × IsHeardAs old (highest_told f) call r new))
 
 -- why a fetch is opened, and what is settled
 abbrev pub why_number : FetchReason → ℕ
@@ -138,28 +179,40 @@ pub record IsSettledAt (r : LawfulResolverFacts) (view : ℕ) (f : FlatSettled) 
 abbrev pub view_bytes : List ℕ → List ℕ
 view_bytes views = flat_map (λ v. to_be_bytes w64 v) views
 
--- the views whose fetch is open are shown, rising; or there was no memory for them, and nothing is
+-- views are shown; or there was no memory for them, and nothing is
+abbrev pub HasViews : List ℕ → FlatOutstanding → List ℕ → Type 0
+HasViews views r served =
+    ((r.status ≡ 0) × (r.count ≡ length views) × (served ≡ view_bytes views)) ⊎ ((r.status ≡ 1) × (r.count ≡ 0) × (served ≡ []))
+
+-- the views whose fetch is open are shown, rising
 pub record AreOutstanding (old : HeldResolver) (r : FlatOutstanding) (new : HeldResolver) : Type 0 where
   pub resolver : new.resolver ≡ old.resolver
   pub last : new.last ≡ old.last
   pub bytes : r.bytes ≡ length new.served.items
-  pub shown : ((r.status ≡ 0) × (r.count ≡ length old.resolver.open_fetches) × (new.served.items ≡ view_bytes old.resolver.open_fetches))
-      ⊎ ((r.status ≡ 1) × (new.served.items ≡ []))
+  pub shown : HasViews old.resolver.open_fetches r new.served.items
 
--- bytes are shown, or there was no memory for them
-abbrev pub IsShownOr : HeldResolver → List ℕ → FlatServed → HeldResolver → Type 0
-IsShownOr old bytes r new =
-    (new.resolver ≡ old.resolver) × (new.last ≡ old.last)
-    × (((r.status ≡ 1) × (new.served.items ≡ [])) ⊎ ((r.status ≡ 0) × (r.has ≡ 1) × (r.bytes ≡ length bytes) × (new.served.items ≡ bytes)))
+-- nothing is shown, for this status
+abbrev pub IsUnserved : ℕ → FlatServed → List ℕ → Type 0
+IsUnserved status r served = (r.status ≡ status) × (r.has ≡ 0) × (r.bytes ≡ 0) × (served ≡ [])
 
--- what a peer is served: nothing, or the encoding; or why it is not shown
+-- an encoding is shown
+abbrev pub IsShown : List ℕ → FlatServed → List ℕ → Type 0
+IsShown bytes r served = (r.status ≡ 0) × (r.has ≡ 1) × (r.bytes ≡ length bytes) × (served ≡ bytes)
+
+-- there is nothing to serve; or the encoding is shown, or there was no memory for it
 abbrev pub HasServed : Option (List ℕ) → FlatServed → List ℕ → Type 0
-HasServed None r served = (r.has ≡ 0) × (served ≡ [])
-HasServed (Some bytes) r served = (r.has ≡ 1) × (r.bytes ≡ length bytes) × (served ≡ bytes)
+HasServed None r served = IsUnserved 0 r served
+HasServed (Some bytes) r served = IsShown bytes r served ⊎ IsUnserved 1 r served
 
+-- what a peer is served; nothing, where the resolver has failed
+abbrev pub HasServedOf : ResolverFacts → ℕ → FlatServed → List ℕ → Type 0
+HasServedOf state view r served =
+    ((state.is_failed ≡ true) × IsUnserved 2 r served)
+    ⊎ ((state.is_failed ≡ false) × HasServed (served_encoding state view) r served)
+
+-- how it is shown
 pub record IsServedFor (old : HeldResolver) (view : ℕ) (r : FlatServed) (new : HeldResolver) : Type 0 where
   pub resolver : new.resolver ≡ old.resolver
   pub last : new.last ≡ old.last
-  pub served : ((r.status ≡ 0) × HasServed (served_encoding old.resolver.state view) r new.served.items)
-      ⊎ ((r.status ≡ 1) × (new.served.items ≡ []))
-      ⊎ ((r.status ≡ 2) × (old.resolver.state.is_failed ≡ true) × (new.served.items ≡ []))
+  pub of_view : r.view ≡ view
+  pub served : HasServedOf old.resolver.state view r new.served.items

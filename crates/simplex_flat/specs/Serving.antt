@@ -1,5 +1,5 @@
 -- How a call through a handle is served, and what is read of the last reply.
-use Rattle.std.specs.Prelude.{◌≡◌, ◌⊎◌, ℕ, Bool, List, [], Option, Some, IfSome, slice_get}
+use Rattle.std.specs.Prelude.{◌≡◌, ◌⊎◌, ◌++◌, ℕ, Bool, List, [], Option, Some, IfSome, slice_get}
 use Rattle.std.specs.Str.{bytes_eq}
 use Rattle.simplex_types.specs.declared.types.numbers.Round.{Round}
 use Rattle.simplex_types.specs.declared.types.messages.Proposal.{Proposal}
@@ -18,13 +18,13 @@ use Rattle.simplex_member.specs.declared.member.calls.Reply.{Reply}
 use Rattle.simplex_member.specs.declared.member.calls.Reply.TheVariants as reply
 use Rattle.simplex_member.specs.Calls.{told}
 use Rattle.simplex_member.specs.Lives.{IsCall}
-use Rattle.simplex_member.specs.Signed.{IsSignedReply}
+use Rattle.simplex_member.specs.Signed.{IsSignedReply, signed_reply}
 use Rattle.simplex_flat.specs.declared.flat.FlatCall.{FlatCall}
 use Rattle.simplex_flat.specs.declared.flat.FlatFetch.{FlatFetch}
 use Rattle.simplex_flat.specs.declared.flat.FlatProposal.{FlatProposal}
 use Rattle.simplex_flat.specs.declared.flat.FlatReply.{FlatReply}
 use Rattle.simplex_flat.specs.declared.held.Held.{Held}
-use Rattle.simplex_flat.specs.Calls.{HasCertificate, HostCallFacts, IsAskedBy, IsNoCall, IsProposal}
+use Rattle.simplex_flat.specs.Calls.{HasCertificate, HasNumbers, HostCallFacts, IsAskedBy, IsNoCall, IsProposal}
 use Rattle.simplex_flat.specs.Replies.{Tells}
 
 -- two payloads have the same bytes
@@ -35,13 +35,14 @@ same_payload d e = bytes_eq (digest_bytes d) (digest_bytes e)
 abbrev pub host_leader : HostElector → Round → Option (List ℕ) → ℕ
 host_leader e round seed = leader_of e round.view seed
 
--- no call was made: one of its numbers is none of a call, or there was no memory for its certificate
-abbrev pub IsNotMade : FlatCall → FlatReply → Type 0
-IsNotMade f r = ((r.status ≡ 6) × IsNoCall f) ⊎ ((r.status ≡ 7) × HasCertificate f)
+-- no call was made, and all is as it was: one of its numbers is none of a call, or there was no memory for its certificate
+abbrev pub IsNotMade : Held → FlatCall → FlatReply → Held → Type 0
+IsNotMade old f r new = (new ≡ old) × (((r.status ≡ 6) × IsNoCall f) ⊎ ((r.status ≡ 7) × HasCertificate f))
 
 -- the call that the flat one stands for was made
 pub record IsMade (old : Held) (f : FlatCall) (bytes : List ℕ) (r : FlatReply) (new : Held) : Type 0 where
   pub call : HostCallFacts
+  pub numbers : HasNumbers f
   pub is_asked : IsAskedBy f bytes call
   -- the member answered it, by its contract; its reply is kept
   pub made : IsCall same_payload host_leader old.member.facts call (told certificate_bytes new.last) new.member.facts
@@ -49,10 +50,13 @@ pub record IsMade (old : Held) (f : FlatCall) (bytes : List ℕ) (r : FlatReply)
   pub tells : Tells r (told certificate_bytes new.last)
   -- a vote in it is ordered, for just its own bytes
   pub ordered : IfSome old.member.facts.life (IsSignedReply (IsOrder digest_bytes) new.last)
+  -- it stands last among the record's votes, with its order
+  pub votes : new.member.votes ≡ old.member.votes ++ signed_reply new.last
+  pub shown : new.shown ≡ old.shown
 
 -- a flat call is served: nothing was done, or the call was made
 abbrev pub IsServed : Held → FlatCall → List ℕ → FlatReply → Held → Type 0
-IsServed old f bytes r new = (IsNotMade f r × (new ≡ old)) ⊎ IsMade old f bytes r new
+IsServed old f bytes r new = IsNotMade old f r new ⊎ IsMade old f bytes r new
 
 -- a reply of a member of the host
 abbrev pub HostReply : Type 0

@@ -1,5 +1,5 @@
 -- How a member is set up by flat settings.
-use Rattle.std.specs.Prelude.{◌≡◌, ℕ, ◌==◌, ◌&&◌, nat_le, true, if◌then◌else◌, List, Option, Some, None, MatchOption, not, length}
+use Rattle.std.specs.Prelude.{◌≡◌, ℕ, ◌<◌, ◌==◌, ◌&&◌, nat_le, true, if◌then◌else◌, List, Option, Some, None, MatchOption, not, length}
 use Rattle.std.specs.Option.{option_or}
 use Rattle.simplex_record.specs.declared.record.settings.StartError.{StartError}
 use Rattle.simplex_record.specs.declared.record.start.Start.{Start}
@@ -8,6 +8,7 @@ use Rattle.simplex_types.specs.Config.{first_broken_rule}
 use Rattle.simplex_types.specs.declared.config.Config.{Config}
 use Rattle.simplex_types.specs.declared.config.Floor.{Floor}
 use Rattle.simplex_types.specs.declared.config.Floor.TheVariants as floor
+use Rattle.simplex_types.specs.declared.config.ForwardPolicy.TheVariants as forward
 use Rattle.simplex_types.specs.declared.config.SkipBudget.TheVariants as budget
 use Rattle.simplex_types.specs.declared.config.SkipPolicy.{SkipPolicy}
 use Rattle.simplex_types.specs.declared.config.SkipPolicy.TheVariants as skip
@@ -37,7 +38,7 @@ HostStart = Start HostScheme HostElector (BytesDigest 32) HostKey Order HostCert
 -- the member that signs; none for the greatest number of 32 bits
 abbrev pub IsSigner : FlatSettings → Option ℕ → Type 0
 IsSigner f None = f.signer ≡ 4294967295
-IsSigner f (Some signer) = signer ≡ f.signer
+IsSigner f (Some signer) = (signer ≡ f.signer) × (signer < f.members)
 
 -- after how long a term stalls, if it does
 abbrev pub IsStall : FlatSettings → Option ℕ → Type 0
@@ -65,8 +66,8 @@ IsFloor f bytes (floor.Finalized it) = (f.is_finalized ≡ 1) × IsProposal f.fl
 -- whether views of inactive leaders are skipped; a budget of 0 is that of as many terms as there are members
 abbrev pub IsSkip : FlatSettings → SkipPolicy → Type 0
 IsSkip f skip.Disabled = f.skip_timeout ≡ 0
-IsSkip f (skip.Enabled timeout budget.Participants) = (timeout ≡ f.skip_timeout) × (f.skip_budget ≡ 0)
-IsSkip f (skip.Enabled timeout (budget.Fixed terms)) = (timeout ≡ f.skip_timeout) × (f.skip_budget ≡ terms.value)
+IsSkip f (skip.Enabled timeout budget.Participants) = (0 < timeout) × (timeout ≡ f.skip_timeout) × (f.skip_budget ≡ 0)
+IsSkip f (skip.Enabled timeout (budget.Fixed terms)) = (0 < timeout) × (timeout ≡ f.skip_timeout) × (f.skip_budget ≡ terms.value)
 
 -- the settings are of these numbers and bytes
 pub record IsConfig (f : FlatSettings) (bytes : List ℕ) (c : HostConfig) : Type 0 where
@@ -79,6 +80,8 @@ pub record IsConfig (f : FlatSettings) (bytes : List ℕ) (c : HostConfig) : Typ
   pub timeout_retry : c.timeout_retry ≡ f.timeout_retry
   pub view_retention : c.view_retention ≡ f.view_retention
   pub skip : IsSkip f c.skip
+  -- the core forwards nothing
+  pub forward : c.forward ≡ forward.Disabled
 
 -- the signer has to be a member, or none
 abbrev pub signer_error : FlatSettings → Option SettingsError
@@ -125,9 +128,9 @@ pub record IsRefused (f : FlatSettings) (leaders bytes : List ℕ) (broken : Sta
   pub numbers : settings_error f leaders ≡ None
   pub first : engine_error config elector ≡ Some broken
 
--- why no member starts by these settings: memory is wanting, or they break this rule first
+-- why no member starts by these settings: memory is wanting, for those of an engine at the least, or they break this rule first
 abbrev pub IsNoStart : FlatSettings → List ℕ → List ℕ → SettingsError → Type 0
-IsNoStart f leaders bytes error.OutOfMemory = Unit
+IsNoStart f leaders bytes error.OutOfMemory = config_error f ≡ None
 IsNoStart f leaders bytes (error.Refused broken) = IsRefused f leaders bytes broken
 IsNoStart f leaders bytes found = settings_error f leaders ≡ Some found
 

@@ -1,5 +1,7 @@
 -- What a member shows beside its replies.
 use Rattle.std.specs.Prelude.{◌≡◌, ◌⊎◌, ◌<◌, ◌≤◌, slice_get, ℕ, zero, suc, List, [], ◌++◌, Option, Some, None, MatchOption, is_some, option_map, length, take, drop}
+use Rattle.std.specs.List.{All}
+use Rattle.std.specs.Option.{IsSome}
 use Rattle.simplex_types.specs.Certificates.{CertificateFacts, Notarized, Nullified, Finalized}
 use Rattle.simplex_types.specs.Encoding.{subject_bytes}
 use Rattle.simplex_types.specs.declared.types.messages.Proposal.{Proposal}
@@ -29,7 +31,7 @@ use Rattle.simplex_flat.specs.declared.shown.FlatStored.{FlatStored}
 use Rattle.simplex_flat.specs.declared.shown.FlatText.{FlatText}
 use Rattle.simplex_flat.specs.declared.shown.FlatView.{FlatView}
 use Rattle.simplex_flat.specs.Calls.{IsProposal, round_of}
-use Rattle.simplex_flat.specs.Journals.{HostArtifact, framed}
+use Rattle.simplex_flat.specs.Journals.{FitsFrame, HasTooLong, HostArtifact, framed}
 use Rattle.simplex_flat.specs.Numbers.{flag_number, index_number}
 use Rattle.simplex_flat.specs.Opening.{IsStored}
 use Rattle.simplex_flat.specs.Serving.{HostReply, IsFetchAt, IsProposalAt, dropped_in, fetches_in, proposals_in, reply_bytes}
@@ -53,23 +55,26 @@ pub record IsStoredBeside (m : HostFacts) (f : FlatStored) : Type 0 where
 abbrev pub IsSame : Held → Held → Type 0
 IsSame old new = (new.member ≡ old.member) × (new.last ≡ old.last)
 
--- the entries behind the first of a record are shown as frames, the votes among them with their orders
-pub record AreShown (m : HostMember) (count : ℕ) (shown : List ℕ) : Type 0 where
-  pub entries : List HostArtifact
+-- the entries behind the first of a record, the votes among them with their orders
+pub record AreBehind (m : HostMember) (count : ℕ) (entries : List HostArtifact) : Type 0 where
   pub behind : entries_of certificate_bytes entries ≡ drop count m.facts.entries
   pub votes : votes_of entries ≡ votes_since count m
-  pub frames : shown ≡ framed entries
 
--- they are shown; or there was no memory for them, or one is too long, and nothing is
-abbrev pub HasEntries : Held → ℕ → FlatEntries → Held → Type 0
-HasEntries old count r new =
-    ((r.status ≡ 0) × AreShown old.member count new.shown.items)
-    ⊎ (((r.status ≡ 1) ⊎ (r.status ≡ 14)) × (new.shown.items ≡ []))
+-- they are shown as frames, which hold each of them; or there was no memory for them, or no frame holds one, and nothing is shown
+abbrev pub AreShown : List HostArtifact → FlatEntries → List ℕ → Type 0
+AreShown entries r shown =
+    ((r.status ≡ 0) × All FitsFrame entries × (shown ≡ framed entries))
+    ⊎ ((r.status ≡ 1) × (shown ≡ []))
+    ⊎ ((r.status ≡ 14) × HasTooLong entries × (shown ≡ []))
+
+-- how the entries behind the first of a member's record are shown
+abbrev pub HasEntries : HostMember → ℕ → FlatEntries → List ℕ → Type 0
+HasEntries m count r shown = (entries : List HostArtifact) × AreBehind m count entries × AreShown entries r shown
 
 -- how the entries behind the first of a record are shown
 pub record IsEntries (old : Held) (count : ℕ) (r : FlatEntries) (new : Held) : Type 0 where
   pub same : IsSame old new
-  pub entries : HasEntries old count r new
+  pub entries : HasEntries old.member count r new.shown.items
   pub bytes : r.bytes ≡ length new.shown.items
   pub stored : IsStoredBeside old.member.facts r.stored
 
@@ -121,18 +126,23 @@ Shows found r before after = (bytes : List ℕ) × HasFound found r bytes × (af
 abbrev pub IsKind : ℕ → Type 0
 IsKind kind = (0 < kind) × (kind < 4)
 
--- a certificate is found in a state
-abbrev pub IsFoundIn : Option HostState → ℕ → ℕ → FlatFound → List ℕ → Type 0
-IsFoundIn None kind view r shown = ⊥
-IsFoundIn (Some x) kind view r shown = (r.status ≡ 0) × HasFound (certificate_of kind x view) r shown
+-- none is shown, for this status
+abbrev pub IsUnfound : ℕ → FlatFound → List ℕ → Type 0
+IsUnfound status r shown = (r.status ≡ status) × (r.has ≡ 0) × (shown ≡ [])
 
--- how a view's certificate is asked for: there is no such kind, no state, no memory, or it is found or not
+-- a certificate is found or not; or it is there, and there was no memory for its bytes
+abbrev pub IsFoundOr : Option (CertificateFacts (BytesDigest 32)) → FlatFound → List ℕ → Type 0
+IsFoundOr found r shown = ((r.status ≡ 0) × HasFound found r shown) ⊎ (IsSome found × IsUnfound 1 r shown)
+
+-- in a state; a member that has failed has none
+abbrev pub IsFoundIn : Option HostState → ℕ → ℕ → FlatFound → List ℕ → Type 0
+IsFoundIn None kind view r shown = IsUnfound 2 r shown
+IsFoundIn (Some x) kind view r shown = IsFoundOr (certificate_of kind x view) r shown
+
+-- how a view's certificate is asked for: no certificate has the kind, or it is looked for
 abbrev pub HasAnswered : Held → ℕ → ℕ → FlatFound → List ℕ → Type 0
 HasAnswered old kind view r shown =
-    ((r.status ≡ 6) × (IsKind kind → ⊥))
-    ⊎ ((r.status ≡ 2) × (old.member.facts.life ≡ None))
-    ⊎ ((r.status ≡ 1) × IsKind kind)
-    ⊎ (IsKind kind × IsFoundIn old.member.facts.life kind view r shown)
+    (¬ (IsKind kind) × IsUnfound 6 r shown) ⊎ (IsKind kind × IsFoundIn old.member.facts.life kind view r shown)
 
 -- how a view's certificate is shown
 pub record IsFound (old : Held) (kind view : ℕ) (r : FlatFound) (new : Held) : Type 0 where

@@ -9,10 +9,12 @@ use Rattle.simplex_host.specs.Host.{certificate_bytes, signer_of, keys_of}
 use Rattle.simplex_record.specs.declared.record.error.RecoverError.{RecoverError}
 use Rattle.simplex_record.specs.Recovery.{recover_error}
 use Rattle.simplex_record.specs.Start.{set_up, IsErrorDue}
+use Rattle.simplex_member.specs.declared.member.calls.Reply.TheVariants as reply
 use Rattle.simplex_member.specs.Lives.{MemberFacts}
 use Rattle.simplex_member.specs.Start.{started_member}
 use Rattle.simplex_flat.specs.declared.flat.FlatSettings.{FlatSettings}
 use Rattle.simplex_flat.specs.Serving.{same_payload, host_leader}
+use Rattle.simplex_flat.specs.declared.held.Held.{Held}
 use Rattle.simplex_flat.specs.declared.held.NotStarted.{NotStarted}
 use Rattle.simplex_flat.specs.declared.held.NotStarted.TheVariants as not_started
 use Rattle.simplex_flat.specs.Settings.{HostStart, IsNoStart, IsStart}
@@ -27,9 +29,18 @@ abbrev pub begin_error : HostStart → Option RecoverError
 begin_error start =
     recover_error same_payload (set_up signer_of keys_of terms_of is_early start.settings) (floor_facts certificate_bytes start.floor) start.now []
 
--- a member is begun by these settings, with this table, floor and moment
-abbrev pub IsStarted : FlatSettings → List ℕ → List ℕ → ℕ → MemberFacts HostKey HostElector (BytesDigest 32) → Type 0
-IsStarted f leaders bytes now member = (start : HostStart) × IsStart f leaders bytes now start × (begin_error start ≡ None) × (member ≡ begun start)
+-- no call was made yet, and nothing was shown
+abbrev pub IsFresh : Held → Type 0
+IsFresh held = (held.last ≡ reply.Unit) × (held.shown.items ≡ [])
+
+-- a member is begun by these settings, with this table, floor and moment; it has voted nothing
+pub record IsStarted (f : FlatSettings) (leaders bytes : List ℕ) (now : ℕ) (held : Held) : Type 0 where
+  pub start : HostStart
+  pub by : IsStart f leaders bytes now start
+  pub accepted : begin_error start ≡ None
+  pub facts : held.member.facts ≡ begun start
+  pub votes : held.member.votes ≡ []
+  pub fresh : IsFresh held
 
 -- why none is begun: by its settings, or by what is due of the start that they make
 abbrev pub IsNotStarted : FlatSettings → List ℕ → List ℕ → ℕ → NotStarted → Type 0

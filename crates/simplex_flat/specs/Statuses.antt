@@ -9,6 +9,8 @@ use Rattle.simplex_flat.specs.declared.held.NotStarted.{NotStarted}
 use Rattle.simplex_flat.specs.declared.held.NotStarted.TheVariants as not_started
 use Rattle.simplex_flat.specs.declared.journal.NotRead.{NotRead}
 use Rattle.simplex_flat.specs.declared.journal.NotRead.TheVariants as not_read
+use Rattle.simplex_flat.specs.declared.journal.NotWritten.{NotWritten}
+use Rattle.simplex_flat.specs.declared.journal.NotWritten.TheVariants as not_written
 use Rattle.simplex_flat.specs.declared.opening.NotResumed.{NotResumed}
 use Rattle.simplex_flat.specs.declared.opening.NotResumed.TheVariants as not_resumed
 use Rattle.simplex_flat.specs.declared.settings.SettingsError.{SettingsError}
@@ -58,6 +60,11 @@ abbrev pub not_read_number : NotRead → ℕ
 not_read_number not_read.OutOfMemory = 1
 not_read_number (not_read.Damaged _) = 12
 not_read_number (not_read.NoEntry _ _) = 13
+
+-- the number of why entries are not written
+abbrev pub not_written_number : NotWritten → ℕ
+not_written_number not_written.OutOfMemory = 1
+not_written_number not_written.TooLong = 14
 
 -- the number of what refuses a start
 abbrev pub not_started_number : NotStarted → ℕ

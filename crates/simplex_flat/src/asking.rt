@@ -3,7 +3,7 @@
 ghost use Rattle.std.specs.Prelude.{◌≡◌, ◌<◌, IfOk, OnErr, MatchOption};
 ghost use Rattle.simplex_host.specs.Host.{certificate_bytes};
 ghost use Rattle.simplex_member.specs.Calls.{asked};
-ghost use Rattle.simplex_flat.specs.Calls.{HasCertificate, IsAskedBy, IsNoCall, StandsFor, IsProposal, round_of};
+ghost use Rattle.simplex_flat.specs.Calls.{HasCertificate, HasNumbers, IsAskedBy, IsNoCall, StandsFor, IsProposal, round_of};
 ghost use Rattle.simplex_flat.specs.Numbers.{kind_number, reason_number, flag_number};
 
 use crate::call_kind::{CallKind, kind_of};
@@ -29,7 +29,8 @@ pub fn call_of(
     certificate: &[u8],
 ) -> Result<Option<HostCall>, AllocError>
     ensures wanting { OnErr result (HasCertificate flat.now) }
-    ensures made { IfOk result (λ made. MatchOption made (IsNoCall flat.now) (λ call. IsAskedBy flat.now certificate.now (asked certificate_bytes call))) }
+    ensures made { IfOk result (λ made. MatchOption made (IsNoCall flat.now)
+        (λ call. HasNumbers flat.now × IsAskedBy flat.now certificate.now (asked certificate_bytes call))) }
 {
     let Some(kind) = kind_of(flat.kind) else {
         return Ok(None);

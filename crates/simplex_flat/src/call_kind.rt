@@ -1,6 +1,6 @@
 //! The kinds of calls, and their numbers.
 
-ghost use Rattle.std.specs.Prelude.{◌≡◌, ◌≤◌, MatchOption};
+ghost use Rattle.std.specs.Prelude.{◌≡◌, ◌<◌, ◌≤◌, MatchOption};
 ghost use Rattle.simplex_flat.specs.Numbers.{kind_number};
 
 /// Which call of a member is made: one for each of `Call`.
@@ -35,7 +35,7 @@ pub enum CallKind {
 
 /// The kind of a number, if it is one's.
 pub fn kind_of(number: u32) -> Option<CallKind>
-    ensures { MatchOption result (25 ≤ number) (λ kind. kind_number kind ≡ number) }
+    ensures { MatchOption result (25 ≤ number) (λ kind. (kind_number kind ≡ number) × (number < 25)) }
 {
     match number {
         0 => Some(CallKind::AddNotarization),

@@ -41,7 +41,7 @@ pub struct Held {
 }
 
 impl Held {
-    ghost use Rattle.simplex_flat.specs.Starting.{IsNotStarted, IsStarted};
+    ghost use Rattle.simplex_flat.specs.Starting.{IsFresh, IsNotStarted, IsStarted};
     ghost use Rattle.simplex_flat.specs.Serving.{IsServed, IsFetchAt, IsProposalAt, dropped_in, fetches_in, proposals_in, reply_bytes};
 
     /// A member that never voted, by flat settings with a table of leaders and the bytes of the floor's certificate.
@@ -53,7 +53,7 @@ impl Held {
         now: u64,
     ) -> Result<Held, NotStarted>
         ensures refused { IfErr result (IsNotStarted flat.now leaders.now certificate.now now) }
-        ensures started { IfOk result (λ held. IsStarted flat.now leaders.now certificate.now now held.member.facts) }
+        ensures started { IfOk result (IsStarted flat.now leaders.now certificate.now now) }
     {
         let start = match start_of(alloc, flat, leaders, certificate, now) {
             Ok(start) => start,
@@ -67,7 +67,8 @@ impl Held {
 
     /// A member that no call was made of yet.
     pub fn new(alloc: Global, member: HostMember) -> Held
-        ensures { result.member ≡ member }
+        ensures member { result.member ≡ member }
+        ensures fresh { IsFresh result }
     {
         Held {
             alloc,

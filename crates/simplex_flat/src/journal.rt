@@ -1,8 +1,9 @@
 //! A record's entries in the bytes of a journal: frames, one behind the other.
 
 ghost use Rattle.std.specs.Prelude.{◌≡◌, ◌++◌, ◌<◌, ◌≤◌, ◌^◌, IfOk, IfErr, OnOk, MatchOption, length};
+ghost use Rattle.std.specs.List.{All};
 ghost use Rattle.simplex_codec.specs.Frames.{frame, HasNoFrame};
-ghost use Rattle.simplex_flat.specs.Journals.{BeginsWithFrame, HasTooLong, IsEnding, IsNotRead, IsScan, StandsAlone, entry_bytes, framed};
+ghost use Rattle.simplex_flat.specs.Journals.{BeginsWithFrame, FitsFrame, IsEnding, IsNotRead, IsNotWritten, IsScan, StandsAlone, entry_bytes, framed};
 ghost use Rattle.simplex_flat.specs.declared.journal.NotRead.TheVariants.{Damaged};
 ghost use Rattle.simplex_flat.specs.declared.journal.NotWritten.TheVariants.{TooLong};
 
@@ -76,7 +77,8 @@ pub fn write_entries(
     entries: &[HostArtifact],
 ) -> Result<(), NotWritten>
     ensures written { OnOk result (out.new.items ≡ out.old.items ++ framed entries.now) }
-    ensures refused { IfErr result (HasTooLong entries.now) }
+    ensures fits { OnOk result (All FitsFrame entries.now) }
+    ensures refused { IfErr result (IsNotWritten entries.now) }
 {
     for entry in entries {
         write_entry(alloc, out, entry)?;
@@ -87,6 +89,7 @@ pub fn write_entries(
 /// An entry is written as a frame behind the bytes of `out`.
 fn write_entry(alloc: Global, out: &mut BytesMut, entry: &HostArtifact) -> Result<(), NotWritten>
     ensures written { OnOk result (out.new.items ≡ out.old.items ++ frame (entry_bytes entry.now)) }
+    ensures fits { OnOk result (FitsFrame entry.now) }
     ensures refused { IfErr result (λ error. error ≡ TooLong → 2 ^ 32 ≤ length (entry_bytes entry.now)) }
 {
     let bytes = encode_artifact(alloc, entry)?;

@@ -1,6 +1,6 @@
 //! Reasons and verdicts as numbers.
 
-ghost use Rattle.std.specs.Prelude.{◌≡◌, ◌≤◌, MatchOption};
+ghost use Rattle.std.specs.Prelude.{◌≡◌, ◌<◌, ◌≤◌, MatchOption};
 ghost use Rattle.simplex_flat.specs.Numbers.{reason_number, abandoned_number, fault_number, flag_number, member_number};
 
 use simplex_host::scheme::HostKey;
@@ -9,7 +9,7 @@ use simplex_types::types::Fault;
 
 /// The reason of a number, if it is one's.
 pub fn reason_of(number: u32) -> Option<TimeoutReason>
-    ensures { MatchOption result (10 ≤ number) (λ reason. reason_number reason ≡ number) }
+    ensures { MatchOption result (10 ≤ number) (λ reason. (reason_number reason ≡ number) × (number < 10)) }
 {
     match number {
         0 => Some(TimeoutReason::Retry),
@@ -28,7 +28,7 @@ pub fn reason_of(number: u32) -> Option<TimeoutReason>
 
 /// What 0 and 1 say.
 pub fn flag_of(number: u32) -> Option<bool>
-    ensures { MatchOption result (2 ≤ number) (λ flag. flag_number flag ≡ number) }
+    ensures { MatchOption result (2 ≤ number) (λ flag. (flag_number flag ≡ number) × (number < 2)) }
 {
     match number {
         0 => Some(false),

@@ -42,7 +42,7 @@ impl Held {
         stored: &FlatStored,
         journal: &[u8],
     ) -> Result<Held, NotResumed>
-        ensures resumed { IfOk result (λ held. IsResumedBy flat.now leaders.now certificate.now now stored.now journal.now held.member) }
+        ensures resumed { IfOk result (IsResumedBy flat.now leaders.now certificate.now now stored.now journal.now) }
         ensures refused { IfErr result (IsNotResumedBy flat.now leaders.now certificate.now now stored.now journal.now) }
     {
         let start = match start_of(alloc, flat, leaders, certificate, now) {

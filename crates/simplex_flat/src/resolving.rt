@@ -1,13 +1,13 @@
 //! A resolver behind a handle, with the effects of what it was told last, and what it last served.
 
-ghost use Rattle.std.specs.Prelude.{◌≡◌, ◌⊎◌, ◌≤◌, ◌++◌, [], OnOk, IfOk, IfErr, IfSome, MatchOption, length};
+ghost use Rattle.std.specs.Prelude.{◌≡◌, ◌⊎◌, ◌<◌, ◌≤◌, ◌++◌, [], Some, OnOk, OnErr, IfOk, IfErr, IfSome, MatchOption, length};
 ghost use Rattle.simplex_types.specs.Certificates.{certificate_facts, notarization_facts};
 ghost use Rattle.simplex_types.specs.Viewed.{certificate_view};
 ghost use Rattle.simplex_codec.specs.Digests.{digest_bytes};
 ghost use Rattle.simplex_host.specs.Host.{certificate_bytes};
-ghost use Rattle.simplex_resolver.specs.Steps.{update, verdict};
+ghost use Rattle.simplex_resolver.specs.Steps.{highest_named, highest_view, update, verdict};
 ghost use Rattle.simplex_flat.specs.Numbers.{fault_number, flag_number};
-ghost use Rattle.simplex_flat.specs.Resolving.{IsEffect, IsHandedIn, not_replayed_number, view_bytes};
+ghost use Rattle.simplex_flat.specs.Resolving.{HasNoEffects, HasServed, IsEffect, IsHandedIn, highest_told, not_replayed_number, view_bytes};
 ghost use Rattle.simplex_flat.specs.Showing.{IsChunk};
 
 use crate::asking::{finalization_of, notarization_of, nullification_of};
@@ -52,7 +52,7 @@ pub struct HeldResolver {
 }
 
 impl HeldResolver {
-    ghost use Rattle.simplex_flat.specs.Resolving.{AreOutstanding, IsBegunFrom, IsEffectAt, IsHeard, IsHeardAs, IsNotBegunFrom, IsServedFor, IsSettledAt, IsShownOr};
+    ghost use Rattle.simplex_flat.specs.Resolving.{AreOutstanding, IsBegunFrom, IsEffectAt, IsHeard, IsHeardAs, IsNotBegunFrom, IsServedFor, IsSettledAt};
 
     /// A resolver that starts from the bytes of a journal, with its first fetches open.
     pub fn start(
@@ -60,7 +60,7 @@ impl HeldResolver {
         term_length: u32,
         journal: &[u8],
     ) -> Result<HeldResolver, NotReplayed>
-        ensures begun { IfOk result (λ held. IsBegunFrom term_length journal.now held.resolver) }
+        ensures begun { IfOk result (IsBegunFrom term_length journal.now) }
         ensures refused { IfErr result (IsNotBegunFrom term_length journal.now) }
     {
         let Some(length) = NonZeroU32::new(term_length) else {
@@ -104,6 +104,7 @@ impl HeldResolver {
     fn judged(&mut self, flat: &FlatTold, success: bool, certificate: &[u8]) -> FlatEffects
         requires kind { flat.now.kind ≡ 4 }
         requires success { flag_number success ≡ flat.now.success }
+        requires fits { flat.now.success < 2 }
         requires view { 1 ≤ flat.now.proposal.round.view }
         ensures { IsHeard self.old flat.now certificate.now result self.new }
     {
@@ -115,7 +116,8 @@ impl HeldResolver {
 
     fn updated(&mut self, certificate: &HostCertified) -> FlatEffects
         requires { 1 ≤ certificate_view certificate.now }
-        ensures { IsHeardAs self.old (update digest_bytes (certificate_facts certificate_bytes certificate.now)) result self.new }
+        ensures { IsHeardAs self.old (highest_view certificate.now)
+            (update digest_bytes (certificate_facts certificate_bytes certificate.now)) result self.new }
     {
         match self.resolver.updated(certificate) {
             Ok(effects) => self.keep(effects),
@@ -129,7 +131,8 @@ impl HeldResolver {
         success: bool,
     ) -> FlatEffects
         requires { 1 ≤ notarization.proposal.round.view }
-        ensures { IsHeardAs self.old (verdict digest_bytes (notarization_facts certificate_bytes notarization) success) result self.new }
+        ensures { IsHeardAs self.old (highest_named notarization.proposal)
+            (verdict digest_bytes (notarization_facts certificate_bytes notarization) success) result self.new }
     {
         match self.resolver.certified(notarization, success) {
             Ok(effects) => self.keep(effects),
@@ -154,8 +157,9 @@ impl HeldResolver {
 
     /// Keeps that nothing was told.
     fn lose(&mut self, fault: Fault) -> FlatEffects
-        ensures told { result.status ≡ fault_number fault }
-        ensures kept { (self.new.resolver ≡ self.old.resolver) × (self.new.last.items ≡ []) }
+        ensures told { HasNoEffects (fault_number fault) result }
+        ensures kept { (self.new.resolver ≡ self.old.resolver) × (self.new.served ≡ self.old.served) }
+        ensures none { self.new.last.items ≡ [] }
     {
         self.last.clear();
         no_effects(number_of_fault(fault))
@@ -224,7 +228,9 @@ impl HeldResolver {
 
     fn serve(&mut self, view: u64, bytes: &[u8]) -> FlatServed
         requires { self.old.served.items ≡ [] }
-        ensures { IsShownOr self.old bytes.now result self.new }
+        ensures kept { (self.new.resolver ≡ self.old.resolver) × (self.new.last ≡ self.old.last) }
+        ensures view { result.view ≡ view }
+        ensures served { HasServed (Some bytes.now) result self.new.served.items }
     {
         if self.served.put_slice(bytes).is_err() {
             self.served.clear();
@@ -266,6 +272,9 @@ fn certificate_in(
     ensures made { IfOk result (λ found. MatchOption found ((flat.now.kind ≡ 0) ⊎ (4 ≤ flat.now.kind))
         (λ c. IsHandedIn flat.now.kind flat.now bytes.now (certificate_facts certificate_bytes c))) }
     ensures view { IfOk result (λ found. IfSome found (λ c. certificate_view c ≡ flat.now.proposal.round.view)) }
+    ensures highest { IfOk result (λ found. IfSome found (λ c. highest_view c ≡ highest_told flat.now)) }
+    ensures kind { IfOk result (λ found. IfSome found (λ _. (0 < flat.now.kind) × (flat.now.kind < 4))) }
+    ensures wanting { OnErr result ((0 < flat.now.kind) × (flat.now.kind < 4)) }
 {
     Ok(match flat.kind {
         1 => Some(Certificate::Notarization(notarization_of(alloc, &flat.proposal, bytes)?)),
@@ -276,7 +285,7 @@ fn certificate_in(
 }
 
 pub(crate) fn no_effects(status: u32) -> FlatEffects
-    ensures { result.status ≡ status }
+    ensures { HasNoEffects status result }
 {
     FlatEffects {
         status,
@@ -288,6 +297,7 @@ pub(crate) fn no_effects(status: u32) -> FlatEffects
 
 pub(crate) fn unserved(view: u64, status: u32) -> FlatServed
     ensures status { result.status ≡ status }
+    ensures view { result.view ≡ view }
     ensures nothing { (result.has ≡ 0) × (result.bytes ≡ 0) }
 {
     FlatServed {

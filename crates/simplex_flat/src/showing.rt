@@ -1,6 +1,7 @@
 //! What a member shows beside its replies.
 
-ghost use Rattle.std.specs.Prelude.{◌≡◌, ◌≤◌, ◌++◌, true, IfOk, OnOk, MatchOption, length, take, drop};
+ghost use Rattle.std.specs.Prelude.{◌≡◌, ◌≤◌, ◌++◌, true, IfOk, OnOk, OnErr, MatchOption, length, take, drop};
+ghost use Rattle.std.specs.Option.{IsSome};
 ghost use Rattle.simplex_flat.specs.Numbers.{index_number};
 ghost use Rattle.simplex_flat.specs.Showing.{HasForwardable, IsChunk, IsKind, IsSubject, IsText, IsViewOf, Shows, certificate_of};
 ghost use Rattle.simplex_voter.specs.Refusals.{is_started};
@@ -9,12 +10,13 @@ ghost use Rattle.simplex_voter.specs.Serving.{forwardable_of};
 use crate::asking::{proposal_of, round_in};
 use crate::flat::{FlatFetch, FlatProposal, FlatRound};
 use crate::held::Held;
-use crate::journal::{NotWritten, write_entries};
+use crate::journal::write_entries;
 use crate::numbers::number_of_flag;
 use crate::replying::{flat_proposal, flat_round};
 use crate::shown::{
     CHUNK, FlatChunk, FlatEntries, FlatFound, FlatItem, FlatStored, FlatText, FlatView,
 };
+use crate::statuses::number_of_not_written;
 use bytes::{BufMut, BytesMut};
 use simplex_host::elector::HostElector;
 use simplex_host::scheme::{HostDigest, HostScheme};
@@ -62,10 +64,7 @@ impl Held {
         );
         if let Err(error) = written {
             self.shown.clear();
-            return self.entries_of_status(match error {
-                NotWritten::OutOfMemory => 1,
-                NotWritten::TooLong => 14,
-            });
+            return self.entries_of_status(number_of_not_written(error));
         }
         self.entries_of_status(0)
     }
@@ -224,6 +223,7 @@ fn show_certificate(
 ) -> Result<FlatFound, AllocError>
     requires { IsKind kind }
     ensures found { IfOk result (λ r. (r.status ≡ 0) × Shows (certificate_of kind state.now view) r out.old.items out.new.items) }
+    ensures wanting { OnErr result (IsSome (certificate_of kind state.now view)) }
 {
     match kind {
         1 => match state.notarization(view) {

@@ -1,10 +1,11 @@
-//! Why there is no member, as numbers: 0 says that there is one.
+//! Why there is no member, or a record is not shown, as numbers: 0 says that there is one, or that it is.
 
 ghost use Rattle.std.specs.Prelude.{◌≡◌};
-ghost use Rattle.simplex_flat.specs.Statuses.{config_number, not_read_number, not_resumed_number, not_started_number, recover_number, restart_number, settings_number};
+ghost use Rattle.simplex_flat.specs.Statuses.{config_number, not_read_number, not_resumed_number, not_started_number, not_written_number, recover_number};
+ghost use Rattle.simplex_flat.specs.Statuses.{restart_number, settings_number};
 
 use crate::held::NotStarted;
-use crate::journal::NotRead;
+use crate::journal::{NotRead, NotWritten};
 use crate::opening::NotResumed;
 use crate::settings::SettingsError;
 use simplex_member::member::RecoverError;
@@ -81,6 +82,16 @@ fn number_of_config(error: ConfigError) -> u32
         ConfigError::FloorEpoch => 27,
         ConfigError::FloorAtGenesis => 28,
         ConfigError::FloorUnverified => 29,
+    }
+}
+
+/// The number of why a record's entries are not shown.
+pub(crate) fn number_of_not_written(error: NotWritten) -> u32
+    ensures { result ≡ not_written_number error }
+{
+    match error {
+        NotWritten::OutOfMemory => 1,
+        NotWritten::TooLong => 14,
     }
 }
 

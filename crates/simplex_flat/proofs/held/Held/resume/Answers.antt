@@ -10,8 +10,9 @@ returns-in-Ok-resume-clause-resumed c = record {
   entries = c.in-Ok-read_entries.entries.items;
   from = record { started = c.in-Ok.ensures.made; stored_so = c.in-Some.ensures; read = c.in-Ok-read_entries.ensures.read };
   whole = grind (arith, common_steps, c.has_fewer.ensures, c.if-has_fewer.false, c.deref.ensures.value);
-  resumed = rw c.new.ensures c.in-Ok-resume.ensures.resumed;
-  votes = rw c.new.ensures c.in-Ok-resume.ensures.votes;
+  resumed = rw c.new.ensures.member c.in-Ok-resume.ensures.resumed;
+  votes = rw c.new.ensures.member c.in-Ok-resume.ensures.votes;
+  fresh = c.new.ensures.fresh;
 }
 
 pub returns-in-EntriesLost-clause-refused : goal.returns-in-EntriesLost-clause-refused

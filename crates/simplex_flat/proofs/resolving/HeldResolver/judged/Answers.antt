@@ -3,23 +3,27 @@ use Rattle.simplex_types.specs.Certificates.{notarization_facts}
 use Rattle.simplex_codec.specs.Digests.{digest_bytes}
 use Rattle.simplex_host.specs.Host.{certificate_bytes}
 use Rattle.simplex_resolver.specs.Steps.{verdict}
+use Rattle.simplex_flat.proofs.Told.{is_told_verdict, highest_of_verdict}
 use Rattle.simplex_flat.proofs.resolving.HeldResolver.judged.Goals as goal
 
 pub returns-in-Ok : goal.returns-in-Ok
 returns-in-Ok c =
     let notarization = notarization_facts certificate_bytes c.in-Ok.it in
     inr (
-      verdict (digest_bytes {n = 32}) notarization c.args.success,
-      inr (
-        c.requires.kind,
-        record {
-          notarization = notarization;
-          success = c.args.success;
-          proposal = c.in-Ok.ensures.proposal;
-          own = c.in-Ok.ensures.bytes;
-          flag = c.requires.success;
-          told = refl;
-        },
+      is_told_verdict c.args.flat.now c.requires.kind c.requires.fits c.requires.view,
+      (
+        verdict (digest_bytes {n = 32}) notarization c.args.success,
+        inr (
+          c.requires.kind,
+          record {
+            notarization = notarization;
+            success = c.args.success;
+            proposal = c.in-Ok.ensures.proposal;
+            own = c.in-Ok.ensures.bytes;
+            flag = c.requires.success;
+            told = refl;
+          },
+        ),
+        rw (highest_of_verdict c.args.flat.now c.in-Ok.it.proposal c.requires.kind c.in-Ok.ensures.proposal) c.certified.ensures,
       ),
-      c.certified.ensures,
     )
