@@ -1,13 +1,13 @@
 -- `of` makes a handle of a pointer that owns what a box there would: the pointer may be compared with null, since it begins its block.
-use Rattle.std.proofs.Common.{◌≡◌, List, [], ◌∷◌, ◌++◌, refl, sym, ap, subst}
+use Rattle.std.proofs.Common.{◌≡◌, List, [], ◌∷◌, ◌++◌, refl, sym, subst}
 use mir.Raw.{raw as bare}
 use mir.Val.{Val, vptr, vstruct, vcons, vnil}
 use base.Logic.{SProp, ent, id⊢, via, snd∗, emp, guard_i}
-use base.Fml.{Fml, ftrue, fex, fsep, flft}
+use base.Fml.{Fml, ftrue}
 use base.Fraction.{full_share}
 use prog.Wp.{WpFn}
 use types.Logic.{sem}
-use types.Kit.{‵, raw, given, ◌⊛◌, some, later, at_ret, ◌$◌, ◌∵◌, !, qed, by, move, keep, drop, split, join, fsplit, fjoin, fpack, pick, learn, suffices, use0, use1, feq_i}
+use types.Kit.{‵, raw, given, ◌⊛◌, ◌$◌, ◌∵◌, !, qed, by, move, keep, drop, split, fsplit, fjoin, fpack, learn, suffices, use0, use1, feq_i}
 use types.Run.{stop, fld, of_opd, no_more, and_then, returns, enter}
 use types.ByLocal.{alloc_all, pass_all, free_all, look_at, get, get_in, sets, env}
 use types.Part.{agg, sub, whole}
@@ -15,11 +15,11 @@ use contract.Monad.{fact, fact_i, fact_use}
 use contract.Running.{tables}
 use denote.Builtin.{RawPtr}
 use denote.Exit.{yes}
-use denote.RattleType.{RattleType, Valss, owns}
+use denote.RattleType.{Valss, owns}
 use denote.Signature.{types_at, plain}
 use denote.Memory.{lone}
 use denote.RawPtr.{Ptr, block_ptr, lies_at, Testable}
-use denote.Steps.{nothing, only}
+use denote.Steps.{nothing}
 use denote.Struct.Struct.{within}
 use denote.Struct.Owning.{shape}
 use denote.Triple.Walked.{Stays, stay_dropped, Goes-dropped, walk_of}
