@@ -36,15 +36,17 @@ fn finalize_first(
     journal: &mut Vec<PlainArtifact>,
     now: u64,
 ) -> Result<(bool, usize), Refusal> {
-    let vote = finalize(
+    match finalize(
         alloc,
         member,
         journal,
         View::new(1),
         first_notarization(),
         now,
-    )?;
-    Ok((vote.is_some(), journal.len()))
+    ) {
+        Ok(vote) => Ok((vote.is_some(), journal.len())),
+        Err(refusal) => Err(refusal),
+    }
 }
 
 #[test]
