@@ -80,6 +80,7 @@ module _ {S D J K G C : Type 0} (given : List (Output S D J K G C)) (old new : O
   work_behind stored (output.Fetch _) works = (tt, tt)
   work_behind stored (output.Finalized _) works = (tt, tt)
   work_behind stored (output.Equivocated _ _) works = (tt, tt)
+  work_behind stored (output.ProposedTwice _ _) works = (tt, tt)
   work_behind stored (output.Forget _) works = (tt, tt)
 
   pub pushed_lawful : (work : Output S D J K G C) → is_work work ≡ true → HasBecome (work ∷ []) old.repeat old new → IsLawful given new

@@ -7,3 +7,8 @@ mod Copying
 mod Lawfully
 mod Given
 mod Good
+mod Going
+mod Journals
+mod Doing
+mod Kept
+mod Begun

@@ -17,6 +17,10 @@ same_kind _ _ = false
 abbrev pub is_of : FetchKind → ℕ → Fetch → Bool
 is_of kind view fetch = same_kind fetch.kind kind && fetch.view == view
 
+-- a fetch of this kind, of a view from one to another
+abbrev pub is_within : FetchKind → ℕ → ℕ → Fetch → Bool
+is_within kind first last fetch = same_kind fetch.kind kind && nat_le first fetch.view && nat_le fetch.view last
+
 -- it is open
 abbrev pub is_open : FetchKind → ℕ → List Fetch → Bool
 is_open kind view fetches = list_any (is_of kind view) fetches

@@ -8,3 +8,6 @@ pub mod Asking
 pub mod Entries
 pub mod Outputs
 pub mod Outboxes
+pub mod Journals
+pub mod Doing
+pub mod Going

@@ -5,7 +5,7 @@
 //! asking. Moments are milliseconds, and do not fall.
 
 ghost use Rattle.std.specs.Prelude.{◌≡◌, ◌≢◌, ◌≤◌, [], ◌++◌, ◌∷◌, not, filter, length, nat_lt, IfOk, OnOk, OnErr, IfSome, if◌then◌else◌};
-ghost use Rattle.simplex_engine.specs.Fetches.{same_kind, is_of, is_open, due_at, fresh, asked, first_of, peers_of, place_of, whose_turn, IsEarliest};
+ghost use Rattle.simplex_engine.specs.Fetches.{same_kind, is_of, is_within, is_open, due_at, fresh, asked, first_of, peers_of, place_of, whose_turn, IsEarliest};
 
 use simplex_types::types::{Participant, View};
 use std::alloc::{AllocError, Global};
@@ -174,6 +174,15 @@ impl Fetches {
         self.wanted.retain(|fetch| finalized < fetch.view);
     }
 
+    /// Closes the fetches of this kind of the views from one to another: nothing is left to ask for there.
+    pub fn settle(&mut self, kind: FetchKind, first: View, last: View)
+        ensures settled { self.new.wanted.items ≡ filter (λ f. not (is_within kind first last f)) self.old.wanted.items }
+        ensures same { (self.new.peers ≡ self.old.peers) × (self.new.retry ≡ self.old.retry) }
+    {
+        self.wanted
+            .retain(|fetch| !fetch.is_within(kind, first, last));
+    }
+
     /// The first fetch whose moment has come, and of whom it is asked. It is to be asked for again, of the next peer, after the
     /// retry interval. An engine asks until there is none.
     pub fn ask(&mut self, now: u64) -> Option<Ask>
@@ -212,6 +221,13 @@ impl Fetch {
         ensures { result ≡ is_of kind view self.now }
     {
         self.kind.is(kind) && self.view == view
+    }
+
+    /// Whether it is a fetch of this kind and of a view from one to another.
+    fn is_within(&self, kind: FetchKind, first: View, last: View) -> bool
+        ensures { result ≡ is_within kind first last self.now }
+    {
+        self.kind.is(kind) && first <= self.view && self.view <= last
     }
 
     /// The same once it was asked for.

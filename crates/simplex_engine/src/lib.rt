@@ -4,6 +4,7 @@
 pub mod assembly;
 pub mod batcher;
 pub mod fetches;
+pub mod journaled;
 pub mod outbox;
 pub mod output;
 pub mod plain;

@@ -29,6 +29,8 @@ pub enum Output<S: CertificateScheme, D, J> {
     Finalized(Proposal<D>),
     /// Two votes of one member that contradict each other.
     Equivocated(Vote<D, S::Signature>, Vote<D, S::Signature>),
+    /// The leader of the view, by its key, signed two proposals, which certificates show.
+    ProposedTwice(View, S::PublicKey),
     /// The views below may be forgotten.
     Forget(View),
 }

@@ -1,1 +1,2 @@
 mod Evidence
+mod Stored

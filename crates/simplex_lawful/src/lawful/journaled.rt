@@ -1,11 +1,14 @@
-//! A lawful member and its journal.
+//! A lawful member's state, and its journal.
 
-ghost use Rattle.std.specs.Prelude.{◌≡◌, IfOk, IfErr, drop, length};
+ghost use Rattle.std.specs.Prelude.{◌≡◌, IfOk, IfErr, IfSome, drop, false, length, true};
+ghost use Rattle.std.specs.Option.{option_copied};
 ghost use Rattle.simplex_record.specs.Start.{start_facts};
+ghost use Rattle.simplex_voter.specs.Refusals.{is_started};
 
 use super::living::LawfulMember;
 use simplex_member::member::{Member, NotResumed, Start, Stored};
 use simplex_types::types::{Artifact, Digest, Elector, Scheme};
+use simplex_voter::voter::State;
 use std::alloc::Global;
 
 impl<S: Scheme<D>, L: Elector<S>, D: Digest> LawfulMember<S, L, D> {
@@ -13,6 +16,14 @@ impl<S: Scheme<D>, L: Elector<S>, D: Digest> LawfulMember<S, L, D> {
     ghost use Rattle.simplex_record.specs.Votes.{votes_of};
     ghost use Rattle.simplex_member.specs.Journal.{stored_of, votes_since, IsResumed, IsNotResumed};
     ghost use Rattle.simplex_laws.specs.Living.{HasGoneOn};
+
+    /// The state, while the member has not failed: it has a floor, and has not failed either.
+    pub fn state(&self) -> Option<&State<S, L, D>>
+        ensures life { option_copied result ≡ self.now.facts.life }
+        ensures started { IfSome result (λ state. (state.now.failed ≡ false) × (is_started state.now ≡ true)) }
+    {
+        self.member.state()
+    }
 
     /// The record, oldest entry first.
     pub fn record(&self) -> &[Artifact<S, D>]

@@ -68,10 +68,12 @@ impl<S: CertificateScheme, L: Elector<S>, D: Digest> Model for LawfulMember<S, L
 }
 
 impl<S: Scheme<D>, L: Elector<S>, D: Digest> LawfulMember<S, L, D> {
-    ghost use Rattle.std.specs.Prelude.{[], ◌++◌};
+    ghost use Rattle.std.specs.Prelude.{[], ◌++◌, true};
     ghost use Rattle.simplex_types.specs.Config.{floor_facts};
     ghost use Rattle.simplex_member.specs.Calls.{told, asked};
-    ghost use Rattle.simplex_member.specs.Lives.{IsCall};
+    ghost use Rattle.simplex_member.specs.Journal.{stored_of};
+    ghost use Rattle.simplex_member.specs.Lives.{IsCall, HasGrown};
+    ghost use Rattle.simplex_member.specs.MethodContracts.{is_reply_to};
     ghost use Rattle.simplex_member.specs.Runs.{Calls};
     ghost use Rattle.simplex_member.specs.Signed.{IsSignedReply, signed_reply};
     ghost use Rattle.simplex_record.specs.Recovery.{recover_error};
@@ -114,12 +116,17 @@ impl<S: Scheme<D>, L: Elector<S>, D: Digest> LawfulMember<S, L, D> {
     ///   want of memory.
     /// - `signed`: a vote that is answered is signed on just what it is on, under the member's key.
     /// - `votes`: the record holds each vote that is answered, with the very signature that is handed out.
+    /// - `grown`: the record is as it was, with more behind it.
+    /// - `stored`: what a journal stores beside the record stays.
     /// - `exact`: a request for a vote is answered exactly by its rule, and nothing else by a vote.
     /// - `goes_on`: what the member has done grows by the certificate that is accepted and the vote that is told.
     pub fn call(&mut self, call: Call<S, D>) -> Reply<S, D>
+        ensures of_its_kind { is_reply_to (told S.certificate_bytes result) (asked S.certificate_bytes call) ≡ true }
         ensures answered { IsCall D.eq L.elect self.old.facts (asked S.certificate_bytes call) (told S.certificate_bytes result) self.new.facts }
         ensures signed { IfSome self.old.facts.life (IsSignedReply S.IsSignature result) }
         ensures votes { self.new.votes ≡ self.old.votes ++ signed_reply result }
+        ensures grown { HasGrown self.old.facts self.new.facts }
+        ensures stored { stored_of self.new.facts ≡ stored_of self.old.facts }
         ensures exact { ExactAt D.eq L.elect self.old.facts.life (Calls (asked S.certificate_bytes call)) (told S.certificate_bytes result) }
         ensures goes_on { DoesMore D.eq L.elect self.old.facts (taken_by call result ++ votes_in result) self.new.facts }
     {

@@ -6,10 +6,19 @@ use Rattle.simplex_laws.specs.Shown.{votes_in, taken_by}
 use Rattle.simplex_laws.proofs.agreement.Exactly.{step_exact}
 use Rattle.simplex_laws.proofs.executions.Living.{call_done}
 use Rattle.simplex_laws.proofs.executions.Shown.{made_shown}
+use Rattle.simplex_lawful.proofs.Stored.{stored_stays}
 use Rattle.simplex_lawful.proofs.lawful.living.LawfulMember.call.Goals as goal
 
 pub returns-clause-answered : goal.returns-clause-answered
 returns-clause-answered g c = rw (← c.self.view_is) c.call.ensures.made
+
+pub returns-clause-grown : goal.returns-clause-grown
+returns-clause-grown g c = rw (← c.self.view_is) c.call.ensures.grown
+
+pub returns-clause-stored : goal.returns-clause-stored
+returns-clause-stored g c =
+    let bytes_of = g.S.CertificateScheme.certificate_bytes in
+    rw (← c.self.view_is) (stored_stays g.D.PartialEq.eq g.L.Elector.elect c.self.inside.member.facts c.call.new.self.facts (asked bytes_of c.args.call) (told bytes_of c.call.result) c.call.ensures.made)
 
 pub returns-clause-exact : goal.returns-clause-exact
 returns-clause-exact g c =

@@ -1,0 +1,27 @@
+-- For `Journaled::begin`.
+-- A life begins with its whole record queued.
+use Rattle.std.proofs.Common.{◌≡◌, ℕ, true, false, List, [], length}
+use Rattle.simplex_types.specs.declared.types.messages.Artifact.{Artifact}
+use Rattle.simplex_record.specs.Entries.{entries_of}
+use Rattle.simplex_record.specs.Votes.{votes_of}
+use Rattle.simplex_member.specs.Journal.{stored_of}
+use Rattle.simplex_member.specs.Lives.{SignedMember}
+use Rattle.simplex_member.specs.declared.member.journal.Stored.{Stored}
+use Rattle.simplex_engine.specs.declared.journaled.Journaled.{Journaled}
+use Rattle.simplex_engine.specs.declared.outbox.Outbox.{Outbox}
+use Rattle.simplex_engine.specs.declared.output.Output.{Output}
+use Rattle.simplex_engine.specs.Outboxes.{IsLawful, IsReplaced}
+use Rattle.simplex_engine.specs.Going.{IsKept}
+use Rattle.simplex_engine.proofs.Kept.{replaced}
+
+module _ {S L D K G C : Type 0} (bytes_of : C → List ℕ) (member : SignedMember K L D G) (old new : Outbox S D Stored K G C) (count : ℕ) where
+  abbrev pub before : Journaled S L D K G C
+  before = record { member = member; outbox = old; stored = 0; failed = true }
+
+  abbrev pub after : Journaled S L D K G C
+  after = record { member = member; outbox = new; stored = count; failed = false }
+
+  pub begun : IsLawful [] old → ((given : List (Output S D Stored K G C)) → IsLawful given old → IsLawful given new)
+      → (all : List (Artifact S D K G C)) → count ≡ length all → entries_of bytes_of all ≡ member.facts.entries → votes_of all ≡ member.votes
+      → IsReplaced bytes_of all (stored_of member.facts) old new → IsKept bytes_of [] after
+  begun begins lawful all counted all_entries all_votes is = replaced bytes_of before after lawful all counted all_entries all_votes is [] (record { lawful = begins; stored = λ lives. cc })

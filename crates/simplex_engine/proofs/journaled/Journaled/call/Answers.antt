@@ -1,0 +1,22 @@
+use Rattle.std.proofs.Common.{◌++◌, None, refl, sym, subst}
+use Rattle.std.specs.Prelude.{All}
+use Rattle.std.proofs.lemmas.List.Elements.{All-nil}
+use Rattle.simplex_member.specs.Signed.{signed_reply}
+use Rattle.simplex_laws.specs.Shown.{votes_in, taken_by}
+use Rattle.simplex_engine.specs.Doing.{IsDoneOn}
+use Rattle.simplex_engine.proofs.Doing.{call_on}
+use Rattle.simplex_engine.proofs.Kept.{called}
+use Rattle.simplex_engine.proofs.journaled.Journaled.call.Goals as goal
+
+pub returns-clause-goes_on : goal.returns-clause-goes_on
+returns-clause-goes_on g c taken may =
+    let old = c.args.self.now in
+    record {
+      kept = called g.S.CertificateScheme.certificate_bytes old (record old { member = c.call.new.self }) refl refl refl c.call.ensures.grown (signed_reply c.call.result) c.call.ensures.votes c.call.ensures.stored;
+      more = taken_by c.args.call c.call.result ++ votes_in c.call.result;
+      on_this = call_on taken c.args.call c.call.result may;
+      done = c.call.ensures.goes_on;
+    }
+
+pub returns-clause-quiet : goal.returns-clause-quiet
+returns-clause-quiet g c none = returns-clause-goes_on g c None (subst (All (IsDoneOn None)) (sym none) (All-nil (IsDoneOn None)))

@@ -1,0 +1,34 @@
+use Rattle.std.proofs.Common.{◌≡◌, [], true, None, refl, sym, subst, ◌∙◌, length}
+use Rattle.std.proofs.lemmas.List.Elements.{All-nil}
+use Rattle.simplex_member.specs.Journal.{stored_of}
+use Rattle.simplex_engine.specs.Doing.{IsDoneOn}
+use Rattle.simplex_engine.specs.Outboxes.{IsReplaced}
+use Rattle.simplex_engine.proofs.Kept.{replaced, ended, counted}
+use Rattle.simplex_engine.proofs.journaled.Journaled.prune_record.Goals as goal
+
+pub returns-in-Ok-clause-goes_on : goal.returns-in-Ok-clause-goes_on
+returns-in-Ok-clause-goes_on g c =
+    let bytes_of = g.S.CertificateScheme.certificate_bytes in
+    let old = c.args.self.now in
+    let all = c.record in
+    let entries = c.prune_record.new.self.facts.entries in
+    let new = record old { member = c.prune_record.new.self; outbox = c.replace.new.self; stored = length c.record-count.result.now } in
+    let same_length : length c.record-count.result.now ≡ length all.result.now = sym (counted bytes_of c.record-count.result.now entries c.record-count.ensures.entries) ∙ counted bytes_of all.result.now entries all.ensures.entries in
+    record {
+      kept = replaced bytes_of old new c.replace.ensures.goes_on all.result.now same_length all.ensures.entries all.ensures.votes
+          (subst (λ beside. IsReplaced bytes_of all.result.now beside old.outbox c.replace.new.self) c.stored.ensures c.in-Ok.ensures.queued);
+      more = [];
+      on_this = All-nil (IsDoneOn None);
+      done = c.prune_record.ensures.goes_on;
+    }
+
+pub returns-in-Err-clause-goes_on : goal.returns-in-Err-clause-goes_on
+returns-in-Err-clause-goes_on g c =
+    let old = c.args.self.now in
+    let new = record old { member = c.prune_record.new.self; outbox = c.replace.new.self; failed = true } in
+    record {
+      kept = ended g.S.CertificateScheme.certificate_bytes old new refl c.replace.ensures.goes_on;
+      more = [];
+      on_this = All-nil (IsDoneOn None);
+      done = c.prune_record.ensures.goes_on;
+    }

@@ -1,0 +1,36 @@
+-- A member with its outbox, from one moment of a life to a later one.
+use Rattle.std.specs.Prelude.{◌≡◌, ℕ, ◌≤◌, Bool, false, List, ◌++◌, length, All, Option}
+use Rattle.simplex_types.specs.declared.types.messages.Subject.{Subject}
+use Rattle.simplex_voter.specs.Facts.{Elect}
+use Rattle.simplex_member.specs.declared.member.journal.Stored.{Stored}
+use Rattle.simplex_laws.specs.Traces.{TraceEvent}
+use Rattle.simplex_laws.specs.Living.{DoesMore}
+use Rattle.simplex_engine.specs.declared.journaled.Journaled.{Journaled}
+use Rattle.simplex_engine.specs.declared.output.Output.{Output}
+use Rattle.simplex_engine.specs.Outboxes.{IsLawful}
+use Rattle.simplex_engine.specs.Journals.{journal_of, IsBeginningOf}
+use Rattle.simplex_engine.specs.Doing.{IsDoneOn}
+
+module _ {S L D K G C : Type 0} (bytes_of : C → List ℕ) where
+  -- over all that was given out and what is queued: each vote stands behind an output that stores it; and until the engine fails,
+  -- a journal that carries them out holds a beginning of the record
+  pub record IsKept (given : List (Output S D Stored K G C)) (member : Journaled S L D K G C) : Type 0 where
+    pub lawful : IsLawful given member.outbox
+    pub stored : member.failed ≡ false → IsBeginningOf bytes_of member.member member.stored (journal_of (given ++ member.outbox.queue.items))
+
+  -- all of the record is queued to be stored, or was
+  abbrev pub IsWhole : Journaled S L D K G C → Type 0
+  IsWhole member = length member.member.facts.entries ≤ member.stored
+
+  -- unless it has failed
+  abbrev pub IsWholeAlive : Journaled S L D K G C → Type 0
+  IsWholeAlive member = member.failed ≡ false → IsWhole member
+
+module _ {S L D K G C : Type 0} (same : D → D → Bool) (elect : Elect L) (bytes_of : C → List ℕ) (taken : Option (Subject D)) where
+  -- what was kept stays kept, and what the member has done stays done; besides it accepts certificates on this subject alone,
+  -- and signs votes
+  pub record GoesOn (old new : Journaled S L D K G C) : Type 0 where
+    pub kept : (given : List (Output S D Stored K G C)) → IsKept bytes_of given old → IsKept bytes_of given new
+    pub more : List (TraceEvent D)
+    pub on_this : All (IsDoneOn taken) more
+    pub done : DoesMore same elect old.member.facts more new.member.facts
