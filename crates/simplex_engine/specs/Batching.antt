@@ -58,7 +58,8 @@ module _ {S D K G C : Type 0} where
 
 -- each vote is signed on its subject under its signer's key
 abbrev pub AreGood : {K D G : Type 0} → (K → Subject D → G → Type 0) → List K → List (Vote D G) → Type 0
-AreGood {K} {D} {G} is_signature keys votes = (vote : Vote D G) → Contains votes vote → (key : K) × (slice_get keys vote.signer ≡ Some key) × is_signature key vote.subject vote.signature
+AreGood {K} {D} {G} is_signature keys votes = (vote : Vote D G) → Contains votes vote
+    → (key : K) × (slice_get keys vote.signer ≡ Some key) × is_signature key vote.subject vote.signature
 
 -- the certificate is found good for what it is on
 abbrev pub is_found_good : {S D K G C : Type 0} → (Subject D → C → Bool) → Certificate S D K G C → Bool
@@ -81,7 +82,8 @@ module _ {S D K G C : Type 0} (same : D → D → Bool) (IsMadeOf : Subject D �
   -- a vote that may count is counted among those of its kind and view, and no others change
   pub record IsCountedAmong (old : Batcher S D K G C) (vote : Vote D G) (new : Batcher S D K G C) (answer : Counted S D K G C) : Type 0 where
     pub may : MayCount members is_admitted vote.signer
-    pub counted : IsCountedIn same IsMadeOf members (held old (kind_of vote.subject) (subject_view vote.subject)) vote (held new (kind_of vote.subject) (subject_view vote.subject)) answer
+    pub counted : IsCountedIn same IsMadeOf members (held old (kind_of vote.subject) (subject_view vote.subject)) vote
+        (held new (kind_of vote.subject) (subject_view vote.subject)) answer
     pub others : KeepsOthers vote.subject old new
 
   -- a vote that may not count is refused, and changes nothing

@@ -45,7 +45,8 @@ module _ {S D K G C : Type 0} (same : D → D → Bool) (IsMadeOf : Subject D �
   -- - or it is added. Where the votes for the same are just a quorum then, the certificate is made of them.
   abbrev pub IsCountedIn : List (Option (Ballot D G)) → Vote D G → List (Option (Ballot D G)) → Counted S D K G C → Type 0
   IsCountedIn old vote new Refused = ⊥
-  IsCountedIn old vote new Known = ((first : Vote D G) × (IsHeld old first × (first.signer ≡ vote.signer) × (first.subject ≡ vote.subject))) × HoldsTheSame old new
+  IsCountedIn old vote new Known = ((first : Vote D G) × (IsHeld old first × (first.signer ≡ vote.signer) × (first.subject ≡ vote.subject)))
+      × HoldsTheSame old new
   IsCountedIn old vote new (Equivocated first second) =
       (IsHeld old first × (first.signer ≡ vote.signer) × (first.subject ≢ vote.subject) × (second ≡ vote)) × HoldsTheSame old new
   IsCountedIn old vote new Taken = IsAdded old vote new × (length (signatures_on same vote.subject members new) ≢ quorum_of members)

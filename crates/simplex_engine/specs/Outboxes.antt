@@ -29,7 +29,8 @@ module _ {S D J K G C : Type 0} where
   -- copies of the entries are to be stored, and each vote among them leaves behind them
   abbrev pub IsStored : (C → List ℕ) → List (Artifact S D K G C) → Outbox S D J K G C → Outbox S D J K G C → Type 0
   IsStored bytes_of fresh old new =
-      (copies : Vec (Artifact S D K G C) Global) × AreCopies bytes_of fresh copies.items × HasBecome (storing copies) (newest_from old.repeat copies.items) old new
+      (copies : Vec (Artifact S D K G C) Global) × AreCopies bytes_of fresh copies.items
+      × HasBecome (storing copies) (newest_from old.repeat copies.items) old new
 
   -- copies of the entries are to be stored in place of all
   abbrev pub IsReplaced : (C → List ℕ) → List (Artifact S D K G C) → J → Outbox S D J K G C → Outbox S D J K G C → Type 0

@@ -18,7 +18,8 @@ AreSigned {K} is_signature keys subject (signed ∷ rest) =
     ((key : K) × (slice_get keys signed.0 ≡ Some key) × is_signature key subject signed.1) × AreSigned is_signature keys subject rest
 
 -- good signatures of just a quorum of members on the subject
-pub record IsSignedByQuorum {K D G : Type 0} (is_signature : K → Subject D → G → Type 0) (keys : List K) (subject : Subject D) (signatures : List (ℕ × G)) : Type 0 where
+pub record IsSignedByQuorum {K D G : Type 0} (is_signature : K → Subject D → G → Type 0)
+    (keys : List K) (subject : Subject D) (signatures : List (ℕ × G)) : Type 0 where
   pub quorum : length signatures ≡ quorum_of (length keys)
   pub rising : AreRising (length keys) 0 signatures
   pub signed : AreSigned is_signature keys subject signatures
