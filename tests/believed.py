@@ -18,7 +18,7 @@ from program import ROOT
 PAGE = ROOT / "docs" / "GUARANTEES.md"
 
 # What the laws of networks take and the engine's contracts give.
-STORIES = [("simplex_laws", "Executions", name) for name in ("Execution", "IsExecution", "trace_of")]
+EXECUTIONS = [("simplex_laws", "Executions", name) for name in ("Execution", "IsExecution", "trace_of")]
 
 # Each statement: its name, what it is made of, and what cancels.
 STATEMENTS = [
@@ -31,9 +31,9 @@ STATEMENTS = [
             ("simplex_laws", "Agreement", "ParentNotBelow"),
             ("simplex_laws", "Shown", "shown_trace"),
         ],
-        STORIES,
+        EXECUTIONS,
     ),
-    ("no network is stuck", [("simplex_progress", "Going", "NoNetworkIsStuck")], [*STORIES, ("simplex_progress", "Living", "LivesWith")]),
+    ("no network is stuck", [("simplex_progress", "Going", "NoNetworkIsStuck")], [*EXECUTIONS, ("simplex_progress", "Living", "LivesWith")]),
     ("exactness", [("simplex_laws", "Exactly", "ExactAt")], []),
 ]
 
