@@ -25,7 +25,8 @@ from program import ROOT
 ENGINE = ROOT / "engine"
 SKIPPED = 77
 LEAST_TESTS = 38
-NETWORK = ("--nodes", "4", "--views", "200", "--faulty", "1", "--kill", "3", "--seed", "7")
+# The words of the README's command.
+NETWORK = re.compile(r"^target/release/simplex-local (--.*)$", re.M)
 
 # A file, what stands there, what is put in its place, and what fails then.
 WRONG_BODIES = (
@@ -67,6 +68,8 @@ def faults(surroundings, target):
         if (count := (ENGINE / "node/src" / file).read_text().count(old)) != 1:
             yield f"{name}: its text stands {count} times in {file}"
     passed = 0
+    # Built alone first, as a newcomer does: the tests' build would bring what a command lacks.
+    yield from newcomers_faults(surroundings, target)
     for words in (("fmt", "--check"), ("clippy", "--offline", "--quiet", "--all-targets", "--", "-D", "warnings"), ("test", "--offline")):
         done = cargo(ENGINE, surroundings, *words)
         passed += sum(int(count) for count in re.findall(r"test result: \w+\. (\d+) passed", done.stdout))
@@ -74,10 +77,19 @@ def faults(surroundings, target):
             yield f"cargo {' '.join(words)}:\n{(done.stdout + done.stderr)[-4000:]}"
     if passed < LEAST_TESTS:
         yield f"{passed} tests passed, where {LEAST_TESTS} are asked for"
-    done = subprocess.run([target / "debug/simplex-local", *NETWORK], capture_output=True, text=True)
+
+
+def newcomers_faults(surroundings, target):
+    """What is not as it has to be where the README's command is given, in a build for trying."""
+    words = NETWORK.search((ROOT / "README.md").read_text())[1].split()
+    built = cargo(ENGINE, surroundings, "build", "--offline")
+    if built.returncode:
+        yield f"cargo build:\n{built.stderr[-4000:]}"
+        return
+    done = subprocess.run([target / "debug/simplex-local", *words], capture_output=True, text=True)
     print(done.stdout[done.stdout.find("\nThe last views"):].strip())
     if done.returncode:
-        yield f"simplex-local {' '.join(NETWORK)}:\n{(done.stdout + done.stderr)[-2000:]}"
+        yield f"simplex-local {' '.join(words)}:\n{(done.stdout + done.stderr)[-2000:]}"
 
 
 def wrong_bodies(surroundings, room):

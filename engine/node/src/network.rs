@@ -304,7 +304,11 @@ fn get_metrics(address: SocketAddr) -> Option<String> {
 
 /// The program of a node that stands beside this one.
 pub fn program_beside() -> Outcome<PathBuf> {
-    Ok(std::env::current_exe()?.with_file_name("simplex-node"))
+    let program = std::env::current_exe()?.with_file_name("simplex-node");
+    if !program.exists() {
+        return Err(format!("{} is not built: `cargo build --release` builds both programs", program.display()).into());
+    }
+    Ok(program)
 }
 
 /// A folder for a run, under the machine's folder for such.
